@@ -1,0 +1,9 @@
+pub mod Numbers
+pub mod Once
+pub mod Guards
+pub mod Lines
+pub mod Spelled
+pub mod ReadAgain
+pub mod CutShort
+pub mod Fitting
+pub mod Placed

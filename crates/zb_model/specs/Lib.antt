@@ -1,0 +1,3 @@
+pub mod Creation
+pub mod Database
+pub mod Seen

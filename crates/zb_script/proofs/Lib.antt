@@ -1,0 +1,5 @@
+pub mod Lasts
+pub mod LineLaws
+pub mod Pieces
+pub mod ScriptLaws
+pub mod Steps

@@ -1,0 +1,5 @@
+use Rattle.zb_script.proofs.ScriptLaws.{one_script}
+use Rattle.zb_script.proofs.script.one_script.Goals as goal
+
+pub returns : goal.returns
+returns c = one_script

@@ -1,0 +1,12 @@
+use Rattle.std.proofs.Common.{◌≡◌, ◌+◌, ◌≤◌, [], length}
+use Rattle.zb_script.specs.Reading.{pieces, turns_at}
+use Rattle.zb_script.proofs.script.turns_of.Given as goal
+
+abbrev pub invariant-loop-rest : goal.invariant-loop-rest
+invariant-loop-rest l = record {
+  so_far : turns_at l.turns (pieces l.rest) ≡ turns_at [] (pieces l.bytes);
+  fewer : length l.turns + length l.rest ≤ length l.bytes;
+}
+
+abbrev pub decreases-loop-rest : goal.decreases-loop-rest
+decreases-loop-rest l = length l.rest

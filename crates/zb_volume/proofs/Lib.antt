@@ -1,0 +1,4 @@
+mod Contents
+mod Extremes
+mod Log
+mod Mixes

@@ -1,0 +1,13 @@
+pub mod Calls
+pub mod Disk
+pub mod Durable
+pub mod Faults
+pub mod Images
+pub mod Journal
+pub mod Kept
+pub mod Lasting
+pub mod Laws
+pub mod Moments
+pub mod Reading
+pub mod Replays
+pub mod Runs

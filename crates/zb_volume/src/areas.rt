@@ -1,0 +1,25 @@
+//! The areas of a volume, and the one error of its calls.
+
+use std::fmt;
+
+/// An area of a volume: bytes that are read, written and cut at any place.
+#[derive(Clone, Copy, Debug, PartialEq, Eq)]
+pub enum Area {
+    /// The file of the database.
+    Main,
+    /// A second area, in which a new file is prepared before it takes Main's place.
+    Side,
+}
+
+/// A call of a volume failed: the device did not do it, or did it in part, or said so wrongly. The
+/// volume counts it. Main and Side are then as a crash might have left them.
+#[derive(Clone, Copy, Debug, PartialEq, Eq)]
+pub struct StoreFault;
+
+impl fmt::Display for StoreFault {
+    fn fmt<W: fmt::Write>(&self, f: &mut fmt::Formatter<W>) -> fmt::Result {
+        f.write_str("a call of the volume failed")
+    }
+}
+
+impl std::error::Error for StoreFault {}

@@ -1,0 +1,5 @@
+mod files;
+mod images;
+mod journals;
+mod recorder;
+mod steps;

@@ -1,0 +1,28 @@
+//! The program `zodb`: it hands the words, the standard input, the standard output and the clock to
+//! the top call, and ends with its status. Nothing is written to the standard error.
+#![tactic(auto)]
+
+use std::env;
+use std::process::ExitCode;
+use zb_outside::{HostClock, ReadSource, WriteSink};
+use zodb_top::{Status, zodb_main};
+
+/// The words behind the program's name.
+fn words_of(rt: &HostRuntime) -> Option<Vec<String>> {
+    let mut words = Vec::new(rt.alloc());
+    for word in env::args(rt).ok()?.skip(1) {
+        words.push(word).ok()?;
+    }
+    Some(words)
+}
+
+fn main(rt: HostRuntime) -> ExitCode {
+    let Some(words) = words_of(&rt) else {
+        return ExitCode::from(Status::NoMemory as u8);
+    };
+    let mut source = ReadSource::new(rt.stdin());
+    let mut sink = WriteSink::new(rt.stdout());
+    let clock = HostClock::new(&rt);
+    let status = zodb_main(rt.alloc(), words.as_slice(), &mut source, &mut sink, clock);
+    ExitCode::from(status as u8)
+}

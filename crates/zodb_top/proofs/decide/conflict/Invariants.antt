@@ -1,0 +1,6 @@
+use Rattle.std.proofs.Common.{◌≡◌, drop}
+use Rattle.zodb_top.specs.Machine.{conflict_of}
+use Rattle.zodb_top.proofs.decide.conflict.Given as goal
+
+abbrev pub invariant-loop-pending : goal.invariant-loop-pending
+invariant-loop-pending l = conflict_of l.list (drop l.pending-index l.stores) ≡ conflict_of l.list l.stores

@@ -1,0 +1,20 @@
+//! How the program ends.
+
+/// How the program ends. Each has the number that is its exit status.
+#[derive(Clone, Copy, Debug, PartialEq, Eq)]
+pub enum Status {
+    /// All was done.
+    Done = 0,
+    /// There was not enough memory, and the run ended there.
+    NoMemory = 1,
+    /// The words are no command.
+    Usage = 2,
+    /// The script could not be read: the source's count of faults rose.
+    ReadFault = 3,
+    /// A reply could not be written: the sink's count of faults rose.
+    SinkFault = 4,
+    /// A line is none, or can't stand in its place.
+    BadLine = 8,
+    /// The script is too long.
+    Limit = 9,
+}
