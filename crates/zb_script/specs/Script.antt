@@ -1,5 +1,5 @@
 -- What it is for bytes to be a script, and which line of other bytes is bad.
-use Rattle.std.specs.Prelude.{◌≡◌, ℕ, ◌+◌, List, [], ◌++◌, length, nat_le, IsTrue, false}
+use Rattle.std.specs.Prelude.{◌≡◌, ℕ, ◌+◌, List, [], ◌++◌, length, nat_le, Bool, IsTrue, false}
 use Rattle.std.specs.List.{AllByRecursion}
 use Rattle.zb_script.specs.declared.line.Turn.{Turn}
 use Rattle.zb_script.specs.Spelling.{IsTurn, turn_text, script_text, Spells, Lacks, IsEnd}
@@ -10,6 +10,10 @@ pub record IsScript (bytes : List ℕ) (turns : List Turn) : Type 0 where
   pub each : AllByRecursion IsTurn turns
   pub text : Spells bytes turns
   pub shape : IsInShape turns
+
+-- nothing, or the newline that ends it, stands behind a line: it is the last one
+abbrev pub is_last : List ℕ → Bool
+is_last more = nat_le (length more) 1
 
 -- The bytes' line number n is bad: the lines ahead of it spell turns that can stand there, and no turn
 -- that it spells can stand behind them.
@@ -23,4 +27,4 @@ pub record IsBadLine (bytes : List ℕ) (n : ℕ) : Type 0 where
   pub one_line : Lacks 10 bad
   pub ends : IsEnd bad more
   pub number : n ≡ length front + 1
-  pub none : (t : Turn) → IsTurn t → turn_text t ≡ bad → can_stand front t (nat_le (length more) 1) ≡ false
+  pub none : (t : Turn) → IsTurn t → turn_text t ≡ bad → can_stand front t (is_last more) ≡ false

@@ -11,8 +11,9 @@ pub enum Area {
     Side,
 }
 
-/// A call of a volume failed: the device did not do it, or did it in part, or said so wrongly. The
-/// volume counts it. Main and Side are then as a crash might have left them.
+/// A call of a volume failed: it was not done, or in part, or it was done and said otherwise. The
+/// volume counts it. After a call that changes the volume, each area that the call is about may read
+/// as a crash could leave it.
 #[derive(Clone, Copy, Debug, PartialEq, Eq)]
 pub struct StoreFault;
 

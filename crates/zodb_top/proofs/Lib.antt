@@ -4,3 +4,8 @@ pub mod Running
 pub mod Steps
 pub mod Outputs
 pub mod Turns
+pub mod Keeps
+pub mod Views
+pub mod Sessions
+pub mod Shapes
+pub mod Standing

@@ -5,3 +5,4 @@ pub mod Runs
 pub mod Decisions
 pub mod Seen
 pub mod Steps
+pub mod Laws

@@ -5,6 +5,7 @@
 mod decide;
 mod ending;
 mod hub;
+mod laws;
 mod lines;
 mod pending;
 mod run;
@@ -14,6 +15,9 @@ mod top;
 mod turn;
 mod vote;
 
+pub use laws::{
+    fronts_never_fall, only_four_refusals, reads_stay_below_the_front, the_list_stays_a_database,
+};
 pub use status::Status;
 pub use top::{MOST_BYTES, zodb_main};
 

@@ -3,7 +3,7 @@ use crate::tests::recorder::HostCall::{
     Length, Read, Rename, Seek, SetLength, SyncFile, SyncFolder, Write,
 };
 use crate::tests::recorder::{HostCall, Log, Recorder};
-use crate::tests::steps::{Step, content, make};
+use crate::tests::steps::{Step, content, make, remove_files};
 use crate::{Area, HostVolume, Volume};
 use std::fs;
 use std::process::Abort;
@@ -37,6 +37,7 @@ fn bytes_of(rt: &(impl Files + AllocGlobal), path: &str) -> Result<Vec<u8>, Fail
 #[test]
 fn files_hold_the_areas(rt: HostRuntime) -> Result<(), Fail> {
     let alloc = rt.alloc();
+    remove_files(&rt, ["volume.fs", "volume.fs.side"]);
     let mut volume = HostVolume::new(alloc, &rt, "volume.fs")?;
     assert!(rt; !fs::exists(&rt, "volume.fs")?);
     for (row, (step, main, side)) in CONTENTS.iter().enumerate() {
@@ -60,6 +61,7 @@ fn files_hold_the_areas(rt: HostRuntime) -> Result<(), Fail> {
     );
     let mut missing = HostVolume::new(alloc, &rt, "missing/volume.fs")?;
     assert!(rt; missing.len(MAIN).is_err());
+    remove_files(&rt, ["volume.fs", "volume.fs.side"]);
     Ok(())
 }
 
@@ -108,6 +110,7 @@ fn check_calls<V: Volume>(
 #[test]
 fn each_call_makes_its_calls_of_the_host(rt: HostRuntime) -> Result<(), Fail> {
     let alloc = rt.alloc();
+    remove_files(&rt, ["calls.fs", "calls.fs.side"]);
     let log = Log::new(alloc);
     let recorder = Recorder {
         runtime: &rt,
@@ -119,5 +122,6 @@ fn each_call_makes_its_calls_of_the_host(rt: HostRuntime) -> Result<(), Fail> {
     check_calls(&rt, &mut volume, &log, CALLS_WHILE_SYNCS_FAIL)?;
     log.fail_syncs(false);
     check_calls(&rt, &mut volume, &log, CALLS_AFTER_A_FAILED_SYNC)?;
+    remove_files(&rt, ["calls.fs", "calls.fs.side"]);
     Ok(())
 }

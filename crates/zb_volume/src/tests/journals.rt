@@ -1,5 +1,5 @@
 // Changes that are made sure of, with each call failing in turn.
-use crate::tests::steps::content;
+use crate::tests::steps::{content, remove_files};
 use crate::{
     Area, HostVolume, MemoryVolume, Volume, append_record, cut_and_sync, sync_and_replace,
     write_and_sync,
@@ -44,12 +44,14 @@ fn a_new_main_is_prepared_in_side(rt: HostRuntime) -> Result<(), Fail> {
     sync_and_replace(&mut volume)?;
     let image = content(alloc, &mut volume.image(false)?, Area::Main)?;
     assert_eq!(rt; image.as_slice(), b"ab".as_slice());
-    let mut files = HostVolume::new(alloc, rt, "journal.fs")?;
+    remove_files(&rt, ["journal.fs", "journal.fs.side"]);
+    let mut files = HostVolume::new(alloc, &rt, "journal.fs")?;
     append_record(&mut files, Area::Main, 0, b"\0hi")?;
     write_and_sync(&mut files, Area::Side, 0, b"abc")?;
     cut_and_sync(&mut files, Area::Side, 2)?;
     sync_and_replace(&mut files)?;
     let main = content(alloc, &mut files, Area::Main)?;
     assert_eq!(rt; main.as_slice(), b"ab".as_slice());
+    remove_files(&rt, ["journal.fs", "journal.fs.side"]);
     Ok(())
 }

@@ -1,6 +1,8 @@
 // Calls of a volume as data, and what it reads.
 use crate::{Area, MemoryVolume, Volume};
 use std::alloc::Global;
+use std::fs;
+use std::rt::Files;
 use std::test::Fail;
 
 #[derive(Clone, Copy)]
@@ -65,6 +67,12 @@ pub fn after(alloc: Global, steps: &[Step<'_>], failing: u64) -> Result<MemoryVo
         let _ = make(alloc, &mut volume, *step)?;
     }
     Ok(volume)
+}
+
+/// Takes away the files of a volume, where an earlier run has left them.
+pub fn remove_files(files: &impl Files, paths: [&str; 2]) {
+    let _ = fs::remove_file(files, paths[0]);
+    let _ = fs::remove_file(files, paths[1]);
 }
 
 /// What a read gives of a whole area.

@@ -1,0 +1,93 @@
+-- Laws of the machine. Own.
+use Rattle.std.specs.Prelude.{◌≡◌, ℕ, ◌<◌, List, [], ◌∷◌, ◌++◌, Some, Bool, true, false, if◌then◌else◌, IsTrue, slice_get, All}
+use Rattle.std.specs.List.Sorted.{IsNonDecreasing}
+use Rattle.zb_ids.specs.declared.stamp.Stamp.{Stamp}
+use Rattle.zb_model.specs.declared.data.Content.TheVariants.{Held}
+use Rattle.zb_model.specs.declared.refusal.Refusal.{Refusal}
+use Rattle.zb_model.specs.declared.refusal.Refusal.TheVariants as refusal
+use Rattle.zb_model.specs.Database.{IsDatabase, revision_below}
+use Rattle.zb_outside.specs.Stamps.{stamps_after}
+use Rattle.zb_script.specs.declared.answer.Answer.{Answer}
+use Rattle.zb_script.specs.declared.answer.Answer.TheVariants as answer
+use Rattle.zb_script.specs.declared.line.Line.TheVariants as lines
+use Rattle.zb_script.specs.declared.line.Turn.{Turn}
+use Rattle.zb_script.specs.Shape.{IsInShape, is_turn_of}
+use Rattle.zodb_top.specs.Machine.{OpenTransaction, Session, State, session_of, start, turn_of}
+use Rattle.zodb_top.specs.Output.{created, run_from}
+
+-- ---- fronts
+
+-- the front that an answer gives, if it gives one
+abbrev pub front_in : Answer → List ℕ
+front_in (answer.Begun front) = front ∷ []
+front_in _ = []
+
+-- the fronts that a client is given by the turns, in their order
+abbrev pub fronts_of : List ℕ → State → List Stamp → List Turn → List ℕ
+fronts_of client s stamps [] = []
+fronts_of client s stamps (t ∷ turns) =
+    let d = turn_of s stamps t in
+    (if is_turn_of client t then front_in d.answer else []) ++ fronts_of client d.state d.stamps turns
+
+-- in every run of a new database, each front that a client is given is at least those given to it before
+abbrev pub FrontsNeverFall : Type 0
+FrontsNeverFall = (client : List ℕ) (stamps : List Stamp) (turns : List Turn) → IsNonDecreasing (fronts_of client (start (created stamps)) (stamps_after stamps) turns)
+
+-- ---- reads
+
+-- the client has a session with this transaction open
+pub record HasOpen (client : List ℕ) (s : State) (transaction : OpenTransaction) : Type 0 where
+  pub number : ℕ
+  pub session : Session
+  pub found : session_of client s.sessions ≡ Some number
+  pub at : slice_get s.sessions number ≡ Some session
+  pub opened : session.open_transaction ≡ Some transaction
+
+-- the turn loads an object in the client's open transaction, and this is the revision below its front
+pub record IsRead (s : State) (t : Turn) (serial : ℕ) (bytes : List ℕ) : Type 0 where
+  pub transaction : OpenTransaction
+  pub oid : ℕ
+  pub line : t.line ≡ lines.Load oid
+  pub has : HasOpen t.client s transaction
+  pub below : serial < transaction.front
+  pub revision : revision_below oid transaction.front transaction.list ≡ Some (record { serial = serial; content = Held bytes })
+
+-- in every state, a turn that is answered with data is a read in an open transaction, below its front
+abbrev pub ReadsStayBelowTheFront : Type 0
+ReadsStayBelowTheFront = (s : State) (stamps : List Stamp) (t : Turn) (serial : ℕ) (bytes : List ℕ) → (turn_of s stamps t).answer ≡ answer.Data serial bytes → IsRead s t serial bytes
+
+-- ---- lists
+
+-- the list that every run of a new database leaves is a database
+abbrev pub TheListStaysADatabase : Type 0
+TheListStaysADatabase = (stamps : List Stamp) (turns : List Turn) → IsDatabase (run_from (start (created stamps)) (stamps_after stamps) turns).state.list
+
+-- ---- refusals
+
+-- the answers that the turns are given, in their order
+abbrev pub answers_of : State → List Stamp → List Turn → List Answer
+answers_of s stamps [] = []
+answers_of s stamps (t ∷ turns) =
+    let d = turn_of s stamps t in
+    d.answer ∷ answers_of d.state d.stamps turns
+
+-- whether a refusal is one of the four that a turn of a script in shape can get
+abbrev pub is_known_refusal : Refusal → Bool
+is_known_refusal refusal.TidsSpent = true
+is_known_refusal (refusal.Conflict oid base current why) = true
+is_known_refusal (refusal.Missing oid packed) = true
+is_known_refusal refusal.NotVoted = true
+is_known_refusal refusal.NoTransaction = false
+is_known_refusal refusal.InTransaction = false
+is_known_refusal refusal.Voted = false
+is_known_refusal (refusal.Busy holder) = false
+is_known_refusal refusal.NotOpen = false
+
+-- whether an answer is no refusal, or one of those four
+abbrev pub is_known : Answer → Bool
+is_known (answer.Refused why) = is_known_refusal why
+is_known _ = true
+
+-- a new database refuses the turns of a script in shape only for TidsSpent, Conflict, Missing or NotVoted
+abbrev pub OnlyFourRefusals : Type 0
+OnlyFourRefusals = (stamps : List Stamp) (turns : List Turn) → IsInShape turns → All (λ a. IsTrue (is_known a)) (answers_of (start (created stamps)) (stamps_after stamps) turns)
