@@ -1,0 +1,20 @@
+-- What a reader keeps is sound: its numbers are those of nodes.
+use Rattle.std.specs.Prelude.{ℕ, ◌<◌, List, [], ◌∷◌, length}
+use Rattle.pickle_value.specs.declared.state.Item.{Item}
+use Rattle.pickle_value.specs.declared.state.Item.TheVariants.{Value, Mark}
+use Rattle.pickle_value.specs.declared.state.State.{State}
+use Rattle.pickle_value.specs.Graph.{AreNodes}
+
+abbrev pub StackBelow : ℕ → List Item → Type 0
+StackBelow n [] = Unit {0}
+StackBelow n (Value v ∷ below) = (v < n) × StackBelow n below
+StackBelow n (Mark ∷ below) = StackBelow n below
+
+abbrev pub MemoBelow : ℕ → List (ℕ × ℕ) → Type 0
+MemoBelow n [] = Unit {0}
+MemoBelow n (pair ∷ pairs) = (pair.1 < n) × MemoBelow n pairs
+
+pub record IsSound (s : State) : Type 0 where
+  pub nodes : AreNodes s.nodes s.nodes
+  pub values : StackBelow (length s.nodes) s.stack
+  pub puts : MemoBelow (length s.nodes) s.memo

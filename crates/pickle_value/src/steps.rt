@@ -1,0 +1,239 @@
+//! What each token does to what a reader keeps.
+
+ghost use Rattle.std.specs.Prelude.{◌≡◌, slice_get};
+ghost use Rattle.std.specs.Int.RustNames.{unsigned_abs};
+ghost use Rattle.pickle_value.specs.declared.state.Extent.TheVariants.{Marked};
+ghost use Rattle.pickle_value.specs.Graph.{is_tuple};
+ghost use Rattle.pickle_value.specs.Stacks.{taken, node_at};
+ghost use Rattle.pickle_value.specs.Steps.{Gives, make, push, popped, unmarked, doubled, tuple_of, add_to, append_to, set_in, build_of, object_of, reference_of, put_of, get_of, act_of, step};
+
+use crate::additions::{Addition, add, in_pairs};
+use crate::error::PickleError;
+use crate::leaves::leaf;
+use crate::node::Node;
+use crate::state::{Extent, Item, NodeTable, State};
+use pickle_ops::{Op, Token};
+use std::alloc::Global;
+use zb_ids::ListOf;
+
+/// Makes a node, and pushes its number.
+fn make_node(mut state: State, at: usize, node: Node) -> Result<State, PickleError>
+    ensures { Gives result (make at node state) }
+{
+    let count = state.nodes.len();
+    if count >= state.limit as usize {
+        return Err(PickleError::TooLarge { at });
+    }
+    state.nodes.push(node)?;
+    state.stack.push(Item::Value(count as u32))?;
+    Ok(state)
+}
+
+fn push_item(mut state: State, item: Item) -> Result<State, PickleError>
+    ensures { Gives result (push item state) }
+{
+    state.stack.push(item)?;
+    Ok(state)
+}
+
+fn pop(mut state: State, at: usize) -> Result<State, PickleError>
+    ensures { Gives result (popped at state state.stack) }
+{
+    match state.stack.pop() {
+        Some(_) => Ok(state),
+        None => Err(PickleError::Stack { at }),
+    }
+}
+
+fn pop_mark(alloc: Global, mut state: State, at: usize) -> Result<State, PickleError>
+    ensures { Gives result (unmarked at state (taken Marked state.stack)) }
+{
+    match state.stack.take(alloc, Extent::Marked)? {
+        Some(_) => Ok(state),
+        None => Err(PickleError::Stack { at }),
+    }
+}
+
+fn double(mut state: State, at: usize) -> Result<State, PickleError>
+    ensures { Gives result (doubled at state state.stack) }
+{
+    let Some(Item::Value(value)) = state.stack.pop() else {
+        return Err(PickleError::Stack { at });
+    };
+    state.stack.push(Item::Value(value))?;
+    state.stack.push(Item::Value(value))?;
+    Ok(state)
+}
+
+fn make_tuple(
+    alloc: Global,
+    mut state: State,
+    at: usize,
+    extent: Extent,
+) -> Result<State, PickleError>
+    ensures { Gives result (tuple_of at state (taken extent state.stack)) }
+{
+    match state.stack.take(alloc, extent)? {
+        Some(values) => make_node(state, at, Node::Tuple(values)),
+        None => Err(PickleError::Stack { at }),
+    }
+}
+
+/// Adds to the node on the top.
+#[tactic(auto, using(crate::proofs::Sets::set_twice))]
+fn add_to_top(mut state: State, at: usize, addition: Addition) -> Result<State, PickleError>
+    ensures { Gives result (add_to at state addition state.stack) }
+{
+    let Some(Item::Value(number)) = state.stack.pop() else {
+        return Err(PickleError::Stack { at });
+    };
+    if number as usize >= state.nodes.len() {
+        return Err(PickleError::Stack { at });
+    }
+    let node = state.nodes.replace(number, Node::None);
+    let Some(changed) = add(node, addition)? else {
+        return Err(PickleError::Stack { at });
+    };
+    let _ = state.nodes.replace(number, changed);
+    state.stack.push(Item::Value(number))?;
+    Ok(state)
+}
+
+fn append(alloc: Global, mut state: State, at: usize, extent: Extent) -> Result<State, PickleError>
+    ensures { Gives result (append_to at state (taken extent state.stack)) }
+{
+    match state.stack.take(alloc, extent)? {
+        Some(values) => add_to_top(state, at, Addition::Values(values)),
+        None => Err(PickleError::Stack { at }),
+    }
+}
+
+fn set(alloc: Global, mut state: State, at: usize, extent: Extent) -> Result<State, PickleError>
+    ensures { Gives result (set_in at state (taken extent state.stack)) }
+{
+    let Some(values) = state.stack.take(alloc, extent)? else {
+        return Err(PickleError::Stack { at });
+    };
+    match in_pairs(alloc, values.as_slice())? {
+        Some(pairs) => add_to_top(state, at, Addition::Pairs(pairs)),
+        None => Err(PickleError::Stack { at }),
+    }
+}
+
+fn build(mut state: State, at: usize) -> Result<State, PickleError>
+    ensures { Gives result (build_of at state state.stack) }
+{
+    let Some(Item::Value(value)) = state.stack.pop() else {
+        return Err(PickleError::Stack { at });
+    };
+    add_to_top(state, at, Addition::State(value))
+}
+
+/// Whether the node of a number is a tuple.
+fn stands_for_tuple(nodes: &NodeTable, number: u32) -> bool
+    ensures { result ≡ is_tuple (slice_get nodes.now number) }
+{
+    match nodes.get(number) {
+        Some(Node::Tuple(_)) => true,
+        _ => false,
+    }
+}
+
+fn make_object(
+    alloc: Global,
+    mut state: State,
+    at: usize,
+    by_new: bool,
+) -> Result<State, PickleError>
+    ensures { Gives result (object_of by_new at state state.stack) }
+{
+    let Some(Item::Value(arguments)) = state.stack.pop() else {
+        return Err(PickleError::Stack { at });
+    };
+    let Some(Item::Value(callee)) = state.stack.pop() else {
+        return Err(PickleError::Stack { at });
+    };
+    if !stands_for_tuple(&state.nodes, arguments) {
+        return Err(PickleError::Stack { at });
+    }
+    let node = Node::Object {
+        callee,
+        arguments,
+        by_new,
+        acts: ListOf::new(alloc),
+    };
+    make_node(state, at, node)
+}
+
+fn refer(mut state: State, at: usize) -> Result<State, PickleError>
+    ensures { Gives result (reference_of at state state.stack) }
+{
+    let Some(Item::Value(id)) = state.stack.pop() else {
+        return Err(PickleError::Stack { at });
+    };
+    make_node(state, at, Node::Reference(id))
+}
+
+fn put(mut state: State, at: usize, number: u64) -> Result<State, PickleError>
+    ensures { Gives result (put_of at number state state.stack) }
+{
+    let Some(Item::Value(value)) = state.stack.pop() else {
+        return Err(PickleError::Stack { at });
+    };
+    state.stack.push(Item::Value(value))?;
+    state.memo.put(number, value)?;
+    Ok(state)
+}
+
+fn get(state: State, at: usize, number: u64) -> Result<State, PickleError>
+    ensures { Gives result (get_of at state (node_at state.memo number)) }
+{
+    match state.memo.get(number) {
+        Some(value) => push_item(state, Item::Value(value)),
+        None => Err(PickleError::Memo { at }),
+    }
+}
+
+/// What a token does whose opcode makes no node by itself.
+fn act(alloc: Global, state: State, token: Token, at: usize) -> Result<State, PickleError>
+    ensures { Gives result (act_of token.op at token.number state) }
+{
+    match token.op {
+        Op::Proto => Ok(state),
+        Op::Mark => push_item(state, Item::Mark),
+        Op::Pop => pop(state, at),
+        Op::PopMark => pop_mark(alloc, state, at),
+        Op::Dup => double(state, at),
+        Op::Tuple => make_tuple(alloc, state, at, Extent::Marked),
+        Op::Tuple1 => make_tuple(alloc, state, at, Extent::Top(1)),
+        Op::Tuple2 => make_tuple(alloc, state, at, Extent::Top(2)),
+        Op::Tuple3 => make_tuple(alloc, state, at, Extent::Top(3)),
+        Op::Append => append(alloc, state, at, Extent::Top(1)),
+        Op::Appends => append(alloc, state, at, Extent::Marked),
+        Op::SetItem => set(alloc, state, at, Extent::Top(2)),
+        Op::SetItems => set(alloc, state, at, Extent::Marked),
+        Op::Reduce => make_object(alloc, state, at, false),
+        Op::NewObj => make_object(alloc, state, at, true),
+        Op::Build => build(state, at),
+        Op::BinPersid => refer(state, at),
+        Op::BinPut | Op::LongBinPut => put(state, at, token.number.unsigned_abs()),
+        Op::BinGet | Op::LongBinGet => get(state, at, token.number.unsigned_abs()),
+        _ => Err(PickleError::Stack { at }),
+    }
+}
+
+/// What the token at a place, whose argument has these bytes, does.
+pub(crate) fn take_step(
+    alloc: Global,
+    state: State,
+    token: Token,
+    at: usize,
+    bytes: &[u8],
+) -> Result<State, PickleError>
+    ensures { Gives result (step token.op at token.number bytes.now state) }
+{
+    match leaf(alloc, token, bytes)? {
+        Some(node) => make_node(state, at, node),
+        None => act(alloc, state, token, at),
+    }
+}
