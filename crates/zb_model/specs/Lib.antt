@@ -1,3 +1,4 @@
 pub mod Creation
 pub mod Database
 pub mod Seen
+pub mod Lists

@@ -3,11 +3,13 @@
 
 mod creation;
 mod data;
+mod lists;
 mod plain;
 mod refusal;
 
 pub use creation::first_transaction;
 pub use data::{Change, Content, Transaction};
+pub use lists::{LogLine, Revision};
 pub use plain::{newest_of, revision_before, serial_in};
 pub use refusal::{Refusal, Why};
 

@@ -3,3 +3,5 @@ pub mod LineLaws
 pub mod Pieces
 pub mod ScriptLaws
 pub mod Steps
+pub mod Utf8
+pub mod Digits

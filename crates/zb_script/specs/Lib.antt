@@ -6,3 +6,5 @@ pub mod Script
 pub mod Reading
 pub mod Answers
 pub mod Turns
+pub mod Literals
+pub mod Lists

@@ -76,7 +76,7 @@ fn push_refusal(out: &mut Vec<u8>, refusal: &Refusal) -> Result<(), AllocError>
         Refusal::Voted => out.extend_from_slice(b"Voted"),
         Refusal::Busy { holder } => {
             out.extend_from_slice(b"Busy ")?;
-            push_count(out, *holder)
+            push_count(out, u64::from(*holder))
         }
         Refusal::NotOpen => out.extend_from_slice(b"NotOpen"),
     }
@@ -88,7 +88,7 @@ fn push_answer(out: &mut Vec<u8>, answer: &Answer) -> Result<(), AllocError>
     match answer {
         Answer::Opened { session } => {
             out.extend_from_slice(b"opened ")?;
-            push_count(out, *session)
+            push_count(out, u64::from(*session))
         }
         Answer::Begun { front } => {
             out.extend_from_slice(b"begun ")?;

@@ -5,6 +5,8 @@
 mod answer;
 mod errors;
 mod line;
+mod lists;
+mod literals;
 mod name;
 mod payload;
 mod reading;
@@ -15,6 +17,7 @@ mod spelling;
 pub use answer::{Answer, answer_line};
 pub use errors::ScriptError;
 pub use line::{Line, Turn};
+pub use lists::{log_line, revision_line};
 pub use name::Name;
 pub use payload::Payload;
 pub use script::{one_script, read_script};

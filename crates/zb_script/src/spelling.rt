@@ -30,7 +30,7 @@ pub(crate) fn push_digits(out: &mut Vec<u8>, bytes: &[u8]) -> Result<(), AllocEr
 }
 
 /// Puts a count in decimal digits at the end.
-pub(crate) fn push_count(out: &mut Vec<u8>, count: u32) -> Result<(), AllocError>
+pub(crate) fn push_count(out: &mut Vec<u8>, count: u64) -> Result<(), AllocError>
     ensures { OnOk result (out.new.items ≡ out.old.items ++ decimal count) }
 {
     let mut buffer = Buffer::new();

@@ -1,3 +1,5 @@
+mod lists;
+
 use super::*;
 use std::alloc::Global;
 use std::test::Fail;

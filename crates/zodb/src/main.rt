@@ -1,10 +1,11 @@
-//! The program `zodb`: it hands the words, the standard input, the standard output and the clock to
-//! the top call, and ends with its status. Nothing is written to the standard error.
+//! The program `zodb`: it hands the words, the standard input, the standard output, the files of the
+//! path and the clock to the top call, and ends with its status. Nothing is written to the standard error.
 #![tactic(auto)]
 
 use std::env;
 use std::process::ExitCode;
 use zb_outside::{HostClock, ReadSource, WriteSink};
+use zb_volume::HostVolume;
 use zodb_top::{Status, zodb_main};
 
 /// The words behind the program's name.
@@ -16,13 +17,31 @@ fn words_of(rt: &HostRuntime) -> Option<Vec<String>> {
     Some(words)
 }
 
+/// The path of the file: the first word, where there is one.
+fn path_of(words: &[String]) -> &str {
+    match words.first() {
+        Some(path) => path.as_str(),
+        None => "",
+    }
+}
+
 fn main(rt: HostRuntime) -> ExitCode {
     let Some(words) = words_of(&rt) else {
         return ExitCode::from(Status::NoMemory as u8);
     };
+    let Ok(volume) = HostVolume::new(rt.alloc(), &rt, path_of(words.as_slice())) else {
+        return ExitCode::from(Status::NoMemory as u8);
+    };
     let mut source = ReadSource::new(rt.stdin());
     let mut sink = WriteSink::new(rt.stdout());
-    let clock = HostClock::new(&rt);
-    let status = zodb_main(rt.alloc(), words.as_slice(), &mut source, &mut sink, clock);
+    let mut clock = HostClock::new(&rt);
+    let (status, _) = zodb_main(
+        rt.alloc(),
+        words.as_slice(),
+        &mut source,
+        &mut sink,
+        volume,
+        &mut clock,
+    );
     ExitCode::from(status as u8)
 }

@@ -9,3 +9,8 @@ pub mod Views
 pub mod Sessions
 pub mod Shapes
 pub mod Standing
+pub mod Ticking
+pub mod Digits
+pub mod Written
+pub mod Listed
+pub mod Complete

@@ -15,7 +15,7 @@ use Rattle.zodb_top.specs.declared.status.Status.TheVariants as status
 use Rattle.zb_script.specs.declared.line.Turn.{Turn}
 use Rattle.zodb_top.specs.Machine.{State, start}
 use Rattle.zodb_top.specs.Output.{created, output_from, run_from}
-use Rattle.zodb_top.specs.Program.{HasBadLine, IsInput, IsPastLimit, IsUnlessMemory, IsWritten, Outcome, OutputFront, OutputWritten, WritesFront, WritesOutput, bad_line, limit_line, most_bytes, read_fault_line}
+use Rattle.zodb_top.specs.Program.{HasBadLine, IsInput, IsPastLimit, IsUnlessMemory, IsWritten, OutputFront, RunOutcome, OutputWritten, WritesFront, WritesOutput, bad_line, limit_line, most_bytes, read_fault_line}
 use Rattle.zodb_top.specs.Runs.{IsRun, Runs, RunsFront}
 use Rattle.zodb_top.specs.Seen.{IsNew}
 
@@ -46,32 +46,38 @@ nothing_output (Some stamps) turns taken =
 -- ---- the outcome of an input
 
 pub done : (input : List ℕ) (told : Option (List Stamp)) (old new : Option (List ℕ)) (before now : ℕ) (turns : List Turn) → length input ≤ most_bytes → IsScript input turns → OutputWritten turns told old new
-    → Outcome status.Done true ⊥ (Some input) told old new before now
-done input told old new before now turns within script text = (refl, record { turns = turns; script = (within, script); text = text })
+    → RunOutcome status.Done ⊥ (Some input) told old new before now
+done input told old new before now turns within script text = record { turns = turns; script = (within, script); text = text }
 
 pub out_of_memory : (input : List ℕ) (told : Option (List Stamp)) (old new : Option (List ℕ)) (before now : ℕ) (turns : List Turn) → length input ≤ most_bytes → IsScript input turns → OutputFront turns told old new
-    → Outcome status.NoMemory true ⊥ (Some input) told old new before now
-out_of_memory input told old new before now turns within script text = (refl, inr (record { turns = turns; script = (within, script); text = text }))
+    → RunOutcome status.NoMemory ⊥ (Some input) told old new before now
+out_of_memory input told old new before now turns within script text = inr (record { turns = turns; script = (within, script); text = text })
 
-pub nothing_written : (input : List ℕ) (told : Option (List Stamp)) (old : Option (List ℕ)) (before now : ℕ) → Outcome status.NoMemory true ⊥ (Some input) told old old before now
-nothing_written input told old before now = (refl, inl refl)
+pub nothing_written : (input : List ℕ) (told : Option (List Stamp)) (old : Option (List ℕ)) (before now : ℕ) → RunOutcome status.NoMemory ⊥ (Some input) told old old before now
+nothing_written input told old before now = inl refl
 
 pub sink_failed : (input : List ℕ) (told : Option (List Stamp)) (old new : Option (List ℕ)) (before now : ℕ) (turns : List Turn) → length input ≤ most_bytes → IsScript input turns → OutputFront turns told old new → Rose before now
-    → Outcome status.SinkFault true ⊥ (Some input) told old new before now
-sink_failed input told old new before now turns within script text rose = (refl, rose, record { turns = turns; script = (within, script); text = text })
+    → RunOutcome status.SinkFault ⊥ (Some input) told old new before now
+sink_failed input told old new before now turns within script text rose = (rose, record { turns = turns; script = (within, script); text = text })
 
 pub line_is_bad : (input : List ℕ) (told : Option (List Stamp)) (old new : Option (List ℕ)) (before now n : ℕ) (text : List ℕ) → length input ≤ most_bytes → IsBadLine input n → text ≡ bad_line n → IsWritten old new before now text
-    → Outcome status.BadLine true ⊥ (Some input) told old new before now
+    → RunOutcome status.BadLine ⊥ (Some input) told old new before now
 line_is_bad input told old new before now n text within bad is written =
-    (refl, record { number = n; within = within; bad = bad; written = subst (IsWritten old new before now) is written })
+    record { number = n; within = within; bad = bad; written = subst (IsWritten old new before now) is written }
 
-pub too_long : (asked : Bool) (unread : Type 0) (left : Option (List ℕ)) (told : Option (List Stamp)) (old new : Option (List ℕ)) (before now : ℕ) (s : Status) → s ≡ status.Limit → asked ≡ true
-    → IfSome left (λ input. most_bytes < length input) → IsWritten old new before now limit_line → Outcome s asked unread left told old new before now
-too_long asked unread None told old new before now s is asks past written = rw is (asks, tt)
-too_long asked unread (Some input) told old new before now s is asks past written = rw is (asks, record { past = past; written = written })
+pub too_long : (unread : Type 0) (left : Option (List ℕ)) (told : Option (List Stamp)) (old new : Option (List ℕ)) (before now : ℕ) (s : Status) → s ≡ status.Limit
+    → IfSome left (λ input. most_bytes < length input) → IsWritten old new before now limit_line → RunOutcome s unread left told old new before now
+too_long unread None told old new before now s is past written = rw is tt
+too_long unread (Some input) told old new before now s is past written = rw is (record { past = past; written = written })
 
-pub bad_line_named : (asked : Bool) (unread : Type 0) (left : Option (List ℕ)) (all : List ℕ) (s : Status) → IfSome left (λ input. all ≡ input)
+pub bad_line_named : (unread : Type 0) (left : Option (List ℕ)) (all : List ℕ) (s : Status) → IfSome left (λ input. all ≡ input)
     → ((n : ℕ) → IsBadLine all n → IsUnlessMemory s status.BadLine)
-    → IfSome left (λ input. (n : ℕ) → asked ≡ true → length input ≤ most_bytes → IsBadLine input n → ¬ unread → IsUnlessMemory s status.BadLine)
-bad_line_named asked unread None all s is named = tt
-bad_line_named asked unread (Some input) all s is named = λ n asks within bad read. named n (subst (λ (bytes : List ℕ). IsBadLine bytes n) (sym is) bad)
+    → IfSome left (λ input. (n : ℕ) → length input ≤ most_bytes → IsBadLine input n → ¬ unread → IsUnlessMemory s status.BadLine)
+bad_line_named unread None all s is named = tt
+bad_line_named unread (Some input) all s is named = λ n within bad read. named n (subst (λ (bytes : List ℕ). IsBadLine bytes n) (sym is) bad)
+
+pub bad_line_asked : (asked unread : Type 0) (left : Option (List ℕ)) (s : Status)
+    → IfSome left (λ input. (n : ℕ) → length input ≤ most_bytes → IsBadLine input n → ¬ unread → IsUnlessMemory s status.BadLine)
+    → IfSome left (λ input. (n : ℕ) → asked → length input ≤ most_bytes → IsBadLine input n → ¬ unread → IsUnlessMemory s status.BadLine)
+bad_line_asked asked unread None s named = tt
+bad_line_asked asked unread (Some input) s named = λ n asks. named n

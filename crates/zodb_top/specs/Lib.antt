@@ -6,3 +6,5 @@ pub mod Decisions
 pub mod Seen
 pub mod Steps
 pub mod Laws
+pub mod Words
+pub mod Listings

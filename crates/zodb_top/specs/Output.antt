@@ -33,6 +33,11 @@ output_from s stamps turns = (run_from s stamps turns).text
 abbrev pub created : List Stamp → List Transaction
 created stamps = first_transaction (next_number stamps) ∷ []
 
+-- the stamps that the clock has still to give behind the turns: one went to the start, and one to each
+-- vote of them that had changes to write
+abbrev pub stamps_left : List Turn → List Stamp → List Stamp
+stamps_left turns stamps = (run_from (start (created stamps)) (stamps_after stamps) turns).stamps
+
 -- The text is what a new database answers to the turns, by a clock with these stamps: the first of them
 -- makes the first transaction, and those behind it are for the votes.
 abbrev pub IsOutput : List Turn → List Stamp → List ℕ → Type 0

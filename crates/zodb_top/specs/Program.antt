@@ -1,6 +1,5 @@
--- What the program is asked, and what it writes. Own.
-use Rattle.std.specs.Prelude.{◌≡◌, ℕ, ◌<◌, ◌≤◌, ◌⊎◌, List, [], ◌∷◌, ◌++◌, Option, Some, None, Bool, true, false, not, ◌&&◌, ◌==◌, IfSome, codes, decimal, length}
-use Rattle.std.specs.Str.{bytes_eq}
+-- What the program writes, and what its statuses say. Own.
+use Rattle.std.specs.Prelude.{◌≡◌, ℕ, ◌<◌, ◌≤◌, ◌⊎◌, List, [], ◌∷◌, ◌++◌, Option, Some, None, Bool, true, false, IfSome, codes, decimal, length, take}
 use Rattle.std.specs.Io.KnownBytes.{Appends}
 use Rattle.zb_ids.specs.declared.stamp.Stamp.{Stamp}
 use Rattle.zb_outside.specs.Rose.{Rose}
@@ -8,20 +7,8 @@ use Rattle.zb_outside.specs.Written.{AppendsFront}
 use Rattle.zb_script.specs.declared.line.Turn.{Turn}
 use Rattle.zb_script.specs.Script.{IsBadLine, IsScript}
 use Rattle.zodb_top.specs.declared.status.Status.{Status}
-use Rattle.zodb_top.specs.declared.status.Status.TheVariants.{Done, NoMemory, Usage, ReadFault, SinkFault, BadLine, Limit}
-use Rattle.zodb_top.specs.Output.{IsOutput}
-
--- ---- words
-
--- a path isn't empty and doesn't begin with a dash
-abbrev pub is_path : List ℕ → Bool
-is_path [] = false
-is_path (b ∷ path) = not (b == 45)
-
--- a path, and `run`
-abbrev pub is_command : List (List ℕ) → Bool
-is_command (path ∷ command ∷ []) = is_path path && bytes_eq command (codes "run")
-is_command _ = false
+use Rattle.zodb_top.specs.declared.status.Status.TheVariants.{Done, NoMemory, ReadFault, SinkFault, BadLine, Limit}
+use Rattle.zodb_top.specs.Output.{IsOutput, stamps_left}
 
 -- ---- texts
 
@@ -33,6 +20,9 @@ usage_line = line (codes "usage")
 
 abbrev pub read_fault_line : List ℕ
 read_fault_line = line (codes "read fault")
+
+abbrev pub store_fault_line : List ℕ
+store_fault_line = line (codes "store fault")
 
 abbrev pub bad_line : ℕ → List ℕ
 bad_line number = line (codes "bad line " ++ decimal number)
@@ -89,21 +79,38 @@ pub record HasBadLine (input : List ℕ) (old new : Option (List ℕ)) (before n
 
 -- ---- statuses
 
--- What each status says: its cause, and what was written. `left` is what the source had left, `told` the
--- clock's stamps, `old` and `new` what the sink had taken before and has now, `before` and `now` its count
--- of faults; `asked` says that the words are a command, and `unread` that the source's count rose.
-abbrev pub Outcome : Status → Bool → Type 0 → Option (List ℕ) → Option (List Stamp) → Option (List ℕ) → Option (List ℕ) → ℕ → ℕ → Type 0
-Outcome Done asked unread left told old new before now = (asked ≡ true) × IfSome left (λ input. WritesOutput input told old new)
-Outcome NoMemory asked unread left told old new before now = (asked ≡ true) × ((new ≡ old) ⊎ IfSome left (λ input. WritesFront input told old new))
-Outcome Usage asked unread left told old new before now = (asked ≡ false) × IsWritten old new before now usage_line
-Outcome ReadFault asked unread left told old new before now = (asked ≡ true) × unread × IsWritten old new before now read_fault_line
-Outcome SinkFault asked unread left told old new before now = (asked ≡ true) × Rose before now × IfSome left (λ input. WritesFront input told old new)
-Outcome BadLine asked unread left told old new before now = (asked ≡ true) × IfSome left (λ input. HasBadLine input old new before now)
-Outcome Limit asked unread left told old new before now = (asked ≡ true) × IfSome left (λ input. IsPastLimit input old new before now)
+-- What each status of `run` says: its cause, and what was written. `left` is what the source had left, `told`
+-- the clock's stamps, `old` and `new` what the sink had taken before and has now, `before` and `now` its
+-- count of faults; `unread` says that the source's count rose.
+abbrev pub RunOutcome : Status → Type 0 → Option (List ℕ) → Option (List Stamp) → Option (List ℕ) → Option (List ℕ) → ℕ → ℕ → Type 0
+RunOutcome Done unread left told old new before now = IfSome left (λ input. WritesOutput input told old new)
+RunOutcome NoMemory unread left told old new before now = (new ≡ old) ⊎ IfSome left (λ input. WritesFront input told old new)
+RunOutcome ReadFault unread left told old new before now = unread × IsWritten old new before now read_fault_line
+RunOutcome SinkFault unread left told old new before now = Rose before now × IfSome left (λ input. WritesFront input told old new)
+RunOutcome BadLine unread left told old new before now = IfSome left (λ input. HasBadLine input old new before now)
+RunOutcome Limit unread left told old new before now = IfSome left (λ input. IsPastLimit input old new before now)
+RunOutcome _ unread left told old new before now = ⊥
 
 -- the status, or want of memory
 abbrev pub IsUnlessMemory : Status → Status → Type 0
 IsUnlessMemory status expected = (status ≡ expected) ⊎ (status ≡ NoMemory)
+
+-- the clock gave its stamps to the start and to those votes of the turns that had changes to write, and
+-- no other stamp
+abbrev pub ClockLeft : List Turn → Option (List Stamp) → Option (List Stamp) → Type 0
+ClockLeft turns told after = IfSome told (λ stamps. after ≡ Some (stamps_left turns stamps))
+
+-- it gave those of some front of the turns
+abbrev pub ClockLeftFront : List Turn → Option (List Stamp) → Option (List Stamp) → Type 0
+ClockLeftFront turns told after = IfSome told (λ stamps. (n : ℕ) × (after ≡ Some (stamps_left (take n turns) stamps)))
+
+-- What the clock gave `run`: nothing, where no script was run. `left` is what the source had left, `told` the
+-- clock's stamps and `after` those that it has still to give.
+abbrev pub ClockGave : Status → Option (List ℕ) → Option (List Stamp) → Option (List Stamp) → Type 0
+ClockGave Done left told after = IfSome left (λ input. (turns : List Turn) × IsInput input turns × ClockLeft turns told after)
+ClockGave NoMemory left told after = (after ≡ told) ⊎ IfSome left (λ input. (turns : List Turn) × IsInput input turns × ClockLeftFront turns told after)
+ClockGave SinkFault left told after = IfSome left (λ input. (turns : List Turn) × IsInput input turns × ClockLeftFront turns told after)
+ClockGave _ left told after = after ≡ told
 
 -- the source was read to its end
 abbrev pub is_read : Status → Bool

@@ -1,10 +1,10 @@
 //! What a vote decides.
 
-ghost use Rattle.std.specs.Prelude.{◌≡◌, ◌<◌, ◌-◌, ◌^◌, Some, IfOk, IfSome, map};
+ghost use Rattle.std.specs.Prelude.{◌≡◌, ◌<◌, ◌-◌, ◌^◌, Some, IfOk, IfSome, IsErrOf, map};
 ghost use Rattle.zb_ids.specs.Tids.{stamp_number, tid_after};
 ghost use Rattle.zb_model.specs.Database.{newest_tid};
 ghost use Rattle.zodb_top.specs.Decisions.{GivesDecision, IsWritable};
-ghost use Rattle.zodb_top.specs.Machine.{conflict_of, transaction_of};
+ghost use Rattle.zodb_top.specs.Machine.{change_of, conflict_of};
 
 use crate::pending::PendingStore;
 use std::alloc::{AllocError, Global};
@@ -37,13 +37,9 @@ fn conflict(list: &[Transaction], stores: &[PendingStore]) -> Option<Refusal>
     None
 }
 
-/// The transaction of these stores.
-fn transaction_of(
-    alloc: Global,
-    tid: Tid,
-    stores: &[PendingStore],
-) -> Result<Transaction, AllocError>
-    ensures { IfOk result (λ t. t ≡ transaction_of tid stores.now) }
+/// The changes of these stores.
+fn changes_of(alloc: Global, stores: &[PendingStore]) -> Result<ListOf<Change>, AllocError>
+    ensures { IfOk result (λ changes. changes ≡ map change_of stores.now) }
 {
     let mut changes = ListOf::new(alloc);
     for store in stores {
@@ -52,18 +48,11 @@ fn transaction_of(
             content: Content::Held(store.bytes.clone()?),
         })?;
     }
-    Ok(Transaction {
-        tid,
-        packed: false,
-        user: Text8::new(alloc),
-        description: Text8::new(alloc),
-        extension: Text8::new(alloc),
-        changes,
-    })
+    Ok(changes)
 }
 
 /// What a vote on these stores will write, if anything. The clock is read exactly where there is
-/// something to write.
+/// something to write and the memory for it.
 pub(crate) fn decide<C: Clock>(
     alloc: Global,
     list: &[Transaction],
@@ -72,6 +61,7 @@ pub(crate) fn decide<C: Clock>(
 ) -> Result<Option<Transaction>, VoteError>
     ensures gives { GivesDecision result list.now stores.now (C.stamps clock.old) (C.stamps clock.new) }
     ensures writable { IfOk result (λ writes. IsWritable writes) }
+    ensures unread { IsErrOf result VoteError.Memory → C.stamps clock.new ≡ C.stamps clock.old }
 {
     if let Some(why) = conflict(list, stores) {
         return Err(VoteError::Refused(why));
@@ -79,13 +69,20 @@ pub(crate) fn decide<C: Clock>(
     if stores.is_empty() {
         return Ok(None);
     }
+    let Ok(changes) = changes_of(alloc, stores) else {
+        return Err(VoteError::Memory);
+    };
     let stamp = clock.stamp();
     let tid = match next_tid(newest_of(list), stamp) {
         Ok(tid) if tid < Tid(u64::MAX) => tid,
         _ => return Err(VoteError::Refused(Refusal::TidsSpent)),
     };
-    match transaction_of(alloc, tid, stores) {
-        Ok(transaction) => Ok(Some(transaction)),
-        Err(_) => Err(VoteError::Memory),
-    }
+    Ok(Some(Transaction {
+        tid,
+        packed: false,
+        user: Text8::new(alloc),
+        description: Text8::new(alloc),
+        extension: Text8::new(alloc),
+        changes,
+    }))
 }

@@ -1,6 +1,6 @@
 //! The lines that end a transaction.
 
-ghost use Rattle.std.specs.Prelude.{◌≡◌, ◌<◌, ◌==◌, None, if◌then◌else◌, IfOk, OnOk, vec_len};
+ghost use Rattle.std.specs.Prelude.{◌≡◌, ◌<◌, ◌==◌, None, if◌then◌else◌, IfOk, OnErr, OnOk, vec_len};
 ghost use Rattle.zodb_top.specs.Machine.{is_holder};
 ghost use Rattle.zodb_top.specs.Seen.{IsSoundHub, held_answer, held_writes, state_of};
 ghost use Rattle.zodb_top.specs.Steps.{IsClockStep, IsStep};
@@ -38,6 +38,7 @@ pub(crate) fn vote<C: Clock>(
     requires sound { IsSoundHub hub.old }
     requires open { number < vec_len hub.old.seats }
     ensures step { IfOk result (λ a. IsClockStep (C.stamps clock.old) (C.stamps clock.new) (state_of hub.old) Line.Vote number a (state_of hub.new)) }
+    ensures unread { OnErr result (C.stamps clock.new ≡ C.stamps clock.old) }
     ensures sound { OnOk result (IsSoundHub hub.new) }
     ensures kept { vec_len hub.new.seats ≡ vec_len hub.old.seats }
 {

@@ -1,25 +1,32 @@
 //! The program, but for what the system gives it: a script of client turns is read, its turns are
-//! taken one at a time over a list of transactions, and each is answered.
+//! taken one at a time over a list of transactions, and each is answered; or a file is opened, and
+//! what stands in it is listed.
 #![tactic(auto)]
 
+mod command;
 mod decide;
 mod ending;
 mod hub;
 mod laws;
 mod lines;
+mod listing;
 mod pending;
 mod run;
+mod saying;
+mod script;
 mod status;
 mod stores;
 mod top;
 mod turn;
 mod vote;
 
+pub use command::{Command, Listing};
 pub use laws::{
     fronts_never_fall, only_four_refusals, reads_stay_below_the_front, the_list_stays_a_database,
 };
+pub use script::MOST_BYTES;
 pub use status::Status;
-pub use top::{MOST_BYTES, zodb_main};
+pub use top::zodb_main;
 
 #[cfg(test)]
 mod tests;

@@ -2,7 +2,7 @@
 
 ghost use Rattle.std.specs.Prelude.{◌≡◌, ◌<◌, ◌≤◌, ◌+◌, ◌^◌, OnOk, OnErr, IsErrOf, length, vec_len};
 ghost use Rattle.zb_outside.specs.Rose.{Rose};
-ghost use Rattle.zodb_top.specs.Runs.{Replies, RepliesFront, Runs, RunsFront};
+ghost use Rattle.zodb_top.specs.Runs.{FrontTicks, Replies, RepliesFront, Runs, RunsFront, Ticks};
 ghost use Rattle.zodb_top.specs.Seen.{IsSoundHub, state_of};
 
 use crate::hub::Hub;
@@ -19,7 +19,7 @@ pub(crate) enum RunError {
 }
 
 /// Takes a turn and writes its reply.
-#[tactic(auto, using(crate::proofs::Running::replied, crate::proofs::Running::replied_front, crate::proofs::Running::nothing_replied))]
+#[tactic(auto, using(crate::proofs::Running::replied, crate::proofs::Running::replied_front, crate::proofs::Running::nothing_replied, crate::proofs::Running::ticked, crate::proofs::Running::not_ticked))]
 fn reply<K: Sink, C: Clock>(
     alloc: Global,
     hub: &mut Hub,
@@ -31,6 +31,7 @@ fn reply<K: Sink, C: Clock>(
     requires few { vec_len hub.old.seats < 2 ^ 32 }
     ensures ok { OnOk result (Replies (C.stamps clock.old) (C.stamps clock.new) (state_of hub.old) turn.now (state_of hub.new) (K.taken sink.old) (K.taken sink.new)) }
     ensures err { OnErr result (RepliesFront (C.stamps clock.old) (state_of hub.old) turn.now (K.taken sink.old) (K.taken sink.new)) }
+    ensures clock { OnErr result (Ticks (C.stamps clock.old) (C.stamps clock.new) (state_of hub.old) turn.now) }
     ensures sound { OnOk result (IsSoundHub hub.new) }
     ensures grows { OnOk result (vec_len hub.new.seats ≤ vec_len hub.old.seats + 1) }
     ensures failed { IsErrOf result RunError.Fault → Rose (K.faults sink.old) (K.faults sink.new) }
@@ -49,7 +50,7 @@ fn reply<K: Sink, C: Clock>(
 }
 
 /// Takes the turns in their order and writes each reply by a write of its own.
-#[tactic(auto, using(crate::proofs::Running::start_run, crate::proofs::Running::go_on, crate::proofs::Running::all_run, crate::proofs::Running::front_run))]
+#[tactic(auto, using(crate::proofs::Running::start_run, crate::proofs::Running::go_on, crate::proofs::Running::all_run, crate::proofs::Running::front_run, crate::proofs::Running::start_led, crate::proofs::Running::led_on, crate::proofs::Running::front_ticks))]
 pub(crate) fn run<K: Sink, C: Clock>(
     alloc: Global,
     hub: &mut Hub,
@@ -61,6 +62,7 @@ pub(crate) fn run<K: Sink, C: Clock>(
     requires few { vec_len hub.old.seats + length turns.now < 2 ^ 32 }
     ensures ok { OnOk result (Runs (C.stamps clock.old) (C.stamps clock.new) (state_of hub.old) turns.now (state_of hub.new) (K.taken sink.old) (K.taken sink.new)) }
     ensures err { OnErr result (RunsFront (C.stamps clock.old) (state_of hub.old) turns.now (K.taken sink.old) (K.taken sink.new)) }
+    ensures clock { OnErr result (FrontTicks (C.stamps clock.old) (C.stamps clock.new) (state_of hub.old) turns.now) }
     ensures sound { OnOk result (IsSoundHub hub.new) }
     ensures failed { IsErrOf result RunError.Fault → Rose (K.faults sink.old) (K.faults sink.new) }
     ensures counted { K.faults sink.old ≤ K.faults sink.new }

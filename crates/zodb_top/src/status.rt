@@ -13,6 +13,10 @@ pub enum Status {
     ReadFault = 3,
     /// A reply could not be written: the sink's count of faults rose.
     SinkFault = 4,
+    /// The file could not be opened: a count of the volume's faults rose.
+    StoreFault = 5,
+    /// The file is damaged.
+    Damaged = 6,
     /// A line is none, or can't stand in its place.
     BadLine = 8,
     /// The script is too long.

@@ -7,10 +7,12 @@ use std::alloc::Global;
 use std::test::Fail;
 use zb_ids::{ListOf, Oid, Stamp, Text8, Tid};
 use zb_model::{Content, Refusal, Transaction, first_transaction};
-use zb_outside::{Failed, ListClock, MemorySink, MemorySource, Sink, Source};
+use zb_outside::{Clock, Failed, ListClock, MemorySink, MemorySource, Sink, Source};
 use zb_script::{Answer, Line, Name, Payload, Turn};
+use zb_volume::{Area, MemoryVolume, Volume};
 
 mod endings;
+mod listings;
 mod replies;
 mod trickles;
 
@@ -47,8 +49,16 @@ fn run_failing(
     let words = words(alloc, texts)?;
     let mut source = MemorySource::new(script.to_vec(alloc)?, failing_reads.to_vec(alloc)?);
     let mut sink = MemorySink::new(alloc, failing_writes.to_vec(alloc)?);
-    let clock = ListClock::new(new_year(2024)?, Vec::new(alloc));
-    let status = zodb_main(alloc, words.as_slice(), &mut source, &mut sink, clock);
+    let mut clock = ListClock::new(new_year(2024)?, Vec::new(alloc));
+    let volume = MemoryVolume::new(alloc, Vec::new(alloc));
+    let (status, _) = zodb_main(
+        alloc,
+        words.as_slice(),
+        &mut source,
+        &mut sink,
+        volume,
+        &mut clock,
+    );
     Ok(Ending {
         status: status as u8,
         written: sink.bytes().to_vec(alloc)?,

@@ -1,6 +1,6 @@
 //! One turn of a script.
 
-ghost use Rattle.std.specs.Prelude.{◌≡◌, ◌<◌, ◌≤◌, ◌+◌, ◌^◌, IfOk, IfSome, OnOk, length, position, vec_len};
+ghost use Rattle.std.specs.Prelude.{◌≡◌, ◌<◌, ◌≤◌, ◌+◌, ◌^◌, IfOk, IfSome, OnErr, OnOk, length, position, vec_len};
 ghost use Rattle.std.specs.Str.{bytes_eq};
 ghost use Rattle.zb_script.specs.Shape.{is_open};
 ghost use Rattle.zodb_top.specs.Machine.{session_of};
@@ -76,6 +76,7 @@ fn take_line<C: Clock>(
     requires sound { IsSoundHub hub.old }
     requires open { number < vec_len hub.old.seats }
     ensures step { IfOk result (λ a. IsClockStep (C.stamps clock.old) (C.stamps clock.new) (state_of hub.old) line.now number a (state_of hub.new)) }
+    ensures unread { OnErr result (C.stamps clock.new ≡ C.stamps clock.old) }
     ensures sound { OnOk result (IsSoundHub hub.new) }
     ensures kept { vec_len hub.new.seats ≡ vec_len hub.old.seats }
 {
@@ -109,6 +110,7 @@ pub(crate) fn take_turn<C: Clock>(
     requires sound { IsSoundHub hub.old }
     requires few { vec_len hub.old.seats < 2 ^ 32 }
     ensures turn { IfOk result (λ a. IsTurn (C.stamps clock.old) (C.stamps clock.new) (state_of hub.old) turn.now a (state_of hub.new)) }
+    ensures unread { OnErr result (C.stamps clock.new ≡ C.stamps clock.old) }
     ensures sound { OnOk result (IsSoundHub hub.new) }
     ensures grows { vec_len hub.new.seats ≤ vec_len hub.old.seats + 1 }
 {

@@ -106,8 +106,16 @@ fn votes_read_the_clock(rt: HostRuntime) -> Result<(), Fail> {
     let mut source = MemorySource::new(script.to_vec(alloc)?, Vec::new(alloc));
     let mut sink = MemorySink::new(alloc, Vec::new(alloc));
     let later = [new_year(1900)?, new_year(1925)?, new_year(2000)?].to_vec(alloc)?;
-    let clock = ListClock::new(new_year(1900)?, later);
-    let status = zodb_main(alloc, words.as_slice(), &mut source, &mut sink, clock);
+    let mut clock = ListClock::new(new_year(1900)?, later);
+    let volume = MemoryVolume::new(alloc, Vec::new(alloc));
+    let (status, _) = zodb_main(
+        alloc,
+        words.as_slice(),
+        &mut source,
+        &mut sink,
+        volume,
+        &mut clock,
+    );
     assert_eq!(rt; status as u8, 0);
     // 1900 has the tid 0, so the first transaction has 1 and the next one 2. 1925 has the tid
     // 25 * 12 * 31 * 24 * 60 * 2^32, which is 00cc588000000000.
@@ -115,6 +123,8 @@ fn votes_read_the_clock(rt: HostRuntime) -> Result<(), Fail> {
         sink.bytes(),
         b"a opened 0\nb opened 1\nc opened 2\na begun 0000000000000002\nb begun 0000000000000002\nc begun 0000000000000002\na stored\na voted\na committed 0000000000000002\nb stored\nb refused Conflict 0000000000000001 0000000000000000 0000000000000002 NoRule\nb aborted\nb begun 0000000000000003\nb voted\nb empty\nc stored\nc voted\nc committed 00cc588000000000\n".as_slice()
     );
+    // The start and two votes read it, so the fourth stamp is left.
+    assert_eq!(rt; clock.stamp(), new_year(2000)?);
     Ok(())
 }
 

@@ -67,8 +67,16 @@ fn bytes_come_and_go_one_by_one(rt: HostRuntime) -> Result<(), Fail> {
         bytes: Vec::new(alloc),
         faults: 0,
     };
-    let clock = ListClock::new(new_year(2024)?, Vec::new(alloc));
-    let status = zodb_main(alloc, words.as_slice(), &mut source, &mut sink, clock);
+    let mut clock = ListClock::new(new_year(2024)?, Vec::new(alloc));
+    let volume = MemoryVolume::new(alloc, Vec::new(alloc));
+    let (status, _) = zodb_main(
+        alloc,
+        words.as_slice(),
+        &mut source,
+        &mut sink,
+        volume,
+        &mut clock,
+    );
     assert_eq!(rt; status as u8, 0);
     assert_eq!(rt; sink.bytes.as_slice(), SECOND_WRITER_REPLIES);
     Ok(())

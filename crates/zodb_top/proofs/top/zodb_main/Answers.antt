@@ -1,5 +1,6 @@
-use Rattle.zodb_top.proofs.Outputs.{bad_line_named}
+use Rattle.zodb_top.proofs.Complete.{list_done}
 use Rattle.zodb_top.proofs.top.zodb_main.Goals as goal
 
-pub returns-clause-bad_line : goal.returns-clause-bad_line
-returns-clause-bad_line g c = bad_line_named _ _ (g.S.Source.left c.args.source.now) _ c.run_input.result (rw c.as_slice.ensures.value c.in-Ok.ensures.whole) c.run_input.ensures.bad_line
+pub returns-in-List-clause-listed : goal.returns-in-List-clause-listed
+returns-in-List-clause-listed g c = λ asked is told reads writes sinks list cut stands some.
+    list_done _ _ _ _ _ _ _ _ _ _ _ c.list_file-status.ensures.outcome told reads writes sinks list cut stands some

@@ -1,0 +1,85 @@
+-- Binary search in places that rise.
+use Rattle.std.proofs.Common.{◌≡◌, ℕ, zero, suc, ◌+◌, ◌-◌, ◌<◌, ◌≤◌, Bool, true, false, eqb, ltb, List, [], ◌∷◌, length, get_or, take, filter, Option, Some, None, refl, inl, inr, sym, ap, ◌∙◌, arith}
+use Rattle.std.specs.Prelude.{◌||◌, slice_get}
+use Rattle.std.specs.List.{list_any, last_or}
+use Rattle.std.specs.List.Sorted.{IsPartitionPoint, IsNonDecreasingBy}
+use Rattle.std.proofs.lemmas.Bool.{cases_lt, eqb-false, ltb-true, ne_eqb, ltb-false}
+use Rattle.std.proofs.lemmas.List.{get_or_default}
+use Rattle.fs_records.specs.declared.place.Place.{Place}
+use Rattle.fs_records.specs.Places.{last_below, is_below}
+
+filter_front : {X : Type 0} (p : X → Bool) (xs : List X) (n : ℕ) → ((k : ℕ) (d : X) → k < n → p (get_or xs k d) ≡ true) → ((k : ℕ) (d : X) → n ≤ k → k < length xs → p (get_or xs k d) ≡ false) → n ≤ length xs → filter p xs ≡ take n xs
+filter_front p [] zero front behind h = refl
+filter_front p [] (suc n) front behind h = refl
+filter_front p (x ∷ xs) zero front behind h =
+    let not_below : p x ≡ false = behind 0 x (omega arith) (omega arith) in
+    rw not_below (filter_front p xs 0 (λ k d l. absurd (omega arith)) (λ k d m l. behind (suc k) d (omega arith) (omega arith)) (omega arith))
+filter_front p (x ∷ xs) (suc n) front behind h =
+    let below : p x ≡ true = front 0 x (omega arith) in
+    rw below (ap (λ ys. x ∷ ys) (filter_front p xs n (λ k d l. front (suc k) d (omega arith)) (λ k d m l. behind (suc k) d (omega arith) (omega arith)) (omega arith)))
+
+last_take : {X : Type 0} (o : Option X) (xs : List X) (n : ℕ) (d : X) → n < length xs → last_or o (take (suc n) xs) ≡ Some (get_or xs n d)
+last_take o [] n d h = absurd (omega arith)
+last_take o (x ∷ xs) zero d h = refl
+last_take o (x ∷ xs) (suc n) d h = last_take (Some x) xs n d (omega arith)
+
+abbrev Parts : ℕ → List Place → ℕ → Type 0
+Parts front xs n = IsPartitionPoint (λ p. is_below front p ≡ true) (λ p. is_below front p ≡ false) xs n
+
+filtered : (front : ℕ) (xs : List Place) (n : ℕ) → n ≤ length xs → Parts front xs n → filter (is_below front) xs ≡ take n xs
+filtered front xs n h parts = filter_front (is_below front) xs n (λ k d l. parts.0 k d (omega arith) l) (λ k d m l. parts.1 k d m l) h
+
+pub none_below : (front : ℕ) (xs : List Place) (n : ℕ) → n ≤ length xs → Parts front xs n → n ≡ 0 → None ≡ last_below front xs
+unfolding last_below
+none_below front xs n h parts zero_is = sym (ap (last_or None) (filtered front xs n h parts ∙ ap (λ k. take k xs) zero_is))
+
+pub one_below : (front : ℕ) (xs : List Place) (n : ℕ) (d : Place) → n ≤ length xs → Parts front xs n → 0 < n → Some (get_or xs (n - 1) d) ≡ last_below front xs
+unfolding last_below
+one_below front xs n d h parts some =
+    let n_is : n ≡ suc (n - 1) = omega arith in
+    sym (ap (last_or None) (filtered front xs n h parts ∙ ap (λ k. take k xs) n_is) ∙ last_take None xs (n - 1) d (omega arith))
+
+-- no place is `at`
+none_at : (at : ℕ) (xs : List Place) → ((k : ℕ) (d : Place) → k < length xs → eqb (get_or xs k d).at at ≡ false) → list_any (λ p. eqb p.at at) xs ≡ false
+none_at at [] h = refl
+none_at at (x ∷ xs) h = rw (h 0 x (omega arith)) (none_at at xs (λ k d l. h (suc k) d (omega arith)))
+
+-- some place is
+some_at : (at : ℕ) (xs : List Place) (n : ℕ) (d : Place) → n < length xs → eqb (get_or xs n d).at at ≡ true → list_any (λ p. eqb p.at at) xs ≡ true
+some_at at [] n d h e = absurd (omega arith)
+some_at at (x ∷ xs) zero d h e = rw e refl
+some_at at (x ∷ xs) (suc n) d h e = rw (some_at at xs n d (omega arith) e) (any_true (eqb x.at at))
+  where
+    any_true : (b : Bool) → (b || true) ≡ true
+    any_true true = refl
+    any_true false = refl
+
+abbrev PartsAt : ℕ → List Place → ℕ → Type 0
+PartsAt at xs n = IsPartitionPoint (λ p. ltb p.at at ≡ true) (λ p. ltb p.at at ≡ false) xs n
+
+pub found_at : (at : ℕ) (xs : List Place) (n : ℕ) (d : Place) → n < length xs → PartsAt at xs n → IsNonDecreasingBy (λ p. p.at) xs → eqb (get_or xs n d).at at ≡ list_any (λ p. eqb p.at at) xs
+found_at at xs n d h parts rise = by_cases (eqb (get_or xs n d).at at) refl
+  where
+    others : eqb (get_or xs n d).at at ≡ false → (k : ℕ) (e : Place) → k < length xs → eqb (get_or xs k e).at at ≡ false
+    others apart k e l =
+        elim (cases_lt k n) [
+          | inl lt ↦ ne_eqb _ _ (λ same. absurd (omega (arith, ltb-true _ _ (parts.0 k e (omega arith) lt), same)))
+          | inr le ↦ ne_eqb _ _ (λ same. absurd (omega (arith, ltb-false _ _ (parts.1 n e (omega arith) h), rise n k e le l, eqb-false _ _ apart, same, ap (λ (p : Place). p.at) (get_or_default xs n d e h))))
+        ]
+    by_cases : (b : Bool) → eqb (get_or xs n d).at at ≡ b → eqb (get_or xs n d).at at ≡ list_any (λ p. eqb p.at at) xs
+    by_cases true is = is ∙ sym (some_at at xs n d h is)
+    by_cases false is = is ∙ sym (none_at at xs (others is))
+
+pub none_found : (at : ℕ) (xs : List Place) (n : ℕ) → length xs ≤ n → PartsAt at xs n → false ≡ list_any (λ p. eqb p.at at) xs
+none_found at xs n h parts = sym (none_at at xs (λ k d l. ne_eqb _ _ (λ e. absurd (omega (arith, ltb-true _ _ (parts.0 k d (omega arith) (omega arith)), e)))))
+
+last_or-more : {X : Type 0} (o : Option X) (x : X) (xs : List X) → last_or o (x ∷ xs) ≡ slice_get (x ∷ xs) (length xs)
+last_or-more o x [] = refl
+last_or-more o x (z ∷ zs) = last_or-more (Some x) z zs
+
+-- the last item is that at the last place
+pub last_or-get : {X : Type 0} (xs : List X) → last_or None xs ≡ slice_get xs (length xs - 1)
+last_or-get [] = refl
+last_or-get (x ∷ xs) =
+    let n : length xs ≡ length (x ∷ xs) - 1 = omega arith in
+    last_or-more None x xs ∙ ap (λ (k : ℕ). slice_get (x ∷ xs) k) n

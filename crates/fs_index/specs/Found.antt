@@ -1,0 +1,21 @@
+-- What an index of a file that was read gives. Source: own.
+use Rattle.std.specs.Prelude.{◌≡◌, ℕ, List, Option, None, filter, option_map}
+use Rattle.std.specs.List.{last_or}
+use Rattle.fs_records.specs.Blocks.{Known, Reached, is_known}
+use Rattle.fs_records.specs.Places.{Kept, places_in, knows, is_of, place_of, last_below, record_below, IsIndexOf}
+
+-- the object's last record
+abbrev pub last_record : ℕ → List Known → Option Known
+last_record oid known = last_or None (filter (is_of oid) known)
+
+-- the last place that is kept below a front is that of the object's last record below it
+abbrev pub BeforeIsTheRecordBelow : Type 0
+BeforeIsTheRecordBelow = (s : Reached) (kept : Kept) (oid front : ℕ) → IsIndexOf s kept → last_below front (places_in kept.entries oid) ≡ option_map place_of (record_below oid front s.known)
+
+-- the last place that is kept is that of the object's last record
+abbrev pub NewestIsTheLastRecord : Type 0
+NewestIsTheLastRecord = (s : Reached) (kept : Kept) (oid : ℕ) → IsIndexOf s kept → last_or None (places_in kept.entries oid) ≡ option_map place_of (last_record oid s.known)
+
+-- a record is kept at a place exactly where one was read
+abbrev pub StandsWhereARecordWasRead : Type 0
+StandsWhereARecordWasRead = (s : Reached) (kept : Kept) (oid at : ℕ) → IsIndexOf s kept → knows kept.entries oid at ≡ is_known s.known oid at

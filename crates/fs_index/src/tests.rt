@@ -1,0 +1,106 @@
+//! Tests of the calls of an index.
+
+ghost use Rattle.std.specs.Prelude.{All, IsTrue};
+ghost use Rattle.fs_records.specs.Places.{IsBefore};
+
+use crate::{
+    Lookup, before_is_the_record_below, newest_is_the_last_record, stands_where_a_record_was_read,
+};
+use fs_records::{Index, Place};
+use std::alloc::{AllocError, Global};
+use std::test::Fail;
+use zb_ids::{Oid, Tid};
+
+fn place(serial: u64, at: u64) -> Place {
+    Place {
+        serial: Tid(serial),
+        at,
+    }
+}
+
+// Whether a place stands behind these.
+fn is_behind(kept: &[Place], place: Place) -> bool
+    ensures { IsTrue result → All (IsBefore place.serial place.at) kept.now }
+{
+    kept.iter()
+        .all(|p| p.serial.0 <= place.serial.0 && p.at < place.at)
+}
+
+// Object 1 twice in transaction 5, and in 7 and 9; object 2 in 7 alone.
+const RECORDS: [(u64, u64, u64); 5] = [
+    (1, 5, 27),
+    (1, 5, 70),
+    (1, 7, 200),
+    (2, 7, 243),
+    (1, 9, 400),
+];
+
+fn index_of_records(alloc: Global) -> Result<Index, AllocError> {
+    let mut index = Index::new(alloc);
+    for (oid, serial, at) in RECORDS {
+        let next = place(serial, at);
+        if is_behind(index.places(Oid(oid)), next) {
+            index.add(Oid(oid), next)?;
+        }
+    }
+    Ok(index)
+}
+
+#[test]
+fn newest_is_the_last(rt: HostRuntime) -> Result<(), Fail> {
+    let index = index_of_records(rt.alloc())?;
+    assert_eq!(rt; index.newest(Oid(1)), Some(place(9, 400)));
+    assert_eq!(rt; index.newest(Oid(2)), Some(place(7, 243)));
+    assert_eq!(rt; index.newest(Oid(3)), None);
+    assert_eq!(rt; Index::new(rt.alloc()).newest(Oid(1)), None);
+    Ok(())
+}
+
+// Below a front stands the last record of the last earlier transaction, the second of two.
+#[test]
+fn before_is_below_the_front(rt: HostRuntime) -> Result<(), Fail> {
+    let index = index_of_records(rt.alloc())?;
+    let rows = [
+        (1, 0, None),
+        (1, 5, None),
+        (1, 6, Some(place(5, 70))),
+        (1, 7, Some(place(5, 70))),
+        (1, 8, Some(place(7, 200))),
+        (1, 9, Some(place(7, 200))),
+        (1, 10, Some(place(9, 400))),
+        (1, u64::MAX, Some(place(9, 400))),
+        (2, 7, None),
+        (2, 8, Some(place(7, 243))),
+        (3, u64::MAX, None),
+    ];
+    for (oid, front, want) in rows {
+        assert_eq!(rt; index.before(Oid(oid), Tid(front)), want, "object {oid} below {front}");
+    }
+    Ok(())
+}
+
+// A record that a later one of its transaction replaces is still found at its place.
+#[test]
+fn records_are_found_at_their_places(rt: HostRuntime) -> Result<(), Fail> {
+    let index = index_of_records(rt.alloc())?;
+    let mut found = 0;
+    for at in 0..500 {
+        let first = index.stands_at(Oid(1), at);
+        let second = index.stands_at(Oid(2), at);
+        assert_eq!(rt; first, [27, 70, 200, 400].contains(&at), "object 1 at {at}");
+        assert_eq!(rt; second, at == 243, "object 2 at {at}");
+        assert!(rt; !index.stands_at(Oid(3), at), "object 3 at {at}");
+        if first || second {
+            found += 1;
+        }
+    }
+    assert_eq!(rt; found, 5);
+    Ok(())
+}
+
+#[test]
+fn laws_are_called(_rt: HostRuntime) {
+    before_is_the_record_below();
+    newest_is_the_last_record();
+    stands_where_a_record_was_read();
+}

@@ -1,0 +1,21 @@
+use Rattle.std.proofs.Common.{◌≡◌, ◌≤◌, List, length, map, drop}
+use Rattle.std.specs.Prelude.{reverse}
+use Rattle.std.specs.List.{AllByRecursion}
+use Rattle.fs_records.specs.Blocks.{Known}
+use Rattle.fs_records.specs.Places.{place_of}
+use Rattle.fs_reading.specs.Main.{main}
+use Rattle.fs_reading.specs.Standing.{RecordStands, lasts, revision_at}
+use Rattle.fs_reading.proofs.history.lines_at.Given as goal
+
+abbrev pub invariant-loop-left : goal.invariant-loop-left
+invariant-loop-left g l = record {
+  within : l.left ≤ length l.places;
+  same : g.V.Volume.log l.volume ≡ g.V.Volume.log l.fn.volume;
+  reads : g.V.Volume.read_faults l.volume ≡ g.V.Volume.read_faults l.fn.volume;
+  writes : g.V.Volume.write_faults l.volume ≡ g.V.Volume.write_faults l.fn.volume;
+  lines : g.V.Volume.told → (ks : List Known) → l.places ≡ map place_of ks → AllByRecursion (RecordStands (main (g.V.Volume.log l.fn.volume))) ks
+      → l.lines ≡ reverse (map (revision_at (main (g.V.Volume.log l.fn.volume))) (lasts (drop l.left ks)));
+}
+
+abbrev pub decreases-loop-left : goal.decreases-loop-left
+decreases-loop-left g l = l.left

@@ -1,0 +1,9 @@
+pub mod Cases
+pub mod Contents
+pub mod Histories
+pub mod Main
+pub mod Merged
+pub mod RecordsStand
+pub mod Sources
+pub mod Standing
+pub mod TransactionsStand

@@ -1,0 +1,25 @@
+-- Where the content of a data record stands. Source: own.
+use Rattle.std.specs.Prelude.{◌≡◌, ℕ, ◌+◌, ◌<◌, ◌≤◌, ◌^◌, ◌==◌, Bool, true, false, List, [], ◌∷◌, length, take, drop, Option, Some, None}
+use Rattle.zb_model.specs.declared.data.Content.{Content}
+use Rattle.zb_model.specs.declared.data.Content.TheVariants.{Held, Absent}
+use Rattle.fs_records.specs.declared.place.Place.{Place}
+use Rattle.fs_records.specs.Blocks.{Reached, Begins, is_known}
+use Rattle.fs_reading.specs.declared.contents.Source.{Source}
+
+-- a content stands behind the header of a data record, or is Absent
+abbrev pub IsSource : List ℕ → Content → Option Source → Type 0
+IsSource bytes content None = content ≡ Absent
+IsSource bytes content (Some source) = (content ≡ Held (take source.length (drop (source.at + 42) bytes))) × (source.at + 42 + source.length ≤ length bytes)
+
+-- the bytes begin as a file, with a data record of some object at this place, and every place within them is a number of 64 bits
+pub record IsKnownPlace (bytes : List ℕ) (at : ℕ) : Type 0 where
+  pub reached : Reached
+  pub oid : ℕ
+  pub begins : Begins bytes reached
+  pub is : is_known reached.known oid at ≡ true
+  pub short : length bytes < 2 ^ 64
+
+-- whether the first of these places is of this transaction
+abbrev pub is_same_transaction : ℕ → List Place → Bool
+is_same_transaction serial [] = false
+is_same_transaction serial (next ∷ rest) = serial == next.serial

@@ -1,0 +1,83 @@
+//! The content of a data record.
+
+ghost use Rattle.std.specs.Prelude.{◌≡◌, ℕ, ◌+◌, ◌≤◌, ◌<◌, ◌^◌, true, length, IfOk, OnOk, IsErrOf};
+ghost use Rattle.zb_model.specs.declared.data.Content.{Content};
+ghost use Rattle.zb_volume.specs.Faults.{HasCause, Rose};
+ghost use Rattle.fs_records.specs.Blocks.{Reached, Begins, is_known, content_at};
+ghost use Rattle.fs_reading.specs.Main.{main};
+ghost use Rattle.fs_reading.specs.Standing.{data_head_at, IsContent};
+ghost use Rattle.fs_reading.specs.Sources.{IsSource, IsKnownPlace};
+ghost use Rattle.fs_reading.specs.declared.errors.ReadError.TheVariants.{ReadFault, Memory};
+
+use crate::errors::ReadError;
+use crate::pieces::{back_pointer_at, bytes_at, data_header_at};
+use fs_records::DataHeader;
+use std::alloc::Global;
+use zb_model::Content;
+use zb_volume::{StoreFault, Volume};
+
+/// Bytes that stand behind the header of a data record.
+#[derive(Clone, Copy, Debug, PartialEq, Eq)]
+pub(crate) struct Source {
+    /// Where the data record stands.
+    pub(crate) at: u64,
+    /// How many bytes there are.
+    pub(crate) length: u64,
+}
+
+/// Where the content of the data record with this header at a place stands, or `None` where there
+/// is none. A back pointer that doesn't lead to an earlier place is none.
+pub(crate) fn source_of<V: Volume>(
+    volume: &mut V,
+    at: u64,
+    header: &DataHeader,
+) -> Result<Option<Source>, StoreFault>
+    requires short { V.told → length (main (V.log volume.old)) < 2 ^ 64 }
+    requires header { V.told → header.now ≡ data_head_at (main (V.log volume.old)) at }
+    requires some { V.told → (content : Content) × IsContent (main (V.log volume.old)) content at }
+    ensures value { V.told → (content : Content) → IsContent (main (V.log volume.old)) content at
+        → IfOk result (λ source. IsSource (main (V.log volume.old)) content source) }
+    ensures same { V.log volume.new ≡ V.log volume.old }
+    ensures cause { HasCause (V.read_faults volume.old) (V.read_faults volume.new) result }
+    ensures uncounted { OnOk result (V.read_faults volume.new ≡ V.read_faults volume.old) }
+    ensures write_faults { V.write_faults volume.new ≡ V.write_faults volume.old }
+{
+    let mut place = at;
+    let mut length = header.length;
+    while length == 0 {
+        let back = back_pointer_at(volume, place)?;
+        if back == 0 {
+            return Ok(None);
+        }
+        if back >= place {
+            return Ok(None);
+        }
+        length = data_header_at(volume, back)?.length;
+        place = back;
+    }
+    Ok(Some(Source { at: place, length }))
+}
+
+/// The content of the data record at a place where one of an object was read: its bytes, or those
+/// of the earlier record that its back pointer leads to. It is `ReadFault` only where a read failed,
+/// and else `Memory`. The volume is as it was.
+pub fn read_content<V: Volume>(alloc: Global, volume: &mut V, at: u64) -> Result<Content, ReadError>
+    requires { V.told → IsKnownPlace (main (V.log volume.old)) at }
+    ensures content { V.told → (reached : Reached) (oid : ℕ)
+        → Begins (main (V.log volume.old)) reached → is_known reached.known oid at ≡ true
+        → IfOk result (λ content. content ≡ content_at reached.known oid at) }
+    ensures same { V.log volume.new ≡ V.log volume.old }
+    ensures later { V.read_faults volume.old ≤ V.read_faults volume.new }
+    ensures fault { IsErrOf result ReadFault
+        → Rose (V.read_faults volume.old) (V.read_faults volume.new) }
+    ensures memory { IsErrOf result Memory → V.read_faults volume.new ≡ V.read_faults volume.old }
+    ensures uncounted { OnOk result (V.read_faults volume.new ≡ V.read_faults volume.old) }
+    ensures write_faults { V.write_faults volume.new ≡ V.write_faults volume.old }
+{
+    let header = data_header_at(volume, at)?;
+    let Some(source) = source_of(volume, at, &header)? else {
+        return Ok(Content::Absent);
+    };
+    let from = source.at.saturating_add(42);
+    Ok(Content::Held(bytes_at(alloc, volume, from, source.length as usize)?))
+}

@@ -1,0 +1,148 @@
+//! The history of an object.
+
+ghost use Rattle.std.specs.Prelude.{◌≡◌, ℕ, ◌+◌, ◌≤◌, ◌<◌, ◌^◌, if◌then◌else◌, Some, None, List, length, map, reverse, IfOk, OnOk, IsErrOf};
+ghost use Rattle.std.specs.List.{AllByRecursion};
+ghost use Rattle.zb_model.specs.Lists.{history_of};
+ghost use Rattle.zb_volume.specs.Faults.{Rose};
+ghost use Rattle.fs_records.specs.Blocks.{Reached, Begins, Known};
+ghost use Rattle.fs_records.specs.Places.{IsIndexOf, place_of};
+ghost use Rattle.fs_reading.specs.Main.{main, IsIndexed};
+ghost use Rattle.fs_reading.specs.Standing.{RecordStands, is_replaced, lasts, revision_at};
+ghost use Rattle.fs_reading.specs.Sources.{is_same_transaction};
+ghost use Rattle.fs_reading.specs.declared.errors.ReadError.TheVariants.{ReadFault, Memory};
+
+use crate::contents::source_of;
+use crate::errors::ReadError;
+use crate::pieces::{data_header_at, header_at, keep, user_and_description};
+use fs_records::{Index, Place};
+use std::alloc::Global;
+use zb_ids::{ListOf, Oid, Tid};
+use zb_model::Revision;
+use zb_volume::Volume;
+
+/// The line of the data record at a place.
+fn line_at<V: Volume>(alloc: Global, volume: &mut V, place: Place) -> Result<Revision, ReadError>
+    requires short { V.told → length (main (V.log volume.old)) < 2 ^ 64 }
+    requires stands { V.told
+        → (k : Known) × (place ≡ place_of k) × RecordStands (main (V.log volume.old)) k }
+    ensures value { V.told → (k : Known) → place ≡ place_of k
+        → RecordStands (main (V.log volume.old)) k
+        → IfOk result (λ line. line ≡ revision_at (main (V.log volume.old)) k) }
+    ensures same { V.log volume.new ≡ V.log volume.old }
+    ensures later { V.read_faults volume.old ≤ V.read_faults volume.new }
+    ensures fault { IsErrOf result ReadFault
+        → Rose (V.read_faults volume.old) (V.read_faults volume.new) }
+    ensures memory { IsErrOf result Memory → V.read_faults volume.new ≡ V.read_faults volume.old }
+    ensures uncounted { OnOk result (V.read_faults volume.new ≡ V.read_faults volume.old) }
+    ensures write_faults { V.write_faults volume.new ≡ V.write_faults volume.old }
+{
+    let record = data_header_at(volume, place.at)?;
+    let source = source_of(volume, place.at, &record)?;
+    let header = header_at(volume, record.transaction)?;
+    let (user, description) = user_and_description(alloc, volume, record.transaction, &header)?;
+    Ok(Revision {
+        tid: place.serial,
+        size: source.map(|source| source.length),
+        user,
+        description,
+    })
+}
+
+/// Whether the first of these places is of this transaction.
+fn is_replaced(serial: Tid, later: &[Place]) -> bool
+    ensures { result ≡ is_same_transaction serial later.now }
+{
+    match later.first() {
+        Some(next) => serial == next.serial,
+        None => false,
+    }
+}
+
+/// The line of the data record at a place, if none of the places behind it is of the same
+/// transaction.
+fn line_of_last<V: Volume>(
+    alloc: Global,
+    volume: &mut V,
+    place: Place,
+    later: &[Place],
+) -> Result<Option<Revision>, ReadError>
+    requires short { V.told → length (main (V.log volume.old)) < 2 ^ 64 }
+    requires stands { V.told
+        → (k : Known) × (place ≡ place_of k) × RecordStands (main (V.log volume.old)) k }
+    ensures value { V.told → (k : Known) (ks : List Known) → place ≡ place_of k
+        → later.now ≡ map place_of ks → RecordStands (main (V.log volume.old)) k
+        → IfOk result (λ line. line
+        ≡ (if is_replaced k ks then None else Some (revision_at (main (V.log volume.old)) k))) }
+    ensures same { V.log volume.new ≡ V.log volume.old }
+    ensures later { V.read_faults volume.old ≤ V.read_faults volume.new }
+    ensures fault { IsErrOf result ReadFault
+        → Rose (V.read_faults volume.old) (V.read_faults volume.new) }
+    ensures memory { IsErrOf result Memory → V.read_faults volume.new ≡ V.read_faults volume.old }
+    ensures uncounted { OnOk result (V.read_faults volume.new ≡ V.read_faults volume.old) }
+    ensures write_faults { V.write_faults volume.new ≡ V.write_faults volume.old }
+{
+    if is_replaced(place.serial, later) {
+        return Ok(None);
+    }
+    let line = line_at(alloc, volume, place)?;
+    Ok(Some(line))
+}
+
+/// The lines of the data records of an object at these places, the last one first, one for each
+/// transaction, which is that of its last record.
+fn lines_at<V: Volume>(
+    alloc: Global,
+    volume: &mut V,
+    places: &[Place],
+) -> Result<ListOf<Revision>, ReadError>
+    requires short { V.told → length (main (V.log volume.old)) < 2 ^ 64 }
+    requires stand { V.told → (ks : List Known) × (places.now ≡ map place_of ks)
+        × AllByRecursion (RecordStands (main (V.log volume.old))) ks }
+    ensures lines { V.told → (ks : List Known) → places.now ≡ map place_of ks
+        → AllByRecursion (RecordStands (main (V.log volume.old))) ks
+        → IfOk result (λ lines.
+        lines ≡ reverse (map (revision_at (main (V.log volume.old))) (lasts ks))) }
+    ensures same { V.log volume.new ≡ V.log volume.old }
+    ensures later { V.read_faults volume.old ≤ V.read_faults volume.new }
+    ensures fault { IsErrOf result ReadFault
+        → Rose (V.read_faults volume.old) (V.read_faults volume.new) }
+    ensures memory { IsErrOf result Memory → V.read_faults volume.new ≡ V.read_faults volume.old }
+    ensures uncounted { OnOk result (V.read_faults volume.new ≡ V.read_faults volume.old) }
+    ensures write_faults { V.write_faults volume.new ≡ V.write_faults volume.old }
+{
+    let mut lines = ListOf::new(alloc);
+    let mut left = places.len();
+    while left > 0 {
+        let later = &places[left..];
+        left -= 1;
+        let line = line_of_last(alloc, volume, places[left], later)?;
+        keep(&mut lines, line)?;
+    }
+    Ok(lines)
+}
+
+/// Every change of an object, the newest first, for an index of what stands in the file: the tid, the
+/// user and the description of its transaction, and how many bytes the object has from then on, or
+/// `None` where it is gone. Where one transaction has several records of the object, its change is
+/// that of the last one. It reads headers, back pointers and texts alone, never the object's bytes,
+/// and memory is that of the list. It is `ReadFault` only where a read failed, and else `Memory`.
+/// The volume is as it was.
+pub fn read_history<V: Volume>(
+    alloc: Global,
+    volume: &mut V,
+    index: &Index,
+    oid: Oid,
+) -> Result<ListOf<Revision>, ReadError>
+    requires { V.told → IsIndexed (main (V.log volume.old)) index.now }
+    ensures lines { V.told → (reached : Reached) → Begins (main (V.log volume.old)) reached
+        → IsIndexOf reached index.now → IfOk result (λ lines. lines ≡ history_of oid reached.list) }
+    ensures same { V.log volume.new ≡ V.log volume.old }
+    ensures later { V.read_faults volume.old ≤ V.read_faults volume.new }
+    ensures fault { IsErrOf result ReadFault
+        → Rose (V.read_faults volume.old) (V.read_faults volume.new) }
+    ensures memory { IsErrOf result Memory → V.read_faults volume.new ≡ V.read_faults volume.old }
+    ensures uncounted { OnOk result (V.read_faults volume.new ≡ V.read_faults volume.old) }
+    ensures write_faults { V.write_faults volume.new ≡ V.write_faults volume.old }
+{
+    lines_at(alloc, volume, index.places(oid))
+}

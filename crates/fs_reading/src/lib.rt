@@ -1,0 +1,17 @@
+//! What stands in the open file of a database, read from its volume: the list of transactions that
+//! may be undone, the history of an object, and the content of a record.
+#![tactic(auto)]
+
+mod contents;
+mod errors;
+mod history;
+mod pieces;
+mod undo_log;
+
+pub use contents::read_content;
+pub use errors::ReadError;
+pub use history::read_history;
+pub use undo_log::read_undo_log;
+
+#[cfg(test)]
+mod tests;

@@ -1,0 +1,104 @@
+//! The list of the transactions that may be undone.
+
+ghost use Rattle.std.specs.Prelude.{◌≡◌, ℕ, ◌+◌, ◌≤◌, ◌<◌, ◌^◌, length, reverse, IfOk, OnOk, IsErrOf};
+ghost use Rattle.std.specs.List.{AllByRecursion, filter_map};
+ghost use Rattle.zb_model.specs.Lists.{undo_log_of};
+ghost use Rattle.zb_volume.specs.Faults.{Rose};
+ghost use Rattle.fs_records.specs.Blocks.{Reached, Begins};
+ghost use Rattle.fs_records.specs.Places.{IsIndexOf};
+ghost use Rattle.fs_reading.specs.Main.{main, IsIndexed};
+ghost use Rattle.fs_reading.specs.Standing.{log_line_at, HasTexts};
+ghost use Rattle.fs_reading.specs.declared.errors.ReadError.TheVariants.{ReadFault, Memory};
+
+use crate::errors::ReadError;
+use crate::pieces::{header_at, keep, user_and_description};
+use fs_records::{Index, Place};
+use std::alloc::Global;
+use zb_ids::ListOf;
+use zb_model::LogLine;
+use zb_volume::Volume;
+
+/// The status of a transaction that a pack has gone over.
+const PACKED: u8 = b'p';
+
+/// The line of the transaction at a place, if no pack has gone over it.
+fn line_at<V: Volume>(
+    alloc: Global,
+    volume: &mut V,
+    place: Place,
+) -> Result<Option<LogLine>, ReadError>
+    requires short { V.told → length (main (V.log volume.old)) < 2 ^ 64 }
+    requires texts { V.told → HasTexts (main (V.log volume.old)) place.at }
+    ensures value { V.told → IfOk result (λ line.
+        line ≡ log_line_at (main (V.log volume.old)) place) }
+    ensures same { V.log volume.new ≡ V.log volume.old }
+    ensures later { V.read_faults volume.old ≤ V.read_faults volume.new }
+    ensures fault { IsErrOf result ReadFault
+        → Rose (V.read_faults volume.old) (V.read_faults volume.new) }
+    ensures memory { IsErrOf result Memory → V.read_faults volume.new ≡ V.read_faults volume.old }
+    ensures uncounted { OnOk result (V.read_faults volume.new ≡ V.read_faults volume.old) }
+    ensures write_faults { V.write_faults volume.new ≡ V.write_faults volume.old }
+{
+    let header = header_at(volume, place.at)?;
+    if header.status == PACKED {
+        return Ok(None);
+    }
+    let (user, description) = user_and_description(alloc, volume, place.at, &header)?;
+    Ok(Some(LogLine {
+        tid: header.tid,
+        user,
+        description,
+    }))
+}
+
+/// The lines of the transactions at these places, the last one first.
+fn lines_at<V: Volume>(
+    alloc: Global,
+    volume: &mut V,
+    places: &[Place],
+) -> Result<ListOf<LogLine>, ReadError>
+    requires short { V.told → length (main (V.log volume.old)) < 2 ^ 64 }
+    requires texts { V.told
+        → AllByRecursion (λ p. HasTexts (main (V.log volume.old)) p.at) places.now }
+    ensures lines { V.told → IfOk result (λ lines.
+        lines ≡ reverse (filter_map (log_line_at (main (V.log volume.old))) places.now)) }
+    ensures same { V.log volume.new ≡ V.log volume.old }
+    ensures later { V.read_faults volume.old ≤ V.read_faults volume.new }
+    ensures fault { IsErrOf result ReadFault
+        → Rose (V.read_faults volume.old) (V.read_faults volume.new) }
+    ensures memory { IsErrOf result Memory → V.read_faults volume.new ≡ V.read_faults volume.old }
+    ensures uncounted { OnOk result (V.read_faults volume.new ≡ V.read_faults volume.old) }
+    ensures write_faults { V.write_faults volume.new ≡ V.write_faults volume.old }
+{
+    let mut lines = ListOf::new(alloc);
+    let mut left = places.len();
+    while left > 0 {
+        left -= 1;
+        let line = line_at(alloc, volume, places[left])?;
+        keep(&mut lines, line)?;
+    }
+    Ok(lines)
+}
+
+/// The list of the transactions that no pack has gone over, the newest first, with the tid, the user
+/// and the description of each, for an index of what stands in the file. It reads the headers and
+/// those two texts alone, and memory is that of the list. It is `ReadFault` only where a read
+/// failed, and else `Memory`. The volume is as it was.
+pub fn read_undo_log<V: Volume>(
+    alloc: Global,
+    volume: &mut V,
+    index: &Index,
+) -> Result<ListOf<LogLine>, ReadError>
+    requires { V.told → IsIndexed (main (V.log volume.old)) index.now }
+    ensures lines { V.told → (reached : Reached) → Begins (main (V.log volume.old)) reached
+        → IsIndexOf reached index.now → IfOk result (λ lines. lines ≡ undo_log_of reached.list) }
+    ensures same { V.log volume.new ≡ V.log volume.old }
+    ensures later { V.read_faults volume.old ≤ V.read_faults volume.new }
+    ensures fault { IsErrOf result ReadFault
+        → Rose (V.read_faults volume.old) (V.read_faults volume.new) }
+    ensures memory { IsErrOf result Memory → V.read_faults volume.new ≡ V.read_faults volume.old }
+    ensures uncounted { OnOk result (V.read_faults volume.new ≡ V.read_faults volume.old) }
+    ensures write_faults { V.write_faults volume.new ≡ V.write_faults volume.old }
+{
+    lines_at(alloc, volume, index.transactions())
+}

@@ -1,0 +1,92 @@
+-- Where the records of each object stand, and what an index keeps of it. Source: own.
+use Rattle.std.specs.Prelude.{◌≡◌, ℕ, ◌<◌, ◌≤◌, Bool, ◌==◌, ◌&&◌, nat_lt, nat_eq, if◌then◌else◌, List, [], ◌∷◌, ◌++◌, map, filter, Option, None, unwrap_or, All}
+use Rattle.std.specs.List.{list_any, last_or}
+use Rattle.std.specs.List.Sorted.{IsNonDecreasingBy}
+use Rattle.std.specs.Map.{lookup}
+use Rattle.zb_model.specs.Database.{ObjectRevision}
+use Rattle.fs_records.specs.declared.place.Place.{Place}
+use Rattle.fs_records.specs.Blocks.{Known, Reached}
+
+-- ---- what an index keeps
+
+-- what an index is seen as: the places of each object's records, in the order of the objects' first ones, and the places of the transactions
+pub record Kept : Type 0 where
+  pub entries : List (ℕ × List Place)
+  pub transactions : List Place
+
+-- the places that are kept of an object, none where it isn't there
+abbrev pub places_in : List (ℕ × List Place) → ℕ → List Place
+places_in entries oid = unwrap_or (lookup (nat_eq oid) entries) []
+
+-- neither serials nor places ever fall
+pub record IsRising (places : List Place) : Type 0 where
+  pub serials : IsNonDecreasingBy (λ p. p.serial) places
+  pub places_rise : IsNonDecreasingBy (λ p. p.at) places
+
+abbrev pub AreRising : List (ℕ × List Place) → Type 0
+AreRising entries = (oid : ℕ) → IsRising (places_in entries oid)
+
+-- what holds of every index: the places of each object rise, and those of the transactions
+pub record IsSound (kept : Kept) : Type 0 where
+  pub objects : AreRising kept.entries
+  pub transactions : IsRising kept.transactions
+
+-- of no later transaction, and before this place
+abbrev pub IsBefore : ℕ → ℕ → Place → Type 0
+IsBefore tid at p = (p.serial ≤ tid) × (p.at < at)
+
+-- all places of all objects are
+abbrev pub AreBefore : List (ℕ × List Place) → ℕ → ℕ → Type 0
+AreBefore entries tid at = (oid : ℕ) → All (IsBefore tid at) (places_in entries oid)
+
+-- one object has one place more, at the end, and all others are as they were
+abbrev pub Added : List (ℕ × List Place) → ℕ → Place → List (ℕ × List Place) → Type 0
+Added old oid place new = (o : ℕ) → places_in new o ≡ (if o == oid then places_in old o ++ place ∷ [] else places_in old o)
+
+-- ---- what is looked up
+
+abbrev pub is_below : ℕ → Place → Bool
+is_below front p = nat_lt p.serial front
+
+-- the last place with a serial below the front
+unfoldable pub last_below : ℕ → List Place → Option Place
+last_below front places = last_or None (filter (is_below front) places)
+
+-- whether a record of the object is kept that stands at the place
+abbrev pub knows : List (ℕ × List Place) → ℕ → ℕ → Bool
+knows entries oid at = list_any (λ p. p.at == at) (places_in entries oid)
+
+-- ---- what was read, and what an index keeps of it
+
+-- where a record that was read stands
+abbrev pub place_of : Known → Place
+place_of k = record { serial = k.tid; at = k.place }
+
+abbrev pub is_of : ℕ → Known → Bool
+is_of oid k = oid == k.oid
+
+-- the places of an object's records, replaced ones too, in order
+abbrev pub places_of : ℕ → List Known → List Place
+places_of oid known = map place_of (filter (is_of oid) known)
+
+-- what is kept of each object are the places of its records
+abbrev pub ArePlacesOf : List Known → List (ℕ × List Place) → Type 0
+ArePlacesOf known entries = (oid : ℕ) → places_in entries oid ≡ places_of oid known
+
+-- an index of what was read: the places of each object's records, and of the transactions
+pub record IsIndexOf (s : Reached) (kept : Kept) : Type 0 where
+  pub records : ArePlacesOf s.known kept.entries
+  pub transactions : kept.transactions ≡ s.starts
+
+-- ---- the record below a front
+
+abbrev pub is_of_below : ℕ → ℕ → Known → Bool
+is_of_below oid front k = oid == k.oid && nat_lt k.tid front
+
+-- the object's last record in a transaction below the front
+abbrev pub record_below : ℕ → ℕ → List Known → Option Known
+record_below oid front known = last_or None (filter (is_of_below oid front) known)
+
+-- the revision that a record makes of its object
+abbrev pub revision_of : Known → ObjectRevision
+revision_of k = record { serial = k.tid; content = k.content }

@@ -1,0 +1,25 @@
+//! What a FileStorage file is made of: its two headers, what a file stands for, where its damage
+//! is, and the index that says where the records of each object stand.
+#![tactic(auto)]
+
+mod field;
+mod header;
+mod index;
+mod laws;
+mod place;
+mod verdict;
+
+pub use field::Field;
+pub use header::{
+    DataHeader, Header, read_data_header, read_header, write_data_header, write_header,
+};
+pub use index::Index;
+pub use laws::{
+    always, below_is, list_is_a_database, never_both, one_damage, one_list, records_are_revisions,
+    written_blocks_are_read,
+};
+pub use place::Place;
+pub use verdict::Verdict;
+
+#[cfg(test)]
+mod tests;

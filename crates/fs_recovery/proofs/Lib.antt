@@ -1,0 +1,5 @@
+pub mod Faults
+pub mod Seen
+pub mod Starts
+pub mod Steps
+pub mod Times

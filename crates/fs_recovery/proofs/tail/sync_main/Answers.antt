@@ -1,0 +1,34 @@
+use Rattle.std.proofs.Common.{refl}
+use Rattle.zb_volume.specs.declared.areas.Area.TheVariants.{Main, Side}
+use Rattle.zb_volume.specs.Calls.{SyncOf}
+use Rattle.zb_volume.specs.Disk.{disk}
+use Rattle.zb_volume.specs.Images.{CrashLeavesWith}
+use Rattle.zb_volume.specs.Moments.{LeavesOnly, StaysAs, here}
+use Rattle.zb_volume.specs.Lasting.{more_left}
+use Rattle.zb_volume.specs.Durable.{sync_leaves, one_stays}
+use Rattle.fs_recovery.specs.Reading.{main}
+use Rattle.fs_recovery.proofs.tail.sync_main.Goals as goal
+use Rattle.fs_recovery.proofs.tail.sync_main.Goals.{After-sync}
+
+-- after the sync, done or not
+first : (g : _) (c : After-sync g) → g.V.Volume.told
+    → LeavesOnly Main (CrashLeavesWith (g.V.Volume.log c.args.volume.now) Main (main (g.V.Volume.log c.args.volume.now))) (g.V.Volume.log c.args.volume.now) (g.V.Volume.log c.sync.new.self)
+first g c told =
+    let log = g.V.Volume.log c.args.volume.now in
+    sync_leaves c.sync.result log log (g.V.Volume.log c.sync.new.self) Main (main log) (g.met.V.Volume.seen_is_left c.args.volume.now Main told) refl
+    (here (more_left (disk log Main).pending (main log))) (c.sync.ensures.done told) (c.sync.ensures.failed told)
+
+first_side : (g : _) (c : After-sync g) → g.V.Volume.told → StaysAs Side (g.V.Volume.log c.args.volume.now) (g.V.Volume.log c.sync.new.self)
+first_side g c told = one_stays c.sync.result (g.V.Volume.log c.args.volume.now) (g.V.Volume.log c.sync.new.self) (SyncOf Main) Side refl (c.sync.ensures.done told) (c.sync.ensures.failed told)
+
+pub returns-in_err-sync-clause-any_moment : goal.returns-in_err-sync-clause-any_moment
+returns-in_err-sync-clause-any_moment g c = first g (goal.at.returns-in_err-sync-clause-any_moment g c).After-sync
+
+pub returns-in_err-sync-clause-side : goal.returns-in_err-sync-clause-side
+returns-in_err-sync-clause-side g c = first_side g (goal.at.returns-in_err-sync-clause-side g c).After-sync
+
+pub returns-clause-any_moment : goal.returns-clause-any_moment
+returns-clause-any_moment g c = first g (goal.at.returns-clause-any_moment g c).After-sync
+
+pub returns-clause-side : goal.returns-clause-side
+returns-clause-side g c = first_side g (goal.at.returns-clause-side g c).After-sync

@@ -1,0 +1,5 @@
+pub mod Reading
+pub mod Heads
+pub mod Records
+pub mod Opens
+pub mod Fronts

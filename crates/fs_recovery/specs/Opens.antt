@@ -1,0 +1,82 @@
+-- What opening a file gives. Source: own.
+use Rattle.std.specs.Prelude.{◌≡◌, ◌⊎◌, ℕ, ◌+◌, ◌-◌, ◌^◌, ◌<◌, ◌≤◌, List, take, Option, None, Result, Ok, Err, All}
+use Rattle.std.specs.List.{last_or}
+use Rattle.std.specs.Option.{option_map_or}
+use Rattle.zb_volume.specs.declared.areas.Area.TheVariants.{Main}
+use Rattle.zb_volume.specs.Calls.{Event}
+use Rattle.zb_volume.specs.Disk.{IsSettled}
+use Rattle.zb_volume.specs.Images.{CrashLeavesWith}
+use Rattle.zb_volume.specs.Moments.{LeavesOnly}
+use Rattle.fs_records.specs.declared.field.Field.{Field}
+use Rattle.fs_records.specs.declared.place.Place.{Place}
+use Rattle.fs_records.specs.Blocks.{Reached}
+use Rattle.fs_records.specs.File.{StandsAs, IsNoFile, IsDamaged}
+use Rattle.fs_records.specs.Places.{Kept, AreBefore, IsBefore, IsIndexOf}
+use Rattle.fs_records.specs.Scan.{Indexed}
+use Rattle.fs_recovery.specs.declared.errors.OpenError.{OpenError}
+use Rattle.fs_recovery.specs.declared.errors.OpenError.TheVariants.{StoreFault, BadRecord, NotFileStorage, Memory}
+use Rattle.fs_recovery.specs.declared.opening.Opened.{Opened}
+use Rattle.fs_recovery.specs.Reading.{main}
+
+-- ---- what an index keeps, whatever a volume gives
+
+-- the number of the last transaction that is kept, or 0
+abbrev pub newest_kept : Kept → ℕ
+newest_kept kept = option_map_or (λ (p : Place). p.serial) (last_or None kept.transactions) 0
+
+-- all places that are kept, of records and of transactions, stand before this one, and none is of a transaction later than the last
+pub record KeptBefore (kept : Kept) (at : ℕ) : Type 0 where
+  pub records : AreBefore kept.entries (newest_kept kept) at
+  pub transactions : All (IsBefore (newest_kept kept) at) kept.transactions
+
+-- the end is a place of a file, all that is kept stands before it, and the last number isn't the greatest that there is
+pub record IsBounded (o : Opened) : Type 0 where
+  pub first : 4 ≤ o.end
+  pub limit : o.end < 2 ^ 63
+  pub newest : newest_kept o.index < 2 ^ 64 - 1
+  pub before : KeptBefore o.index o.end
+
+-- ---- one transaction
+
+-- a transaction was read and kept, or the first fault in it
+abbrev pub BlockRead : List ℕ → ℕ → ℕ → Kept → Result (Unit {0}) OpenError → Type 0
+BlockRead bytes p newest kept (Ok u) = Indexed bytes p newest kept
+BlockRead bytes p newest kept (Err StoreFault) = Unit {0}
+BlockRead bytes p newest kept (Err (BadRecord at field)) = IsDamaged bytes at field
+BlockRead bytes p newest kept (Err NotFileStorage) = ⊥
+BlockRead bytes p newest kept (Err Memory) = Unit {0}
+
+-- ---- the whole file
+
+-- the bytes stand for what was reached, with this cut, up to this end, and the index is one of that
+pub record IsOpened (bytes : List ℕ) (o : Opened) : Type 0 where
+  pub reached : Reached
+  pub stands : StandsAs bytes reached o.cut
+  pub end_is : reached.end ≡ o.end
+  pub index : IsIndexOf reached o.index
+
+-- the bytes stand for what was opened, and there is no tail
+abbrev pub IsWhole : List ℕ → Opened → Type 0
+IsWhole bytes o = IsOpened bytes (record { index = o.index; end = o.end; cut = None })
+
+-- The answer is what the bytes are: a list of transactions, damaged, or no file. A failed call and want of memory say nothing of them.
+abbrev pub Opens : List ℕ → Result Opened OpenError → Type 0
+Opens bytes (Ok o) = IsOpened bytes o
+Opens bytes (Err StoreFault) = Unit {0}
+Opens bytes (Err (BadRecord at field)) = IsDamaged bytes at field
+Opens bytes (Err NotFileStorage) = IsNoFile bytes
+Opens bytes (Err Memory) = Unit {0}
+
+-- the bytes are no file, or they are damaged
+abbrev pub IsNoList : List ℕ → Type 0
+IsNoList bytes = IsNoFile bytes ⊎ ((at : ℕ) × (field : Field) × IsDamaged bytes at field)
+
+-- ---- crashes
+
+-- where Main stands for a list, a crash at any moment leaves of it what it could leave before, or that cut at some length down to the end of the list
+abbrev pub MomentsOfOpening : List Event → List Event → Type 0
+MomentsOfOpening old new = (s : Reached) (cut : Option ℕ) → StandsAs (main old) s cut → LeavesOnly Main (CrashLeavesWith old Main (take s.end (main old))) old new
+
+-- where Main stands for a list and nothing of it was pending, all that a crash at any moment leaves of it stands for that list
+abbrev pub ImagesStand : List Event → List Event → Type 0
+ImagesStand old new = (s : Reached) (cut : Option ℕ) → StandsAs (main old) s cut → IsSettled old Main → LeavesOnly Main (λ image. (k : Option ℕ) × StandsAs image s k) old new

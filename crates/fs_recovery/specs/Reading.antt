@@ -1,0 +1,60 @@
+-- Reading Main, in pieces. Source: own.
+use Rattle.std.specs.Prelude.{◌≡◌, ◌⊎◌, ℕ, ◌+◌, ◌≤◌, List, take, drop, Result, Ok, Err}
+use Rattle.zb_volume.specs.declared.areas.Area.TheVariants.{Main}
+use Rattle.zb_volume.specs.Calls.{Event}
+use Rattle.zb_volume.specs.Disk.{seen}
+use Rattle.zb_volume.specs.Faults.{Rose}
+use Rattle.fs_recovery.specs.declared.errors.OpenError.{OpenError}
+use Rattle.fs_recovery.specs.declared.errors.OpenError.TheVariants.{StoreFault, BadRecord, NotFileStorage, Memory}
+
+-- what a read gives of Main
+abbrev pub main : List Event → List ℕ
+main log = seen log Main
+
+-- the first `count` bytes that are held are those of the text from a place on
+abbrev pub Shows : ℕ → ℕ → List ℕ → List ℕ → Type 0
+Shows at count held text = take count held ≡ take count (drop at text)
+
+-- the n bytes from a place on are among those that are held
+pub record Covers (at count from n : ℕ) : Type 0 where
+  pub no_earlier : at ≤ from
+  pub no_later : from + n ≤ at + count
+
+-- ---- counts
+
+-- a failed read is answered exactly where the count of failed reads rose; else it stands still
+abbrev pub CountsReads : {T : Type 0} → ℕ → ℕ → Result T OpenError → Type 0
+CountsReads before now (Ok x) = now ≡ before
+CountsReads before now (Err StoreFault) = (before ≤ now) × Rose before now
+CountsReads before now (Err (BadRecord at field)) = now ≡ before
+CountsReads before now (Err NotFileStorage) = now ≡ before
+CountsReads before now (Err Memory) = now ≡ before
+
+-- a read failed, and nothing was changed
+pub record ReadFailed (old new : List Event) (reads reads_now writes writes_now : ℕ) : Type 0 where
+  pub rose : Rose reads reads_now
+  pub later : reads ≤ reads_now
+  pub writes_same : writes_now ≡ writes
+  pub untouched : new ≡ old
+
+-- a cut or a sync failed, after every read was done
+pub record WriteFailed (reads reads_now writes writes_now : ℕ) : Type 0 where
+  pub rose : Rose writes writes_now
+  pub later : writes ≤ writes_now
+  pub reads_same : reads_now ≡ reads
+
+-- A fault is answered only where a read failed, with nothing changed, or where the cut or the sync failed. With any other answer both counts stand still.
+abbrev pub CountsFault : {T : Type 0} → List Event → List Event → ℕ → ℕ → ℕ → ℕ → Result T OpenError → Type 0
+CountsFault old new reads reads_now writes writes_now (Ok x) = (reads_now ≡ reads) × (writes_now ≡ writes)
+CountsFault old new reads reads_now writes writes_now (Err StoreFault) = ReadFailed old new reads reads_now writes writes_now ⊎ WriteFailed reads reads_now writes writes_now
+CountsFault old new reads reads_now writes writes_now (Err (BadRecord at field)) = (reads_now ≡ reads) × (writes_now ≡ writes)
+CountsFault old new reads reads_now writes writes_now (Err NotFileStorage) = (reads_now ≡ reads) × (writes_now ≡ writes)
+CountsFault old new reads reads_now writes writes_now (Err Memory) = (reads_now ≡ reads) × (writes_now ≡ writes)
+
+-- it is refused for what Main is, or for want of memory
+abbrev pub IsRefused : {T : Type 0} → Result T OpenError → Type 0
+IsRefused (Ok x) = ⊥
+IsRefused (Err StoreFault) = ⊥
+IsRefused (Err (BadRecord at field)) = Unit {0}
+IsRefused (Err NotFileStorage) = Unit {0}
+IsRefused (Err Memory) = Unit {0}

@@ -1,0 +1,74 @@
+//! What stands where a transaction may begin.
+
+ghost use Rattle.std.specs.Prelude.{◌≡◌, ◌-◌, ◌≤◌, length, drop, IfOk, OnOk};
+ghost use Rattle.zb_volume.specs.Faults.{HasCause};
+ghost use Rattle.fs_recovery.specs.Reading.{main, Shows};
+ghost use Rattle.fs_recovery.specs.Heads.{Judges, IsFit};
+
+use crate::head::Head;
+use crate::pieces::{header_at, number_behind};
+use crate::window::Window;
+use fs_records::Field;
+use zb_ids::Tid;
+use zb_volume::{StoreFault, Volume};
+
+/// What stands at a place, behind transactions up to this number. The length in the header is
+/// compared with the room that is left, so that no sum wraps.
+#[tactic(auto, unfolding(fs_records::specs::Rules::verdict))]
+pub fn judge<V: Volume, const N: usize>(
+    volume: &mut V,
+    window: &mut Window<N>,
+    p: u64,
+    newest: Tid,
+) -> Result<Head, StoreFault>
+    requires small { 42 ≤ N }
+    requires order { p ≤ window.old.length }
+    requires length { V.told → window.old.length ≡ length (main (V.log volume.old)) }
+    requires shows { V.told →
+        Shows window.old.at window.old.count window.old.held (main (V.log volume.old)) }
+    ensures value { V.told → IfOk result (λ x. Judges x newest (drop p (main (V.log volume.old)))) }
+    ensures fit { IfOk result (λ x. IsFit x newest (window.old.length - p)) }
+    ensures shows { V.told →
+        Shows window.new.at window.new.count window.new.held (main (V.log volume.old)) }
+    ensures length { window.new.length ≡ window.old.length }
+    ensures same { V.log volume.new ≡ V.log volume.old }
+    ensures cause { HasCause (V.read_faults volume.old) (V.read_faults volume.new) result }
+    ensures uncounted { OnOk result (V.read_faults volume.new ≡ V.read_faults volume.old) }
+    ensures write_faults { V.write_faults volume.new ≡ V.write_faults volume.old }
+{
+    let room = window.length - p;
+    if room == 0 {
+        return Ok(Head::Ends);
+    }
+    if room < 23 {
+        return Ok(Head::Tail);
+    }
+    let header = header_at(volume, window, p)?;
+    if header.status == b'c' {
+        return Ok(Head::Tail);
+    }
+    if header.status == 0 {
+        return Ok(Head::Tail);
+    }
+    if !(header.status == b' ' || header.status == b'p') {
+        return Ok(Head::Fault(Field::Status));
+    }
+    if room - 8 < header.length {
+        return Ok(Head::Tail);
+    }
+    let texts = header.user as u64 + header.description as u64 + header.extension as u64;
+    if header.length < 23 + texts {
+        return Ok(Head::Fault(Field::Length));
+    }
+    let closing = number_behind(volume, window, p, header.length)?;
+    if closing != header.length {
+        return Ok(Head::Fault(Field::Closing));
+    }
+    if header.tid <= newest {
+        return Ok(Head::Fault(Field::Tid));
+    }
+    if header.tid.0 == u64::MAX {
+        return Ok(Head::Fault(Field::Tid));
+    }
+    Ok(Head::Begun(header))
+}

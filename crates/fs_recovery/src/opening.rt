@@ -1,0 +1,227 @@
+//! A file is opened.
+
+ghost use Rattle.std.specs.Prelude.{◌≡◌, ◌≢◌, ℕ, ◌+◌, ◌<◌, ◌≤◌, ◌^◌, List, [], length, take, drop, IfOk, OnOk};
+ghost use Rattle.std.specs.Str.{bytes_eq};
+ghost use Rattle.zb_volume.specs.declared.areas.Area.{Area};
+ghost use Rattle.zb_volume.specs.Disk.{IsSettled};
+ghost use Rattle.zb_volume.specs.Faults.{HasCause};
+ghost use Rattle.zb_volume.specs.Moments.{StaysAs};
+ghost use Rattle.fs_records.specs.NumberLaws.{IsBytes};
+ghost use Rattle.fs_records.specs.Blocks.{magic};
+ghost use Rattle.fs_records.specs.Headers.{header_of};
+ghost use Rattle.fs_records.specs.Rules.{texts_length};
+ghost use Rattle.fs_recovery.specs.Reading.{main, Shows, CountsReads, CountsFault, IsRefused};
+ghost use Rattle.fs_recovery.specs.Heads.{Begins};
+ghost use Rattle.fs_recovery.specs.Opens.{newest_kept, KeptBefore, BlockRead, IsBounded, IsNoList, IsWhole, Opens, MomentsOfOpening, ImagesStand};
+ghost use Rattle.fs_records.specs.Scan.{Indexed};
+
+use crate::blocks::judge;
+use crate::errors::OpenError;
+use crate::head::Head;
+use crate::records::read_records;
+use crate::tail::keep_front;
+use crate::window::Window;
+use fs_records::{Header, Index, Place};
+use std::alloc::Global;
+use zb_ids::Tid;
+use zb_volume::{Area, StoreFault, Volume};
+
+/// How many bytes a read of Main asks for at most.
+const WINDOW: usize = 8192;
+
+/// A file that was opened.
+#[derive(Drop)]
+pub struct Opened {
+    /// Where the records of each object stand, and where the transactions do.
+    pub index: Index,
+    /// The place behind the last transaction, where the next one is to stand: at least 4, and below
+    /// 2^63.
+    pub end: u64,
+    /// Where a transaction that was never finished was cut off, which is at `end`, or `None` where
+    /// there was none.
+    pub cut: Option<u64>,
+}
+
+/// Puts the transaction with this header at this place into the index.
+fn keep_block<V: Volume, const N: usize>(
+    volume: &mut V,
+    window: &mut Window<N>,
+    p: u64,
+    header: &Header,
+    index: &mut Index,
+) -> Result<(), OpenError>
+    requires small { 42 ≤ N }
+    requires within { p + header.now.length + 8 ≤ window.old.length }
+    requires texts { 23 + texts_length header.now ≤ header.now.length }
+    requires above { newest_kept index.old < header.now.tid }
+    requires before { KeptBefore index.old p }
+    requires length { V.told → window.old.length ≡ length (main (V.log volume.old)) }
+    requires shows { V.told →
+        Shows window.old.at window.old.count window.old.held (main (V.log volume.old)) }
+    requires bytes { V.told → IsBytes (main (V.log volume.old)) }
+    ensures before { OnOk result (KeptBefore index.new (p + header.now.length + 8)) }
+    ensures newest { OnOk result (newest_kept index.new ≡ header.now.tid) }
+    ensures read { V.told → Begins (main (V.log volume.old)) p (newest_kept index.old) header.now →
+        Indexed (main (V.log volume.old)) p (newest_kept index.old) index.old →
+        BlockRead (main (V.log volume.old)) (p + header.now.length + 8) header.now.tid index.new result }
+    ensures shows { V.told →
+        Shows window.new.at window.new.count window.new.held (main (V.log volume.old)) }
+    ensures length { window.new.length ≡ window.old.length }
+    ensures same { V.log volume.new ≡ V.log volume.old }
+    ensures counts { CountsReads (V.read_faults volume.old) (V.read_faults volume.new) result }
+    ensures write_faults { V.write_faults volume.new ≡ V.write_faults volume.old }
+{
+    let texts = header.user as u64 + header.description as u64 + header.extension as u64;
+    let from = p + (23 + texts);
+    read_records(
+        volume,
+        window,
+        p,
+        header.tid,
+        from,
+        p + header.length,
+        index,
+    )?;
+    index.push_transaction(Place {
+        serial: header.tid,
+        at: p,
+    })?;
+    Ok(())
+}
+
+/// Reads the transactions of a file, from behind its first four bytes on.
+fn read_blocks<V: Volume, const N: usize>(
+    alloc: Global,
+    volume: &mut V,
+    window: &mut Window<N>,
+) -> Result<Opened, OpenError>
+    requires small { 42 ≤ N }
+    requires long { 4 ≤ window.old.length }
+    requires length { V.told → window.old.length ≡ length (main (V.log volume.old)) }
+    requires shows { V.told →
+        Shows window.old.at window.old.count window.old.held (main (V.log volume.old)) }
+    requires bytes { V.told → IsBytes (main (V.log volume.old)) }
+    requires magic { V.told → take 4 (main (V.log volume.old)) ≡ magic }
+    ensures opens { V.told → Opens (main (V.log volume.old)) result }
+    ensures bounded { IfOk result (λ o. IsBounded o) }
+    ensures end { IfOk result (λ o. o.end ≤ window.old.length) }
+    ensures same { V.log volume.new ≡ V.log volume.old }
+    ensures counts { CountsReads (V.read_faults volume.old) (V.read_faults volume.new) result }
+    ensures write_faults { V.write_faults volume.new ≡ V.write_faults volume.old }
+{
+    let mut index = Index::new(alloc);
+    let mut newest = Tid(0);
+    let mut p = 4;
+    'scan: loop {
+        match judge(volume, window, p, newest)? {
+            Head::Ends => {
+                return Ok(Opened {
+                    index,
+                    end: p,
+                    cut: None,
+                });
+            }
+            Head::Tail => {
+                return Ok(Opened {
+                    index,
+                    end: p,
+                    cut: Some(p),
+                });
+            }
+            Head::Fault(field) => return Err(OpenError::BadRecord { at: p, field }),
+            Head::Begun(header) => {
+                keep_block(volume, window, p, &header, &mut index)?;
+                newest = header.tid;
+                p = p + header.length + 8;
+            }
+        }
+    }
+}
+
+/// Whether these are the first bytes of a file.
+fn is_magic(front: &[u8]) -> bool
+    ensures { result ≡ bytes_eq front.now magic }
+{
+    front == b"FS30".as_slice()
+}
+
+/// Whether Main begins as a file does.
+fn has_magic<V: Volume, const N: usize>(
+    volume: &mut V,
+    window: &mut Window<N>,
+) -> Result<bool, StoreFault>
+    requires small { 42 ≤ N }
+    requires long { 4 ≤ window.old.length }
+    requires length { V.told → window.old.length ≡ length (main (V.log volume.old)) }
+    requires shows { V.told →
+        Shows window.old.at window.old.count window.old.held (main (V.log volume.old)) }
+    ensures value { V.told →
+        IfOk result (λ b. b ≡ bytes_eq (take 4 (main (V.log volume.old))) magic) }
+    ensures shows { V.told →
+        Shows window.new.at window.new.count window.new.held (main (V.log volume.old)) }
+    ensures length { window.new.length ≡ window.old.length }
+    ensures same { V.log volume.new ≡ V.log volume.old }
+    ensures cause { HasCause (V.read_faults volume.old) (V.read_faults volume.new) result }
+    ensures uncounted { OnOk result (V.read_faults volume.new ≡ V.read_faults volume.old) }
+    ensures write_faults { V.write_faults volume.new ≡ V.write_faults volume.old }
+{
+    let mut front = [0; 4];
+    window.read(volume, 0, &mut front)?;
+    Ok(is_magic(&front))
+}
+
+/// Reads Main, which has so many bytes.
+fn read_main<V: Volume>(alloc: Global, volume: &mut V, long: u64) -> Result<Opened, OpenError>
+    requires limit { long < 2 ^ 63 }
+    requires some { V.told → main (V.log volume.old) ≢ [] }
+    requires length { V.told → long ≡ length (main (V.log volume.old)) }
+    requires bytes { V.told → IsBytes (main (V.log volume.old)) }
+    ensures opens { V.told → Opens (main (V.log volume.old)) result }
+    ensures bounded { IfOk result (λ o. IsBounded o) }
+    ensures end { IfOk result (λ o. o.end ≤ long) }
+    ensures same { V.log volume.new ≡ V.log volume.old }
+    ensures counts { CountsReads (V.read_faults volume.old) (V.read_faults volume.new) result }
+    ensures write_faults { V.write_faults volume.new ≡ V.write_faults volume.old }
+{
+    if long < 4 {
+        return Err(OpenError::NotFileStorage);
+    }
+    let mut window: Window<WINDOW> = Window::new(long);
+    if !has_magic(volume, &mut window)? {
+        return Err(OpenError::NotFileStorage);
+    }
+    read_blocks(alloc, volume, &mut window)
+}
+
+/// Opens the file in Main, which isn't empty: reads it forward, cuts off a transaction at its end
+/// that was never finished, and syncs Main, also where there was nothing to cut.
+///
+/// It is `Ok` exactly where Main stands for a list of transactions, `NotFileStorage` exactly where
+/// its first four bytes aren't `FS30`, and else `BadRecord` with the first rule that fails and its
+/// place; only a failed call of the volume or want of memory comes between. Bytes stand for at most
+/// one list, and what stands for one is not damaged, so each answer rules out the others.
+///
+/// Memory is that of the index and one window of 8192 bytes. A window is read for each 8192 bytes of
+/// headers that lie close together, and for each transaction at most two pieces more and for each
+/// data record one: the content of the records is skipped.
+pub fn open_main<V: Volume>(alloc: Global, volume: &mut V) -> Result<Opened, OpenError>
+    requires { V.told → main (V.log volume.old) ≢ [] }
+    ensures opens { V.told → Opens (main (V.log volume.old)) result }
+    ensures content { V.told →
+        IfOk result (λ o. main (V.log volume.new) ≡ take o.end (main (V.log volume.old))) }
+    ensures whole { V.told → IfOk result (λ o. IsWhole (main (V.log volume.new)) o) }
+    ensures settled { V.told → OnOk result (IsSettled (V.log volume.new) Area.Main) }
+    ensures untouched { IsRefused result → V.log volume.new ≡ V.log volume.old }
+    ensures harmed { V.told → IsNoList (main (V.log volume.old)) → V.log volume.new ≡ V.log volume.old }
+    ensures side { V.told → StaysAs Area.Side (V.log volume.old) (V.log volume.new) }
+    ensures any_moment { V.told → MomentsOfOpening (V.log volume.old) (V.log volume.new) }
+    ensures images { V.told → ImagesStand (V.log volume.old) (V.log volume.new) }
+    ensures bounded { IfOk result (λ o. IsBounded o) }
+    ensures counts { CountsFault (V.log volume.old) (V.log volume.new) (V.read_faults volume.old)
+        (V.read_faults volume.new) (V.write_faults volume.old) (V.write_faults volume.new) result }
+{
+    let long = volume.len(Area::Main)?;
+    let opened = read_main(alloc, volume, long)?;
+    keep_front(volume, long, opened.end)?;
+    Ok(opened)
+}

@@ -1,0 +1,87 @@
+//! Headers and numbers of Main.
+
+ghost use Rattle.std.specs.Prelude.{◌≡◌, ◌+◌, ◌<◌, ◌^◌, ◌≤◌, length, drop, IfOk, OnOk};
+ghost use Rattle.zb_volume.specs.Faults.{HasCause};
+ghost use Rattle.fs_records.specs.Headers.{header_of, data_header_of};
+ghost use Rattle.fs_records.specs.Numbers.{number_in};
+ghost use Rattle.fs_recovery.specs.Reading.{main, Shows};
+
+use crate::window::Window;
+use byteorder::{BigEndian, ByteOrder};
+use fs_records::{DataHeader, Header, read_data_header, read_header};
+use zb_volume::{StoreFault, Volume};
+
+/// The header of a transaction at a place.
+pub fn header_at<V: Volume, const N: usize>(
+    volume: &mut V,
+    window: &mut Window<N>,
+    at: u64,
+) -> Result<Header, StoreFault>
+    requires small { 42 ≤ N }
+    requires within { at + 23 ≤ window.old.length }
+    requires length { V.told → window.old.length ≡ length (main (V.log volume.old)) }
+    requires shows { V.told →
+        Shows window.old.at window.old.count window.old.held (main (V.log volume.old)) }
+    ensures value { V.told → IfOk result (λ h. h ≡ header_of (drop at (main (V.log volume.old)))) }
+    ensures shows { V.told →
+        Shows window.new.at window.new.count window.new.held (main (V.log volume.old)) }
+    ensures length { window.new.length ≡ window.old.length }
+    ensures same { V.log volume.new ≡ V.log volume.old }
+    ensures cause { HasCause (V.read_faults volume.old) (V.read_faults volume.new) result }
+    ensures uncounted { OnOk result (V.read_faults volume.new ≡ V.read_faults volume.old) }
+    ensures write_faults { V.write_faults volume.new ≡ V.write_faults volume.old }
+{
+    let mut buffer = [0; 23];
+    window.read(volume, at, &mut buffer)?;
+    Ok(read_header(&buffer))
+}
+
+/// The header of a data record at a place.
+pub fn data_header_at<V: Volume, const N: usize>(
+    volume: &mut V,
+    window: &mut Window<N>,
+    at: u64,
+) -> Result<DataHeader, StoreFault>
+    requires small { 42 ≤ N }
+    requires within { at + 42 ≤ window.old.length }
+    requires length { V.told → window.old.length ≡ length (main (V.log volume.old)) }
+    requires shows { V.told →
+        Shows window.old.at window.old.count window.old.held (main (V.log volume.old)) }
+    ensures value { V.told →
+        IfOk result (λ h. h ≡ data_header_of (drop at (main (V.log volume.old)))) }
+    ensures shows { V.told →
+        Shows window.new.at window.new.count window.new.held (main (V.log volume.old)) }
+    ensures length { window.new.length ≡ window.old.length }
+    ensures same { V.log volume.new ≡ V.log volume.old }
+    ensures cause { HasCause (V.read_faults volume.old) (V.read_faults volume.new) result }
+    ensures uncounted { OnOk result (V.read_faults volume.new ≡ V.read_faults volume.old) }
+    ensures write_faults { V.write_faults volume.new ≡ V.write_faults volume.old }
+{
+    let mut buffer = [0; 42];
+    window.read(volume, at, &mut buffer)?;
+    Ok(read_data_header(&buffer))
+}
+
+/// The number in the 8 bytes that stand n bytes behind a place. The window stays where it is.
+#[tactic(auto, unfolding(fs_records::specs::Numbers::number_in))]
+pub fn number_behind<V: Volume, const N: usize>(
+    volume: &mut V,
+    window: &Window<N>,
+    at: u64,
+    n: u64,
+) -> Result<u64, StoreFault>
+    requires within { at + n + 8 ≤ window.now.length }
+    requires length { V.told → window.now.length ≡ length (main (V.log volume.old)) }
+    requires shows { V.told →
+        Shows window.now.at window.now.count window.now.held (main (V.log volume.old)) }
+    ensures value { V.told →
+        IfOk result (λ x. x ≡ number_in 8 (drop n (drop at (main (V.log volume.old))))) }
+    ensures same { V.log volume.new ≡ V.log volume.old }
+    ensures cause { HasCause (V.read_faults volume.old) (V.read_faults volume.new) result }
+    ensures uncounted { OnOk result (V.read_faults volume.new ≡ V.read_faults volume.old) }
+    ensures write_faults { V.write_faults volume.new ≡ V.write_faults volume.old }
+{
+    let mut buffer = [0; 8];
+    window.peek(volume, at + n, &mut buffer)?;
+    Ok(BigEndian::read_u64(&buffer))
+}

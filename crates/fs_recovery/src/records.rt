@@ -1,0 +1,152 @@
+//! The data records of a transaction.
+
+ghost use Rattle.std.specs.Prelude.{◌≡◌, ℕ, ◌+◌, ◌-◌, ◌<◌, ◌≤◌, List, length, drop, IfOk, OnOk};
+ghost use Rattle.zb_volume.specs.Faults.{HasCause};
+ghost use Rattle.fs_records.specs.NumberLaws.{IsBytes};
+ghost use Rattle.fs_records.specs.Blocks.{Known};
+ghost use Rattle.fs_records.specs.Rules.{record_at, payload_size, is_astray};
+ghost use Rattle.fs_records.specs.Places.{knows, AreBefore, ArePlacesOf};
+ghost use Rattle.fs_recovery.specs.Reading.{main, Shows, CountsReads};
+ghost use Rattle.fs_recovery.specs.Records.{Gives, RecordsRead};
+
+use crate::errors::OpenError;
+use crate::pieces::{data_header_at, number_behind};
+use crate::window::Window;
+use fs_index::Lookup;
+use fs_records::{DataHeader, Field, Index, Place};
+use zb_ids::{Oid, Tid};
+use zb_volume::{StoreFault, Volume};
+
+/// How many bytes stand behind a data record's header.
+fn payload_size(header: &DataHeader) -> u64
+    ensures { result ≡ payload_size header.now }
+{
+    if header.length == 0 { 8 } else { header.length }
+}
+
+/// Whether a data record has a back pointer that leads to no record of its object that was read.
+fn is_astray<V: Volume, const N: usize>(
+    volume: &mut V,
+    window: &Window<N>,
+    q: u64,
+    header: &DataHeader,
+    index: &Index,
+) -> Result<bool, StoreFault>
+    requires within { q + 42 + payload_size header.now ≤ window.now.length }
+    requires length { V.told → window.now.length ≡ length (main (V.log volume.old)) }
+    requires shows { V.told →
+        Shows window.now.at window.now.count window.now.held (main (V.log volume.old)) }
+    ensures value { V.told →
+        IfOk result (λ b. b ≡ is_astray (knows index.now.entries) header.now (drop q (main (V.log volume.old)))) }
+    ensures same { V.log volume.new ≡ V.log volume.old }
+    ensures cause { HasCause (V.read_faults volume.old) (V.read_faults volume.new) result }
+    ensures uncounted { OnOk result (V.read_faults volume.new ≡ V.read_faults volume.old) }
+    ensures write_faults { V.write_faults volume.new ≡ V.write_faults volume.old }
+{
+    if header.length != 0 {
+        return Ok(false);
+    }
+    let back = number_behind(volume, window, q, 42)?;
+    if back == 0 {
+        return Ok(false);
+    }
+    Ok(!index.stands_at(header.oid, back))
+}
+
+/// A data record at this place breaks this rule.
+fn bad(at: u64, field: Field) -> Result<(Oid, u64), OpenError>
+    ensures { result ≡ Err (OpenError.BadRecord at field) }
+{
+    Err(OpenError::BadRecord { at, field })
+}
+
+/// The object and the size of the data record at `q`, of the transaction with this number at this
+/// place, whose data records end at `end`.
+#[tactic(auto, unfolding(fs_records::specs::Rules::record_at))]
+fn read_record<V: Volume, const N: usize>(
+    volume: &mut V,
+    window: &mut Window<N>,
+    q: u64,
+    end: u64,
+    place: u64,
+    tid: Tid,
+    index: &Index,
+) -> Result<(Oid, u64), OpenError>
+    requires small { 42 ≤ N }
+    requires order { q ≤ end }
+    requires within { end ≤ window.old.length }
+    requires length { V.told → window.old.length ≡ length (main (V.log volume.old)) }
+    requires shows { V.told →
+        Shows window.old.at window.old.count window.old.held (main (V.log volume.old)) }
+    ensures size { IfOk result (λ r. (0 < r.1) × (r.1 ≤ end - q)) }
+    ensures value { V.told →
+        Gives result q (record_at (knows index.now.entries) place tid (end - q) (drop q (main (V.log volume.old)))) }
+    ensures shows { V.told →
+        Shows window.new.at window.new.count window.new.held (main (V.log volume.old)) }
+    ensures length { window.new.length ≡ window.old.length }
+    ensures same { V.log volume.new ≡ V.log volume.old }
+    ensures counts { CountsReads (V.read_faults volume.old) (V.read_faults volume.new) result }
+    ensures write_faults { V.write_faults volume.new ≡ V.write_faults volume.old }
+{
+    let room = end - q;
+    if room < 42 {
+        return bad(q, Field::Size);
+    }
+    let header = data_header_at(volume, window, q)?;
+    if header.tid != tid {
+        return bad(q, Field::Serial);
+    }
+    if header.transaction != place {
+        return bad(q, Field::Position);
+    }
+    if header.version != 0 {
+        return bad(q, Field::Version);
+    }
+    let size = payload_size(&header);
+    if room - 42 < size {
+        return bad(q, Field::Size);
+    }
+    if is_astray(volume, window, q, &header, index)? {
+        return bad(q, Field::Back);
+    }
+    Ok((header.oid, 42 + size))
+}
+
+/// Puts the data records from `from` to `end`, of the transaction with this number at this place,
+/// into the index.
+pub fn read_records<V: Volume, const N: usize>(
+    volume: &mut V,
+    window: &mut Window<N>,
+    place: u64,
+    tid: Tid,
+    from: u64,
+    end: u64,
+    index: &mut Index,
+) -> Result<(), OpenError>
+    requires small { 42 ≤ N }
+    requires order { from ≤ end }
+    requires within { end ≤ window.old.length }
+    requires length { V.told → window.old.length ≡ length (main (V.log volume.old)) }
+    requires shows { V.told →
+        Shows window.old.at window.old.count window.old.held (main (V.log volume.old)) }
+    requires bytes { V.told → IsBytes (main (V.log volume.old)) }
+    requires before { AreBefore index.old.entries tid from }
+    ensures before { OnOk result (AreBefore index.new.entries tid end) }
+    ensures read { V.told → (known : List Known) → ArePlacesOf known index.old.entries →
+        RecordsRead (main (V.log volume.old)) known place tid from end index.new.entries result }
+    ensures transactions { index.new.transactions ≡ index.old.transactions }
+    ensures shows { V.told →
+        Shows window.new.at window.new.count window.new.held (main (V.log volume.old)) }
+    ensures length { window.new.length ≡ window.old.length }
+    ensures same { V.log volume.new ≡ V.log volume.old }
+    ensures counts { CountsReads (V.read_faults volume.old) (V.read_faults volume.new) result }
+    ensures write_faults { V.write_faults volume.new ≡ V.write_faults volume.old }
+{
+    let mut q = from;
+    while q < end {
+        let (oid, size) = read_record(volume, window, q, end, place, tid, index)?;
+        index.add(oid, Place { serial: tid, at: q })?;
+        q += size;
+    }
+    Ok(())
+}

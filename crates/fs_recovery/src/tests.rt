@@ -1,0 +1,6 @@
+mod build;
+mod damage;
+mod faults;
+mod files;
+mod openings;
+mod slow;

@@ -1,0 +1,22 @@
+-- The lines of the lists that a database answers. Own.
+use Rattle.std.specs.Prelude.{ℕ, List, [], ◌∷◌, ◌++◌, Option, Some, None, codes, decimal}
+use Rattle.zb_ids.specs.Hex.{hex_number}
+use Rattle.zb_model.specs.declared.lists.LogLine.{LogLine}
+use Rattle.zb_model.specs.declared.lists.Revision.{Revision}
+use Rattle.zb_script.specs.Literals.{text_literal}
+
+-- a user and a description, with a blank before each and a newline behind
+abbrev pub texts_text : List ℕ → List ℕ → List ℕ
+texts_text user description = 32 ∷ (text_literal user ++ 32 ∷ (text_literal description ++ 10 ∷ []))
+
+-- a line of the undo list: tid, user and description
+abbrev pub log_text : LogLine → List ℕ
+log_text line = hex_number line.tid ++ texts_text line.user line.description
+
+abbrev pub size_text : Option ℕ → List ℕ
+size_text (Some size) = decimal size
+size_text None = codes "absent"
+
+-- a line of a history: tid, size, user and description
+abbrev pub revision_text : Revision → List ℕ
+revision_text line = hex_number line.tid ++ 32 ∷ (size_text line.size ++ texts_text line.user line.description)
