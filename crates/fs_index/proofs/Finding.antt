@@ -1,5 +1,5 @@
 -- Binary search in places that rise.
-use Rattle.std.proofs.Common.{◌≡◌, ℕ, zero, suc, ◌+◌, ◌-◌, ◌<◌, ◌≤◌, Bool, true, false, eqb, ltb, List, [], ◌∷◌, length, get_or, take, filter, Option, Some, None, refl, inl, inr, sym, ap, ◌∙◌, arith}
+use Rattle.std.proofs.Common.{◌≡◌, ℕ, zero, suc, ◌-◌, ◌<◌, ◌≤◌, Bool, true, false, eqb, ltb, List, [], ◌∷◌, length, get_or, take, filter, Option, Some, None, refl, inl, inr, sym, ap, ◌∙◌, arith}
 use Rattle.std.specs.Prelude.{◌||◌, slice_get}
 use Rattle.std.specs.List.{list_any, last_or}
 use Rattle.std.specs.List.Sorted.{IsPartitionPoint, IsNonDecreasingBy}
@@ -66,6 +66,7 @@ found_at at xs n d h parts rise = by_cases (eqb (get_or xs n d).at at) refl
           | inl lt ↦ ne_eqb _ _ (λ same. absurd (omega (arith, ltb-true _ _ (parts.0 k e (omega arith) lt), same)))
           | inr le ↦ ne_eqb _ _ (λ same. absurd (omega (arith, ltb-false _ _ (parts.1 n e (omega arith) h), rise n k e le l, eqb-false _ _ apart, same, ap (λ (p : Place). p.at) (get_or_default xs n d e h))))
         ]
+
     by_cases : (b : Bool) → eqb (get_or xs n d).at at ≡ b → eqb (get_or xs n d).at at ≡ list_any (λ p. eqb p.at at) xs
     by_cases true is = is ∙ sym (some_at at xs n d h is)
     by_cases false is = is ∙ sym (none_at at xs (others is))
@@ -78,8 +79,8 @@ last_or-more o x [] = refl
 last_or-more o x (z ∷ zs) = last_or-more (Some x) z zs
 
 -- the last item is that at the last place
-pub last_or-get : {X : Type 0} (xs : List X) → last_or None xs ≡ slice_get xs (length xs - 1)
-last_or-get [] = refl
-last_or-get (x ∷ xs) =
+pub last_or_get : {X : Type 0} (xs : List X) → last_or None xs ≡ slice_get xs (length xs - 1)
+last_or_get [] = refl
+last_or_get (x ∷ xs) =
     let n : length xs ≡ length (x ∷ xs) - 1 = omega arith in
     last_or-more None x xs ∙ ap (λ (k : ℕ). slice_get (x ∷ xs) k) n

@@ -3,10 +3,10 @@ use Rattle.std.proofs.Common.{◌≡◌, ℕ, Bool, true, false, cond, eqb, ltb,
 use Rattle.std.specs.Prelude.{◌&&◌, option_map}
 use Rattle.std.specs.List.{last_or}
 use Rattle.fs_records.specs.declared.place.Place.{Place}
-use Rattle.fs_records.specs.Blocks.{Known, Reached}
+use Rattle.fs_records.specs.Blocks.{Known}
 use Rattle.fs_records.specs.ScanLaws.{knows_is}
-use Rattle.fs_records.specs.Places.{Kept, places_in, places_of, place_of, is_of, is_below, is_of_below, last_below, record_below, IsIndexOf}
-use Rattle.fs_index.specs.Found.{last_record, BeforeIsTheRecordBelow, NewestIsTheLastRecord, StandsWhereARecordWasRead}
+use Rattle.fs_records.specs.Places.{places_of, place_of, is_of, is_below, is_of_below, last_below}
+use Rattle.fs_index.specs.Found.{BeforeIsTheRecordBelow, NewestIsTheLastRecord, StandsWhereARecordWasRead}
 
 last_or-map : {X Y : Type 0} (f : X → Y) (o : Option X) (xs : List X) → last_or (option_map f o) (map f xs) ≡ option_map f (last_or o xs)
 last_or-map f o [] = refl

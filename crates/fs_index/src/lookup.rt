@@ -11,9 +11,9 @@ use zb_ids::{Oid, Tid};
 
 /// Looking up the places of an object's data records, and adding to them.
 ///
-/// Contracts see what is kept: the places of each object's records in the order in which they stand,
-/// a record that a later one of the same object and transaction replaces among them, and the places
-/// of the transactions.
+/// Contracts see what is kept: the places of each object's records in the order in which they
+/// stand, a record that a later one of the same object and transaction replaces among them, and the
+/// places of the transactions.
 pub trait Lookup {
     ghost use Rattle.fs_records.specs.Places.{Kept};
 

@@ -8,6 +8,7 @@ use fs_records::Place;
 use zb_ids::Tid;
 
 /// The last place.
+#[tactic(auto, using(crate::proofs::Finding::last_or_get))]
 pub fn last_of(places: &[Place]) -> Option<Place>
     ensures { result ≡ last_or None places.now }
 {

@@ -1,2 +1,4 @@
+pub mod Between
 pub mod Chains
 pub mod Lines
+pub mod Wholes

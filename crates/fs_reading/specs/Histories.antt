@@ -1,26 +1,28 @@
 -- What stands in the bytes of a file: its records, its transactions, and the histories of its objects.
-use Rattle.std.proofs.Common.{◌≡◌, ℕ, ◌+◌, ◌-◌, ◌^◌, ◌<◌, ◌≤◌, Bool, true, false, cond, eqb, List, [], ◌∷◌, ◌++◌, length, map, filter, take, drop, Option, Some, None, refl, sym, ap, subst, ◌∙◌, append_assoc, eq-eqb, arith}
+use Rattle.std.proofs.Common.{◌≡◌, ℕ, ◌+◌, ◌-◌, ◌^◌, ◌<◌, ◌≤◌, Bool, true, cond, List, [], ◌∷◌, ◌++◌, length, map, filter, drop, Option, Some, None, refl, sym, ap, subst, ◌∙◌, append_assoc, eq-eqb, arith}
 use Rattle.std.specs.List.{AllByRecursion, filter_map, cons_option, last_or}
 use Rattle.std.specs.Option.{option_map, option_to_list, IfSome}
-use Rattle.std.proofs.lemmas.List.{length-append, drop-drop, drop_at, map-append}
+use Rattle.std.proofs.lemmas.List.{length-append, length-drop, drop_at, map-append}
 use Rattle.std.proofs.lemmas.List.Elements.{filter-append, filter_map-append}
 use Rattle.std.proofs.lemmas.Bool.{ne_eqb}
-use Rattle.zb_model.specs.declared.data.Content.{Content}
 use Rattle.zb_model.specs.declared.data.Change.{Change}
 use Rattle.zb_model.specs.declared.data.Transaction.{Transaction}
 use Rattle.zb_model.specs.declared.lists.Revision.{Revision}
 use Rattle.zb_model.specs.Lists.{size_of, history_line}
 use Rattle.zb_model.specs.Database.{change_in}
-use Rattle.fs_records.specs.declared.place.Place.{Place}
+use Rattle.fs_records.specs.declared.header.Header.{Header}
+use Rattle.fs_records.specs.NumberLaws.{length-number}
+use Rattle.fs_records.specs.Rules.{texts_length}
 use Rattle.fs_records.specs.Numbers.{number}
-use Rattle.fs_records.specs.Blocks.{Block, Known, is_known, content_at, Reached, start, after, after_all, texts, records_text, records_from, length_of, block_text, blocks_text, transaction_of, with_records, changes_of, as_change, IsBlock, AreBlocks, Begins, magic}
+use Rattle.fs_records.specs.Blocks.{Block, Known, is_known, content_at, Reached, start, after, after_all, texts, records_text, records_from, length_of, header_for, block_text, blocks_text, transaction_of, with_records, as_change, IsBlock, AreBlocks, Begins, magic}
 use Rattle.fs_records.specs.Places.{is_of}
 use Rattle.fs_reading.specs.Cases.{by_bool}
-use Rattle.fs_reading.specs.Standing.{data_head_at, head_at, IsContent, user_at, description_at, HasTexts, RecordStands, TransactionStands, TransactionsStand, is_replaced, lasts, revision_at}
+use Rattle.fs_reading.specs.Standing.{data_head_at, head_at, IsContent, user_at, description_at, RecordStands, TransactionStands, TransactionsStand, is_replaced, lasts, revision_at}
 use Rattle.fs_reading.specs.Merged.{read_of, with_records-read, merged}
 use Rattle.fs_reading.specs.Contents.{ContentStands, StandsBefore, known_content}
+use Rattle.fs_reading.specs.ChangesStand.{RecordsBetween, ChangesStand, AllChangesStand, AllChangesStand-push, records_begin, records_end, entries_read, records_between}
 use Rattle.fs_reading.specs.RecordsStand.{NewStands, records_stand, each-append, each_weaker, each-filter}
-use Rattle.fs_reading.specs.TransactionsStand.{BlockStands, block_stands, TransactionsStand-push}
+use Rattle.fs_reading.specs.TransactionsStand.{block_stands, TransactionsStand-push}
 
 -- ---- the last records of each transaction
 
@@ -65,6 +67,7 @@ pub record Stands (bytes : List ℕ) (s : Reached) : Type 0 where
   pub places_before : AllByRecursion (StandsBefore s.end) s.known
   pub tids_below : AllByRecursion (λ k. k.tid ≤ s.newest) s.known
   pub transactions : TransactionsStand bytes s.starts s.list
+  pub changes : AllChangesStand bytes s.starts s.list
   pub histories : (oid : ℕ) → map (revision_at bytes) (lasts (filter (is_of oid) s.known)) ≡ filter_map (history_line oid) s.list
 
 abbrev line : ℕ → Option ℕ → List ℕ → List ℕ → Revision
@@ -107,6 +110,18 @@ one_block bytes s b more so_far is here =
     let to : ℕ = from + length (records_text p b.tid b.records) in
     let stand : AllByRecursion (NewStands bytes p b.tid to) new =
     records_stand bytes p b.tid to below is.place there.stands.texts there.stands.tid s.known from b.records _ is.records there.records refl (each_weaker (RecordStands bytes) (ContentStands bytes) (content_stands bytes) s.known so_far.records) before_from in
+    let head : head_at bytes p ≡ header_for p b = there.head in
+    let texts_are : texts_length (head_at bytes p) ≡ length (texts b) = omega (arith, ap (λ (h : Header). texts_length h) head, length-append b.user (b.description ++ b.extension), length-append b.description b.extension) in
+    let length_is : (head_at bytes p).length ≡ length_of p b = ap (λ (h : Header). h.length) head in
+    let begin_is : from ≡ records_begin bytes p = omega (arith, texts_are) in
+    let end_is : to ≡ records_end bytes p = omega (arith, length_is) in
+    let between : RecordsBetween bytes from to new = records_between bytes p b.tid to below is.place s.known from to b.records _ is.records there.records refl stand in
+    let changes_stand : ChangesStand bytes p t.changes = record {
+      records = new;
+      between = subst (λ (n : ℕ). RecordsBetween bytes n (records_end bytes p) new) begin_is (subst (λ (n : ℕ). RecordsBetween bytes from n new) end_is between);
+      are = ap (map as_change) (entries_read [] s.known p b.tid from b.records);
+      within = omega (arith, end_is, ap length there.records, length-drop from bytes, length-append (records_text p b.tid b.records) (number 8 (length_of p b) ++ more), length-append (number 8 (length_of p b)) more, length-number 8 (length_of p b));
+    } in
     let known_is : s.known ++ new ≡ with_records s.known p b.tid from b.records = sym (with_records-read s.known p b.tid from b.records) in
     let all_records : AllByRecursion (RecordStands bytes) (s.known ++ new) = each-append (RecordStands bytes) s.known new so_far.records (each_weaker (NewStands bytes p b.tid to) (RecordStands bytes) (λ k h. h.stands) new stand) in
     let all_before : AllByRecursion (StandsBefore end) (s.known ++ new) =
@@ -140,6 +155,7 @@ one_block bytes s b more so_far is here =
       places_before = subst (λ (ks : List Known). AllByRecursion (StandsBefore end) ks) known_is all_before;
       tids_below = subst (λ (ks : List Known). AllByRecursion (λ k. k.tid ≤ b.tid) ks) known_is all_below;
       transactions = TransactionsStand-push bytes s.starts s.list (record { serial = b.tid; at = s.end }) t so_far.transactions there.stands;
+      changes = AllChangesStand-push bytes s.starts s.list (record { serial = b.tid; at = s.end }) t so_far.changes changes_stand;
       histories = λ oid. subst (λ (ks : List Known). map (revision_at bytes) (lasts (filter (is_of oid) ks)) ≡ filter_map (history_line oid) (s.list ++ t ∷ [])) known_is (history oid);
     }
 
@@ -160,7 +176,7 @@ all_blocks bytes s (b ∷ bs) more so_far are here =
 pub stands : (bytes : List ℕ) (s : Reached) → Begins bytes s → Stands bytes s
 stands bytes s begins =
     let here : drop 4 bytes ≡ blocks_text start begins.blocks ++ drop s.end bytes = ap (drop 4) begins.parts ∙ drop_at magic _ 4 refl in
-    let first : Stands bytes start = record { records = tt; places_before = tt; tids_below = tt; transactions = tt; histories = λ oid. refl } in
+    let first : Stands bytes start = record { records = tt; places_before = tt; tids_below = tt; transactions = tt; changes = tt; histories = λ oid. refl } in
     subst (λ (x : Reached). Stands bytes x) (sym begins.is) (all_blocks bytes start begins.blocks (drop s.end bytes) first begins.are here)
 
 -- a record that was read at a place has the content there that is known of it

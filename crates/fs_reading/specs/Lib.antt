@@ -1,4 +1,5 @@
 pub mod Cases
+pub mod ChangesStand
 pub mod Contents
 pub mod Histories
 pub mod Main

@@ -1,5 +1,5 @@
 -- What a transaction's changes are, by its data records.
-use Rattle.std.proofs.Common.{◌≡◌, ℕ, ◌+◌, Bool, true, false, cond, eqb, List, [], ◌∷◌, ◌++◌, length, map, filter, Option, Some, None, refl, sym, ap, subst, ◌∙◌, eq-eqb, append_assoc}
+use Rattle.std.proofs.Common.{◌≡◌, ℕ, ◌+◌, Bool, true, false, cond, eqb, List, [], ◌∷◌, ◌++◌, length, map, filter, Option, Some, None, refl, sym, ap, ◌∙◌, eq-eqb, append_assoc}
 use Rattle.std.specs.Prelude.{nat_eq}
 use Rattle.std.specs.List.{last_or}
 use Rattle.std.specs.Option.{option_map, option_to_list}

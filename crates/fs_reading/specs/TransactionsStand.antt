@@ -1,5 +1,5 @@
 -- Transactions that were read stand in the bytes.
-use Rattle.std.proofs.Common.{◌≡◌, ℕ, ◌+◌, ◌-◌, ◌^◌, ◌<◌, ◌≤◌, Bool, true, false, cond, eqb, List, [], ◌∷◌, ◌++◌, length, map, filter, take, drop, Option, Some, None, refl, sym, ap, subst, ◌∙◌, append_assoc, arith}
+use Rattle.std.proofs.Common.{◌≡◌, ℕ, ◌+◌, Bool, cond, eqb, List, [], ◌∷◌, ◌++◌, length, map, filter, take, drop, Some, None, refl, sym, ap, ◌∙◌, append_assoc, arith}
 use Rattle.std.specs.Prelude.{not}
 use Rattle.std.specs.List.{AllByRecursion, filter_map, cons_option}
 use Rattle.std.proofs.lemmas.List.{length-drop, length-append, drop-drop, drop_at, take_at}
@@ -13,10 +13,9 @@ use Rattle.fs_records.specs.NumberLaws.{length-number}
 use Rattle.fs_records.specs.Headers.{header_of, header_text}
 use Rattle.fs_records.specs.HeaderLaws.{length-header_text}
 use Rattle.fs_records.specs.Blocks.{Block, Reached, texts, records_text, records_from, length_of, header_for, block_text, transaction_of, IsBlock}
-use Rattle.fs_records.specs.Rules.{texts_length}
 use Rattle.fs_records.specs.Unique.{block_again}
 use Rattle.fs_reading.specs.Cases.{by_bool}
-use Rattle.fs_reading.specs.Standing.{head_at, user_at, description_at, extension_at, HasTexts, TransactionStands, TransactionsStand, log_line_at}
+use Rattle.fs_reading.specs.Standing.{head_at, user_at, description_at, HasTexts, TransactionStands, TransactionsStand, log_line_at}
 
 -- ---- one transaction
 
@@ -26,6 +25,7 @@ block_texts p b more = simp append_assoc
 
 -- how far it reaches, and what stands where
 pub record BlockStands (bytes : List ℕ) (s : Reached) (b : Block) (more : List ℕ) : Type 0 where
+  pub head : head_at bytes s.end ≡ header_for s.end b
   pub stands : TransactionStands bytes (record { serial = b.tid; at = s.end }) (transaction_of s b)
   pub records : drop (records_from s.end b) bytes ≡ records_text s.end b.tid b.records ++ (number 8 (length_of s.end b) ++ more)
   pub behind : drop (s.end + (length_of s.end b + 8)) bytes ≡ more
@@ -59,6 +59,7 @@ block_stands bytes s b more is here =
     let to_is : p + (n + 8) ≡ p + 23 + u + d + e + length text + 8 = omega arith in
     let left : length (drop (p + 23 + u + d + e) bytes) ≡ length text + (8 + length more) = ap length a4 ∙ omega (arith, length-append text (number 8 n ++ more), length-append (number 8 n) more, length-number 8 n) in
     record {
+      head = h;
       stands = record {
         serial = refl;
         tid = ap (λ (x : Header). x.tid) h;

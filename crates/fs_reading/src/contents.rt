@@ -58,6 +58,33 @@ pub(crate) fn source_of<V: Volume>(
     Ok(Some(Source { at: place, length }))
 }
 
+/// The content of the data record with this header at a place.
+pub(crate) fn content_of<V: Volume>(
+    alloc: Global,
+    volume: &mut V,
+    at: u64,
+    header: &DataHeader,
+) -> Result<Content, ReadError>
+    requires short { V.told → length (main (V.log volume.old)) < 2 ^ 64 }
+    requires header { V.told → header.now ≡ data_head_at (main (V.log volume.old)) at }
+    requires some { V.told → (content : Content) × IsContent (main (V.log volume.old)) content at }
+    ensures value { V.told → (content : Content) → IsContent (main (V.log volume.old)) content at
+        → IfOk result (λ read. read ≡ content) }
+    ensures same { V.log volume.new ≡ V.log volume.old }
+    ensures later { V.read_faults volume.old ≤ V.read_faults volume.new }
+    ensures fault { IsErrOf result ReadFault
+        → Rose (V.read_faults volume.old) (V.read_faults volume.new) }
+    ensures memory { IsErrOf result Memory → V.read_faults volume.new ≡ V.read_faults volume.old }
+    ensures uncounted { OnOk result (V.read_faults volume.new ≡ V.read_faults volume.old) }
+    ensures write_faults { V.write_faults volume.new ≡ V.write_faults volume.old }
+{
+    let Some(source) = source_of(volume, at, header)? else {
+        return Ok(Content::Absent);
+    };
+    let from = source.at.saturating_add(42);
+    Ok(Content::Held(bytes_at(alloc, volume, from, source.length as usize)?))
+}
+
 /// The content of the data record at a place where one of an object was read: its bytes, or those
 /// of the earlier record that its back pointer leads to. It is `ReadFault` only where a read failed,
 /// and else `Memory`. The volume is as it was.
@@ -75,9 +102,5 @@ pub fn read_content<V: Volume>(alloc: Global, volume: &mut V, at: u64) -> Result
     ensures write_faults { V.write_faults volume.new ≡ V.write_faults volume.old }
 {
     let header = data_header_at(volume, at)?;
-    let Some(source) = source_of(volume, at, &header)? else {
-        return Ok(Content::Absent);
-    };
-    let from = source.at.saturating_add(42);
-    Ok(Content::Held(bytes_at(alloc, volume, from, source.length as usize)?))
+    content_of(alloc, volume, at, &header)
 }

@@ -8,7 +8,7 @@ use std::alloc::Global;
 use std::process::Abort;
 use std::test::Fail;
 use zb_ids::{ListOf, Oid, Tid};
-use zb_model::{Content, LogLine, Revision};
+use zb_model::{Change, Content, LogLine, Revision, Transaction};
 
 /// The file of a new database: the object 0, with the record of an empty persistent mapping.
 const FIRST: [u8; 158] = [
@@ -96,7 +96,7 @@ fn first_commit_bytes(rt: HostRuntime) -> Result<(), Fail> {
     let alloc = rt.alloc();
     let file = first_commit(alloc)?;
     assert_eq!(rt; file.bytes.len(), 234);
-    assert_eq!(rt; &file.bytes[..158], FIRST.as_slice());
+    assert!(rt; file.bytes.as_slice().starts_with(FIRST.as_slice()));
     let created = b"initial database creation".as_slice();
     check_log(
         &rt,
@@ -116,9 +116,7 @@ fn first_commit_bytes(rt: HostRuntime) -> Result<(), Fail> {
 
 /// Object 5 has 5 bytes in transaction 3, which is packed, takes them over in 4 and 5, is set twice
 /// in 6, and is gone in 7. Its records stand at 35, 114, 201, 287, 334 and 460.
-#[test]
-fn records_of_every_kind(rt: HostRuntime) -> Result<(), Fail> {
-    let alloc = rt.alloc();
+fn every_kind(alloc: Global) -> Result<File, Fail> {
     let mut file = File::new(alloc)?;
     let texts: [(u64, u8, &[u8], &[u8], &[u8], &[(u64, Payload<'_>)]); 5] = [
         (
@@ -161,6 +159,13 @@ fn records_of_every_kind(rt: HostRuntime) -> Result<(), Fail> {
             records,
         })?;
     }
+    Ok(file)
+}
+
+#[test]
+fn records_of_every_kind(rt: HostRuntime) -> Result<(), Fail> {
+    let alloc = rt.alloc();
+    let file = every_kind(alloc)?;
     assert_eq!(rt; file.bytes.len(), 518);
     check_log(
         &rt,
@@ -191,6 +196,50 @@ fn records_of_every_kind(rt: HostRuntime) -> Result<(), Fail> {
     ] {
         assert_eq!(rt; content(alloc, &file, at)?.as_slice(), wanted, "at {at}");
     }
+    Ok(())
+}
+
+/// The transaction of a file with this number in the list, counted from 0.
+fn transaction(alloc: Global, file: &File, number: usize) -> Result<Transaction, Fail> {
+    if number >= file.index.transactions().len() {
+        return Err(Fail::new("no such transaction"));
+    }
+    let mut volume = file.on_volume(alloc, Vec::new(alloc))?;
+    Ok(read_transaction(alloc, &mut volume, &file.index, number)?)
+}
+
+/// Compares changes with these, where no bytes stand for an absent content.
+fn check_changes(rt: &impl Abort, changes: &ListOf<Change>, wanted: &[(u64, &[u8])]) {
+    assert_eq!(rt; changes.len(), wanted.len());
+    for (change, (oid, bytes)) in changes.as_slice().iter().zip(wanted) {
+        assert_eq!(rt; change.oid, Oid(*oid));
+        match &change.content {
+            Content::Held(held) => assert_eq!(rt; held.as_slice(), *bytes),
+            Content::Absent => assert!(rt; bytes.is_empty()),
+        }
+    }
+}
+
+#[test]
+fn transactions_whole(rt: HostRuntime) -> Result<(), Fail> {
+    let alloc = rt.alloc();
+    let file = every_kind(alloc)?;
+    let first = transaction(alloc, &file, 0)?;
+    assert_eq!(rt; first.tid, Tid(3));
+    assert!(rt; first.packed);
+    assert_eq!(rt; first.user.as_slice(), b"ann".as_slice());
+    assert_eq!(rt; first.description.as_slice(), b"made".as_slice());
+    assert_eq!(rt; first.extension.as_slice(), b"x".as_slice());
+    check_changes(&rt, &first.changes, &[(5, b"hello")]);
+    let third = transaction(alloc, &file, 2)?;
+    assert_eq!(rt; third.tid, Tid(5));
+    assert!(rt; !third.packed);
+    assert_eq!(rt; third.extension.as_slice(), b"more".as_slice());
+    check_changes(&rt, &third.changes, &[(5, b"hello")]);
+    let fourth = transaction(alloc, &file, 3)?;
+    check_changes(&rt, &fourth.changes, &[(5, b"the second")]);
+    let fifth = transaction(alloc, &file, 4)?;
+    check_changes(&rt, &fifth.changes, &[(9, b"9"), (5, b"")]);
     Ok(())
 }
 

@@ -19,7 +19,7 @@ use zb_model::LogLine;
 use zb_volume::Volume;
 
 /// The status of a transaction that a pack has gone over.
-const PACKED: u8 = b'p';
+pub(crate) const PACKED: u8 = b'p';
 
 /// The line of the transaction at a place, if no pack has gone over it.
 fn line_at<V: Volume>(

@@ -1,6 +1,5 @@
 -- The first fault among the data records.
-use Rattle.std.proofs.Common.{◌≡◌, ℕ, ◌-◌, ◌<◌, List, drop, Result, Err, sym, subst, ◌∙◌}
-use Rattle.fs_records.specs.declared.field.Field.{Field}
+use Rattle.std.proofs.Common.{ℕ, ◌-◌, ◌<◌, List, drop, Err, sym, subst}
 use Rattle.fs_records.specs.declared.place.Place.{Place}
 use Rattle.fs_records.specs.Blocks.{Known}
 use Rattle.fs_records.specs.Rules.{record_at}

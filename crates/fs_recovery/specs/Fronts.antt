@@ -1,7 +1,7 @@
 -- The first bytes of a file, as many as its transactions have or more, stand for the same list. Source: own.
-use Rattle.std.proofs.Common.{◌≡◌, ◌⊎◌, inl, inr, ℕ, ◌+◌, ◌-◌, ◌^◌, ◌<◌, ◌≤◌, Bool, true, false, cond, eqb, ltb, leb, List, [], ◌∷◌, ◌++◌, length, take, drop, Option, Some, None, refl, sym, ap, subst, ◌∙◌, append_assoc, arith}
+use Rattle.std.proofs.Common.{◌≡◌, ◌⊎◌, inl, inr, ℕ, ◌+◌, ◌-◌, ◌^◌, ◌≤◌, Bool, true, false, cond, eqb, ltb, leb, List, ◌++◌, length, take, drop, Option, Some, None, refl, sym, ap, ◌∙◌, append_assoc, arith}
 use Rattle.std.specs.Prelude.{not, ◌||◌}
-use Rattle.std.proofs.lemmas.Bool.{cases_lt, lt-ltb, ltb-true, ltb-false, eqb-true, eqb-false, ne_eqb}
+use Rattle.std.proofs.lemmas.Bool.{cases_lt, lt-ltb, ltb-true, eqb-true, ne_eqb}
 use Rattle.std.proofs.lemmas.List.{length-take, length-drop, length-append, drop-take, take-take, take-append-drop, take_at}
 use Rattle.fs_records.specs.declared.header.Header.{Header}
 use Rattle.fs_records.specs.declared.field.Field.TheVariants.{Status, Length, Closing, Tid}
@@ -12,7 +12,7 @@ use Rattle.fs_records.specs.Headers.{header_of}
 use Rattle.fs_records.specs.HeaderLaws.{header_of-take}
 use Rattle.fs_records.specs.Rules.{verdict, texts_length}
 use Rattle.fs_records.specs.Blocks.{Reached, start, blocks_text, magic, Begins}
-use Rattle.fs_records.specs.File.{StandsAs, EndsAt, IsTail}
+use Rattle.fs_records.specs.File.{StandsAs, IsTail}
 
 -- ---- the rules, of so many bytes with this header and this closing length
 

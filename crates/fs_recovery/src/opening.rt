@@ -61,9 +61,11 @@ fn keep_block<V: Volume, const N: usize>(
     requires bytes { V.told → IsBytes (main (V.log volume.old)) }
     ensures before { OnOk result (KeptBefore index.new (p + header.now.length + 8)) }
     ensures newest { OnOk result (newest_kept index.new ≡ header.now.tid) }
-    ensures read { V.told → Begins (main (V.log volume.old)) p (newest_kept index.old) header.now →
+    ensures read { V.told →
+        Begins (main (V.log volume.old)) p (newest_kept index.old) header.now →
         Indexed (main (V.log volume.old)) p (newest_kept index.old) index.old →
-        BlockRead (main (V.log volume.old)) (p + header.now.length + 8) header.now.tid index.new result }
+        BlockRead (main (V.log volume.old)) (p + header.now.length + 8) header.now.tid
+        index.new result }
     ensures shows { V.told →
         Shows window.new.at window.new.count window.new.held (main (V.log volume.old)) }
     ensures length { window.new.length ≡ window.old.length }
@@ -201,9 +203,9 @@ fn read_main<V: Volume>(alloc: Global, volume: &mut V, long: u64) -> Result<Open
 /// place; only a failed call of the volume or want of memory comes between. Bytes stand for at most
 /// one list, and what stands for one is not damaged, so each answer rules out the others.
 ///
-/// Memory is that of the index and one window of 8192 bytes. A window is read for each 8192 bytes of
-/// headers that lie close together, and for each transaction at most two pieces more and for each
-/// data record one: the content of the records is skipped.
+/// Memory is that of the index and of one window of 8192 bytes. Headers that lie close together
+/// share a read, the content of the records is skipped, and no file takes more than two reads for
+/// each transaction, two for each data record and one besides.
 pub fn open_main<V: Volume>(alloc: Global, volume: &mut V) -> Result<Opened, OpenError>
     requires { V.told → main (V.log volume.old) ≢ [] }
     ensures opens { V.told → Opens (main (V.log volume.old)) result }

@@ -37,7 +37,8 @@ fn is_astray<V: Volume, const N: usize>(
     requires shows { V.told →
         Shows window.now.at window.now.count window.now.held (main (V.log volume.old)) }
     ensures value { V.told →
-        IfOk result (λ b. b ≡ is_astray (knows index.now.entries) header.now (drop q (main (V.log volume.old)))) }
+        IfOk result (λ b. b ≡ is_astray (knows index.now.entries) header.now
+        (drop q (main (V.log volume.old)))) }
     ensures same { V.log volume.new ≡ V.log volume.old }
     ensures cause { HasCause (V.read_faults volume.old) (V.read_faults volume.new) result }
     ensures uncounted { OnOk result (V.read_faults volume.new ≡ V.read_faults volume.old) }
@@ -80,7 +81,8 @@ fn read_record<V: Volume, const N: usize>(
         Shows window.old.at window.old.count window.old.held (main (V.log volume.old)) }
     ensures size { IfOk result (λ r. (0 < r.1) × (r.1 ≤ end - q)) }
     ensures value { V.told →
-        Gives result q (record_at (knows index.now.entries) place tid (end - q) (drop q (main (V.log volume.old)))) }
+        Gives result q (record_at (knows index.now.entries) place tid (end - q)
+        (drop q (main (V.log volume.old)))) }
     ensures shows { V.told →
         Shows window.new.at window.new.count window.new.held (main (V.log volume.old)) }
     ensures length { window.new.length ≡ window.old.length }

@@ -6,3 +6,17 @@ pub mod Runs
 pub mod Places
 pub mod Longs
 pub mod Sound
+pub mod Walks
+pub mod Heights
+pub mod Counts
+pub mod Pieces
+pub mod Going
+pub mod LeafBack
+pub mod Standing
+pub mod Building
+pub mod Growing
+pub mod Visits
+pub mod NodeTexts
+pub mod ObjectTexts
+pub mod Once
+pub mod Back

@@ -6,3 +6,11 @@ pub mod Steps
 pub mod Reading
 pub mod Sound
 pub mod References
+pub mod Parts
+pub mod Walks
+pub mod Shared
+pub mod Spelling
+pub mod Same
+pub mod Numbers
+pub mod Writing
+pub mod Laws

@@ -3,20 +3,30 @@
 #![tactic(auto)]
 
 mod additions;
+mod depth;
 mod error;
+mod laws;
+mod leaf_text;
 mod leaves;
 mod node;
+mod node_map;
+mod parts;
 mod pickle;
 mod reading;
 mod references;
+mod shared;
 mod state;
 mod steps;
+mod writing;
 
-pub use error::PickleError;
+pub use depth::WALK_LIMIT;
+pub use error::{PickleError, WriteError};
+pub use laws::{cyclic_graphs_are_too_deep, written_pickles_read_back};
 pub use node::{Act, Node};
 pub use pickle::Pickle;
 pub use reading::{NODE_LIMIT, read_pickle};
 pub use references::references_of;
+pub use writing::{spelling, write_pickle};
 
 #[cfg(test)]
 mod tests;

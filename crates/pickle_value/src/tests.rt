@@ -15,6 +15,7 @@ mod leaves;
 mod objects;
 mod persistent;
 mod refusals;
+mod writing;
 
 /// A graph as a text: a word for each node in order, then `@` and the number of the root.
 #[derive(Drop)]
@@ -117,15 +118,30 @@ impl fmt::Display for Shown<'_> {
     }
 }
 
-/// Whether the input is one pickle, whole, of the graph that the text shows.
-fn agrees(alloc: Global, input: &[u8], wanted: &str) -> bool {
+/// Whether the input is one pickle, whole, of the graph that the text shows, and that graph is written
+/// so; no bytes stand for a graph that is too deep.
+fn agrees(alloc: Global, input: &[u8], wanted: &str, written: &[u8]) -> bool {
     let Ok((pickle, next)) = read_pickle(alloc, input, 0) else {
         return false;
     };
     let Ok(shown) = format!(in alloc; "{}", Shown { pickle: &pickle }) else {
         return false;
     };
-    next == input.len() && shown.as_str() == wanted
+    next == input.len() && shown.as_str() == wanted && writes(alloc, &pickle, written)
+}
+
+/// Whether the graph is written so, and its root is spelled so without the first two bytes and the last;
+/// no bytes stand for a graph that is too deep.
+fn writes(alloc: Global, pickle: &Pickle, written: &[u8]) -> bool {
+    match write_pickle(alloc, pickle) {
+        Ok(text) => {
+            let Ok(spelled) = spelling(alloc, pickle, pickle.root()) else {
+                return false;
+            };
+            text.as_slice() == written && spelled.as_slice() == &written[2..written.len() - 1]
+        }
+        Err(refusal) => refusal == WriteError::TooDeep && written.is_empty(),
+    }
 }
 
 /// The refusal of the input, read from a place on.

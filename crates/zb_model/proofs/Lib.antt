@@ -1,1 +1,5 @@
+pub mod Alls
+pub mod Copies
+pub mod Distinct
+pub mod Firsts
 pub mod Lasts

@@ -1,7 +1,6 @@
 -- The first transaction of a database. Source: ZODB's `DB`, which stores an empty root mapping.
 use Rattle.std.specs.Prelude.{ℕ, List, [], ◌∷◌, ◌++◌, false, codes}
 use Rattle.zb_ids.specs.Tids.{tid_after}
-use Rattle.zb_model.specs.declared.data.Content.{Content}
 use Rattle.zb_model.specs.declared.data.Content.TheVariants.{Held}
 use Rattle.zb_model.specs.declared.data.Transaction.{Transaction}
 

@@ -1,4 +1,9 @@
 pub mod Creation
 pub mod Database
-pub mod Seen
+pub mod DatabaseLaws
 pub mod Lists
+pub mod Queries
+pub mod Seen
+pub mod Stores
+pub mod Voting
+pub mod VotingLaws

@@ -1,8 +1,9 @@
 //! The first transaction of a database.
 
-ghost use Rattle.std.specs.Prelude.{◌≡◌, ◌<◌, ◌-◌, ◌^◌, IfOk};
+ghost use Rattle.std.specs.Prelude.{◌≡◌, ◌<◌, ◌-◌, ◌^◌, ◌∷◌, [], IfOk};
 ghost use Rattle.zb_ids.specs.Tids.{stamp_number};
 ghost use Rattle.zb_model.specs.Creation.{first_transaction};
+ghost use Rattle.zb_model.specs.Database.{IsDatabase};
 
 use crate::data::{Change, Content, Transaction};
 use std::alloc::{AllocError, Global};
@@ -18,6 +19,7 @@ const ROOT_RECORD: &[u8] =
 pub fn first_transaction(alloc: Global, clock: Stamp) -> Result<Transaction, AllocError>
     ensures value { IfOk result (λ first. first ≡ first_transaction (stamp_number clock)) }
     ensures bound { IfOk result (λ first. first.tid < 2 ^ 64 - 1) }
+    ensures database { IfOk result (λ first. IsDatabase (first ∷ [])) }
 {
     let now = tid_of_stamp(clock);
     let tid = if now > Tid(0) { now } else { Tid(1) };

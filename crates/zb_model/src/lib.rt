@@ -1,17 +1,28 @@
-//! What a database is: a list of transactions, each a list of changes of objects.
+//! What a database is: a list of transactions, each a list of changes of objects. And what a store
+//! promises that keeps one.
 #![tactic(auto)]
 
 mod creation;
 mod data;
+mod found;
 mod lists;
+mod new_transaction;
 mod plain;
 mod refusal;
+mod store;
+mod store_error;
+mod votable;
 
 pub use creation::first_transaction;
 pub use data::{Change, Content, Transaction};
+pub use found::Found;
 pub use lists::{LogLine, Revision};
-pub use plain::{newest_of, revision_before, serial_in};
+pub use new_transaction::{NewChange, NewContent, NewTransaction};
+pub use plain::{change_of, content_at, newest_of, revision_before, serial_in};
 pub use refusal::{Refusal, Why};
+pub use store::Store;
+pub use store_error::StoreError;
+pub use votable::is_votable;
 
 #[cfg(test)]
 mod tests;

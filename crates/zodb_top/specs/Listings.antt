@@ -37,17 +37,17 @@ abbrev pub joined : List (List ℕ) → List ℕ
 joined lines = flat_map (λ l. l) lines
 
 -- The lines are that of the tail that was cut off, if there was one, and those of the list; or that a read
--- failed, where `unread` says that it did.
+-- failed, where `read_failed` says that one did.
 abbrev pub IsSaid : List Transaction → Option ℕ → Listing → Type 0 → List (List ℕ) → Type 0
-IsSaid list cut asked unread lines = (lines ≡ cut_lines cut ++ lines_of asked list) ⊎ (unread × (lines ≡ cut_lines cut ++ refused_lines))
+IsSaid list cut asked read_failed lines = (lines ≡ cut_lines cut ++ lines_of asked list) ⊎ (read_failed × (lines ≡ cut_lines cut ++ refused_lines))
 
 -- there are bytes, which stand for a list, and the lines are what is said of it
-pub record IsListing (bytes : List ℕ) (asked : Listing) (unread : Type 0) (lines : List (List ℕ)) : Type 0 where
+pub record IsListing (bytes : List ℕ) (asked : Listing) (read_failed : Type 0) (lines : List (List ℕ)) : Type 0 where
   pub list : List Transaction
   pub cut : Option ℕ
   pub some : bytes ≢ []
   pub stands : StandsFor bytes list cut
-  pub says : IsSaid list cut asked unread lines
+  pub says : IsSaid list cut asked read_failed lines
 
 -- the rule that fails, and where
 abbrev pub damage_line : ℕ → Field → List ℕ
@@ -64,20 +64,20 @@ abbrev pub IsHarmed : List ℕ → Type 0
 IsHarmed bytes = (bytes ≡ []) ⊎ IsNoList bytes
 
 -- What each status of a list says: its cause, and what was written. `bytes` is what Main read as, where
--- `told` says that the volume tells; `unread` and `unwritten` say that its counts of failed reads and of other
+-- `told` says that the volume tells; `read_failed` and `write_failed` say that its counts of failed reads and of other
 -- failed calls rose, and `untouched` that nothing was changed; `old` and `new` are what the sink had taken
 -- before and has now, `before` and `now` its count of faults.
 abbrev pub ListOutcome : Status → Listing → Type 0 → List ℕ → Type 0 → Type 0 → Type 0 → Option (List ℕ) → Option (List ℕ) → ℕ → ℕ → Type 0
-ListOutcome status.Done asked told bytes unread unwritten untouched old new before now =
-    (lines : List (List ℕ)) × (told → IsListing bytes asked unread lines) × Appends old new (joined lines)
-ListOutcome status.NoMemory asked told bytes unread unwritten untouched old new before now = new ≡ old
-ListOutcome status.SinkFault asked told bytes unread unwritten untouched old new before now =
-    Rose before now × ((lines : List (List ℕ)) × (told → IsListing bytes asked unread lines) × AppendsFront old new (joined lines))
-ListOutcome status.StoreFault asked told bytes unread unwritten untouched old new before now =
-    ((unread × untouched) ⊎ unwritten) × IsWritten old new before now store_fault_line
-ListOutcome status.Damaged asked told bytes unread unwritten untouched old new before now =
+ListOutcome status.Done asked told bytes read_failed write_failed untouched old new before now =
+    (lines : List (List ℕ)) × (told → IsListing bytes asked read_failed lines) × Appends old new (joined lines)
+ListOutcome status.NoMemory asked told bytes read_failed write_failed untouched old new before now = new ≡ old
+ListOutcome status.SinkFault asked told bytes read_failed write_failed untouched old new before now =
+    Rose before now × ((lines : List (List ℕ)) × (told → IsListing bytes asked read_failed lines) × AppendsFront old new (joined lines))
+ListOutcome status.StoreFault asked told bytes read_failed write_failed untouched old new before now =
+    ((read_failed × untouched) ⊎ write_failed) × IsWritten old new before now store_fault_line
+ListOutcome status.Damaged asked told bytes read_failed write_failed untouched old new before now =
     (text : List ℕ) × NamesDamage told bytes text × IsWritten old new before now text
-ListOutcome _ asked told bytes unread unwritten untouched old new before now = ⊥
+ListOutcome _ asked told bytes read_failed write_failed untouched old new before now = ⊥
 
 -- a text without the tail that was cut off
 abbrev pub without_tail : Option ℕ → List ℕ → List ℕ

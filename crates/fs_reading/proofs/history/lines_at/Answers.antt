@@ -1,6 +1,5 @@
 use Rattle.std.proofs.Common.{◌≡◌, ℕ, ◌+◌, ◌-◌, ◌<◌, List, ◌++◌, length, map, get_or, take, drop, cond, Some, None, ap, sym, subst, ◌∙◌, arith}
 use Rattle.std.specs.Prelude.{reverse}
-use Rattle.std.specs.List.{AllByRecursion}
 use Rattle.std.specs.Option.{option_to_list}
 use Rattle.std.proofs.lemmas.List.{length-map, take_rest}
 use Rattle.zb_model.specs.declared.lists.Revision.{Revision}
@@ -9,7 +8,7 @@ use Rattle.fs_records.specs.Blocks.{Known}
 use Rattle.fs_records.specs.Places.{place_of}
 use Rattle.fs_reading.specs.Main.{main}
 use Rattle.fs_reading.specs.Standing.{RecordStands, lasts, is_replaced, revision_at}
-use Rattle.fs_reading.proofs.Lines.{AtIndex, at_index, later_places, one_revision}
+use Rattle.fs_reading.proofs.Lines.{at_index, later_places, one_revision}
 use Rattle.fs_reading.proofs.history.lines_at.Goals as goal
 
 pub line_of_last-requires-clause-stands : goal.line_of_last-requires-clause-stands

@@ -1,4 +1,4 @@
-use Rattle.std.proofs.Common.{◌≡◌, ℕ, List, filter, ap, sym, subst, ◌∙◌, arith}
+use Rattle.std.proofs.Common.{◌≡◌, ℕ, List, filter, subst, ◌∙◌}
 use Rattle.std.specs.Prelude.{reverse, IfOk}
 use Rattle.zb_model.specs.declared.lists.Revision.{Revision}
 use Rattle.fs_records.specs.Places.{is_of}

@@ -1,4 +1,4 @@
-use Rattle.std.proofs.Common.{◌≡◌, ap, ◌∙◌, arith}
+use Rattle.std.proofs.Common.{ap, ◌∙◌}
 use Rattle.fs_records.specs.Headers.{data_header_of}
 use Rattle.fs_records.specs.HeaderLaws.{data_header_of-take}
 use Rattle.fs_reading.proofs.pieces.data_header_at.Goals as goal

@@ -1,4 +1,4 @@
-use Rattle.std.proofs.Common.{◌≡◌, ap, ◌∙◌, arith}
+use Rattle.std.proofs.Common.{ap, ◌∙◌}
 use Rattle.fs_records.specs.Headers.{header_of}
 use Rattle.fs_records.specs.HeaderLaws.{header_of-take}
 use Rattle.fs_reading.proofs.pieces.header_at.Goals as goal

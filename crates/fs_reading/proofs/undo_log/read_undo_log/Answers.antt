@@ -1,4 +1,4 @@
-use Rattle.std.proofs.Common.{◌≡◌, ℕ, List, ap, sym, subst, ◌∙◌, arith}
+use Rattle.std.proofs.Common.{◌≡◌, ℕ, List, ap, sym, subst, ◌∙◌}
 use Rattle.std.specs.Prelude.{reverse, IfOk}
 use Rattle.std.specs.List.{AllByRecursion, filter_map}
 use Rattle.zb_model.specs.declared.lists.LogLine.{LogLine}

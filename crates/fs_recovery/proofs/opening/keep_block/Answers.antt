@@ -1,4 +1,4 @@
-use Rattle.std.proofs.Common.{◌≡◌, arith}
+use Rattle.std.proofs.Common.{arith}
 use Rattle.fs_recovery.specs.Reading.{main}
 use Rattle.fs_recovery.proofs.Steps.{newest_pushed, kept_more, accepted}
 use Rattle.fs_recovery.proofs.opening.keep_block.Goals as goal

@@ -1,4 +1,4 @@
-use Rattle.std.proofs.Common.{◌≡◌, refl, sym, arith}
+use Rattle.std.proofs.Common.{refl, sym, arith}
 use Rattle.fs_recovery.specs.Reading.{main}
 use Rattle.fs_recovery.proofs.Starts.{empty_before, empty_newest, nothing_read}
 use Rattle.fs_recovery.proofs.opening.read_blocks.Goals as goal

@@ -1,4 +1,4 @@
-use Rattle.std.proofs.Common.{◌≡◌, ap, ◌∙◌}
+use Rattle.std.proofs.Common.{ap, ◌∙◌}
 use Rattle.fs_records.specs.Headers.{header_of}
 use Rattle.fs_records.specs.HeaderLaws.{header_of-take}
 use Rattle.fs_recovery.proofs.pieces.header_at.Goals as goal

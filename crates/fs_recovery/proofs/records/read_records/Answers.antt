@@ -1,6 +1,6 @@
 use Rattle.std.proofs.lemmas.Result.{err_from_is_err_and}
 use Rattle.std.proofs.Common.{◌≡◌, ℕ, ◌-◌, List, drop, Err, Ok, sym, ap, subst, arith, ◌∙◌}
-use Rattle.fs_records.specs.NumberLaws.{IsBytes, IsBytes-drop}
+use Rattle.fs_records.specs.NumberLaws.{IsBytes-drop}
 use Rattle.fs_records.specs.Rules.{record_at}
 use Rattle.fs_records.specs.Places.{knows}
 use Rattle.fs_records.specs.ScanLaws.{one_more, before_more}

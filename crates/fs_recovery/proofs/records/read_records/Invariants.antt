@@ -1,4 +1,4 @@
-use Rattle.std.proofs.Common.{◌≡◌, ◌≤◌, ◌-◌, length, List}
+use Rattle.std.proofs.Common.{◌≡◌, ◌≤◌, ◌-◌, List}
 use Rattle.fs_records.specs.Blocks.{Known}
 use Rattle.fs_records.specs.Places.{AreBefore, ArePlacesOf}
 use Rattle.fs_records.specs.Scan.{RecordsIndexed}

@@ -1,4 +1,4 @@
-use Rattle.std.proofs.Common.{◌≡◌, take, ◌∙◌, ap, refl}
+use Rattle.std.proofs.Common.{take, ◌∙◌, ap, refl}
 use Rattle.zb_volume.specs.declared.areas.Area.TheVariants.{Main, Side}
 use Rattle.zb_volume.specs.Calls.{CutTo, SyncOf}
 use Rattle.zb_volume.specs.Images.{CrashLeavesWith}

@@ -1,4 +1,4 @@
-use Rattle.std.proofs.Common.{◌≡◌, ℕ, Option, sym, ap}
+use Rattle.std.proofs.Common.{Option, sym, ap}
 use Rattle.std.specs.Option.{option_map_or}
 use Rattle.zb_model.specs.declared.data.Transaction.{Transaction}
 use Rattle.zb_model.proofs.Lasts.{last_or-at}

@@ -1,4 +1,4 @@
-use Rattle.std.proofs.Common.{◌≡◌, ◌∙◌, length}
+use Rattle.std.proofs.Common.{◌∙◌, length}
 use Rattle.fs_recovery.specs.Reading.{main}
 use Rattle.fs_recovery.proofs.Seen.{shown}
 use Rattle.fs_recovery.proofs.window.Window.peek.Goals as goal

@@ -1,0 +1,57 @@
+use Rattle.std.proofs.Common.{◌≡◌, ℕ, ◌+◌, ◌≤◌, List, length, ap, sym, subst, ◌∙◌, arith}
+use Rattle.std.specs.Prelude.{nat_eq}
+use Rattle.indexmap.specs.IndexMap.{insert_entry}
+use Rattle.zb_model.specs.declared.data.Content.{Content}
+use Rattle.fs_records.specs.declared.header.DataHeader.{DataHeader}
+use Rattle.fs_records.specs.Rules.{payload_size}
+use Rattle.fs_reading.specs.Main.{main}
+use Rattle.fs_reading.specs.Standing.{data_head_at, IsContent}
+use Rattle.fs_reading.proofs.Chains.{head_within}
+use Rattle.fs_reading.proofs.Between.{StandsFrom, next, ended}
+use Rattle.fs_reading.proofs.transaction.entries_between.Goals as goal
+
+pub data_header_at-requires : goal.data_header_at-requires
+data_header_at-requires g c = λ told.
+    let bytes : List ℕ = main (g.V.Volume.log c.args.volume.now) in
+    let now : main (g.V.Volume.log c.loop-place.volume) ≡ bytes = ap main c.loop-place.invariant.same in
+    let stand = c.requires.stand told in
+    let n = next bytes c.loop-place.place c.args.end c.loop-place.entries.entries stand.0 c.loop-place-test.true (c.loop-place.invariant.rest told stand.0 stand.1) in
+    let within = head_within bytes n.content c.loop-place.place n.there in
+    omega (arith, within, ap (λ (b : List ℕ). length b) now)
+
+pub content_of-requires-clause-some : goal.content_of-requires-clause-some
+content_of-requires-clause-some g c = λ told.
+    let bytes : List ℕ = main (g.V.Volume.log c.args.volume.now) in
+    let now : main (g.V.Volume.log c.data_header_at.new.volume) ≡ bytes = ap main (c.data_header_at.ensures.same ∙ c.loop-place.invariant.same) in
+    let stand = c.requires.stand told in
+    let n = next bytes c.loop-place.place c.args.end c.loop-place.entries.entries stand.0 c.loop-place-test.true (c.loop-place.invariant.rest told stand.0 stand.1) in
+    (n.content, subst (λ (b : List ℕ). IsContent b n.content c.loop-place.place) (sym now) n.there)
+
+pub loop-place-preserved : goal.loop-place-preserved
+loop-place-preserved g c = record {
+  same = c.content_of.ensures.same ∙ c.data_header_at.ensures.same ∙ c.loop-place.invariant.same;
+  reads = c.in_ok-content.ensures.uncounted ∙ c.in_ok-header.ensures.uncounted ∙ c.loop-place.invariant.reads;
+  writes = c.content_of.ensures.write_faults ∙ c.data_header_at.ensures.write_faults ∙ c.loop-place.invariant.writes;
+  rest = λ told ks between.
+      let bytes : List ℕ = main (g.V.Volume.log c.args.volume.now) in
+      let place : ℕ = c.loop-place.place in
+      let now : main (g.V.Volume.log c.loop-place.volume) ≡ bytes = ap main c.loop-place.invariant.same in
+      let then : main (g.V.Volume.log c.data_header_at.new.volume) ≡ bytes = ap main c.data_header_at.ensures.same ∙ now in
+      let n = next bytes place c.args.end c.loop-place.entries.entries ks c.loop-place-test.true (c.loop-place.invariant.rest told ks between) in
+      let header_is : c.in_ok-header.header ≡ data_head_at bytes place = c.in_ok-header.ensures.value told ∙ ap (λ (b : List ℕ). data_head_at b place) now in
+      let content_is : c.in_ok-content.content ≡ n.content = c.in_ok-content.ensures.value told n.content (subst (λ (b : List ℕ). IsContent b n.content place) (sym then) n.there) in
+      let oid_is : c.in_ok-header.header.oid ≡ (data_head_at bytes place).oid = ap (λ (h : DataHeader). h.oid) header_is in
+      let size_is : payload_size c.in_ok-header.header ≡ payload_size (data_head_at bytes place) = ap (λ (h : DataHeader). payload_size h) header_is in
+      let put : c.insert.new.self.entries ≡ insert_entry nat_eq c.loop-place.entries.entries c.in_ok-header.header.oid c.in_ok-content.content = c.in_ok-insert.ensures.entries in
+      let entries_are : insert_entry nat_eq c.loop-place.entries.entries (data_head_at bytes place).oid n.content ≡ c.insert.new.self.entries =
+      sym (put ∙ ap (λ (o : ℕ). insert_entry nat_eq c.loop-place.entries.entries o c.in_ok-content.content) oid_is ∙ ap (λ (x : Content). insert_entry nat_eq c.loop-place.entries.entries (data_head_at bytes place).oid x) content_is) in
+      let reach : place + 42 + payload_size (data_head_at bytes place) ≤ c.args.end = n.reach in
+      let small = c.ranges.end in
+      let place_is : place + 42 + payload_size (data_head_at bytes place) ≡ c.saturating_add-place.result = omega (arith, reach, size_is, small, c.saturating_add-place.ensures, c.payload_size.ensures, c.saturating_add.ensures) in
+      subst (λ (q : ℕ). StandsFrom bytes q c.args.end c.insert.new.self.entries ks) place_is (subst (λ (es : List (ℕ × Content)). StandsFrom bytes (place + 42 + payload_size (data_head_at bytes place)) c.args.end es ks) entries_are n.then);
+}
+
+pub returns-clause-value : goal.returns-clause-value
+returns-clause-value g c = λ told ks between.
+    let bytes : List ℕ = main (g.V.Volume.log c.args.volume.now) in
+    ended bytes c.loop-place.place c.args.end c.loop-place.entries.entries ks c.loop-place-test.false (c.loop-place.invariant.rest told ks between)

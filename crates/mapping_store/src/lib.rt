@@ -1,0 +1,12 @@
+//! A store that keeps the plain list of its transactions, in memory.
+#![tactic(auto)]
+
+mod gathering;
+mod making;
+mod mapping;
+mod walks;
+
+pub use mapping::MappingStore;
+
+#[cfg(test)]
+mod tests;

@@ -1,0 +1,3 @@
+mod answers;
+mod commits;
+mod making;

@@ -1,0 +1,122 @@
+// What votes, finishes and aborts make of the list, and the numbers of it.
+ghost use Rattle.std.specs.Prelude.{◌≡◌, ◌++◌, ◌∷◌, [], None, false, OnOk};
+ghost use Rattle.zb_volume.specs.declared.areas.Area.{Area};
+ghost use Rattle.zb_volume.specs.Moments.{Leaves};
+ghost use Rattle.zb_model.specs.Voting.{IsSized, IsVotable, voted_of};
+
+use crate::MappingStore;
+use crate::tests::making::{Put, Row, T0, new_store, new_transaction};
+use std::alloc::Global;
+use std::test::Fail;
+use zb_ids::{Oid, Tid};
+use zb_model::{NewTransaction, Store, StoreError, is_votable};
+
+/// Commits over any store. At each moment a crash leaves the list, or the list with the transaction.
+fn commit_to<St: Store>(
+    alloc: Global,
+    store: &mut St,
+    new: &NewTransaction,
+) -> Result<(), StoreError>
+    requires whole { St.broken store.old ≡ false }
+    requires free { St.voted store.old ≡ None }
+    requires sized { IsSized new.now }
+    requires votable { St.told → IsVotable (St.list store.old) new.now }
+    ensures free { OnOk result (St.voted store.new ≡ None) }
+    ensures list { St.told → OnOk result
+        (St.list store.new ≡ St.list store.old ++ voted_of (St.list store.old) new.now ∷ []) }
+    ensures kept { St.lasts → OnOk result
+        (Leaves Area.Main (λ bytes. St.stands bytes (St.list store.new)) (St.log store.new)) }
+    ensures quiet { St.quiet → St.log store.new ≡ St.log store.old }
+{
+    store.vote(alloc, new)?;
+    let Ok(()) = store.finish() else {
+        return Err(StoreError::StoreFault);
+    };
+    Ok(())
+}
+
+/// Commits through the bound.
+fn commit_through(alloc: Global, store: &mut MappingStore, row: Row<'_>) -> Result<(), Fail>
+    requires { ⟦<MappingStore as Store>⟧.voted store.old ≡ None }
+    ensures { OnOk result (⟦<MappingStore as Store>⟧.voted store.new ≡ None) }
+{
+    let new = new_transaction(alloc, row)?;
+    if !is_votable(store.list(), &new) {
+        return Err(Fail::new("the transaction may be voted"));
+    }
+    commit_to(alloc, store, &new)?;
+    Ok(())
+}
+
+/// Votes a transaction and drops it.
+fn vote_and_abort(alloc: Global, store: &mut MappingStore, row: Row<'_>) -> Result<(), Fail>
+    requires { ⟦<MappingStore as Store>⟧.voted store.old ≡ None }
+    ensures { OnOk result (⟦<MappingStore as Store>⟧.voted store.new ≡ None) }
+{
+    let new = new_transaction(alloc, row)?;
+    if !is_votable(store.list(), &new) {
+        return Err(Fail::new("the transaction may be voted"));
+    }
+    store.vote(alloc, &new)?;
+    store.abort()?;
+    Ok(())
+}
+
+/// How far the newest tid is behind T0, the greatest oid, the pack point, the number of changes and
+/// that of transactions.
+fn numbers(store: &MappingStore) -> (u64, u64, u64, u64, usize) {
+    (
+        store.newest().0.saturating_sub(T0),
+        store.greatest_oid().0,
+        store.pack_point().0,
+        store.changes_to(Tid(u64::MAX)),
+        store.list().len(),
+    )
+}
+
+/// The list of the first commit: the root at T0, and object 1 at the next tid.
+#[test]
+fn the_first_commit_counts(rt: HostRuntime) -> Result<(), Fail> {
+    let alloc = rt.alloc();
+    let mut store = new_store(alloc)?;
+    assert_eq!(rt; numbers(&store), (0, 0, 0, 1, 1));
+    let row = Row {
+        place: 1,
+        description: b"",
+        changes: &[(1, Put::Bytes(b"abc"))],
+    };
+    commit_through(alloc, &mut store, row)?;
+    assert_eq!(rt; numbers(&store), (1, 1, 0, 2, 2));
+    for (tid, count) in [(T0 - 1, 0), (T0, 1), (T0 + 1, 2), (u64::MAX, 2)] {
+        assert_eq!(rt; store.changes_to(Tid(tid)), count, "up to {tid}");
+    }
+    for (oid, serial) in [(0, T0), (1, T0 + 1), (2, 0)] {
+        assert_eq!(rt; store.serial_of(Oid(oid)), Tid(serial), "of {oid}");
+    }
+    Ok(())
+}
+
+/// A vote that is dropped leaves the list, and its number may be voted again.
+#[test]
+fn an_aborted_vote_leaves_nothing(rt: HostRuntime) -> Result<(), Fail> {
+    let alloc = rt.alloc();
+    let mut store = new_store(alloc)?;
+    let dropped = Row {
+        place: 1,
+        description: b"",
+        changes: &[(9, Put::Bytes(b"x"))],
+    };
+    vote_and_abort(alloc, &mut store, dropped)?;
+    assert_eq!(rt; numbers(&store), (0, 0, 0, 1, 1));
+    let row = Row {
+        place: 1,
+        description: b"",
+        changes: &[(2, Put::Bytes(b"y")), (1, Put::Absent)],
+    };
+    commit_through(alloc, &mut store, row)?;
+    assert_eq!(rt; numbers(&store), (1, 2, 0, 3, 2));
+    for (oid, serial) in [(1, T0 + 1), (9, 0)] {
+        assert_eq!(rt; store.serial_of(Oid(oid)), Tid(serial), "of {oid}");
+    }
+    Ok(())
+}

@@ -1,0 +1,40 @@
+use Rattle.std.proofs.Common.{sym, ◌∙◌, ap, arith}
+use Rattle.pickle_value.specs.Parts.{items_in}
+use Rattle.pickle_value.proofs.Heights.{byte_measured, item_higher, item_same, node_built, settled_more, open_later, open_parts, round_deep, item_has}
+use Rattle.pickle_value.proofs.depth.+measuring.Goals as goal
+use Rattle.pickle_value.proofs.depth.+measuring.Goals.{measure_items-in-Byte, measure_items-in-Item+else-levels-eq0+in_ok-measured-in-Item+then-measured-height, measure_items-in-Item+else-levels-eq0+in_ok-measured-in-Item+else-measured-height}
+
+pub measure_items-loop-part-preserved : goal.measure_items-loop-part-preserved
+measure_items-loop-part-preserved t c =
+    let i = c.loop-part.invariant in
+    elim c.match-part.branch [
+      | measure_items-in-Byte w ↦ rw (w.heights-is, w.height-is, w.begun-is) (record { all = byte_measured _ _ _ _ _ _ _ _ _ c.loop-part-test.true w.in-Byte.is i.all; settled = i.settled })
+      | measure_items-in-Item+else-levels-eq0+in_ok-measured-in-Item+then-measured-height w ↦
+          rw (w.heights-is, w.height-is, w.begun-is) (record {
+            all = item_higher _ _ _ _ _ _ _ _ _ _ _ c.loop-part-test.true w.in-Item.is (let none = w.if-levels-eq0.false in omega (arith, none)) i.all w.in_ok-measured-in-Item.ensures.ok w.if-measured-height.true;
+            settled = settled_more _ _ _ _ _ i.settled w.in_ok-measured-in-Item.ensures.settled w.in_ok-measured-in-Item.ensures.ok.kept;
+          })
+      | measure_items-in-Item+else-levels-eq0+in_ok-measured-in-Item+else-measured-height w ↦
+          rw (w.heights-is, w.height-is, w.begun-is) (record {
+            all = item_same _ _ _ _ _ _ _ _ _ _ _ c.loop-part-test.true w.in-Item.is (let none = w.if-levels-eq0.false in omega (arith, none)) i.all w.in_ok-measured-in-Item.ensures.ok w.if-measured-height.false;
+            settled = settled_more _ _ _ _ _ i.settled w.in_ok-measured-in-Item.ensures.settled w.in_ok-measured-in-Item.ensures.ok.kept;
+          })
+    ]
+
+pub measure_new-returns-clause-ok : goal.measure_new-returns-clause-ok
+measure_new-returns-clause-ok t c =
+    node_built _ _ _ _ _ _ _ _ c.requires.unknown (ap items_in (c.as_slice.ensures ∙ c.in_ok-parts.ensures)) c.in_ok-heights.ensures c.in_ok-measured.ensures.ok
+
+pub measure-returns-in-Some-get-clause-err : goal.measure-returns-in-Some-get-clause-err
+measure-returns-in-Some-get-clause-err t c =
+    λ e. round_deep c.args.nodes.now c.args.begun c.args.heights c.args.node _ c.args.levels c.requires.way (sym c.get-in-None.ensures ∙ c.in-Some-get.is) (sym c.get.ensures ∙ c.in-None.is)
+
+pub measure_items-measure-requires : goal.measure_items-measure-requires
+measure_items-measure-requires t c =
+    let none = c.if-levels-eq0.false in
+    let i = c.loop-part.invariant in
+    (omega (arith, none), (i.all.measured, open_later c.args.nodes.now c.args.begun c.loop-part.begun c.args.heights c.loop-part.heights c.in-Item.item (c.requires.way c.in-Item.item (item_has c.args.parts.now c.loop-part.part-index _ c.in-Item.item c.loop-part-test.true c.in-Item.is)) i.settled i.all.kept))
+
+pub measure_new-measure_items-requires : goal.measure_new-measure_items-requires
+measure_new-measure_items-requires t c =
+    (omega arith, (c.requires.measured, open_parts c.args.nodes.now c.args.begun c.in_ok-begun.begun c.args.heights c.args.node 0 (items_in c.as_slice.result.now) c.requires.way c.in_ok-begun.ensures (ap items_in (c.as_slice.ensures ∙ c.in_ok-parts.ensures))))

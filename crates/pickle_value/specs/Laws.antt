@@ -1,0 +1,34 @@
+-- Laws of writing.
+use Rattle.std.specs.Prelude.{ℕ, ◌+◌, ◌≤◌, ◌<◌, ◌≡◌, true, List, length, Ok, Err}
+use Rattle.pickle_value.specs.declared.error.PickleError.TheVariants.{TooLarge}
+use Rattle.pickle_value.specs.declared.depth.TheConstants.{WALK_LIMIT}
+use Rattle.pickle_value.specs.declared.reading.TheConstants.{NODE_LIMIT}
+use Rattle.pickle_value.specs.declared.node.Node.{Node}
+use Rattle.pickle_value.specs.Graph.{Graph, IsGraph}
+use Rattle.pickle_value.specs.Reading.{graph_at}
+use Rattle.pickle_value.specs.Same.{IsSame}
+use Rattle.pickle_value.specs.Spelling.{root_piece, pickle_text}
+use Rattle.pickle_value.specs.Walks.{IsCyclic, has_walk}
+
+-- the text reads, to its end, as the same graph
+pub record ReadsSame (g : Graph) (text : List ℕ) : Type 0 where
+  pub copy : Graph
+  pub reads : graph_at NODE_LIMIT 0 text ≡ Ok (copy, length text)
+  pub same : IsSame g copy
+
+-- the text is refused at some place, as it makes too many nodes
+pub record ReadsTooLarge (text : List ℕ) : Type 0 where
+  pub place : ℕ
+  pub refused : graph_at NODE_LIMIT 0 text ≡ Err (TooLarge place)
+
+-- what is written reads back as the same graph, where it makes no more nodes than the limit; else as too large
+pub record ReadsBack (g : Graph) (text : List ℕ) : Type 0 where
+  pub within : (root_piece g.nodes g.root).made ≤ NODE_LIMIT → ReadsSame g text
+  pub beyond : NODE_LIMIT < (root_piece g.nodes g.root).made → ReadsTooLarge text
+
+abbrev pub WrittenReadsBack : Type 0
+WrittenReadsBack = (g : Graph) (text : List ℕ) → IsGraph g.nodes g.root → pickle_text g ≡ Ok text → ReadsBack g text
+
+-- in a cyclic graph a walk of more edges than the limit starts at the root
+abbrev pub CyclicIsTooDeep : Type 0
+CyclicIsTooDeep = (ns : List Node) (root : ℕ) → IsCyclic ns root → has_walk (WALK_LIMIT + 1) ns root ≡ true

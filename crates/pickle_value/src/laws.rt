@@ -1,0 +1,20 @@
+//! Laws of writing. A law is the contract of a function that does nothing.
+
+ghost use Rattle.pickle_value.specs.Laws.{WrittenReadsBack, CyclicIsTooDeep};
+
+use pickle_ops::spelled_tokens_are_read;
+
+/// In a cyclic graph a walk of more than [`WALK_LIMIT`](crate::WALK_LIMIT) edges starts at the root, so
+/// none is ever written.
+pub fn cyclic_graphs_are_too_deep()
+    ensures { CyclicIsTooDeep }
+{}
+
+/// What is written reads back, to its end, as the same graph up to the numbers of nodes, where its text
+/// makes at most [`NODE_LIMIT`](crate::NODE_LIMIT) nodes; leaves and empty tuples that were shared stand
+/// apart in it. Else it reads as `TooLarge`, since a shared leaf is written once for each edge to it.
+pub fn written_pickles_read_back()
+    ensures { WrittenReadsBack }
+{
+    spelled_tokens_are_read();
+}

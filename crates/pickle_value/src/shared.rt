@@ -1,0 +1,80 @@
+//! Which nodes more than one edge leads to.
+
+ghost use Rattle.std.specs.Prelude.{◌≡◌, [], ◌∷◌, reverse, IfOk};
+ghost use Rattle.pickle_value.specs.Parts.{items_in};
+ghost use Rattle.pickle_value.specs.Numbers.{counted, all_counted, known_ends};
+ghost use Rattle.pickle_value.specs.Numbers;
+
+use crate::node::Node;
+use crate::node_map::NodeMap;
+use crate::parts::{Part, parts_at};
+use std::alloc::{AllocError, Global};
+use zb_ids::ListOf;
+
+/// Counts one more edge to a node. Beyond two none is counted.
+fn count(counts: NodeMap, node: u32) -> Result<NodeMap, AllocError>
+    ensures { IfOk result (λ more. more ≡ counted node counts) }
+{
+    match counts.get(node) {
+        None => counts.with(node, 1),
+        Some(number) => {
+            if number < 2 {
+                return counts.with(node, 2);
+            }
+            Ok(counts)
+        }
+    }
+}
+
+/// Counts the edges to the items among parts.
+fn count_items(mut counts: NodeMap, parts: &[Part]) -> Result<NodeMap, AllocError>
+    ensures { IfOk result (λ more. more ≡ all_counted (items_in parts.now) counts) }
+{
+    for part in parts {
+        match part {
+            Part::Byte(_) => {}
+            Part::Item(item) => counts = count(counts, *item)?,
+        }
+    }
+    Ok(counts)
+}
+
+/// Counts the edges from these nodes.
+#[tactic(auto, using(crate::proofs::Counts::count_step))]
+fn count_all(
+    alloc: Global,
+    mut counts: NodeMap,
+    nodes: &ListOf<Node>,
+    from: &[(u32, u64)],
+) -> Result<NodeMap, AllocError>
+    ensures { IfOk result (λ more. more ≡ all_counted (known_ends nodes.now from.now) counts) }
+{
+    for pair in from {
+        let parts = parts_at(alloc, nodes, pair.0)?;
+        counts = count_items(counts, parts.as_slice())?;
+    }
+    Ok(counts)
+}
+
+/// How many edges lead from these nodes to each, and one more to the root. Beyond two none is counted.
+pub(crate) fn count_edges(
+    alloc: Global,
+    nodes: &ListOf<Node>,
+    reached: &NodeMap,
+    root: u32,
+) -> Result<NodeMap, AllocError>
+    ensures { IfOk result (λ counts. counts ≡ all_counted (root ∷ known_ends nodes.now (reverse reached.now)) []) }
+{
+    let counts = count(NodeMap::new(alloc), root)?;
+    count_all(alloc, counts, nodes, reached.pairs())
+}
+
+/// Whether more than one edge was counted to a node.
+pub(crate) fn is_many(counts: &NodeMap, node: u32) -> bool
+    ensures { result ≡ Numbers.is_many counts.now node }
+{
+    match counts.get(node) {
+        None => false,
+        Some(number) => number > 1,
+    }
+}

@@ -1,0 +1,216 @@
+//! Writing graphs.
+
+ghost use Rattle.std.specs.Prelude.{◌≡◌, ◌<◌, ◌++◌, [], ◌∷◌, length, slice_get, IfOk};
+ghost use Rattle.pickle_value.specs.Numbers.{is_many};
+ghost use Rattle.pickle_value.specs.Spelling.{get_text, place_of, parts_piece, piece_of, spelling_of, pickle_text, Writes};
+ghost use Rattle.pickle_value.specs.Writing.{behind, after_put, held_at};
+
+use crate::depth::{WALK_LIMIT, measure_from};
+use crate::error::WriteError;
+use crate::leaf_text::{write_leaf, write_numbered};
+use crate::node::Node;
+use crate::node_map::NodeMap;
+use crate::parts::{Part, is_held, parts_at};
+use crate::pickle::Pickle;
+use crate::shared::{count_edges, is_many};
+use std::alloc::{AllocError, Global};
+use std::marker::Model;
+use zb_ids::{ListOf, Text8};
+
+/// The nodes that were put, each with its number. Contracts see the nodes, the newest first.
+#[derive(Drop)]
+pub(crate) struct Puts {
+    numbers: NodeMap,
+}
+
+impl Model for Puts {
+    ghost use Rattle.std.specs.Prelude.{List, ℕ, ◌≡◌};
+    ghost use Rattle.pickle_value.specs.Numbers.{numbered, nodes_of};
+
+    ghost Value = { List ℕ };
+
+    ghost view = { λ puts. nodes_of puts.numbers };
+
+    ghost invariant = { λ puts. puts.numbers ≡ numbered (nodes_of puts.numbers) };
+}
+
+impl Puts {
+    /// No puts.
+    fn new(alloc: Global) -> Puts
+        ensures { result ≡ [] }
+    {
+        Puts {
+            numbers: NodeMap::new(alloc),
+        }
+    }
+
+    /// How many nodes were put.
+    #[tactic(auto, using(crate::proofs::Pieces::nodes_length))]
+    fn len(&self) -> u64
+        ensures { result ≡ length self.now }
+    {
+        self.numbers.len() as u64
+    }
+
+    /// The number under which a node was put.
+    #[tactic(auto, using(crate::proofs::Pieces::numbered_place))]
+    fn number(&self, node: u32) -> Option<u64>
+        ensures { result ≡ place_of node self.now }
+    {
+        self.numbers.get(node)
+    }
+
+    /// The puts with one more.
+    #[tactic(auto, using(crate::proofs::Pieces::nodes_length))]
+    fn with(self, node: u32) -> Result<Puts, AllocError>
+        ensures { IfOk result (λ more. more ≡ node ∷ self) }
+    {
+        let Puts { numbers } = self;
+        let number = numbers.len() as u64;
+        Ok(Puts {
+            numbers: numbers.with(node, number)?,
+        })
+    }
+}
+
+/// What is written so far, and which nodes were put.
+#[derive(Drop)]
+pub(crate) struct Writing {
+    pub text: Text8,
+    pub puts: Puts,
+}
+
+/// Writes a get of a node that was put under a number.
+fn write_get(writing: Writing, number: u64) -> Result<Writing, AllocError>
+    ensures { IfOk result (λ all. all ≡ record writing { text = writing.text ++ get_text number }) }
+{
+    let Writing { text, puts } = writing;
+    let text = write_numbered(text, 0x68, 0x6a, number)?;
+    Ok(Writing { text, puts })
+}
+
+/// Writes a put of a node, if it is shared.
+fn write_put(writing: Writing, node: u32, shared: bool) -> Result<Writing, AllocError>
+    ensures { IfOk result (λ all. all ≡ after_put shared node writing) }
+{
+    if !shared {
+        return Ok(writing);
+    }
+    let Writing { text, puts } = writing;
+    let text = write_numbered(text, 0x71, 0x72, puts.len())?;
+    let puts = puts.with(node)?;
+    Ok(Writing { text, puts })
+}
+
+/// Writes parts, one behind the other.
+#[cycle(writing)]
+fn write_parts(
+    alloc: Global,
+    mut writing: Writing,
+    nodes: &ListOf<Node>,
+    counts: &NodeMap,
+    parts: &[Part],
+    levels: u32,
+) -> Result<Writing, AllocError>
+    ensures { IfOk result (λ all. all ≡ behind writing (parts_piece (piece_of levels nodes.now (is_many counts.now)) parts.now writing.puts)) }
+{
+    for part in parts {
+        match part {
+            Part::Byte(byte) => writing.text.push(*byte)?,
+            Part::Item(item) => {
+                writing = write_node(alloc, writing, nodes, counts, *item, levels)?;
+            }
+        }
+    }
+    Ok(writing)
+}
+
+/// Writes a node with items: a get where it was put, else its text, and a put where it is shared.
+#[cycle(writing)]
+fn write_held(
+    alloc: Global,
+    writing: Writing,
+    nodes: &ListOf<Node>,
+    counts: &NodeMap,
+    node: u32,
+    levels: u32,
+) -> Result<Writing, AllocError>
+    ensures { IfOk result (λ all. all ≡ behind writing (held_at levels nodes.now (is_many counts.now) node writing.puts)) }
+{
+    match writing.puts.number(node) {
+        Some(number) => write_get(writing, number),
+        None => {
+            let parts = parts_at(alloc, nodes, node)?;
+            let all = write_parts(alloc, writing, nodes, counts, parts.as_slice(), levels)?;
+            write_put(all, node, is_many(counts, node))
+        }
+    }
+}
+
+/// Writes a node from which each walk has fewer edges than there are levels.
+#[cycle(writing)]
+#[tactic(auto, unfolding(crate::specs::Spelling::piece_of))]
+fn write_node(
+    alloc: Global,
+    writing: Writing,
+    nodes: &ListOf<Node>,
+    counts: &NodeMap,
+    node: u32,
+    levels: u32,
+) -> Result<Writing, AllocError>
+    ensures { IfOk result (λ all. all ≡ behind writing (piece_of levels nodes.now (is_many counts.now) node writing.puts)) }
+{
+    if levels == 0 {
+        return Ok(writing);
+    }
+    match nodes.get(node as usize) {
+        None => Ok(writing),
+        Some(found) => {
+            if is_held(found) {
+                return write_held(alloc, writing, nodes, counts, node, levels - 1);
+            }
+            let Writing { text, puts } = writing;
+            let text = write_leaf(text, found)?;
+            Ok(Writing { text, puts })
+        }
+    }
+}
+
+/// The spelling of a node: what [`write_pickle`] writes for it as the root, without PROTO and STOP.
+///
+/// `TooDeep` is answered exactly where a walk of more than [`WALK_LIMIT`] edges starts at the node. The
+/// time that it takes grows with the edges that the node reaches, not with the graph.
+#[tactic(auto, using(crate::proofs::Pieces::spelled_ok, crate::proofs::Pieces::spelled_deep))]
+pub fn spelling(alloc: Global, pickle: &Pickle, node: u32) -> Result<Text8, WriteError>
+    requires { node < length pickle.now.nodes }
+    ensures text { Writes result (spelling_of pickle.now.nodes node) }
+{
+    let nodes = pickle.nodes();
+    let reached = measure_from(alloc, nodes, node)?;
+    let counts = count_edges(alloc, nodes, &reached, node)?;
+    let empty = Writing {
+        text: Text8::new(alloc),
+        puts: Puts::new(alloc),
+    };
+    let writing = write_node(alloc, empty, nodes, &counts, node, WALK_LIMIT + 1)?;
+    Ok(writing.text)
+}
+
+/// The text of a graph: PROTO 3, the text of the root, and STOP. Reading it gives the same graph.
+///
+/// A node with items to which more than one edge leads is put in the memo, behind its text, and stands
+/// as a get at each later place; the root counts as having one edge more, and only nodes that the root
+/// reaches count. Leaves and empty tuples are written once for each edge. Numbers stand in their shortest
+/// form.
+///
+/// `TooDeep` is answered exactly where a walk of more than [`WALK_LIMIT`] edges starts at the root, as in
+/// each cyclic graph. Want of memory answers `Memory`.
+pub fn write_pickle(alloc: Global, pickle: &Pickle) -> Result<Text8, WriteError>
+    ensures text { Writes result (pickle_text pickle.now) }
+{
+    let spelled = spelling(alloc, pickle, pickle.root())?;
+    let mut text = Text8::from_slice(alloc, &[0x80, 3])?;
+    text.extend_from_slice(spelled.as_slice())?;
+    text.push(0x2e)?;
+    Ok(text)
+}

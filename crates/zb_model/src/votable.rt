@@ -1,0 +1,81 @@
+//! Whether a new transaction may be voted over a plain list. Each call goes over the whole list.
+
+ghost use Rattle.std.specs.Prelude.{◌↔◌, ◌≡◌, IsTrue, All, map, nat_eq, false, true};
+ghost use Rattle.std.specs.List.{IsDistinct};
+ghost use Rattle.zb_model.specs.Voting.{IsSized, IsSound, IsVotable};
+
+use crate::data::{Content, Transaction};
+use crate::new_transaction::{NewChange, NewContent, NewTransaction};
+use crate::plain::{content_at, newest_of};
+use zb_ids::Oid;
+
+/// Whether the number has one after it, and each text is at most 65,535 bytes long.
+fn is_sized(new: &NewTransaction) -> bool
+    ensures { IsTrue result ↔ IsSized new.now }
+{
+    new.tid.0 < u64::MAX
+        && new.user.len() <= 65535
+        && new.description.len() <= 65535
+        && new.extension.len() <= 65535
+}
+
+/// Whether none of these changes is of the object.
+fn is_unnamed(changes: &[NewChange], oid: Oid) -> bool
+    ensures { IsTrue result ↔ All (λ c. nat_eq oid c.oid ≡ false) changes.now }
+{
+    for change in changes {
+        if oid == change.oid {
+            return false;
+        }
+    }
+    true
+}
+
+/// Whether no object is named twice.
+fn are_distinct(changes: &[NewChange]) -> bool
+    ensures { IsTrue result ↔ IsDistinct nat_eq (map (λ c. c.oid) changes.now) }
+{
+    for place in 0..changes.len() {
+        if !is_unnamed(&changes[place + 1..], changes[place].oid) {
+            return false;
+        }
+    }
+    true
+}
+
+/// Whether bytes aren't empty, and an earlier content is a record that the object had.
+fn is_sound(list: &[Transaction], oid: Oid, content: &NewContent) -> bool
+    ensures { IsTrue result ↔ IsSound list.now oid content.now }
+{
+    match content {
+        NewContent::Bytes(bytes) => !bytes.is_empty(),
+        NewContent::Absent => true,
+        NewContent::AsOf(serial) => match content_at(list, oid, *serial) {
+            Some(Content::Held(_)) => true,
+            Some(Content::Absent) => false,
+            None => false,
+        },
+    }
+}
+
+/// Whether the content of each change is sound.
+fn are_sound(list: &[Transaction], changes: &[NewChange]) -> bool
+    ensures { IsTrue result ↔ All (λ c. IsSound list.now c.oid c.content) changes.now }
+{
+    for change in changes {
+        if !is_sound(list, change.oid, &change.content) {
+            return false;
+        }
+    }
+    true
+}
+
+/// Whether a new transaction may be voted over a list of transactions.
+pub fn is_votable(list: &[Transaction], new: &NewTransaction) -> bool
+    ensures { IsTrue result ↔ (IsSized new.now × IsVotable list.now new.now) }
+{
+    is_sized(new)
+        && newest_of(list) < new.tid
+        && are_distinct(new.changes.as_slice())
+        && are_sound(list, new.changes.as_slice())
+}
