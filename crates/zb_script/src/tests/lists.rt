@@ -5,7 +5,10 @@ use zb_model::{LogLine, Revision};
 /// as Unicode gives them.
 const LITERALS: [(&[u8], &[u8]); 14] = [
     (b"", b"\"\""),
-    (b"initial database creation", b"\"initial database creation\""),
+    (
+        b"initial database creation",
+        b"\"initial database creation\"",
+    ),
     (b"say \"yes\"", b"\"say \\\"yes\\\"\""),
     (b"a\\b", b"\"a\\\\b\""),
     (b" ~", b"\" ~\""),
@@ -41,18 +44,12 @@ fn texts_have_literals(rt: HostRuntime) -> Result<(), Fail> {
 fn revisions_have_sizes(rt: HostRuntime) -> Result<(), Fail> {
     let alloc = rt.alloc();
     let rows: [(Option<u64>, &[u8]); 3] = [
-        (
-            Some(3),
-            b"03f58e0000000001 3 \"jim\" \"a change\"\n",
-        ),
+        (Some(3), b"03f58e0000000001 3 \"jim\" \"a change\"\n"),
         (
             Some(18_446_744_073_709_551_615),
             b"03f58e0000000001 18446744073709551615 \"jim\" \"a change\"\n",
         ),
-        (
-            None,
-            b"03f58e0000000001 absent \"jim\" \"a change\"\n",
-        ),
+        (None, b"03f58e0000000001 absent \"jim\" \"a change\"\n"),
     ];
     for (size, expected) in rows {
         let line = Revision {
