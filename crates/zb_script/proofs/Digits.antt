@@ -1,5 +1,5 @@
 -- What escapes a character is ASCII.
-use Rattle.std.proofs.Common.{◌≡◌, ℕ, zero, suc, ◌+◌, ◌<◌, ◌%◌, ◌/◌, ◌^◌, List, [], ◌∷◌, Bool, true, false, cond, nat_lt, ◌++◌, append_assoc, ap, sym, ◌∙◌, subst, arith, Fits, w8}
+use Rattle.std.proofs.Common.{◌≡◌, ℕ, ◌+◌, ◌<◌, ◌%◌, ◌/◌, List, [], ◌∷◌, Bool, true, false, cond, nat_lt, ◌++◌, append_assoc, ap, sym, ◌∙◌, subst, arith, Fits, w8}
 use Rattle.std.specs.Char.{digit_char}
 use Rattle.std.specs.Char.Escape.{escape_unicode, hex_digit_at}
 

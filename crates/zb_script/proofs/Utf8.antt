@@ -1,5 +1,5 @@
 -- Which literal bytes have.
-use Rattle.std.proofs.Common.{◌≡◌, List, ℕ, Bool, true, false, cond, refl, sym, subst}
+use Rattle.std.proofs.Common.{◌≡◌, List, ℕ, Bool, true, false, cond, refl}
 use Rattle.std.specs.Str.{IsUtf8, is_utf8}
 use Rattle.std.proofs.lemmas.Str.{IsUtf8-from_is_utf8, is_utf8-from_IsUtf8}
 use Rattle.zb_script.specs.Literals.{bytes_text, quoted_text, text_literal}
