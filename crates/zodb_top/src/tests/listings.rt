@@ -219,24 +219,27 @@ fn each_call_fails_in_turn(rt: HostRuntime) -> Result<(), Fail> {
         let first = list_failing(alloc, words, file.as_slice(), &[1], &[])?;
         assert_eq!(rt; first.status, 5);
         assert_eq!(rt; first.written.as_slice(), b"store fault\n".as_slice());
-        let mut seen = [0, 0, 0];
+        let mut last = 0;
+        let mut refused = false;
         for number in 1..40u64 {
             let listed = list_failing(alloc, words, file.as_slice(), &[number], &[])?;
             let kind = if listed.status == 5 {
                 assert_eq!(rt; listed.written.as_slice(), b"store fault\n".as_slice());
-                0
+                0u8
             } else if listed.written.as_slice() == b"refused ReadFault\n".as_slice() {
+                refused = true;
                 1
             } else {
                 assert_eq!(rt; listed.written.as_slice(), whole.written.as_slice());
                 2
             };
             assert_eq!(rt; listed.status, if kind == 0 { 5 } else { 0 });
-            assert!(rt; seen[kind + 1..].iter().all(|count| *count == 0));
-            seen[kind] += 1;
+            assert!(rt; last <= kind);
+            last = kind;
             assert_eq!(rt; listed.main.as_slice(), file.as_slice());
         }
-        assert!(rt; seen.iter().all(|count| *count > 0));
+        assert!(rt; refused);
+        assert_eq!(rt; last, 2);
     }
     Ok(())
 }
