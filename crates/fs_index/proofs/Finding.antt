@@ -1,12 +1,13 @@
 -- Binary search in places that rise.
-use Rattle.std.proofs.Common.{◌≡◌, ℕ, zero, suc, ◌-◌, ◌<◌, ◌≤◌, Bool, true, false, eqb, ltb, List, [], ◌∷◌, length, get_or, take, filter, Option, Some, None, refl, inl, inr, sym, ap, ◌∙◌, arith}
-use Rattle.std.specs.Prelude.{◌||◌, slice_get}
+use Rattle.std.proofs.Common.{◌≡◌, ℕ, zero, suc, ◌-◌, ◌<◌, ◌≤◌, Bool, true, false, cond, eqb, ltb, List, [], ◌∷◌, length, get_or, take, filter, Option, Some, None, refl, inl, inr, sym, ap, ◌∙◌, arith}
+use Rattle.std.specs.Prelude.{◌||◌, not, slice_get}
 use Rattle.std.specs.List.{list_any, last_or}
 use Rattle.std.specs.List.Sorted.{IsPartitionPoint, IsNonDecreasingBy}
-use Rattle.std.proofs.lemmas.Bool.{cases_lt, eqb-false, ltb-true, ne_eqb, ltb-false}
+use Rattle.std.proofs.lemmas.Bool.{cases_lt, eqb-false, ltb-true, ne_eqb, ltb-false, le-leb, lt-leb}
 use Rattle.std.proofs.lemmas.List.{get_or_default}
 use Rattle.fs_records.specs.declared.place.Place.{Place}
 use Rattle.fs_records.specs.Places.{last_below, is_below}
+use Rattle.fs_index.specs.Found.{is_from, first_from}
 
 filter_front : {X : Type 0} (p : X → Bool) (xs : List X) (n : ℕ) → ((k : ℕ) (d : X) → k < n → p (get_or xs k d) ≡ true) → ((k : ℕ) (d : X) → n ≤ k → k < length xs → p (get_or xs k d) ≡ false) → n ≤ length xs → filter p xs ≡ take n xs
 filter_front p [] zero front behind h = refl
@@ -23,21 +24,53 @@ last_take o [] n d h = absurd (omega arith)
 last_take o (x ∷ xs) zero d h = refl
 last_take o (x ∷ xs) (suc n) d h = last_take (Some x) xs n d (omega arith)
 
-abbrev Parts : ℕ → List Place → ℕ → Type 0
-Parts front xs n = IsPartitionPoint (λ p. is_below front p ≡ true) (λ p. is_below front p ≡ false) xs n
+-- those below the front are the first ones
+pub filtered : (front : ℕ) (xs : List Place) (n : ℕ) → n ≤ length xs → IsPartitionPoint (λ p. is_below front p ≡ true) (λ p. is_below front p ≡ false) xs n → take n xs ≡ filter (is_below front) xs
+filtered front xs n h parts = sym (filter_front (is_below front) xs n (λ k d l. parts.0 k d (omega arith) l) (λ k d m l. parts.1 k d m l) h)
 
-filtered : (front : ℕ) (xs : List Place) (n : ℕ) → n ≤ length xs → Parts front xs n → filter (is_below front) xs ≡ take n xs
-filtered front xs n h parts = filter_front (is_below front) xs n (λ k d l. parts.0 k d (omega arith) l) (λ k d m l. parts.1 k d m l) h
-
-pub none_below : (front : ℕ) (xs : List Place) (n : ℕ) → n ≤ length xs → Parts front xs n → n ≡ 0 → None ≡ last_below front xs
+pub none_below : (front : ℕ) (xs : List Place) (n : ℕ) → take n xs ≡ filter (is_below front) xs → n ≡ 0 → None ≡ last_below front xs
 unfolding last_below
-none_below front xs n h parts zero_is = sym (ap (last_or None) (filtered front xs n h parts ∙ ap (λ k. take k xs) zero_is))
+none_below front xs n first zero_is = ap (λ k. last_or None (take k xs)) (sym zero_is) ∙ ap (last_or None) first
 
-pub one_below : (front : ℕ) (xs : List Place) (n : ℕ) (d : Place) → n ≤ length xs → Parts front xs n → 0 < n → Some (get_or xs (n - 1) d) ≡ last_below front xs
+pub one_below : (front : ℕ) (xs : List Place) (n : ℕ) (d : Place) → n ≤ length xs → take n xs ≡ filter (is_below front) xs → 0 < n → Some (get_or xs (n - 1) d) ≡ last_below front xs
 unfolding last_below
-one_below front xs n d h parts some =
+one_below front xs n d h first some =
     let n_is : n ≡ suc (n - 1) = omega arith in
-    sym (ap (last_or None) (filtered front xs n h parts ∙ ap (λ k. take k xs) n_is) ∙ last_take None xs (n - 1) d (omega arith))
+    sym (last_take None xs (n - 1) d (omega arith)) ∙ ap (λ k. last_or None (take k xs)) (sym n_is) ∙ ap (last_or None) first
+
+-- what is left by a filter passes it
+first_passes : {X : Type 0} (p : X → Bool) (x : X) (ys xs : List X) → x ∷ ys ≡ filter p xs → p x ≡ true
+first_passes p x ys [] e = absurd cc
+first_passes p x ys (z ∷ zs) e = by_cases (p z) refl e (first_passes p x ys zs)
+  where
+    by_cases : (b : Bool) → p z ≡ b → x ∷ ys ≡ cond b (z ∷ filter p zs) (filter p zs) → (x ∷ ys ≡ filter p zs → p x ≡ true) → p x ≡ true
+    by_cases true passes is rest = let same : x ≡ z = cc in ap p same ∙ passes
+    by_cases false fails is rest = rest is
+
+-- one that isn't below the front isn't below it
+from_is : (front : ℕ) (p : Place) (b : Bool) → is_below front p ≡ b → is_from front p ≡ not b
+from_is front p true below = lt-leb front p.serial (ltb-true p.serial front below)
+from_is front p false behind = le-leb front p.serial (ltb-false p.serial front behind)
+
+-- the first one behind those
+pub first_behind : (front : ℕ) (xs : List Place) (n : ℕ) → take n xs ≡ filter (is_below front) xs → slice_get xs n ≡ first_from front xs
+first_behind front [] zero first = refl
+first_behind front [] (suc n) first = refl
+first_behind front (x ∷ xs) zero first = by_cases (is_below front x) refl first
+  where
+    by_cases : (b : Bool) → is_below front x ≡ b → [] ≡ cond b (x ∷ filter (is_below front) xs) (filter (is_below front) xs) → Some x ≡ cond (is_from front x) (Some x) (first_from front xs)
+    by_cases true below is = absurd cc
+    by_cases false behind is = sym (ap (λ b. cond b (Some x) (first_from front xs)) (from_is front x false behind))
+first_behind front (x ∷ xs) (suc n) first = by_cases (is_below front x) refl first (first_behind front xs n)
+  where
+    by_cases : (b : Bool) → is_below front x ≡ b → x ∷ take n xs ≡ cond b (x ∷ filter (is_below front) xs) (filter (is_below front) xs) → (take n xs ≡ filter (is_below front) xs → slice_get xs n ≡ first_from front xs)
+        → slice_get xs n ≡ cond (is_from front x) (Some x) (first_from front xs)
+    by_cases true below is behind =
+        let rest : take n xs ≡ filter (is_below front) xs = cc in
+        behind rest ∙ sym (ap (λ b. cond b (Some x) (first_from front xs)) (from_is front x true below))
+    by_cases false behind is rest =
+        let passes : is_below front x ≡ true = first_passes (is_below front) x (take n xs) xs is in
+        absurd cc
 
 -- no place is `at`
 none_at : (at : ℕ) (xs : List Place) → ((k : ℕ) (d : Place) → k < length xs → eqb (get_or xs k d).at at ≡ false) → list_any (λ p. eqb p.at at) xs ≡ false

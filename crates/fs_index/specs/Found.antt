@@ -1,16 +1,20 @@
 -- What an index of a file that was read gives. Source: own.
-use Rattle.std.specs.Prelude.{◌≡◌, ℕ, List, Option, None, filter, option_map}
-use Rattle.std.specs.List.{last_or}
+use Rattle.std.specs.Prelude.{◌≡◌, ℕ, Bool, nat_le, List, Option, None, filter, option_map}
+use Rattle.std.specs.List.{last_or, find}
+use Rattle.fs_records.specs.declared.place.Place.{Place}
 use Rattle.fs_records.specs.Blocks.{Known, Reached, is_known}
-use Rattle.fs_records.specs.Places.{Kept, places_in, knows, is_of, place_of, last_below, record_below, IsIndexOf}
+use Rattle.fs_records.specs.Places.{Kept, places_in, knows, is_of, place_of, IsIndexOf}
+
+abbrev pub is_from : ℕ → Place → Bool
+is_from front p = nat_le front p.serial
+
+-- the first place whose serial isn't below the front
+abbrev pub first_from : ℕ → List Place → Option Place
+first_from front places = find (is_from front) places
 
 -- the object's last record
 abbrev pub last_record : ℕ → List Known → Option Known
 last_record oid known = last_or None (filter (is_of oid) known)
-
--- the last place that is kept below a front is that of the object's last record below it
-abbrev pub BeforeIsTheRecordBelow : Type 0
-BeforeIsTheRecordBelow = (s : Reached) (kept : Kept) (oid front : ℕ) → IsIndexOf s kept → last_below front (places_in kept.entries oid) ≡ option_map place_of (record_below oid front s.known)
 
 -- the last place that is kept is that of the object's last record
 abbrev pub NewestIsTheLastRecord : Type 0

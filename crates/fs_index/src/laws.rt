@@ -1,12 +1,6 @@
 //! Laws of an index: what it gives of a file that was read.
 
-ghost use Rattle.fs_index.specs.Found.{BeforeIsTheRecordBelow, NewestIsTheLastRecord, StandsWhereARecordWasRead};
-
-/// The law that an index of what was read gives, below a front, the place of the object's last
-/// record in a transaction below that front.
-pub fn before_is_the_record_below()
-    ensures { BeforeIsTheRecordBelow }
-{}
+ghost use Rattle.fs_index.specs.Found.{NewestIsTheLastRecord, StandsWhereARecordWasRead};
 
 /// The law that an index of what was read gives, as an object's newest place, that of its last
 /// record.

@@ -4,7 +4,8 @@ ghost use Rattle.std.specs.Prelude.{All, IsTrue};
 ghost use Rattle.fs_records.specs.Places.{IsBefore};
 
 use crate::{
-    Lookup, before_is_the_record_below, newest_is_the_last_record, stands_where_a_record_was_read,
+    Lookup, any_at, count_below, first_from, last_before, last_of, newest_is_the_last_record,
+    stands_where_a_record_was_read,
 };
 use fs_records::{Index, Place};
 use std::alloc::{AllocError, Global};
@@ -88,6 +89,34 @@ fn before_is_below_the_front(rt: HostRuntime) -> Result<(), Fail> {
     Ok(())
 }
 
+// Object 1's places alone: how many are below a front, the last of those, and the first other one.
+#[test]
+fn places_are_parted_at_a_front(rt: HostRuntime) -> Result<(), Fail> {
+    let index = index_of_records(rt.alloc())?;
+    let places = index.places(Oid(1));
+    let rows = [
+        (0, 0, None, Some(place(5, 27))),
+        (5, 0, None, Some(place(5, 27))),
+        (6, 2, Some(place(5, 70)), Some(place(7, 200))),
+        (7, 2, Some(place(5, 70)), Some(place(7, 200))),
+        (8, 3, Some(place(7, 200)), Some(place(9, 400))),
+        (9, 3, Some(place(7, 200)), Some(place(9, 400))),
+        (10, 4, Some(place(9, 400)), None),
+        (u64::MAX, 4, Some(place(9, 400)), None),
+    ];
+    for (front, count, before, from) in rows {
+        assert_eq!(rt; count_below(places, Tid(front)), count, "below {front}");
+        assert_eq!(rt; last_before(places, Tid(front)), before, "before {front}");
+        assert_eq!(rt; first_from(places, Tid(front)), from, "from {front}");
+    }
+    assert_eq!(rt; last_of(places), Some(place(9, 400)));
+    assert!(rt; any_at(places, 70));
+    assert!(rt; !any_at(places, 71));
+    assert_eq!(rt; first_from(index.places(Oid(3)), Tid(0)), None);
+    assert_eq!(rt; last_of(index.places(Oid(3))), None);
+    Ok(())
+}
+
 // A record that a later one of its transaction replaces is still found at its place.
 #[test]
 fn records_are_found_at_their_places(rt: HostRuntime) -> Result<(), Fail> {
@@ -104,7 +133,6 @@ fn records_are_found_at_their_places(rt: HostRuntime) -> Result<(), Fail> {
 
 #[test]
 fn laws_are_called(_rt: HostRuntime) {
-    before_is_the_record_below();
     newest_is_the_last_record();
     stands_where_a_record_was_read();
 }

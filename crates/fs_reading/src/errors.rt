@@ -1,10 +1,12 @@
 //! Why something could not be read.
 
 ghost use Rattle.std.specs.Prelude.{◌≡◌};
+ghost use Rattle.fs_reading.specs.StoreErrors.{store_error_of};
 ghost use Rattle.fs_reading.specs.declared.errors.ReadError.TheVariants.{ReadFault, Memory};
 
 use std::alloc::{AllocError, AllocFailed};
 use thiserror::Error;
+use zb_model::StoreError;
 use zb_volume::StoreFault;
 
 /// Why something could not be read. The volume is as it was.
@@ -39,5 +41,16 @@ impl<T: Drop> From<AllocFailed<T>> for ReadError {
 
     fn from(_e: AllocFailed<T>) -> ReadError {
         ReadError::Memory
+    }
+}
+
+impl From<ReadError> for StoreError {
+    ghost from_gives = { λ e refused. refused ≡ store_error_of e };
+
+    fn from(e: ReadError) -> StoreError {
+        match e {
+            ReadError::Memory => StoreError::Memory,
+            ReadError::ReadFault => StoreError::ReadFault,
+        }
     }
 }

@@ -5,8 +5,8 @@ ghost use Rattle.std.specs.List.{AllByRecursion};
 ghost use Rattle.zb_model.specs.Lists.{history_of};
 ghost use Rattle.zb_volume.specs.Faults.{Rose};
 ghost use Rattle.fs_records.specs.Blocks.{Reached, Begins, Known};
-ghost use Rattle.fs_records.specs.Places.{IsIndexOf, place_of};
-ghost use Rattle.fs_reading.specs.Main.{main, IsIndexed};
+ghost use Rattle.fs_records.specs.Places.{IsIndexOf, place_of, places_of};
+ghost use Rattle.fs_reading.specs.Main.{main, IsIndexed, ArePlaces};
 ghost use Rattle.fs_reading.specs.Standing.{RecordStands, is_replaced, lasts, revision_at};
 ghost use Rattle.fs_reading.specs.Sources.{is_same_transaction};
 ghost use Rattle.fs_reading.specs.declared.errors.ReadError.TheVariants.{ReadFault, Memory};
@@ -121,6 +121,33 @@ fn lines_at<V: Volume>(
     Ok(lines)
 }
 
+/// Every change of an object, the newest first, by the places of its data records in what was read
+/// of the file, in the order in which they stand: the tid, the user and the description of its
+/// transaction, and how many bytes the object has from then on, or `None` where it is gone. Where
+/// one transaction has several records of the object, its change is that of the last one. It reads
+/// headers, back pointers and texts alone, never the object's bytes, and nothing that stands behind
+/// what was read; memory is that of the list. It is `ReadFault` only where a read failed, and else
+/// `Memory`. The volume is as it was.
+pub fn read_history_at<V: Volume>(
+    alloc: Global,
+    volume: &mut V,
+    places: &[Place],
+) -> Result<ListOf<Revision>, ReadError>
+    requires { V.told → ArePlaces (main (V.log volume.old)) places.now }
+    ensures lines { V.told → (reached : Reached) (oid : ℕ)
+        → Begins (main (V.log volume.old)) reached → places.now ≡ places_of oid reached.known
+        → IfOk result (λ lines. lines ≡ history_of oid reached.list) }
+    ensures same { V.log volume.new ≡ V.log volume.old }
+    ensures later { V.read_faults volume.old ≤ V.read_faults volume.new }
+    ensures fault { IsErrOf result ReadFault
+        → Rose (V.read_faults volume.old) (V.read_faults volume.new) }
+    ensures memory { IsErrOf result Memory → V.read_faults volume.new ≡ V.read_faults volume.old }
+    ensures uncounted { OnOk result (V.read_faults volume.new ≡ V.read_faults volume.old) }
+    ensures write_faults { V.write_faults volume.new ≡ V.write_faults volume.old }
+{
+    lines_at(alloc, volume, places)
+}
+
 /// Every change of an object, the newest first, for an index of what stands in the file: the tid, the
 /// user and the description of its transaction, and how many bytes the object has from then on, or
 /// `None` where it is gone. Where one transaction has several records of the object, its change is
@@ -144,5 +171,5 @@ pub fn read_history<V: Volume>(
     ensures uncounted { OnOk result (V.read_faults volume.new ≡ V.read_faults volume.old) }
     ensures write_faults { V.write_faults volume.new ≡ V.write_faults volume.old }
 {
-    lines_at(alloc, volume, index.places(oid))
+    read_history_at(alloc, volume, index.places(oid))
 }

@@ -1,4 +1,6 @@
 mod file;
+mod lookups;
+mod places;
 mod untold;
 
 use super::*;

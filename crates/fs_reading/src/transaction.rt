@@ -1,12 +1,12 @@
 //! A transaction whole.
 
-ghost use Rattle.std.specs.Prelude.{◌≡◌, ℕ, ◌+◌, ◌≤◌, ◌<◌, ◌^◌, [], List, length, map, slice_index_or, IfOk, OnOk, IsErrOf};
+ghost use Rattle.std.specs.Prelude.{◌≡◌, ℕ, ◌+◌, ◌≤◌, ◌<◌, ◌^◌, [], List, Some, length, map, slice_get, slice_index_or, IfOk, OnOk, IsErrOf};
 ghost use Rattle.zb_model.specs.declared.data.Transaction.{Transaction};
 ghost use Rattle.zb_volume.specs.Faults.{Rose};
 ghost use Rattle.fs_records.specs.Blocks.{Reached, Begins, Known, as_change};
 ghost use Rattle.fs_records.specs.Places.{IsIndexOf};
 ghost use Rattle.fs_records.specs.Rules.{payload_size};
-ghost use Rattle.fs_reading.specs.Main.{main, IsIndexed};
+ghost use Rattle.fs_reading.specs.Main.{main, IsIndexed, IsStart, IsStartOf};
 ghost use Rattle.fs_reading.specs.ChangesStand.{ChangesStand, RecordsBetween, entries_of};
 ghost use Rattle.fs_reading.specs.Standing.{TransactionStands};
 ghost use Rattle.fs_reading.specs.declared.errors.ReadError.TheVariants.{ReadFault, Memory};
@@ -23,7 +23,7 @@ use zb_model::{Change, Content, Transaction};
 use zb_volume::Volume;
 
 /// How many bytes stand behind the header of a data record.
-fn payload_size(header: &DataHeader) -> u64
+pub(crate) fn payload_size(header: &DataHeader) -> u64
     ensures { result ≡ payload_size header.now }
 {
     if header.length == 0 { 8 } else { header.length }
@@ -120,6 +120,30 @@ fn transaction_at<V: Volume>(
     })
 }
 
+/// The transaction at a place where one was read, whole: an object that it changes more than once
+/// stands where it came first, with the content of its last record there. Memory is that of the
+/// transaction. It is `ReadFault` only where a read failed, and else `Memory`. The volume is as it
+/// was.
+pub fn read_transaction_at<V: Volume>(
+    alloc: Global,
+    volume: &mut V,
+    place: Place,
+) -> Result<Transaction, ReadError>
+    requires { V.told → IsStart (main (V.log volume.old)) place }
+    ensures transaction { V.told → (reached : Reached) (number : ℕ)
+        → Begins (main (V.log volume.old)) reached → IsStartOf reached number place
+        → IfOk result (λ t. slice_get reached.list number ≡ Some t) }
+    ensures same { V.log volume.new ≡ V.log volume.old }
+    ensures later { V.read_faults volume.old ≤ V.read_faults volume.new }
+    ensures fault { IsErrOf result ReadFault
+        → Rose (V.read_faults volume.old) (V.read_faults volume.new) }
+    ensures memory { IsErrOf result Memory → V.read_faults volume.new ≡ V.read_faults volume.old }
+    ensures uncounted { OnOk result (V.read_faults volume.new ≡ V.read_faults volume.old) }
+    ensures write_faults { V.write_faults volume.new ≡ V.write_faults volume.old }
+{
+    transaction_at(alloc, volume, place)
+}
+
 /// The transaction with this number in the list, counted from 0, whole: an object that it changes
 /// more than once stands where it came first, with the content of its last record there. Memory is
 /// that of the transaction. It is `ReadFault` only where a read failed, and else `Memory`. The volume
@@ -144,5 +168,5 @@ pub fn read_transaction<V: Volume>(
     ensures write_faults { V.write_faults volume.new ≡ V.write_faults volume.old }
 {
     let places = index.transactions();
-    transaction_at(alloc, volume, places[number])
+    read_transaction_at(alloc, volume, places[number])
 }

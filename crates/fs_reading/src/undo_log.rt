@@ -6,7 +6,7 @@ ghost use Rattle.zb_model.specs.Lists.{undo_log_of};
 ghost use Rattle.zb_volume.specs.Faults.{Rose};
 ghost use Rattle.fs_records.specs.Blocks.{Reached, Begins};
 ghost use Rattle.fs_records.specs.Places.{IsIndexOf};
-ghost use Rattle.fs_reading.specs.Main.{main, IsIndexed};
+ghost use Rattle.fs_reading.specs.Main.{main, IsIndexed, AreStarts};
 ghost use Rattle.fs_reading.specs.Standing.{log_line_at, HasTexts};
 ghost use Rattle.fs_reading.specs.declared.errors.ReadError.TheVariants.{ReadFault, Memory};
 
@@ -81,6 +81,30 @@ fn lines_at<V: Volume>(
 }
 
 /// The list of the transactions that no pack has gone over, the newest first, with the tid, the user
+/// and the description of each, by the places of the transactions in what was read of the file, in
+/// the order in which they stand. It reads the headers and those two texts alone, and nothing that
+/// stands behind what was read; memory is that of the list. It is `ReadFault` only where a read
+/// failed, and else `Memory`. The volume is as it was.
+pub fn read_undo_log_at<V: Volume>(
+    alloc: Global,
+    volume: &mut V,
+    places: &[Place],
+) -> Result<ListOf<LogLine>, ReadError>
+    requires { V.told → AreStarts (main (V.log volume.old)) places.now }
+    ensures lines { V.told → (reached : Reached) → Begins (main (V.log volume.old)) reached
+        → places.now ≡ reached.starts → IfOk result (λ lines. lines ≡ undo_log_of reached.list) }
+    ensures same { V.log volume.new ≡ V.log volume.old }
+    ensures later { V.read_faults volume.old ≤ V.read_faults volume.new }
+    ensures fault { IsErrOf result ReadFault
+        → Rose (V.read_faults volume.old) (V.read_faults volume.new) }
+    ensures memory { IsErrOf result Memory → V.read_faults volume.new ≡ V.read_faults volume.old }
+    ensures uncounted { OnOk result (V.read_faults volume.new ≡ V.read_faults volume.old) }
+    ensures write_faults { V.write_faults volume.new ≡ V.write_faults volume.old }
+{
+    lines_at(alloc, volume, places)
+}
+
+/// The list of the transactions that no pack has gone over, the newest first, with the tid, the user
 /// and the description of each, for an index of what stands in the file. It reads the headers and
 /// those two texts alone, and memory is that of the list. It is `ReadFault` only where a read
 /// failed, and else `Memory`. The volume is as it was.
@@ -100,5 +124,5 @@ pub fn read_undo_log<V: Volume>(
     ensures uncounted { OnOk result (V.read_faults volume.new ≡ V.read_faults volume.old) }
     ensures write_faults { V.write_faults volume.new ≡ V.write_faults volume.old }
 {
-    lines_at(alloc, volume, index.transactions())
+    read_undo_log_at(alloc, volume, index.transactions())
 }

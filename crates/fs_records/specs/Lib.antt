@@ -11,7 +11,9 @@ pub mod Names
 pub mod NumberLaws
 pub mod Numbers
 pub mod Laws
+pub mod Listed
 pub mod Lists
+pub mod Lookups
 pub mod OpenLaws
 pub mod Places
 pub mod RecordLaws
@@ -21,3 +23,5 @@ pub mod Scan
 pub mod ScanLaws
 pub mod Unique
 pub mod WriteLaws
+pub mod StatusLaws
+pub mod Writing

@@ -1,5 +1,5 @@
 -- Where the records of each object stand, and what an index keeps of it. Source: own.
-use Rattle.std.specs.Prelude.{◌≡◌, ℕ, ◌<◌, ◌≤◌, Bool, ◌==◌, ◌&&◌, nat_lt, nat_eq, if◌then◌else◌, List, [], ◌∷◌, ◌++◌, map, filter, Option, None, unwrap_or, All}
+use Rattle.std.specs.Prelude.{◌≡◌, ℕ, ◌-◌, ◌<◌, ◌≤◌, Bool, ◌==◌, ◌&&◌, nat_lt, nat_eq, if◌then◌else◌, List, [], ◌∷◌, ◌++◌, length, take, map, filter, Option, None, unwrap_or, All}
 use Rattle.std.specs.List.{list_any, last_or}
 use Rattle.std.specs.List.Sorted.{IsNonDecreasingBy}
 use Rattle.std.specs.Map.{lookup}
@@ -42,6 +42,14 @@ AreBefore entries tid at = (oid : ℕ) → All (IsBefore tid at) (places_in entr
 -- one object has one place more, at the end, and all others are as they were
 abbrev pub Added : List (ℕ × List Place) → ℕ → Place → List (ℕ × List Place) → Type 0
 Added old oid place new = (o : ℕ) → places_in new o ≡ (if o == oid then places_in old o ++ place ∷ [] else places_in old o)
+
+-- all but the last of the items, none of none
+abbrev pub all_but_last : {A : Type 0} → List A → List A
+all_but_last xs = take (length xs - 1) xs
+
+-- the last place of one object is taken back, and all others are as they were
+abbrev pub Taken : List (ℕ × List Place) → ℕ → List (ℕ × List Place) → Type 0
+Taken old oid new = (o : ℕ) → places_in new o ≡ (if o == oid then all_but_last (places_in old o) else places_in old o)
 
 -- ---- what is looked up
 

@@ -1,7 +1,8 @@
 //! Where the records of each object stand, and where the transactions do.
 
 ghost use Rattle.std.specs.Prelude.{◌≡◌, List, [], ◌∷◌, ◌++◌, All, OnOk, OnErr};
-ghost use Rattle.fs_records.specs.Places.{places_in, Added, IsBefore, IsRising};
+ghost use Rattle.std.specs.List.{last_or};
+ghost use Rattle.fs_records.specs.Places.{places_in, Added, Taken, all_but_last, IsBefore, IsRising};
 
 use crate::place::Place;
 use indexmap::IndexMap;
@@ -47,6 +48,17 @@ fn keep(
     places.push(place)?;
     objects.insert(oid, places)?;
     Ok(())
+}
+
+/// Takes the last of an object's places off, or answers None where there is none.
+fn take_back(objects: &mut IndexMap<Oid, ListOf<Place>>, oid: Oid) -> Option<Place>
+    ensures value { result ≡ last_or None (places_in objects.old.entries oid) }
+    ensures taken { Taken objects.old.entries oid objects.new.entries }
+{
+    match objects.get_mut(&oid) {
+        None => None,
+        Some(places) => places.pop(),
+    }
 }
 
 impl Index {
@@ -102,5 +114,25 @@ impl Index {
     {
         self.transactions.push(place)?;
         Ok(())
+    }
+
+    /// Takes back the last place that is kept of an object, or answers None where there is none. It
+    /// takes no memory.
+    pub fn pop_record(&mut self, oid: Oid) -> Option<Place>
+        ensures value { result ≡ last_or None (places_in self.old.entries oid) }
+        ensures taken { Taken self.old.entries oid self.new.entries }
+        ensures transactions { self.new.transactions ≡ self.old.transactions }
+    {
+        take_back(&mut self.objects, oid)
+    }
+
+    /// Takes back the last place that is kept of a transaction, or answers None where there is none.
+    /// It takes no memory.
+    pub fn pop_transaction(&mut self) -> Option<Place>
+        ensures value { result ≡ last_or None self.old.transactions }
+        ensures taken { self.new.transactions ≡ all_but_last self.old.transactions }
+        ensures objects { self.new.entries ≡ self.old.entries }
+    {
+        self.transactions.pop()
     }
 }

@@ -1,6 +1,8 @@
 //! Laws of files. Each function does nothing: its contract is the law.
 
 ghost use Rattle.fs_records.specs.Laws.{OneList, OneReading, ListOrDamaged, ListOrNoFile, DamagedOrNoFile, OneDamage, AlwaysOne, IndexGivesBelow, ListIsDatabase, RecordsAreRevisions, StartsAreTheirs, BlockIsRead, VoteIsCut};
+ghost use Rattle.fs_records.specs.Listed.{ReadingIs, ReadingStands};
+ghost use Rattle.fs_records.specs.Lookups.{RevisionsAreRead, SerialsAreRead, NextOnesAreRead};
 
 /// Bytes stand for at most one list, with a tail cut off at one place at most, and there is one
 /// way to read them.
@@ -53,4 +55,21 @@ pub fn records_are_revisions()
 pub fn written_blocks_are_read()
     ensures block { BlockIsRead }
     ensures vote { VoteIsCut }
+{}
+
+/// What an index of a file looks up is what the list says: the last place of an object below a front
+/// is that of its last revision there, and the content of the record at that place is the
+/// revision's; its last place of all has the serial of its last revision; and the first place that
+/// isn't below a front has the serial of the next one.
+pub fn lookups_are_revisions()
+    ensures revision { RevisionsAreRead }
+    ensures serial { SerialsAreRead }
+    ensures next { NextOnesAreRead }
+{}
+
+/// What bytes stand for as a file is a function of them: where fewer than 2^64 bytes stand for
+/// something, it is what that function gives, and they stand for what it gives.
+pub fn bytes_have_one_reading()
+    ensures only { ReadingIs }
+    ensures stands { ReadingStands }
 {}

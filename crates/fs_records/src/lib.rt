@@ -8,6 +8,7 @@ mod index;
 mod laws;
 mod place;
 mod verdict;
+mod writing;
 
 pub use field::Field;
 pub use header::{
@@ -15,11 +16,12 @@ pub use header::{
 };
 pub use index::Index;
 pub use laws::{
-    always, below_is, list_is_a_database, never_both, one_damage, one_list, records_are_revisions,
-    written_blocks_are_read,
+    always, below_is, bytes_have_one_reading, list_is_a_database, lookups_are_revisions,
+    never_both, one_damage, one_list, records_are_revisions, written_blocks_are_read,
 };
 pub use place::Place;
 pub use verdict::Verdict;
+pub use writing::{finishing_sets_the_status, write_transaction};
 
 #[cfg(test)]
 mod tests;

@@ -1,6 +1,8 @@
 ghost use Rattle.std.specs.Prelude.{◌≤◌, length, All, IsTrue};
 ghost use Rattle.fs_records.specs.Places.{IsBefore};
 
+mod writing;
+
 use super::*;
 use std::alloc::AllocError;
 use std::test::Fail;
@@ -229,5 +231,31 @@ fn an_index_keeps_places_in_order(rt: HostRuntime) -> Result<(), Fail> {
     let nothing = Index::new(rt.alloc());
     assert_eq!(rt; nothing.places(Oid(5)).len(), 0);
     assert_eq!(rt; nothing.transactions().len(), 0);
+    Ok(())
+}
+
+#[test]
+fn an_index_takes_places_back(rt: HostRuntime) -> Result<(), Fail> {
+    let mut index = Index::new(rt.alloc());
+    assert_eq!(rt; index.pop_record(Oid(5)), None);
+    assert_eq!(rt; index.pop_transaction(), None);
+    assert!(rt; keep_all(&mut index, &[(5, place(1, 27)), (5, place(1, 80))])?);
+    assert!(rt; keep_transaction(&mut index, &place(1, 4))?);
+    assert!(rt; keep_all(&mut index, &[(0, place(7, 160)), (5, place(7, 210))])?);
+    assert!(rt; keep_transaction(&mut index, &place(7, 137))?);
+    assert_eq!(rt; index.pop_record(Oid(5)), Some(place(7, 210)));
+    assert_eq!(rt; index.pop_record(Oid(0)), Some(place(7, 160)));
+    assert_eq!(rt; index.pop_record(Oid(0)), None);
+    assert_eq!(rt; index.pop_record(Oid(1)), None);
+    assert_eq!(rt; index.pop_transaction(), Some(place(7, 137)));
+    assert_eq!(rt;
+        index.places(Oid(5)),
+        [place(1, 27), place(1, 80)].as_slice()
+    );
+    assert_eq!(rt; index.places(Oid(0)).len(), 0);
+    assert_eq!(rt; index.transactions(), [place(1, 4)].as_slice());
+    assert!(rt; keep_all(&mut index, &[(0, place(9, 160)), (5, place(9, 210))])?);
+    assert_eq!(rt; index.places(Oid(0)), [place(9, 160)].as_slice());
+    assert_eq!(rt; index.pop_record(Oid(5)), Some(place(9, 210)));
     Ok(())
 }

@@ -16,13 +16,13 @@ use Rattle.fs_records.specs.File.{StandsAs, a_file, RecordFault, IsDamaged, head
 use Rattle.fs_records.specs.Places.{Kept, AreBefore, IsBefore, ArePlacesOf}
 use Rattle.fs_records.specs.Scan.{Indexed, RecordsIndexed}
 use Rattle.fs_records.specs.Lists.{not_damaged, not_no_file}
+use Rattle.fs_records.specs.WriteLaws.{without_tail_stands}
 use Rattle.fs_records.specs.OpenLaws.{before_weaker, block_more}
 use Rattle.fs_recovery.specs.declared.errors.OpenError.{OpenError}
 use Rattle.fs_recovery.specs.declared.errors.OpenError.TheVariants.{StoreFault, BadRecord, NotFileStorage, Memory}
 use Rattle.fs_recovery.specs.Heads.{Begins}
 use Rattle.fs_recovery.specs.Records.{RecordsRead}
 use Rattle.fs_recovery.specs.declared.opening.Opened.{Opened}
-use Rattle.fs_recovery.specs.Fronts.{stands_whole}
 use Rattle.fs_recovery.specs.Opens.{newest_kept, KeptBefore, BlockRead, IsNoList, IsOpened, IsWhole}
 
 -- ---- what is kept
@@ -112,13 +112,13 @@ accepted bytes old mid new p newest h small fits begins read same pushed entries
     (pushed ∙ ap (λ (xs : List Place). xs ++ record { serial = h.tid; at = p } ∷ []) same) so_far
 
 -- once its tail is cut off
-pub whole_now : (bytes now : List ℕ) (o : Opened) → o.end ≤ length bytes → now ≡ take o.end bytes → IsOpened bytes o → IsWhole now o
-whole_now bytes now o within is opened =
+pub whole_now : (bytes now : List ℕ) (o : Opened) → now ≡ take o.end bytes → IsOpened bytes o → IsWhole now o
+whole_now bytes now o is opened =
     let s = opened.reached in
     let cut_there : take s.end bytes ≡ now = ap (λ (n : ℕ). take n bytes) opened.end_is ∙ sym is in
     record {
       reached = s;
-      stands = subst (λ (b : List ℕ). StandsAs b s None) cut_there (stands_whole bytes s o.cut (omega (arith, within, opened.end_is)) opened.stands);
+      stands = subst (λ (b : List ℕ). StandsAs b s None) cut_there (without_tail_stands bytes s o.cut opened.stands);
       end_is = opened.end_is;
       index = opened.index;
     }

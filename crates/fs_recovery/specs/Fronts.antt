@@ -158,10 +158,3 @@ stands_shorter bytes s (Some at) n enough within stands =
       | inl ends ↦ (None, record { begins = begins; ends = ap (verdict s.newest) rest ∙ ends })
       | inr tail ↦ (Some s.end, record { begins = begins; ends = (ap (verdict s.newest) rest ∙ tail, refl) })
     ]
-
--- without its tail a file stands for the same, and nothing is left
-pub stands_whole : (bytes : List ℕ) (s : Reached) (cut : Option ℕ) → s.end ≤ length bytes → StandsAs bytes s cut → StandsAs (take s.end bytes) s None
-stands_whole bytes s cut within stands = record {
-  begins = begins_shorter bytes s s.end (omega arith) within stands.begins;
-  ends = empty_ends s.newest (drop s.end (take s.end bytes)) (omega (arith, length-drop s.end (take s.end bytes), length-take s.end bytes));
-}

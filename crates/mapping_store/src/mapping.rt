@@ -62,6 +62,7 @@ impl MappingStore {
 
 impl Store for MappingStore {
     ghost use Rattle.std.specs.Prelude.{[], false};
+    ghost use Rattle.zb_model.specs.Database.{newest_tid};
 
     ghost told = { Unit {0} };
 
@@ -76,6 +77,8 @@ impl Store for MappingStore {
     ghost broken = { λ _. false };
 
     ghost list = { λ store. store.items.items };
+
+    ghost newest_number = { λ store. newest_tid store.items.items };
 
     ghost voted = { λ store. store.voted };
 
@@ -143,6 +146,7 @@ impl Store for MappingStore {
         Ok(())
     }
 
+    #[tactic(auto, using(crate::proofs::Votes::newest_pushed))]
     fn finish(&mut self) -> Result<(), StoreFault> {
         if let Some(voted) = self.voted.take() {
             self.count += voted.changes.len() as u64;

@@ -49,21 +49,28 @@ abbrev pub IsHeld : Content → Type 0
 IsHeld (Held bytes) = Unit {0}
 IsHeld Absent = ⊥
 
--- bytes aren't empty, and an earlier content is a record that the object had
+-- an earlier content is a record that the object had
 abbrev pub IsSound : List Transaction → ℕ → NewContent → Type 0
-IsSound list oid (new_content.Bytes bytes) = 0 < length bytes
+IsSound list oid (new_content.Bytes bytes) = Unit {0}
 IsSound list oid new_content.Absent = Unit {0}
 IsSound list oid (new_content.AsOf serial) = IsSomeAnd (revision_at oid serial list) (λ r. IsHeld r.content)
 
--- the number has one after it, and each text has a length of 16 bits
-pub record IsSized (new : NewTransaction) : Type 0 where
+-- new bytes aren't empty
+abbrev pub IsFilled : NewContent → Type 0
+IsFilled (new_content.Bytes bytes) = 0 < length bytes
+IsFilled new_content.Absent = Unit {0}
+IsFilled (new_content.AsOf serial) = Unit {0}
+
+-- A new transaction by itself: its number has one after it, each text has a length of 16 bits, each object is named once, and no record is empty.
+pub record IsWellFormed (new : NewTransaction) : Type 0 where
   pub tid : new.tid < 2 ^ 64 - 1
   pub user : length new.user ≤ 65535
   pub description : length new.description ≤ 65535
   pub extension : length new.extension ≤ 65535
+  pub distinct : IsDistinct nat_eq (map (λ c. c.oid) new.changes)
+  pub filled : All (λ c. IsFilled c.content) new.changes
 
--- a new transaction may be voted over a list: it is later, it names each object once, and its contents are sound
+-- a new transaction may be voted over a list: it is later, and what it takes over was there
 pub record IsVotable (list : List Transaction) (new : NewTransaction) : Type 0 where
   pub later : newest_tid list < new.tid
-  pub distinct : IsDistinct nat_eq (map (λ c. c.oid) new.changes)
   pub sound : All (λ c. IsSound list c.oid c.content) new.changes

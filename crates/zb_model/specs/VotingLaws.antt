@@ -11,7 +11,7 @@ use Rattle.zb_model.specs.declared.data.Transaction.{Transaction}
 use Rattle.zb_model.specs.declared.new_transaction.NewChange.{NewChange}
 use Rattle.zb_model.specs.declared.new_transaction.NewTransaction.{NewTransaction}
 use Rattle.zb_model.specs.Database.{IsDatabase, newest_tid}
-use Rattle.zb_model.specs.Voting.{IsSized, IsVotable, voted_change, voted_of}
+use Rattle.zb_model.specs.Voting.{IsWellFormed, IsVotable, voted_change, voted_of}
 
 -- a transaction's number
 abbrev pub tid_of : Transaction → ℕ
@@ -42,7 +42,7 @@ rising-push list t rising later =
     subst (λ (tids : List ℕ). IsStrictlyIncreasing (0 ∷ tids)) (sym (map-append tid_of list (t ∷ [])))
     (increasing-push (0 ∷ map tid_of list) (newest_tid list) t.tid rising last later)
 
-oids_kept : (list : List Transaction) (changes : List NewChange) → map (λ c. c.oid) (map (voted_change list) changes) ≡ map (λ c. c.oid) changes
+pub oids_kept : (list : List Transaction) (changes : List NewChange) → map (λ c. c.oid) (map (voted_change list) changes) ≡ map (λ c. c.oid) changes
 oids_kept list [] = refl
 oids_kept list (c ∷ changes) = ap (λ (oids : List ℕ). c.oid ∷ oids) (oids_kept list changes)
 
@@ -55,5 +55,5 @@ database-push list t is later bound distinct = record {
 }
 
 -- and so with what a new transaction becomes, where it may be voted
-pub voted_database : (list : List Transaction) (new : NewTransaction) → IsDatabase list → IsSized new → IsVotable list new → IsDatabase (list ++ voted_of list new ∷ [])
-voted_database list new is sized votable = database-push list (voted_of list new) is votable.later sized.tid (rw (oids_kept list new.changes) votable.distinct)
+pub voted_database : (list : List Transaction) (new : NewTransaction) → IsDatabase list → IsWellFormed new → IsVotable list new → IsDatabase (list ++ voted_of list new ∷ [])
+voted_database list new is formed votable = database-push list (voted_of list new) is votable.later formed.tid (rw (oids_kept list new.changes) formed.distinct)

@@ -22,7 +22,7 @@ pub use plain::{change_of, content_at, newest_of, revision_before, serial_in};
 pub use refusal::{Refusal, Why};
 pub use store::Store;
 pub use store_error::StoreError;
-pub use votable::is_votable;
+pub use votable::{is_votable, is_well_formed};
 
 #[cfg(test)]
 mod tests;

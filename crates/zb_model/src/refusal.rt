@@ -47,4 +47,8 @@ pub enum Refusal {
     },
     /// The session isn't open.
     NotOpen,
+    /// Fewer object numbers are left than were asked for.
+    OidsSpent,
+    /// Reading the file failed; the state is as it was.
+    ReadFault,
 }

@@ -1,6 +1,6 @@
 //! What a store promises, however it keeps its list, and what a crash leaves of it.
 
-ghost use Rattle.std.specs.Prelude.{◌≡◌, ℕ, ◌<◌, ◌-◌, ◌^◌, ◌++◌, ◌∷◌, [], None, Some, IsSome, IfOk, OnOk, OnErr, false};
+ghost use Rattle.std.specs.Prelude.{◌≡◌, ℕ, ◌<◌, ◌-◌, ◌^◌, ◌++◌, ◌∷◌, [], None, Some, IsSome, IfOk, IsErrOf, OnOk, OnErr, false, true};
 ghost use Rattle.std.specs.Option.{ForSome};
 ghost use Rattle.zb_volume.specs.declared.areas.Area.{Area};
 ghost use Rattle.zb_volume.specs.Faults.{HasCause};
@@ -9,7 +9,7 @@ ghost use Rattle.zb_model.specs.Database.{newest_tid, serial_of};
 ghost use Rattle.zb_model.specs.Lists.{history_of, undo_log_of};
 ghost use Rattle.zb_model.specs.Queries.{changes_up_to, found_below, first_after, greatest_oid, pack_point, transaction_at};
 ghost use Rattle.zb_model.specs.Stores.{HasReadCause, HasStoreCause, StandsForEither, UnlessFault};
-ghost use Rattle.zb_model.specs.Voting.{IsSized, IsVotable, voted_of};
+ghost use Rattle.zb_model.specs.Voting.{IsVotable, IsWellFormed, voted_of};
 
 use crate::data::Transaction;
 use crate::found::Found;
@@ -62,6 +62,9 @@ pub trait Store {
     /// The transactions, the oldest first.
     ghost list: { Self → List Transaction };
 
+    /// The number that `newest` answers, also where the list isn't told.
+    ghost newest_number: { Self → ℕ };
+
     /// The transaction that is voted.
     ghost voted: { Self → Option Transaction };
 
@@ -75,6 +78,7 @@ pub trait Store {
     fn newest(&self) -> Tid
         requires { broken self.now ≡ false }
         ensures value { told → result ≡ newest_tid (list self.now) }
+        ensures number { result ≡ newest_number self.now }
         ensures bound { result < 2 ^ 64 - 1 };
 
     /// The greatest tid of a transaction that a pack has gone over, or 0.
@@ -102,6 +106,7 @@ pub trait Store {
         requires { broken self.old ≡ false }
         ensures found { told → IfOk result (λ found. found ≡ found_below oid front (list self.old)) }
         ensures list { told → list self.new ≡ list self.old }
+        ensures number { newest_number self.new ≡ newest_number self.old }
         ensures voted { voted self.new ≡ voted self.old }
         ensures whole { broken self.new ≡ false }
         ensures log { log self.new ≡ log self.old }
@@ -113,6 +118,7 @@ pub trait Store {
         requires { broken self.old ≡ false }
         ensures found { told → IfOk result (λ found. found ≡ transaction_at tid (list self.old)) }
         ensures list { told → list self.new ≡ list self.old }
+        ensures number { newest_number self.new ≡ newest_number self.old }
         ensures voted { voted self.new ≡ voted self.old }
         ensures whole { broken self.new ≡ false }
         ensures log { log self.new ≡ log self.old }
@@ -124,6 +130,7 @@ pub trait Store {
         requires { broken self.old ≡ false }
         ensures found { told → IfOk result (λ found. found ≡ first_after tid (list self.old)) }
         ensures list { told → list self.new ≡ list self.old }
+        ensures number { newest_number self.new ≡ newest_number self.old }
         ensures voted { voted self.new ≡ voted self.old }
         ensures whole { broken self.new ≡ false }
         ensures log { log self.new ≡ log self.old }
@@ -135,6 +142,7 @@ pub trait Store {
         requires { broken self.old ≡ false }
         ensures lines { told → IfOk result (λ lines. lines.items ≡ history_of oid (list self.old)) }
         ensures list { told → list self.new ≡ list self.old }
+        ensures number { newest_number self.new ≡ newest_number self.old }
         ensures voted { voted self.new ≡ voted self.old }
         ensures whole { broken self.new ≡ false }
         ensures log { log self.new ≡ log self.old }
@@ -146,6 +154,7 @@ pub trait Store {
         requires { broken self.old ≡ false }
         ensures lines { told → IfOk result (λ lines. lines.items ≡ undo_log_of (list self.old)) }
         ensures list { told → list self.new ≡ list self.old }
+        ensures number { newest_number self.new ≡ newest_number self.old }
         ensures voted { voted self.new ≡ voted self.old }
         ensures whole { broken self.new ≡ false }
         ensures log { log self.new ≡ log self.old }
@@ -157,12 +166,16 @@ pub trait Store {
     fn vote(&mut self, alloc: Global, new: &NewTransaction) -> Result<(), StoreError>
         requires whole { broken self.old ≡ false }
         requires free { voted self.old ≡ None }
-        requires sized { IsSized new.now }
+        requires later { newest_number self.old < new.now.tid }
+        requires well_formed { IsWellFormed new.now }
         requires votable { told → IsVotable (list self.old) new.now }
         ensures whole { UnlessFault result (broken self.new ≡ false) }
+        ensures breaks { IsErrOf result StoreError.StoreFault → broken self.new ≡ true }
         ensures some { OnOk result (IsSome (voted self.new)) }
         ensures voted { told → OnOk result (voted self.new ≡ Some (voted_of (list self.old) new.now)) }
+        ensures tid { OnOk result (ForSome (voted self.new) (λ t. t.tid ≡ new.now.tid)) }
         ensures none { OnErr result (voted self.new ≡ None) }
+        ensures number { newest_number self.new ≡ newest_number self.old }
         ensures list { told → UnlessFault result (list self.new ≡ list self.old) }
         ensures any_moment { lasts → LeavesOnly Area.Main (λ bytes. stands bytes (list self.old))
             (log self.old) (log self.new) }
@@ -175,8 +188,11 @@ pub trait Store {
         requires whole { broken self.old ≡ false }
         requires voted { IsSome (voted self.old) }
         ensures whole { OnOk result (broken self.new ≡ false) }
+        ensures breaks { OnErr result (broken self.new ≡ true) }
         ensures list { told → OnOk result
             (ForSome (voted self.old) (λ t. list self.new ≡ list self.old ++ t ∷ [])) }
+        ensures number { OnOk result
+            (ForSome (voted self.old) (λ t. newest_number self.new ≡ t.tid)) }
         ensures voted { OnOk result (voted self.new ≡ None) }
         ensures any_moment { lasts → ForSome (voted self.old) (λ t. LeavesOnly Area.Main
             (StandsForEither stands (list self.old) t) (log self.old) (log self.new)) }
@@ -189,7 +205,9 @@ pub trait Store {
         requires whole { broken self.old ≡ false }
         requires voted { IsSome (voted self.old) }
         ensures whole { OnOk result (broken self.new ≡ false) }
+        ensures breaks { OnErr result (broken self.new ≡ true) }
         ensures list { told → OnOk result (list self.new ≡ list self.old) }
+        ensures number { newest_number self.new ≡ newest_number self.old }
         ensures voted { OnOk result (voted self.new ≡ None) }
         ensures any_moment { lasts → LeavesOnly Area.Main (λ bytes. stands bytes (list self.old))
             (log self.old) (log self.new) }

@@ -2,22 +2,12 @@
 
 ghost use Rattle.std.specs.Prelude.{◌↔◌, ◌≡◌, IsTrue, All, map, nat_eq, false, true};
 ghost use Rattle.std.specs.List.{IsDistinct};
-ghost use Rattle.zb_model.specs.Voting.{IsSized, IsSound, IsVotable};
+ghost use Rattle.zb_model.specs.Voting.{IsFilled, IsSound, IsVotable, IsWellFormed};
 
 use crate::data::{Content, Transaction};
 use crate::new_transaction::{NewChange, NewContent, NewTransaction};
 use crate::plain::{content_at, newest_of};
 use zb_ids::Oid;
-
-/// Whether the number has one after it, and each text is at most 65,535 bytes long.
-fn is_sized(new: &NewTransaction) -> bool
-    ensures { IsTrue result ↔ IsSized new.now }
-{
-    new.tid.0 < u64::MAX
-        && new.user.len() <= 65535
-        && new.description.len() <= 65535
-        && new.extension.len() <= 65535
-}
 
 /// Whether none of these changes is of the object.
 fn is_unnamed(changes: &[NewChange], oid: Oid) -> bool
@@ -43,12 +33,48 @@ fn are_distinct(changes: &[NewChange]) -> bool
     true
 }
 
-/// Whether bytes aren't empty, and an earlier content is a record that the object had.
+/// Whether new bytes aren't empty.
+fn is_filled(content: &NewContent) -> bool
+    ensures { IsTrue result ↔ IsFilled content.now }
+{
+    match content {
+        NewContent::Bytes(bytes) => !bytes.is_empty(),
+        NewContent::Absent => true,
+        NewContent::AsOf(_) => true,
+    }
+}
+
+/// Whether no record is empty.
+fn are_filled(changes: &[NewChange]) -> bool
+    ensures { IsTrue result ↔ All (λ c. IsFilled c.content) changes.now }
+{
+    for change in changes {
+        if !is_filled(&change.content) {
+            return false;
+        }
+    }
+    true
+}
+
+/// Whether a new transaction is well formed: its number has one after it, each text is at most 65,535
+/// bytes long, each object is named once, and no record is empty.
+pub fn is_well_formed(new: &NewTransaction) -> bool
+    ensures { IsTrue result ↔ IsWellFormed new.now }
+{
+    new.tid.0 < u64::MAX
+        && new.user.len() <= 65535
+        && new.description.len() <= 65535
+        && new.extension.len() <= 65535
+        && are_distinct(new.changes.as_slice())
+        && are_filled(new.changes.as_slice())
+}
+
+/// Whether an earlier content is a record that the object had.
 fn is_sound(list: &[Transaction], oid: Oid, content: &NewContent) -> bool
     ensures { IsTrue result ↔ IsSound list.now oid content.now }
 {
     match content {
-        NewContent::Bytes(bytes) => !bytes.is_empty(),
+        NewContent::Bytes(_) => true,
         NewContent::Absent => true,
         NewContent::AsOf(serial) => match content_at(list, oid, *serial) {
             Some(Content::Held(_)) => true,
@@ -70,12 +96,9 @@ fn are_sound(list: &[Transaction], changes: &[NewChange]) -> bool
     true
 }
 
-/// Whether a new transaction may be voted over a list of transactions.
+/// Whether a new transaction is well formed and may be voted over a list of transactions.
 pub fn is_votable(list: &[Transaction], new: &NewTransaction) -> bool
-    ensures { IsTrue result ↔ (IsSized new.now × IsVotable list.now new.now) }
+    ensures { IsTrue result ↔ (IsWellFormed new.now × IsVotable list.now new.now) }
 {
-    is_sized(new)
-        && newest_of(list) < new.tid
-        && are_distinct(new.changes.as_slice())
-        && are_sound(list, new.changes.as_slice())
+    is_well_formed(new) && newest_of(list) < new.tid && are_sound(list, new.changes.as_slice())
 }

@@ -3,7 +3,7 @@ use Rattle.std.proofs.Common.{◌≡◌, ℕ, ◌-◌, Bool, true, false, cond, 
 use Rattle.std.specs.Prelude.{slice_get, filter}
 use Rattle.std.specs.List.{last_or}
 use Rattle.zb_script.specs.declared.line.Turn.{Turn}
-use Rattle.zb_script.specs.Shape.{is_turn_of, last_line}
+use Rattle.zb_script.specs.Shape.{is_step_of, last_line}
 
 last_or-get : {A : Type 0} (o : Option A) (x : A) (xs : List A) (y : A) → slice_get (x ∷ xs) (length xs) ≡ Some y → last_or o (x ∷ xs) ≡ Some y
 last_or-get o x [] y e = e
@@ -31,20 +31,20 @@ last_pushed : {A : Type 0} (p : A → Bool) (o : Option A) (xs : List A) (x : A)
 last_pushed p o [] x = one_only (p x) o x
 last_pushed p o (y ∷ xs) x = one_more (p y) (p x) o y x (filter p (xs ++ x ∷ [])) (filter p xs) (last_pushed p (Some y) xs x) (last_pushed p o xs x)
 
--- the last turn, where it is this client's
-pub last_found : (client : List ℕ) (turns rest others : List Turn) (t : Turn) → rest ≡ others ++ t ∷ [] → is_turn_of client t ≡ true
-    → last_or None (filter (is_turn_of client) rest) ≡ last_or None (filter (is_turn_of client) turns) → Some t.line ≡ last_line client turns
+-- the last turn, where it is this client's and no `new`
+pub last_found : (client : List ℕ) (turns rest others : List Turn) (t : Turn) → rest ≡ others ++ t ∷ [] → is_step_of client t ≡ true
+    → last_or None (filter (is_step_of client) rest) ≡ last_or None (filter (is_step_of client) turns) → Some t.line ≡ last_line client turns
 last_found client turns rest others t e is so_far =
-    let one : last_or None (filter (is_turn_of client) rest) ≡ Some t = rw e (last_pushed (is_turn_of client) None others t ∙ rw is refl) in
+    let one : last_or None (filter (is_step_of client) rest) ≡ Some t = rw e (last_pushed (is_step_of client) None others t ∙ rw is refl) in
     rw (sym so_far ∙ one) refl
 
-pub last_passed : (client : List ℕ) (turns rest others : List Turn) (t : Turn) → rest ≡ others ++ t ∷ [] → is_turn_of client t ≡ false
-    → last_or None (filter (is_turn_of client) rest) ≡ last_or None (filter (is_turn_of client) turns) → last_or None (filter (is_turn_of client) others) ≡ last_or None (filter (is_turn_of client) turns)
+pub last_passed : (client : List ℕ) (turns rest others : List Turn) (t : Turn) → rest ≡ others ++ t ∷ [] → is_step_of client t ≡ false
+    → last_or None (filter (is_step_of client) rest) ≡ last_or None (filter (is_step_of client) turns) → last_or None (filter (is_step_of client) others) ≡ last_or None (filter (is_step_of client) turns)
 last_passed client turns rest others t e is so_far =
-    let one : last_or None (filter (is_turn_of client) rest) ≡ last_or None (filter (is_turn_of client) others) = rw e (last_pushed (is_turn_of client) None others t ∙ rw is refl) in
+    let one : last_or None (filter (is_step_of client) rest) ≡ last_or None (filter (is_step_of client) others) = rw e (last_pushed (is_step_of client) None others t ∙ rw is refl) in
     sym one ∙ so_far
 
 pub none_left : (client : List ℕ) (turns rest : List Turn) → length rest ≡ 0
-    → last_or None (filter (is_turn_of client) rest) ≡ last_or None (filter (is_turn_of client) turns) → None ≡ last_line client turns
+    → last_or None (filter (is_step_of client) rest) ≡ last_or None (filter (is_step_of client) turns) → None ≡ last_line client turns
 none_left client turns [] e so_far = rw (sym so_far) refl
 none_left client turns (t ∷ rest) e so_far = absurd (omega arith)

@@ -143,6 +143,7 @@ line_again (lines.Store oid base bytes) h = rw (field_again oid (hex_number base
 line_again lines.Vote h = refl
 line_again lines.Finish h = refl
 line_again lines.Abort h = refl
+line_again lines.New h = refl
 
 pub chosen : {A : Type 0} (b : Bool) (x y z : A) → cond b x y ≡ z → ((b ≡ true) × (x ≡ z)) ⊎ ((b ≡ false) × (y ≡ z))
 chosen true x y z e = inl (refl, e)
@@ -187,7 +188,8 @@ words_take bytes l e =
     word_takes bytes (codes "begin") lines.Begin l _ e (tt, refl) (λ e.
     word_takes bytes (codes "vote \"\" \"\"") lines.Vote l _ e (tt, refl) (λ e.
     word_takes bytes (codes "finish") lines.Finish l _ e (tt, refl) (λ e.
-    word_takes bytes (codes "abort") lines.Abort l _ e (tt, refl) (λ e. absurd cc)))))
+    word_takes bytes (codes "abort") lines.Abort l _ e (tt, refl) (λ e.
+    word_takes bytes (codes "new") lines.New l _ e (tt, refl) (λ e. absurd cc))))))
 
 line_takes : (bytes : List ℕ) (l : Line) → line_at bytes ≡ Some l → IsText bytes l
 unfolding line_at

@@ -34,6 +34,7 @@ line_from lines.Begin = from_test 32 (line_text lines.Begin) refl
 line_from lines.Vote = from_test 32 (line_text lines.Vote) refl
 line_from lines.Finish = from_test 32 (line_text lines.Finish) refl
 line_from lines.Abort = from_test 32 (line_text lines.Abort) refl
+line_from lines.New = from_test 32 (line_text lines.New) refl
 
 Lacks-from : (bytes : List ℕ) → From 32 bytes → Lacks 10 bytes
 Lacks-from [] h = tt

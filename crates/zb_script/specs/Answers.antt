@@ -27,6 +27,8 @@ refusal_text refusal.NotVoted = codes "NotVoted"
 refusal_text refusal.Voted = codes "Voted"
 refusal_text (refusal.Busy holder) = codes "Busy " ++ decimal holder
 refusal_text refusal.NotOpen = codes "NotOpen"
+refusal_text refusal.OidsSpent = codes "OidsSpent"
+refusal_text refusal.ReadFault = codes "ReadFault"
 
 -- what stands behind the client's name and a blank
 abbrev pub answer_text : Answer → List ℕ
@@ -38,6 +40,7 @@ answer_text answer.Voted = codes "voted"
 answer_text (answer.Committed tid) = codes "committed " ++ hex_number tid
 answer_text answer.Empty = codes "empty"
 answer_text answer.Aborted = codes "aborted"
+answer_text (answer.Oid oid) = codes "oid " ++ hex_number oid
 answer_text (answer.Refused why) = codes "refused " ++ refusal_text why
 
 -- the client's name, a blank, the answer and a newline

@@ -61,6 +61,7 @@ words_at bytes =
     else if bytes_eq bytes (codes "vote \"\" \"\"") then Some lines.Vote
     else if bytes_eq bytes (codes "finish") then Some lines.Finish
     else if bytes_eq bytes (codes "abort") then Some lines.Abort
+    else if bytes_eq bytes (codes "new") then Some lines.New
     else None
 
 abbrev pub if_some : {A B : Type 0} → Option A → (A → Option B) → Option B → Option B

@@ -11,13 +11,19 @@ abbrev pub is_open : Line → Bool
 is_open lines.Open = true
 is_open _ = false
 
-abbrev pub is_begin : Line → Bool
-is_begin lines.Begin = true
-is_begin _ = false
+abbrev pub is_new : Line → Bool
+is_new lines.New = true
+is_new _ = false
 
 abbrev pub is_vote : Line → Bool
 is_vote lines.Vote = true
 is_vote _ = false
+
+-- what can stand where no transaction is open
+abbrev pub is_outside : Line → Bool
+is_outside lines.Begin = true
+is_outside lines.New = true
+is_outside _ = false
 
 -- what can stand in an open transaction that isn't voted
 abbrev pub is_inside : Line → Bool
@@ -25,6 +31,7 @@ is_inside (lines.Load oid) = true
 is_inside (lines.Store oid base bytes) = true
 is_inside lines.Vote = true
 is_inside lines.Abort = true
+is_inside lines.New = true
 is_inside _ = false
 
 -- what can stand behind a vote
@@ -33,23 +40,28 @@ is_ending lines.Finish = true
 is_ending lines.Abort = true
 is_ending _ = false
 
--- whether a line can be a client's next one, behind its last one
+-- whether a line can be a client's next one, behind its last one that is no `new`
 abbrev pub may_follow : Option Line → Line → Bool
 may_follow None next = is_open next
-may_follow (Some lines.Open) next = is_begin next
+may_follow (Some lines.Open) next = is_outside next
 may_follow (Some lines.Begin) next = is_inside next
 may_follow (Some (lines.Load oid)) next = is_inside next
 may_follow (Some (lines.Store oid base bytes)) next = is_inside next
 may_follow (Some lines.Vote) next = is_ending next
-may_follow (Some lines.Abort) next = is_begin next
-may_follow (Some lines.Finish) next = false
+may_follow (Some lines.Abort) next = is_outside next
+may_follow (Some lines.Finish) next = is_new next
+may_follow (Some lines.New) next = false
 
 abbrev pub is_turn_of : List ℕ → Turn → Bool
 is_turn_of client t = bytes_eq t.client client
 
--- a client's last line among these turns
+-- whether a turn is the client's, and its line is no `new`
+abbrev pub is_step_of : List ℕ → Turn → Bool
+is_step_of client t = is_turn_of client t && not (is_new t.line)
+
+-- a client's last line among these turns that is no `new`
 abbrev pub last_line : List ℕ → List Turn → Option Line
-last_line client turns = option_map (λ t. t.line) (last_or None (filter (is_turn_of client) turns))
+last_line client turns = option_map (λ t. t.line) (last_or None (filter (is_step_of client) turns))
 
 -- directly behind a vote only the client that voted has a turn
 abbrev pub has_turn : Option Turn → List ℕ → Bool
@@ -71,7 +83,8 @@ all_stand before [] ends = true
 all_stand before (t ∷ turns) ends = can_stand before t (ends && is_empty turns) && all_stand (before ++ t ∷ []) turns ends
 
 -- A client opens its session first and once. Then it makes transactions: begin, loads and stores, and
--- abort, or vote and abort, or vote and finish, behind which it has no turn. Its last one may be
--- left open, but not voted.
+-- abort, or vote and abort, or vote and finish, behind which it has no other. Its last one may be
+-- left open, but not voted. Anywhere behind its open, but not directly behind a vote, it may ask for
+-- new numbers.
 abbrev pub IsInShape : List Turn → Type 0
 IsInShape turns = IsTrue (all_stand [] turns true)

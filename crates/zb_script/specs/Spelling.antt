@@ -17,6 +17,7 @@ line_text (lines.Store oid base bytes) = codes "store " ++ (hex_number oid ++ 32
 line_text lines.Vote = codes "vote \"\" \"\""
 line_text lines.Finish = codes "finish"
 line_text lines.Abort = codes "abort"
+line_text lines.New = codes "new"
 
 -- the client's name, a blank, and what it does
 abbrev pub turn_text : Turn → List ℕ

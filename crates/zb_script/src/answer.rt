@@ -6,7 +6,7 @@ ghost use Rattle.zb_script.specs.Answers.{answer_text, refusal_text, reply_text}
 use crate::name::Name;
 use crate::spelling::{push_count, push_digits, push_number};
 use std::alloc::{AllocError, Global};
-use zb_ids::{Text8, Tid};
+use zb_ids::{Oid, Text8, Tid};
 use zb_model::{Refusal, Why};
 
 /// What a turn is answered.
@@ -42,6 +42,11 @@ pub enum Answer {
     Empty,
     /// The transaction has ended, and its stores are dropped.
     Aborted,
+    /// A number that no object of the list has had, and that was never handed out.
+    Oid {
+        /// The number.
+        oid: Oid,
+    },
     /// The turn is refused, and has changed nothing.
     Refused(Refusal),
 }
@@ -79,6 +84,8 @@ fn push_refusal(out: &mut Vec<u8>, refusal: &Refusal) -> Result<(), AllocError>
             push_count(out, u64::from(*holder))
         }
         Refusal::NotOpen => out.extend_from_slice(b"NotOpen"),
+        Refusal::OidsSpent => out.extend_from_slice(b"OidsSpent"),
+        Refusal::ReadFault => out.extend_from_slice(b"ReadFault"),
     }
 }
 
@@ -108,6 +115,10 @@ fn push_answer(out: &mut Vec<u8>, answer: &Answer) -> Result<(), AllocError>
         }
         Answer::Empty => out.extend_from_slice(b"empty"),
         Answer::Aborted => out.extend_from_slice(b"aborted"),
+        Answer::Oid { oid } => {
+            out.extend_from_slice(b"oid ")?;
+            push_number(out, oid.0)
+        }
         Answer::Refused(refusal) => {
             out.extend_from_slice(b"refused ")?;
             push_refusal(out, refusal)

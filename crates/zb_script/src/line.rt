@@ -31,6 +31,8 @@ pub enum Line {
     Finish,
     /// `abort`: ends the transaction and drops its stores.
     Abort,
+    /// `new`: asks for the number of a new object.
+    New,
 }
 
 /// One line of a script: who does what.

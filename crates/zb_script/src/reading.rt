@@ -124,6 +124,8 @@ fn words_of(bytes: &[u8]) -> Result<Line, ReadError>
         Ok(Line::Finish)
     } else if bytes == b"abort".as_slice() {
         Ok(Line::Abort)
+    } else if bytes == b"new".as_slice() {
+        Ok(Line::New)
     } else {
         Err(ReadError::Bad)
     }

@@ -3,7 +3,7 @@
 ghost use Rattle.std.specs.Prelude.{◌≡◌, None};
 ghost use Rattle.std.specs.List.{last_or};
 ghost use Rattle.std.specs.Option.{option_copied};
-ghost use Rattle.zb_script.specs.Shape.{can_stand, has_turn, is_begin, is_ending, is_inside, is_open, is_turn_of, is_vote, last_line, may_follow};
+ghost use Rattle.zb_script.specs.Shape.{can_stand, has_turn, is_inside, is_new, is_outside, is_step_of, is_turn_of, is_vote, last_line, may_follow};
 
 use crate::line::{Line, Turn};
 use crate::name::Name;
@@ -14,16 +14,35 @@ fn is_turn_of(turn: &Turn, client: &Name) -> bool
     turn.client.as_bytes() == client.as_bytes()
 }
 
-/// The client's last line.
+fn is_new(line: &Line) -> bool
+    ensures { result ≡ is_new line.now }
+{
+    matches!(line, Line::New)
+}
+
+/// Whether a turn is the client's, and its line is no `new`.
+fn is_step_of(turn: &Turn, client: &Name) -> bool
+    ensures { result ≡ is_step_of client.now turn.now }
+{
+    is_turn_of(turn, client) && !is_new(&turn.line)
+}
+
+/// The client's last line that is no `new`.
 fn last_line<'a>(turns: &'a [Turn], client: &Name) -> Option<&'a Line>
     ensures { option_copied result ≡ last_line client.now turns.now }
 {
     for turn in turns.iter().rev() {
-        if is_turn_of(turn, client) {
+        if is_step_of(turn, client) {
             return Some(&turn.line);
         }
     }
     None
+}
+
+fn is_outside(line: &Line) -> bool
+    ensures { result ≡ is_outside line.now }
+{
+    matches!(line, Line::Begin | Line::New)
 }
 
 fn is_inside(line: &Line) -> bool
@@ -32,7 +51,7 @@ fn is_inside(line: &Line) -> bool
     match line {
         Line::Load { .. } => true,
         Line::Store { .. } => true,
-        Line::Vote | Line::Abort => true,
+        Line::Vote | Line::Abort | Line::New => true,
         Line::Open | Line::Begin | Line::Finish => false,
     }
 }
@@ -42,9 +61,10 @@ fn may_follow(last: Option<&Line>, next: &Line) -> bool
 {
     match last {
         None => matches!(next, Line::Open),
-        Some(Line::Open) | Some(Line::Abort) => matches!(next, Line::Begin),
+        Some(Line::Open) | Some(Line::Abort) => is_outside(next),
         Some(Line::Vote) => matches!(next, Line::Finish | Line::Abort),
-        Some(Line::Finish) => false,
+        Some(Line::Finish) => is_new(next),
+        Some(Line::New) => false,
         Some(Line::Begin) => is_inside(next),
         Some(Line::Load { .. }) => is_inside(next),
         Some(Line::Store { .. }) => is_inside(next),

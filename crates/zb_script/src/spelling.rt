@@ -59,6 +59,7 @@ fn push_line(out: &mut Vec<u8>, line: &Line) -> Result<(), AllocError>
         Line::Vote => out.extend_from_slice(b"vote \"\" \"\""),
         Line::Finish => out.extend_from_slice(b"finish"),
         Line::Abort => out.extend_from_slice(b"abort"),
+        Line::New => out.extend_from_slice(b"new"),
     }
 }
 

@@ -9,6 +9,7 @@ use zb_model::{Refusal, Why};
 const SCRIPT: &[u8] = b"t1 open local
 second2 open local
 t1 begin
+t1 new
 t1 store 0000000000000000 0000000000000000 616263
 second2 begin
 t1 vote \"\" \"\"
@@ -40,10 +41,11 @@ fn stored(turn: &Turn) -> Option<(Oid, Tid, &[u8])> {
 #[test]
 fn script_of_two_clients(rt: HostRuntime) -> Result<(), Fail> {
     let turns = read_script(rt.alloc(), SCRIPT)?;
-    assert_eq!(rt; turns.len(), 15);
+    assert_eq!(rt; turns.len(), 16);
     let names = [
         b"t1".as_slice(),
         b"second2",
+        b"t1",
         b"t1",
         b"t1",
         b"second2",
@@ -62,17 +64,18 @@ fn script_of_two_clients(rt: HostRuntime) -> Result<(), Fail> {
         assert_eq!(rt; turn.client.as_bytes(), name);
     }
     let turns = turns.as_slice();
-    assert_eq!(rt; turns.len(), 15);
+    assert_eq!(rt; turns.len(), 16);
     assert!(rt; matches!(turns[0].line, Line::Open));
     assert!(rt; matches!(turns[2].line, Line::Begin));
-    assert!(rt; stored(&turns[3]) == Some((Oid(0), Tid(0), b"abc".as_slice())));
-    assert!(rt; matches!(turns[5].line, Line::Vote));
-    assert!(rt; matches!(turns[6].line, Line::Finish));
-    assert_eq!(rt; loaded(&turns[7]), Some(Oid(160)));
+    assert!(rt; matches!(turns[3].line, Line::New));
+    assert!(rt; stored(&turns[4]) == Some((Oid(0), Tid(0), b"abc".as_slice())));
+    assert!(rt; matches!(turns[6].line, Line::Vote));
+    assert!(rt; matches!(turns[7].line, Line::Finish));
+    assert_eq!(rt; loaded(&turns[8]), Some(Oid(160)));
     let base = Tid(0x03f5_8e00_0000_0001);
-    assert!(rt; stored(&turns[8]) == Some((Oid(1), base, b"\x00\xff".as_slice())));
-    assert!(rt; matches!(turns[10].line, Line::Abort));
-    assert_eq!(rt; loaded(&turns[14]), Some(Oid(u64::MAX)));
+    assert!(rt; stored(&turns[9]) == Some((Oid(1), base, b"\x00\xff".as_slice())));
+    assert!(rt; matches!(turns[11].line, Line::Abort));
+    assert_eq!(rt; loaded(&turns[15]), Some(Oid(u64::MAX)));
     let text = write_script(rt.alloc(), turns)?;
     assert_eq!(rt; text.as_slice(), SCRIPT);
     one_script();
@@ -97,6 +100,16 @@ fn scripts(rt: HostRuntime) -> Result<(), Fail> {
         (
             b"a open local\na begin\na vote \"\" \"\"\na finish\nb open local\n",
             5,
+        ),
+        (b"a open local\na new", 2),
+        (b"a open local\na new\na new\nb open local\nb new\n", 5),
+        (
+            b"a open local\na new\na begin\na new\na load 0000000000000000\na new\na abort\na new\na begin\na new\n",
+            10,
+        ),
+        (
+            b"a open local\na begin\na vote \"\" \"\"\na finish\na new\na new\n",
+            6,
         ),
     ] {
         let turns = read_script(rt.alloc(), script)?;
@@ -144,6 +157,9 @@ fn lines_outside_the_grammar(rt: HostRuntime) {
         (b"a open local\na begin\na load  0000000000000001\n", 3),
         (b"a open local\na begin\na vote \"\"\n", 3),
         (b"a open local\na begin\na vote \"x\" \"\"\na abort\n", 3),
+        (b"a open local\na new \n", 2),
+        (b"a open local\na new 0000000000000001\n", 2),
+        (b"a open local\na New\n", 2),
     ] {
         assert_eq!(rt; bad_line(rt.alloc(), script), Some(number));
     }
@@ -207,6 +223,23 @@ fn lines_out_of_their_place(rt: HostRuntime) {
         ),
         (
             b"a open local\nb open local\na begin\nb begin\na vote \"\" \"\"\nb abort\na finish\n",
+            6,
+        ),
+        (b"a new\n", 1),
+        (b"a open local\nb new\n", 2),
+        (b"a open local\na new\na open local\n", 3),
+        (b"a open local\na new\na finish\n", 3),
+        (b"a open local\na begin\na new\na begin\n", 4),
+        (
+            b"a open local\na begin\na vote \"\" \"\"\na new\na finish\n",
+            4,
+        ),
+        (
+            b"a open local\nb open local\na begin\na vote \"\" \"\"\nb new\na finish\n",
+            5,
+        ),
+        (
+            b"a open local\na begin\na vote \"\" \"\"\na finish\na new\na begin\n",
             6,
         ),
     ] {
@@ -282,6 +315,7 @@ fn answers(rt: HostRuntime) -> Result<(), Fail> {
         (Answer::Committed { tid }, b"a committed 03f58e0000000001\n"),
         (Answer::Empty, b"a empty\n"),
         (Answer::Aborted, b"a aborted\n"),
+        (Answer::Oid { oid: Oid(160) }, b"a oid 00000000000000a0\n"),
     ] {
         let line = answer_line(rt.alloc(), &a, &answer)?;
         assert_eq!(rt; line.as_slice(), text);
@@ -320,6 +354,8 @@ fn refusals(rt: HostRuntime) -> Result<(), Fail> {
         (Refusal::Voted, b"b12 refused Voted\n"),
         (Refusal::Busy { holder: 10 }, b"b12 refused Busy 10\n"),
         (Refusal::NotOpen, b"b12 refused NotOpen\n"),
+        (Refusal::OidsSpent, b"b12 refused OidsSpent\n"),
+        (Refusal::ReadFault, b"b12 refused ReadFault\n"),
     ] {
         let line = answer_line(rt.alloc(), &b, &Answer::Refused(refusal))?;
         assert_eq!(rt; line.as_slice(), text);

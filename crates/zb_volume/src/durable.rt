@@ -1,8 +1,8 @@
 //! Changes that are made sure of, over any volume.
 
-ghost use Rattle.std.specs.Prelude.{◌≡◌, ◌+◌, ◌<◌, ◌≤◌, ◌^◌, [], length, take, false, OnOk};
+ghost use Rattle.std.specs.Prelude.{◌≡◌, ◌+◌, ◌<◌, ◌≤◌, ◌^◌, [], ◌∷◌, length, take, false, OnOk};
 ghost use Rattle.zb_volume.specs.declared.areas.Area.{Area};
-ghost use Rattle.zb_volume.specs.Calls.{same_area};
+ghost use Rattle.zb_volume.specs.Calls.{Wrote, Cut, Synced, Replaced, same_area};
 ghost use Rattle.zb_volume.specs.Disk.{seen, area_length, written, IsSettled};
 ghost use Rattle.zb_volume.specs.Images.{CrashLeavesWith};
 ghost use Rattle.zb_volume.specs.Durable.{OldOrSide};
@@ -24,6 +24,8 @@ pub fn write_and_sync<V: Volume>(
     ensures content { V.told → OnOk result
         (seen (V.log volume.new) area ≡ written (seen (V.log volume.old) area) at bytes.now) }
     ensures settled { V.told → OnOk result (IsSettled (V.log volume.new) area) }
+    ensures calls { V.told → OnOk result
+        (V.log volume.new ≡ Synced area ∷ Wrote area at bytes.now ∷ V.log volume.old) }
     ensures any_moment { V.told → LeavesOnly area
         (CrashLeavesWith (V.log volume.old) area (written (seen (V.log volume.old) area) at bytes.now))
         (V.log volume.old) (V.log volume.new) }
@@ -46,6 +48,8 @@ pub fn cut_and_sync<V: Volume>(volume: &mut V, area: Area, length: u64) -> Resul
     ensures content { V.told → OnOk result
         (seen (V.log volume.new) area ≡ take length (seen (V.log volume.old) area)) }
     ensures settled { V.told → OnOk result (IsSettled (V.log volume.new) area) }
+    ensures calls { V.told → OnOk result
+        (V.log volume.new ≡ Synced area ∷ Cut area length ∷ V.log volume.old) }
     ensures any_moment { V.told → LeavesOnly area
         (CrashLeavesWith (V.log volume.old) area (take length (seen (V.log volume.old) area)))
         (V.log volume.old) (V.log volume.new) }
@@ -67,6 +71,8 @@ pub fn sync_and_replace<V: Volume>(volume: &mut V) -> Result<(), StoreFault>
     ensures settled { V.told → OnOk result (IsSettled (V.log volume.new) Area.Main) }
     ensures side { V.told → OnOk result
         ((seen (V.log volume.new) Area.Side ≡ []) × IsSettled (V.log volume.new) Area.Side) }
+    ensures calls { V.told → OnOk result
+        (V.log volume.new ≡ Replaced ∷ Synced Area.Side ∷ V.log volume.old) }
     ensures any_moment { V.told → LeavesOnly Area.Main (OldOrSide (V.log volume.old))
         (V.log volume.old) (V.log volume.new) }
     ensures cause { HasCause (V.write_faults volume.old) (V.write_faults volume.new) result }

@@ -23,7 +23,7 @@ use Rattle.zb_script.specs.declared.line.Line.TheVariants as lines
 use Rattle.zb_script.specs.declared.line.Turn.{Turn}
 use Rattle.zodb_top.specs.declared.pending.PendingStore.{PendingStore}
 use Rattle.zodb_top.specs.declared.vote.HeldVote.{HeldVote}
-use Rattle.zodb_top.specs.Machine.{After, Before, Decision, Done, OpenTransaction, Session, State, abort_in, answered, at_number, at_session, before_at, begin_in, change_of, conflict_of, decision_at, decision_of, decision_on, finish_in, finished, in_transaction, is_holder, line_in, line_of, load_in, next_number, start, read_content, read_revision, refused, session_of, store_in, transaction_of, turn_of, vote_in, voted_by, with_store}
+use Rattle.zodb_top.specs.Machine.{After, Before, Decision, Done, OpenTransaction, Session, State, abort_in, answered, at_number, at_session, before_at, begin_in, change_of, conflict_of, decision_at, decision_of, decision_on, finish_in, finished, in_transaction, is_holder, line_in, line_of, load_in, new_in, next_number, start, read_content, read_revision, refused, session_of, store_in, transaction_of, turn_of, vote_in, voted_by, with_store}
 use Rattle.zodb_top.specs.Output.{created, run_from}
 use Rattle.zodb_top.specs.Laws.{fronts_of, front_in}
 use Rattle.zb_script.specs.Shape.{is_turn_of}
@@ -260,6 +260,7 @@ store_fits b p (Some t) fit stores = by_test (is_holder b.number b.vote)
     by_test : (test : Bool) → LineFits b (cond test (refused b refusal.Voted) (record {
       answer = answer.Stored;
       list = b.list;
+      greatest = b.greatest;
       session = record { client = b.session.client; open_transaction = Some (record { front = t.front; list = t.list; stores = with_store t.stores p }) };
       vote = b.vote;
       stamps = b.stamps;
@@ -309,6 +310,20 @@ abort_fits : (b : Before) (o : Option OpenTransaction) → IsFitBefore b → Lin
 abort_fits b None fit = stays b (answer.Refused refusal.NoTransaction) fit tt
 abort_fits b (Some t) fit = record { list = fit.list; grown = omega arith; session = tt; vote = left_fits b.list b.vote (is_holder b.number b.vote) fit.vote; front = tt }
 
+new_fits : (b : Before) → IsFitBefore b → LineFits b (new_in b)
+new_fits b fit = by_test (nat_lt b.greatest (2 ^ 64 - 1))
+  where
+    by_test : (test : Bool) → LineFits b (cond test (record {
+      answer = answer.Oid (b.greatest + 1);
+      list = b.list;
+      greatest = b.greatest + 1;
+      session = b.session;
+      vote = b.vote;
+      stamps = b.stamps;
+    }) (refused b refusal.OidsSpent))
+    by_test true = record { list = fit.list; grown = omega arith; session = fit.session; vote = fit.vote; front = tt }
+    by_test false = stays b (answer.Refused refusal.OidsSpent) fit tt
+
 pub line_fits : (b : Before) (line : Line) → IsFitBefore b → LineFits b (line_in b line)
 line_fits b lines.Open fit = stays b (answer.Refused refusal.InTransaction) fit tt
 line_fits b lines.Begin fit = begin_fits b b.session.open_transaction fit
@@ -317,6 +332,7 @@ line_fits b (lines.Store oid base bytes) fit = store_fits b (record { oid = oid;
 line_fits b lines.Vote fit = vote_fits b b.vote b.session.open_transaction fit fit.session
 line_fits b lines.Finish fit = finish_fits b b.vote b.session.open_transaction fit fit.vote
 line_fits b lines.Abort fit = abort_fits b b.session.open_transaction fit
+line_fits b lines.New fit = new_fits b fit
 
 -- ---- turns
 
@@ -357,6 +373,7 @@ turn_fits s stamps client (lines.Store oid base bytes) fit = number_fits s stamp
 turn_fits s stamps client lines.Vote fit = number_fits s stamps lines.Vote (session_of client s.sessions) fit
 turn_fits s stamps client lines.Finish fit = number_fits s stamps lines.Finish (session_of client s.sessions) fit
 turn_fits s stamps client lines.Abort fit = number_fits s stamps lines.Abort (session_of client s.sessions) fit
+turn_fits s stamps client lines.New fit = number_fits s stamps lines.New (session_of client s.sessions) fit
 
 -- ---- runs
 

@@ -1,8 +1,8 @@
 -- In a script that is in shape each turn finds what it needs.
-use Rattle.std.proofs.Common.{◌≡◌, ℕ, List, [], ◌∷◌, Option, Some, None, Result, Ok, Err, Bool, true, false, cond, refl, ap}
-use Rattle.std.specs.Prelude.{◌==◌, ◌-◌, ◌^◌, nat_lt}
+use Rattle.std.proofs.Common.{◌≡◌, ℕ, List, [], ◌∷◌, Option, Some, None, Result, Ok, Err, Bool, true, false, cond, inl, inr, refl, ap}
+use Rattle.std.specs.Prelude.{◌==◌, ◌⊎◌, ◌+◌, ◌-◌, ◌^◌, ◌≤◌, nat_lt}
 use Rattle.std.specs.Option.{is_some}
-use Rattle.std.proofs.lemmas.Bool.{eq-eqb}
+use Rattle.std.proofs.lemmas.Bool.{eq-eqb, ltb-false}
 use Rattle.zb_ids.specs.declared.stamp.Stamp.{Stamp}
 use Rattle.zb_ids.specs.Tids.{tid_after}
 use Rattle.zb_outside.specs.Stamps.{stamps_after}
@@ -17,15 +17,15 @@ use Rattle.zb_script.specs.declared.answer.Answer.{Answer}
 use Rattle.zb_script.specs.declared.answer.Answer.TheVariants as answer
 use Rattle.zb_script.specs.declared.line.Line.{Line}
 use Rattle.zb_script.specs.declared.line.Line.TheVariants as lines
-use Rattle.zb_script.specs.Shape.{is_begin, is_ending, is_inside, is_vote, may_follow}
+use Rattle.zb_script.specs.Shape.{is_ending, is_inside, is_new, is_outside, is_vote, may_follow}
 use Rattle.zodb_top.specs.declared.pending.PendingStore.{PendingStore}
 use Rattle.zodb_top.specs.declared.vote.HeldVote.{HeldVote}
 use Rattle.zodb_top.specs.Laws.{is_known, is_known_refusal}
-use Rattle.zodb_top.specs.Machine.{After, Before, Decision, OpenTransaction, abort_in, answered, begin_in, conflict_of, decision_at, decision_of, decision_on, finish_in, finished, in_transaction, is_holder, line_in, load_in, next_number, read_content, read_revision, refused, store_in, transaction_of, vote_in, voted_by, with_store}
+use Rattle.zodb_top.specs.Machine.{After, Before, Decision, OpenTransaction, abort_in, answered, begin_in, conflict_of, decision_at, decision_of, decision_on, finish_in, finished, in_transaction, is_holder, line_in, load_in, next_number, read_content, read_revision, new_in, refused, store_in, transaction_of, vote_in, voted_by, with_store}
 
 -- ---- what a last line says
 
--- behind a client's line it has a transaction open, or none; of a finish nothing is said
+-- behind a client's line it has a transaction open, or none; of a finish and a `new` nothing is said
 abbrev pub PlaceIs : Line → Bool → Type 0
 PlaceIs lines.Open works = works ≡ false
 PlaceIs lines.Begin works = works ≡ true
@@ -34,13 +34,14 @@ PlaceIs (lines.Store oid base bytes) works = works ≡ true
 PlaceIs lines.Vote works = works ≡ true
 PlaceIs lines.Finish works = Unit {0}
 PlaceIs lines.Abort works = works ≡ false
+PlaceIs lines.New works = Unit {0}
 
 -- behind a line of session n a vote is held only where the line was a vote, and by this session
 abbrev pub VoteIs : Line → ℕ → Option HeldVote → Type 0
 VoteIs line n None = Unit {0}
 VoteIs line n (Some h) = (is_vote line ≡ true) × (h.session ≡ n)
 
--- what a line of a session leaves where its turn is in shape
+-- what a line of a session that is no `new` leaves where its turn is in shape
 pub record LineGoes (b : Before) (line : Line) (a : After) : Type 0 where
   pub known : is_known a.answer ≡ true
   pub client : a.session.client ≡ b.session.client
@@ -49,7 +50,7 @@ pub record LineGoes (b : Before) (line : Line) (a : After) : Type 0 where
 
 -- ---- lines
 
-no_vote : (m : Line) (n : ℕ) (v : Option HeldVote) → is_vote m ≡ false → VoteIs m n v → v ≡ None
+pub no_vote : (m : Line) (n : ℕ) (v : Option HeldVote) → is_vote m ≡ false → VoteIs m n v → v ≡ None
 no_vote m n None other is = refl
 no_vote m n (Some h) other is = let yes : is_vote m ≡ true = is.0 in absurd cc
 
@@ -84,6 +85,7 @@ store_goes b p (Some t) works free = by_test (is_holder b.number b.vote) (ap (is
     by_test : (test : Bool) → test ≡ false → LineGoes b (lines.Store p.oid p.base p.bytes) (cond test (refused b refusal.Voted) (record {
       answer = answer.Stored;
       list = b.list;
+      greatest = b.greatest;
       session = record { client = b.session.client; open_transaction = Some (record { front = t.front; list = t.list; stores = with_store t.stores p }) };
       vote = b.vote;
       stamps = b.stamps;
@@ -157,24 +159,26 @@ abort_goes b None held works = absurd cc
 abort_goes b (Some t) held works = record { known = refl; client = refl; place = refl; vote = left_goes b.number b.vote held }
 
 -- behind an open or an abort
-idle_goes : (b : Before) (line : Line) → is_begin line ≡ true → is_some b.session.open_transaction ≡ false → b.vote ≡ None → LineGoes b line (line_in b line)
-idle_goes b lines.Open follows idle free = absurd cc
-idle_goes b lines.Begin follows idle free = begin_goes b b.session.open_transaction idle free
-idle_goes b (lines.Load oid) follows idle free = absurd cc
-idle_goes b (lines.Store oid base bytes) follows idle free = absurd cc
-idle_goes b lines.Vote follows idle free = absurd cc
-idle_goes b lines.Finish follows idle free = absurd cc
-idle_goes b lines.Abort follows idle free = absurd cc
+idle_goes : (b : Before) (line : Line) → is_outside line ≡ true → is_new line ≡ false → is_some b.session.open_transaction ≡ false → b.vote ≡ None → LineGoes b line (line_in b line)
+idle_goes b lines.Open follows other idle free = absurd cc
+idle_goes b lines.Begin follows other idle free = begin_goes b b.session.open_transaction idle free
+idle_goes b (lines.Load oid) follows other idle free = absurd cc
+idle_goes b (lines.Store oid base bytes) follows other idle free = absurd cc
+idle_goes b lines.Vote follows other idle free = absurd cc
+idle_goes b lines.Finish follows other idle free = absurd cc
+idle_goes b lines.Abort follows other idle free = absurd cc
+idle_goes b lines.New follows other idle free = absurd cc
 
 -- in an open transaction that isn't voted
-inside_goes : (b : Before) (line : Line) → is_inside line ≡ true → is_some b.session.open_transaction ≡ true → b.vote ≡ None → LineGoes b line (line_in b line)
-inside_goes b lines.Open follows works free = absurd cc
-inside_goes b lines.Begin follows works free = absurd cc
-inside_goes b (lines.Load oid) follows works free = load_goes b oid b.session.open_transaction works works free
-inside_goes b (lines.Store oid base bytes) follows works free = store_goes b (record { oid = oid; base = base; bytes = bytes }) b.session.open_transaction works free
-inside_goes b lines.Vote follows works free = vote_goes b b.vote b.session.open_transaction free works works free
-inside_goes b lines.Finish follows works free = absurd cc
-inside_goes b lines.Abort follows works free = abort_goes b b.session.open_transaction (free_goes lines.Vote b.number b.vote free) works
+inside_goes : (b : Before) (line : Line) → is_inside line ≡ true → is_new line ≡ false → is_some b.session.open_transaction ≡ true → b.vote ≡ None → LineGoes b line (line_in b line)
+inside_goes b lines.Open follows other works free = absurd cc
+inside_goes b lines.Begin follows other works free = absurd cc
+inside_goes b (lines.Load oid) follows other works free = load_goes b oid b.session.open_transaction works works free
+inside_goes b (lines.Store oid base bytes) follows other works free = store_goes b (record { oid = oid; base = base; bytes = bytes }) b.session.open_transaction works free
+inside_goes b lines.Vote follows other works free = vote_goes b b.vote b.session.open_transaction free works works free
+inside_goes b lines.Finish follows other works free = absurd cc
+inside_goes b lines.Abort follows other works free = abort_goes b b.session.open_transaction (free_goes lines.Vote b.number b.vote free) works
+inside_goes b lines.New follows other works free = absurd cc
 
 -- behind a vote
 ending_goes : (b : Before) (line : Line) → is_ending line ≡ true → is_some b.session.open_transaction ≡ true → VoteIs lines.Vote b.number b.vote → LineGoes b line (line_in b line)
@@ -185,12 +189,53 @@ ending_goes b (lines.Store oid base bytes) follows works held = absurd cc
 ending_goes b lines.Vote follows works held = absurd cc
 ending_goes b lines.Finish follows works held = finish_goes b b.vote b.session.open_transaction refl held works
 ending_goes b lines.Abort follows works held = abort_goes b b.session.open_transaction held works
+ending_goes b lines.New follows works held = absurd cc
 
-pub line_goes : (b : Before) (m line : Line) → may_follow (Some m) line ≡ true → PlaceIs m (is_some b.session.open_transaction) → VoteIs m b.number b.vote → LineGoes b line (line_in b line)
-line_goes b lines.Open line follows place vote = idle_goes b line follows place (no_vote lines.Open b.number b.vote refl vote)
-line_goes b lines.Begin line follows place vote = inside_goes b line follows place (no_vote lines.Begin b.number b.vote refl vote)
-line_goes b (lines.Load oid) line follows place vote = inside_goes b line follows place (no_vote (lines.Load oid) b.number b.vote refl vote)
-line_goes b (lines.Store oid base bytes) line follows place vote = inside_goes b line follows place (no_vote (lines.Store oid base bytes) b.number b.vote refl vote)
-line_goes b lines.Vote line follows place vote = ending_goes b line follows place vote
-line_goes b lines.Finish line follows place vote = absurd cc
-line_goes b lines.Abort line follows place vote = idle_goes b line follows place (no_vote lines.Abort b.number b.vote refl vote)
+pub line_goes : (b : Before) (m line : Line) → may_follow (Some m) line ≡ true → is_new line ≡ false → PlaceIs m (is_some b.session.open_transaction) → VoteIs m b.number b.vote → LineGoes b line (line_in b line)
+line_goes b lines.Open line follows other place vote = idle_goes b line follows other place (no_vote lines.Open b.number b.vote refl vote)
+line_goes b lines.Begin line follows other place vote = inside_goes b line follows other place (no_vote lines.Begin b.number b.vote refl vote)
+line_goes b (lines.Load oid) line follows other place vote = inside_goes b line follows other place (no_vote (lines.Load oid) b.number b.vote refl vote)
+line_goes b (lines.Store oid base bytes) line follows other place vote = inside_goes b line follows other place (no_vote (lines.Store oid base bytes) b.number b.vote refl vote)
+line_goes b lines.Vote line follows other place vote = ending_goes b line follows place vote
+line_goes b lines.Finish line follows other place vote = absurd cc
+line_goes b lines.New line follows other place vote = absurd cc
+line_goes b lines.Abort line follows other place vote = idle_goes b line follows other place (no_vote lines.Abort b.number b.vote refl vote)
+
+-- ---- new
+
+-- a `new` is answered a number, or that none is left
+pub new_known : (b : Before) → (is_known (new_in b).answer ≡ true) ⊎ ((2 ^ 64 - 1 ≤ b.greatest) × ((new_in b).answer ≡ answer.Refused refusal.OidsSpent))
+new_known b = by_test (nat_lt b.greatest (2 ^ 64 - 1)) refl
+  where
+    given : After
+    given = record {
+      answer = answer.Oid (b.greatest + 1);
+      list = b.list;
+      greatest = b.greatest + 1;
+      session = b.session;
+      vote = b.vote;
+      stamps = b.stamps;
+    }
+
+    by_test : (test : Bool) → nat_lt b.greatest (2 ^ 64 - 1) ≡ test
+        → (is_known (cond test given (refused b refusal.OidsSpent)).answer ≡ true) ⊎ ((2 ^ 64 - 1 ≤ b.greatest) × ((cond test given (refused b refusal.OidsSpent)).answer ≡ answer.Refused refusal.OidsSpent))
+    by_test true e = inl refl
+    by_test false e = inr (ltb-false _ _ e, refl)
+
+-- it leaves the session and the vote as they were
+pub new_leaves : (b : Before) → ((new_in b).session ≡ b.session) × ((new_in b).vote ≡ b.vote)
+new_leaves b = by_test (nat_lt b.greatest (2 ^ 64 - 1))
+  where
+    given : After
+    given = record {
+      answer = answer.Oid (b.greatest + 1);
+      list = b.list;
+      greatest = b.greatest + 1;
+      session = b.session;
+      vote = b.vote;
+      stamps = b.stamps;
+    }
+
+    by_test : (test : Bool) → ((cond test given (refused b refusal.OidsSpent)).session ≡ b.session) × ((cond test given (refused b refusal.OidsSpent)).vote ≡ b.vote)
+    by_test true = (refl, refl)
+    by_test false = (refl, refl)

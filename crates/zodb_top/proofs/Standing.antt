@@ -1,5 +1,5 @@
 -- What the turns before one say of the state that it finds.
-use Rattle.std.proofs.Common.{◌≡◌, ℕ, List, [], ◌∷◌, ◌++◌, Option, Some, None, Bool, true, false, not, ◌&&◌, ◌||◌, cond, set, refl, sym, ap, subst, ◌∙◌}
+use Rattle.std.proofs.Common.{◌≡◌, ℕ, zero, suc, List, [], ◌∷◌, ◌++◌, Option, Some, None, Bool, true, false, not, ◌&&◌, ◌||◌, cond, inl, inr, set, refl, sym, ap, subst, ◌∙◌}
 use Rattle.std.specs.Prelude.{filter, slice_get}
 use Rattle.std.specs.List.{AllByRecursion, last_or}
 use Rattle.std.specs.Option.{is_some, option_map}
@@ -11,16 +11,17 @@ use Rattle.std.proofs.lemmas.List.{append-nil}
 use Rattle.zb_ids.specs.declared.stamp.Stamp.{Stamp}
 use Rattle.zb_outside.specs.Stamps.{stamps_after}
 use Rattle.zb_model.specs.declared.data.Transaction.{Transaction}
+use Rattle.zb_script.specs.declared.answer.Answer.{Answer}
 use Rattle.zb_script.specs.declared.line.Line.{Line}
 use Rattle.zb_script.specs.declared.line.Line.TheVariants as lines
 use Rattle.zb_script.specs.declared.line.Turn.{Turn}
-use Rattle.zb_script.specs.Shape.{all_stand, can_stand, has_turn, is_empty, is_turn_of, is_vote, last_line, may_follow}
+use Rattle.zb_script.specs.Shape.{all_stand, can_stand, has_turn, is_empty, is_new, is_step_of, is_turn_of, is_vote, last_line, may_follow}
 use Rattle.zodb_top.specs.declared.vote.HeldVote.{HeldVote}
-use Rattle.zodb_top.specs.Laws.{OnlyFourRefusals, answers_of, is_known}
-use Rattle.zodb_top.specs.Machine.{Done, Session, State, after_at, at_number, at_session, before_at, line_in, line_of, opened, session_of, start, turn_of}
+use Rattle.zodb_top.specs.Laws.{IsExpected, OnlyFiveRefusals, Taken, taken_of}
+use Rattle.zodb_top.specs.Machine.{Done, Session, State, after_at, at_number, at_session, before_at, line_in, line_of, new_in, opened, session_of, start, turn_of}
 use Rattle.zodb_top.specs.Output.{created}
 use Rattle.zodb_top.proofs.Sessions.{Sits, found_name, missing_still, same_name, session_of-set, sits_again, sits_first, sits_on, sits_still}
-use Rattle.zodb_top.proofs.Shapes.{PlaceIs, VoteIs, line_goes}
+use Rattle.zodb_top.proofs.Shapes.{PlaceIs, VoteIs, line_goes, new_known, new_leaves, no_vote}
 
 -- ---- last ones
 
@@ -48,10 +49,10 @@ line_over true xs t = ap (option_map (λ (u : Turn). u.line)) (last_from None xs
 line_over false xs t = rw append-nil refl
 
 -- a client's last line among the turns up to this one
-last_line-push : (client : List ℕ) (before : List Turn) (t : Turn) → last_line client (before ++ t ∷ []) ≡ cond (is_turn_of client t) (Some t.line) (last_line client before)
+last_line-push : (client : List ℕ) (before : List Turn) (t : Turn) → last_line client (before ++ t ∷ []) ≡ cond (is_step_of client t) (Some t.line) (last_line client before)
 last_line-push client before t =
-    ap (λ (turns : List Turn). option_map (λ (u : Turn). u.line) (last_or None turns)) (filter-append (is_turn_of client) before (t ∷ []))
-    ∙ line_over (is_turn_of client t) (filter (is_turn_of client) before) t
+    ap (λ (turns : List Turn). option_map (λ (u : Turn). u.line) (last_or None turns)) (filter-append (is_step_of client) before (t ∷ []))
+    ∙ line_over (is_step_of client t) (filter (is_step_of client) before) t
 
 -- ---- what stands
 
@@ -62,8 +63,9 @@ Placed lines.Begin client sessions = Sits client sessions true
 Placed (lines.Load oid) client sessions = Sits client sessions true
 Placed (lines.Store oid base bytes) client sessions = Sits client sessions true
 Placed lines.Vote client sessions = Sits client sessions true
-Placed lines.Finish client sessions = Unit {0}
+Placed lines.Finish client sessions = (works : Bool) × Sits client sessions works
 Placed lines.Abort client sessions = Sits client sessions false
+Placed lines.New client sessions = Unit {0}
 
 abbrev AtPlace : Option Line → List ℕ → List Session → Type 0
 AtPlace None client sessions = session_of client sessions ≡ None
@@ -80,9 +82,13 @@ record Stands (before : List Turn) (s : State) : Type 0 where
   pub places : (client : List ℕ) → AtPlace (last_line client before) client s.sessions
   pub vote : VoteAt (last_or None before) s.sessions s.vote
 
+-- a turn that was answered so in this state
+abbrev taken : State → Turn → Answer → Taken
+taken s t a = record { state = s; turn = t; answer = a }
+
 -- what a turn behind them leaves
-record TurnStands (before : List Turn) (t : Turn) (d : Done) : Type 0 where
-  pub known : is_known d.answer ≡ true
+record TurnStands (before : List Turn) (s : State) (t : Turn) (d : Done) : Type 0 where
+  pub known : IsExpected (taken s t d.answer)
   pub stands : Stands (before ++ t ∷ []) d.state
 
 placed_on : (m : Option Line) (client : List ℕ) (old new : List Session) → ((works : Bool) → Sits client old works → Sits client new works) → (session_of client old ≡ None → session_of client new ≡ None)
@@ -93,8 +99,9 @@ placed_on (Some lines.Begin) client old new sits missing place = sits true place
 placed_on (Some (lines.Load oid)) client old new sits missing place = sits true place
 placed_on (Some (lines.Store oid base bytes)) client old new sits missing place = sits true place
 placed_on (Some lines.Vote) client old new sits missing place = sits true place
-placed_on (Some lines.Finish) client old new sits missing place = tt
+placed_on (Some lines.Finish) client old new sits missing place = (place.0, sits place.0 place.1)
 placed_on (Some lines.Abort) client old new sits missing place = sits false place
+placed_on (Some lines.New) client old new sits missing place = tt
 
 placed_by : (line : Line) (client : List ℕ) (new : List Session) (works : Bool) → ((w : Bool) → works ≡ w → Sits client new w) → PlaceIs line works → Placed line client new
 placed_by lines.Open client new works sits is = sits false is
@@ -102,8 +109,9 @@ placed_by lines.Begin client new works sits is = sits true is
 placed_by (lines.Load oid) client new works sits is = sits true is
 placed_by (lines.Store oid base bytes) client new works sits is = sits true is
 placed_by lines.Vote client new works sits is = sits true is
-placed_by lines.Finish client new works sits is = tt
+placed_by lines.Finish client new works sits is = (works, sits works refl)
 placed_by lines.Abort client new works sits is = sits false is
+placed_by lines.New client new works sits is = tt
 
 -- a line that may follow finds its session
 record Found (m : Line) (client : List ℕ) (sessions : List Session) : Type 0 where
@@ -117,14 +125,30 @@ found_at lines.Begin line client sessions follows place = record { works = true;
 found_at (lines.Load oid) line client sessions follows place = record { works = true; sits = place; place = refl }
 found_at (lines.Store oid base bytes) line client sessions follows place = record { works = true; sits = place; place = refl }
 found_at lines.Vote line client sessions follows place = record { works = true; sits = place; place = refl }
-found_at lines.Finish line client sessions follows place = absurd cc
+found_at lines.Finish line client sessions follows place = record { works = place.0; sits = place.1; place = tt }
 found_at lines.Abort line client sessions follows place = record { works = false; sits = place; place = refl }
+found_at lines.New line client sessions follows place = absurd cc
 
 -- ---- the vote that a turn finds
 
 or_right : (yes turn : Bool) → yes ≡ true → (not yes || turn) ≡ true → turn ≡ true
 or_right true turn e either = either
 or_right false turn e either = absurd cc
+
+vote_no_new : (l : Line) → is_vote l ≡ true → is_new l ≡ false
+vote_no_new lines.Open e = refl
+vote_no_new lines.Begin e = refl
+vote_no_new (lines.Load oid) e = refl
+vote_no_new (lines.Store oid base bytes) e = refl
+vote_no_new lines.Vote e = refl
+vote_no_new lines.Finish e = refl
+vote_no_new lines.Abort e = refl
+vote_no_new lines.New e = absurd cc
+
+is_step : (turn new : Bool) → turn ≡ true → new ≡ false → (turn && not new) ≡ true
+is_step true false mine other = refl
+is_step true true mine other = absurd cc
+is_step false new mine other = absurd cc
 
 -- a vote that is held when a client has its turn is the client's, by its last line
 record Holds (before : List Turn) (client : List ℕ) (sessions : List Session) (h : HeldVote) : Type 0 where
@@ -141,7 +165,7 @@ holds before client sessions h (Some t) e vote turn =
     let same : t.client ≡ client = same_name t.client client mine in
     record {
       last = t.line;
-      is = ap (option_map (λ (u : Turn). u.line)) (last_kept (is_turn_of client) before t e mine);
+      is = ap (option_map (λ (u : Turn). u.line)) (last_kept (is_step_of client) before t e (is_step (is_turn_of client t) (is_new t.line) mine (vote_no_new t.line vote.0)));
       voted = vote.0;
       session = ap (λ (name : List ℕ). session_of name sessions) (sym same) ∙ vote.1;
     }
@@ -171,53 +195,111 @@ vote_gone t sessions (Some h) e = absurd cc
 
 -- ---- turns
 
--- a turn's own client by its line, and the others as before
-stand_again : (before : List Turn) (t : Turn) (old new : State) → Stands before old → Placed t.line t.client new.sessions → VoteAt (Some t) new.sessions new.vote
-    → ((client : List ℕ) → bytes_eq t.client client ≡ false → AtPlace (last_line client before) client old.sessions → AtPlace (last_line client before) client new.sessions)
+not_turn : (turn new : Bool) → new ≡ false → (turn && not new) ≡ false → turn ≡ false
+not_turn false new other step = refl
+not_turn true false other step = absurd cc
+not_turn true true other step = absurd cc
+
+not_new : (new : Bool) → not new ≡ true → new ≡ false
+not_new false e = refl
+not_new true e = absurd cc
+
+-- a turn's own client by its line, where that is no `new`, and the others as before
+stand_again : (before : List Turn) (t : Turn) (old new : State) → Stands before old → (is_new t.line ≡ false → Placed t.line t.client new.sessions) → VoteAt (Some t) new.sessions new.vote
+    → ((client : List ℕ) → is_step_of client t ≡ false → AtPlace (last_line client before) client old.sessions → AtPlace (last_line client before) client new.sessions)
     → Stands (before ++ t ∷ []) new
 stand_again before t old new stands own vote others = record {
-  places = λ client. subst (λ (o : Option Line). AtPlace o client new.sessions) (sym (last_line-push client before t)) (by_test client (is_turn_of client t) refl);
+  places = λ client. subst (λ (o : Option Line). AtPlace o client new.sessions) (sym (last_line-push client before t)) (by_test client (is_step_of client t) refl);
   vote = subst (λ (o : Option Turn). VoteAt o new.sessions new.vote) (sym (last_from None before t)) vote;
 }
   where
-    by_test : (client : List ℕ) (test : Bool) → is_turn_of client t ≡ test → AtPlace (cond test (Some t.line) (last_line client before)) client new.sessions
-    by_test client true e = subst (λ (name : List ℕ). Placed t.line name new.sessions) (same_name t.client client e) own
+    by_test : (client : List ℕ) (test : Bool) → is_step_of client t ≡ test → AtPlace (cond test (Some t.line) (last_line client before)) client new.sessions
+    by_test client true e =
+        let both = and_parts (is_turn_of client t) (not (is_new t.line)) e in
+        subst (λ (name : List ℕ). Placed t.line name new.sessions) (same_name t.client client both.0) (own (not_new (is_new t.line) both.1))
     by_test client false e = others client e (stands.places client)
 
 open_stands : (before : List Turn) (s : State) (stamps : List Stamp) (client : List ℕ) → Stands before s → last_line client before ≡ None → has_turn (last_or None before) client ≡ true
-    → TurnStands before (record { client = client; line = lines.Open }) (opened s stamps client)
+    → TurnStands before s (record { client = client; line = lines.Open }) (opened s stamps client)
 open_stands before s stamps client stands last turn =
     let t : Turn = record { client = client; line = lines.Open } in
     let y : Session = record { client = client; open_transaction = None } in
     let missing : session_of client s.sessions ≡ None = subst (λ (o : Option Line). AtPlace o client s.sessions) last (stands.places client) in
     record {
-      known = refl;
-      stands = stand_again before t s (opened s stamps client).state stands (sits_first client s.sessions missing)
+      known = inl refl;
+      stands = stand_again before t s (opened s stamps client).state stands (λ other. sits_first client s.sessions missing)
           (vote_gone t (s.sessions ++ y ∷ []) s.vote (no_vote_found before client s.sessions s.vote stands.vote turn last))
           (λ other differs place. placed_on (last_line other before) other s.sessions (s.sessions ++ y ∷ [])
-          (λ works sits. sits_still other s.sessions works y sits) (λ none. missing_still other s.sessions y none differs) place);
+          (λ works sits. sits_still other s.sessions works y sits) (λ none. missing_still other s.sessions y none (not_turn (bytes_eq client other) false refl differs)) place);
     }
 
 session_stands : (before : List Turn) (s : State) (stamps : List Stamp) (client : List ℕ) (m line : Line) (n : ℕ) (x : Session) → Stands before s
     → last_line client before ≡ Some m → may_follow (Some m) line ≡ true → has_turn (last_or None before) client ≡ true
-    → session_of client s.sessions ≡ Some n → slice_get s.sessions n ≡ Some x → PlaceIs m (is_some x.open_transaction)
-    → TurnStands before (record { client = client; line = line }) (after_at s n (line_in (before_at s stamps n x) line))
-session_stands before s stamps client m line n x stands last follows turn found at place =
+    → session_of client s.sessions ≡ Some n → slice_get s.sessions n ≡ Some x → PlaceIs m (is_some x.open_transaction) → is_new line ≡ false
+    → TurnStands before s (record { client = client; line = line }) (after_at s n (line_in (before_at s stamps n x) line))
+session_stands before s stamps client m line n x stands last follows turn found at place step =
     let t : Turn = record { client = client; line = line } in
     let b = before_at s stamps n x in
     let a = line_in b line in
-    let goes = line_goes b m line follows place (vote_found before client s.sessions s.vote m n stands.vote turn last found) in
+    let goes = line_goes b m line follows step place (vote_found before client s.sessions s.vote m n stands.vote turn last found) in
     let still : session_of client (set s.sessions n a.session) ≡ Some n = session_of-set client s.sessions n x a.session at goes.client ∙ found in
     let named : x.client ≡ client = same_name x.client client (found_name client s.sessions n x found at) in
     record {
-      known = goes.known;
+      known = inl goes.known;
       stands = stand_again before t s (after_at s n a).state stands
-          (placed_by line client (set s.sessions n a.session) (is_some a.session.open_transaction) (λ works is. sits_again client s.sessions works n x a.session found at goes.client is) goes.place)
+          (λ other. placed_by line client (set s.sessions n a.session) (is_some a.session.open_transaction) (λ works is. sits_again client s.sessions works n x a.session found at goes.client is) goes.place)
           (vote_left t n (set s.sessions n a.session) a.vote goes.vote still)
           (λ other differs place. placed_on (last_line other before) other s.sessions (set s.sessions n a.session)
-          (λ works sits. sits_on other s.sessions works n x a.session sits at goes.client (ap (λ (name : List ℕ). bytes_eq name other) named ∙ differs))
+          (λ works sits. sits_on other s.sessions works n x a.session sits at goes.client (ap (λ (name : List ℕ). bytes_eq name other) named ∙ not_turn (bytes_eq client other) (is_new line) step differs))
           (λ none. session_of-set other s.sessions n x a.session at goes.client ∙ none) place);
     }
+
+-- a `new` stands behind no vote
+new_behind : (m : Line) → may_follow (Some m) lines.New ≡ true → is_vote m ≡ false
+new_behind lines.Open follows = refl
+new_behind lines.Begin follows = refl
+new_behind (lines.Load oid) follows = refl
+new_behind (lines.Store oid base bytes) follows = refl
+new_behind lines.Vote follows = absurd cc
+new_behind lines.Finish follows = refl
+new_behind lines.Abort follows = refl
+new_behind lines.New follows = refl
+
+set_there : (xs : List Session) (n : ℕ) (x : Session) → slice_get xs n ≡ Some x → set xs n x ≡ xs
+set_there [] n x at = refl
+set_there (y ∷ xs) zero x at = ap (λ (z : Session). z ∷ xs) (sym (same_Some y x at))
+set_there (y ∷ xs) (suc n) x at = ap (λ (rest : List Session). y ∷ rest) (set_there xs n x at)
+
+new_expected : (s : State) (stamps : List Stamp) (client : List ℕ) (n : ℕ) (x : Session) → IsExpected (taken s (record { client = client; line = lines.New }) (new_in (before_at s stamps n x)).answer)
+new_expected s stamps client n x = elim (new_known (before_at s stamps n x)) [
+  | inl known ↦ inl known
+  | inr spent ↦ inr (record { line = refl; spent = spent.0; told = spent.1 })
+]
+
+-- a `new` leaves each client where it was
+new_stands : (before : List Turn) (s : State) (stamps : List Stamp) (client : List ℕ) (m : Line) (n : ℕ) (x : Session) → Stands before s
+    → last_line client before ≡ Some m → may_follow (Some m) lines.New ≡ true → has_turn (last_or None before) client ≡ true
+    → session_of client s.sessions ≡ Some n → slice_get s.sessions n ≡ Some x
+    → TurnStands before s (record { client = client; line = lines.New }) (after_at s n (new_in (before_at s stamps n x)))
+new_stands before s stamps client m n x stands last follows turn found at =
+    let t : Turn = record { client = client; line = lines.New } in
+    let a = new_in (before_at s stamps n x) in
+    let leaves = new_leaves (before_at s stamps n x) in
+    let same : set s.sessions n a.session ≡ s.sessions = ap (λ (y : Session). set s.sessions n y) leaves.0 ∙ set_there s.sessions n x at in
+    let free : s.vote ≡ None = no_vote m n s.vote (new_behind m follows) (vote_found before client s.sessions s.vote m n stands.vote turn last found) in
+    record {
+      known = new_expected s stamps client n x;
+      stands = stand_again before t s (after_at s n a).state stands (λ other. absurd cc) (vote_gone t (set s.sessions n a.session) a.vote (leaves.1 ∙ free))
+          (λ other differs place. subst (λ (sessions : List Session). AtPlace (last_line other before) other sessions) (sym same) place);
+    }
+
+-- a line that may follow
+line_stands : (before : List Turn) (s : State) (stamps : List Stamp) (client : List ℕ) (m line : Line) (n : ℕ) (x : Session) → Stands before s
+    → last_line client before ≡ Some m → may_follow (Some m) line ≡ true → has_turn (last_or None before) client ≡ true
+    → session_of client s.sessions ≡ Some n → slice_get s.sessions n ≡ Some x → PlaceIs m (is_some x.open_transaction)
+    → TurnStands before s (record { client = client; line = line }) (after_at s n (line_in (before_at s stamps n x) line))
+line_stands before s stamps client m lines.New n x stands last follows turn found at place = new_stands before s stamps client m n x stands last follows turn found at
+line_stands before s stamps client m line n x stands last follows turn found at place = session_stands before s stamps client m line n x stands last follows turn found at place refl
 
 no_open : (m : Line) → may_follow (Some m) lines.Open ≡ true → ⊥
 no_open lines.Open follows = cc
@@ -227,6 +309,7 @@ no_open (lines.Store oid base bytes) follows = cc
 no_open lines.Vote follows = cc
 no_open lines.Finish follows = cc
 no_open lines.Abort follows = cc
+no_open lines.New follows = cc
 
 line_at : (s : State) (stamps : List Stamp) (client : List ℕ) (m line : Line) → may_follow (Some m) line ≡ true → line_of s stamps client line ≡ at_number s stamps line (session_of client s.sessions)
 line_at s stamps client m lines.Open follows = absurd (no_open m follows)
@@ -236,9 +319,10 @@ line_at s stamps client m (lines.Store oid base bytes) follows = refl
 line_at s stamps client m lines.Vote follows = refl
 line_at s stamps client m lines.Finish follows = refl
 line_at s stamps client m lines.Abort follows = refl
+line_at s stamps client m lines.New follows = refl
 
 first_stands : (before : List Turn) (s : State) (stamps : List Stamp) (client : List ℕ) (line : Line) → Stands before s → last_line client before ≡ None → may_follow None line ≡ true
-    → has_turn (last_or None before) client ≡ true → TurnStands before (record { client = client; line = line }) (line_of s stamps client line)
+    → has_turn (last_or None before) client ≡ true → TurnStands before s (record { client = client; line = line }) (line_of s stamps client line)
 first_stands before s stamps client lines.Open stands last follows turn = open_stands before s stamps client stands last turn
 first_stands before s stamps client lines.Begin stands last follows turn = absurd cc
 first_stands before s stamps client (lines.Load oid) stands last follows turn = absurd cc
@@ -246,22 +330,23 @@ first_stands before s stamps client (lines.Store oid base bytes) stands last fol
 first_stands before s stamps client lines.Vote stands last follows turn = absurd cc
 first_stands before s stamps client lines.Finish stands last follows turn = absurd cc
 first_stands before s stamps client lines.Abort stands last follows turn = absurd cc
+first_stands before s stamps client lines.New stands last follows turn = absurd cc
 
 turn_stands : (before : List Turn) (s : State) (stamps : List Stamp) (client : List ℕ) (line : Line) (m : Option Line) → Stands before s → last_line client before ≡ m → may_follow m line ≡ true
-    → has_turn (last_or None before) client ≡ true → TurnStands before (record { client = client; line = line }) (line_of s stamps client line)
+    → has_turn (last_or None before) client ≡ true → TurnStands before s (record { client = client; line = line }) (line_of s stamps client line)
 turn_stands before s stamps client line None stands last follows turn = first_stands before s stamps client line stands last follows turn
 turn_stands before s stamps client line (Some m) stands last follows turn =
     let placed : Placed m client s.sessions = subst (λ (o : Option Line). AtPlace o client s.sessions) last (stands.places client) in
     let at = found_at m line client s.sessions follows placed in
     let e : line_of s stamps client line ≡ after_at s at.sits.number (line_in (before_at s stamps at.sits.number at.sits.session) line) =
     line_at s stamps client m line follows ∙ ap (at_number s stamps line) at.sits.found ∙ ap (at_session s stamps line at.sits.number) at.sits.at in
-    subst (TurnStands before (record { client = client; line = line })) (sym e)
-    (session_stands before s stamps client m line at.sits.number at.sits.session stands last follows turn at.sits.found at.sits.at (subst (PlaceIs m) (sym at.sits.working) at.place))
+    subst (TurnStands before s (record { client = client; line = line })) (sym e)
+    (line_stands before s stamps client m line at.sits.number at.sits.session stands last follows turn at.sits.found at.sits.at (subst (PlaceIs m) (sym at.sits.working) at.place))
 
 -- ---- runs
 
 run_known : (before : List Turn) (s : State) (stamps : List Stamp) (turns : List Turn) (ends : Bool) → Stands before s → all_stand before turns ends ≡ true
-    → AllByRecursion (λ a. is_known a ≡ true) (answers_of s stamps turns)
+    → AllByRecursion IsExpected (taken_of s stamps turns)
 run_known before s stamps [] ends stands shape = tt
 run_known before s stamps (t ∷ turns) ends stands shape =
     let here = and_parts (can_stand before t (ends && is_empty turns)) (all_stand (before ++ t ∷ []) turns ends) shape in
@@ -275,7 +360,7 @@ run_known before s stamps (t ∷ turns) ends stands shape =
 start_stands : (list : List Transaction) → Stands [] (start list)
 start_stands list = record { places = λ client. refl; vote = tt }
 
-pub four_refusals : OnlyFourRefusals
-four_refusals = λ stamps turns shape.
-    All-from_recursion (λ a. is_known a ≡ true) (answers_of (start (created stamps)) (stamps_after stamps) turns)
+pub five_refusals : OnlyFiveRefusals
+five_refusals = λ stamps turns shape.
+    All-from_recursion IsExpected (taken_of (start (created stamps)) (stamps_after stamps) turns)
     (run_known [] (start (created stamps)) (stamps_after stamps) turns true (start_stands (created stamps)) shape)

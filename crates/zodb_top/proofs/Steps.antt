@@ -1,8 +1,9 @@
 -- What each line's code leaves is what the machine leaves.
-use Rattle.std.proofs.Common.{◌≡◌, ℕ, zero, suc, ◌+◌, ◌<◌, ◌≤◌, List, [], ◌∷◌, ◌++◌, Option, Some, None, Bool, true, false, length, map, set, get_or, take, refl, sym, ap, subst, ◌∙◌, arith}
-use Rattle.std.specs.Prelude.{slice_get}
+use Rattle.std.proofs.Common.{◌≡◌, ℕ, zero, suc, ◌+◌, ◌-◌, ◌^◌, ◌<◌, ◌≤◌, List, [], ◌∷◌, ◌++◌, Option, Some, None, Bool, true, false, length, map, set, get_or, take, refl, sym, ap, subst, ◌∙◌, arith}
+use Rattle.std.specs.Prelude.{nat_lt, slice_get}
 use Rattle.std.specs.Option.{is_none, is_some, option_map}
 use Rattle.std.specs.List.{AllByRecursion}
+use Rattle.std.proofs.lemmas.Bool.{le-ltb, lt-ltb}
 use Rattle.std.proofs.lemmas.Option.{same_Some, slice_get-map, slice_get-get_or}
 use Rattle.std.proofs.lemmas.List.{get_or_default, map-set, take_all}
 use Rattle.zb_ids.specs.declared.stamp.Stamp.{Stamp}
@@ -25,21 +26,21 @@ use Rattle.zodb_top.specs.Steps.{IsStep}
 -- ---- sessions of seats
 
 -- a line of a session is one of its seat
-pub at_seat : (list : List Transaction) (seats : List Seat) (vote : Option HeldVote) (stamps : List Stamp) (line : Line) (n : ℕ) (x : Seat)
+pub at_seat : (list : List Transaction) (greatest : ℕ) (seats : List Seat) (vote : Option HeldVote) (stamps : List Stamp) (line : Line) (n : ℕ) (x : Seat)
     → n < length seats → x ≡ get_or seats n x
-    → at_session (state_with list seats vote) stamps line n (slice_get (map (seen_seat list) seats) n)
-    ≡ after_at (state_with list seats vote) n (line_in (before_at (state_with list seats vote) stamps n (seen_seat list x)) line)
-at_seat list seats vote stamps line n x within is =
+    → at_session (state_with list greatest seats vote) stamps line n (slice_get (map (seen_seat list) seats) n)
+    ≡ after_at (state_with list greatest seats vote) n (line_in (before_at (state_with list greatest seats vote) stamps n (seen_seat list x)) line)
+at_seat list greatest seats vote stamps line n x within is =
     let here : slice_get (map (seen_seat list) seats) n ≡ Some (seen_seat list x) =
     slice_get-map (seen_seat list) seats n ∙ ap (option_map (seen_seat list)) (slice_get-get_or seats n x within ∙ ap (λ (y : Seat). Some y) (sym is)) in
     rw here refl
 
 -- what is left of a session is put at its place
-pub put_back : (list list' : List Transaction) (seats : List Seat) (vote vote' : Option HeldVote) (n : ℕ) (y : Seat) (a : Answer) (stamps : List Stamp)
-    → after_at (state_with list seats vote) n (record { answer = a; list = list'; session = seen_seat list y; vote = vote'; stamps = stamps })
-    ≡ record { answer = a; state = record { list = list'; sessions = map (seen_seat list) (set seats n y); vote = vote' }; stamps = stamps }
-put_back list list' seats vote vote' n y a stamps =
-    ap (λ (sessions : List Session). let d : Done = record { answer = a; state = record { list = list'; sessions = sessions; vote = vote' }; stamps = stamps } in d) (sym (map-set (seen_seat list) seats n y))
+pub put_back : (list list' : List Transaction) (greatest greatest' : ℕ) (seats : List Seat) (vote vote' : Option HeldVote) (n : ℕ) (y : Seat) (a : Answer) (stamps : List Stamp)
+    → after_at (state_with list greatest seats vote) n (record { answer = a; list = list'; greatest = greatest'; session = seen_seat list y; vote = vote'; stamps = stamps })
+    ≡ record { answer = a; state = record { list = list'; greatest = greatest'; sessions = map (seen_seat list) (set seats n y); vote = vote' }; stamps = stamps }
+put_back list list' greatest greatest' seats vote vote' n y a stamps =
+    ap (λ (sessions : List Session). let d : Done = record { answer = a; state = record { list = list'; greatest = greatest'; sessions = sessions; vote = vote' }; stamps = stamps } in d) (sym (map-set (seen_seat list) seats n y))
 
 pub is_some-map : {A B : Type 0} (f : A → B) (o : Option A) → is_some (option_map f o) ≡ is_some o
 is_some-map f None = refl
@@ -55,30 +56,30 @@ begin_in-none : (b : Before) (o : Option OpenTransaction) → is_some o ≡ fals
 begin_in-none b None e = refl
 begin_in-none b (Some t) e = absurd cc
 
-pub begin_refused : (list : List Transaction) (seats : List Seat) (vote : Option HeldVote) (n : ℕ) (x : Seat)
+pub begin_refused : (list : List Transaction) (greatest : ℕ) (seats : List Seat) (vote : Option HeldVote) (n : ℕ) (x : Seat)
     → n < length seats → x ≡ get_or seats n x → is_some x.work ≡ true
-    → IsStep (state_with list seats vote) lines.Begin n (answer.Refused refusal.InTransaction) (state_with list (set seats n x) vote)
-begin_refused list seats vote n x within is some = λ stamps.
-    let s = state_with list seats vote in
+    → IsStep (state_with list greatest seats vote) lines.Begin n (answer.Refused refusal.InTransaction) (state_with list greatest (set seats n x) vote)
+begin_refused list greatest seats vote n x within is some = λ stamps.
+    let s = state_with list greatest seats vote in
     let b = before_at s stamps n (seen_seat list x) in
-    at_seat list seats vote stamps lines.Begin n x within is
+    at_seat list greatest seats vote stamps lines.Begin n x within is
     ∙ ap (after_at s n) (begin_in-open b (option_map (seen_work list) x.work) (is_some-map (seen_work list) x.work ∙ some))
-    ∙ put_back list list seats vote vote n x (answer.Refused refusal.InTransaction) stamps
+    ∙ put_back list list greatest greatest seats vote vote n x (answer.Refused refusal.InTransaction) stamps
 
-pub begin_new : (list : List Transaction) (seats : List Seat) (vote : Option HeldVote) (n newest count : ℕ) (x : Seat) (stores : Vec PendingStore)
+pub begin_new : (list : List Transaction) (greatest : ℕ) (seats : List Seat) (vote : Option HeldVote) (n newest count : ℕ) (x : Seat) (stores : Vec PendingStore)
     → n < length seats → x ≡ get_or seats n x → is_some x.work ≡ false → newest ≡ newest_tid list → count ≡ length list → stores.items ≡ []
-    → IsStep (state_with list seats vote) lines.Begin n (answer.Begun (newest + 1))
-    (state_with list (set seats n (record { client = x.client; work = Some (record { front = newest + 1; length = count; stores = stores }) })) vote)
-begin_new list seats vote n newest count x stores within is none newest_is count_is empty = λ stamps.
-    let s = state_with list seats vote in
+    → IsStep (state_with list greatest seats vote) lines.Begin n (answer.Begun (newest + 1))
+    (state_with list greatest (set seats n (record { client = x.client; work = Some (record { front = newest + 1; length = count; stores = stores }) })) vote)
+begin_new list greatest seats vote n newest count x stores within is none newest_is count_is empty = λ stamps.
+    let s = state_with list greatest seats vote in
     let b = before_at s stamps n (seen_seat list x) in
     let y : Seat = record { client = x.client; work = Some (record { front = newest + 1; length = count; stores = stores }) } in
     let whole : take count list ≡ list = take_all count list (omega arith) in
-    let new : begin_in b None ≡ record { answer = answer.Begun (newest + 1); list = list; session = seen_seat list y; vote = vote; stamps = stamps } =
+    let new : begin_in b None ≡ record { answer = answer.Begun (newest + 1); list = list; greatest = greatest; session = seen_seat list y; vote = vote; stamps = stamps } =
     rw (newest_is, whole, empty) refl in
-    at_seat list seats vote stamps lines.Begin n x within is
+    at_seat list greatest seats vote stamps lines.Begin n x within is
     ∙ ap (after_at s n) (begin_in-none b (option_map (seen_work list) x.work) (is_some-map (seen_work list) x.work ∙ none) ∙ new)
-    ∙ put_back list list seats vote vote n y (answer.Begun (newest + 1)) stamps
+    ∙ put_back list list greatest greatest seats vote vote n y (answer.Begun (newest + 1)) stamps
 
 -- ---- lines that leave the hub as it was
 
@@ -87,16 +88,43 @@ set_same [] n x within is = refl
 set_same (y ∷ seats) zero x within is = ap (λ (z : Seat). z ∷ seats) is
 set_same (y ∷ seats) (suc n) x within is = ap (λ (rest : List Seat). y ∷ rest) (set_same seats n x (omega arith) is)
 
-pub stays : (list : List Transaction) (seats : List Seat) (vote : Option HeldVote) (line : Line) (n : ℕ) (x : Seat) (a : Answer)
+pub stays : (list : List Transaction) (greatest : ℕ) (seats : List Seat) (vote : Option HeldVote) (line : Line) (n : ℕ) (x : Seat) (a : Answer)
     → n < length seats → x ≡ get_or seats n x
-    → ((stamps : List Stamp) → line_in (before_at (state_with list seats vote) stamps n (seen_seat list x)) line ≡ answered (before_at (state_with list seats vote) stamps n (seen_seat list x)) a)
-    → IsStep (state_with list seats vote) line n a (state_with list seats vote)
-stays list seats vote line n x a within is answers = λ stamps.
-    let s = state_with list seats vote in
-    at_seat list seats vote stamps line n x within is
+    → ((stamps : List Stamp) → line_in (before_at (state_with list greatest seats vote) stamps n (seen_seat list x)) line ≡ answered (before_at (state_with list greatest seats vote) stamps n (seen_seat list x)) a)
+    → IsStep (state_with list greatest seats vote) line n a (state_with list greatest seats vote)
+stays list greatest seats vote line n x a within is answers = λ stamps.
+    let s = state_with list greatest seats vote in
+    at_seat list greatest seats vote stamps line n x within is
     ∙ ap (after_at s n) (answers stamps)
-    ∙ put_back list list seats vote vote n x a stamps
-    ∙ ap (λ (ss : List Seat). let d : Done = record { answer = a; state = state_with list ss vote; stamps = stamps } in d) (set_same seats n x within is)
+    ∙ put_back list list greatest greatest seats vote vote n x a stamps
+    ∙ ap (λ (ss : List Seat). let d : Done = record { answer = a; state = state_with list greatest ss vote; stamps = stamps } in d) (set_same seats n x within is)
+
+-- ---- new
+
+seat_of : (seats : List Seat) (n : ℕ) → n < length seats → (x : Seat) × (x ≡ get_or seats n x)
+seat_of [] n within = absurd (omega arith)
+seat_of (x ∷ seats) zero within = (x, refl)
+seat_of (x ∷ seats) (suc n) within = seat_of seats n (omega arith)
+
+pub new_spent : (list : List Transaction) (greatest : ℕ) (seats : List Seat) (vote : Option HeldVote) (n : ℕ) → n < length seats → 2 ^ 64 - 1 ≤ greatest
+    → IsStep (state_with list greatest seats vote) lines.New n (answer.Refused refusal.OidsSpent) (state_with list greatest seats vote)
+new_spent list greatest seats vote n within spent =
+    let x = seat_of seats n within in
+    let full : nat_lt greatest (2 ^ 64 - 1) ≡ false = le-ltb _ _ spent in
+    stays list greatest seats vote lines.New n x.0 (answer.Refused refusal.OidsSpent) within x.1 (λ stamps. rw full refl)
+
+pub new_given : (list : List Transaction) (greatest : ℕ) (seats : List Seat) (vote : Option HeldVote) (n : ℕ) → n < length seats → greatest < 2 ^ 64 - 1
+    → IsStep (state_with list greatest seats vote) lines.New n (answer.Oid (greatest + 1)) (state_with list (greatest + 1) seats vote)
+new_given list greatest seats vote n within left = λ stamps.
+    let s = state_with list greatest seats vote in
+    let x = seat_of seats n within in
+    let some : nat_lt greatest (2 ^ 64 - 1) ≡ true = lt-ltb _ _ left in
+    let leaves : line_in (before_at s stamps n (seen_seat list x.0)) lines.New
+    ≡ record { answer = answer.Oid (greatest + 1); list = list; greatest = greatest + 1; session = seen_seat list x.0; vote = vote; stamps = stamps } = rw some refl in
+    at_seat list greatest seats vote stamps lines.New n x.0 within x.1
+    ∙ ap (after_at s n) leaves
+    ∙ put_back list list greatest (greatest + 1) seats vote vote n x.0 (answer.Oid (greatest + 1)) stamps
+    ∙ ap (λ (ss : List Seat). let d : Done = record { answer = answer.Oid (greatest + 1); state = state_with list (greatest + 1) ss vote; stamps = stamps } in d) (set_same seats n x.0 within x.1)
 
 -- ---- load
 
@@ -114,41 +142,41 @@ within_at count [] n x w all within is e = absurd (omega arith)
 within_at count (y ∷ seats) zero x w all within is e = subst (IsWithin count) (ap (λ (z : Seat). z.work) (sym is) ∙ e) all.0
 within_at count (y ∷ seats) (suc n) x w all within is e = within_at count seats n x w all.1 (omega arith) is e
 
-pub load_refused : (list : List Transaction) (seats : List Seat) (vote : Option HeldVote) (n oid : ℕ) → option_map (λ x. x.work) (slice_get seats n) ≡ Some None
-    → IsStep (state_with list seats vote) (lines.Load oid) n (answer.Refused refusal.NoTransaction) (state_with list seats vote)
-load_refused list seats vote n oid e =
+pub load_refused : (list : List Transaction) (greatest : ℕ) (seats : List Seat) (vote : Option HeldVote) (n oid : ℕ) → option_map (λ x. x.work) (slice_get seats n) ≡ Some None
+    → IsStep (state_with list greatest seats vote) (lines.Load oid) n (answer.Refused refusal.NoTransaction) (state_with list greatest seats vote)
+load_refused list greatest seats vote n oid e =
     let x = seat_at seats n None e in
-    stays list seats vote (lines.Load oid) n x.0 (answer.Refused refusal.NoTransaction) x.1 x.2 (λ stamps. ap (λ (o : Option Work). in_transaction (before_at (state_with list seats vote) stamps n (seen_seat list x.0)) (option_map (seen_work list) o) (load_in (before_at (state_with list seats vote) stamps n (seen_seat list x.0)) oid)) x.3)
+    stays list greatest seats vote (lines.Load oid) n x.0 (answer.Refused refusal.NoTransaction) x.1 x.2 (λ stamps. ap (λ (o : Option Work). in_transaction (before_at (state_with list greatest seats vote) stamps n (seen_seat list x.0)) (option_map (seen_work list) o) (load_in (before_at (state_with list greatest seats vote) stamps n (seen_seat list x.0)) oid)) x.3)
 
-pub load_step : (list : List Transaction) (seats : List Seat) (vote : Option HeldVote) (n oid : ℕ) (w : Work) (a : Answer) → option_map (λ x. x.work) (slice_get seats n) ≡ Some (Some w)
+pub load_step : (list : List Transaction) (greatest : ℕ) (seats : List Seat) (vote : Option HeldVote) (n oid : ℕ) (w : Work) (a : Answer) → option_map (λ x. x.work) (slice_get seats n) ≡ Some (Some w)
     → a ≡ read_revision oid (revision_below oid w.front (take w.length list))
-    → IsStep (state_with list seats vote) (lines.Load oid) n a (state_with list seats vote)
-load_step list seats vote n oid w a e read =
+    → IsStep (state_with list greatest seats vote) (lines.Load oid) n a (state_with list greatest seats vote)
+load_step list greatest seats vote n oid w a e read =
     let x = seat_at seats n (Some w) e in
-    stays list seats vote (lines.Load oid) n x.0 a x.1 x.2 (λ stamps.
-    let b = before_at (state_with list seats vote) stamps n (seen_seat list x.0) in
+    stays list greatest seats vote (lines.Load oid) n x.0 a x.1 x.2 (λ stamps.
+    let b = before_at (state_with list greatest seats vote) stamps n (seen_seat list x.0) in
     ap (λ (o : Option Work). in_transaction b (option_map (seen_work list) o) (load_in b oid)) x.3 ∙ ap (answered b) (sym read))
 
 -- ---- store
 
-pub store_refused : (list : List Transaction) (seats : List Seat) (vote : Option HeldVote) (n : ℕ) (p : PendingStore) (w : Option Work)
+pub store_refused : (list : List Transaction) (greatest : ℕ) (seats : List Seat) (vote : Option HeldVote) (n : ℕ) (p : PendingStore) (w : Option Work)
     → option_map (λ x. x.work) (slice_get seats n) ≡ Some w → is_none w ≡ true
-    → IsStep (state_with list seats vote) (lines.Store p.oid p.base p.bytes) n (answer.Refused refusal.NoTransaction) (state_with list seats vote)
-store_refused list seats vote n p (Some w) e none = absurd cc
-store_refused list seats vote n p None e none =
+    → IsStep (state_with list greatest seats vote) (lines.Store p.oid p.base p.bytes) n (answer.Refused refusal.NoTransaction) (state_with list greatest seats vote)
+store_refused list greatest seats vote n p (Some w) e none = absurd cc
+store_refused list greatest seats vote n p None e none =
     let x = seat_at seats n None e in
-    stays list seats vote (lines.Store p.oid p.base p.bytes) n x.0 (answer.Refused refusal.NoTransaction) x.1 x.2 (λ stamps.
-    let b = before_at (state_with list seats vote) stamps n (seen_seat list x.0) in
+    stays list greatest seats vote (lines.Store p.oid p.base p.bytes) n x.0 (answer.Refused refusal.NoTransaction) x.1 x.2 (λ stamps.
+    let b = before_at (state_with list greatest seats vote) stamps n (seen_seat list x.0) in
     ap (λ (o : Option Work). in_transaction b (option_map (seen_work list) o) (store_in b p)) x.3)
 
-pub store_voted : (list : List Transaction) (seats : List Seat) (vote : Option HeldVote) (n : ℕ) (p : PendingStore) (w : Option Work)
+pub store_voted : (list : List Transaction) (greatest : ℕ) (seats : List Seat) (vote : Option HeldVote) (n : ℕ) (p : PendingStore) (w : Option Work)
     → option_map (λ x. x.work) (slice_get seats n) ≡ Some w → is_none w ≡ false → is_holder n vote ≡ true
-    → IsStep (state_with list seats vote) (lines.Store p.oid p.base p.bytes) n (answer.Refused refusal.Voted) (state_with list seats vote)
-store_voted list seats vote n p None e some holds = absurd cc
-store_voted list seats vote n p (Some w) e some holds =
+    → IsStep (state_with list greatest seats vote) (lines.Store p.oid p.base p.bytes) n (answer.Refused refusal.Voted) (state_with list greatest seats vote)
+store_voted list greatest seats vote n p None e some holds = absurd cc
+store_voted list greatest seats vote n p (Some w) e some holds =
     let x = seat_at seats n (Some w) e in
-    stays list seats vote (lines.Store p.oid p.base p.bytes) n x.0 (answer.Refused refusal.Voted) x.1 x.2 (λ stamps.
-    let b = before_at (state_with list seats vote) stamps n (seen_seat list x.0) in
+    stays list greatest seats vote (lines.Store p.oid p.base p.bytes) n x.0 (answer.Refused refusal.Voted) x.1 x.2 (λ stamps.
+    let b = before_at (state_with list greatest seats vote) stamps n (seen_seat list x.0) in
     ap (λ (o : Option Work). in_transaction b (option_map (seen_work list) o) (store_in b p)) x.3 ∙ rw holds refl)
 
 stored_seen : (list : List Transaction) (x y : Seat) (p : PendingStore) (w : Work) → x.work ≡ Some w → y.client ≡ x.client → IsStored x.work p y.work
@@ -161,21 +189,21 @@ stored_seen list x y p w e client stored = rw client (by_work y.work (subst (λ 
     by_work None h = absurd h
     by_work (Some v) h = rw (h.0, h.1, h.2) refl
 
-pub store_step : (list : List Transaction) (seats : List Seat) (vote : Option HeldVote) (n : ℕ) (x y : Seat) (p : PendingStore) (w : Option Work)
+pub store_step : (list : List Transaction) (greatest : ℕ) (seats : List Seat) (vote : Option HeldVote) (n : ℕ) (x y : Seat) (p : PendingStore) (w : Option Work)
     → option_map (λ x. x.work) (slice_get seats n) ≡ Some w → is_none w ≡ false → is_holder n vote ≡ false
     → n < length seats → x ≡ get_or seats n x → y.client ≡ x.client → IsStored x.work p y.work
-    → IsStep (state_with list seats vote) (lines.Store p.oid p.base p.bytes) n answer.Stored (state_with list (set seats n y) vote)
-store_step list seats vote n x y p None e some free within is client stored = absurd cc
-store_step list seats vote n x y p (Some w) e some free within is client stored = λ stamps.
-    let s = state_with list seats vote in
+    → IsStep (state_with list greatest seats vote) (lines.Store p.oid p.base p.bytes) n answer.Stored (state_with list greatest (set seats n y) vote)
+store_step list greatest seats vote n x y p None e some free within is client stored = absurd cc
+store_step list greatest seats vote n x y p (Some w) e some free within is client stored = λ stamps.
+    let s = state_with list greatest seats vote in
     let b = before_at s stamps n (seen_seat list x) in
     let z = seat_at seats n (Some w) e in
     let same : z.0 ≡ x = z.2 ∙ get_or_default seats n z.0 x within ∙ sym is in
     let work : x.work ≡ Some w = ap (λ (v : Seat). v.work) (sym same) ∙ z.3 in
-    at_seat list seats vote stamps (lines.Store p.oid p.base p.bytes) n x within is
+    at_seat list greatest seats vote stamps (lines.Store p.oid p.base p.bytes) n x within is
     ∙ ap (λ (o : Option Work). after_at s n (in_transaction b (option_map (seen_work list) o) (store_in b p))) work
-    ∙ rw free (ap (λ (v : Session). after_at s n (record { answer = answer.Stored; list = list; session = v; vote = vote; stamps = stamps })) (sym (stored_seen list x y p w work client stored)))
-    ∙ put_back list list seats vote vote n y answer.Stored stamps
+    ∙ rw free (ap (λ (v : Session). after_at s n (record { answer = answer.Stored; list = list; greatest = greatest; session = v; vote = vote; stamps = stamps })) (sym (stored_seen list x y p w work client stored)))
+    ∙ put_back list list greatest greatest seats vote vote n y answer.Stored stamps
 
 pub within_set : (count : ℕ) (seats : List Seat) (n : ℕ) (y : Seat) → AllByRecursion (λ x. IsWithin count x.work) seats → IsWithin count y.work
     → AllByRecursion (λ x. IsWithin count x.work) (set seats n y)

@@ -52,9 +52,9 @@ session_missing list client seats e = e ∙ sym (position-map (seen_seat list) (
 
 -- ---- open
 
-pub opening : (list : List Transaction) (seats : List Seat) (vote : Option HeldVote) (client : List ℕ) (n : ℕ) → n ≡ length seats
-    → IsOpening (state_with list seats vote) client (answer.Opened n) (state_with list (seats ++ (record { client = client; work = None }) ∷ []) vote)
-opening list seats vote client n is = λ stamps.
+pub opening : (list : List Transaction) (greatest : ℕ) (seats : List Seat) (vote : Option HeldVote) (client : List ℕ) (n : ℕ) → n ≡ length seats
+    → IsOpening (state_with list greatest seats vote) client (answer.Opened n) (state_with list greatest (seats ++ (record { client = client; work = None }) ∷ []) vote)
+opening list greatest seats vote client n is = λ stamps.
     rw (is, length-map seats (seen_seat list), map-append (seen_seat list) seats ((record { client = client; work = None }) ∷ [])) refl
 
 all_push : (count : ℕ) (seats : List Seat) (x : Seat) → AllByRecursion (λ y. IsWithin count y.work) seats → IsWithin count x.work → AllByRecursion (λ y. IsWithin count y.work) (seats ++ x ∷ [])
@@ -66,11 +66,11 @@ opening_sound list seats vote client sound = record { within = all_push (length 
 
 -- ---- lines and turns
 
-pub open_again : (list : List Transaction) (seats : List Seat) (vote : Option HeldVote) (n : ℕ) → n < length seats
-    → IsStep (state_with list seats vote) lines.Open n (answer.Refused refusal.InTransaction) (state_with list seats vote)
-open_again list seats vote n within =
+pub open_again : (list : List Transaction) (greatest : ℕ) (seats : List Seat) (vote : Option HeldVote) (n : ℕ) → n < length seats
+    → IsStep (state_with list greatest seats vote) lines.Open n (answer.Refused refusal.InTransaction) (state_with list greatest seats vote)
+open_again list greatest seats vote n within =
     let x = seat_of seats n within in
-    stays list seats vote lines.Open n x.0 (answer.Refused refusal.InTransaction) within x.1 (λ stamps. refl)
+    stays list greatest seats vote lines.Open n x.0 (answer.Refused refusal.InTransaction) within x.1 (λ stamps. refl)
   where
     seat_of : (seats : List Seat) (n : ℕ) → n < length seats → (x : Seat) × (x ≡ get_or seats n x)
     seat_of [] n within = absurd (omega arith)
@@ -89,6 +89,7 @@ turn_opening told old new t a does step = by_line told t.line does
     by_line (Some stamps) lines.Vote does = absurd cc
     by_line (Some stamps) lines.Finish does = absurd cc
     by_line (Some stamps) lines.Abort does = absurd cc
+    by_line (Some stamps) lines.New does = absurd cc
 
 line_not_open : (s : State) (stamps : List Stamp) (client : List ℕ) (line : Line) → is_open line ≡ false → line_of s stamps client line ≡ at_number s stamps line (session_of client s.sessions)
 line_not_open s stamps client lines.Open other = absurd cc
@@ -98,6 +99,7 @@ line_not_open s stamps client (lines.Store oid base bytes) other = refl
 line_not_open s stamps client lines.Vote other = refl
 line_not_open s stamps client lines.Finish other = refl
 line_not_open s stamps client lines.Abort other = refl
+line_not_open s stamps client lines.New other = refl
 
 pub turn_missing : (told : Option (List Stamp)) (old : State) (t : Turn) → is_open t.line ≡ false → None ≡ session_of t.client old.sessions
     → IsTurn told told old t (answer.Refused refusal.NotOpen) old

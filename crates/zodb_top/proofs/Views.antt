@@ -1,6 +1,6 @@
 -- What a turn that is answered with data read.
-use Rattle.std.proofs.Common.{◌≡◌, ℕ, ◌<◌, List, [], ◌∷◌, Option, Some, None, Result, Ok, Err, Bool, true, false, cond, refl, ap, subst}
-use Rattle.std.specs.Prelude.{◌==◌, slice_get, filter}
+use Rattle.std.proofs.Common.{◌≡◌, ℕ, ◌+◌, ◌-◌, ◌^◌, ◌<◌, List, [], ◌∷◌, Option, Some, None, Result, Ok, Err, Bool, true, false, cond, refl, ap, subst}
+use Rattle.std.specs.Prelude.{◌==◌, nat_lt, slice_get, filter}
 use Rattle.std.specs.List.{last_or}
 use Rattle.std.proofs.lemmas.Bool.{ltb-true}
 use Rattle.std.proofs.lemmas.Option.{same_Some}
@@ -18,7 +18,7 @@ use Rattle.zb_script.specs.declared.line.Turn.{Turn}
 use Rattle.zodb_top.specs.declared.pending.PendingStore.{PendingStore}
 use Rattle.zodb_top.specs.declared.vote.HeldVote.{HeldVote}
 use Rattle.zodb_top.specs.Laws.{IsRead}
-use Rattle.zodb_top.specs.Machine.{After, Before, OpenTransaction, Session, State, abort_in, at_number, at_session, before_at, begin_in, decision_of, finish_in, finished, in_transaction, is_holder, line_in, line_of, load_in, read_content, read_revision, refused, session_of, store_in, turn_of, vote_in, voted_by, with_store}
+use Rattle.zodb_top.specs.Machine.{After, Before, OpenTransaction, Session, State, abort_in, at_number, at_session, before_at, begin_in, decision_of, finish_in, finished, in_transaction, is_holder, line_in, line_of, load_in, new_in, read_content, read_revision, refused, session_of, store_in, turn_of, vote_in, voted_by, with_store}
 
 -- ---- revisions below a front
 
@@ -79,6 +79,7 @@ store_read b p (Some t) serial bytes e = by_test (is_holder b.number b.vote) e
     by_test : (test : Bool) → (cond {A = After} test (refused b refusal.Voted) (record {
       answer = answer.Stored;
       list = b.list;
+      greatest = b.greatest;
       session = record { client = b.session.client; open_transaction = Some (record { front = t.front; list = t.list; stores = with_store t.stores p }) };
       vote = b.vote;
       stamps = b.stamps;
@@ -118,6 +119,20 @@ abort_read : (b : Before) (o : Option OpenTransaction) (serial : ℕ) (bytes : L
 abort_read b None serial bytes e = cc
 abort_read b (Some t) serial bytes e = cc
 
+new_read : (b : Before) (serial : ℕ) (bytes : List ℕ) → (new_in b).answer ≡ answer.Data serial bytes → ⊥
+new_read b serial bytes e = by_test (nat_lt b.greatest (2 ^ 64 - 1)) e
+  where
+    by_test : (test : Bool) → (cond {A = After} test (record {
+      answer = answer.Oid (b.greatest + 1);
+      list = b.list;
+      greatest = b.greatest + 1;
+      session = b.session;
+      vote = b.vote;
+      stamps = b.stamps;
+    }) (refused b refusal.OidsSpent)).answer ≡ answer.Data serial bytes → ⊥
+    by_test true e = cc
+    by_test false e = cc
+
 -- only a load is answered with data
 line_read : (b : Before) (line : Line) (serial : ℕ) (bytes : List ℕ) → (line_in b line).answer ≡ answer.Data serial bytes → LineRead b.session.open_transaction line serial bytes
 line_read b lines.Open serial bytes e = absurd cc
@@ -127,6 +142,7 @@ line_read b (lines.Store oid base held) serial bytes e = absurd (store_read b (r
 line_read b lines.Vote serial bytes e = absurd (vote_read b b.vote b.session.open_transaction serial bytes e)
 line_read b lines.Finish serial bytes e = absurd (finish_read b b.vote b.session.open_transaction serial bytes e)
 line_read b lines.Abort serial bytes e = absurd (abort_read b b.session.open_transaction serial bytes e)
+line_read b lines.New serial bytes e = absurd (new_read b serial bytes e)
 
 -- ---- turns
 
@@ -160,6 +176,7 @@ turn_read s stamps client (lines.Store oid base held) serial bytes e = number_re
 turn_read s stamps client lines.Vote serial bytes e = number_read s stamps client lines.Vote (session_of client s.sessions) serial bytes refl e
 turn_read s stamps client lines.Finish serial bytes e = number_read s stamps client lines.Finish (session_of client s.sessions) serial bytes refl e
 turn_read s stamps client lines.Abort serial bytes e = number_read s stamps client lines.Abort (session_of client s.sessions) serial bytes refl e
+turn_read s stamps client lines.New serial bytes e = number_read s stamps client lines.New (session_of client s.sessions) serial bytes refl e
 
 pub data_is_read : (s : State) (stamps : List Stamp) (t : Turn) (serial : ℕ) (bytes : List ℕ) → (turn_of s stamps t).answer ≡ answer.Data serial bytes → IsRead s t serial bytes
 data_is_read s stamps t serial bytes e = turn_read s stamps t.client t.line serial bytes e

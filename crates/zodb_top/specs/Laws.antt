@@ -1,5 +1,5 @@
 -- Laws of the machine. Own.
-use Rattle.std.specs.Prelude.{◌≡◌, ℕ, ◌<◌, List, [], ◌∷◌, ◌++◌, Some, Bool, true, false, if◌then◌else◌, IsTrue, slice_get, All}
+use Rattle.std.specs.Prelude.{◌≡◌, ◌⊎◌, ℕ, ◌-◌, ◌^◌, ◌<◌, ◌≤◌, List, [], ◌∷◌, ◌++◌, Some, Bool, true, false, if◌then◌else◌, IsTrue, slice_get, All}
 use Rattle.std.specs.List.Sorted.{IsNonDecreasing}
 use Rattle.zb_ids.specs.declared.stamp.Stamp.{Stamp}
 use Rattle.zb_model.specs.declared.data.Content.TheVariants.{Held}
@@ -64,14 +64,20 @@ TheListStaysADatabase = (stamps : List Stamp) (turns : List Turn) → IsDatabase
 
 -- ---- refusals
 
--- the answers that the turns are given, in their order
-abbrev pub answers_of : State → List Stamp → List Turn → List Answer
-answers_of s stamps [] = []
-answers_of s stamps (t ∷ turns) =
-    let d = turn_of s stamps t in
-    d.answer ∷ answers_of d.state d.stamps turns
+-- a turn, the state that it finds, and what it is answered
+pub record Taken : Type 0 where
+  pub state : State
+  pub turn : Turn
+  pub answer : Answer
 
--- whether a refusal is one of the four that a turn of a script in shape can get
+-- the turns as they are taken, in their order
+abbrev pub taken_of : State → List Stamp → List Turn → List Taken
+taken_of s stamps [] = []
+taken_of s stamps (t ∷ turns) =
+    let d = turn_of s stamps t in
+    (record { state = s; turn = t; answer = d.answer }) ∷ taken_of d.state d.stamps turns
+
+-- whether a refusal is one of the four that the turns of a script in shape get besides OidsSpent
 abbrev pub is_known_refusal : Refusal → Bool
 is_known_refusal refusal.TidsSpent = true
 is_known_refusal (refusal.Conflict oid base current why) = true
@@ -82,12 +88,25 @@ is_known_refusal refusal.InTransaction = false
 is_known_refusal refusal.Voted = false
 is_known_refusal (refusal.Busy holder) = false
 is_known_refusal refusal.NotOpen = false
+is_known_refusal refusal.OidsSpent = false
+is_known_refusal refusal.ReadFault = false
 
 -- whether an answer is no refusal, or one of those four
 abbrev pub is_known : Answer → Bool
 is_known (answer.Refused why) = is_known_refusal why
 is_known _ = true
 
--- a new database refuses the turns of a script in shape only for TidsSpent, Conflict, Missing or NotVoted
-abbrev pub OnlyFourRefusals : Type 0
-OnlyFourRefusals = (stamps : List Stamp) (turns : List Turn) → IsInShape turns → All (λ a. IsTrue (is_known a)) (answers_of (start (created stamps)) (stamps_after stamps) turns)
+-- the turn asks for the number of a new object where the greatest one leaves none, and is told so
+pub record AsksTooMany (x : Taken) : Type 0 where
+  pub line : x.turn.line ≡ lines.New
+  pub spent : 2 ^ 64 - 1 ≤ x.state.greatest
+  pub told : x.answer ≡ answer.Refused refusal.OidsSpent
+
+-- the answer is no refusal, or one of those four, or OidsSpent where no number is left
+abbrev pub IsExpected : Taken → Type 0
+IsExpected x = IsTrue (is_known x.answer) ⊎ AsksTooMany x
+
+-- a new database refuses the turns of a script in shape only for TidsSpent, Conflict, Missing or NotVoted, and
+-- only those that ask for a number where none is left for OidsSpent
+abbrev pub OnlyFiveRefusals : Type 0
+OnlyFiveRefusals = (stamps : List Stamp) (turns : List Turn) → IsInShape turns → All IsExpected (taken_of (start (created stamps)) (stamps_after stamps) turns)

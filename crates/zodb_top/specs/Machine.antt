@@ -2,7 +2,7 @@
 -- one line of a script. Own, after the storage interfaces and the connections of ZODB. No line closes a
 -- session yet, and none is closed behind a client's last line: in a script that is in shape no reply
 -- shows the difference.
-use Rattle.std.specs.Prelude.{ℕ, ◌+◌, ◌-◌, ◌^◌, List, [], ◌∷◌, ◌++◌, Option, Some, None, Result, Ok, Err, Bool, true, false, ◌==◌, nat_lt, if◌then◌else◌, map, length, position, slice_get, slice_set}
+use Rattle.std.specs.Prelude.{ℕ, ◌+◌, ◌-◌, ◌^◌, List, [], ◌∷◌, ◌++◌, Option, Some, None, Result, Ok, Err, Bool, true, false, ◌==◌, nat_lt, if◌then◌else◌, map, max, length, position, slice_get, slice_set}
 use Rattle.std.specs.Str.{bytes_eq}
 use Rattle.zb_ids.specs.declared.stamp.Stamp.{Stamp}
 use Rattle.zb_ids.specs.Tids.{stamp_number, tid_after}
@@ -15,6 +15,7 @@ use Rattle.zb_model.specs.declared.refusal.Refusal.{Refusal}
 use Rattle.zb_model.specs.declared.refusal.Refusal.TheVariants as refusal
 use Rattle.zb_model.specs.declared.refusal.Why.TheVariants.{NoRule}
 use Rattle.zb_model.specs.Database.{ObjectRevision, newest_tid, revision_below, serial_of}
+use Rattle.zb_model.specs.Queries.{greatest_of, greatest_oid, oids_of}
 use Rattle.zb_script.specs.declared.answer.Answer.{Answer}
 use Rattle.zb_script.specs.declared.answer.Answer.TheVariants as answer
 use Rattle.zb_script.specs.declared.line.Line.{Line}
@@ -37,38 +38,43 @@ pub record Session : Type 0 where
   pub client : List ℕ
   pub open_transaction : Option OpenTransaction
 
--- the list, the sessions in the order of their `open` lines, and the vote, if one is held
+-- the list, the greatest number of an object that stood in it at any moment or was handed out, the
+-- sessions in the order of their `open` lines, and the vote, if one is held
 pub record State : Type 0 where
   pub list : List Transaction
+  pub greatest : ℕ
   pub sessions : List Session
   pub vote : Option HeldVote
 
 -- a list without sessions
 abbrev pub start : List Transaction → State
-start list = record { list = list; sessions = []; vote = None }
+start list = record { list = list; greatest = greatest_oid list; sessions = []; vote = None }
 
 -- ---- what a session's line does
 
--- what a line finds: the number of the client's session, the list, the session, the vote, and the stamps
--- that the clock has still to give
+-- what a line finds: the number of the client's session, the list, the greatest number of an object, the
+-- session, the vote, and the stamps that the clock has still to give
 pub record Before : Type 0 where
   pub number : ℕ
   pub list : List Transaction
+  pub greatest : ℕ
   pub session : Session
   pub vote : Option HeldVote
   pub stamps : List Stamp
 
--- the answer, and what the line leaves of the list, the session, the vote and the stamps
+-- the answer, and what the line leaves of the list, the greatest number of an object, the session, the
+-- vote and the stamps
 pub record After : Type 0 where
   pub answer : Answer
   pub list : List Transaction
+  pub greatest : ℕ
   pub session : Session
   pub vote : Option HeldVote
   pub stamps : List Stamp
 
 -- an answer, where nothing changes
 abbrev pub answered : Before → Answer → After
-answered f a = record { answer = a; list = f.list; session = f.session; vote = f.vote; stamps = f.stamps }
+answered f a = record { answer = a; list = f.list; greatest = f.greatest; session = f.session; vote = f.vote; stamps = f.stamps }
 
 abbrev pub refused : Before → Refusal → After
 refused f why = answered f (answer.Refused why)
@@ -90,6 +96,7 @@ begin_in f None =
     record {
       answer = answer.Begun front;
       list = f.list;
+      greatest = f.greatest;
       session = with_transaction f.session (Some (record { front = front; list = f.list; stores = [] }));
       vote = f.vote;
       stamps = f.stamps;
@@ -122,6 +129,7 @@ abbrev pub store_in : Before → PendingStore → OpenTransaction → After
 store_in f p t = if is_holder f.number f.vote then refused f refusal.Voted else record {
   answer = answer.Stored;
   list = f.list;
+  greatest = f.greatest;
   session = with_transaction f.session (Some (record { front = t.front; list = t.list; stores = with_store t.stores p }));
   vote = f.vote;
   stamps = f.stamps;
@@ -169,10 +177,11 @@ abbrev pub decision_of : List Transaction → List PendingStore → List Stamp �
 decision_of list stores stamps = decision_on (conflict_of list stores) list stores stamps
 
 abbrev pub voted_by : Before → Result (Option Transaction) Refusal → List Stamp → After
-voted_by f (Err why) stamps = record { answer = answer.Refused why; list = f.list; session = f.session; vote = f.vote; stamps = stamps }
+voted_by f (Err why) stamps = record { answer = answer.Refused why; list = f.list; greatest = f.greatest; session = f.session; vote = f.vote; stamps = stamps }
 voted_by f (Ok writes) stamps = record {
   answer = answer.Voted;
   list = f.list;
+  greatest = f.greatest;
   session = f.session;
   vote = Some (record { session = f.number; writes = writes });
   stamps = stamps;
@@ -186,12 +195,17 @@ abbrev pub vote_in : Before → Option HeldVote → OpenTransaction → After
 vote_in f None t = voted f (decision_of f.list t.stores f.stamps)
 vote_in f (Some h) t = if h.session == f.number then refused f refusal.Voted else refused f (refusal.Busy h.session)
 
--- finish: what was voted is appended
+-- the greatest number of an object, with those that the transaction changes
+abbrev pub raised : ℕ → Transaction → ℕ
+raised greatest t = max greatest (greatest_of (oids_of t))
+
+-- finish: what was voted is appended, and the greatest number is at least those of its objects
 abbrev pub finished : Before → Option Transaction → After
-finished f None = record { answer = answer.Empty; list = f.list; session = with_transaction f.session None; vote = None; stamps = f.stamps }
+finished f None = record { answer = answer.Empty; list = f.list; greatest = f.greatest; session = with_transaction f.session None; vote = None; stamps = f.stamps }
 finished f (Some t) = record {
   answer = answer.Committed t.tid;
   list = f.list ++ t ∷ [];
+  greatest = raised f.greatest t;
   session = with_transaction f.session None;
   vote = None;
   stamps = f.stamps;
@@ -206,10 +220,22 @@ abbrev pub abort_in : Before → After
 abort_in f = record {
   answer = answer.Aborted;
   list = f.list;
+  greatest = f.greatest;
   session = with_transaction f.session None;
   vote = if is_holder f.number f.vote then None else f.vote;
   stamps = f.stamps;
 }
+
+-- new: the number after the greatest is handed out, where it has 64 bits
+abbrev pub new_in : Before → After
+new_in f = if nat_lt f.greatest (2 ^ 64 - 1) then (record {
+  answer = answer.Oid (f.greatest + 1);
+  list = f.list;
+  greatest = f.greatest + 1;
+  session = f.session;
+  vote = f.vote;
+  stamps = f.stamps;
+}) else refused f refusal.OidsSpent
 
 -- a line of a session that is open; `open` never comes here
 abbrev pub line_in : Before → Line → After
@@ -220,6 +246,7 @@ line_in f (lines.Store oid base bytes) = in_transaction f f.session.open_transac
 line_in f lines.Vote = in_transaction f f.session.open_transaction (vote_in f f.vote)
 line_in f lines.Finish = in_transaction f f.session.open_transaction (λ t. finish_in f f.vote)
 line_in f lines.Abort = in_transaction f f.session.open_transaction (λ t. abort_in f)
+line_in f lines.New = new_in f
 
 -- ---- turns
 
@@ -231,10 +258,10 @@ pub record Done : Type 0 where
 
 -- what a line of session n leaves
 abbrev pub after_at : State → ℕ → After → Done
-after_at s n l = record { answer = l.answer; state = record { list = l.list; sessions = slice_set s.sessions n l.session; vote = l.vote }; stamps = l.stamps }
+after_at s n l = record { answer = l.answer; state = record { list = l.list; greatest = l.greatest; sessions = slice_set s.sessions n l.session; vote = l.vote }; stamps = l.stamps }
 
 abbrev pub before_at : State → List Stamp → ℕ → Session → Before
-before_at s stamps n x = record { number = n; list = s.list; session = x; vote = s.vote; stamps = stamps }
+before_at s stamps n x = record { number = n; list = s.list; greatest = s.greatest; session = x; vote = s.vote; stamps = stamps }
 
 abbrev pub not_open : State → List Stamp → Done
 not_open s stamps = record { answer = answer.Refused refusal.NotOpen; state = s; stamps = stamps }
@@ -250,7 +277,7 @@ session_of client sessions = position (is_session_of client) sessions
 abbrev pub opened : State → List Stamp → List ℕ → Done
 opened s stamps client = record {
   answer = answer.Opened (length s.sessions);
-  state = record { list = s.list; sessions = s.sessions ++ (record { client = client; open_transaction = None }) ∷ []; vote = s.vote };
+  state = record { list = s.list; greatest = s.greatest; sessions = s.sessions ++ (record { client = client; open_transaction = None }) ∷ []; vote = s.vote };
   stamps = stamps;
 }
 

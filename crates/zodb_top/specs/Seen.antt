@@ -25,12 +25,12 @@ seen_work list w = record { front = w.front; list = take w.length list; stores =
 abbrev pub seen_seat : List Transaction → Seat → Session
 seen_seat list x = record { client = x.client; open_transaction = option_map (seen_work list) x.work }
 
-abbrev pub state_with : List Transaction → List Seat → Option HeldVote → State
-state_with list seats vote = record { list = list; sessions = map (seen_seat list) seats; vote = vote }
+abbrev pub state_with : List Transaction → ℕ → List Seat → Option HeldVote → State
+state_with list greatest seats vote = record { list = list; greatest = greatest; sessions = map (seen_seat list) seats; vote = vote }
 
--- the machine's state that a hub stands for
+-- the machine's state that a hub stands for; the greatest number of an object is the one that it keeps
 abbrev pub state_of : Hub → State
-state_of hub = state_with hub.list hub.seats.items hub.vote
+state_of hub = state_with hub.list hub.greatest hub.seats.items hub.vote
 
 -- the list had this many transactions once
 abbrev pub IsWithin : ℕ → Option Work → Type 0

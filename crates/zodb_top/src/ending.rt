@@ -8,6 +8,7 @@ ghost use Rattle.zodb_top.specs.Steps.{IsClockStep, IsStep};
 use crate::decide::{VoteError, decide};
 use crate::hub::Hub;
 use crate::lines::{is_holder, work_of};
+use crate::oids::raised;
 use crate::vote::HeldVote;
 use std::alloc::{AllocError, Global};
 use zb_model::{Refusal, Transaction};
@@ -75,7 +76,7 @@ fn take_vote(vote: &mut Option<HeldVote>, number: u32) -> Option<Option<Transact
     }
 }
 
-/// What was voted is appended.
+/// What was voted is appended, and the greatest number of an object is at least those that it changes.
 #[tactic(auto, using(crate::proofs::Endings::finish_refused, crate::proofs::Endings::finish_not_voted, crate::proofs::Endings::finish_empty, crate::proofs::Endings::finish_committed, crate::proofs::Endings::abort_sound, crate::proofs::Endings::not_voted_sound, crate::proofs::Endings::committed_sound))]
 pub(crate) fn finish(hub: &mut Hub, number: u32) -> Result<Answer, AllocError>
     requires sound { IsSoundHub hub.old }
@@ -95,6 +96,7 @@ pub(crate) fn finish(hub: &mut Hub, number: u32) -> Result<Answer, AllocError>
         return Ok(Answer::Empty);
     };
     let tid = transaction.tid;
+    hub.greatest = raised(hub.greatest, &transaction);
     hub.list.push(transaction)?;
     Ok(Answer::Committed { tid })
 }

@@ -2,7 +2,7 @@
 
 use crate::pending::PendingStore;
 use crate::vote::HeldVote;
-use zb_ids::{ListOf, Tid};
+use zb_ids::{ListOf, Oid, Tid};
 use zb_model::Transaction;
 use zb_script::Name;
 
@@ -27,11 +27,14 @@ pub struct Seat {
     pub work: Option<Work>,
 }
 
-/// The list, the sessions in the order in which they were opened, and the vote.
+/// The list, the greatest number of an object, the sessions in the order in which they were opened,
+/// and the vote.
 #[derive(Debug, Drop)]
 pub struct Hub {
     /// The transactions, the oldest first.
     pub list: ListOf<Transaction>,
+    /// The greatest number of an object that stood in the list at any moment or was handed out.
+    pub greatest: Oid,
     /// The sessions.
     pub seats: Vec<Seat>,
     /// The vote, where one is held.

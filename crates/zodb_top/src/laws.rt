@@ -1,6 +1,6 @@
 //! Laws of the machine: what holds of every script, by every clock.
 
-ghost use Rattle.zodb_top.specs.Laws.{FrontsNeverFall, OnlyFourRefusals, ReadsStayBelowTheFront, TheListStaysADatabase};
+ghost use Rattle.zodb_top.specs.Laws.{FrontsNeverFall, OnlyFiveRefusals, ReadsStayBelowTheFront, TheListStaysADatabase};
 
 /// The law that the fronts of a client's transactions never fall: in every run of a new database,
 /// each `begun` of a client has at least the front of its earlier ones.
@@ -21,8 +21,10 @@ pub fn the_list_stays_a_database()
     ensures { TheListStaysADatabase }
 {}
 
-/// The law that a script in shape has only four refusals: in every run of a new database over turns
-/// in shape, no answer is `NotOpen`, `NoTransaction`, `InTransaction`, `Voted` or `Busy`.
-pub fn only_four_refusals()
-    ensures { OnlyFourRefusals }
+/// The law that a script in shape has only five refusals: in every run of a new database over turns
+/// in shape, no answer is `NotOpen`, `NoTransaction`, `InTransaction`, `Voted`, `Busy` or
+/// `ReadFault`, and only a `new` is answered `OidsSpent`, where the greatest number of an object
+/// leaves none below 2^64.
+pub fn only_five_refusals()
+    ensures { OnlyFiveRefusals }
 {}

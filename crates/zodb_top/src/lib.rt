@@ -10,6 +10,7 @@ mod hub;
 mod laws;
 mod lines;
 mod listing;
+mod oids;
 mod pending;
 mod run;
 mod saying;
@@ -22,7 +23,7 @@ mod vote;
 
 pub use command::{Command, Listing};
 pub use laws::{
-    fronts_never_fall, only_four_refusals, reads_stay_below_the_front, the_list_stays_a_database,
+    fronts_never_fall, only_five_refusals, reads_stay_below_the_front, the_list_stays_a_database,
 };
 pub use script::MOST_BYTES;
 pub use status::Status;

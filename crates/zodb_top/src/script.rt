@@ -19,7 +19,7 @@ use crate::saying::say;
 use crate::status::Status;
 use itoa::Buffer;
 use std::alloc::{AllocError, Global};
-use zb_ids::{ListOf, Stamp};
+use zb_ids::{ListOf, Oid, Stamp};
 use zb_model::{Transaction, first_transaction};
 use zb_outside::{Clock, ReadAllError, Sink, Source, read_all};
 use zb_script::{ScriptError, Turn, read_script};
@@ -48,7 +48,7 @@ fn created(alloc: Global, first: Stamp) -> Result<ListOf<Transaction>, AllocErro
     Ok(list)
 }
 
-/// A hub over the list of a new database.
+/// A hub over the list of a new database, whose one transaction changes object 0.
 fn new_hub<C: Clock>(alloc: Global, clock: &mut C) -> Result<Hub, AllocError>
     ensures clock { C.stamps clock.new ≡ option_map stamps_after (C.stamps clock.old) }
     ensures sound { IfOk result (λ hub. IsSoundHub hub) }
@@ -58,6 +58,7 @@ fn new_hub<C: Clock>(alloc: Global, clock: &mut C) -> Result<Hub, AllocError>
     let list = created(alloc, clock.stamp())?;
     Ok(Hub {
         list,
+        greatest: Oid(0),
         seats: Vec::new(alloc),
         vote: None,
     })

@@ -10,6 +10,7 @@ ghost use Rattle.zodb_top.specs.Steps.{IsClockStep, IsOpening, IsTurn};
 use crate::ending::{abort, finish, vote};
 use crate::hub::{Hub, Seat};
 use crate::lines::{begin, load, store};
+use crate::oids::new_oid;
 use crate::pending::PendingStore;
 use std::alloc::{AllocError, Global};
 use zb_ids::Text8;
@@ -96,6 +97,7 @@ fn take_line<C: Clock>(
         Line::Vote => vote(alloc, hub, number, clock),
         Line::Finish => finish(hub, number),
         Line::Abort => Ok(abort(hub, number)),
+        Line::New => Ok(new_oid(hub, number)),
     }
 }
 

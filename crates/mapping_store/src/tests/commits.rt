@@ -1,8 +1,8 @@
 // What votes, finishes and aborts make of the list, and the numbers of it.
-ghost use Rattle.std.specs.Prelude.{◌≡◌, ◌++◌, ◌∷◌, [], None, false, OnOk};
+ghost use Rattle.std.specs.Prelude.{◌≡◌, ◌<◌, ◌++◌, ◌∷◌, [], None, false, OnOk};
 ghost use Rattle.zb_volume.specs.declared.areas.Area.{Area};
 ghost use Rattle.zb_volume.specs.Moments.{Leaves};
-ghost use Rattle.zb_model.specs.Voting.{IsSized, IsVotable, voted_of};
+ghost use Rattle.zb_model.specs.Voting.{IsWellFormed, IsVotable, voted_of};
 
 use crate::MappingStore;
 use crate::tests::making::{Put, Row, T0, new_store, new_transaction};
@@ -19,7 +19,8 @@ fn commit_to<St: Store>(
 ) -> Result<(), StoreError>
     requires whole { St.broken store.old ≡ false }
     requires free { St.voted store.old ≡ None }
-    requires sized { IsSized new.now }
+    requires well_formed { IsWellFormed new.now }
+    requires later { St.newest_number store.old < new.now.tid }
     requires votable { St.told → IsVotable (St.list store.old) new.now }
     ensures free { OnOk result (St.voted store.new ≡ None) }
     ensures list { St.told → OnOk result

@@ -4,7 +4,7 @@ use super::replies::{SECOND_WRITER, SECOND_WRITER_REPLIES};
 use super::*;
 
 /// Words, a script, its status and what is written.
-const ENDINGS: [(&[&str], &[u8], u8, &[u8]); 9] = [
+const ENDINGS: [(&[&str], &[u8], u8, &[u8]); 11] = [
     (&[], b"", 2, b"usage\n"),
     (&["p"], b"", 2, b"usage\n"),
     (&["p", "x"], b"a open local\n", 2, b"usage\n"),
@@ -18,6 +18,13 @@ const ENDINGS: [(&[&str], &[u8], u8, &[u8]); 9] = [
         8,
         b"bad line 3\n",
     ),
+    (
+        &["p", "run"],
+        b"a open local\nb open local\na begin\na vote \"\" \"\"\nb new\na finish\n",
+        8,
+        b"bad line 5\n",
+    ),
+    (&["p", "run"], b"a open local\nb new\n", 8, b"bad line 2\n"),
     (&["p-", "run"], b"a open local\n", 0, b"a opened 0\n"),
 ];
 

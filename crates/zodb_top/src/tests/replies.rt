@@ -42,7 +42,7 @@ fn second_writer_conflicts(rt: HostRuntime) -> Result<(), Fail> {
 }
 
 /// Scripts, and the replies that the rules of the plain database give.
-const SCRIPTS: [(&str, &[u8], &[u8]); 9] = [
+const SCRIPTS: [(&str, &[u8], &[u8]); 15] = [
     ("an empty script", b"", b""),
     (
         "a transaction without stores, and a missing last newline",
@@ -83,6 +83,36 @@ const SCRIPTS: [(&str, &[u8], &[u8]); 9] = [
         "the first store that conflicts is named",
         b"a open local\na begin\na store 0000000000000001 0000000000000000 61\na store 0000000000000000 0000000000000000 62\na store 0000000000000002 0000000000000005 63\na vote \"\" \"\"\na abort\n",
         b"a opened 0\na begun 03f58e0000000001\na stored\na stored\na stored\na refused Conflict 0000000000000000 0000000000000000 03f58e0000000000 NoRule\na aborted\n",
+    ),
+    (
+        "a number is handed out, and an object of that number is stored",
+        b"a open local\na begin\na new\na store 0000000000000001 0000000000000000 616263\na vote \"\" \"\"\na finish\n",
+        b"a opened 0\na begun 03f58e0000000001\na oid 0000000000000001\na stored\na voted\na committed 03f58e0000000001\n",
+    ),
+    (
+        "no number is handed out twice",
+        b"a open local\nb open local\na new\na new\nb new\na begin\na new\na abort\nb new\n",
+        b"a opened 0\nb opened 1\na oid 0000000000000001\na oid 0000000000000002\nb oid 0000000000000003\na begun 03f58e0000000001\na oid 0000000000000004\na aborted\nb oid 0000000000000005\n",
+    ),
+    (
+        "a client asks for numbers behind its finish",
+        b"a open local\na begin\na store 0000000000000001 0000000000000000 61\na vote \"\" \"\"\na finish\na new\na new\n",
+        b"a opened 0\na begun 03f58e0000000001\na stored\na voted\na committed 03f58e0000000001\na oid 0000000000000002\na oid 0000000000000003\n",
+    ),
+    (
+        "the number after the greatest that was committed, not after one that was only stored",
+        b"a open local\nb open local\na begin\na store 0000000000000009 0000000000000000 61\na store 0000000000000003 0000000000000000 61\nb new\na vote \"\" \"\"\na finish\nb new\nb begin\nb store 0000000000000002 0000000000000000 61\nb vote \"\" \"\"\nb finish\nb new\n",
+        b"a opened 0\nb opened 1\na begun 03f58e0000000001\na stored\na stored\nb oid 0000000000000001\na voted\na committed 03f58e0000000001\nb oid 000000000000000a\nb begun 03f58e0000000002\nb stored\nb voted\nb committed 03f58e0000000002\nb oid 000000000000000b\n",
+    ),
+    (
+        "the last number is handed out, and then none is left",
+        b"a open local\nb open local\na begin\na store fffffffffffffffe 0000000000000000 61\na vote \"\" \"\"\na finish\nb new\nb new\na new\nb begin\nb new\n",
+        b"a opened 0\nb opened 1\na begun 03f58e0000000001\na stored\na voted\na committed 03f58e0000000001\nb oid ffffffffffffffff\nb refused OidsSpent\na refused OidsSpent\nb begun 03f58e0000000002\nb refused OidsSpent\n",
+    ),
+    (
+        "behind a commit of the last object no number is left",
+        b"a open local\na begin\na store ffffffffffffffff 0000000000000000 61\na new\na vote \"\" \"\"\na finish\na new\n",
+        b"a opened 0\na begun 03f58e0000000001\na stored\na oid 0000000000000001\na voted\na committed 03f58e0000000001\na refused OidsSpent\n",
     ),
 ];
 

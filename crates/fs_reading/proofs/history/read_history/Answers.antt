@@ -1,23 +1,11 @@
-use Rattle.std.proofs.Common.{◌≡◌, ℕ, List, filter, subst, ◌∙◌}
-use Rattle.std.specs.Prelude.{reverse, IfOk}
-use Rattle.zb_model.specs.declared.lists.Revision.{Revision}
-use Rattle.fs_records.specs.Places.{is_of}
-use Rattle.fs_reading.specs.Main.{main}
-use Rattle.fs_reading.specs.Standing.{RecordStands}
-use Rattle.fs_reading.specs.RecordsStand.{each-filter}
-use Rattle.fs_reading.specs.Histories.{stands}
+use Rattle.std.proofs.Common.{◌∙◌}
 use Rattle.fs_reading.proofs.history.read_history.Goals as goal
 
-pub lines_at-requires-clause-stand : goal.lines_at-requires-clause-stand
-lines_at-requires-clause-stand g c = λ told.
-    let bytes : List ℕ = main (g.V.Volume.log c.args.volume.now) in
+pub read_history_at-requires : goal.read_history_at-requires
+read_history_at-requires g c = λ told.
     let file = c.requires told in
-    (filter (is_of c.args.oid) file.reached.known, c.places.ensures.value ∙ file.index.records c.args.oid, each-filter (RecordStands bytes) (is_of c.args.oid) file.reached.known (stands bytes file.reached file.begins).records)
+    record { reached = file.reached; oid = c.args.oid; begins = file.begins; are = c.places.ensures.value ∙ file.index.records c.args.oid; short = file.short }
 
 pub returns-clause-lines : goal.returns-clause-lines
 returns-clause-lines g c = λ told reached begins index.
-    let bytes : List ℕ = main (g.V.Volume.log c.args.volume.now) in
-    let there = stands bytes reached begins in
-    let ks = filter (is_of c.args.oid) reached.known in
-    subst (λ (l : List Revision). IfOk c.lines_at.result (λ lines. lines ≡ reverse l)) (there.histories c.args.oid)
-    (c.lines_at.ensures.lines told ks (c.places.ensures.value ∙ index.records c.args.oid) (each-filter (RecordStands bytes) (is_of c.args.oid) reached.known there.records))
+    c.read_history_at.ensures.lines told reached c.args.oid begins (c.places.ensures.value ∙ index.records c.args.oid)

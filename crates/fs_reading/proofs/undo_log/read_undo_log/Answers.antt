@@ -1,23 +1,10 @@
-use Rattle.std.proofs.Common.{◌≡◌, ℕ, List, ap, sym, subst, ◌∙◌}
-use Rattle.std.specs.Prelude.{reverse, IfOk}
-use Rattle.std.specs.List.{AllByRecursion, filter_map}
-use Rattle.zb_model.specs.declared.lists.LogLine.{LogLine}
-use Rattle.fs_records.specs.declared.place.Place.{Place}
-use Rattle.fs_reading.specs.Main.{main}
-use Rattle.fs_reading.specs.Standing.{HasTexts, log_line_at}
-use Rattle.fs_reading.specs.TransactionsStand.{all_have_texts, undo_lines}
-use Rattle.fs_reading.specs.Histories.{stands}
+use Rattle.std.proofs.Common.{◌∙◌}
 use Rattle.fs_reading.proofs.undo_log.read_undo_log.Goals as goal
 
-pub lines_at-requires-clause-texts : goal.lines_at-requires-clause-texts
-lines_at-requires-clause-texts g c = λ told.
-    let bytes : List ℕ = main (g.V.Volume.log c.args.volume.now) in
+pub read_undo_log_at-requires : goal.read_undo_log_at-requires
+read_undo_log_at-requires g c = λ told.
     let file = c.requires told in
-    subst (λ (ps : List Place). AllByRecursion (λ p. HasTexts bytes p.at) ps) (sym (c.transactions.ensures.value ∙ file.index.transactions)) (all_have_texts bytes file.reached.starts file.reached.list (stands bytes file.reached file.begins).transactions)
+    record { reached = file.reached; begins = file.begins; are = c.transactions.ensures.value ∙ file.index.transactions; short = file.short }
 
 pub returns-clause-lines : goal.returns-clause-lines
-returns-clause-lines g c = λ told reached begins index.
-    let bytes : List ℕ = main (g.V.Volume.log c.args.volume.now) in
-    let places = c.transactions.ensures.value ∙ index.transactions in
-    let said = ap (λ (ps : List Place). filter_map (log_line_at bytes) ps) places ∙ undo_lines bytes reached.starts reached.list (stands bytes reached begins).transactions in
-    subst (λ (l : List LogLine). IfOk c.lines_at.result (λ lines. lines ≡ reverse l)) said (c.lines_at.ensures.lines told)
+returns-clause-lines g c = λ told reached begins index. c.read_undo_log_at.ensures.lines told reached begins (c.transactions.ensures.value ∙ index.transactions)

@@ -58,7 +58,7 @@ returns-clause-whole g c = λ told.
     let mid : main (g.V.Volume.log c.read_main.new.volume) ≡ main log = ap main (c.read_main.ensures.same ∙ c.len.ensures.same) in
     let opened = subst (λ (b : List ℕ). IsOpened b o) (ap main c.len.ensures.same) (c.in_ok-opened.ensures.opens told) in
     let content = c.in_ok-keep_front.ensures.content told ∙ ap (λ (b : List ℕ). take o.end b) mid in
-    whole_now (main log) (main (g.V.Volume.log c.keep_front.new.volume)) o (omega (arith, c.in_ok-opened.ensures.end, c.in_ok-long.ensures.value told)) content opened
+    whole_now (main log) (main (g.V.Volume.log c.keep_front.new.volume)) o content opened
 
 -- ---- what is no file or damaged isn't touched
 

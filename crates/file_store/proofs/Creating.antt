@@ -1,0 +1,60 @@
+-- The file of a new database stands for its first transaction.
+use Rattle.std.proofs.Common.{◌≡◌, ℕ, zero, suc, ◌<◌, List, [], ◌∷◌, ◌++◌, length, None, refl, sym, ap, subst, ◌∙◌, arith}
+use Rattle.std.proofs.Math.ListN.{set}
+use Rattle.std.proofs.lemmas.Bool.{lt-ltb}
+use Rattle.std.proofs.lemmas.List.Elements.{All-cons, All-nil}
+use Rattle.zb_ids.specs.Tids.{tid_after}
+use Rattle.zb_model.specs.declared.data.Transaction.{Transaction}
+use Rattle.zb_model.specs.declared.new_transaction.NewTransaction.{NewTransaction}
+use Rattle.zb_model.specs.Creation.{first_transaction}
+use Rattle.zb_model.specs.Voting.{IsSound, IsVotable, voted_of}
+use Rattle.fs_records.specs.declared.place.Place.{Place}
+use Rattle.fs_records.specs.Blocks.{Reached, start, magic, block_text, after, transaction_of, Begins}
+use Rattle.fs_records.specs.File.{StandsAs, StandsFor, a_file}
+use Rattle.fs_records.specs.Places.{Kept, IsIndexOf}
+use Rattle.fs_records.specs.StatusLaws.{status_set}
+use Rattle.fs_records.specs.WriteLaws.{block_stands}
+use Rattle.fs_records.specs.Writing.{IsNext, block_of}
+use Rattle.file_store.specs.First.{as_new, file_with}
+use Rattle.file_store.proofs.Sizes.{text_long}
+
+-- what a transaction's text says that is written as the first one
+abbrev pub Nexts : Kept → NewTransaction → Type 0
+Nexts kept new = (bytes : List ℕ) (s : Reached) → Begins bytes s → IsIndexOf s kept → s.end ≡ 4 → IsVotable s.list new → IsNext s (block_of 32 kept.entries new) (voted_of s.list new)
+
+positive : (n : ℕ) → 0 < tid_after 0 n
+positive zero = omega arith
+positive (suc n) = rw (lt-ltb 0 (suc n) (omega arith)) (omega arith)
+
+votable : (n : ℕ) → IsVotable [] (as_new (first_transaction n))
+votable n =
+    let new = as_new (first_transaction n) in
+    record { later = positive n; sound = All-cons (λ c. IsSound [] c.oid c.content) _ [] tt (All-nil (λ c. IsSound [] c.oid c.content)) }
+
+nothing_begins : Begins magic start
+nothing_begins = record { blocks = []; are = tt; parts = refl; is = refl }
+
+one_listed : (b : _) → (after start b).list ≡ transaction_of start b ∷ []
+unfolding after
+one_listed b = refl
+
+pub text_behind_16 : (status : ℕ) (kept : Kept) (new : NewTransaction) → 16 < length (block_text 4 (block_of status kept.entries new))
+text_behind_16 status kept new = omega (arith, text_long status kept.entries 4 new)
+
+pub empty_is : (kept : Kept) → kept.entries ≡ [] → kept.transactions ≡ [] → kept ≡ record { entries = []; transactions = [] }
+empty_is kept none nothing =
+    ap (λ (es : List (ℕ × List Place)). record { entries = es; transactions = kept.transactions }) none
+    ∙ ap (λ (ts : List Place). record { entries = []; transactions = ts }) nothing
+
+pub committed_is : (t : Transaction) (text block : List ℕ) → text ≡ block_text 4 (block_of 99 [] (as_new t)) → block ≡ set text 16 32 → magic ++ block ≡ file_with t
+committed_is t text block text_is is = ap (λ (x : List ℕ). magic ++ x) (is ∙ ap (λ (x : List ℕ). set x 16 32) text_is ∙ status_set 4 (block_of 99 [] (as_new t)) 32)
+
+pub first_stands : (n : ℕ) (kept : Kept) (file : List ℕ) → kept ≡ record { entries = []; transactions = [] } → Nexts kept (as_new (first_transaction n)) → file ≡ file_with (first_transaction n) → StandsFor file (first_transaction n ∷ []) None
+first_stands n kept file none next is =
+    let new = as_new (first_transaction n) in
+    let b = block_of 32 [] new in
+    let nexts : Nexts (record { entries = []; transactions = [] }) new = subst (λ (k : Kept). Nexts k new) none next in
+    let here : IsNext start b (voted_of [] new) = nexts magic start nothing_begins (record { records = λ oid. refl; transactions = refl }) refl (votable n) in
+    let stands : StandsAs (file_with (first_transaction n)) (after start b) None = block_stands magic start b nothing_begins here.block in
+    a_file (after start b) (subst (λ (x : List ℕ). StandsAs x (after start b) None) (sym is) stands)
+    (sym (one_listed b ∙ ap (λ (t : Transaction). t ∷ []) here.is))

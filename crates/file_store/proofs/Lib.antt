@@ -1,0 +1,9 @@
+pub mod Commits
+pub mod Counting
+pub mod Creating
+pub mod Opens
+pub mod Placing
+pub mod Shown
+pub mod Sizes
+pub mod Tallies
+pub mod Writes

@@ -1,0 +1,45 @@
+use Rattle.std.proofs.Common.{ap, length, arith}
+use Rattle.zb_volume.specs.declared.areas.Area.TheVariants.{Main}
+use Rattle.zb_volume.specs.Disk.{seen}
+use Rattle.zb_model.specs.declared.data.Transaction.{Transaction}
+use Rattle.file_store.specs.declared.staged.Staged.{Staged}
+use Rattle.file_store.specs.Kept.{IsVotedIn, HasRoom}
+use Rattle.file_store.specs.Staging.{StagedKept}
+use Rattle.file_store.proofs.Commits.{staged_some, some_mapped, none_there, finish_moments, finished}
+use Rattle.file_store.proofs.store.FileStoreStore.finish.Goals as goal
+
+pub finish-requires-clause-within : goal.finish-requires-clause-within
+finish-requires-clause-within g c = λ told.
+    let self = c.args.self.now in
+    let s = staged_some self.index.staged _ c.requires.voted in
+    let v = self.voted told c.requires.whole s.0 s.1 in
+    omega (arith, c.end.ensures.value, v.long)
+
+pub returns-in_err-finish-clause-any_moment : goal.returns-in_err-finish-clause-any_moment
+returns-in_err-finish-clause-any_moment g c = λ told t is.
+    let self = c.args.self.now in
+    let s = some_mapped Staged Transaction self.index.staged _ t is in
+    finish_moments (g.V.Volume.log self.volume) self.index self.numbers (self.settled told c.requires.whole) (self.kept told c.requires.whole) (g.V.Volume.log c.finish.new.volume) s.0 t c.end.result s.1
+    (self.voted told c.requires.whole s.0 s.1) c.end.ensures.value s.2 (c.finish.ensures.any_moment told (self.settled told c.requires.whole))
+
+pub invariant_of-self-2 : goal.invariant_of-self-2
+invariant_of-self-2 g c =
+    let self = c.args.self.now in
+    let s = staged_some self.index.staged _ c.requires.voted in
+    let k = c.keep.ensures s.0 s.1 in
+    let none = ap (λ (i : StagedKept). i.staged) k in
+    record {
+      room = none_there Staged (λ x. HasRoom c.count_staged.new.numbers (length x.oids)) c.keep.new.self.staged none;
+      settled = λ told whole. c.in_ok-finish.ensures.settled told;
+      kept = λ told whole.
+          finished (g.V.Volume.log self.volume) self.index self.numbers (self.settled told c.requires.whole) (self.kept told c.requires.whole) (g.V.Volume.log c.finish.new.volume) c.keep.new.self c.count_staged.new.numbers s.0 c.end.result s.1
+          (self.voted told c.requires.whole s.0 s.1) c.end.ensures.value (c.in_ok-finish.ensures.content told) k (c.count_staged.ensures s.0 s.1);
+      voted = λ told whole. none_there Staged (λ x. IsVotedIn (seen (g.V.Volume.log c.finish.new.volume) Main) x c.keep.new.self) c.keep.new.self.staged none;
+    }
+
+pub returns-clause-any_moment : goal.returns-clause-any_moment
+returns-clause-any_moment g c = λ told t is.
+    let self = c.args.self.now in
+    let s = some_mapped Staged Transaction self.index.staged _ t is in
+    finish_moments (g.V.Volume.log self.volume) self.index self.numbers (self.settled told c.requires.whole) (self.kept told c.requires.whole) (g.V.Volume.log c.finish.new.volume) s.0 t c.end.result s.1
+    (self.voted told c.requires.whole s.0 s.1) c.end.ensures.value s.2 (c.finish.ensures.any_moment told (self.settled told c.requires.whole))

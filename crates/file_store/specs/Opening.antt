@@ -1,0 +1,49 @@
+-- What opening a store says of Main, and what a crash leaves of it. Source: own.
+use Rattle.std.specs.Prelude.{◌≡◌, ◌≢◌, ◌⊎◌, ℕ, List, [], ◌∷◌, Option, Some, None, IfSome, option_map, slice_get}
+use Rattle.zb_volume.specs.declared.areas.Area.TheVariants.{Main}
+use Rattle.zb_volume.specs.Calls.{Event}
+use Rattle.zb_volume.specs.Disk.{seen, IsSettled}
+use Rattle.zb_volume.specs.Faults.{Rose}
+use Rattle.zb_volume.specs.Moments.{LeavesOnly}
+use Rattle.zb_ids.specs.declared.stamp.Stamp.{Stamp}
+use Rattle.zb_outside.specs.Stamps.{stamps_after}
+use Rattle.zb_ids.specs.Tids.{stamp_number}
+use Rattle.zb_model.specs.declared.data.Transaction.{Transaction}
+use Rattle.zb_model.specs.Creation.{first_transaction}
+use Rattle.fs_records.specs.File.{StandsFor, IsNoFile, IsDamaged}
+use Rattle.fs_recovery.specs.declared.errors.OpenError.{OpenError}
+use Rattle.fs_recovery.specs.declared.errors.OpenError.TheVariants.{StoreFault, BadRecord, NotFileStorage, Memory}
+use Rattle.file_store.specs.Kept.{StandsForList}
+
+-- the list of a new database, by a clock's stamp
+abbrev pub first_list : Stamp → List Transaction
+first_list stamp = first_transaction (stamp_number stamp) ∷ []
+
+-- what an error says of the bytes of Main; a failed call and want of memory say nothing
+abbrev pub Harm : List ℕ → OpenError → Type 0
+Harm bytes StoreFault = Unit {0}
+Harm bytes (BadRecord at field) = IsDamaged bytes at field
+Harm bytes NotFileStorage = IsNoFile bytes
+Harm bytes Memory = Unit {0}
+
+-- a call of the volume failed, and one of its two counts rose
+abbrev pub SomeRose : ℕ → ℕ → ℕ → ℕ → Type 0
+SomeRose reads reads_now writes writes_now = Rose reads reads_now ⊎ Rose writes writes_now
+
+-- bytes stand for the empty list, or for that of a new database by this stamp
+abbrev pub IsNewOr : Stamp → List ℕ → Type 0
+IsNewOr stamp bytes = StandsForList bytes [] ⊎ StandsForList bytes (first_list stamp)
+
+-- where nothing of Main was pending, all that a crash at any moment leaves of it stands for the list that Main stood for
+abbrev pub KeepsList : List Event → List Event → Type 0
+KeepsList old new = (list : List Transaction) (cut : Option ℕ) → seen old Main ≢ [] → StandsFor (seen old Main) list cut → IsSettled old Main → LeavesOnly Main (λ bytes. StandsForList bytes list) old new
+
+-- where Main was empty and nothing of it was pending, all that a crash at any moment leaves of it stands for the empty list or for the first transaction alone
+abbrev pub MakesList : Stamp → List Event → List Event → Type 0
+MakesList stamp old new = seen old Main ≡ [] → IsSettled old Main → LeavesOnly Main (IsNewOr stamp) old new
+
+-- Main isn't empty: it wasn't, and nothing was done, or a new file was made with the clock's first stamp
+pub data IsBegun (old new : List Event) (stamps stamps_now : Option (List Stamp)) : Type 0 where
+  there : seen old Main ≢ [] → new ≡ old → stamps_now ≡ stamps → IsBegun old new stamps stamps_now
+  made : (stamp : Stamp) → seen old Main ≡ [] → IfSome stamps (λ told. slice_get told 0 ≡ Some stamp) → stamps_now ≡ option_map stamps_after stamps
+      → StandsFor (seen new Main) (first_list stamp) None → IsSettled new Main → MakesList stamp old new → IsBegun old new stamps stamps_now

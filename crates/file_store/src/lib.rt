@@ -1,0 +1,13 @@
+//! The store on a FileStorage file: its list lies in Main of a volume, and outlives a crash.
+#![tactic(auto)]
+
+mod first;
+mod numbers;
+mod opening;
+mod preparing;
+mod staged;
+mod staging;
+mod store;
+mod tally;
+
+pub use store::FileStore;

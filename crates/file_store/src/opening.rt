@@ -1,0 +1,192 @@
+//! A store is opened, and its file made where there is none.
+
+ghost use Rattle.std.specs.Prelude.{◌≡◌, ◌≢◌, ℕ, ◌<◌, ◌≤◌, ◌^◌, [], None, List, length, option_map, slice_get, Some, IfOk, IfErr, IfSome, OnOk, IsErrOf};
+ghost use Rattle.std.specs.List.{last_or};
+ghost use Rattle.std.specs.Option.{option_map_or};
+ghost use Rattle.zb_volume.specs.declared.areas.Area.TheVariants.{Main};
+ghost use Rattle.zb_volume.specs.Disk.{seen, IsSettled};
+ghost use Rattle.zb_volume.specs.Faults.{Rose};
+ghost use Rattle.zb_ids.specs.declared.stamp.Stamp.{Stamp};
+ghost use Rattle.zb_outside.specs.Stamps.{stamps_after};
+ghost use Rattle.fs_records.specs.Blocks.{Reached, Begins};
+ghost use Rattle.fs_records.specs.File.{StandsFor};
+ghost use Rattle.fs_records.specs.Listed.{listed};
+ghost use Rattle.fs_records.specs.NumberLaws.{IsBytes};
+ghost use Rattle.fs_reading.specs.Main.{AreStarts};
+ghost use Rattle.fs_reading.specs.declared.errors.ReadError.TheVariants as read_error;
+ghost use Rattle.fs_recovery.specs.declared.errors.OpenError.TheVariants.{StoreFault as Fault};
+ghost use Rattle.fs_recovery.specs.Opens.{IsBounded, IsNoList, IsWhole};
+ghost use Rattle.file_store.specs.Kept.{IsKept};
+ghost use Rattle.file_store.specs.Numbers.{AreNumbersOf};
+ghost use Rattle.file_store.specs.Opening.{Harm, IsBegun, KeepsList, MakesList, SomeRose, first_list};
+
+use crate::first::first_file;
+use crate::numbers::Numbers;
+use crate::staging::StagedIndex;
+use fs_append as append;
+use fs_index::last_of;
+use fs_reading::{ReadError, read_outline};
+use fs_records::Place;
+use fs_recovery::{OpenError, Opened, open_main};
+use std::alloc::Global;
+use zb_ids::{Stamp, Tid};
+use zb_outside::Clock;
+use zb_volume::{Area, Volume};
+
+/// What a store keeps of its file.
+#[derive(Drop)]
+pub(crate) struct Ready {
+    pub(crate) index: StagedIndex,
+    pub(crate) numbers: Numbers,
+    /// Where a transaction that was never finished was cut off, or `None`.
+    pub(crate) cut: Option<u64>,
+}
+
+/// The number of the last transaction, or 0.
+fn newest_of(starts: &[Place]) -> Tid
+    ensures { result ≡ option_map_or (λ p. p.serial) (last_or None starts.now) 0 }
+{
+    match last_of(starts) {
+        Some(place) => place.serial,
+        None => Tid(0),
+    }
+}
+
+/// The numbers of the list, by the places of the transactions in what was read of the file. It reads
+/// headers alone. It is `ReadFault` only where a read failed, and else `Memory`. The volume is as it
+/// was.
+fn read_numbers<V: Volume>(
+    alloc: Global,
+    volume: &mut V,
+    starts: &[Place],
+) -> Result<Numbers, ReadError>
+    requires { V.told → AreStarts (seen (V.log volume.old) Main) starts.now }
+    ensures numbers { V.told → (reached : Reached) → Begins (seen (V.log volume.old) Main) reached
+        → starts.now ≡ reached.starts → IfOk result (λ numbers. AreNumbersOf reached.list numbers) }
+    ensures same { V.log volume.new ≡ V.log volume.old }
+    ensures later { V.read_faults volume.old ≤ V.read_faults volume.new }
+    ensures fault { IsErrOf result read_error.ReadFault
+        → Rose (V.read_faults volume.old) (V.read_faults volume.new) }
+    ensures uncounted { OnOk result (V.read_faults volume.new ≡ V.read_faults volume.old) }
+    ensures write_faults { V.write_faults volume.new ≡ V.write_faults volume.old }
+{
+    let mut numbers = Numbers::new(alloc);
+    'read: for (count, place) in starts.iter().enumerate() {
+        let outline = read_outline(alloc, volume, *place)?;
+        numbers.add(place.serial, outline.packed, outline.oids.as_slice())?;
+    }
+    Ok(numbers)
+}
+
+/// Makes the file of a new database in the place of Main.
+fn make<V: Volume>(alloc: Global, volume: &mut V, clock: Stamp) -> Result<(), OpenError>
+    ensures made { V.told → OnOk result
+        (StandsFor (seen (V.log volume.new) Main) (first_list clock) None) }
+    ensures fits { V.told → OnOk result (IsBytes (seen (V.log volume.new) Main)) }
+    ensures settled { V.told → OnOk result (IsSettled (V.log volume.new) Main) }
+    ensures harm { (bytes : List ℕ) → IfErr result (λ e. Harm bytes e) }
+    ensures any_moment { V.told → MakesList clock (V.log volume.old) (V.log volume.new) }
+    ensures fault { IsErrOf result Fault
+        → Rose (V.write_faults volume.old) (V.write_faults volume.new) }
+    ensures later { V.write_faults volume.old ≤ V.write_faults volume.new }
+    ensures read_faults { V.read_faults volume.new ≡ V.read_faults volume.old }
+{
+    let file = first_file(alloc, clock)?;
+    append::create(volume, file.as_slice())?;
+    Ok(())
+}
+
+/// Makes the file of a new database where Main is empty. The clock is asked only there.
+fn begin<V: Volume, C: Clock>(alloc: Global, volume: &mut V, clock: &mut C) -> Result<(), OpenError>
+    ensures begun { V.told → OnOk result (IsBegun (V.log volume.old) (V.log volume.new)
+        (C.stamps clock.old) (C.stamps clock.new)) }
+    ensures some { V.told → OnOk result (seen (V.log volume.new) Main ≢ []) }
+    ensures fits { V.told → OnOk result (IsBytes (seen (V.log volume.new) Main)) }
+    ensures same { V.told → seen (V.log volume.old) Main ≢ [] → V.log volume.new ≡ V.log volume.old }
+    ensures stamps_kept { V.told → seen (V.log volume.old) Main ≢ []
+        → C.stamps clock.new ≡ C.stamps clock.old }
+    ensures harm { (bytes : List ℕ) → IfErr result (λ e. Harm bytes e) }
+    ensures makes { V.told → IfSome (C.stamps clock.old) (λ stamps. (stamp : Stamp)
+        → slice_get stamps 0 ≡ Some stamp → MakesList stamp (V.log volume.old) (V.log volume.new)) }
+    ensures fault { IsErrOf result Fault → SomeRose (V.read_faults volume.old)
+        (V.read_faults volume.new) (V.write_faults volume.old) (V.write_faults volume.new) }
+    ensures reads_same { OnOk result (V.read_faults volume.new ≡ V.read_faults volume.old) }
+    ensures reads_later { V.read_faults volume.old ≤ V.read_faults volume.new }
+    ensures writes_later { V.write_faults volume.old ≤ V.write_faults volume.new }
+{
+    if volume.len(Area::Main)? > 0 {
+        return Ok(());
+    }
+    let now = clock.stamp();
+    make(alloc, volume, now)?;
+    Ok(())
+}
+
+/// What is kept of the file in Main, which was opened.
+fn keep<V: Volume>(alloc: Global, volume: &mut V, opened: Opened) -> Result<Ready, OpenError>
+    requires whole { V.told → IsWhole (seen (V.log volume.old) Main) opened }
+    requires fits { V.told → IsBytes (seen (V.log volume.old) Main) }
+    requires within { V.told → length (seen (V.log volume.old) Main) ≤ opened.end }
+    requires bounded { IsBounded opened }
+    ensures kept { V.told → IfOk result (λ r.
+        IsKept (seen (V.log volume.old) Main) r.index r.numbers) }
+    ensures free { IfOk result (λ r. r.index.staged ≡ None) }
+    ensures cut { IfOk result (λ r. r.cut ≡ opened.cut) }
+    ensures harm { (bytes : List ℕ) → IfErr result (λ e. Harm bytes e) }
+    ensures same { V.log volume.new ≡ V.log volume.old }
+    ensures later { V.read_faults volume.old ≤ V.read_faults volume.new }
+    ensures fault { IsErrOf result Fault
+        → Rose (V.read_faults volume.old) (V.read_faults volume.new) }
+    ensures uncounted { OnOk result (V.read_faults volume.new ≡ V.read_faults volume.old) }
+    ensures write_faults { V.write_faults volume.new ≡ V.write_faults volume.old }
+{
+    let Opened { index, end, cut } = opened;
+    let newest = newest_of(index.transactions());
+    let numbers = match read_numbers(alloc, volume, index.transactions()) {
+        Ok(numbers) => numbers,
+        Err(ReadError::ReadFault) => return Err(OpenError::StoreFault),
+        Err(ReadError::Memory) => return Err(OpenError::Memory),
+    };
+    Ok(Ready {
+        index: StagedIndex::new(index, newest, end),
+        numbers,
+        cut,
+    })
+}
+
+/// Opens the file in Main, and makes it first where Main is empty.
+pub(crate) fn open<V: Volume, C: Clock>(
+    alloc: Global,
+    volume: &mut V,
+    clock: &mut C,
+) -> Result<Ready, OpenError>
+    ensures kept { V.told → IfOk result (λ r.
+        IsKept (seen (V.log volume.new) Main) r.index r.numbers) }
+    ensures free { IfOk result (λ r. r.index.staged ≡ None) }
+    ensures settled { V.told → OnOk result (IsSettled (V.log volume.new) Main) }
+    ensures opened { V.told → seen (V.log volume.old) Main ≢ [] → IfOk result (λ r.
+        StandsFor (seen (V.log volume.old) Main) (listed (seen (V.log volume.new) Main)) r.cut) }
+    ensures made { V.told → seen (V.log volume.old) Main ≡ [] → IfSome (C.stamps clock.old) (λ stamps.
+        (stamp : Stamp) → slice_get stamps 0 ≡ Some stamp → IfOk result (λ r.
+        (listed (seen (V.log volume.new) Main) ≡ first_list stamp) × (r.cut ≡ None))) }
+    ensures stamps_kept { V.told → seen (V.log volume.old) Main ≢ []
+        → C.stamps clock.new ≡ C.stamps clock.old }
+    ensures stamps_left { V.told → seen (V.log volume.old) Main ≡ []
+        → OnOk result (C.stamps clock.new ≡ option_map stamps_after (C.stamps clock.old)) }
+    ensures harm { V.told → IfErr result (λ e. Harm (seen (V.log volume.old) Main) e) }
+    ensures untouched { V.told → IsNoList (seen (V.log volume.old) Main)
+        → V.log volume.new ≡ V.log volume.old }
+    ensures keeps { V.told → KeepsList (V.log volume.old) (V.log volume.new) }
+    ensures makes { V.told → IfSome (C.stamps clock.old) (λ stamps. (stamp : Stamp)
+        → slice_get stamps 0 ≡ Some stamp → MakesList stamp (V.log volume.old) (V.log volume.new)) }
+    ensures fault { IsErrOf result Fault → SomeRose (V.read_faults volume.old)
+        (V.read_faults volume.new) (V.write_faults volume.old) (V.write_faults volume.new) }
+    ensures reads_same { OnOk result (V.read_faults volume.new ≡ V.read_faults volume.old) }
+    ensures reads_later { V.read_faults volume.old ≤ V.read_faults volume.new }
+    ensures writes_later { V.write_faults volume.old ≤ V.write_faults volume.new }
+{
+    begin(alloc, volume, clock)?;
+    let opened = open_main(alloc, volume)?;
+    let ready = keep(alloc, volume, opened)?;
+    Ok(ready)
+}

@@ -1,0 +1,238 @@
+//! The store over a volume.
+
+ghost use Rattle.std.specs.Prelude.{◌≡◌, ◌≢◌, ◌≤◌, [], None, Some, false, length, option_map, slice_get, IfErr, IfOk, IfSome, OnOk};
+ghost use Rattle.std.specs.Option.{ForSome};
+ghost use Rattle.zb_volume.specs.declared.areas.Area.TheVariants.{Main};
+ghost use Rattle.zb_volume.specs.Disk.{seen, IsSettled};
+ghost use Rattle.zb_ids.specs.declared.stamp.Stamp.{Stamp};
+ghost use Rattle.zb_outside.specs.Stamps.{stamps_after};
+ghost use Rattle.fs_records.specs.File.{StandsFor};
+ghost use Rattle.fs_recovery.specs.declared.errors.OpenError.TheVariants.{StoreFault as Fault};
+ghost use Rattle.fs_recovery.specs.Opens.{IsNoList};
+ghost use Rattle.file_store.specs.Kept.{HasRoom, IsKept, IsVotedIn};
+ghost use Rattle.file_store.specs.KeptLaws.{kept_once, voted_once};
+ghost use Rattle.file_store.specs.Opening.{Harm, KeepsList, MakesList, SomeRose, first_list};
+
+use crate::numbers::Numbers;
+use crate::opening::{Ready, open};
+use crate::preparing::{count_staged, prepare};
+use crate::staging::StagedIndex;
+use fs_append as append;
+use fs_index::last_of;
+use fs_reading::{
+    read_before, read_first_after, read_history_at, read_transaction_with, read_undo_log_at,
+};
+use fs_recovery::OpenError;
+use std::alloc::Global;
+use zb_ids::{Oid, Tid};
+use zb_model::{Found, LogLine, NewTransaction, Revision, Store, StoreError, Transaction};
+use zb_outside::Clock;
+use zb_volume::{StoreFault, Volume};
+
+/// A store whose list lies in Main of a volume, as a FileStorage file. It keeps an index of the file
+/// and a few numbers of its list in memory, and reads all else.
+///
+/// Until a call answers a store fault, every crash leaves of Main what stands for the list.
+#[derive(Drop)]
+pub struct FileStore<V: Volume> {
+    pub(crate) volume: V,
+    pub(crate) index: StagedIndex,
+    pub(crate) numbers: Numbers,
+    /// Whether a call is under way that changes the volume, or one has failed.
+    pub(crate) broken: bool,
+    ghost room: { ForSome index.staged (λ s. HasRoom numbers (length s.oids)) },
+    ghost settled: { V.told → broken ≡ false → IsSettled (V.log volume) Main },
+    ghost kept: { V.told → broken ≡ false → IsKept (seen (V.log volume) Main) index numbers } by { kept_once V.told (broken ≡ false) (seen (V.log volume) Main) index numbers },
+    ghost voted: { V.told → broken ≡ false → ForSome index.staged (λ s. IsVotedIn (seen (V.log volume) Main) s index) } by { voted_once V.told (broken ≡ false) (seen (V.log volume) Main) index },
+}
+
+impl<V: Volume + Drop> FileStore<V> {
+    /// Opens the file in Main of a volume, and makes it first where Main is empty: then the list is
+    /// the first transaction alone, with a stamp of the clock, which is asked for only there. What was
+    /// voted and never finished is cut off, and its place is answered beside the store.
+    ///
+    /// An error hands the volume back. Where Main is damaged or no file nothing was changed.
+    pub fn create_or_open<C: Clock>(
+        alloc: Global,
+        mut volume: V,
+        clock: &mut C,
+    ) -> Result<(FileStore<V>, Option<u64>), (OpenError, V)>
+        ensures whole { IfOk result (λ r. ⟦<FileStore<V> as Store>⟧.broken r.0 ≡ false) }
+        ensures free { IfOk result (λ r. ⟦<FileStore<V> as Store>⟧.voted r.0 ≡ None) }
+        ensures opened { V.told → seen (V.log volume) Main ≢ [] → IfOk result (λ r.
+            StandsFor (seen (V.log volume) Main) (⟦<FileStore<V> as Store>⟧.list r.0) r.1) }
+        ensures made { V.told → seen (V.log volume) Main ≡ [] → IfSome (C.stamps clock.old) (λ stamps.
+            (stamp : Stamp) → slice_get stamps 0 ≡ Some stamp → IfOk result (λ r.
+            (⟦<FileStore<V> as Store>⟧.list r.0 ≡ first_list stamp) × (r.1 ≡ None))) }
+        ensures stamps_kept { V.told → seen (V.log volume) Main ≢ []
+            → C.stamps clock.new ≡ C.stamps clock.old }
+        ensures stamps_left { V.told → seen (V.log volume) Main ≡ []
+            → OnOk result (C.stamps clock.new ≡ option_map stamps_after (C.stamps clock.old)) }
+        ensures harm { V.told → IfErr result (λ e. Harm (seen (V.log volume) Main) e.0) }
+        ensures untouched { V.told → IsNoList (seen (V.log volume) Main)
+            → IfErr result (λ e. V.log e.1 ≡ V.log volume) }
+        ensures keeps { V.told → IfOk result (λ r. KeepsList (V.log volume) (⟦<FileStore<V> as Store>⟧.log r.0)) }
+        ensures keeps_refused { V.told → IfErr result (λ e. KeepsList (V.log volume) (V.log e.1)) }
+        ensures makes { V.told → IfSome (C.stamps clock.old) (λ stamps. (stamp : Stamp)
+            → slice_get stamps 0 ≡ Some stamp → IfOk result (λ r.
+            MakesList stamp (V.log volume) (⟦<FileStore<V> as Store>⟧.log r.0))) }
+        ensures makes_refused { V.told → IfSome (C.stamps clock.old) (λ stamps. (stamp : Stamp)
+            → slice_get stamps 0 ≡ Some stamp → IfErr result (λ e.
+            MakesList stamp (V.log volume) (V.log e.1))) }
+        ensures fault { IfErr result (λ e. e.0 ≡ Fault → SomeRose (V.read_faults volume)
+            (V.read_faults e.1) (V.write_faults volume) (V.write_faults e.1)) }
+        ensures read_faults { IfOk result (λ r.
+            ⟦<FileStore<V> as Store>⟧.read_faults r.0 ≡ V.read_faults volume) }
+        ensures faults { IfOk result (λ r. V.write_faults volume ≤ ⟦<FileStore<V> as Store>⟧.faults r.0) }
+        ensures refused_reads { IfErr result (λ e. V.read_faults volume ≤ V.read_faults e.1) }
+        ensures refused_writes { IfErr result (λ e. V.write_faults volume ≤ V.write_faults e.1) }
+    {
+        match open(alloc, &mut volume, clock) {
+            Ok(ready) => {
+                let Ready {
+                    index,
+                    numbers,
+                    cut,
+                } = ready;
+                let store = FileStore {
+                    volume,
+                    index,
+                    numbers,
+                    broken: false,
+                };
+                Ok((store, cut))
+            }
+            Err(error) => Err((error, volume)),
+        }
+    }
+
+    /// The volume, whether the store is broken or not. What is voted is dropped from the store alone:
+    /// its bytes still stand behind the file, and are cut off when that is opened.
+    pub fn into_volume(self) -> V
+        ensures log { V.log result ≡ ⟦<FileStore<V> as Store>⟧.log self }
+        ensures faults { V.write_faults result ≡ ⟦<FileStore<V> as Store>⟧.faults self }
+        ensures read_faults { V.read_faults result ≡ ⟦<FileStore<V> as Store>⟧.read_faults self }
+    {
+        let FileStore {
+            volume,
+            index: _,
+            numbers: _,
+            broken: _,
+        } = self;
+        volume
+    }
+}
+
+impl<V: Volume + Drop> Store for FileStore<V> {
+    ghost use Rattle.std.specs.Prelude.{option_map};
+    ghost use Rattle.zb_volume.specs.declared.areas.Area.TheVariants.{Main};
+    ghost use Rattle.zb_volume.specs.Disk.{seen};
+    ghost use Rattle.fs_records.specs.Listed.{listed};
+    ghost use Rattle.file_store.specs.Kept.{StandsForList, voted_in};
+    ghost use Rattle.file_store.specs.KeptLaws.{kept_database, kept_leaves};
+
+    ghost told = { V.told };
+
+    ghost lasts = { V.told };
+
+    ghost quiet = { ⊥ };
+
+    ghost log = { λ store. V.log store.volume };
+
+    ghost stands = { StandsForList };
+
+    ghost broken = { λ store. store.broken };
+
+    ghost list = { λ store. listed (seen (V.log store.volume) Main) };
+
+    ghost newest_number = { λ store. store.index.newest };
+
+    ghost voted = { λ store. option_map (λ s. voted_in s.tid store.index.end (seen (V.log store.volume) Main)) store.index.staged };
+
+    ghost faults = { λ store. V.write_faults store.volume };
+
+    ghost read_faults = { λ store. V.read_faults store.volume };
+
+    ghost database = { λ store told whole. kept_database (seen (V.log store.volume) Main) store.index store.numbers (store.kept told whole) };
+
+    ghost lasting = { λ store told whole. kept_leaves (V.log store.volume) store.index store.numbers (store.settled told whole) (store.kept told whole) };
+
+    fn newest(&self) -> Tid {
+        self.index.newest()
+    }
+
+    fn pack_point(&self) -> Tid {
+        self.numbers.pack_point()
+    }
+
+    fn greatest_oid(&self) -> Oid {
+        self.numbers.greatest_oid()
+    }
+
+    fn serial_of(&self, oid: Oid) -> Tid {
+        match last_of(self.index.places(oid)) {
+            Some(place) => place.serial,
+            None => Tid(0),
+        }
+    }
+
+    fn changes_to(&self, tid: Tid) -> u64 {
+        self.numbers.changes_to(tid)
+    }
+
+    fn load_before(&mut self, alloc: Global, oid: Oid, front: Tid) -> Result<Found, StoreError> {
+        let found = read_before(alloc, &mut self.volume, self.index.places(oid), front)?;
+        Ok(found)
+    }
+
+    fn transaction(&mut self, alloc: Global, tid: Tid) -> Result<Option<Transaction>, StoreError> {
+        let found = read_transaction_with(alloc, &mut self.volume, self.index.starts(), tid)?;
+        Ok(found)
+    }
+
+    fn after(&mut self, alloc: Global, tid: Tid) -> Result<Option<Transaction>, StoreError> {
+        let found = read_first_after(alloc, &mut self.volume, self.index.starts(), tid)?;
+        Ok(found)
+    }
+
+    fn history(&mut self, alloc: Global, oid: Oid) -> Result<Vec<Revision>, StoreError> {
+        let lines = read_history_at(alloc, &mut self.volume, self.index.places(oid))?;
+        Ok(lines.into_vec())
+    }
+
+    fn undo_log(&mut self, alloc: Global) -> Result<Vec<LogLine>, StoreError> {
+        let lines = read_undo_log_at(alloc, &mut self.volume, self.index.starts())?;
+        Ok(lines.into_vec())
+    }
+
+    fn vote(&mut self, alloc: Global, new: &NewTransaction) -> Result<(), StoreError> {
+        let text = prepare(alloc, &mut self.index, &mut self.numbers, new)?;
+        self.broken = true;
+        match append::vote(&mut self.volume, self.index.end(), text.as_slice()) {
+            Ok(()) => {}
+            Err(StoreFault) => {
+                self.index.take_back();
+                return Err(StoreError::StoreFault);
+            }
+        }
+        self.broken = false;
+        Ok(())
+    }
+
+    fn finish(&mut self) -> Result<(), StoreFault> {
+        self.broken = true;
+        append::finish(&mut self.volume, self.index.end())?;
+        count_staged(&mut self.numbers, &self.index);
+        self.index.keep();
+        self.broken = false;
+        Ok(())
+    }
+
+    fn abort(&mut self) -> Result<(), StoreFault> {
+        self.broken = true;
+        append::abort(&mut self.volume, self.index.end())?;
+        self.index.take_back();
+        self.broken = false;
+        Ok(())
+    }
+}

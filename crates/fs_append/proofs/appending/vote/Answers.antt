@@ -1,0 +1,5 @@
+use Rattle.fs_append.proofs.Mixes.{vote_leaves}
+use Rattle.fs_append.proofs.appending.vote.Goals as goal
+
+pub returns-clause-any_moment : goal.returns-clause-any_moment
+returns-clause-any_moment g c told s vote = vote_leaves _ _ s c.args.end c.args.bytes.now vote (c.write_and_sync.ensures.any_moment told)

@@ -1,0 +1,18 @@
+use Rattle.zb_volume.specs.declared.areas.Area.TheVariants.{Main}
+use Rattle.zb_volume.specs.Moments.{StaysAs}
+use Rattle.fs_append.proofs.Sides.{cut_stays, write_stays, still_leaves, replaced_leaves}
+use Rattle.fs_append.proofs.creating.create.Goals as goal
+use Rattle.fs_append.proofs.creating.create.Goals.{After-write_at}
+
+pub returns-in_err-cut-clause-any_moment : goal.returns-in_err-cut-clause-any_moment
+returns-in_err-cut-clause-any_moment g c told = still_leaves _ _ c.args.bytes.now (cut_stays c.cut.result _ _ (c.cut.ensures.done told) (c.cut.ensures.failed told))
+
+-- after the write, done or not
+stays : (g : _) (c : After-write_at g) → g.V.Volume.told → StaysAs Main (g.V.Volume.log c.args.volume.now) (g.V.Volume.log c.write_at.new.self)
+stays g c told = write_stays c.write_at.result _ _ _ c.args.bytes.now (cut_stays c.cut.result _ _ (c.cut.ensures.done told) (c.cut.ensures.failed told)) (c.write_at.ensures.done told) (c.write_at.ensures.failed told)
+
+pub returns-in_err-write_at-clause-any_moment : goal.returns-in_err-write_at-clause-any_moment
+returns-in_err-write_at-clause-any_moment g c told = still_leaves _ _ c.args.bytes.now (stays g (goal.at.returns-in_err-write_at-clause-any_moment g c).After-write_at told)
+
+pub returns-clause-any_moment : goal.returns-clause-any_moment
+returns-clause-any_moment g c told = replaced_leaves _ _ _ _ c.args.bytes.now (c.in_ok-cut.ensures.done told) (c.in_ok-write_at.ensures.done told) (stays g (goal.at.returns-clause-any_moment g c).After-write_at told) (c.sync_and_replace.ensures.any_moment told)

@@ -1,0 +1,137 @@
+//! Look-ups of an object and of a transaction by the places where they stand.
+
+ghost use Rattle.std.specs.Prelude.{◌≡◌, ℕ, ◌≤◌, IfOk, OnOk, IsErrOf};
+ghost use Rattle.std.specs.Option.{option_map};
+ghost use Rattle.zb_model.specs.Queries.{first_after, found_as, found_below, transaction_at};
+ghost use Rattle.zb_volume.specs.Faults.{Rose};
+ghost use Rattle.fs_records.specs.Blocks.{Reached, Begins};
+ghost use Rattle.fs_records.specs.Places.{IsRising, places_of};
+ghost use Rattle.fs_index.specs.Found.{first_from};
+ghost use Rattle.fs_reading.specs.Main.{main, ArePlaces, AreStarts};
+ghost use Rattle.fs_reading.specs.declared.errors.ReadError.TheVariants.{ReadFault, Memory};
+
+use crate::contents::read_content;
+use crate::errors::ReadError;
+use crate::transaction::read_transaction_at;
+use fs_index::{first_from, last_before};
+use fs_records::Place;
+use std::alloc::Global;
+use zb_ids::Tid;
+use zb_model::{Content, Found, Transaction};
+use zb_volume::Volume;
+
+/// The serial of the first place that isn't below the front.
+fn serial_from(places: &[Place], front: Tid) -> Option<Tid>
+    requires { IsRising places.now }
+    ensures { result ≡ option_map (λ p. p.serial) (first_from front places.now) }
+{
+    first_from(places, front).map(|next| next.serial)
+}
+
+/// What is found where the last revision has this content and this serial, and `end` is the serial
+/// of the next one.
+fn found_with(content: Content, serial: Tid, end: Option<Tid>) -> Found
+    ensures { result ≡ found_as content serial end }
+{
+    match content {
+        Content::Held(bytes) => Found::Held { serial, bytes, end },
+        Content::Absent => Found::Absent { serial },
+    }
+}
+
+/// An object's last revision below a front, with the serial of its next one, by the places of the
+/// object's records in what was read of the file, in the order in which they stand. It reads one
+/// content, and nothing that stands behind what was read; memory is that of the content. It is
+/// `ReadFault` only where a read failed, and else `Memory`. The volume is as it was.
+pub fn read_before<V: Volume>(
+    alloc: Global,
+    volume: &mut V,
+    places: &[Place],
+    front: Tid,
+) -> Result<Found, ReadError>
+    requires places { V.told → ArePlaces (main (V.log volume.old)) places.now }
+    requires rising { IsRising places.now }
+    ensures found { V.told → (reached : Reached) (oid : ℕ)
+        → Begins (main (V.log volume.old)) reached → places.now ≡ places_of oid reached.known
+        → IfOk result (λ found. found ≡ found_below oid front reached.list) }
+    ensures same { V.log volume.new ≡ V.log volume.old }
+    ensures later { V.read_faults volume.old ≤ V.read_faults volume.new }
+    ensures fault { IsErrOf result ReadFault
+        → Rose (V.read_faults volume.old) (V.read_faults volume.new) }
+    ensures memory { IsErrOf result Memory → V.read_faults volume.new ≡ V.read_faults volume.old }
+    ensures uncounted { OnOk result (V.read_faults volume.new ≡ V.read_faults volume.old) }
+    ensures write_faults { V.write_faults volume.new ≡ V.write_faults volume.old }
+{
+    let Some(place) = last_before(places, front) else {
+        return Ok(Found::Nothing);
+    };
+    let content = read_content(alloc, volume, place.at)?;
+    let end = serial_from(places, front);
+    Ok(found_with(content, place.serial, end))
+}
+
+/// The transaction with this tid, whole, or `None` where there is none, by the places of the
+/// transactions in what was read of the file, in the order in which they stand. It reads nothing but
+/// that transaction and the contents that it leads to, and nothing where there is none; memory is
+/// that of the transaction. It is `ReadFault` only where a read failed, and else `Memory`. The volume
+/// is as it was.
+pub fn read_transaction_with<V: Volume>(
+    alloc: Global,
+    volume: &mut V,
+    starts: &[Place],
+    tid: Tid,
+) -> Result<Option<Transaction>, ReadError>
+    requires starts { V.told → AreStarts (main (V.log volume.old)) starts.now }
+    requires rising { IsRising starts.now }
+    ensures found { V.told → (reached : Reached) → Begins (main (V.log volume.old)) reached
+        → starts.now ≡ reached.starts
+        → IfOk result (λ found. found ≡ transaction_at tid reached.list) }
+    ensures same { V.log volume.new ≡ V.log volume.old }
+    ensures later { V.read_faults volume.old ≤ V.read_faults volume.new }
+    ensures fault { IsErrOf result ReadFault
+        → Rose (V.read_faults volume.old) (V.read_faults volume.new) }
+    ensures memory { IsErrOf result Memory → V.read_faults volume.new ≡ V.read_faults volume.old }
+    ensures uncounted { OnOk result (V.read_faults volume.new ≡ V.read_faults volume.old) }
+    ensures write_faults { V.write_faults volume.new ≡ V.write_faults volume.old }
+{
+    let Some(start) = first_from(starts, tid) else {
+        return Ok(None);
+    };
+    if start.serial != tid {
+        return Ok(None);
+    }
+    Ok(Some(read_transaction_at(alloc, volume, start)?))
+}
+
+/// The first transaction above this tid, whole, or `None` where there is none, by the places of the
+/// transactions in what was read of the file, in the order in which they stand. It reads nothing but
+/// that transaction and the contents that it leads to, and nothing where there is none; memory is
+/// that of the transaction. It is `ReadFault` only where a read failed, and else `Memory`. The volume
+/// is as it was.
+pub fn read_first_after<V: Volume>(
+    alloc: Global,
+    volume: &mut V,
+    starts: &[Place],
+    tid: Tid,
+) -> Result<Option<Transaction>, ReadError>
+    requires starts { V.told → AreStarts (main (V.log volume.old)) starts.now }
+    requires rising { IsRising starts.now }
+    ensures found { V.told → (reached : Reached) → Begins (main (V.log volume.old)) reached
+        → starts.now ≡ reached.starts
+        → IfOk result (λ found. found ≡ first_after tid reached.list) }
+    ensures same { V.log volume.new ≡ V.log volume.old }
+    ensures later { V.read_faults volume.old ≤ V.read_faults volume.new }
+    ensures fault { IsErrOf result ReadFault
+        → Rose (V.read_faults volume.old) (V.read_faults volume.new) }
+    ensures memory { IsErrOf result Memory → V.read_faults volume.new ≡ V.read_faults volume.old }
+    ensures uncounted { OnOk result (V.read_faults volume.new ≡ V.read_faults volume.old) }
+    ensures write_faults { V.write_faults volume.new ≡ V.write_faults volume.old }
+{
+    let Some(next) = tid.0.checked_add(1) else {
+        return Ok(None);
+    };
+    let Some(start) = first_from(starts, Tid(next)) else {
+        return Ok(None);
+    };
+    Ok(Some(read_transaction_at(alloc, volume, start)?))
+}
