@@ -11,3 +11,6 @@ mod store;
 mod tally;
 
 pub use store::FileStore;
+
+#[cfg(test)]
+mod tests;
