@@ -4,7 +4,7 @@ use Rattle.std.specs.Result.{IsErr, IsErrAnd, IfErr}
 use Rattle.std.specs.Prelude.{Result, Ok, Err, IfOk, IfSome, option_map, slice_get}
 use Rattle.std.specs.List.{last_or}
 use Rattle.std.specs.Option.{option_map_or}
-use Rattle.std.proofs.lemmas.List.{length-append, length-take, take_at}
+use Rattle.std.proofs.lemmas.List.{nil_from_length, length-append, length-take, take_at}
 use Rattle.zb_ids.specs.declared.stamp.Stamp.{Stamp}
 use Rattle.zb_volume.specs.declared.areas.Area.TheVariants.{Main}
 use Rattle.zb_volume.specs.Calls.{Event}
@@ -31,7 +31,7 @@ use Rattle.fs_recovery.specs.Opens.{ImagesStand, IsNoList, IsOpened, IsWhole, Op
 use Rattle.file_store.specs.Kept.{IsKept, StandsForList}
 use Rattle.file_store.specs.KeptLaws.{list_read}
 use Rattle.file_store.specs.Numbers.{NumbersKept, AreNumbersOf}
-use Rattle.file_store.specs.Opening.{Harm, IsBegun, there, made, IsNewOr, KeepsList, MakesList, first_list}
+use Rattle.file_store.specs.Opening.{Harm, IsBegun, IsMade, there, made, IsNewOr, KeepsList, MakesList, first_list}
 use Rattle.file_store.specs.Staging.{StagedKept}
 
 -- ---- what is kept
@@ -172,19 +172,17 @@ pub opened_stands : (was now : List ℕ) (o : Opened) (cut : Option ℕ) (opened
 opened_stands was now o cut opened is fits limit cut_is =
     a_file opened.reached (subst (λ (k : Option ℕ). StandsAs was opened.reached k) (sym cut_is) opened.stands) (opened_list was now o opened is fits limit)
 
-made_of : (old mid : List Event) (now : List ℕ) (told : List Stamp) (left : Option (List Stamp)) (o : Opened) (cut : Option ℕ) → IsBegun old mid (Some told) left → IsOpened (seen mid Main) o → now ≡ take o.end (seen mid Main) → IsBytes (seen mid Main) → o.end < 2 ^ 63 → cut ≡ o.cut
-    → seen old Main ≡ [] → (stamp : Stamp) → slice_get told 0 ≡ Some stamp → (listed now ≡ first_list stamp) × (cut ≡ None)
-made_of old mid now told left o cut (there some same kept) opened is fits limit cut_is empty stamp given = absurd (some empty)
-made_of old mid now told left o cut (made by none first stamps stands settled moments) opened is fits limit cut_is empty stamp given =
-    let one : by ≡ stamp = same_stamp told by stamp first given in
-    let f = file_of (seen mid Main) by None stands in
-    let same = one_list (seen mid Main) opened.reached f.0 o.cut None opened.stands f.1 in
-    (opened_list (seen mid Main) now o opened is fits limit ∙ ap (λ (s : Reached). s.list) same.0 ∙ sym f.2 ∙ ap first_list one, cut_is ∙ same.1)
-
 pub made_after : (old mid : List Event) (now : List ℕ) (stamps left : Option (List Stamp)) (o : Opened) (cut : Option ℕ) → IsBegun old mid stamps left → IsOpened (seen mid Main) o → now ≡ take o.end (seen mid Main) → IsBytes (seen mid Main) → o.end < 2 ^ 63 → cut ≡ o.cut
-    → seen old Main ≡ [] → IfSome stamps (λ told. (stamp : Stamp) → slice_get told 0 ≡ Some stamp → (listed now ≡ first_list stamp) × (cut ≡ None))
-made_after old mid now None left o cut begun opened is fits limit cut_is empty = tt
-made_after old mid now (Some told) left o cut begun opened is fits limit cut_is empty = λ stamp given. made_of old mid now told left o cut begun opened is fits limit cut_is empty stamp given
+    → seen old Main ≡ [] → IsMade stamps (listed now) cut
+made_after old mid now stamps left o cut (there some same kept) opened is fits limit cut_is empty = absurd (some empty)
+made_after old mid now stamps left o cut (made by none first kept stands settled moments) opened is fits limit cut_is empty =
+    let f = file_of (seen mid Main) by None stands in
+    let same = one_list (seen mid Main) opened.reached f.0 o.cut None opened.stands f.1 in record {
+      stamp = by;
+      first = first;
+      list_is = opened_list (seen mid Main) now o opened is fits limit ∙ ap (λ (s : Reached). s.list) same.0 ∙ sym f.2;
+      cut_is = cut_is ∙ same.1;
+    }
 
 pub left_after : (old mid : List Event) (stamps left : Option (List Stamp)) → IsBegun old mid stamps left → seen old Main ≡ [] → left ≡ option_map stamps_after stamps
 left_after old mid stamps left (there some same kept) empty = absurd (some empty)
@@ -210,14 +208,10 @@ opens_harm bytes (BadRecord at field) opens = opens
 opens_harm bytes NotFileStorage opens = opens
 opens_harm bytes Memory opens = tt
 
-none_of : (xs : List ℕ) → length xs ≤ 0 → xs ≡ []
-none_of [] none = refl
-none_of (x ∷ xs) none = absurd (omega (arith, none))
-
 pub begun_made : (stamp : Stamp) (old mid new : List Event) (stamps left : Option (List Stamp)) (n : ℕ) → mid ≡ old → n ≡ length (seen old Main) → n ≤ 0 → IfSome stamps (λ told. slice_get told 0 ≡ Some stamp) → left ≡ option_map stamps_after stamps
     → StandsFor (seen new Main) (first_list stamp) None → IsSettled new Main → MakesList stamp mid new → IsBegun old new stamps left
 begun_made stamp old mid new stamps left n same n_is none first is stands settled moments =
-    made stamp (none_of (seen old Main) (omega (arith, n_is, none))) first is stands settled (subst (λ (log : List Event). MakesList stamp log new) same moments)
+    made stamp (nil_from_length (seen old Main) (omega (arith, n_is, none))) first is stands settled (subst (λ (log : List Event). MakesList stamp log new) same moments)
 
 pub still_some : (old new : List Event) (stamps : Option (List Stamp)) → new ≡ old → IfSome stamps (λ told. (stamp : Stamp) → slice_get told 0 ≡ Some stamp → MakesList stamp old new)
 still_some old new stamps same = of_all stamps (λ told. (stamp : Stamp) → slice_get told 0 ≡ Some stamp → MakesList stamp old new) (λ told stamp is. still_makes stamp old new same)

@@ -8,7 +8,7 @@ use Rattle.zb_volume.specs.Disk.{written}
 use Rattle.zb_model.specs.declared.data.Transaction.{Transaction}
 use Rattle.zb_model.specs.declared.new_transaction.NewTransaction.{NewTransaction}
 use Rattle.zb_model.specs.Voting.{IsVotable, voted_of}
-use Rattle.zb_model.specs.VotingLaws.{oids_kept}
+use Rattle.zb_model.specs.VotingLaws.{last_or-push, oids_kept}
 use Rattle.fs_records.specs.declared.place.Place.{Place}
 use Rattle.fs_records.specs.NumberLaws.{IsBytes, IsBytes-take}
 use Rattle.fs_records.specs.Blocks.{Known, Reached, Block, block_text, records_from, length_of, with_records, after, transaction_of, Begins}
@@ -48,10 +48,6 @@ written_end old text end is =
     ∙ append-nil (old ++ text)
 
 -- ---- a vote
-
-last_push : (o : Option Transaction) (list : List Transaction) (t : Transaction) → last_or o (list ++ t ∷ []) ≡ Some t
-last_push o [] t = refl
-last_push o (u ∷ us) t = last_push (Some u) us t
 
 -- what was read of bytes that stand for it
 read_as : (bytes : List ℕ) (s : Reached) (cut : Option ℕ) → IsBytes bytes → length bytes < 2 ^ 63 → StandsAs bytes s cut → reading_in bytes ≡ Some (reached_in bytes, cut)
@@ -167,7 +163,7 @@ module _ (main text : List ℕ) (old now : StagedKept) (was are : NumbersKept) (
   grown_list = list_read (main ++ text) (reached_in main) (Some old.end) (reading_is (main ++ text) (reached_in main) (Some old.end) grown_fits (omega (arith, grown_short)) grown_stands) ∙ sym list_is
 
   voted_is : voted_in new.tid now.end (main ++ text) ≡ voted_of (listed main) new
-  voted_is = ap (λ (l : List Transaction). record (unwrap_or (last_or None l) nothing) { tid = new.tid }) finished_list ∙ ap (λ (o : Option Transaction). record (unwrap_or o nothing) { tid = new.tid }) (last_push None (listed main) (voted_of (listed main) new))
+  voted_is = ap (λ (l : List Transaction). record (unwrap_or (last_or None l) nothing) { tid = new.tid }) finished_list ∙ ap (λ (o : Option Transaction). record (unwrap_or o nothing) { tid = new.tid }) (last_or-push None (listed main) (voted_of (listed main) new))
 
   staged_end : (after (reached_in main) (block_of 32 old.kept.entries new)).end ≡ old.end + length text
   staged_end =

@@ -42,10 +42,13 @@ kept_stands bytes index numbers k = reading_stands bytes (reached_in bytes) (cut
 pub kept_for : (bytes : List ℕ) (index : StagedKept) (numbers : NumbersKept) → IsKept bytes index numbers → StandsFor bytes (listed bytes) (cut_of index)
 kept_for bytes index numbers k = a_file (reached_in bytes) (kept_stands bytes index numbers k) (list_read bytes (reached_in bytes) (cut_of index) k.reading)
 
+pub kept_list : (bytes : List ℕ) (index : StagedKept) (numbers : NumbersKept) → IsKept bytes index numbers → StandsForList bytes (listed bytes)
+kept_list bytes index numbers k = (cut_of index, kept_for bytes index numbers k)
+
 -- which is a database
 pub kept_database : (bytes : List ℕ) (index : StagedKept) (numbers : NumbersKept) → IsKept bytes index numbers → IsDatabase (listed bytes)
 kept_database bytes index numbers k = database_of bytes (listed bytes) (cut_of index) (kept_for bytes index numbers k)
 
 -- and every crash leaves what stands for it, where nothing is pending
 pub kept_leaves : (log : List Event) (index : StagedKept) (numbers : NumbersKept) → IsSettled log Main → IsKept (seen log Main) index numbers → Leaves Main (λ bytes. StandsForList bytes (listed (seen log Main))) log
-kept_leaves log index numbers settled k = settled_leaves log Main (λ bytes. StandsForList bytes (listed (seen log Main))) settled (cut_of index, kept_for (seen log Main) index numbers k)
+kept_leaves log index numbers settled k = settled_leaves log Main (λ bytes. StandsForList bytes (listed (seen log Main))) settled (kept_list (seen log Main) index numbers k)

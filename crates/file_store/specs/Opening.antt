@@ -30,6 +30,17 @@ Harm bytes Memory = Unit {0}
 abbrev pub SomeRose : ℕ → ℕ → ℕ → ℕ → Type 0
 SomeRose reads reads_now writes writes_now = Rose reads reads_now ⊎ Rose writes writes_now
 
+-- a list is that of a new database, without a tail, by the clock's first stamp where the clock tells
+pub record IsMade (stamps : Option (List Stamp)) (list : List Transaction) (cut : Option ℕ) : Type 0 where
+  pub stamp : Stamp
+  pub first : IfSome stamps (λ told. slice_get told 0 ≡ Some stamp)
+  pub list_is : list ≡ first_list stamp
+  pub cut_is : cut ≡ None
+
+-- the clock gave one stamp, or none
+abbrev pub GaveAtMostOne : Option (List Stamp) → Option (List Stamp) → Type 0
+GaveAtMostOne stamps stamps_now = (stamps_now ≡ stamps) ⊎ (stamps_now ≡ option_map stamps_after stamps)
+
 -- bytes stand for the empty list, or for that of a new database by this stamp
 abbrev pub IsNewOr : Stamp → List ℕ → Type 0
 IsNewOr stamp bytes = StandsForList bytes [] ⊎ StandsForList bytes (first_list stamp)

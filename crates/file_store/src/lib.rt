@@ -10,6 +10,7 @@ mod staging;
 mod store;
 mod tally;
 
+pub use opening::create_if_empty;
 pub use store::FileStore;
 
 #[cfg(test)]

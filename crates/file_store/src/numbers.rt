@@ -145,7 +145,9 @@ impl Numbers {
         ensures ok { OnOk result ((list : List Transaction) (t : Transaction) → t.tid ≡ tid
             → t.packed ≡ packed → map (λ c. c.oid) t.changes ≡ oids.now → AreNumbersOf list self.old
             → AreNumbersOf (list ++ t ∷ []) self.new) }
-        ensures err { OnErr result (self.new.tallies ≡ self.old.tallies) }
+        ensures tallies { OnErr result (self.new.tallies ≡ self.old.tallies) }
+        ensures greatest { OnErr result (self.new.greatest ≡ self.old.greatest) }
+        ensures pack_point { OnErr result (self.new.pack_point ≡ self.old.pack_point) }
         ensures succeeds { 0 < self.old.room → total_of self.old.tallies + length oids.now < 2 ^ 64
             → IsOk result }
     {

@@ -18,7 +18,7 @@ ghost use Rattle.fs_recovery.specs.declared.errors.OpenError.TheVariants.{StoreF
 ghost use Rattle.fs_recovery.specs.Opens.{IsBounded, IsNoList, IsWhole};
 ghost use Rattle.file_store.specs.Kept.{IsKept};
 ghost use Rattle.file_store.specs.Numbers.{AreNumbersOf};
-ghost use Rattle.file_store.specs.Opening.{Harm, IsBegun, KeepsList, MakesList, SomeRose, first_list};
+ghost use Rattle.file_store.specs.Opening.{GaveAtMostOne, Harm, IsBegun, IsMade, KeepsList, MakesList, SomeRose, first_list};
 
 use crate::first::first_file;
 use crate::numbers::Numbers;
@@ -96,8 +96,16 @@ fn make<V: Volume>(alloc: Global, volume: &mut V, clock: Stamp) -> Result<(), Op
     Ok(())
 }
 
-/// Makes the file of a new database where Main is empty. The clock is asked only there.
-fn begin<V: Volume, C: Clock>(alloc: Global, volume: &mut V, clock: &mut C) -> Result<(), OpenError>
+/// Makes the file of a new database in Main where that is empty: its list is the first transaction
+/// alone, with a stamp of the clock, which is asked for only there. Nothing else is written.
+///
+/// It is `StoreFault` only where a call of the volume failed, and else `Memory`; no other error comes.
+/// With an error Main is as it was, unless it was empty.
+pub fn create_if_empty<V: Volume, C: Clock>(
+    alloc: Global,
+    volume: &mut V,
+    clock: &mut C,
+) -> Result<(), OpenError>
     ensures begun { V.told → OnOk result (IsBegun (V.log volume.old) (V.log volume.new)
         (C.stamps clock.old) (C.stamps clock.new)) }
     ensures some { V.told → OnOk result (seen (V.log volume.new) Main ≢ []) }
@@ -105,6 +113,7 @@ fn begin<V: Volume, C: Clock>(alloc: Global, volume: &mut V, clock: &mut C) -> R
     ensures same { V.told → seen (V.log volume.old) Main ≢ [] → V.log volume.new ≡ V.log volume.old }
     ensures stamps_kept { V.told → seen (V.log volume.old) Main ≢ []
         → C.stamps clock.new ≡ C.stamps clock.old }
+    ensures stamps_given { GaveAtMostOne (C.stamps clock.old) (C.stamps clock.new) }
     ensures harm { (bytes : List ℕ) → IfErr result (λ e. Harm bytes e) }
     ensures makes { V.told → IfSome (C.stamps clock.old) (λ stamps. (stamp : Stamp)
         → slice_get stamps 0 ≡ Some stamp → MakesList stamp (V.log volume.old) (V.log volume.new)) }
@@ -166,13 +175,13 @@ pub(crate) fn open<V: Volume, C: Clock>(
     ensures settled { V.told → OnOk result (IsSettled (V.log volume.new) Main) }
     ensures opened { V.told → seen (V.log volume.old) Main ≢ [] → IfOk result (λ r.
         StandsFor (seen (V.log volume.old) Main) (listed (seen (V.log volume.new) Main)) r.cut) }
-    ensures made { V.told → seen (V.log volume.old) Main ≡ [] → IfSome (C.stamps clock.old) (λ stamps.
-        (stamp : Stamp) → slice_get stamps 0 ≡ Some stamp → IfOk result (λ r.
-        (listed (seen (V.log volume.new) Main) ≡ first_list stamp) × (r.cut ≡ None))) }
+    ensures made { V.told → seen (V.log volume.old) Main ≡ [] → IfOk result (λ r.
+        IsMade (C.stamps clock.old) (listed (seen (V.log volume.new) Main)) r.cut) }
     ensures stamps_kept { V.told → seen (V.log volume.old) Main ≢ []
         → C.stamps clock.new ≡ C.stamps clock.old }
     ensures stamps_left { V.told → seen (V.log volume.old) Main ≡ []
         → OnOk result (C.stamps clock.new ≡ option_map stamps_after (C.stamps clock.old)) }
+    ensures stamps_given { GaveAtMostOne (C.stamps clock.old) (C.stamps clock.new) }
     ensures harm { V.told → IfErr result (λ e. Harm (seen (V.log volume.old) Main) e) }
     ensures untouched { V.told → IsNoList (seen (V.log volume.old) Main)
         → V.log volume.new ≡ V.log volume.old }
@@ -185,7 +194,7 @@ pub(crate) fn open<V: Volume, C: Clock>(
     ensures reads_later { V.read_faults volume.old ≤ V.read_faults volume.new }
     ensures writes_later { V.write_faults volume.old ≤ V.write_faults volume.new }
 {
-    begin(alloc, volume, clock)?;
+    create_if_empty(alloc, volume, clock)?;
     let opened = open_main(alloc, volume)?;
     let ready = keep(alloc, volume, opened)?;
     Ok(ready)

@@ -9,9 +9,9 @@ ghost use Rattle.zb_outside.specs.Stamps.{stamps_after};
 ghost use Rattle.fs_records.specs.File.{StandsFor};
 ghost use Rattle.fs_recovery.specs.declared.errors.OpenError.TheVariants.{StoreFault as Fault};
 ghost use Rattle.fs_recovery.specs.Opens.{IsNoList};
-ghost use Rattle.file_store.specs.Kept.{HasRoom, IsKept, IsVotedIn};
+ghost use Rattle.file_store.specs.Kept.{HasRoom, IsKept, IsVotedIn, StandsForList};
 ghost use Rattle.file_store.specs.KeptLaws.{kept_once, voted_once};
-ghost use Rattle.file_store.specs.Opening.{Harm, KeepsList, MakesList, SomeRose, first_list};
+ghost use Rattle.file_store.specs.Opening.{GaveAtMostOne, Harm, IsMade, KeepsList, MakesList, SomeRose};
 
 use crate::numbers::Numbers;
 use crate::opening::{Ready, open};
@@ -61,13 +61,13 @@ impl<V: Volume + Drop> FileStore<V> {
         ensures free { IfOk result (λ r. ⟦<FileStore<V> as Store>⟧.voted r.0 ≡ None) }
         ensures opened { V.told → seen (V.log volume) Main ≢ [] → IfOk result (λ r.
             StandsFor (seen (V.log volume) Main) (⟦<FileStore<V> as Store>⟧.list r.0) r.1) }
-        ensures made { V.told → seen (V.log volume) Main ≡ [] → IfSome (C.stamps clock.old) (λ stamps.
-            (stamp : Stamp) → slice_get stamps 0 ≡ Some stamp → IfOk result (λ r.
-            (⟦<FileStore<V> as Store>⟧.list r.0 ≡ first_list stamp) × (r.1 ≡ None))) }
+        ensures made { V.told → seen (V.log volume) Main ≡ [] → IfOk result (λ r.
+            IsMade (C.stamps clock.old) (⟦<FileStore<V> as Store>⟧.list r.0) r.1) }
         ensures stamps_kept { V.told → seen (V.log volume) Main ≢ []
             → C.stamps clock.new ≡ C.stamps clock.old }
         ensures stamps_left { V.told → seen (V.log volume) Main ≡ []
             → OnOk result (C.stamps clock.new ≡ option_map stamps_after (C.stamps clock.old)) }
+        ensures stamps_given { GaveAtMostOne (C.stamps clock.old) (C.stamps clock.new) }
         ensures harm { V.told → IfErr result (λ e. Harm (seen (V.log volume) Main) e.0) }
         ensures untouched { V.told → IsNoList (seen (V.log volume) Main)
             → IfErr result (λ e. V.log e.1 ≡ V.log volume) }
@@ -106,9 +106,12 @@ impl<V: Volume + Drop> FileStore<V> {
         }
     }
 
-    /// The volume, whether the store is broken or not. What is voted is dropped from the store alone:
-    /// its bytes still stand behind the file, and are cut off when that is opened.
+    /// The volume, whether the store is broken or not; where it isn't, Main stands for the list. What is
+    /// voted is dropped from the store alone: its bytes still stand behind the file, and are cut off
+    /// when that is opened.
     pub fn into_volume(self) -> V
+        ensures stands { V.told → ⟦<FileStore<V> as Store>⟧.broken self ≡ false
+            → StandsForList (seen (V.log result) Main) (⟦<FileStore<V> as Store>⟧.list self) }
         ensures log { V.log result ≡ ⟦<FileStore<V> as Store>⟧.log self }
         ensures faults { V.write_faults result ≡ ⟦<FileStore<V> as Store>⟧.faults self }
         ensures read_faults { V.read_faults result ≡ ⟦<FileStore<V> as Store>⟧.read_faults self }

@@ -1,20 +1,16 @@
 -- What was reached in a file is a database.
-use Rattle.std.proofs.Common.{◌≡◌, ℕ, ◌+◌, ◌-◌, ◌^◌, ◌<◌, Bool, true, false, cond, eqb, List, [], ◌∷◌, ◌++◌, length, get_or, map, Option, Some, None, inl, inr, refl, sym, ap, subst, ◌∙◌, arith}
+use Rattle.std.proofs.Common.{◌≡◌, ℕ, ◌+◌, Bool, true, false, cond, eqb, List, [], ◌∷◌, ◌++◌, length, map, Option, refl, sym, ap, subst, ◌∙◌, arith}
 use Rattle.std.specs.Prelude.{nat_eq}
-use Rattle.std.specs.Option.{option_map_or}
-use Rattle.std.specs.List.{last_or, IsDistinct, AllByRecursion}
-use Rattle.std.specs.List.Sorted.{IsStrictlyIncreasing}
+use Rattle.std.specs.List.{IsDistinct, AllByRecursion}
 use Rattle.std.specs.Map.{keys_of}
-use Rattle.std.proofs.Math.ListN.{get_or-append}
-use Rattle.std.proofs.Math.Seq.{get_or-append_seam}
-use Rattle.std.proofs.lemmas.Bool.{cases_lt, ne_eqb, eqb-false}
-use Rattle.std.proofs.lemmas.List.{map-append, length-append, length-map}
-use Rattle.std.proofs.lemmas.List.Elements.{All-push}
+use Rattle.std.proofs.lemmas.Bool.{ne_eqb, eqb-false}
+use Rattle.std.proofs.lemmas.List.{map-append}
 use Rattle.indexmap.specs.IndexMap.{insert_entry}
 use Rattle.zb_model.specs.declared.data.Content.{Content}
 use Rattle.zb_model.specs.declared.data.Change.{Change}
 use Rattle.zb_model.specs.declared.data.Transaction.{Transaction}
 use Rattle.zb_model.specs.Database.{IsDatabase, newest_tid}
+use Rattle.zb_model.specs.VotingLaws.{database-push, newest-push}
 use Rattle.fs_records.specs.declared.place.Place.{Place}
 use Rattle.fs_records.specs.Blocks.{Known, Written, record_text, content_of, with_record, changes_of, as_change, Reached, start, transaction_of, after, records_from, Block, IsBlock, AreBlocks, after_all, Begins}
 use Rattle.fs_records.specs.File.{StandsFor, no_bytes, a_file}
@@ -54,30 +50,6 @@ distinct_oids s b =
     let changes = changes_of [] s.known s.end b.tid (records_from s.end b) b.records in
     subst (λ (ks : List ℕ). IsDistinct nat_eq ks) (sym (oids_are_keys changes)) (distinct_changes [] s.known s.end b.tid (records_from s.end b) b.records tt)
 
--- ---- tids rise
-
--- one number more, above the last
-at_end : (ns : List ℕ) (n k : ℕ) → k ≡ length ns → get_or (ns ++ n ∷ []) k 0 ≡ n
-at_end ns n k e = ap (λ (j : ℕ). get_or (ns ++ n ∷ []) j 0) e ∙ get_or-append_seam ns n [] 0
-
-increasing_more : (ns : List ℕ) (n m : ℕ) → IsStrictlyIncreasing ns → length ns ≡ m + 1 → get_or ns m 0 < n → IsStrictlyIncreasing (ns ++ n ∷ [])
-increasing_more ns n m h long above k within =
-    elim (cases_lt (k + 1) (length ns)) [
-      | inl lt ↦ rw (get_or-append ns (n ∷ []) 0 k (omega arith), get_or-append ns (n ∷ []) 0 (k + 1) lt) (h k lt)
-      | inr le ↦ (let k_is : k ≡ m = omega (arith, length-append ns (n ∷ [])) in
-          let here : get_or (ns ++ n ∷ []) k 0 ≡ get_or ns m 0 = get_or-append ns (n ∷ []) 0 k (omega arith) ∙ ap (λ (j : ℕ). get_or ns j 0) k_is in
-          omega (arith, here, at_end ns n (k + 1) (omega arith), above))
-    ]
-
--- the last tid, or the first of the numbers
-last_tid : (d : ℕ) (o : Option Transaction) (list : List Transaction) → option_map_or (λ (t : Transaction). t.tid) o 0 ≡ d → get_or (d ∷ map (λ (t : Transaction). t.tid) list) (length list) 0 ≡ option_map_or (λ (t : Transaction). t.tid) (last_or o list) 0
-last_tid d o [] e = sym e
-last_tid d o (t ∷ list) e = last_tid t.tid (Some t) list refl
-
-last_more : (o : Option Transaction) (list : List Transaction) (t : Transaction) → last_or o (list ++ t ∷ []) ≡ Some t
-last_more o [] t = refl
-last_more o (x ∷ list) t = last_more (Some x) list t
-
 -- ---- what was reached
 
 -- the list is a database, its last tid is the one that was reached, and the places of the transactions have its tids
@@ -85,17 +57,6 @@ pub record IsReading (s : Reached) : Type 0 where
   pub is : IsDatabase s.list
   pub newest : newest_tid s.list ≡ s.newest
   pub starts : map (λ p. p.serial) s.starts ≡ map (λ t. t.tid) s.list
-
--- one transaction more makes a database of a database
-pub database_more : (list : List Transaction) (t : Transaction) → IsDatabase list → newest_tid list < t.tid → t.tid < 2 ^ 64 - 1 → IsDistinct nat_eq (map (λ (c : Change). c.oid) t.changes) → IsDatabase (list ++ t ∷ [])
-database_more list t is above below distinct =
-    let tids : List Transaction → List ℕ = map (λ (x : Transaction). x.tid) in
-    let more = increasing_more (0 ∷ tids list) t.tid (length list) is.rising (omega (arith, length-map list (λ (x : Transaction). x.tid))) (omega (arith, last_tid 0 None list refl, above)) in
-    record {
-      rising = subst (λ (ns : List ℕ). IsStrictlyIncreasing (0 ∷ ns)) (sym (map-append (λ (x : Transaction). x.tid) list (t ∷ []))) more;
-      bounded = subst (λ (o : Option Transaction). option_map_or (λ (x : Transaction). x.tid) o 0 < 2 ^ 64 - 1) (sym (last_more None list t)) below;
-      distinct = All-push (λ (x : Transaction). IsDistinct nat_eq (map (λ (c : Change). c.oid) x.changes)) list t is.distinct distinct;
-    }
 
 reading_start : IsReading start
 reading_start = record {
@@ -107,8 +68,8 @@ reading_start = record {
 pub reading_more : (s : Reached) (b : Block) → IsReading s → IsBlock s b → IsReading (after s b)
 unfolding after
 reading_more s b r block = record {
-  is = database_more s.list (transaction_of s b) r.is (omega (arith, r.newest, block.above)) block.below (distinct_oids s b);
-  newest = ap (λ (o : Option Transaction). option_map_or (λ (x : Transaction). x.tid) o 0) (last_more None s.list (transaction_of s b));
+  is = database-push s.list (transaction_of s b) r.is (omega (arith, r.newest, block.above)) block.below (distinct_oids s b);
+  newest = newest-push s.list (transaction_of s b);
   starts = map-append (λ (p : Place). p.serial) s.starts (record { serial = b.tid; at = s.end } ∷ []) ∙ ap (λ (ns : List ℕ). ns ++ b.tid ∷ []) r.starts ∙ sym (map-append (λ (x : Transaction). x.tid) s.list (transaction_of s b ∷ []));
 }
 

@@ -17,7 +17,8 @@ use Rattle.zb_model.specs.Voting.{IsWellFormed, IsVotable, voted_change, voted_o
 abbrev pub tid_of : Transaction → ℕ
 tid_of t = t.tid
 
-last_or-push : {A : Type 0} (o : Option A) (xs : List A) (x : A) → last_or o (xs ++ x ∷ []) ≡ Some x
+-- the last item is the one that was put at the end
+pub last_or-push : {A : Type 0} (o : Option A) (xs : List A) (x : A) → last_or o (xs ++ x ∷ []) ≡ Some x
 last_or-push o [] x = refl
 last_or-push o (y ∷ xs) x = last_or-push (Some y) xs x
 
@@ -42,6 +43,7 @@ rising-push list t rising later =
     subst (λ (tids : List ℕ). IsStrictlyIncreasing (0 ∷ tids)) (sym (map-append tid_of list (t ∷ [])))
     (increasing-push (0 ∷ map tid_of list) (newest_tid list) t.tid rising last later)
 
+-- a transaction that is voted changes the objects of the new one
 pub oids_kept : (list : List Transaction) (changes : List NewChange) → map (λ c. c.oid) (map (voted_change list) changes) ≡ map (λ c. c.oid) changes
 oids_kept list [] = refl
 oids_kept list (c ∷ changes) = ap (λ (oids : List ℕ). c.oid ∷ oids) (oids_kept list changes)

@@ -3,6 +3,7 @@
 ghost use Rattle.std.specs.Prelude.{◌≡◌, ◌<◌, ◌≤◌, ℕ, All, length, IsOk, IfOk, IfSome, IsSome, ◌↔◌};
 ghost use Rattle.zb_script.specs.Payloads.{IsPayload};
 
+use std::alloc::AllocError;
 use std::marker::Model;
 use zb_ids::Text8;
 
@@ -47,5 +48,14 @@ impl Payload {
         ensures is_payload { IsPayload self.now }
     {
         self.text.as_slice()
+    }
+}
+
+impl Clone for Payload {
+    ghost is_clone = { λ payload copy. copy ≡ payload };
+
+    fn clone(&self) -> Result<Payload, AllocError> {
+        let text = self.text.clone()?;
+        Ok(Payload { text })
     }
 }

@@ -285,6 +285,7 @@ fn payloads(rt: HostRuntime) -> Result<(), Fail> {
     assert!(rt; Payload::new(Text8::new(rt.alloc())).is_none());
     let one = Payload::new(Text8::from_slice(rt.alloc(), b"\x00")?).ok_or("no payload")?;
     assert_eq!(rt; one.as_slice(), b"\x00".as_slice());
+    assert_eq!(rt; one.clone()?.as_slice(), b"\x00".as_slice());
     let most = Text8::from_vec(vec![in rt.alloc(); 0u8; 16_777_216]?);
     assert!(rt; Payload::new(most).is_some());
     let more = Text8::from_vec(vec![in rt.alloc(); 0u8; 16_777_217]?);

@@ -1,46 +1,51 @@
--- Which status a file has.
-use Rattle.std.proofs.Common.{◌≡◌, ◌≢◌, ◌⊎◌, ℕ, List, [], Option, inl, inr, refl}
+-- Which status a list has.
+use Rattle.std.proofs.Common.{ℕ, List, [], Option, None, inl, inr, refl}
+use Rattle.fs_records.specs.File.{StandsFor, no_bytes}
 use Rattle.fs_records.specs.Lists.{not_damaged, not_no_file}
-use Rattle.fs_records.specs.File.{IsDamaged, IsNoFile, StandsFor}
-use Rattle.fs_records.specs.declared.field.Field.{Field}
+use Rattle.fs_recovery.specs.Opens.{IsNoList}
+use Rattle.zb_ids.specs.declared.stamp.Stamp.{Stamp}
 use Rattle.zb_model.specs.declared.data.Transaction.{Transaction}
 use Rattle.zb_outside.specs.Rose.{Rose}
 use Rattle.zodb_top.specs.declared.command.Listing.{Listing}
 use Rattle.zodb_top.specs.declared.status.Status.{Status}
 use Rattle.zodb_top.specs.declared.status.Status.TheVariants as status
-use Rattle.zodb_top.specs.Listings.{IsHarmed, IsListing, ListOutcome, NamesDamage, empty, magic, rule}
-use Rattle.zodb_top.specs.Program.{IsUnlessMemory}
+use Rattle.zodb_top.proofs.Listed.{never_no_list}
+use Rattle.zodb_top.specs.Damage.{NamesDamage, magic, rule}
+use Rattle.zodb_top.specs.Listings.{ListOutcome}
+use Rattle.zodb_top.specs.Outside.{Outside, main_of}
+use Rattle.zodb_top.specs.Program.{IsUnlessMemory, Opens, made, there}
 
-whole : (told : Type 0) (bytes : List ℕ) (text : List ℕ) (list : List Transaction) (cut : Option ℕ) → told → StandsFor bytes list cut → bytes ≢ [] → NamesDamage told bytes text → ⊥
-whole told bytes text list cut here stands some (empty none names) = some (none here)
-whole told bytes text list cut here stands some (magic other names) = not_no_file bytes list cut stands (other here)
-whole told bytes text list cut here stands some (rule at field harm names) = not_damaged bytes list cut at field stands (harm here)
+not_named : (told : Type 0) (bytes text : List ℕ) (list : List Transaction) (cut : Option ℕ) → told → StandsFor bytes list cut → NamesDamage told bytes text → ⊥
+not_named told bytes text list cut here stands (magic other names) = not_no_file bytes list cut stands (other here)
+not_named told bytes text list cut here stands (rule at field harm names) = not_damaged bytes list cut at field stands (harm here)
 
-pub list_done : (s : Status) (asked : Listing) (told : Type 0) (bytes : List ℕ) (unread unwritten untouched : Type 0) (old new : Option (List ℕ)) (before now : ℕ) → ListOutcome s asked told bytes unread unwritten untouched old new before now
-    → told → ¬ unread → ¬ unwritten → ¬ Rose before now → (list : List Transaction) (cut : Option ℕ) → StandsFor bytes list cut → bytes ≢ [] → IsUnlessMemory s status.Done
-list_done status.Done asked told bytes unread unwritten untouched old new before now o here reads writes sinks list cut stands some = inl refl
-list_done status.NoMemory asked told bytes unread unwritten untouched old new before now o here reads writes sinks list cut stands some = inr refl
-list_done status.SinkFault asked told bytes unread unwritten untouched old new before now o here reads writes sinks list cut stands some = absurd (sinks o.0)
-list_done status.StoreFault asked told bytes unread unwritten untouched old new before now o here reads writes sinks list cut stands some = absurd (elim o.0 [ inl e ↦ reads e.0 | inr e ↦ writes e ])
-list_done status.Damaged asked told bytes unread unwritten untouched old new before now (text, names, wrote) here reads writes sinks list cut stands some = absurd (whole told bytes text list cut here stands some names)
-list_done status.Usage asked told bytes unread unwritten untouched old new before now o here reads writes sinks list cut stands some = absurd o
-list_done status.ReadFault asked told bytes unread unwritten untouched old new before now o here reads writes sinks list cut stands some = absurd o
-list_done status.BadLine asked told bytes unread unwritten untouched old new before now o here reads writes sinks list cut stands some = absurd o
-list_done status.Limit asked told bytes unread unwritten untouched old new before now o here reads writes sinks list cut stands some = absurd o
+-- a list is written of each file that stands for one, and of a new one, where no call failed, unless memory runs out
+pub list_done : (s : Status) (asked : Listing) (told : Type 0) (before after : Outside) → ListOutcome s asked told before after
+    → told → ¬ Rose before.read_faults after.read_faults → ¬ Rose before.write_faults after.write_faults → ¬ Rose before.sink_faults after.sink_faults
+    → (list : List Transaction) (cut : Option ℕ) → StandsFor (main_of before) list cut → IsUnlessMemory s status.Done
+list_done status.Done asked told before after o here reads writes sinks list cut stands = inl refl
+list_done status.NoMemory asked told before after o here reads writes sinks list cut stands = inr refl
+list_done status.SinkFault asked told before after o here reads writes sinks list cut stands = absurd (sinks o.0)
+list_done status.StoreFault asked told before after o here reads writes sinks list cut stands = absurd (elim o.rose [ inl e ↦ reads e.0 | inr e ↦ writes e ])
+list_done status.Damaged asked told before after o here reads writes sinks list cut stands = absurd (not_named told (main_of before) o.text list cut here stands o.names)
+list_done status.Usage asked told before after o here reads writes sinks list cut stands = absurd o
+list_done status.ReadFault asked told before after o here reads writes sinks list cut stands = absurd o
+list_done status.BadLine asked told before after o here reads writes sinks list cut stands = absurd o
+list_done status.Limit asked told before after o here reads writes sinks list cut stands = absurd o
 
-not_listed : (bytes : List ℕ) (asked : Listing) (unread : Type 0) (lines : List (List ℕ)) → IsHarmed bytes → IsListing bytes asked unread lines → ⊥
-not_listed bytes asked unread lines (inl none) l = l.some none
-not_listed bytes asked unread lines (inr (inl other)) l = not_no_file bytes l.list l.cut l.stands other
-not_listed bytes asked unread lines (inr (inr (at, field, harm))) l = not_damaged bytes l.list l.cut at field l.stands harm
+not_opened : (bytes : List ℕ) (stamps left : Option (List Stamp)) (list : List Transaction) (cut : Option ℕ) → IsNoList bytes → Opens bytes stamps left list cut → ⊥
+not_opened bytes stamps left list cut harm (there some stands same) = never_no_list bytes list cut stands harm
+not_opened bytes stamps left list cut harm (made empty is given) = never_no_list bytes [] None (no_bytes empty refl refl) harm
 
-pub list_damaged : (s : Status) (asked : Listing) (told : Type 0) (bytes : List ℕ) (unread unwritten untouched : Type 0) (old new : Option (List ℕ)) (before now : ℕ) → ListOutcome s asked told bytes unread unwritten untouched old new before now
-    → told → ¬ unread → ¬ unwritten → IsHarmed bytes → IsUnlessMemory s status.Damaged
-list_damaged status.Done asked told bytes unread unwritten untouched old new before now (lines, is, wrote) here reads writes harm = absurd (not_listed bytes asked unread lines harm (is here))
-list_damaged status.NoMemory asked told bytes unread unwritten untouched old new before now o here reads writes harm = inr refl
-list_damaged status.SinkFault asked told bytes unread unwritten untouched old new before now (rose, (lines, is, wrote)) here reads writes harm = absurd (not_listed bytes asked unread lines harm (is here))
-list_damaged status.StoreFault asked told bytes unread unwritten untouched old new before now o here reads writes harm = absurd (elim o.0 [ inl e ↦ reads e.0 | inr e ↦ writes e ])
-list_damaged status.Damaged asked told bytes unread unwritten untouched old new before now o here reads writes harm = inl refl
-list_damaged status.Usage asked told bytes unread unwritten untouched old new before now o here reads writes harm = absurd o
-list_damaged status.ReadFault asked told bytes unread unwritten untouched old new before now o here reads writes harm = absurd o
-list_damaged status.BadLine asked told bytes unread unwritten untouched old new before now o here reads writes harm = absurd o
-list_damaged status.Limit asked told bytes unread unwritten untouched old new before now o here reads writes harm = absurd o
+-- what is no list is damaged, where no call failed, unless memory runs out
+pub list_damaged : (s : Status) (asked : Listing) (told : Type 0) (before after : Outside) → ListOutcome s asked told before after
+    → told → ¬ Rose before.read_faults after.read_faults → ¬ Rose before.write_faults after.write_faults → IsNoList (main_of before) → IsUnlessMemory s status.Damaged
+list_damaged status.Done asked told before after (lines, is, wrote) here reads writes harm = absurd (not_opened (main_of before) before.stamps after.stamps (is here).list (is here).cut harm (is here).opens)
+list_damaged status.NoMemory asked told before after o here reads writes harm = inr refl
+list_damaged status.SinkFault asked told before after (rose, (lines, is, wrote)) here reads writes harm = absurd (not_opened (main_of before) before.stamps after.stamps (is here).list (is here).cut harm (is here).opens)
+list_damaged status.StoreFault asked told before after o here reads writes harm = absurd (elim o.rose [ inl e ↦ reads e.0 | inr e ↦ writes e ])
+list_damaged status.Damaged asked told before after o here reads writes harm = inl refl
+list_damaged status.Usage asked told before after o here reads writes harm = absurd o
+list_damaged status.ReadFault asked told before after o here reads writes harm = absurd o
+list_damaged status.BadLine asked told before after o here reads writes harm = absurd o
+list_damaged status.Limit asked told before after o here reads writes harm = absurd o

@@ -1,306 +1,338 @@
--- What voting, finishing and aborting leave is what the machine leaves.
-use Rattle.std.proofs.Common.{◌≡◌, ℕ, zero, suc, ◌+◌, ◌-◌, ◌^◌, ◌<◌, ◌≤◌, List, [], ◌∷◌, ◌++◌, Option, Some, None, Result, Ok, Err, Bool, true, false, cond, length, map, set, get_or, take, refl, sym, ap, subst, ◌∙◌, arith}
+-- What finishing and aborting leave is what the machine leaves.
+use Rattle.std.proofs.Common.{◌≡◌, ℕ, ◌+◌, ◌<◌, ◌≤◌, List, [], ◌∷◌, ◌++◌, Option, Some, None, Bool, true, false, cond, length, map, max, set, get_or, refl, sym, ap, subst, ◌∙◌, arith}
 use Rattle.std.specs.Prelude.{◌==◌, slice_get}
-use Rattle.std.specs.Option.{is_none, is_some, option_map, option_map_or}
-use Rattle.std.specs.List.{AllByRecursion, last_or}
-use Rattle.std.proofs.lemmas.Option.{same_Some, slice_get-map, slice_get-get_or}
-use Rattle.std.proofs.lemmas.List.{get_or_default, length-append, map-set, take-append-le, take_all}
+use Rattle.std.specs.Option.{ForSome, is_some, option_map}
+use Rattle.std.specs.List.{AllByRecursion}
+use Rattle.std.proofs.lemmas.Bool.{le-ltb}
+use Rattle.std.proofs.lemmas.List.{append-nil, get_or_default}
+use Rattle.std.proofs.lemmas.List.Elements.{filter-append}
 use Rattle.zb_ids.specs.declared.stamp.Stamp.{Stamp}
 use Rattle.zb_model.specs.declared.data.Transaction.{Transaction}
-use Rattle.zb_model.specs.declared.refusal.Refusal.{Refusal}
 use Rattle.zb_model.specs.declared.refusal.Refusal.TheVariants as refusal
-use Rattle.zb_model.specs.Database.{newest_tid, revision_below}
+use Rattle.zb_model.specs.Database.{newest_tid}
+use Rattle.zb_model.specs.Queries.{greatest_of, oids_of}
+use Rattle.zb_model.specs.VotingLaws.{newest-push}
 use Rattle.zb_script.specs.declared.answer.Answer.{Answer}
 use Rattle.zb_script.specs.declared.answer.Answer.TheVariants as answer
 use Rattle.zb_script.specs.declared.line.Line.{Line}
 use Rattle.zb_script.specs.declared.line.Line.TheVariants as lines
-use Rattle.zodb_top.specs.declared.hub.Seat.{Seat}
-use Rattle.zodb_top.specs.declared.hub.Work.{Work}
+use Rattle.zodb_top.specs.declared.seat.Seat.{Seat}
+use Rattle.zodb_top.specs.declared.seat.Work.{Work}
 use Rattle.zodb_top.specs.declared.vote.HeldVote.{HeldVote}
-use Rattle.zodb_top.specs.declared.decide.VoteError.TheVariants as VoteError
-use Rattle.zodb_top.specs.Decisions.{GivesDecision, IsWritable}
-use Rattle.std.specs.Global.{Vec}
-use Rattle.zodb_top.specs.declared.pending.PendingStore.{PendingStore}
-use Rattle.zodb_top.specs.Machine.{decision_of, finish_in, finished, raised, vote_in, voted_by, abort_in, Done, Before, After, answered, load_in, read_revision, is_holder, store_in, with_store, with_transaction, in_transaction, refused, State, Session, OpenTransaction, at_session, begin_in, before_at, after_at, line_in}
-use Rattle.zodb_top.specs.Seen.{IsSound, held_answer, held_writes, IsVoteSound, IsStored, IsWithin, seen_seat, seen_work, state_with}
-use Rattle.zodb_top.specs.Steps.{IsClockStep, IsDone, IsStep}
-use Rattle.zodb_top.proofs.Steps.{at_seat, put_back, seat_at, set_same, stays, within_set}
+use Rattle.zodb_top.specs.declared.vote.Writes.{Writes}
+use Rattle.zodb_top.specs.Machine.{After, Before, Done, OpenTransaction, Session, State, Vote, abort_in, after_at, at_session, before_at, finish_in, finished, in_transaction, is_holder, line_in, raised, refused, with_transaction}
+use Rattle.zodb_top.specs.Seen.{AreDistinct, HasVoted, HubSeen, IsLater, IsSound, IsUpTo, IsVoteLater, IsVoteOf, IsWorkOf, is_before, is_holder_of, seen_seat, seen_vote, seen_work, state_of, state_with, view_at}
+use Rattle.zodb_top.specs.Steps.{IsStep}
+use Rattle.zodb_top.proofs.Seats.{all_set, at_seat, put_back, seat_at, set_same, stays}
 
--- ---- from steps
+-- what was done
+abbrev pub done : Answer → State → List Stamp → Done
+done a s stamps = record { answer = a; state = s; stamps = stamps }
 
-pub clock_step : (told : Option (List Stamp)) (old new : State) (line : Line) (n : ℕ) (a : Answer) → IsStep old line n a new → IsClockStep told told old line n a new
-clock_step None old new line n a step = tt
-clock_step (Some stamps) old new line n a step =
-    let e = step stamps in
-    record { answer = ap (λ (d : Done). d.answer) e; state = ap (λ (d : Done). d.state) e; stamps = ap (λ (d : Done). Some d.stamps) (sym e) }
+-- ---- lines of a session
 
--- ---- vote
+-- a line that leaves the list and the sessions as they were
+pub landed : (hub : HubSeen) (left : Option Vote) (stamps stamps' : List Stamp) (line : Line) (n : ℕ) (x : Seat) (a : Answer)
+    → n < length hub.seats → x ≡ get_or hub.seats n x
+    → line_in (before_at (state_of hub) stamps n (seen_seat hub.list x)) line ≡ record { answer = a; list = hub.list; greatest = hub.greatest; session = seen_seat hub.list x; vote = left; stamps = stamps' }
+    → at_session (state_of hub) stamps line n (slice_get (map (seen_seat hub.list) hub.seats) n)
+    ≡ record { answer = a; state = record { list = hub.list; greatest = hub.greatest; sessions = map (seen_seat hub.list) hub.seats; vote = left }; stamps = stamps' }
+landed hub left stamps stamps' line n x a within is leaves =
+    at_seat hub.list hub.greatest hub.seats hub.voted hub.vote stamps line n x within is
+    ∙ ap (after_at (state_of hub) n) leaves
+    ∙ put_back hub.list hub.list hub.greatest hub.greatest hub.seats hub.voted hub.vote left n x a stamps'
+    ∙ ap (λ (ss : List Seat). done a (record { list = hub.list; greatest = hub.greatest; sessions = map (seen_seat hub.list) ss; vote = left }) stamps') (set_same hub.seats n x within is)
 
-abbrev WorkAt : List Seat → ℕ → Option Work → Type 0
-WorkAt seats n w = option_map (λ x. x.work) (slice_get seats n) ≡ Some w
-
-nothing_open : (list : List Transaction) (greatest : ℕ) (seats : List Seat) (vote : Option HeldVote) (n : ℕ) (line : Line) (rest : Before → OpenTransaction → After) → WorkAt seats n None
+pub nothing_open : (hub : HubSeen) (n : ℕ) (line : Line) (rest : Before → OpenTransaction → After) → IsWorkOf hub.seats n None
     → ((b : Before) → line_in b line ≡ in_transaction b b.session.open_transaction (rest b))
-    → IsStep (state_with list greatest seats vote) line n (answer.Refused refusal.NoTransaction) (state_with list greatest seats vote)
-nothing_open list greatest seats vote n line rest e by =
-    let x = seat_at seats n None e in
-    stays list greatest seats vote line n x.0 (answer.Refused refusal.NoTransaction) x.1 x.2 (λ stamps.
-    let b = before_at (state_with list greatest seats vote) stamps n (seen_seat list x.0) in
-    by b ∙ ap (λ (o : Option Work). in_transaction b (option_map (seen_work list) o) (rest b)) x.3)
-
-pub vote_refused : (told : Option (List Stamp)) (list : List Transaction) (greatest : ℕ) (seats : List Seat) (vote : Option HeldVote) (n : ℕ) → WorkAt seats n None
-    → IsClockStep told told (state_with list greatest seats vote) lines.Vote n (answer.Refused refusal.NoTransaction) (state_with list greatest seats vote)
-vote_refused told list greatest seats vote n e =
-    clock_step told _ _ lines.Vote n _ (nothing_open list greatest seats vote n lines.Vote (λ b. vote_in b b.vote) e (λ b. refl))
-
-held_in : (b : Before) (h : HeldVote) (t : OpenTransaction) → vote_in b (Some h) t ≡ answered b (held_answer b.number h)
-held_in b h t = by_test (h.session == b.number)
-  where
-    by_test : (test : Bool) → cond test (refused b refusal.Voted) (refused b (refusal.Busy h.session)) ≡ answered b (cond test (answer.Refused refusal.Voted) (answer.Refused (refusal.Busy h.session)))
-    by_test true = refl
-    by_test false = refl
-
-pub vote_held : (told : Option (List Stamp)) (list : List Transaction) (greatest : ℕ) (seats : List Seat) (vote : Option HeldVote) (h : HeldVote) (n : ℕ) (w : Work) → WorkAt seats n (Some w) → vote ≡ Some h
-    → IsClockStep told told (state_with list greatest seats vote) lines.Vote n (held_answer n h) (state_with list greatest seats vote)
-vote_held told list greatest seats vote h n w e holds =
-    let x = seat_at seats n (Some w) e in
-    clock_step told _ _ lines.Vote n _ (stays list greatest seats vote lines.Vote n x.0 (held_answer n h) x.1 x.2 (λ stamps.
-    let b = before_at (state_with list greatest seats vote) stamps n (seen_seat list x.0) in
-    ap (λ (o : Option Work). in_transaction b (option_map (seen_work list) o) (vote_in b vote)) x.3
-    ∙ ap (λ (v : Option HeldVote). vote_in b v (seen_work list w)) holds ∙ held_in b h (seen_work list w)))
-
--- a line that leaves the seats as they were
-landed : (list : List Transaction) (greatest : ℕ) (seats : List Seat) (vote vote' : Option HeldVote) (stamps stamps' : List Stamp) (line : Line) (n : ℕ) (x : Seat) (a : Answer)
-    → n < length seats → x ≡ get_or seats n x
-    → line_in (before_at (state_with list greatest seats vote) stamps n (seen_seat list x)) line ≡ record { answer = a; list = list; greatest = greatest; session = seen_seat list x; vote = vote'; stamps = stamps' }
-    → at_session (state_with list greatest seats vote) stamps line n (slice_get (map (seen_seat list) seats) n) ≡ record { answer = a; state = state_with list greatest seats vote'; stamps = stamps' }
-landed list greatest seats vote vote' stamps stamps' line n x a within is leaves =
-    at_seat list greatest seats vote stamps line n x within is
-    ∙ ap (after_at (state_with list greatest seats vote) n) leaves
-    ∙ put_back list list greatest greatest seats vote vote' n x a stamps'
-    ∙ ap (λ (ss : List Seat). let d : Done = record { answer = a; state = state_with list greatest ss vote'; stamps = stamps' } in d) (set_same seats n x within is)
-
-pub is_done : (d : Done) (a : Answer) (new : State) (after : Option (List Stamp)) (stamps : List Stamp) → d ≡ record { answer = a; state = new; stamps = stamps } → after ≡ Some stamps → IsDone d a new after
-is_done d a new after stamps e left = record {
-  answer = ap (λ (x : Done). x.answer) e;
-  state = ap (λ (x : Done). x.state) e;
-  stamps = left ∙ ap (λ (x : Done). Some x.stamps) (sym e);
-}
-
-voted_at : (list : List Transaction) (greatest : ℕ) (seats : List Seat) (vote : Option HeldVote) (stamps : List Stamp) (n : ℕ) (w : Work) (verdict : Result (Option Transaction) Refusal) → WorkAt seats n (Some w) → vote ≡ None
-    → (decision_of list w.stores.items stamps).verdict ≡ verdict
-    → (x : Seat) × (n < length seats) × (x ≡ get_or seats n x)
-    × (line_in (before_at (state_with list greatest seats vote) stamps n (seen_seat list x)) lines.Vote
-    ≡ voted_by (before_at (state_with list greatest seats vote) stamps n (seen_seat list x)) verdict (decision_of list w.stores.items stamps).stamps)
-voted_at list greatest seats vote stamps n w verdict e free decided =
-    let x = seat_at seats n (Some w) e in
-    let b = before_at (state_with list greatest seats vote) stamps n (seen_seat list x.0) in (
-      x.0,
-      x.1,
-      x.2,
-      ap (λ (o : Option Work). in_transaction b (option_map (seen_work list) o) (vote_in b vote)) x.3
-          ∙ ap (λ (v : Option HeldVote). vote_in b v (seen_work list w)) free
-          ∙ ap (λ (v : Result (Option Transaction) Refusal). voted_by b v (decision_of list w.stores.items stamps).stamps) decided,
-    )
-
-pub vote_decided : (told after : Option (List Stamp)) (list : List Transaction) (greatest : ℕ) (seats : List Seat) (vote : Option HeldVote) (n : ℕ) (w : Work) (writes : Option Transaction) → WorkAt seats n (Some w) → vote ≡ None
-    → GivesDecision (Ok writes) list w.stores.items told after
-    → IsClockStep told after (state_with list greatest seats vote) lines.Vote n answer.Voted (state_with list greatest seats (Some (record { session = n; writes = writes })))
-vote_decided None after list greatest seats vote n w writes e free gives = tt
-vote_decided (Some stamps) after list greatest seats vote n w writes e free gives =
-    let at = voted_at list greatest seats vote stamps n w (Ok writes) e free gives.0 in
-    is_done _ answer.Voted _ after (decision_of list w.stores.items stamps).stamps
-    (landed list greatest seats vote (Some (record { session = n; writes = writes })) stamps _ lines.Vote n at.0 answer.Voted at.1 at.2 at.3) gives.1
-
-pub vote_conflict : (told after : Option (List Stamp)) (list : List Transaction) (greatest : ℕ) (seats : List Seat) (vote : Option HeldVote) (n : ℕ) (w : Work) (why : Refusal) → WorkAt seats n (Some w) → vote ≡ None
-    → GivesDecision (Err (VoteError.Refused why)) list w.stores.items told after
-    → IsClockStep told after (state_with list greatest seats vote) lines.Vote n (answer.Refused why) (state_with list greatest seats vote)
-vote_conflict None after list greatest seats vote n w why e free gives = tt
-vote_conflict (Some stamps) after list greatest seats vote n w why e free gives =
-    let at = voted_at list greatest seats vote stamps n w (Err why) e free gives.0 in
-    is_done _ (answer.Refused why) _ after (decision_of list w.stores.items stamps).stamps
-    (landed list greatest seats vote vote stamps _ lines.Vote n at.0 (answer.Refused why) at.1 at.2 at.3) gives.1
-
-pub vote_sound : (list : List Transaction) (seats : List Seat) (vote : Option HeldVote) (n : ℕ) (writes : Option Transaction) → IsSound list seats vote → IsWritable writes
-    → IsSound list seats (Some (record { session = n; writes = writes }))
-vote_sound list seats vote n writes sound writable = record { within = sound.within; bounded = sound.bounded; writable = writable }
+    → IsStep (state_of hub) line n (answer.Refused refusal.NoTransaction) (state_of hub)
+nothing_open hub n line rest e by =
+    let x = seat_at hub.seats n None e in
+    stays hub.list hub.greatest hub.seats hub.voted hub.vote line n x.0 (answer.Refused refusal.NoTransaction) x.1 x.2 (λ stamps.
+    let b = before_at (state_of hub) stamps n (seen_seat hub.list x.0) in
+    by b ∙ ap (λ (o : Option Work). in_transaction b (option_map (seen_work hub.list) o) (rest b)) x.3)
 
 -- ---- finish and abort
 
-pub finish_refused : (list : List Transaction) (greatest : ℕ) (seats : List Seat) (vote : Option HeldVote) (n : ℕ) (w : Option Work) → WorkAt seats n w → is_none w ≡ true
-    → IsStep (state_with list greatest seats vote) lines.Finish n (answer.Refused refusal.NoTransaction) (state_with list greatest seats vote)
-finish_refused list greatest seats vote n (Some w) e none = absurd cc
-finish_refused list greatest seats vote n None e none = nothing_open list greatest seats vote n lines.Finish (λ b t. finish_in b b.vote) e (λ b. refl)
+-- the seat without its transaction
+abbrev ended : Seat → Seat
+ended x = record { client = x.client; work = None }
 
-pub abort_refused : (list : List Transaction) (greatest : ℕ) (seats : List Seat) (vote : Option HeldVote) (n : ℕ) (w : Option Work) → WorkAt seats n w → is_none w ≡ true
-    → IsStep (state_with list greatest seats vote) lines.Abort n (answer.Refused refusal.NoTransaction) (state_with list greatest seats vote)
-abort_refused list greatest seats vote n (Some w) e none = absurd cc
-abort_refused list greatest seats vote n None e none = nothing_open list greatest seats vote n lines.Abort (λ b t. abort_in b) e (λ b. refl)
-
--- what is left of the vote
 abbrev left_vote : ℕ → Option HeldVote → Option HeldVote
-left_vote n vote = cond (is_holder n vote) None vote
+left_vote n vote = cond (is_holder_of n vote) None vote
 
-not_held : (n : ℕ) (vote : Option HeldVote) → held_writes n vote ≡ None → ((b : Before) → b.number ≡ n → finish_in b vote ≡ refused b refusal.NotVoted) × (left_vote n vote ≡ vote)
-not_held n None e = ((λ b is. refl), refl)
-not_held n (Some h) e =
-    let no : (h.session == n) ≡ false = by_test (h.session == n) e in
-    ((λ b is. rw (is, no) refl), rw no refl)
+abbrev taken_vote : ℕ → Option HeldVote → Option HeldVote
+taken_vote n vote = cond (is_holder_of n vote) vote None
+
+none_taken : (n : ℕ) (vote : Option HeldVote) → None ≡ taken_vote n vote → is_holder_of n vote ≡ false
+none_taken n None e = refl
+none_taken n (Some h) e = by_test (h.session == n) e
   where
-    by_test : (test : Bool) → cond test (Some h.writes) None ≡ None → test ≡ false
+    by_test : (test : Bool) → None ≡ cond test (Some h) None → test ≡ false
     by_test true e = absurd cc
     by_test false e = refl
 
-held : (n : ℕ) (vote : Option HeldVote) (writes : Option Transaction) → held_writes n vote ≡ Some writes → ((b : Before) → b.number ≡ n → finish_in b vote ≡ finished b writes) × (left_vote n vote ≡ None)
-held n None writes e = absurd cc
-held n (Some h) writes e =
-    let yes = by_test (h.session == n) e in
-    ((λ b is. rw (is, yes.0) (ap (finished b) yes.1)), rw (yes.0) refl)
+some_taken : (n : ℕ) (vote : Option HeldVote) (h : HeldVote) → Some h ≡ taken_vote n vote → (vote ≡ Some h) × (is_holder_of n vote ≡ true)
+some_taken n None h e = absurd cc
+some_taken n (Some k) h e = by_test (k.session == n) e
   where
-    by_test : (test : Bool) → cond test (Some h.writes) None ≡ Some writes → (test ≡ true) × (h.writes ≡ writes)
-    by_test true e = (refl, same_Some h.writes writes e)
+    by_test : (test : Bool) → Some h ≡ cond test (Some k) None → (Some k ≡ Some h) × (test ≡ true)
+    by_test true e = (sym e, refl)
     by_test false e = absurd cc
 
--- the line of a session that has a transaction open
-opened_line : (list : List Transaction) (greatest : ℕ) (seats : List Seat) (vote : Option HeldVote) (n : ℕ) (w : Option Work) (stamps : List Stamp) (line : Line) (rest : Before → OpenTransaction → After) (r : Before → After)
-    → WorkAt seats n w → is_none w ≡ false
+-- a line of a session that has a transaction open
+opened_line : (hub : HubSeen) (n : ℕ) (w : Option Work) (stamps : List Stamp) (line : Line) (rest : Before → OpenTransaction → After) → IsWorkOf hub.seats n w → is_some w ≡ true
     → ((b : Before) → line_in b line ≡ in_transaction b b.session.open_transaction (rest b))
-    → ((b : Before) (t : OpenTransaction) → b.number ≡ n → b.vote ≡ vote → rest b t ≡ r b)
-    → (x : Seat) × (n < length seats) × (x ≡ get_or seats n x)
-    × (line_in (before_at (state_with list greatest seats vote) stamps n (seen_seat list x)) line ≡ r (before_at (state_with list greatest seats vote) stamps n (seen_seat list x)))
-opened_line list greatest seats vote n None stamps line rest r e some by is = absurd cc
-opened_line list greatest seats vote n (Some w) stamps line rest r e some by is =
-    let x = seat_at seats n (Some w) e in
-    let b = before_at (state_with list greatest seats vote) stamps n (seen_seat list x.0) in
-    (x.0, x.1, x.2, by b ∙ ap (λ (o : Option Work). in_transaction b (option_map (seen_work list) o) (rest b)) x.3 ∙ is b (seen_work list w) refl refl)
-
-pub finish_not_voted : (list : List Transaction) (greatest : ℕ) (seats : List Seat) (vote vote' : Option HeldVote) (n : ℕ) (w : Option Work) → WorkAt seats n w → is_none w ≡ false
-    → held_writes n vote ≡ None → vote' ≡ cond (is_holder n vote) None vote
-    → IsStep (state_with list greatest seats vote) lines.Finish n (answer.Refused refusal.NotVoted) (state_with list greatest seats vote')
-finish_not_voted list greatest seats vote vote' n w e some none left = λ stamps.
-    let h = not_held n vote none in
-    let x = opened_line list greatest seats vote n w stamps lines.Finish (λ b t. finish_in b b.vote) (λ b. refused b refusal.NotVoted) e some (λ b. refl)
-    (λ b t number is. ap (finish_in b) is ∙ h.0 b number) in
-    landed list greatest seats vote vote stamps stamps lines.Finish n x.0 _ x.1 x.2 x.3
-    ∙ ap (λ (v : Option HeldVote). let d : Done = record { answer = answer.Refused refusal.NotVoted; state = state_with list greatest seats v; stamps = stamps } in d) (sym (left ∙ h.1))
-
--- the seat without its transaction
-abbrev pub ended : Seat → Seat
-ended x = record { client = x.client; work = None }
+    → (x : Seat) × (n < length hub.seats) × (x ≡ get_or hub.seats n x) × (t : OpenTransaction)
+    × (line_in (before_at (state_of hub) stamps n (seen_seat hub.list x)) line ≡ rest (before_at (state_of hub) stamps n (seen_seat hub.list x)) t)
+opened_line hub n None stamps line rest e some by = absurd cc
+opened_line hub n (Some w) stamps line rest e some by =
+    let x = seat_at hub.seats n (Some w) e in
+    let b = before_at (state_of hub) stamps n (seen_seat hub.list x.0) in
+    (x.0, x.1, x.2, seen_work hub.list w, by b ∙ ap (λ (o : Option Work). in_transaction b (option_map (seen_work hub.list) o) (rest b)) x.3)
 
 -- a line that ends the transaction
-ended_line : (list : List Transaction) (greatest : ℕ) (seats : List Seat) (vote vote' : Option HeldVote) (n : ℕ) (x y : Seat) (stamps : List Stamp) (line : Line) (a : Answer)
-    → n < length seats → x ≡ get_or seats n x → y ≡ get_or seats n y
-    → line_in (before_at (state_with list greatest seats vote) stamps n (seen_seat list y)) line
-    ≡ record { answer = a; list = list; greatest = greatest; session = with_transaction (seen_seat list y) None; vote = vote'; stamps = stamps }
-    → at_session (state_with list greatest seats vote) stamps line n (slice_get (map (seen_seat list) seats) n)
-    ≡ record { answer = a; state = state_with list greatest (set seats n (ended x)) vote'; stamps = stamps }
-ended_line list greatest seats vote vote' n x y stamps line a within is_x is_y leaves =
-    let same : y ≡ x = is_y ∙ get_or_default seats n y x within ∙ sym is_x in
-    at_seat list greatest seats vote stamps line n y within is_y
-    ∙ ap (after_at (state_with list greatest seats vote) n) leaves
-    ∙ put_back list list greatest greatest seats vote vote' n (ended y) a stamps
-    ∙ ap (λ (z : Seat). let d : Done = record { answer = a; state = state_with list greatest (set seats n (ended z)) vote'; stamps = stamps } in d) same
+ended_line : (hub : HubSeen) (list : List Transaction) (greatest : ℕ) (left : Option Vote) (n : ℕ) (x y : Seat) (stamps : List Stamp) (line : Line) (a : Answer)
+    → n < length hub.seats → x ≡ get_or hub.seats n x → y ≡ get_or hub.seats n y
+    → line_in (before_at (state_of hub) stamps n (seen_seat hub.list y)) line
+    ≡ record { answer = a; list = list; greatest = greatest; session = with_transaction (seen_seat hub.list y) None; vote = left; stamps = stamps }
+    → at_session (state_of hub) stamps line n (slice_get (map (seen_seat hub.list) hub.seats) n)
+    ≡ done a (record { list = list; greatest = greatest; sessions = map (seen_seat hub.list) (set hub.seats n (ended x)); vote = left }) stamps
+ended_line hub list greatest left n x y stamps line a within is_x is_y leaves =
+    let same : y ≡ x = is_y ∙ get_or_default hub.seats n y x within ∙ sym is_x in
+    at_seat hub.list hub.greatest hub.seats hub.voted hub.vote stamps line n y within is_y
+    ∙ ap (after_at (state_of hub) n) leaves
+    ∙ put_back hub.list list hub.greatest greatest hub.seats hub.voted hub.vote left n (ended y) a stamps
+    ∙ ap (λ (z : Seat). done a (record { list = list; greatest = greatest; sessions = map (seen_seat hub.list) (set hub.seats n (ended z)); vote = left }) stamps) same
 
-pub finish_empty : (list : List Transaction) (greatest : ℕ) (seats : List Seat) (vote vote' : Option HeldVote) (n : ℕ) (w : Option Work) (writes : Option Transaction) (x : Seat) → WorkAt seats n w → is_none w ≡ false
-    → held_writes n vote ≡ Some writes → vote' ≡ cond (is_holder n vote) None vote → writes ≡ None → x ≡ get_or seats n x
-    → IsStep (state_with list greatest seats vote) lines.Finish n answer.Empty (state_with list greatest (set seats n (record { client = x.client; work = None })) vote')
-finish_empty list greatest seats vote vote' n w writes x e some holds left empty is = λ stamps.
-    let h = held n vote None (holds ∙ ap (λ (o : Option Transaction). Some o) empty) in
-    let y = opened_line list greatest seats vote n w stamps lines.Finish (λ b t. finish_in b b.vote) (λ b. finished b None) e some (λ b. refl)
-    (λ b t number is. ap (finish_in b) is ∙ h.0 b number) in
-    ended_line list greatest seats vote None n x y.0 stamps lines.Finish answer.Empty y.1 is y.2 y.3
-    ∙ ap (λ (v : Option HeldVote). let d : Done = record { answer = answer.Empty; state = state_with list greatest (set seats n (ended x)) v; stamps = stamps } in d) (sym (left ∙ h.1))
+-- what a session that doesn't hold the vote finishes
+not_held : (b : Before) (voted : Option Transaction) (vote : Option HeldVote) → is_holder_of b.number vote ≡ false → finish_in b (option_map (seen_vote voted) vote) ≡ refused b refusal.NotVoted
+not_held b voted None other = refl
+not_held b voted (Some h) other = ap (λ (test : Bool). cond test (finished b voted) (refused b refusal.NotVoted)) other
 
-pub abort_step : (list : List Transaction) (greatest : ℕ) (seats : List Seat) (vote vote' : Option HeldVote) (n : ℕ) (w : Option Work) (x : Seat) → WorkAt seats n w → is_none w ≡ false
-    → vote' ≡ cond (is_holder n vote) None vote → x ≡ get_or seats n x
-    → IsStep (state_with list greatest seats vote) lines.Abort n answer.Aborted (state_with list greatest (set seats n (record { client = x.client; work = None })) vote')
-abort_step list greatest seats vote vote' n w x e some left is = λ stamps.
-    let y = opened_line list greatest seats vote n w stamps lines.Abort (λ b t. abort_in b) (λ b. abort_in b) e some (λ b. refl) (λ b t number is. refl) in
-    ended_line list greatest seats vote (left_vote n vote) n x y.0 stamps lines.Abort answer.Aborted y.1 is y.2 y.3
-    ∙ ap (λ (v : Option HeldVote). let d : Done = record { answer = answer.Aborted; state = state_with list greatest (set seats n (ended x)) v; stamps = stamps } in d) (sym left)
+held : (b : Before) (voted : Option Transaction) (vote : Option HeldVote) (h : HeldVote) → vote ≡ Some h → is_holder_of b.number vote ≡ true → finish_in b (option_map (seen_vote voted) vote) ≡ finished b voted
+held b voted None h is holds = absurd cc
+held b voted (Some k) h is holds = ap (λ (test : Bool). cond test (finished b voted) (refused b refusal.NotVoted)) holds
 
--- a list that grows keeps each view
-work_grown : (list : List Transaction) (t : Transaction) (w : Option Work) → IsWithin (length list) w → option_map (seen_work list) w ≡ option_map (seen_work (list ++ t ∷ [])) w
-work_grown list t None within = refl
-work_grown list t (Some w) within = rw (take-append-le w.length list (t ∷ []) within) refl
+pub finish_refused : (v hub : HubSeen) (seats : List Seat) (n : ℕ) (w : Option Work) → v ≡ hub → seats ≡ v.seats → IsWorkOf seats n w → is_some w ≡ false
+    → IsStep (state_of hub) lines.Finish n (answer.Refused refusal.NoTransaction) (state_of hub)
+finish_refused v hub seats n (Some w) same is e none = absurd cc
+finish_refused v hub seats n None same is e none =
+    nothing_open hub n lines.Finish (λ b t. finish_in b b.vote) (subst (λ (ss : List Seat). IsWorkOf ss n None) (is ∙ ap (λ (h : HubSeen). h.seats) same) e) (λ b. refl)
 
-seen_grown : (list : List Transaction) (t : Transaction) (seats : List Seat) → AllByRecursion (λ x. IsWithin (length list) x.work) seats
+pub abort_refused : (v hub : HubSeen) (seats : List Seat) (n : ℕ) (w : Option Work) → v ≡ hub → seats ≡ v.seats → IsWorkOf seats n w → is_some w ≡ false
+    → IsStep (state_of hub) lines.Abort n (answer.Refused refusal.NoTransaction) (state_of hub)
+abort_refused v hub seats n (Some w) same is e none = absurd cc
+abort_refused v hub seats n None same is e none =
+    nothing_open hub n lines.Abort (λ b t. abort_in b) (subst (λ (ss : List Seat). IsWorkOf ss n None) (is ∙ ap (λ (h : HubSeen). h.seats) same) e) (λ b. refl)
+
+kept_vote : (n : ℕ) (vote : Option HeldVote) → is_holder_of n vote ≡ false → left_vote n vote ≡ vote
+kept_vote n vote other = ap (λ (test : Bool). cond test None vote) other
+
+gone_vote : (n : ℕ) (vote : Option HeldVote) → is_holder_of n vote ≡ true → left_vote n vote ≡ None
+gone_vote n vote holds = ap (λ (test : Bool). cond test None vote) holds
+
+not_voted : (hub : HubSeen) (n : ℕ) (w : Option Work) → IsWorkOf hub.seats n w → is_some w ≡ true → is_holder_of n hub.vote ≡ false
+    → IsStep (state_of hub) lines.Finish n (answer.Refused refusal.NotVoted) (state_of hub)
+not_voted hub n w e some other = λ stamps.
+    let x = opened_line hub n w stamps lines.Finish (λ b t. finish_in b b.vote) e some (λ b. refl) in
+    landed hub (option_map (seen_vote hub.voted) hub.vote) stamps stamps lines.Finish n x.0 (answer.Refused refusal.NotVoted) x.1 x.2
+    (x.4 ∙ not_held (before_at (state_of hub) stamps n (seen_seat hub.list x.0)) hub.voted hub.vote other)
+
+pub finish_not_voted : (v hub : HubSeen) (seats : List Seat) (left : Option HeldVote) (n : ℕ) (w : Option Work) → v ≡ hub → seats ≡ v.seats → IsWorkOf seats n w → is_some w ≡ true → None ≡ taken_vote n v.vote → left ≡ left_vote n v.vote
+    → IsStep (state_of hub) lines.Finish n (answer.Refused refusal.NotVoted) (state_with v.list v.greatest v.seats v.voted left)
+finish_not_voted v hub seats left n w same is e some none leaves =
+    let other = none_taken n v.vote none in
+    subst (λ (h : HubSeen). IsStep (state_of h) lines.Finish n (answer.Refused refusal.NotVoted) (state_with v.list v.greatest v.seats v.voted left)) same
+    (subst (λ (o : Option HeldVote). IsStep (state_of v) lines.Finish n (answer.Refused refusal.NotVoted) (state_with v.list v.greatest v.seats v.voted o)) (sym (leaves ∙ kept_vote n v.vote other))
+    (not_voted v n w (subst (λ (ss : List Seat). IsWorkOf ss n w) is e) some other))
+
+-- what was voted is what is finished
+finished_line : (v : HubSeen) (list : List Transaction) (greatest : ℕ) (seats : List Seat) (n : ℕ) (w : Option Work) (h : HeldVote) (writes : Option Transaction) (x : Seat) (a : Answer) → seats ≡ v.seats → IsWorkOf seats n w → is_some w ≡ true
+    → Some h ≡ taken_vote n v.vote → v.voted ≡ writes → x ≡ get_or v.seats n x
+    → ((b : Before) → b.list ≡ v.list → b.greatest ≡ v.greatest → finished b writes ≡ record { answer = a; list = list; greatest = greatest; session = with_transaction b.session None; vote = None; stamps = b.stamps })
+    → (stamps : List Stamp) → at_session (state_of v) stamps lines.Finish n (slice_get (map (seen_seat v.list) v.seats) n)
+    ≡ done a (record { list = list; greatest = greatest; sessions = map (seen_seat v.list) (set v.seats n (ended x)); vote = None }) stamps
+finished_line v list greatest seats n w h writes x a is e some taken voted here leaves stamps =
+    let holds = some_taken n v.vote h taken in
+    let y = opened_line v n w stamps lines.Finish (λ b t. finish_in b b.vote) (subst (λ (ss : List Seat). IsWorkOf ss n w) is e) some (λ b. refl) in
+    let b = before_at (state_of v) stamps n (seen_seat v.list y.0) in
+    ended_line v list greatest None n x y.0 stamps lines.Finish a y.1 here y.2
+    (y.4 ∙ held b v.voted v.vote h holds.0 holds.1 ∙ ap (λ (o : Option Transaction). finished b o) voted ∙ leaves b refl refl)
+
+-- what a vote that is held writes
+empty_voted : (vote : Option HeldVote) (voted : Option Transaction) (h : HeldVote) → IsVoteOf vote voted → vote ≡ Some h → h.writes ≡ None → voted ≡ None
+empty_voted vote voted h sound is writes = subst (λ (o : Option Writes). HasVoted o voted) writes (subst (λ (o : Option HeldVote). IsVoteOf o voted) is sound)
+
+has_voted : (w : Writes) (voted : Option Transaction) → HasVoted (Some w) voted → (t : Transaction) × (voted ≡ Some t) × (t.tid ≡ w.tid)
+has_voted w None has = absurd has
+has_voted w (Some t) has = (t, refl, has)
+
+full_voted : (vote : Option HeldVote) (voted : Option Transaction) (h : HeldVote) (w : Writes) → IsVoteOf vote voted → vote ≡ Some h → h.writes ≡ Some w → (t : Transaction) × (voted ≡ Some t) × (t.tid ≡ w.tid)
+full_voted vote voted h w sound is writes = has_voted w voted (subst (λ (o : Option Writes). HasVoted o voted) writes (subst (λ (o : Option HeldVote). IsVoteOf o voted) is sound))
+
+full_later : (newest : ℕ) (vote : Option HeldVote) (voted : Option Transaction) (h : HeldVote) (w : Writes) (t : Transaction) → IsVoteLater newest vote voted → vote ≡ Some h → h.writes ≡ Some w → voted ≡ Some t
+    → (newest < t.tid) × (w.greatest ≡ greatest_of (oids_of t))
+full_later newest vote voted h w t later is writes full =
+    subst (λ (o : Option Transaction). IsLater newest (Some w) o) full
+    (subst (λ (o : Option Writes). IsLater newest o voted) writes (subst (λ (o : Option HeldVote). IsVoteLater newest o voted) is later))
+
+pub finish_empty : (told : Type 0) (v hub : HubSeen) (seats : List Seat) (left : Option HeldVote) (n : ℕ) (w : Option Work) (h : HeldVote) (x : Seat) → v ≡ hub → IsSound told hub → seats ≡ v.seats → IsWorkOf seats n w → is_some w ≡ true
+    → Some h ≡ taken_vote n v.vote → h.writes ≡ None → x ≡ get_or v.seats n x → left ≡ left_vote n v.vote
+    → IsStep (state_of hub) lines.Finish n answer.Empty (state_with v.list v.greatest (set v.seats n (record { client = x.client; work = None })) v.voted left)
+finish_empty told v hub seats left n w h x same sound is e some taken empty here leaves =
+    let holds = some_taken n v.vote h taken in
+    let nothing = empty_voted v.vote v.voted h (subst (λ (o : HubSeen). IsVoteOf o.vote o.voted) (sym same) sound.vote) holds.0 empty in
+    subst (λ (o : HubSeen). IsStep (state_of o) lines.Finish n answer.Empty (state_with v.list v.greatest (set v.seats n (ended x)) v.voted left)) same
+    (subst (λ (o : Option HeldVote). IsStep (state_of v) lines.Finish n answer.Empty (state_with v.list v.greatest (set v.seats n (ended x)) v.voted o)) (sym (leaves ∙ gone_vote n v.vote holds.1))
+    (finished_line v v.list v.greatest seats n w h None x answer.Empty is e some taken nothing here
+    (λ b list_is greatest_is. ap (λ (l : List Transaction). let r : After = record { answer = answer.Empty; list = l; greatest = b.greatest; session = with_transaction b.session None; vote = None; stamps = b.stamps } in r) list_is
+    ∙ ap (λ (k : ℕ). let r : After = record { answer = answer.Empty; list = v.list; greatest = k; session = with_transaction b.session None; vote = None; stamps = b.stamps } in r) greatest_is)))
+
+-- ---- a list that grows keeps each view
+
+filter_grown : (front : ℕ) (list : List Transaction) (t : Transaction) → front ≤ t.tid → view_at front (list ++ t ∷ []) ≡ view_at front list
+filter_grown front list t later = filter-append (is_before front) list (t ∷ []) ∙ rw (le-ltb t.tid front later) (append-nil (view_at front list))
+
+work_grown : (list : List Transaction) (t : Transaction) (w : Option Work) → newest_tid list < t.tid → IsUpTo (newest_tid list + 1) w → option_map (seen_work list) w ≡ option_map (seen_work (list ++ t ∷ [])) w
+work_grown list t None later front = refl
+work_grown list t (Some w) later front =
+    ap (λ (l : List Transaction). let o : Option OpenTransaction = Some (record { front = w.front; list = l; stores = w.stores.items }) in o) (sym (filter_grown w.front list t (omega arith)))
+
+seen_grown : (list : List Transaction) (t : Transaction) (seats : List Seat) → newest_tid list < t.tid → AllByRecursion (λ x. IsUpTo (newest_tid list + 1) x.work) seats
     → map (seen_seat list) seats ≡ map (seen_seat (list ++ t ∷ [])) seats
-seen_grown list t [] all = refl
-seen_grown list t (x ∷ seats) all = rw (work_grown list t x.work all.0, seen_grown list t seats all.1) refl
+seen_grown list t [] later all = refl
+seen_grown list t (x ∷ seats) later all =
+    ap (λ (o : Option OpenTransaction). let s : Session = record { client = x.client; open_transaction = o } in s ∷ map (seen_seat list) seats) (work_grown list t x.work later all.0)
+    ∙ ap (λ (ss : List Session). seen_seat (list ++ t ∷ []) x ∷ ss) (seen_grown list t seats later all.1)
 
-pub finish_committed : (list : List Transaction) (greatest greatest' : ℕ) (seats : List Seat) (vote vote' : Option HeldVote) (n : ℕ) (w : Option Work) (writes : Option Transaction) (t : Transaction) (x : Seat) → WorkAt seats n w → is_none w ≡ false
-    → held_writes n vote ≡ Some writes → vote' ≡ cond (is_holder n vote) None vote → writes ≡ Some t → x ≡ get_or seats n x
-    → AllByRecursion (λ y. IsWithin (length list) y.work) seats → greatest' ≡ raised greatest t
-    → IsStep (state_with list greatest seats vote) lines.Finish n (answer.Committed t.tid) (state_with (list ++ t ∷ []) greatest' (set seats n (record { client = x.client; work = None })) vote')
-finish_committed list greatest greatest' seats vote vote' n w writes t x e some holds left full is all raises = λ stamps.
-    let h = held n vote (Some t) (holds ∙ ap (λ (o : Option Transaction). Some o) full) in
-    let y = opened_line list greatest seats vote n w stamps lines.Finish (λ b t. finish_in b b.vote) (λ b. finished b (Some t)) e some (λ b. refl)
-    (λ b t number is. ap (finish_in b) is ∙ h.0 b number) in
-    let same : y.0 ≡ x = y.2 ∙ get_or_default seats n y.0 x y.1 ∙ sym is in
-    let grown = seen_grown list t (set seats n (ended x)) (within_set (length list) seats n (ended x) all tt) in
-    at_seat list greatest seats vote stamps lines.Finish n y.0 y.1 y.2
-    ∙ ap (after_at (state_with list greatest seats vote) n) y.3
-    ∙ put_back list (list ++ t ∷ []) greatest (raised greatest t) seats vote None n (ended y.0) (answer.Committed t.tid) stamps
-    ∙ ap (λ (z : Seat). let d : Done = record { answer = answer.Committed t.tid; state = record { list = list ++ t ∷ []; greatest = raised greatest t; sessions = map (seen_seat list) (set seats n (ended z)); vote = None }; stamps = stamps } in d) same
-    ∙ ap (λ (ss : List Session). let d : Done = record { answer = answer.Committed t.tid; state = record { list = list ++ t ∷ []; greatest = raised greatest t; sessions = ss; vote = None }; stamps = stamps } in d) grown
-    ∙ ap (λ (v : Option HeldVote). let d : Done = record { answer = answer.Committed t.tid; state = state_with (list ++ t ∷ []) (raised greatest t) (set seats n (ended x)) v; stamps = stamps } in d) (sym (left ∙ h.1))
-    ∙ ap (λ (g : ℕ). let d : Done = record { answer = answer.Committed t.tid; state = state_with (list ++ t ∷ []) g (set seats n (ended x)) vote'; stamps = stamps } in d) (sym raises)
-
--- ---- what stays sound
-
-left_sound : (n : ℕ) (vote : Option HeldVote) → IsVoteSound vote → IsVoteSound (left_vote n vote)
-left_sound n None sound = tt
-left_sound n (Some h) sound = by_test (h.session == n)
+more_fronts : (n m : ℕ) (seats : List Seat) → n ≤ m → AllByRecursion (λ x. IsUpTo n x.work) seats → AllByRecursion (λ x. IsUpTo m x.work) seats
+more_fronts n m [] le all = tt
+more_fronts n m (x ∷ seats) le all = (one x.work all.0, more_fronts n m seats le all.1)
   where
-    by_test : (test : Bool) → IsVoteSound (cond test None (Some h))
-    by_test true = tt
-    by_test false = sound
-
-pub abort_sound : (list : List Transaction) (seats : List Seat) (vote vote' : Option HeldVote) (n : ℕ) (x : Seat) → IsSound list seats vote → vote' ≡ cond (is_holder n vote) None vote
-    → IsSound list (set seats n (record { client = x.client; work = None })) vote'
-abort_sound list seats vote vote' n x sound left = record {
-  within = within_set (length list) seats n (ended x) sound.within tt;
-  bounded = sound.bounded;
-  writable = subst IsVoteSound (sym left) (left_sound n vote sound.writable);
-}
-
-pub not_voted_sound : (list : List Transaction) (seats : List Seat) (vote vote' : Option HeldVote) (n : ℕ) → IsSound list seats vote → vote' ≡ cond (is_holder n vote) None vote → IsSound list seats vote'
-not_voted_sound list seats vote vote' n sound left = record {
-  within = sound.within;
-  bounded = sound.bounded;
-  writable = subst IsVoteSound (sym left) (left_sound n vote sound.writable);
-}
-
-more_within : (n m : ℕ) (seats : List Seat) → n ≤ m → AllByRecursion (λ x. IsWithin n x.work) seats → AllByRecursion (λ x. IsWithin m x.work) seats
-more_within n m [] le all = tt
-more_within n m (x ∷ seats) le all = (one x.work all.0, more_within n m seats le all.1)
-  where
-    one : (w : Option Work) → IsWithin n w → IsWithin m w
+    one : (w : Option Work) → IsUpTo n w → IsUpTo m w
     one None h = tt
     one (Some w) h = omega arith
 
-writes_sound : (n : ℕ) (vote : Option HeldVote) (writes : Option Transaction) → IsVoteSound vote → held_writes n vote ≡ Some writes → IsWritable writes
-writes_sound n None writes sound e = absurd cc
-writes_sound n (Some h) writes sound e = by_test (h.session == n) e
+pub finish_committed : (told : Type 0) (v hub : HubSeen) (list : List Transaction) (greatest : ℕ) (seats : List Seat) (voted' : Option Transaction) (left : Option HeldVote) (n : ℕ) (w : Option Work) (h : HeldVote) (wr : Writes) (shown : ℕ) (x : Seat)
+    → told → v ≡ hub → IsSound told hub → seats ≡ v.seats → IsWorkOf seats n w → is_some w ≡ true
+    → Some h ≡ taken_vote n v.vote → h.writes ≡ Some wr → shown ≡ wr.tid → x ≡ get_or v.seats n x
+    → ForSome v.voted (λ t. list ≡ v.list ++ t ∷ []) → greatest ≡ max v.greatest wr.greatest → left ≡ left_vote n v.vote
+    → IsStep (state_of hub) lines.Finish n (answer.Committed shown) (state_with list greatest (set v.seats n (record { client = x.client; work = None })) voted' left)
+finish_committed told v hub list greatest seats voted' left n w h wr shown x tells same sound is e some taken full shows here grows raises leaves =
+    let holds = some_taken n v.vote h taken in
+    let sound_v = subst (IsSound told) (sym same) sound in
+    let voted = full_voted v.vote v.voted h wr sound_v.vote holds.0 full in
+    let later = full_later (newest_tid v.list) v.vote v.voted h wr voted.0 (sound_v.later tells) holds.0 full voted.1 in
+    let t = voted.0 in
+    let grown = seen_grown v.list t (set v.seats n (ended x)) later.0 (all_set (IsUpTo (newest_tid v.list + 1)) v.seats n (ended x) (sound_v.fronts tells) tt) in
+    subst (λ (o : HubSeen). IsStep (state_of o) lines.Finish n (answer.Committed shown) (state_with list greatest (set v.seats n (ended x)) voted' left)) same (λ stamps.
+    finished_line v (v.list ++ t ∷ []) (raised v.greatest t) seats n w h (Some t) x (answer.Committed t.tid) is e some taken voted.1 here
+    (λ b list_is greatest_is. ap (λ (l : List Transaction). let r : After = record { answer = answer.Committed t.tid; list = l ++ t ∷ []; greatest = raised b.greatest t; session = with_transaction b.session None; vote = None; stamps = b.stamps } in r) list_is
+    ∙ ap (λ (k : ℕ). let r : After = record { answer = answer.Committed t.tid; list = v.list ++ t ∷ []; greatest = raised k t; session = with_transaction b.session None; vote = None; stamps = b.stamps } in r) greatest_is) stamps
+    ∙ ap (λ (ss : List Session). done (answer.Committed t.tid) (record { list = v.list ++ t ∷ []; greatest = raised v.greatest t; sessions = ss; vote = None }) stamps) grown
+    ∙ ap (λ (k : ℕ). done (answer.Committed k) (state_with (v.list ++ t ∷ []) (raised v.greatest t) (set v.seats n (ended x)) voted' None) stamps) (voted.2 ∙ sym shows)
+    ∙ ap (λ (l : List Transaction). done (answer.Committed shown) (state_with l (raised v.greatest t) (set v.seats n (ended x)) voted' None) stamps) (sym (grows t voted.1))
+    ∙ ap (λ (k : ℕ). done (answer.Committed shown) (state_with list k (set v.seats n (ended x)) voted' None) stamps) (sym (raises ∙ ap (max v.greatest) later.1))
+    ∙ ap (λ (o : Option HeldVote). done (answer.Committed shown) (state_with list greatest (set v.seats n (ended x)) voted' o) stamps) (sym (leaves ∙ gone_vote n v.vote holds.1)))
+
+-- ---- what stays sound
+
+left_is : (n : ℕ) (vote : Option HeldVote) (voted voted' : Option Transaction) → IsVoteOf vote voted → (is_holder_of n vote ≡ false → voted' ≡ voted) → (is_holder_of n vote ≡ true → voted' ≡ None) → IsVoteOf (left_vote n vote) voted'
+left_is n vote voted voted' sound kept gone = by_test (is_holder_of n vote) kept gone
   where
-    by_test : (test : Bool) → cond test (Some h.writes) None ≡ Some writes → IsWritable writes
-    by_test true e = subst IsWritable (same_Some h.writes writes e) sound
-    by_test false e = absurd cc
+    by_test : (test : Bool) → (test ≡ false → voted' ≡ voted) → (test ≡ true → voted' ≡ None) → IsVoteOf (cond test None vote) voted'
+    by_test true kept gone = gone refl
+    by_test false kept gone = subst (IsVoteOf vote) (sym (kept refl)) sound
 
-newest-push : (list : List Transaction) (o : Option Transaction) (t : Transaction) → last_or o (list ++ t ∷ []) ≡ Some t
-newest-push [] o t = refl
-newest-push (x ∷ list) o t = newest-push list (Some x) t
+left_later : (newest n : ℕ) (vote : Option HeldVote) (voted voted' : Option Transaction) → IsVoteLater newest vote voted → (is_holder_of n vote ≡ false → voted' ≡ voted) → IsVoteLater newest (left_vote n vote) voted'
+left_later newest n vote voted voted' sound kept = by_test (is_holder_of n vote) kept
+  where
+    by_test : (test : Bool) → (test ≡ false → voted' ≡ voted) → IsVoteLater newest (cond test None vote) voted'
+    by_test true kept = tt
+    by_test false kept = subst (IsVoteLater newest vote) (sym (kept refl)) sound
 
-pub committed_sound : (list : List Transaction) (seats : List Seat) (vote vote' : Option HeldVote) (n : ℕ) (writes : Option Transaction) (t : Transaction) (x : Seat) → IsSound list seats vote
-    → held_writes n vote ≡ Some writes → vote' ≡ cond (is_holder n vote) None vote → writes ≡ Some t
-    → IsSound (list ++ t ∷ []) (set seats n (record { client = x.client; work = None })) vote'
-committed_sound list seats vote vote' n writes t x sound holds left full =
-    let writable : IsWritable (Some t) = subst IsWritable full (writes_sound n vote writes sound.writable holds) in
-    let newest : newest_tid (list ++ t ∷ []) ≡ t.tid = ap (λ (o : Option Transaction). option_map_or (λ (x : Transaction). x.tid) o 0) (newest-push list None t) in
-    record {
-      within = more_within (length list) (length (list ++ t ∷ [])) (set seats n (ended x)) (omega (arith, length-append list (t ∷ []))) (within_set (length list) seats n (ended x) sound.within tt);
-      bounded = rw newest writable;
-      writable = subst IsVoteSound (sym left) (left_sound n vote sound.writable);
+-- a transaction ended, and the list is as before
+ended_sound : (told : Type 0) (v now : HubSeen) (n : ℕ) (x : Seat) → IsSound told v → now.broken ≡ false → now.seats ≡ set v.seats n (ended x) → (told → now.list ≡ v.list) → now.vote ≡ left_vote n v.vote
+    → (is_holder_of n v.vote ≡ false → now.voted ≡ v.voted) → (is_holder_of n v.vote ≡ true → now.voted ≡ None) → IsSound told now
+ended_sound told v now n x sound whole still list left kept gone = record {
+  whole = whole;
+  vote = subst (λ (o : Option HeldVote). IsVoteOf o now.voted) (sym left) (left_is n v.vote v.voted now.voted sound.vote kept gone);
+  distinct = subst (λ (ss : List Seat). AllByRecursion (λ y. AreDistinct y.work) ss) (sym still) (all_set AreDistinct v.seats n (ended x) sound.distinct tt);
+  fronts = λ tells. subst (λ (ss : List Seat). AllByRecursion (λ y. IsUpTo (newest_tid now.list + 1) y.work) ss) (sym still)
+      (subst (λ (l : List Transaction). AllByRecursion (λ y. IsUpTo (newest_tid l + 1) y.work) (set v.seats n (ended x))) (sym (list tells)) (all_set (IsUpTo (newest_tid v.list + 1)) v.seats n (ended x) (sound.fronts tells) tt));
+  later = λ tells. subst (λ (o : Option HeldVote). IsVoteLater (newest_tid now.list) o now.voted) (sym left)
+      (subst (λ (l : List Transaction). IsVoteLater (newest_tid l) (left_vote n v.vote) now.voted) (sym (list tells)) (left_later (newest_tid v.list) n v.vote v.voted now.voted (sound.later tells) kept));
+}
+
+pub none_of : {A : Type 0} (o : Option A) → is_some o ≡ false → o ≡ None
+none_of None e = refl
+none_of (Some x) e = absurd cc
+
+pub empty_sound : (told : Type 0) (v hub now : HubSeen) (n : ℕ) (h : HeldVote) (x : Seat) → v ≡ hub → IsSound told hub → Some h ≡ taken_vote n v.vote → h.writes ≡ None
+    → now.broken ≡ v.broken → now.seats ≡ set v.seats n (ended x) → now.list ≡ v.list → now.vote ≡ left_vote n v.vote → now.voted ≡ v.voted → IsSound told now
+empty_sound told v hub now n h x same sound taken empty whole still list left voted =
+    let sound_v = subst (IsSound told) (sym same) sound in
+    let holds = some_taken n v.vote h taken in
+    ended_sound told v now n x sound_v (whole ∙ sound_v.whole) still (λ tells. list) left (λ other. voted) (λ is. voted ∙ empty_voted v.vote v.voted h sound_v.vote holds.0 empty)
+
+pub committed_sound : (told : Type 0) (v hub now : HubSeen) (n : ℕ) (h : HeldVote) (wr : Writes) (x : Seat) → v ≡ hub → IsSound told hub → Some h ≡ taken_vote n v.vote → h.writes ≡ Some wr
+    → now.broken ≡ false → now.seats ≡ set v.seats n (ended x) → (told → ForSome v.voted (λ t. now.list ≡ v.list ++ t ∷ [])) → now.vote ≡ left_vote n v.vote → now.voted ≡ None → IsSound told now
+committed_sound told v hub now n h wr x same sound taken full whole still list left voted =
+    let sound_v = subst (IsSound told) (sym same) sound in
+    let holds = some_taken n v.vote h taken in
+    let gone = left ∙ gone_vote n v.vote holds.1 in
+    let is = full_voted v.vote v.voted h wr sound_v.vote holds.0 full in record {
+      whole = whole;
+      vote = subst (λ (o : Option HeldVote). IsVoteOf o now.voted) (sym gone) voted;
+      distinct = subst (λ (ss : List Seat). AllByRecursion (λ y. AreDistinct y.work) ss) (sym still) (all_set AreDistinct v.seats n (ended x) sound_v.distinct tt);
+      fronts = λ tells.
+          let later = full_later (newest_tid v.list) v.vote v.voted h wr is.0 (sound_v.later tells) holds.0 full is.1 in
+          let newest : newest_tid now.list ≡ is.0.tid = ap newest_tid (list tells is.0 is.1) ∙ newest-push v.list is.0 in
+          subst (λ (ss : List Seat). AllByRecursion (λ y. IsUpTo (newest_tid now.list + 1) y.work) ss) (sym still)
+          (more_fronts (newest_tid v.list + 1) (newest_tid now.list + 1) (set v.seats n (ended x)) (omega (arith, newest, later.0)) (all_set (IsUpTo (newest_tid v.list + 1)) v.seats n (ended x) (sound_v.fronts tells) tt));
+      later = λ tells. subst (λ (o : Option HeldVote). IsVoteLater (newest_tid now.list) o now.voted) (sym gone) tt;
     }
+
+-- ---- abort
+
+abort_left : (n : ℕ) (vote : Option HeldVote) (voted voted' : Option Transaction) → (is_holder_of n vote ≡ false → voted' ≡ voted)
+    → cond (is_holder n (option_map (seen_vote voted) vote)) None (option_map (seen_vote voted) vote) ≡ option_map (seen_vote voted') (left_vote n vote)
+abort_left n None voted voted' kept = refl
+abort_left n (Some h) voted voted' kept = by_test (h.session == n) kept
+  where
+    by_test : (test : Bool) → (test ≡ false → voted' ≡ voted) → cond test None (Some (seen_vote voted h)) ≡ option_map (seen_vote voted') (cond test None (Some h))
+    by_test true kept = refl
+    by_test false kept = ap (λ (o : Option Transaction). Some (seen_vote o h)) (sym (kept refl))
+
+pub abort_step : (v hub : HubSeen) (list : List Transaction) (seats : List Seat) (voted' : Option Transaction) (left : Option HeldVote) (n : ℕ) (w : Option Work) (x : Seat) → v ≡ hub → seats ≡ v.seats → IsWorkOf seats n w → is_some w ≡ true → x ≡ get_or v.seats n x
+    → list ≡ v.list → left ≡ left_vote n v.vote → (is_holder_of n v.vote ≡ false → voted' ≡ v.voted)
+    → IsStep (state_of hub) lines.Abort n answer.Aborted (state_with list v.greatest (set v.seats n (record { client = x.client; work = None })) voted' left)
+abort_step v hub list seats voted' left n w x same is e some here keeps leaves kept =
+    subst (λ (o : HubSeen). IsStep (state_of o) lines.Abort n answer.Aborted (state_with list v.greatest (set v.seats n (ended x)) voted' left)) same (λ stamps.
+    let y = opened_line v n w stamps lines.Abort (λ b t. abort_in b) (subst (λ (ss : List Seat). IsWorkOf ss n w) is e) some (λ b. refl) in
+    ended_line v v.list v.greatest (cond (is_holder n (option_map (seen_vote v.voted) v.vote)) None (option_map (seen_vote v.voted) v.vote)) n x y.0 stamps lines.Abort answer.Aborted y.1 here y.2 y.4
+    ∙ ap (λ (o : Option Vote). done answer.Aborted (record { list = v.list; greatest = v.greatest; sessions = map (seen_seat v.list) (set v.seats n (ended x)); vote = o }) stamps) (abort_left n v.vote v.voted voted' kept)
+    ∙ ap (λ (o : Option HeldVote). done answer.Aborted (state_with v.list v.greatest (set v.seats n (ended x)) voted' o) stamps) (sym leaves)
+    ∙ ap (λ (l : List Transaction). done answer.Aborted (state_with l v.greatest (set v.seats n (ended x)) voted' left) stamps) (sym keeps))
+
+-- where this session holds the vote, nothing need be said of another's
+holder_keeps : (n : ℕ) (vote : Option HeldVote) (h : HeldVote) (voted voted' : Option Transaction) → Some h ≡ taken_vote n vote → is_holder_of n vote ≡ false → voted' ≡ voted
+holder_keeps n vote h voted voted' taken other = absurd (cc ((some_taken n vote h taken).1, other))
+
+pub aborted_step : (v hub : HubSeen) (list : List Transaction) (seats : List Seat) (voted' : Option Transaction) (left : Option HeldVote) (n : ℕ) (w : Option Work) (h : HeldVote) (x : Seat) → v ≡ hub → seats ≡ v.seats → IsWorkOf seats n w → is_some w ≡ true → x ≡ get_or v.seats n x
+    → Some h ≡ taken_vote n v.vote → list ≡ v.list → left ≡ left_vote n v.vote
+    → IsStep (state_of hub) lines.Abort n answer.Aborted (state_with list v.greatest (set v.seats n (record { client = x.client; work = None })) voted' left)
+aborted_step v hub list seats voted' left n w h x same is e some here taken keeps leaves =
+    abort_step v hub list seats voted' left n w x same is e some here keeps leaves (holder_keeps n v.vote h v.voted voted' taken)
+
+pub free_sound : (told : Type 0) (v hub now : HubSeen) (n : ℕ) (x : Seat) → v ≡ hub → IsSound told hub → None ≡ taken_vote n v.vote
+    → now.broken ≡ v.broken → now.seats ≡ set v.seats n (ended x) → now.list ≡ v.list → now.vote ≡ left_vote n v.vote → now.voted ≡ v.voted → IsSound told now
+free_sound told v hub now n x same sound none whole still list left voted =
+    let sound_v = subst (IsSound told) (sym same) sound in
+    ended_sound told v now n x sound_v (whole ∙ sound_v.whole) still (λ tells. list) left (λ other. voted) (λ holds. absurd (cc (none_taken n v.vote none, holds)))
+
+pub aborted_sound : (told : Type 0) (v hub now : HubSeen) (n : ℕ) (h : HeldVote) (x : Seat) → v ≡ hub → IsSound told hub → Some h ≡ taken_vote n v.vote
+    → now.broken ≡ false → now.seats ≡ set v.seats n (ended x) → (told → now.list ≡ v.list) → now.vote ≡ left_vote n v.vote → now.voted ≡ None → IsSound told now
+aborted_sound told v hub now n h x same sound taken whole still list left voted =
+    ended_sound told v now n x (subst (IsSound told) (sym same) sound) whole still list left (holder_keeps n v.vote h v.voted now.voted taken) (λ holds. voted)

@@ -1,14 +1,10 @@
 -- What every turn keeps.
-use Rattle.std.proofs.Common.{◌≡◌, ℕ, zero, suc, ◌+◌, ◌<◌, ◌≤◌, ◌^◌, ◌-◌, List, [], ◌∷◌, ◌++◌, Option, Some, None, Result, Ok, Err, Bool, true, false, cond, add-one, get_or, length, map, set, refl, sym, ap, subst, lit<, lit≤, ◌*◌, ◌/◌, ◌||◌, arith}
+use Rattle.std.proofs.Common.{◌≡◌, ℕ, zero, suc, ◌+◌, ◌<◌, ◌≤◌, ◌^◌, ◌-◌, List, [], ◌∷◌, ◌++◌, Option, Some, None, Result, Ok, Err, Bool, true, false, cond, get_or, length, map, set, refl, sym, ap, subst, arith}
 use Rattle.std.specs.Prelude.{◌==◌, nat_eq, nat_lt, slice_get}
-use Rattle.std.specs.List.{AllByRecursion, IsDistinct, last_or}
-use Rattle.std.specs.Option.{option_map_or}
-use Rattle.std.specs.List.Sorted.{IsNonDecreasing}
-use Rattle.std.proofs.lemmas.List.Elements.{All-from_recursion}
+use Rattle.std.specs.List.{AllByRecursion, IsDistinct}
 use Rattle.std.proofs.lemmas.Bool.{ltb-true}
 use Rattle.zb_ids.specs.declared.stamp.Stamp.{Stamp}
-use Rattle.zb_ids.specs.Calendar.{days_in, is_leap}
-use Rattle.zb_ids.specs.Tids.{stamp_number, minutes_of, tid_after}
+use Rattle.zb_ids.specs.Tids.{tid_after}
 use Rattle.zb_outside.specs.Stamps.{stamps_after}
 use Rattle.zb_model.specs.declared.data.Transaction.{Transaction}
 use Rattle.zb_model.specs.declared.refusal.Refusal.{Refusal}
@@ -16,24 +12,19 @@ use Rattle.zb_model.specs.declared.refusal.Refusal.TheVariants as refusal
 use Rattle.zb_model.specs.declared.data.Content.{Content}
 use Rattle.zb_model.specs.declared.data.Content.TheVariants.{Held, Absent}
 use Rattle.zb_model.specs.Database.{IsDatabase, ObjectRevision, newest_tid, revision_below}
+use Rattle.zb_model.specs.VotingLaws.{database-push, newest-push}
 use Rattle.zb_script.specs.declared.answer.Answer.{Answer}
 use Rattle.zb_script.specs.declared.answer.Answer.TheVariants as answer
 use Rattle.zb_script.specs.declared.line.Line.{Line}
 use Rattle.zb_script.specs.declared.line.Line.TheVariants as lines
 use Rattle.zb_script.specs.declared.line.Turn.{Turn}
-use Rattle.zodb_top.specs.declared.pending.PendingStore.{PendingStore}
-use Rattle.zodb_top.specs.declared.vote.HeldVote.{HeldVote}
-use Rattle.zodb_top.specs.Machine.{After, Before, Decision, Done, OpenTransaction, Session, State, abort_in, answered, at_number, at_session, before_at, begin_in, change_of, conflict_of, decision_at, decision_of, decision_on, finish_in, finished, in_transaction, is_holder, line_in, line_of, load_in, new_in, next_number, start, read_content, read_revision, refused, session_of, store_in, transaction_of, turn_of, vote_in, voted_by, with_store}
-use Rattle.zodb_top.specs.Output.{created, run_from}
-use Rattle.zodb_top.specs.Laws.{fronts_of, front_in}
 use Rattle.zb_script.specs.Shape.{is_turn_of}
+use Rattle.zodb_top.specs.declared.pending.PendingStore.{PendingStore}
+use Rattle.zodb_top.specs.Machine.{After, Before, Decision, Done, OpenTransaction, Session, State, Vote, abort_in, answered, at_number, at_session, before_at, begin_in, change_of, conflict_of, decision_at, decision_of, decision_on, finish_in, finished, in_transaction, is_holder, is_reading, line_in, line_of, load_in, new_in, next_number, read_content, read_revision, reading_failed, refused, session_of, start, store_in, taken, transaction_of, turn_of, vote_in, voted_by, with_store}
+use Rattle.zodb_top.specs.Output.{first_of, others_of, run_from}
+use Rattle.zodb_top.specs.Laws.{FrontsNeverFall, TheListStaysADatabase, front_in, fronts_of}
 
 -- ---- what is kept
-
--- each tid is above the one before it, the first above n
-abbrev pub Rises : ℕ → List Transaction → Type 0
-Rises n [] = Unit {0}
-Rises n (t ∷ list) = (n < t.tid) × Rises t.tid list
 
 -- no object is changed twice
 abbrev pub HasDistinct : Transaction → Type 0
@@ -41,12 +32,6 @@ HasDistinct t = IsDistinct nat_eq (map (λ c. c.oid) t.changes)
 
 abbrev pub oids : List PendingStore → List ℕ
 oids stores = map (λ p. p.oid) stores
-
--- a database, by recursion
-pub record IsSoundList (list : List Transaction) : Type 0 where
-  pub rising : Rises 0 list
-  pub bounded : newest_tid list < 2 ^ 64 - 1
-  pub distinct : AllByRecursion HasDistinct list
 
 -- what a vote writes can be appended
 pub record IsNext (list : List Transaction) (t : Transaction) : Type 0 where
@@ -58,7 +43,7 @@ abbrev pub WritesFit : List Transaction → Option Transaction → Type 0
 WritesFit list None = Unit {0}
 WritesFit list (Some t) = IsNext list t
 
-abbrev pub VoteFits : List Transaction → Option HeldVote → Type 0
+abbrev pub VoteFits : List Transaction → Option Vote → Type 0
 VoteFits list None = Unit {0}
 VoteFits list (Some h) = WritesFit list h.writes
 
@@ -71,7 +56,7 @@ abbrev pub SessionFits : Session → Type 0
 SessionFits x = StoresFit x.open_transaction
 
 pub record IsFit (s : State) : Type 0 where
-  pub list : IsSoundList s.list
+  pub list : IsDatabase s.list
   pub sessions : AllByRecursion SessionFits s.sessions
   pub vote : VoteFits s.list s.vote
 
@@ -81,25 +66,6 @@ FrontIs n (answer.Begun front) = front ≡ n
 FrontIs n _ = Unit {0}
 
 -- ---- lists
-
-newest-from : (u : Transaction) (list : List Transaction) (t : Transaction) → last_or (Some u) (list ++ t ∷ []) ≡ Some t
-newest-from u [] t = refl
-newest-from u (v ∷ list) t = newest-from v list t
-
-last-push : (list : List Transaction) (t : Transaction) → last_or None (list ++ t ∷ []) ≡ Some t
-last-push [] t = refl
-last-push (v ∷ list) t = newest-from v list t
-
-pub newest-push : (list : List Transaction) (t : Transaction) → newest_tid (list ++ t ∷ []) ≡ t.tid
-newest-push list t = ap (λ (o : Option Transaction). option_map_or (λ (u : Transaction). u.tid) o 0) (last-push list t)
-
-rises-from : (u : Transaction) (list : List Transaction) (t : Transaction) → Rises u.tid list → option_map_or (λ (v : Transaction). v.tid) (last_or (Some u) list) 0 < t.tid → Rises u.tid (list ++ t ∷ [])
-rises-from u [] t rises above = (above, tt)
-rises-from u (v ∷ list) t rises above = (rises.0, rises-from v list t rises.1 above)
-
-rises-push : (list : List Transaction) (t : Transaction) → Rises 0 list → newest_tid list < t.tid → Rises 0 (list ++ t ∷ [])
-rises-push [] t rises above = (above, tt)
-rises-push (v ∷ list) t rises above = (rises.0, rises-from v list t rises.1 above)
 
 all-push : {A : Type 0} (P : A → Type 0) (xs : List A) (y : A) → AllByRecursion P xs → P y → AllByRecursion P (xs ++ y ∷ [])
 all-push P [] y all one = (one, tt)
@@ -114,13 +80,6 @@ all-at : {A : Type 0} (P : A → Type 0) (xs : List A) (n : ℕ) (x : A) → All
 all-at P [] n x all e = absurd cc
 all-at P (y ∷ xs) zero x all e = let same : y ≡ x = cc in subst P same all.0
 all-at P (y ∷ xs) (suc n) x all e = all-at P xs n x all.1 e
-
-sound-push : (list : List Transaction) (t : Transaction) → IsSoundList list → IsNext list t → IsSoundList (list ++ t ∷ [])
-sound-push list t sound next = record {
-  rising = rises-push list t sound.rising next.above;
-  bounded = subst (λ (n : ℕ). n < 2 ^ 64 - 1) (sym (newest-push list t)) next.bounded;
-  distinct = all-push HasDistinct list t sound.distinct next.distinct;
-}
 
 -- ---- stores
 
@@ -160,41 +119,6 @@ tid-above last number = by_test (nat_lt last number) refl
     by_test true e = ltb-true last number e
     by_test false e = omega arith
 
-pick-within : (n : ℕ) (test : Bool) (x y : ℕ) → x ≤ n → y ≤ n → cond test x y ≤ n
-pick-within n true x y one other = one
-pick-within n false x y one other = other
-
-days-within : (year month : ℕ) → days_in year month ≤ 31
-days-within year month =
-    pick-within 31 (month == 2) _ _ (pick-within 31 (is_leap year) 29 28 (lit≤ tt) (lit≤ tt))
-    (pick-within 31 (month == 4 || month == 6 || month == 9 || month == 11) 30 31 (lit≤ tt) (lit≤ tt))
-
-minutes-within : (year month day hour minute : ℕ) → year ≤ 9916 → month ≤ 12 → day ≤ 31 → hour < 24 → minute < 60
-    → ((((year - 1900) * 12 + (month - 1)) * 31 + (day - 1)) * 24 + hour) * 60 + minute < 4294546560
-minutes-within year month day hour minute years months days hours minutes = omega arith
-
-part-within : (micros : ℕ) → micros < 60000000 → micros * 4294967296 / 60000000 < 4294967296
-part-within micros seconds = omega arith
-
-whole-within : (minutes part : ℕ) → minutes < 4294546560 → part < 4294967296 → minutes * 4294967296 + part < 18446744073709551615
-whole-within minutes part few less = omega arith
-
--- a stamp's number has a successor
-number-within : (stamp : Stamp) → stamp_number stamp < 2 ^ 64 - 1
-number-within stamp =
-    let exists = stamp.exists in
-    let days : stamp.day ≤ 31 = omega (arith, exists.last_day, days-within stamp.year stamp.month) in
-    whole-within (minutes_of stamp) (stamp.micros * 4294967296 / 60000000)
-    (minutes-within stamp.year stamp.month stamp.day stamp.hour stamp.minute exists.last_year exists.last_month days exists.hours exists.minutes)
-    (part-within stamp.micros exists.seconds)
-
-tid-within : (number : ℕ) → number < 2 ^ 64 - 1 → tid_after 0 number < 2 ^ 64 - 1
-tid-within number within = by_test (nat_lt 0 number)
-  where
-    by_test : (test : Bool) → cond test number (0 + 1) < 2 ^ 64 - 1
-    by_test true = within
-    by_test false = lit< tt
-
 -- ---- decisions
 
 abbrev VerdictFits : List Transaction → Result (Option Transaction) Refusal → Type 0
@@ -221,7 +145,7 @@ decided-on None list (p ∷ stores) stamps distinct =
 
 -- what a line leaves
 pub record LineFits (b : Before) (a : After) : Type 0 where
-  pub list : IsSoundList a.list
+  pub list : IsDatabase a.list
   pub grown : newest_tid b.list ≤ newest_tid a.list
   pub session : SessionFits a.session
   pub vote : VoteFits a.list a.vote
@@ -229,7 +153,7 @@ pub record LineFits (b : Before) (a : After) : Type 0 where
 
 -- what a line finds
 pub record IsFitBefore (b : Before) : Type 0 where
-  pub list : IsSoundList b.list
+  pub list : IsDatabase b.list
   pub session : SessionFits b.session
   pub vote : VoteFits b.list b.vote
 
@@ -272,7 +196,7 @@ voted_fits : (b : Before) (verdict : Result (Option Transaction) Refusal) (stamp
 voted_fits b (Err why) stamps fit verdict = record { list = fit.list; grown = omega arith; session = fit.session; vote = fit.vote; front = tt }
 voted_fits b (Ok writes) stamps fit verdict = record { list = fit.list; grown = omega arith; session = fit.session; vote = verdict; front = tt }
 
-vote_fits : (b : Before) (v : Option HeldVote) (o : Option OpenTransaction) → IsFitBefore b → StoresFit o → LineFits b (in_transaction b o (vote_in b v))
+vote_fits : (b : Before) (v : Option Vote) (o : Option OpenTransaction) → IsFitBefore b → StoresFit o → LineFits b (in_transaction b o (vote_in b v))
 vote_fits b v None fit stores = stays b (answer.Refused refusal.NoTransaction) fit tt
 vote_fits b None (Some t) fit stores =
     let d = decision_of b.list t.stores b.stamps in
@@ -286,14 +210,14 @@ vote_fits b (Some h) (Some t) fit stores = by_test (h.session == b.number)
 finished_fits : (b : Before) (writes : Option Transaction) → IsFitBefore b → WritesFit b.list writes → LineFits b (finished b writes)
 finished_fits b None fit next = record { list = fit.list; grown = omega arith; session = tt; vote = tt; front = tt }
 finished_fits b (Some t) fit next = record {
-  list = sound-push b.list t fit.list next;
+  list = database-push b.list t fit.list next.above next.bounded next.distinct;
   grown = omega (arith, newest-push b.list t, next.above);
   session = tt;
   vote = tt;
   front = tt;
 }
 
-finish_fits : (b : Before) (v : Option HeldVote) (o : Option OpenTransaction) → IsFitBefore b → VoteFits b.list v → LineFits b (in_transaction b o (λ t. finish_in b v))
+finish_fits : (b : Before) (v : Option Vote) (o : Option OpenTransaction) → IsFitBefore b → VoteFits b.list v → LineFits b (in_transaction b o (λ t. finish_in b v))
 finish_fits b v None fit held = stays b (answer.Refused refusal.NoTransaction) fit tt
 finish_fits b None (Some t) fit held = stays b (answer.Refused refusal.NotVoted) fit tt
 finish_fits b (Some h) (Some t) fit held = by_test (h.session == b.number)
@@ -302,7 +226,7 @@ finish_fits b (Some h) (Some t) fit held = by_test (h.session == b.number)
     by_test true = finished_fits b h.writes fit held
     by_test false = stays b (answer.Refused refusal.NotVoted) fit tt
 
-left_fits : (list : List Transaction) (v : Option HeldVote) (test : Bool) → VoteFits list v → VoteFits list (cond test None v)
+left_fits : (list : List Transaction) (v : Option Vote) (test : Bool) → VoteFits list v → VoteFits list (cond test None v)
 left_fits list v true held = tt
 left_fits list v false held = held
 
@@ -375,40 +299,32 @@ turn_fits s stamps client lines.Finish fit = number_fits s stamps lines.Finish (
 turn_fits s stamps client lines.Abort fit = number_fits s stamps lines.Abort (session_of client s.sessions) fit
 turn_fits s stamps client lines.New fit = number_fits s stamps lines.New (session_of client s.sessions) fit
 
+-- one in which reading failed leaves the state as it was
+failed_fits : (s : State) (d : Done) → IsFit s → TurnFits s (reading_failed s d)
+failed_fits s d fit = record { fit = fit; grown = omega arith; front = tt }
+
+taken_fits : (failed : Bool) (s : State) (stamps : List Stamp) (t : Turn) → IsFit s → TurnFits s (taken failed s stamps t)
+taken_fits false s stamps t fit = turn_fits s stamps t.client t.line fit
+taken_fits true s stamps t fit = by_test (is_reading t.line)
+  where
+    by_test : (test : Bool) → TurnFits s (cond test (reading_failed s (turn_of s stamps t)) (turn_of s stamps t))
+    by_test true = failed_fits s (turn_of s stamps t) fit
+    by_test false = turn_fits s stamps t.client t.line fit
+
 -- ---- runs
 
-next-within : (stamps : List Stamp) → next_number stamps < 2 ^ 64 - 1
-next-within [] = lit< tt
-next-within (stamp ∷ stamps) = number-within stamp
+-- a database without sessions
+start_fits : (list : List Transaction) → IsDatabase list → IsFit (start list)
+start_fits list is = record { list = is; sessions = tt; vote = tt }
 
--- a new database
-pub start_fits : (stamps : List Stamp) → IsFit (start (created stamps))
-unfolding IsDistinct
-start_fits stamps = record {
-  list = record { rising = (tid-above 0 (next_number stamps), tt); bounded = tid-within (next_number stamps) (next-within stamps); distinct = ((tt, tt), tt) };
-  sessions = tt;
-  vote = tt;
-}
+run_fits : (s : State) (stamps : List Stamp) (failed : List Bool) (turns : List Turn) → IsFit s → IsFit (run_from s stamps failed turns).state
+run_fits s stamps failed [] fit = fit
+run_fits s stamps failed (t ∷ turns) fit =
+    let d = taken (first_of failed) s stamps t in
+    run_fits d.state d.stamps (others_of failed) turns (taken_fits (first_of failed) s stamps t fit).fit
 
-pub run_fits : (s : State) (stamps : List Stamp) (turns : List Turn) → IsFit s → IsFit (run_from s stamps turns).state
-run_fits s stamps [] fit = fit
-run_fits s stamps (t ∷ turns) fit =
-    let d = turn_of s stamps t in
-    run_fits d.state d.stamps turns (turn_fits s stamps t.client t.line fit).fit
-
--- ---- databases
-
-rising-at : (n : ℕ) (list : List Transaction) (k : ℕ) → Rises n list → suc k < length (n ∷ map (λ t. t.tid) list) → get_or (n ∷ map (λ t. t.tid) list) k 0 < get_or (n ∷ map (λ t. t.tid) list) (suc k) 0
-rising-at n [] k rises within = absurd (omega arith)
-rising-at n (t ∷ list) zero rises within = rises.0
-rising-at n (t ∷ list) (suc k) rises within = rising-at t.tid list k rises.1 (omega arith)
-
-pub is_database : (list : List Transaction) → IsSoundList list → IsDatabase list
-is_database list sound = record {
-  rising = λ k within. rw add-one (rising-at 0 list k sound.rising (omega arith));
-  bounded = sound.bounded;
-  distinct = All-from_recursion HasDistinct list sound.distinct;
-}
+pub stays_database : TheListStaysADatabase
+stays_database = λ list stamps failed turns is. (run_fits (start list) stamps failed turns (start_fits list is)).list
 
 -- ---- fronts
 
@@ -429,13 +345,13 @@ picked_climbs : (test : Bool) (n m : ℕ) (a : Answer) (xs : List ℕ) → Front
 picked_climbs true n m a xs is below climbs = front_climbs n m a xs is below climbs
 picked_climbs false n m a xs is below climbs = climbs-lower (n + 1) (m + 1) xs (omega arith) climbs
 
-fronts_climb : (client : List ℕ) (s : State) (stamps : List Stamp) (turns : List Turn) → IsFit s → Climbs (newest_tid s.list + 1) (fronts_of client s stamps turns)
-fronts_climb client s stamps [] fit = tt
-fronts_climb client s stamps (t ∷ turns) fit =
-    let d = turn_of s stamps t in
-    let after = turn_fits s stamps t.client t.line fit in
-    picked_climbs (is_turn_of client t) (newest_tid s.list) (newest_tid d.state.list) d.answer (fronts_of client d.state d.stamps turns)
-    after.front after.grown (fronts_climb client d.state d.stamps turns after.fit)
+fronts_climb : (client : List ℕ) (s : State) (stamps : List Stamp) (failed : List Bool) (turns : List Turn) → IsFit s → Climbs (newest_tid s.list + 1) (fronts_of client s stamps failed turns)
+fronts_climb client s stamps failed [] fit = tt
+fronts_climb client s stamps failed (t ∷ turns) fit =
+    let d = taken (first_of failed) s stamps t in
+    let after = taken_fits (first_of failed) s stamps t fit in
+    picked_climbs (is_turn_of client t) (newest_tid s.list) (newest_tid d.state.list) d.answer (fronts_of client d.state d.stamps (others_of failed) turns)
+    after.front after.grown (fronts_climb client d.state d.stamps (others_of failed) turns after.fit)
 
 climbs-above : (n : ℕ) (xs : List ℕ) (j d : ℕ) → Climbs n xs → j < length xs → n ≤ get_or xs j d
 climbs-above n [] j d climbs within = absurd (omega arith)
@@ -449,7 +365,7 @@ climbs-order n (x ∷ xs) zero (suc j) d climbs order within = climbs-above x xs
 climbs-order n (x ∷ xs) (suc i) zero d climbs order within = absurd (omega arith)
 climbs-order n (x ∷ xs) (suc i) (suc j) d climbs order within = climbs-order x xs i j d climbs.1 (omega arith) (omega arith)
 
-pub fronts_in_order : (client : List ℕ) (stamps : List Stamp) (turns : List Turn) → IsNonDecreasing (fronts_of client (start (created stamps)) (stamps_after stamps) turns)
-fronts_in_order client stamps turns = λ i j d order within.
-    climbs-order (newest_tid (created stamps) + 1) (fronts_of client (start (created stamps)) (stamps_after stamps) turns) i j d
-    (fronts_climb client (start (created stamps)) (stamps_after stamps) turns (start_fits stamps)) order within
+pub fronts_in_order : FrontsNeverFall
+fronts_in_order = λ client list stamps failed turns is i j d order within.
+    climbs-order (newest_tid list + 1) (fronts_of client (start list) stamps failed turns) i j d
+    (fronts_climb client (start list) stamps failed turns (start_fits list is)) order within

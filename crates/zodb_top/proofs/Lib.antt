@@ -1,7 +1,13 @@
 pub mod Adding
 pub mod Endings
+pub mod Inputs
+pub mod Joins
 pub mod Running
+pub mod Said
+pub mod Seats
 pub mod Steps
+pub mod Files
+pub mod Fronts
 pub mod Outputs
 pub mod Turns
 pub mod Keeps
@@ -9,7 +15,6 @@ pub mod Views
 pub mod Sessions
 pub mod Shapes
 pub mod Standing
-pub mod Ticking
 pub mod Digits
 pub mod Written
 pub mod Listed

@@ -1,83 +1,168 @@
--- What a run over a new database writes is the output of its script.
-use Rattle.std.proofs.Common.{◌≡◌, ℕ, List, Option, Some, None, refl, subst, sym}
+-- What is written of turns over a store's list.
+use Rattle.std.proofs.Common.{◌≡◌, ℕ, List, [], ◌∷◌, ◌++◌, Option, Some, None, append_assoc, refl, subst, sym, ap, ◌∙◌, arith, ◌≤◌}
+use Rattle.std.specs.Prelude.{IfErr, IfSome, Result, Ok, Err}
+use Rattle.std.specs.Io.KnownBytes.{Appends}
+use Rattle.std.proofs.KnownBytes.{Appends-trans}
 use Rattle.zb_ids.specs.declared.stamp.Stamp.{Stamp}
-use Rattle.zb_outside.specs.Stamps.{stamps_after}
-use Rattle.std.proofs.Common.{Result, Ok, Err, inl, inr, Bool, true, false}
-use Rattle.std.specs.Prelude.{◌⊎◌, ◌≤◌, ◌<◌, length, IfSome, IsOkUnless}
+use Rattle.zb_model.specs.declared.data.Transaction.{Transaction}
 use Rattle.zb_outside.specs.Rose.{Rose}
+use Rattle.zb_outside.specs.RoseLaws.{rose_after, rose_before}
 use Rattle.zb_outside.specs.Written.{AppendsFront}
-use Rattle.zb_outside.specs.WrittenLaws.{no_front}
-use Rattle.zb_script.specs.declared.errors.ScriptError.{ScriptError}
-use Rattle.zb_script.specs.declared.errors.ScriptError.TheVariants as errors
-use Rattle.zb_script.specs.Script.{IsBadLine, IsScript}
+use Rattle.zb_outside.specs.WrittenLaws.{front_more, no_front}
+use Rattle.zb_script.specs.declared.line.Turn.{Turn}
+use Rattle.zodb_top.specs.declared.run.RunError.{RunError}
+use Rattle.zodb_top.specs.declared.run.RunError.TheVariants as errors
 use Rattle.zodb_top.specs.declared.status.Status.{Status}
 use Rattle.zodb_top.specs.declared.status.Status.TheVariants as status
-use Rattle.zb_script.specs.declared.line.Turn.{Turn}
 use Rattle.zodb_top.specs.Machine.{State, start}
-use Rattle.zodb_top.specs.Output.{created, output_from, run_from}
-use Rattle.zodb_top.specs.Program.{HasBadLine, IsInput, IsPastLimit, IsUnlessMemory, IsWritten, OutputFront, RunOutcome, OutputWritten, WritesFront, WritesOutput, bad_line, limit_line, most_bytes, read_fault_line}
-use Rattle.zodb_top.specs.Runs.{IsRun, Runs, RunsFront}
-use Rattle.zodb_top.specs.Seen.{IsNew}
+use Rattle.zodb_top.specs.Output.{run_from}
+use Rattle.zodb_top.specs.Program.{AllAnswered, AnsweredToFault, IsWritten, SomeAnswered}
+use Rattle.zodb_top.specs.Runs.{IsCutShort, IsFaulted, IsRun, Moment, Stops}
+use Rattle.zodb_top.specs.Storing.{SaysStopped, StoreOutcome}
+use Rattle.zodb_top.specs.Texts.{cut_lines, joined, store_fault_line}
 
-pub whole_output : (told mid after : Option (List Stamp)) (old new : State) (turns : List Turn) (taken taken' : Option (List ℕ))
-    → IsNew told mid old → Runs mid after old turns new taken taken' → OutputWritten turns told taken taken'
-whole_output None mid after old new turns taken taken' is runs = tt
-whole_output (Some stamps) mid after old new turns taken taken' is runs =
-    let at : Runs (Some (stamps_after stamps)) after (start (created stamps)) turns new taken taken' =
-    subst (λ (s : State). Runs (Some (stamps_after stamps)) after s turns new taken taken') is.0
-    (subst (λ (m : Option (List Stamp)). Runs m after old turns new taken taken') is.1 runs) in
-    (output_from (start (created stamps)) (stamps_after stamps) turns, refl, at.text)
+-- a front of what follows a text is a front of both
+pub behind_front : (a b c : Option (List ℕ)) (here rest : List ℕ) → Appends a b here → AppendsFront b c rest → AppendsFront a c (here ++ rest)
+behind_front a b c here rest first front =
+    front_more a b c (here ++ rest) rest [] rest (record { front = here; split = refl; appended = first }) (sym (nothing_more rest)) front
+  where
+    nothing_more : (xs : List ℕ) → xs ++ [] ≡ xs
+    nothing_more [] = refl
+    nothing_more (x ∷ xs) = ap (λ (ys : List ℕ). x ∷ ys) (nothing_more xs)
 
-pub front_output : (told mid : Option (List Stamp)) (old : State) (turns : List Turn) (taken taken' : Option (List ℕ))
-    → IsNew told mid old → RunsFront mid old turns taken taken' → OutputFront turns told taken taken'
-front_output None mid old turns taken taken' is front = tt
-front_output (Some stamps) mid old turns taken taken' is front =
-    let at : RunsFront (Some (stamps_after stamps)) (start (created stamps)) turns taken taken' =
-    subst (λ (s : State). RunsFront (Some (stamps_after stamps)) s turns taken taken') is.0
-    (subst (λ (m : Option (List Stamp)). RunsFront m old turns taken taken') is.1 front) in
-    (output_from (start (created stamps)) (stamps_after stamps) turns, refl, at)
+-- a front of a text is a front of it with more behind it
+pub front_before : (a b : Option (List ℕ)) (here rest : List ℕ) → AppendsFront a b here → AppendsFront a b (here ++ rest)
+front_before a b here rest front = record {
+  rest = front.rest ++ rest;
+  before = record {
+    front = front.before.front;
+    split = ap (λ (text : List ℕ). text ++ rest) front.before.split ∙ append_assoc front.before.front front.rest rest;
+    appended = front.before.appended;
+  };
+}
 
-pub nothing_output : (told : Option (List Stamp)) (turns : List Turn) (taken : Option (List ℕ)) → OutputFront turns told taken taken
-nothing_output None turns taken = tt
-nothing_output (Some stamps) turns taken =
-    let text = output_from (start (created stamps)) (stamps_after stamps) turns in
-    (text, refl, no_front taken text)
+pub nothing_answered : (told : Option (List Stamp)) (list : List Transaction) (cut : Option ℕ) (turns : List Turn) (reads : ℕ) (taken : Option (List ℕ))
+    → IfSome told (λ s. SomeAnswered list cut s turns reads reads taken taken told list)
+nothing_answered None list cut turns reads taken = tt
+nothing_answered (Some stamps) list cut turns reads taken = record {
+  failed = [];
+  counted = omega arith;
+  text = no_front taken _;
+  read = 0;
+  stamps_left = refl;
+  count = 0;
+  list_left = refl;
+}
 
--- ---- the outcome of an input
+pub cut_front : (told : Option (List Stamp)) (list : List Transaction) (cut : Option ℕ) (turns : List Turn) (reads : ℕ) (taken taken' : Option (List ℕ)) (lines : List (List ℕ)) → lines ≡ cut_lines cut → AppendsFront taken taken' (joined lines)
+    → IfSome told (λ s. SomeAnswered list cut s turns reads reads taken taken' told list)
+cut_front None list cut turns reads taken taken' lines is wrote = tt
+cut_front (Some stamps) list cut turns reads taken taken' lines is wrote = record {
+  failed = [];
+  counted = omega arith;
+  text = front_before taken taken' (joined (cut_lines cut)) _ (subst (λ (ls : List (List ℕ)). AppendsFront taken taken' (joined ls)) is wrote);
+  read = 0;
+  stamps_left = refl;
+  count = 0;
+  list_left = refl;
+}
 
-pub done : (input : List ℕ) (told : Option (List Stamp)) (old new : Option (List ℕ)) (before now : ℕ) (turns : List Turn) → length input ≤ most_bytes → IsScript input turns → OutputWritten turns told old new
-    → RunOutcome status.Done ⊥ (Some input) told old new before now
-done input told old new before now turns within script text = record { turns = turns; script = (within, script); text = text }
+-- the moment at which the turns begin: the list's first state, behind the line of the tail
+pub record Begins (told : Option (List Stamp)) (list : List Transaction) (cut : Option ℕ) (reads : ℕ) (taken : Option (List ℕ)) (m : Moment) : Type 0 where
+  pub stamps : m.stamps ≡ told
+  pub state : m.state ≡ start list
+  pub reads_is : m.reads ≡ reads
+  pub text : Appends taken m.taken (joined (cut_lines cut))
 
-pub out_of_memory : (input : List ℕ) (told : Option (List Stamp)) (old new : Option (List ℕ)) (before now : ℕ) (turns : List Turn) → length input ≤ most_bytes → IsScript input turns → OutputFront turns told old new
-    → RunOutcome status.NoMemory ⊥ (Some input) told old new before now
-out_of_memory input told old new before now turns within script text = inr (record { turns = turns; script = (within, script); text = text })
+pub begins_so : (told : Option (List Stamp)) (list : List Transaction) (cut : Option ℕ) (reads : ℕ) (taken : Option (List ℕ)) (m : Moment) (lines : List (List ℕ)) → m.stamps ≡ told → m.state ≡ start list → m.reads ≡ reads → lines ≡ cut_lines cut → Appends taken m.taken (joined lines)
+    → Begins told list cut reads taken m
+begins_so told list cut reads taken m lines stamps state reads_is is text = record { stamps = stamps; state = state; reads_is = reads_is; text = subst (λ (ls : List (List ℕ)). Appends taken m.taken (joined ls)) is text }
 
-pub nothing_written : (input : List ℕ) (told : Option (List Stamp)) (old : Option (List ℕ)) (before now : ℕ) → RunOutcome status.NoMemory ⊥ (Some input) told old old before now
-nothing_written input told old before now = inl refl
+module _ (list : List Transaction) (cut : Option ℕ) (turns : List Turn) (reads : ℕ) (taken : Option (List ℕ)) (old new : Moment) (list' : List Transaction) (left : list' ≡ new.state.list) where
+  all_so : (stamps : List Stamp) → Begins (Some stamps) list cut reads taken old → IsRun stamps old turns new → AllAnswered list cut stamps turns reads new.reads taken new.taken new.stamps list'
+  all_so stamps b r =
+      let r' = subst (λ (s : State). IsRun stamps (record { taken = old.taken; stamps = old.stamps; state = s; reads = old.reads }) turns new) b.state r in
+      let r'' = subst (λ (n : ℕ). IsRun stamps (record { taken = old.taken; stamps = old.stamps; state = start list; reads = n }) turns new) b.reads_is r' in record {
+        failed = r''.failed;
+        counted = r''.counted;
+        text = Appends-trans taken old.taken new.taken _ _ b.text r''.text;
+        stamps_left = r''.stamps_left;
+        list_left = left ∙ ap (λ (s : State). s.list) (sym r''.state_left);
+      }
 
-pub sink_failed : (input : List ℕ) (told : Option (List Stamp)) (old new : Option (List ℕ)) (before now : ℕ) (turns : List Turn) → length input ≤ most_bytes → IsScript input turns → OutputFront turns told old new → Rose before now
-    → RunOutcome status.SinkFault ⊥ (Some input) told old new before now
-sink_failed input told old new before now turns within script text rose = (rose, record { turns = turns; script = (within, script); text = text })
+  some_so : (stamps : List Stamp) → Begins (Some stamps) list cut reads taken old → IsCutShort stamps old turns new → SomeAnswered list cut stamps turns reads new.reads taken new.taken new.stamps list'
+  some_so stamps b r =
+      let r' = subst (λ (s : State). IsCutShort stamps (record { taken = old.taken; stamps = old.stamps; state = s; reads = old.reads }) turns new) b.state r in
+      let r'' = subst (λ (n : ℕ). IsCutShort stamps (record { taken = old.taken; stamps = old.stamps; state = start list; reads = n }) turns new) b.reads_is r' in record {
+        failed = r''.failed;
+        counted = r''.counted;
+        text = behind_front taken old.taken new.taken _ _ b.text r''.text;
+        read = r''.read;
+        stamps_left = r''.stamps_left;
+        count = r''.count;
+        list_left = left ∙ r''.list_left;
+      }
 
-pub line_is_bad : (input : List ℕ) (told : Option (List Stamp)) (old new : Option (List ℕ)) (before now n : ℕ) (text : List ℕ) → length input ≤ most_bytes → IsBadLine input n → text ≡ bad_line n → IsWritten old new before now text
-    → RunOutcome status.BadLine ⊥ (Some input) told old new before now
-line_is_bad input told old new before now n text within bad is written =
-    record { number = n; within = within; bad = bad; written = subst (IsWritten old new before now) is written }
+pub all_answered : (told : Option (List Stamp)) (list : List Transaction) (cut : Option ℕ) (turns : List Turn) (reads : ℕ) (taken : Option (List ℕ)) (old new : Moment) (list' : List Transaction) → list' ≡ new.state.list
+    → Begins told list cut reads taken old → IfSome old.stamps (λ s. IsRun s old turns new) → IfSome told (λ s. AllAnswered list cut s turns reads new.reads taken new.taken new.stamps list')
+all_answered None list cut turns reads taken old new list' left b r = tt
+all_answered (Some stamps) list cut turns reads taken old new list' left b r =
+    all_so list cut turns reads taken old new list' left stamps b (subst (λ (o : Option (List Stamp)). IfSome o (λ s. IsRun s old turns new)) b.stamps r)
 
-pub too_long : (unread : Type 0) (left : Option (List ℕ)) (told : Option (List Stamp)) (old new : Option (List ℕ)) (before now : ℕ) (s : Status) → s ≡ status.Limit
-    → IfSome left (λ input. most_bytes < length input) → IsWritten old new before now limit_line → RunOutcome s unread left told old new before now
-too_long unread None told old new before now s is past written = rw is tt
-too_long unread (Some input) told old new before now s is past written = rw is (record { past = past; written = written })
+pub some_answered : (told : Option (List Stamp)) (list : List Transaction) (cut : Option ℕ) (turns : List Turn) (reads : ℕ) (taken : Option (List ℕ)) (old new : Moment) (list' : List Transaction) → list' ≡ new.state.list
+    → Begins told list cut reads taken old → IfSome old.stamps (λ s. IsCutShort s old turns new) → IfSome told (λ s. SomeAnswered list cut s turns reads new.reads taken new.taken new.stamps list')
+some_answered None list cut turns reads taken old new list' left b r = tt
+some_answered (Some stamps) list cut turns reads taken old new list' left b r =
+    some_so list cut turns reads taken old new list' left stamps b (subst (λ (o : Option (List Stamp)). IfSome o (λ s. IsCutShort s old turns new)) b.stamps r)
 
-pub bad_line_named : (unread : Type 0) (left : Option (List ℕ)) (all : List ℕ) (s : Status) → IfSome left (λ input. all ≡ input)
-    → ((n : ℕ) → IsBadLine all n → IsUnlessMemory s status.BadLine)
-    → IfSome left (λ input. (n : ℕ) → length input ≤ most_bytes → IsBadLine input n → ¬ unread → IsUnlessMemory s status.BadLine)
-bad_line_named unread None all s is named = tt
-bad_line_named unread (Some input) all s is named = λ n within bad read. named n (subst (λ (bytes : List ℕ). IsBadLine bytes n) (sym is) bad)
+-- a text, and then one that a sink may fail in
+then_written : (a b c : Option (List ℕ)) (before now : ℕ) (here rest : List ℕ) → Appends a b here → IsWritten b c before now rest → IsWritten a c before now (here ++ rest)
+then_written a b c before now here rest first wrote = record {
+  front = behind_front a b c here rest first wrote.front;
+  whole = λ calm. Appends-trans a b c here rest first (wrote.whole calm);
+}
 
-pub bad_line_asked : (asked unread : Type 0) (left : Option (List ℕ)) (s : Status)
-    → IfSome left (λ input. (n : ℕ) → length input ≤ most_bytes → IsBadLine input n → ¬ unread → IsUnlessMemory s status.BadLine)
-    → IfSome left (λ input. (n : ℕ) → asked → length input ≤ most_bytes → IsBadLine input n → ¬ unread → IsUnlessMemory s status.BadLine)
-bad_line_asked asked unread None s named = tt
-bad_line_asked asked unread (Some input) s named = λ n asks. named n
+-- the count of the sink's faults may have risen before
+sooner : (a b : Option (List ℕ)) (before mid now : ℕ) (text : List ℕ) → before ≤ mid → IsWritten a b mid now text → IsWritten a b before now text
+sooner a b before mid now text le wrote = record { front = wrote.front; whole = λ calm. wrote.whole (λ rose. calm (rose_after before mid now le rose)) }
+
+fault_so : (stamps : List Stamp) (list : List Transaction) (cut : Option ℕ) (turns : List Turn) (reads before mid now : ℕ) (taken taken' : Option (List ℕ)) (old new : Moment) (said : List ℕ) → Begins (Some stamps) list cut reads taken old
+    → before ≤ mid → IsFaulted stamps old turns new → said ≡ store_fault_line → IsWritten new.taken taken' mid now said → AnsweredToFault list cut stamps turns reads new.reads before now taken taken' new.stamps
+fault_so stamps list cut turns reads before mid now taken taken' old new said b le r is wrote =
+    let r' = subst (λ (s : State). IsFaulted stamps (record { taken = old.taken; stamps = old.stamps; state = s; reads = old.reads }) turns new) b.state r in
+    let r'' = subst (λ (n : ℕ). IsFaulted stamps (record { taken = old.taken; stamps = old.stamps; state = start list; reads = n }) turns new) b.reads_is r' in
+    let line = subst (IsWritten new.taken taken' before now) is (sooner new.taken taken' before mid now said le wrote) in record {
+      failed = r''.failed;
+      counted = r''.counted;
+      count = r''.count;
+      written = then_written taken old.taken taken' before now _ _ b.text (then_written old.taken new.taken taken' before now _ _ r''.text line);
+      read = r''.read;
+      stamps_left = r''.stamps_left;
+    }
+
+pub answered_to_fault : (told : Option (List Stamp)) (list : List Transaction) (cut : Option ℕ) (turns : List Turn) (reads before mid now : ℕ) (taken taken' : Option (List ℕ)) (old new : Moment) (said : List ℕ) → Begins told list cut reads taken old
+    → before ≤ mid → IfSome old.stamps (λ s. IsFaulted s old turns new) → said ≡ store_fault_line → IsWritten new.taken taken' mid now said → IfSome told (λ s. AnsweredToFault list cut s turns reads new.reads before now taken taken' new.stamps)
+answered_to_fault None list cut turns reads before mid now taken taken' old new said b le r is wrote = tt
+answered_to_fault (Some stamps) list cut turns reads before mid now taken taken' old new said b le r is wrote =
+    fault_so stamps list cut turns reads before mid now taken taken' old new said b le (subst (λ (o : Option (List Stamp)). IfSome o (λ s. IsFaulted s old turns new)) b.stamps r) is wrote
+
+-- ---- what an error says
+
+pub fault_said : (s : Status) (e : RunError) (old new : Option (List ℕ)) (before now : ℕ) (text : List ℕ) → e ≡ errors.StoreFault → s ≡ status.StoreFault → text ≡ store_fault_line → IsWritten old new before now text → SaysStopped e s old new before now
+fault_said s e old new before now text of is names wrote = rw of (is, subst (IsWritten old new before now) names wrote)
+
+pub error_said : {R : Type 0} (r : Result R RunError) (e : RunError) (P : RunError → Type 0) → r ≡ Err e → IfErr r P → P e
+error_said {R = R} r e P is says = subst (λ (y : Result R RunError). IfErr y P) is says
+
+-- the line of a run that stopped, behind the line of the tail and the replies
+pub stopped_outcome : (e : RunError) (s : Status) (told : Type 0) (list : List Transaction) (cut : Option ℕ) (turns : List Turn) (reads faults faults' before mid now : ℕ) (taken taken' : Option (List ℕ)) (stamps : Option (List Stamp)) (old new : Moment) (list' : List Transaction)
+    → SaysStopped e s new.taken taken' mid now → before ≤ mid → mid ≤ now → list' ≡ new.state.list
+    → (e ≡ errors.SinkFault → Rose before mid) → (e ≡ errors.StoreFault → Rose faults faults')
+    → (told → Begins stamps list cut reads taken old) → (told → Stops e old turns new)
+    → StoreOutcome s told list cut turns reads new.reads faults faults' before now taken taken' stamps new.stamps list'
+stopped_outcome errors.Memory s told list cut turns reads faults faults' before mid now taken taken' stamps old new list' said le le' left sink store begins stops =
+    rw (said.0, said.1) (λ here. some_answered stamps list cut turns reads taken old new list' left (begins here) (stops here))
+stopped_outcome errors.SinkFault s told list cut turns reads faults faults' before mid now taken taken' stamps old new list' said le le' left sink store begins stops =
+    rw (said.0, said.1) (rose_before before mid now (sink refl) le', λ here. some_answered stamps list cut turns reads taken old new list' left (begins here) (stops here))
+stopped_outcome errors.StoreFault s told list cut turns reads faults faults' before mid now taken taken' stamps old new list' said le le' left sink store begins stops =
+    rw said.0 (store refl, λ here. answered_to_fault stamps list cut turns reads before mid now taken taken' old new store_fault_line (begins here) le (stops here) refl said.1)

@@ -1,156 +1,268 @@
--- A run goes on by one turn.
-use Rattle.std.proofs.Common.{◌≡◌, ℕ, List, [], ◌∷◌, ◌++◌, Option, Some, None, length, drop, take, get_or, inl, inr, refl, sym, ap, subst, ◌∙◌, arith, ◌+◌, ◌<◌, ◌≤◌}
+-- A run goes on by one turn, or ends in one.
+use Rattle.std.proofs.Common.{◌≡◌, ℕ, zero, suc, List, [], ◌∷◌, ◌++◌, Option, Some, None, Bool, true, false, cond, length, drop, take, get_or, inl, inr, append-nil, append_assoc, refl, sym, ap, subst, ◌∙◌, arith, ◌+◌, ◌<◌, ◌≤◌}
+use Rattle.std.specs.Prelude.{◌⊎◌, IfErr, IfSome, IsTrue, Result, Ok, Err}
+use Rattle.std.specs.Result.{IsErrAnd}
 use Rattle.std.specs.Io.KnownBytes.{Appends}
-use Rattle.std.proofs.KnownBytes.{Appends-nil}
+use Rattle.std.proofs.KnownBytes.{Appends-nil, Appends-trans}
+use Rattle.std.proofs.lemmas.List.{drop_more, length-append, take_all, take_more, take-append-drop}
 use Rattle.std.proofs.lemmas.Option.{same_Some}
-use Rattle.std.proofs.lemmas.List.{drop_more, drop_all, take_more}
 use Rattle.zb_ids.specs.declared.stamp.Stamp.{Stamp}
-use Rattle.zb_outside.specs.Written.{AppendsBefore, AppendsFront}
-use Rattle.zb_outside.specs.WrittenLaws.{all_before, front_more, more_before, no_front, none_before}
+use Rattle.zb_outside.specs.Rose.{Rose}
+use Rattle.zb_outside.specs.Written.{AppendsFront}
+use Rattle.zb_outside.specs.WrittenLaws.{front_more, no_front, none_before, more_before}
 use Rattle.zb_script.specs.declared.answer.Answer.{Answer}
 use Rattle.zb_script.specs.declared.line.Turn.{Turn}
 use Rattle.zb_script.specs.Answers.{reply_text}
-use Rattle.zodb_top.specs.Machine.{Done, State, turn_of}
-use Rattle.zodb_top.specs.Output.{Ran, output_from, run_from}
-use Rattle.zodb_top.specs.Runs.{FrontTicks, IsReplied, IsRun, IsUnderWay, Leads, Replies, RepliesFront, Runs, RunsFront, SoFar, Ticks}
-use Rattle.zodb_top.specs.Steps.{IsDone, IsTurn}
+use Rattle.zodb_top.specs.declared.run.RunError.{RunError}
+use Rattle.zodb_top.specs.declared.run.RunError.TheVariants as errors
+use Rattle.zodb_top.specs.Machine.{Done, State, is_reading, reading_failed, taken, turn_of}
+use Rattle.zodb_top.specs.Output.{IsCounted, Ran, behind_reply, first_of, others_of, run_from}
+use Rattle.zodb_top.specs.Runs.{IsCutShort, IsFaulted, IsRun, Moment, Runs, Stops}
+use Rattle.zodb_top.specs.Steps.{IsDone, IsDoneOr, IsTurn, Ticks}
+use Rattle.zodb_top.proofs.Joins.{counted_join, counted_later, run_join, run_past, take_over}
+
+-- ---- by a clock that tells
+
+-- where the clock tells, what holds of its stamps
+told_on : (P : List Stamp → Type 0) (o : Option (List Stamp)) (stamps : List Stamp) → o ≡ Some stamps → IfSome o P → P stamps
+told_on P o stamps is holds = subst (λ (x : Option (List Stamp)). IfSome x P) is holds
+
+told_so : (P : List Stamp → Type 0) (o : Option (List Stamp)) (stamps : List Stamp) → o ≡ Some stamps → P stamps → IfSome o P
+told_so P o stamps is holds = subst (λ (x : Option (List Stamp)). IfSome x P) (sym is) holds
+
+-- and where it doesn't, nothing is said
+untold : (P : List Stamp → Type 0) (o : Option (List Stamp)) → o ≡ None → IfSome o P
+untold P o is = subst (λ (x : Option (List Stamp)). IfSome x P) (sym is) tt
 
 -- ---- one turn
 
-pub replied : (told after : Option (List Stamp)) (old new : State) (t : Turn) (a : Answer) (taken taken' : Option (List ℕ)) (text : List ℕ)
-    → IsTurn told after old t a new → text ≡ reply_text t.client a → Appends taken taken' text → Replies told after old t new taken taken'
-replied None after old new t a taken taken' text turn is wrote = tt
-replied (Some stamps) after old new t a taken taken' text turn is wrote = record {
-  text = subst (Appends taken taken') (is ∙ ap (reply_text t.client) (sym turn.answer)) wrote;
-  state = turn.state;
-  stamps = turn.stamps;
-}
+-- what a turn's answer is: that of the machine, or that reading failed
+pub record IsTaken (stamps : List Stamp) (old : Moment) (t : Turn) (a : Answer) (state : State) (left : Option (List Stamp)) (reads : ℕ) : Type 0 where
+  pub failed : Bool
+  pub counted : IsCounted old.reads (failed ∷ []) reads
+  pub done : IsDone (taken failed old.state stamps t) a state left
 
-pub replied_front : (told after : Option (List Stamp)) (old new : State) (t : Turn) (a : Answer) (taken taken' : Option (List ℕ)) (text : List ℕ)
-    → IsTurn told after old t a new → text ≡ reply_text t.client a → AppendsFront taken taken' text → RepliesFront told old t taken taken'
-replied_front None after old new t a taken taken' text turn is wrote = tt
-replied_front (Some stamps) after old new t a taken taken' text turn is wrote =
-    subst (AppendsFront taken taken') (is ∙ ap (reply_text t.client) (sym turn.answer)) wrote
+taken_so : (stamps : List Stamp) (old : Moment) (t : Turn) (a : Answer) (state : State) (left : Option (List Stamp)) (reads : ℕ) → old.reads ≤ reads
+    → IsDoneOr (IsTrue (is_reading t.line) × Rose old.reads reads) old.state (turn_of old.state stamps t) a state left → IsTaken stamps old t a state left reads
+taken_so stamps old t a state left reads counted (inl done) = record { failed = false; counted = (reads, counted, omega arith); done = done }
+taken_so stamps old t a state left reads counted (inr ((reading, rose), done)) =
+    let is : taken true old.state stamps t ≡ reading_failed old.state (turn_of old.state stamps t) =
+    ap (λ (test : Bool). cond test (reading_failed old.state (turn_of old.state stamps t)) (turn_of old.state stamps t)) reading in
+    record { failed = true; counted = (reads, rose, omega arith); done = subst (λ (d : Done). IsDone d a state left) (sym is) done }
 
-pub nothing_replied : (told : Option (List Stamp)) (old : State) (t : Turn) (taken : Option (List ℕ)) → RepliesFront told old t taken taken
-nothing_replied None old t taken = tt
-nothing_replied (Some stamps) old t taken = no_front taken (reply_text t.client (turn_of old stamps t).answer)
+replied_so : (stamps : List Stamp) (old new : Moment) (t : Turn) (a : Answer) → old.reads ≤ new.reads
+    → IsDoneOr (IsTrue (is_reading t.line) × Rose old.reads new.reads) old.state (turn_of old.state stamps t) a new.state new.stamps → Appends old.taken new.taken (reply_text t.client a)
+    → IsRun stamps old (t ∷ []) new
+replied_so stamps old new t a counted turn wrote =
+    let k = taken_so stamps old t a new.state new.stamps new.reads counted turn in record {
+      failed = k.failed ∷ [];
+      each = refl;
+      counted = k.counted;
+      text = subst (Appends old.taken new.taken) (ap (reply_text t.client) (sym k.done.answer) ∙ sym (append-nil (reply_text t.client (taken k.failed old.state stamps t).answer))) wrote;
+      state_left = k.done.state;
+      stamps_left = k.done.stamps;
+    }
 
-pub ticked : (told after : Option (List Stamp)) (old new : State) (t : Turn) (a : Answer) → IsTurn told after old t a new → Ticks told after old t
-ticked None after old new t a turn = tt
-ticked (Some stamps) after old new t a turn = inr turn.stamps
+-- a turn was answered, and its reply was written
+pub replied : (told : Option (List Stamp)) (old new : Moment) (t : Turn) (a : Answer) (text : List ℕ) → old.stamps ≡ told → old.reads ≤ new.reads
+    → IsTurn (Rose old.reads new.reads) told new.stamps old.state t a new.state → text ≡ reply_text t.client a → Appends old.taken new.taken text
+    → Runs old (t ∷ []) new
+replied None old new t a text is counted turn says wrote = untold (λ stamps. IsRun stamps old (t ∷ []) new) old.stamps is
+replied (Some stamps) old new t a text is counted turn says wrote = told_so (λ s. IsRun s old (t ∷ []) new) old.stamps stamps is (replied_so stamps old new t a counted turn (subst (Appends old.taken new.taken) says wrote))
 
-pub not_ticked : (told after : Option (List Stamp)) (old : State) (t : Turn) → after ≡ told → Ticks told after old t
-not_ticked None after old t same = tt
-not_ticked (Some stamps) after old t same = inl same
+cut_so : (stamps : List Stamp) (old new : Moment) (t : Turn) (a : Answer) → old.reads ≤ new.reads
+    → IsDoneOr (IsTrue (is_reading t.line) × Rose old.reads new.reads) old.state (turn_of old.state stamps t) a new.state new.stamps → AppendsFront old.taken new.taken (reply_text t.client a)
+    → IsCutShort stamps old (t ∷ []) new
+cut_so stamps old new t a counted turn wrote =
+    let k = taken_so stamps old t a new.state new.stamps new.reads counted turn in record {
+      failed = k.failed ∷ [];
+      counted = k.counted;
+      text = subst (AppendsFront old.taken new.taken) (ap (reply_text t.client) (sym k.done.answer) ∙ sym (append-nil (reply_text t.client (taken k.failed old.state stamps t).answer))) wrote;
+      read = 1;
+      stamps_left = k.done.stamps;
+      count = 1;
+      list_left = ap (λ (s : State). s.list) (sym k.done.state);
+    }
 
--- ---- a run
+-- a turn was answered, and a front of its reply was written, or nothing of it
+pub cut_reply : (told : Option (List Stamp)) (old new : Moment) (t : Turn) (a : Answer) (text : List ℕ) → old.stamps ≡ told → old.reads ≤ new.reads
+    → IsTurn (Rose old.reads new.reads) told new.stamps old.state t a new.state → text ≡ reply_text t.client a → AppendsFront old.taken new.taken text
+    → IfSome old.stamps (λ stamps. IsCutShort stamps old (t ∷ []) new)
+cut_reply None old new t a text is counted turn says wrote = untold (λ stamps. IsCutShort stamps old (t ∷ []) new) old.stamps is
+cut_reply (Some stamps) old new t a text is counted turn says wrote = told_so (λ s. IsCutShort s old (t ∷ []) new) old.stamps stamps is (cut_so stamps old new t a counted turn (subst (AppendsFront old.taken new.taken) says wrote))
 
-pub start_run : (told : Option (List Stamp)) (old : State) (turns : List Turn) (taken : Option (List ℕ)) → SoFar told told old old turns (drop 0 turns) taken taken
-start_run None old turns taken = tt
-start_run (Some stamps) old turns taken = record { text = none_before taken (run_from old stamps turns).text; state = refl; stamps = refl }
+pub no_reply : (told : Option (List Stamp)) (old new : Moment) (t : Turn) (a : Answer) → old.stamps ≡ told → old.reads ≤ new.reads
+    → IsTurn (Rose old.reads new.reads) told new.stamps old.state t a new.state → new.taken ≡ old.taken
+    → IfSome old.stamps (λ stamps. IsCutShort stamps old (t ∷ []) new)
+no_reply told old new t a is counted turn same =
+    cut_reply told old new t a (reply_text t.client a) is counted turn refl (subst (λ (taken : Option (List ℕ)). AppendsFront old.taken taken (reply_text t.client a)) (sym same) (no_front old.taken (reply_text t.client a)))
 
-one_more : (told mid after : Option (List Stamp)) (old s s' : State) (whole rest : List Turn) (t : Turn) (taken between taken' : Option (List ℕ))
-    → SoFar told mid old s whole (t ∷ rest) taken between → Replies mid after s t s' between taken' → SoFar told after old s' whole rest taken taken'
-one_more None mid after old s s' whole rest t taken between taken' so_far reply = tt
-one_more (Some stamps) None after old s s' whole rest t taken between taken' so_far reply = absurd so_far
-one_more (Some stamps) (Some m) after old s s' whole rest t taken between taken' so_far reply =
-    let d = turn_of s m t in
-    let text = reply_text t.client d.answer in
-    let later : IsUnderWay (run_from old stamps whole) (run_from d.state d.stamps rest) taken taken' = record {
-      text = more_before taken between taken' (run_from old stamps whole).text text (run_from d.state d.stamps rest).text (run_from s m (t ∷ rest)).text so_far.text refl reply.text;
-      state = so_far.state;
-      stamps = so_far.stamps;
-    } in
-    subst (λ (o : Option (List Stamp)). SoFar (Some stamps) o old s' whole rest taken taken') (sym reply.stamps)
-    (subst (λ (x : State). IsUnderWay (run_from old stamps whole) (run_from x d.stamps rest) taken taken') reply.state later)
+-- how many turns the clock was read for
+read_for : (stamps : List Stamp) (old : Moment) (t : Turn) (after : Option (List Stamp)) → (after ≡ Some stamps) ⊎ (after ≡ Some (turn_of old.state stamps t).stamps)
+    → (n : ℕ) × (after ≡ Some (run_from old.state stamps [] (take n (t ∷ []))).stamps)
+read_for stamps old t after (inl same) = (0, same)
+read_for stamps old t after (inr read) = (1, read)
 
-pub go_on : (told mid after : Option (List Stamp)) (old s s' : State) (turns : List Turn) (i : ℕ) (t : Turn) (taken between taken' : Option (List ℕ))
-    → i < length turns → t ≡ get_or turns i t
-    → SoFar told mid old s turns (drop i turns) taken between → Replies mid after s t s' between taken' → SoFar told after old s' turns (drop (i + 1) turns) taken taken'
-go_on told mid after old s s' turns i t taken between taken' within is so_far reply =
-    let split : drop i turns ≡ t ∷ drop (i + 1) turns = drop_more turns i t within ∙ ap (λ (x : Turn). x ∷ drop (i + 1) turns) (sym is) in
-    one_more told mid after old s s' turns (drop (i + 1) turns) t taken between taken'
-    (subst (λ (rest : List Turn). SoFar told mid old s turns rest taken between) split so_far) reply
+unanswered_so : (stamps : List Stamp) (old new : Moment) (t : Turn) → old.reads ≤ new.reads → (new.stamps ≡ Some stamps) ⊎ (new.stamps ≡ Some (turn_of old.state stamps t).stamps)
+    → new.state.list ≡ old.state.list → new.taken ≡ old.taken → IsCutShort stamps old (t ∷ []) new
+unanswered_so stamps old new t counted ticks same nothing =
+    let n = read_for stamps old t new.stamps ticks in record {
+      failed = [];
+      counted = counted;
+      text = subst (λ (taken : Option (List ℕ)). AppendsFront old.taken taken (run_from old.state stamps [] (t ∷ [])).text) (sym nothing) (no_front old.taken _);
+      read = n.0;
+      stamps_left = n.1;
+      count = 0;
+      list_left = same;
+    }
 
-over : (told after : Option (List Stamp)) (old new : State) (turns : List Turn) (taken taken' : Option (List ℕ)) → SoFar told after old new turns [] taken taken' → Runs told after old turns new taken taken'
-over None after old new turns taken taken' so_far = tt
-over (Some stamps) None old new turns taken taken' so_far = absurd so_far
-over (Some stamps) (Some m) old new turns taken taken' so_far = record {
-  text = all_before taken taken' taken' (run_from old stamps turns).text [] so_far.text (Appends-nil taken');
-  state = sym so_far.state;
-  stamps = ap (λ (x : List Stamp). Some x) so_far.stamps;
-}
+-- a turn wasn't answered for want of memory
+pub unanswered : (told : Option (List Stamp)) (old new : Moment) (t : Turn) → old.stamps ≡ told → old.reads ≤ new.reads → Ticks told new.stamps old.state t
+    → new.state.list ≡ old.state.list → new.taken ≡ old.taken → IfSome old.stamps (λ stamps. IsCutShort stamps old (t ∷ []) new)
+unanswered None old new t is counted ticks same nothing = untold (λ stamps. IsCutShort stamps old (t ∷ []) new) old.stamps is
+unanswered (Some stamps) old new t is counted ticks same nothing = told_so (λ s. IsCutShort s old (t ∷ []) new) old.stamps stamps is (unanswered_so stamps old new t counted ticks same nothing)
 
-pub all_run : (told after : Option (List Stamp)) (old new : State) (turns : List Turn) (i : ℕ) (taken taken' : Option (List ℕ)) → length turns ≤ i
-    → SoFar told after old new turns (drop i turns) taken taken' → Runs told after old turns new taken taken'
-all_run told after old new turns i taken taken' past so_far =
-    over told after old new turns taken taken' (subst (λ (rest : List Turn). SoFar told after old new turns rest taken taken') (drop_all i turns past) so_far)
+faulted_so : (stamps : List Stamp) (old new : Moment) (t : Turn) → old.reads ≤ new.reads → (new.stamps ≡ Some stamps) ⊎ (new.stamps ≡ Some (turn_of old.state stamps t).stamps)
+    → new.taken ≡ old.taken → IsFaulted stamps old (t ∷ []) new
+faulted_so stamps old new t counted ticks nothing =
+    let n = read_for stamps old t new.stamps ticks in record {
+      failed = [];
+      counted = counted;
+      count = 0;
+      text = subst (λ (taken : Option (List ℕ)). Appends old.taken taken []) (sym nothing) (Appends-nil old.taken);
+      read = n.0;
+      stamps_left = n.1;
+    }
 
-one_front : (told mid : Option (List Stamp)) (old s : State) (whole rest : List Turn) (t : Turn) (taken between taken' : Option (List ℕ))
-    → SoFar told mid old s whole (t ∷ rest) taken between → RepliesFront mid s t between taken' → RunsFront told old whole taken taken'
-one_front None mid old s whole rest t taken between taken' so_far reply = tt
-one_front (Some stamps) None old s whole rest t taken between taken' so_far reply = absurd so_far
-one_front (Some stamps) (Some m) old s whole rest t taken between taken' so_far reply =
-    let d = turn_of s m t in
-    front_more taken between taken' (run_from old stamps whole).text (reply_text t.client d.answer) (run_from d.state d.stamps rest).text (run_from s m (t ∷ rest)).text so_far.text refl reply
+-- the store failed in a turn
+pub store_faulted : (told : Option (List Stamp)) (old new : Moment) (t : Turn) → old.stamps ≡ told → old.reads ≤ new.reads → Ticks told new.stamps old.state t
+    → new.taken ≡ old.taken → IfSome old.stamps (λ stamps. IsFaulted stamps old (t ∷ []) new)
+store_faulted None old new t is counted ticks nothing = untold (λ stamps. IsFaulted stamps old (t ∷ []) new) old.stamps is
+store_faulted (Some stamps) old new t is counted ticks nothing = told_so (λ s. IsFaulted s old (t ∷ []) new) old.stamps stamps is (faulted_so stamps old new t counted ticks nothing)
 
-pub front_run : (told mid : Option (List Stamp)) (old s : State) (turns : List Turn) (i : ℕ) (t : Turn) (taken between taken' : Option (List ℕ))
-    → i < length turns → t ≡ get_or turns i t
-    → SoFar told mid old s turns (drop i turns) taken between → RepliesFront mid s t between taken' → RunsFront told old turns taken taken'
-front_run told mid old s turns i t taken between taken' within is so_far reply =
-    let split : drop i turns ≡ t ∷ drop (i + 1) turns = drop_more turns i t within ∙ ap (λ (x : Turn). x ∷ drop (i + 1) turns) (sym is) in
-    one_front told mid old s turns (drop (i + 1) turns) t taken between taken'
-    (subst (λ (rest : List Turn). SoFar told mid old s turns rest taken between) split so_far) reply
+-- ---- turns behind turns
 
--- ---- the clock in a run
+pub start_run : (m : Moment) (turns : List Turn) → Runs m (take 0 turns) m
+start_run m turns = by_stamps m.stamps refl
+  where
+    by_stamps : (told : Option (List Stamp)) → m.stamps ≡ told → IfSome told (λ stamps. IsRun stamps m [] m)
+    by_stamps None is = tt
+    by_stamps (Some stamps) is = record { failed = []; each = refl; counted = omega arith; text = Appends-nil m.taken; state_left = refl; stamps_left = is }
 
--- one turn more
-run_more : (s : State) (stamps : List Stamp) (front : List Turn) (t : Turn)
-    → ((run_from s stamps (front ++ t ∷ [])).state ≡ (turn_of (run_from s stamps front).state (run_from s stamps front).stamps t).state)
-    × ((run_from s stamps (front ++ t ∷ [])).stamps ≡ (turn_of (run_from s stamps front).state (run_from s stamps front).stamps t).stamps)
-run_more s stamps [] t = (refl, refl)
-run_more s stamps (u ∷ front) t = run_more (turn_of s stamps u).state (turn_of s stamps u).stamps front t
+module _ (stamps : List Stamp) (old mid new : Moment) (front : List Turn) (t : Turn) (rest : List Turn) (r : IsRun stamps old front mid) where
+  abbrev mid_stamps : List Stamp
+  mid_stamps = (run_from old.state stamps r.failed front).stamps
 
-pub start_led : (told : Option (List Stamp)) (old : State) (turns : List Turn) → Leads told told old (take 0 turns) old
-start_led None old turns = tt
-start_led (Some stamps) old turns = (refl, refl)
+  -- from the state that the front leaves
+  behind : (g : List Bool) (b : List Turn) → run_from old.state stamps (r.failed ++ g) (front ++ b) ≡ behind_reply (run_from old.state stamps r.failed front).text (run_from mid.state mid_stamps g b)
+  behind g b =
+      run_join old.state stamps r.failed g front b r.each
+      ∙ ap (λ (s : State). behind_reply (run_from old.state stamps r.failed front).text (run_from s mid_stamps g b)) r.state_left
 
-led_more : (told mid after : Option (List Stamp)) (old s s' : State) (front : List Turn) (t : Turn) (between taken' : Option (List ℕ))
-    → Leads told mid old front s → Replies mid after s t s' between taken' → Leads told after old (front ++ t ∷ []) s'
-led_more None mid after old s s' front t between taken' led reply = tt
-led_more (Some stamps) None after old s s' front t between taken' led reply = absurd cc
-led_more (Some stamps) (Some m) after old s s' front t between taken' led reply =
-    let r = run_from old stamps front in
-    let more = run_more old stamps front t in
-    let same : turn_of r.state r.stamps t ≡ turn_of s m t =
-    ap (λ (x : State). turn_of x r.stamps t) led.0 ∙ ap (λ (x : List Stamp). turn_of s x t) (sym (same_Some _ _ led.1)) in
-    (more.0 ∙ ap (λ (d : Done). d.state) same ∙ reply.state, reply.stamps ∙ ap (λ (d : Done). Some d.stamps) (sym same) ∙ ap (λ (x : List Stamp). Some x) (sym more.1))
+  go_on_so : IsRun mid_stamps mid (t ∷ []) new → IsRun stamps old (front ++ t ∷ []) new
+  go_on_so x = record {
+    failed = r.failed ++ x.failed;
+    each = length-append r.failed x.failed ∙ omega (arith, r.each, x.each, length-append front (t ∷ []));
+    counted = counted_join old.reads mid.reads new.reads r.failed x.failed r.counted x.counted;
+    text = subst (Appends old.taken new.taken) (ap (λ (y : Ran). y.text) (sym (behind x.failed (t ∷ [])))) (Appends-trans old.taken mid.taken new.taken (run_from old.state stamps r.failed front).text (run_from mid.state mid_stamps x.failed (t ∷ [])).text r.text x.text);
+    state_left = ap (λ (y : Ran). y.state) (behind x.failed (t ∷ [])) ∙ x.state_left;
+    stamps_left = x.stamps_left ∙ ap (λ (y : Ran). Some y.stamps) (sym (behind x.failed (t ∷ [])));
+  }
 
-taken_more : (turns : List Turn) (i : ℕ) (t : Turn) → i < length turns → t ≡ get_or turns i t → take (i + 1) turns ≡ take i turns ++ t ∷ []
-taken_more turns i t within is = take_more turns i t within ∙ ap (λ (x : Turn). take i turns ++ x ∷ []) (sym is)
+  -- the first of these turns: the front, or the front and the turn
+  upto : (g : List Bool) (n : ℕ) → (k : ℕ) × (run_from old.state stamps (r.failed ++ g) (take k (front ++ t ∷ rest)) ≡ behind_reply (run_from old.state stamps r.failed front).text (run_from mid.state mid_stamps g (take n (t ∷ []))))
+  upto g zero = (
+    length front + 0,
+    ap (run_from old.state stamps (r.failed ++ g)) (take_over front (t ∷ rest) 0) ∙ behind g [],
+  )
+  upto g (suc n) = (
+    length front + 1,
+    ap (run_from old.state stamps (r.failed ++ g)) (take_over front (t ∷ rest) 1) ∙ behind g (t ∷ []) ∙ ap (λ (b : List Turn). behind_reply (run_from old.state stamps r.failed front).text (run_from mid.state mid_stamps g b)) (one n),
+  )
+    where
+      one : (n : ℕ) → t ∷ [] ≡ take (suc n) (t ∷ [])
+      one zero = refl
+      one (suc n) = refl
 
-pub led_on : (told mid after : Option (List Stamp)) (old s s' : State) (turns : List Turn) (i : ℕ) (t : Turn) (between taken' : Option (List ℕ))
-    → i < length turns → t ≡ get_or turns i t
-    → Leads told mid old (take i turns) s → Replies mid after s t s' between taken' → Leads told after old (take (i + 1) turns) s'
-led_on told mid after old s s' turns i t between taken' within is led reply =
-    subst (λ (front : List Turn). Leads told after old front s') (sym (taken_more turns i t within is))
-    (led_more told mid after old s s' (take i turns) t between taken' led reply)
+  -- the reply of the turn comes first of what follows
+  first_reply : (g : List Bool) → (more : List ℕ) × ((run_from old.state stamps (r.failed ++ g) (front ++ t ∷ rest)).text ≡ (run_from old.state stamps r.failed front).text ++ ((run_from mid.state mid_stamps g (t ∷ [])).text ++ more))
+  first_reply g =
+      let d = taken (first_of g) mid.state mid_stamps t in
+      let more = (run_from d.state d.stamps (others_of g) rest).text in (
+        more,
+        ap (λ (y : Ran). y.text) (behind g (t ∷ rest)) ∙ ap (λ (text : List ℕ). (run_from old.state stamps r.failed front).text ++ (text ++ more)) (sym (append-nil (reply_text t.client d.answer))),
+      )
 
-ticks_more : (told mid after : Option (List Stamp)) (old s : State) (turns : List Turn) (i : ℕ) (t : Turn) → take (i + 1) turns ≡ take i turns ++ t ∷ []
-    → Leads told mid old (take i turns) s → Ticks mid after s t → FrontTicks told after old turns
-ticks_more None mid after old s turns i t one led ticks = tt
-ticks_more (Some stamps) None after old s turns i t one led ticks = absurd cc
-ticks_more (Some stamps) (Some m) after old s turns i t one led (inl same) = (i, same ∙ led.1)
-ticks_more (Some stamps) (Some m) after old s turns i t one led (inr read) =
-    let r = run_from old stamps (take i turns) in
-    let same : turn_of r.state r.stamps t ≡ turn_of s m t =
-    ap (λ (x : State). turn_of x r.stamps t) led.0 ∙ ap (λ (x : List Stamp). turn_of s x t) (sym (same_Some _ _ led.1)) in (
-      i + 1,
-      read ∙ ap (λ (d : Done). Some d.stamps) (sym same) ∙ ap (λ (x : List Stamp). Some x) (sym (run_more old stamps (take i turns) t).1)
-          ∙ ap (λ (front : List Turn). Some (run_from old stamps front).stamps) (sym one),
-    )
+  cut_short_so : IsCutShort mid_stamps mid (t ∷ []) new → IsCutShort stamps old (front ++ t ∷ rest) new
+  cut_short_so x =
+      let clock = upto x.failed x.read in
+      let list = upto x.failed x.count in
+      let text = first_reply x.failed in record {
+        failed = r.failed ++ x.failed;
+        counted = counted_join old.reads mid.reads new.reads r.failed x.failed r.counted x.counted;
+        text = subst (AppendsFront old.taken new.taken) (sym text.1)
+            (front_more old.taken mid.taken new.taken ((run_from old.state stamps r.failed front).text ++ ((run_from mid.state mid_stamps x.failed (t ∷ [])).text ++ text.0)) (run_from mid.state mid_stamps x.failed (t ∷ [])).text text.0 ((run_from mid.state mid_stamps x.failed (t ∷ [])).text ++ text.0)
+            (record { front = (run_from old.state stamps r.failed front).text; split = refl; appended = r.text }) refl x.text);
+        read = clock.0;
+        stamps_left = x.stamps_left ∙ ap (λ (y : Ran). Some y.stamps) (sym clock.1);
+        count = list.0;
+        list_left = x.list_left ∙ ap (λ (y : Ran). y.state.list) (sym list.1);
+      }
 
-pub front_ticks : (told mid after : Option (List Stamp)) (old s : State) (turns : List Turn) (i : ℕ) (t : Turn) → i < length turns → t ≡ get_or turns i t
-    → Leads told mid old (take i turns) s → Ticks mid after s t → FrontTicks told after old turns
-front_ticks told mid after old s turns i t within is led ticks = ticks_more told mid after old s turns i t (taken_more turns i t within is) led ticks
+  faulted_on_so : IsFaulted mid_stamps mid (t ∷ []) new → IsFaulted stamps old (front ++ t ∷ rest) new
+  faulted_on_so x =
+      let clock = upto x.failed x.read in
+      let so_far = upto x.failed x.count in record {
+        failed = r.failed ++ x.failed;
+        counted = counted_join old.reads mid.reads new.reads r.failed x.failed r.counted x.counted;
+        count = so_far.0;
+        text = subst (Appends old.taken new.taken) (ap (λ (y : Ran). y.text) (sym so_far.1)) (Appends-trans old.taken mid.taken new.taken (run_from old.state stamps r.failed front).text (run_from mid.state mid_stamps x.failed (take x.count (t ∷ []))).text r.text x.text);
+        read = clock.0;
+        stamps_left = x.stamps_left ∙ ap (λ (y : Ran). Some y.stamps) (sym clock.1);
+      }
+
+joined_run : (told : Option (List Stamp)) (old mid new : Moment) (front : List Turn) (t : Turn) → IfSome told (λ stamps. IsRun stamps old front mid) → Runs mid (t ∷ []) new → IfSome told (λ stamps. IsRun stamps old (front ++ t ∷ []) new)
+joined_run None old mid new front t r x = tt
+joined_run (Some stamps) old mid new front t r x =
+    go_on_so stamps old mid new front t [] r (told_on (λ s. IsRun s mid (t ∷ []) new) mid.stamps (run_from old.state stamps r.failed front).stamps r.stamps_left x)
+
+joined_cut : (told : Option (List Stamp)) (old mid new : Moment) (front : List Turn) (t : Turn) (rest : List Turn) → IfSome told (λ stamps. IsRun stamps old front mid) → IfSome mid.stamps (λ stamps. IsCutShort stamps mid (t ∷ []) new)
+    → IfSome told (λ stamps. IsCutShort stamps old (front ++ t ∷ rest) new)
+joined_cut None old mid new front t rest r x = tt
+joined_cut (Some stamps) old mid new front t rest r x =
+    cut_short_so stamps old mid new front t rest r (told_on (λ s. IsCutShort s mid (t ∷ []) new) mid.stamps (run_from old.state stamps r.failed front).stamps r.stamps_left x)
+
+joined_fault : (told : Option (List Stamp)) (old mid new : Moment) (front : List Turn) (t : Turn) (rest : List Turn) → IfSome told (λ stamps. IsRun stamps old front mid) → IfSome mid.stamps (λ stamps. IsFaulted stamps mid (t ∷ []) new)
+    → IfSome told (λ stamps. IsFaulted stamps old (front ++ t ∷ rest) new)
+joined_fault None old mid new front t rest r x = tt
+joined_fault (Some stamps) old mid new front t rest r x =
+    faulted_on_so stamps old mid new front t rest r (told_on (λ s. IsFaulted s mid (t ∷ []) new) mid.stamps (run_from old.state stamps r.failed front).stamps r.stamps_left x)
+
+-- ---- in the turns
+
+one_more : (turns : List Turn) (i : ℕ) (t : Turn) → i < length turns → t ≡ get_or turns i t → take (i + 1) turns ≡ take i turns ++ t ∷ []
+one_more turns i t within is = take_more turns i t within ∙ ap (λ (x : Turn). take i turns ++ x ∷ []) (sym is)
+
+parted : (turns : List Turn) (i : ℕ) (t : Turn) → i < length turns → t ≡ get_or turns i t → turns ≡ take i turns ++ t ∷ drop (i + 1) turns
+parted turns i t within is =
+    sym (take-append-drop i turns) ∙ ap (λ (rest : List Turn). take i turns ++ rest) (drop_more turns i t within ∙ ap (λ (x : Turn). x ∷ drop (i + 1) turns) (sym is))
+
+pub go_on : (old mid new : Moment) (turns : List Turn) (i : ℕ) (t : Turn) → i < length turns → t ≡ get_or turns i t → Runs old (take i turns) mid → Runs mid (t ∷ []) new → Runs old (take (i + 1) turns) new
+go_on old mid new turns i t within is r x =
+    subst (λ (front : List Turn). Runs old front new) (sym (one_more turns i t within is)) (joined_run old.stamps old mid new (take i turns) t r x)
+
+pub all_run : (old new : Moment) (turns : List Turn) (i : ℕ) → length turns ≤ i → Runs old (take i turns) new → Runs old turns new
+all_run old new turns i past r = subst (λ (front : List Turn). Runs old front new) (take_all i turns past) r
+
+pub stops_here : (e : RunError) (old mid new : Moment) (turns : List Turn) (i : ℕ) (t : Turn) → i < length turns → t ≡ get_or turns i t → Runs old (take i turns) mid → Stops e mid (t ∷ []) new → Stops e old turns new
+stops_here e old mid new turns i t within is r x = subst (λ (all : List Turn). Stops e old all new) (sym (parted turns i t within is)) (by_error e x)
+  where
+    by_error : (e : RunError) → Stops e mid (t ∷ []) new → Stops e old (take i turns ++ t ∷ drop (i + 1) turns) new
+    by_error errors.Memory x = joined_cut old.stamps old mid new (take i turns) t (drop (i + 1) turns) r x
+    by_error errors.SinkFault x = joined_cut old.stamps old mid new (take i turns) t (drop (i + 1) turns) r x
+    by_error errors.StoreFault x = joined_fault old.stamps old mid new (take i turns) t (drop (i + 1) turns) r x
+
+-- what an error says is said of what `?` hands on
+pub stops_with : {T : Type 0} (r : Result T RunError) (e : RunError) (old new : Moment) (turns : List Turn) → IsErrAnd r (λ x. x ≡ e) → Stops e old turns new → IfErr r (λ x. Stops x old turns new)
+stops_with (Ok x) e old new turns is stops = tt
+stops_with (Err x) e old new turns is stops = subst (λ (y : RunError). Stops y old turns new) (sym is) stops

@@ -19,9 +19,8 @@ use Rattle.zb_script.specs.declared.line.Line.{Line}
 use Rattle.zb_script.specs.declared.line.Line.TheVariants as lines
 use Rattle.zb_script.specs.Shape.{is_ending, is_inside, is_new, is_outside, is_vote, may_follow}
 use Rattle.zodb_top.specs.declared.pending.PendingStore.{PendingStore}
-use Rattle.zodb_top.specs.declared.vote.HeldVote.{HeldVote}
 use Rattle.zodb_top.specs.Laws.{is_known, is_known_refusal}
-use Rattle.zodb_top.specs.Machine.{After, Before, Decision, OpenTransaction, abort_in, answered, begin_in, conflict_of, decision_at, decision_of, decision_on, finish_in, finished, in_transaction, is_holder, line_in, load_in, next_number, read_content, read_revision, new_in, refused, store_in, transaction_of, vote_in, voted_by, with_store}
+use Rattle.zodb_top.specs.Machine.{After, Before, Decision, OpenTransaction, Vote, abort_in, answered, begin_in, conflict_of, decision_at, decision_of, decision_on, finish_in, finished, in_transaction, is_holder, line_in, load_in, next_number, read_content, read_revision, new_in, refused, store_in, transaction_of, vote_in, voted_by, with_store}
 
 -- ---- what a last line says
 
@@ -37,7 +36,7 @@ PlaceIs lines.Abort works = works ≡ false
 PlaceIs lines.New works = Unit {0}
 
 -- behind a line of session n a vote is held only where the line was a vote, and by this session
-abbrev pub VoteIs : Line → ℕ → Option HeldVote → Type 0
+abbrev pub VoteIs : Line → ℕ → Option Vote → Type 0
 VoteIs line n None = Unit {0}
 VoteIs line n (Some h) = (is_vote line ≡ true) × (h.session ≡ n)
 
@@ -50,14 +49,14 @@ pub record LineGoes (b : Before) (line : Line) (a : After) : Type 0 where
 
 -- ---- lines
 
-pub no_vote : (m : Line) (n : ℕ) (v : Option HeldVote) → is_vote m ≡ false → VoteIs m n v → v ≡ None
+pub no_vote : (m : Line) (n : ℕ) (v : Option Vote) → is_vote m ≡ false → VoteIs m n v → v ≡ None
 no_vote m n None other is = refl
 no_vote m n (Some h) other is = let yes : is_vote m ≡ true = is.0 in absurd cc
 
 stays_goes : (b : Before) (line : Line) (a : Answer) → is_known a ≡ true → PlaceIs line (is_some b.session.open_transaction) → VoteIs line b.number b.vote → LineGoes b line (answered b a)
 stays_goes b line a known place vote = record { known = known; client = refl; place = place; vote = vote }
 
-free_goes : (line : Line) (n : ℕ) (v : Option HeldVote) → v ≡ None → VoteIs line n v
+free_goes : (line : Line) (n : ℕ) (v : Option Vote) → v ≡ None → VoteIs line n v
 free_goes line n None e = tt
 free_goes line n (Some h) e = absurd cc
 
@@ -128,7 +127,7 @@ voted_goes : (b : Before) (verdict : Result (Option Transaction) Refusal) (stamp
 voted_goes b (Err why) stamps known place free = record { known = known; client = refl; place = place; vote = free_goes lines.Vote b.number b.vote free }
 voted_goes b (Ok writes) stamps known place free = record { known = refl; client = refl; place = place; vote = (refl, refl) }
 
-vote_goes : (b : Before) (v : Option HeldVote) (o : Option OpenTransaction) → v ≡ None → is_some o ≡ true → is_some b.session.open_transaction ≡ true → b.vote ≡ None
+vote_goes : (b : Before) (v : Option Vote) (o : Option OpenTransaction) → v ≡ None → is_some o ≡ true → is_some b.session.open_transaction ≡ true → b.vote ≡ None
     → LineGoes b lines.Vote (in_transaction b o (vote_in b v))
 vote_goes b v None none works place free = absurd cc
 vote_goes b (Some h) (Some t) none works place free = absurd cc
@@ -140,7 +139,7 @@ finished_goes : (b : Before) (writes : Option Transaction) → LineGoes b lines.
 finished_goes b None = record { known = refl; client = refl; place = tt; vote = tt }
 finished_goes b (Some t) = record { known = refl; client = refl; place = tt; vote = tt }
 
-finish_goes : (b : Before) (v : Option HeldVote) (o : Option OpenTransaction) → b.vote ≡ v → VoteIs lines.Vote b.number v → is_some o ≡ true
+finish_goes : (b : Before) (v : Option Vote) (o : Option OpenTransaction) → b.vote ≡ v → VoteIs lines.Vote b.number v → is_some o ≡ true
     → LineGoes b lines.Finish (in_transaction b o (λ t. finish_in b v))
 finish_goes b v None is held works = absurd cc
 finish_goes b None (Some t) is held works = stays_goes b lines.Finish (answer.Refused refusal.NotVoted) refl tt (free_goes lines.Finish b.number b.vote is)
@@ -150,7 +149,7 @@ finish_goes b (Some h) (Some t) is held works = by_test (h.session == b.number) 
     by_test true e = finished_goes b h.writes
     by_test false e = absurd cc
 
-left_goes : (n : ℕ) (v : Option HeldVote) → VoteIs lines.Vote n v → VoteIs lines.Abort n (cond (is_holder n v) None v)
+left_goes : (n : ℕ) (v : Option Vote) → VoteIs lines.Vote n v → VoteIs lines.Abort n (cond (is_holder n v) None v)
 left_goes n None held = tt
 left_goes n (Some h) held = rw (eq-eqb h.session n held.1) tt
 

@@ -9,25 +9,20 @@ use Rattle.std.proofs.lemmas.List.Elements.{All-from_recursion, filter-append}
 use Rattle.std.proofs.lemmas.Option.{none-some, same_Some}
 use Rattle.std.proofs.lemmas.List.{append-nil}
 use Rattle.zb_ids.specs.declared.stamp.Stamp.{Stamp}
-use Rattle.zb_outside.specs.Stamps.{stamps_after}
 use Rattle.zb_model.specs.declared.data.Transaction.{Transaction}
+use Rattle.zb_model.specs.VotingLaws.{last_or-push}
 use Rattle.zb_script.specs.declared.answer.Answer.{Answer}
 use Rattle.zb_script.specs.declared.line.Line.{Line}
 use Rattle.zb_script.specs.declared.line.Line.TheVariants as lines
 use Rattle.zb_script.specs.declared.line.Turn.{Turn}
-use Rattle.zb_script.specs.Shape.{all_stand, can_stand, has_turn, is_empty, is_new, is_step_of, is_turn_of, is_vote, last_line, may_follow}
-use Rattle.zodb_top.specs.declared.vote.HeldVote.{HeldVote}
-use Rattle.zodb_top.specs.Laws.{IsExpected, OnlyFiveRefusals, Taken, taken_of}
-use Rattle.zodb_top.specs.Machine.{Done, Session, State, after_at, at_number, at_session, before_at, line_in, line_of, new_in, opened, session_of, start, turn_of}
-use Rattle.zodb_top.specs.Output.{created}
+use Rattle.zb_script.specs.Shape.{all_stand, can_stand, has_turn, is_empty, is_ending, is_new, is_open, is_outside, is_step_of, is_turn_of, is_vote, last_line, may_follow}
+use Rattle.zodb_top.specs.Laws.{IsExpected, OnlySixRefusals, Taken, taken_of}
+use Rattle.zodb_top.specs.Machine.{Done, Session, State, Vote, after_at, at_number, at_session, before_at, is_reading, line_in, line_of, new_in, opened, reading_failed, session_of, start, taken, turn_of}
+use Rattle.zodb_top.specs.Output.{first_of, others_of}
 use Rattle.zodb_top.proofs.Sessions.{Sits, found_name, missing_still, same_name, session_of-set, sits_again, sits_first, sits_on, sits_still}
 use Rattle.zodb_top.proofs.Shapes.{PlaceIs, VoteIs, line_goes, new_known, new_leaves, no_vote}
 
 -- ---- last ones
-
-last_from : {A : Type 0} (o : Option A) (xs : List A) (y : A) → last_or o (xs ++ y ∷ []) ≡ Some y
-last_from o [] y = refl
-last_from o (x ∷ xs) y = last_from (Some x) xs y
 
 kept_over : {A : Type 0} (p : A → Bool) (x : A) (xs : List A) (o : Option A) (y : A) (test : Bool) → p x ≡ test → p y ≡ true
     → ((before : Option A) → (Some x ≡ Some y → before ≡ Some y) → last_or before (filter p xs) ≡ Some y)
@@ -45,7 +40,7 @@ last_kept : {A : Type 0} (p : A → Bool) (xs : List A) (y : A) → last_or None
 last_kept p xs y last passes = kept_from p xs None None y last passes (λ e. e)
 
 line_over : (test : Bool) (xs : List Turn) (t : Turn) → option_map (λ (u : Turn). u.line) (last_or None (xs ++ cond test (t ∷ []) [])) ≡ cond test (Some t.line) (option_map (λ (u : Turn). u.line) (last_or None xs))
-line_over true xs t = ap (option_map (λ (u : Turn). u.line)) (last_from None xs t)
+line_over true xs t = ap (option_map (λ (u : Turn). u.line)) (last_or-push None xs t)
 line_over false xs t = rw append-nil refl
 
 -- a client's last line among the turns up to this one
@@ -72,7 +67,7 @@ AtPlace None client sessions = session_of client sessions ≡ None
 AtPlace (Some m) client sessions = Placed m client sessions
 
 -- a vote is held only by the session of the turn before, which was a vote
-abbrev VoteAt : Option Turn → List Session → Option HeldVote → Type 0
+abbrev VoteAt : Option Turn → List Session → Option Vote → Type 0
 VoteAt last sessions None = Unit {0}
 VoteAt None sessions (Some h) = ⊥
 VoteAt (Some t) sessions (Some h) = (is_vote t.line ≡ true) × (session_of t.client sessions ≡ Some h.session)
@@ -82,13 +77,13 @@ record Stands (before : List Turn) (s : State) : Type 0 where
   pub places : (client : List ℕ) → AtPlace (last_line client before) client s.sessions
   pub vote : VoteAt (last_or None before) s.sessions s.vote
 
--- a turn that was answered so in this state
-abbrev taken : State → Turn → Answer → Taken
-taken s t a = record { state = s; turn = t; answer = a }
+-- a turn that was answered so in this state; `failed` says whether reading failed in it
+abbrev as_taken : State → Turn → Bool → Answer → Taken
+as_taken s t failed a = record { state = s; turn = t; failed = failed; answer = a }
 
 -- what a turn behind them leaves
-record TurnStands (before : List Turn) (s : State) (t : Turn) (d : Done) : Type 0 where
-  pub known : IsExpected (taken s t d.answer)
+record TurnStands (before : List Turn) (s : State) (t : Turn) (failed : Bool) (d : Done) : Type 0 where
+  pub known : IsExpected (as_taken s t failed d.answer)
   pub stands : Stands (before ++ t ∷ []) d.state
 
 placed_on : (m : Option Line) (client : List ℕ) (old new : List Session) → ((works : Bool) → Sits client old works → Sits client new works) → (session_of client old ≡ None → session_of client new ≡ None)
@@ -151,13 +146,13 @@ is_step true true mine other = absurd cc
 is_step false new mine other = absurd cc
 
 -- a vote that is held when a client has its turn is the client's, by its last line
-record Holds (before : List Turn) (client : List ℕ) (sessions : List Session) (h : HeldVote) : Type 0 where
+record Holds (before : List Turn) (client : List ℕ) (sessions : List Session) (h : Vote) : Type 0 where
   pub last : Line
   pub is : last_line client before ≡ Some last
   pub voted : is_vote last ≡ true
   pub session : session_of client sessions ≡ Some h.session
 
-holds : (before : List Turn) (client : List ℕ) (sessions : List Session) (h : HeldVote) (last : Option Turn) → last_or None before ≡ last → VoteAt last sessions (Some h) → has_turn last client ≡ true
+holds : (before : List Turn) (client : List ℕ) (sessions : List Session) (h : Vote) (last : Option Turn) → last_or None before ≡ last → VoteAt last sessions (Some h) → has_turn last client ≡ true
     → Holds before client sessions h
 holds before client sessions h None e vote turn = absurd vote
 holds before client sessions h (Some t) e vote turn =
@@ -170,7 +165,7 @@ holds before client sessions h (Some t) e vote turn =
       session = ap (λ (name : List ℕ). session_of name sessions) (sym same) ∙ vote.1;
     }
 
-vote_found : (before : List Turn) (client : List ℕ) (sessions : List Session) (v : Option HeldVote) (m : Line) (n : ℕ) → VoteAt (last_or None before) sessions v → has_turn (last_or None before) client ≡ true
+vote_found : (before : List Turn) (client : List ℕ) (sessions : List Session) (v : Option Vote) (m : Line) (n : ℕ) → VoteAt (last_or None before) sessions v → has_turn (last_or None before) client ≡ true
     → last_line client before ≡ Some m → session_of client sessions ≡ Some n → VoteIs m n v
 vote_found before client sessions None m n vote turn last found = tt
 vote_found before client sessions (Some h) m n vote turn last found =
@@ -178,18 +173,18 @@ vote_found before client sessions (Some h) m n vote turn last found =
     let same : held.last ≡ m = same_Some held.last m (sym held.is ∙ last) in
     (ap is_vote (sym same) ∙ held.voted, same_Some h.session n (sym held.session ∙ found))
 
-no_vote_found : (before : List Turn) (client : List ℕ) (sessions : List Session) (v : Option HeldVote) → VoteAt (last_or None before) sessions v → has_turn (last_or None before) client ≡ true
+no_vote_found : (before : List Turn) (client : List ℕ) (sessions : List Session) (v : Option Vote) → VoteAt (last_or None before) sessions v → has_turn (last_or None before) client ≡ true
     → last_line client before ≡ None → v ≡ None
 no_vote_found before client sessions None vote turn last = refl
 no_vote_found before client sessions (Some h) vote turn last =
     let held = holds before client sessions h (last_or None before) refl vote turn in
     absurd (none-some held.last (sym last ∙ held.is))
 
-vote_left : (t : Turn) (n : ℕ) (sessions : List Session) (v : Option HeldVote) → VoteIs t.line n v → session_of t.client sessions ≡ Some n → VoteAt (Some t) sessions v
+vote_left : (t : Turn) (n : ℕ) (sessions : List Session) (v : Option Vote) → VoteIs t.line n v → session_of t.client sessions ≡ Some n → VoteAt (Some t) sessions v
 vote_left t n sessions None is found = tt
 vote_left t n sessions (Some h) is found = (is.0, found ∙ ap (λ (k : ℕ). Some k) (sym is.1))
 
-vote_gone : (t : Turn) (sessions : List Session) (v : Option HeldVote) → v ≡ None → VoteAt (Some t) sessions v
+vote_gone : (t : Turn) (sessions : List Session) (v : Option Vote) → v ≡ None → VoteAt (Some t) sessions v
 vote_gone t sessions None e = tt
 vote_gone t sessions (Some h) e = absurd cc
 
@@ -210,7 +205,7 @@ stand_again : (before : List Turn) (t : Turn) (old new : State) → Stands befor
     → Stands (before ++ t ∷ []) new
 stand_again before t old new stands own vote others = record {
   places = λ client. subst (λ (o : Option Line). AtPlace o client new.sessions) (sym (last_line-push client before t)) (by_test client (is_step_of client t) refl);
-  vote = subst (λ (o : Option Turn). VoteAt o new.sessions new.vote) (sym (last_from None before t)) vote;
+  vote = subst (λ (o : Option Turn). VoteAt o new.sessions new.vote) (sym (last_or-push None before t)) vote;
 }
   where
     by_test : (client : List ℕ) (test : Bool) → is_step_of client t ≡ test → AtPlace (cond test (Some t.line) (last_line client before)) client new.sessions
@@ -220,7 +215,7 @@ stand_again before t old new stands own vote others = record {
     by_test client false e = others client e (stands.places client)
 
 open_stands : (before : List Turn) (s : State) (stamps : List Stamp) (client : List ℕ) → Stands before s → last_line client before ≡ None → has_turn (last_or None before) client ≡ true
-    → TurnStands before s (record { client = client; line = lines.Open }) (opened s stamps client)
+    → TurnStands before s (record { client = client; line = lines.Open }) false (opened s stamps client)
 open_stands before s stamps client stands last turn =
     let t : Turn = record { client = client; line = lines.Open } in
     let y : Session = record { client = client; open_transaction = None } in
@@ -236,7 +231,7 @@ open_stands before s stamps client stands last turn =
 session_stands : (before : List Turn) (s : State) (stamps : List Stamp) (client : List ℕ) (m line : Line) (n : ℕ) (x : Session) → Stands before s
     → last_line client before ≡ Some m → may_follow (Some m) line ≡ true → has_turn (last_or None before) client ≡ true
     → session_of client s.sessions ≡ Some n → slice_get s.sessions n ≡ Some x → PlaceIs m (is_some x.open_transaction) → is_new line ≡ false
-    → TurnStands before s (record { client = client; line = line }) (after_at s n (line_in (before_at s stamps n x) line))
+    → TurnStands before s (record { client = client; line = line }) false (after_at s n (line_in (before_at s stamps n x) line))
 session_stands before s stamps client m line n x stands last follows turn found at place step =
     let t : Turn = record { client = client; line = line } in
     let b = before_at s stamps n x in
@@ -270,17 +265,17 @@ set_there [] n x at = refl
 set_there (y ∷ xs) zero x at = ap (λ (z : Session). z ∷ xs) (sym (same_Some y x at))
 set_there (y ∷ xs) (suc n) x at = ap (λ (rest : List Session). y ∷ rest) (set_there xs n x at)
 
-new_expected : (s : State) (stamps : List Stamp) (client : List ℕ) (n : ℕ) (x : Session) → IsExpected (taken s (record { client = client; line = lines.New }) (new_in (before_at s stamps n x)).answer)
+new_expected : (s : State) (stamps : List Stamp) (client : List ℕ) (n : ℕ) (x : Session) → IsExpected (as_taken s (record { client = client; line = lines.New }) false (new_in (before_at s stamps n x)).answer)
 new_expected s stamps client n x = elim (new_known (before_at s stamps n x)) [
   | inl known ↦ inl known
-  | inr spent ↦ inr (record { line = refl; spent = spent.0; told = spent.1 })
+  | inr spent ↦ inr (inl (record { line = refl; spent = spent.0; told = spent.1 }))
 ]
 
 -- a `new` leaves each client where it was
 new_stands : (before : List Turn) (s : State) (stamps : List Stamp) (client : List ℕ) (m : Line) (n : ℕ) (x : Session) → Stands before s
     → last_line client before ≡ Some m → may_follow (Some m) lines.New ≡ true → has_turn (last_or None before) client ≡ true
     → session_of client s.sessions ≡ Some n → slice_get s.sessions n ≡ Some x
-    → TurnStands before s (record { client = client; line = lines.New }) (after_at s n (new_in (before_at s stamps n x)))
+    → TurnStands before s (record { client = client; line = lines.New }) false (after_at s n (new_in (before_at s stamps n x)))
 new_stands before s stamps client m n x stands last follows turn found at =
     let t : Turn = record { client = client; line = lines.New } in
     let a = new_in (before_at s stamps n x) in
@@ -297,7 +292,7 @@ new_stands before s stamps client m n x stands last follows turn found at =
 line_stands : (before : List Turn) (s : State) (stamps : List Stamp) (client : List ℕ) (m line : Line) (n : ℕ) (x : Session) → Stands before s
     → last_line client before ≡ Some m → may_follow (Some m) line ≡ true → has_turn (last_or None before) client ≡ true
     → session_of client s.sessions ≡ Some n → slice_get s.sessions n ≡ Some x → PlaceIs m (is_some x.open_transaction)
-    → TurnStands before s (record { client = client; line = line }) (after_at s n (line_in (before_at s stamps n x) line))
+    → TurnStands before s (record { client = client; line = line }) false (after_at s n (line_in (before_at s stamps n x) line))
 line_stands before s stamps client m lines.New n x stands last follows turn found at place = new_stands before s stamps client m n x stands last follows turn found at
 line_stands before s stamps client m line n x stands last follows turn found at place = session_stands before s stamps client m line n x stands last follows turn found at place refl
 
@@ -322,7 +317,7 @@ line_at s stamps client m lines.Abort follows = refl
 line_at s stamps client m lines.New follows = refl
 
 first_stands : (before : List Turn) (s : State) (stamps : List Stamp) (client : List ℕ) (line : Line) → Stands before s → last_line client before ≡ None → may_follow None line ≡ true
-    → has_turn (last_or None before) client ≡ true → TurnStands before s (record { client = client; line = line }) (line_of s stamps client line)
+    → has_turn (last_or None before) client ≡ true → TurnStands before s (record { client = client; line = line }) false (line_of s stamps client line)
 first_stands before s stamps client lines.Open stands last follows turn = open_stands before s stamps client stands last turn
 first_stands before s stamps client lines.Begin stands last follows turn = absurd cc
 first_stands before s stamps client (lines.Load oid) stands last follows turn = absurd cc
@@ -333,34 +328,96 @@ first_stands before s stamps client lines.Abort stands last follows turn = absur
 first_stands before s stamps client lines.New stands last follows turn = absurd cc
 
 turn_stands : (before : List Turn) (s : State) (stamps : List Stamp) (client : List ℕ) (line : Line) (m : Option Line) → Stands before s → last_line client before ≡ m → may_follow m line ≡ true
-    → has_turn (last_or None before) client ≡ true → TurnStands before s (record { client = client; line = line }) (line_of s stamps client line)
+    → has_turn (last_or None before) client ≡ true → TurnStands before s (record { client = client; line = line }) false (line_of s stamps client line)
 turn_stands before s stamps client line None stands last follows turn = first_stands before s stamps client line stands last follows turn
 turn_stands before s stamps client line (Some m) stands last follows turn =
     let placed : Placed m client s.sessions = subst (λ (o : Option Line). AtPlace o client s.sessions) last (stands.places client) in
     let at = found_at m line client s.sessions follows placed in
     let e : line_of s stamps client line ≡ after_at s at.sits.number (line_in (before_at s stamps at.sits.number at.sits.session) line) =
     line_at s stamps client m line follows ∙ ap (at_number s stamps line) at.sits.found ∙ ap (at_session s stamps line at.sits.number) at.sits.at in
-    subst (TurnStands before s (record { client = client; line = line })) (sym e)
+    subst (TurnStands before s (record { client = client; line = line }) false) (sym e)
     (line_stands before s stamps client m line at.sits.number at.sits.session stands last follows turn at.sits.found at.sits.at (subst (PlaceIs m) (sym at.sits.working) at.place))
+
+-- ---- turns in which reading failed
+
+-- what stands before a line that reads
+record Reading (o : Option Line) (line : Line) (client : List ℕ) (sessions : List Session) : Type 0 where
+  pub last : Line
+  pub is : o ≡ Some last
+  pub unvoted : is_vote last ≡ false
+  pub sits : Sits client sessions true
+  pub place : Placed line client sessions
+
+inside_at : (o : Option Line) (line : Line) (client : List ℕ) (sessions : List Session) → is_open line ≡ false → is_outside line ≡ false → is_ending line ≡ false → is_new line ≡ false
+    → may_follow o line ≡ true → AtPlace o client sessions → (Sits client sessions true → Placed line client sessions) → Reading o line client sessions
+inside_at None line client sessions no_open outside ending other follows place puts = absurd cc
+inside_at (Some lines.Open) line client sessions no_open outside ending other follows place puts = absurd cc
+inside_at (Some lines.Begin) line client sessions no_open outside ending other follows place puts = record { last = lines.Begin; is = refl; unvoted = refl; sits = place; place = puts place }
+inside_at (Some (lines.Load oid)) line client sessions no_open outside ending other follows place puts = record { last = lines.Load oid; is = refl; unvoted = refl; sits = place; place = puts place }
+inside_at (Some (lines.Store oid base bytes)) line client sessions no_open outside ending other follows place puts =
+    record { last = lines.Store oid base bytes; is = refl; unvoted = refl; sits = place; place = puts place }
+inside_at (Some lines.Vote) line client sessions no_open outside ending other follows place puts = absurd cc
+inside_at (Some lines.Finish) line client sessions no_open outside ending other follows place puts = absurd cc
+inside_at (Some lines.Abort) line client sessions no_open outside ending other follows place puts = absurd cc
+inside_at (Some lines.New) line client sessions no_open outside ending other follows place puts = absurd cc
+
+reading_at : (o : Option Line) (line : Line) (client : List ℕ) (sessions : List Session) → is_reading line ≡ true → may_follow o line ≡ true → AtPlace o client sessions → Reading o line client sessions
+reading_at o lines.Open client sessions reading follows place = absurd cc
+reading_at o lines.Begin client sessions reading follows place = absurd cc
+reading_at o (lines.Load oid) client sessions reading follows place = inside_at o (lines.Load oid) client sessions refl refl refl refl follows place (λ sits. sits)
+reading_at o (lines.Store oid base bytes) client sessions reading follows place = absurd cc
+reading_at o lines.Vote client sessions reading follows place = inside_at o lines.Vote client sessions refl refl refl refl follows place (λ sits. sits)
+reading_at o lines.Finish client sessions reading follows place = absurd cc
+reading_at o lines.Abort client sessions reading follows place = absurd cc
+reading_at o lines.New client sessions reading follows place = absurd cc
+
+-- a turn in which reading failed leaves each client where it was
+failed_stands : (before : List Turn) (s : State) (t : Turn) (d : Done) → Stands before s → is_reading t.line ≡ true → may_follow (last_line t.client before) t.line ≡ true
+    → has_turn (last_or None before) t.client ≡ true → TurnStands before s t true (reading_failed s d)
+failed_stands before s t d stands reading follows turn =
+    let at = reading_at (last_line t.client before) t.line t.client s.sessions reading follows (stands.places t.client) in
+    let found = vote_found before t.client s.sessions s.vote at.last at.sits.number stands.vote turn at.is at.sits.found in
+    record {
+      known = inr (inr (record { failed = refl; told = refl }));
+      stands = stand_again before t s s stands (λ other. at.place) (vote_gone t s.sessions s.vote (no_vote at.last at.sits.number s.vote at.unvoted found)) (λ other differs place. place);
+    }
+
+-- what is expected of a turn is expected of it also where reading was to fail and it read nothing
+expected_again : (s : State) (t : Turn) (a : Answer) → IsExpected (as_taken s t false a) → IsExpected (as_taken s t true a)
+expected_again s t a expected = elim expected [
+  | inl known ↦ inl known
+  | inr (inl asks) ↦ inr (inl (record { line = asks.line; spent = asks.spent; told = asks.told }))
+  | inr (inr failed) ↦ (let no_failure = failed.failed in absurd cc)
+]
+
+taken_stands : (failed : Bool) (before : List Turn) (s : State) (stamps : List Stamp) (t : Turn) → Stands before s → may_follow (last_line t.client before) t.line ≡ true
+    → has_turn (last_or None before) t.client ≡ true → TurnStands before s t failed (taken failed s stamps t)
+taken_stands false before s stamps t stands follows turn = turn_stands before s stamps t.client t.line (last_line t.client before) stands refl follows turn
+taken_stands true before s stamps t stands follows turn = by_test (is_reading t.line) refl
+  where
+    by_test : (test : Bool) → is_reading t.line ≡ test → TurnStands before s t true (cond test (reading_failed s (turn_of s stamps t)) (turn_of s stamps t))
+    by_test true e = failed_stands before s t (turn_of s stamps t) stands e follows turn
+    by_test false e =
+        let behind = turn_stands before s stamps t.client t.line (last_line t.client before) stands refl follows turn in
+        record { known = expected_again s t (turn_of s stamps t).answer behind.known; stands = behind.stands }
 
 -- ---- runs
 
-run_known : (before : List Turn) (s : State) (stamps : List Stamp) (turns : List Turn) (ends : Bool) → Stands before s → all_stand before turns ends ≡ true
-    → AllByRecursion IsExpected (taken_of s stamps turns)
-run_known before s stamps [] ends stands shape = tt
-run_known before s stamps (t ∷ turns) ends stands shape =
+run_known : (before : List Turn) (s : State) (stamps : List Stamp) (failed : List Bool) (turns : List Turn) (ends : Bool) → Stands before s → all_stand before turns ends ≡ true
+    → AllByRecursion IsExpected (taken_of s stamps failed turns)
+run_known before s stamps failed [] ends stands shape = tt
+run_known before s stamps failed (t ∷ turns) ends stands shape =
     let here = and_parts (can_stand before t (ends && is_empty turns)) (all_stand (before ++ t ∷ []) turns ends) shape in
     let both = and_parts (may_follow (last_line t.client before) t.line && has_turn (last_or None before) t.client) (not (is_vote t.line && (ends && is_empty turns))) here.0 in
     let each = and_parts (may_follow (last_line t.client before) t.line) (has_turn (last_or None before) t.client) both.0 in
-    let d = turn_of s stamps t in
-    let behind = turn_stands before s stamps t.client t.line (last_line t.client before) stands refl each.0 each.1 in
-    (behind.known, run_known (before ++ t ∷ []) d.state d.stamps turns ends behind.stands here.1)
+    let d = taken (first_of failed) s stamps t in
+    let behind = taken_stands (first_of failed) before s stamps t stands each.0 each.1 in
+    (behind.known, run_known (before ++ t ∷ []) d.state d.stamps (others_of failed) turns ends behind.stands here.1)
 
 -- before the first turn
 start_stands : (list : List Transaction) → Stands [] (start list)
 start_stands list = record { places = λ client. refl; vote = tt }
 
-pub five_refusals : OnlyFiveRefusals
-five_refusals = λ stamps turns shape.
-    All-from_recursion IsExpected (taken_of (start (created stamps)) (stamps_after stamps) turns)
-    (run_known [] (start (created stamps)) (stamps_after stamps) turns true (start_stands (created stamps)) shape)
+pub six_refusals : OnlySixRefusals
+six_refusals = λ list stamps failed turns is shape.
+    All-from_recursion IsExpected (taken_of (start list) stamps failed turns) (run_known [] (start list) stamps failed turns true (start_stands list) shape)

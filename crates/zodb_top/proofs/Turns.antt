@@ -1,39 +1,27 @@
 -- What a turn's code leaves is what the machine leaves.
-use Rattle.std.proofs.Common.{◌≡◌, ℕ, zero, suc, ◌+◌, ◌-◌, ◌^◌, ◌<◌, ◌≤◌, List, [], ◌∷◌, ◌++◌, Option, Some, None, Result, Ok, Err, Bool, true, false, not, cond, length, map, set, get_or, take, refl, sym, ap, subst, ◌∙◌, arith}
-use Rattle.std.specs.Prelude.{◌==◌, position, slice_get}
-use Rattle.std.specs.Option.{is_none, is_some, option_map, option_map_or}
-use Rattle.std.specs.List.{AllByRecursion, last_or, position_or_len}
-use Rattle.std.proofs.lemmas.Option.{same_Some, slice_get-map, slice_get-get_or}
-use Rattle.std.proofs.lemmas.List.{get_or_default, length-append, length-map, map-append, map-set, take-append-le, take_all}
+use Rattle.std.proofs.Common.{◌≡◌, ℕ, ◌+◌, ◌<◌, List, [], ◌∷◌, ◌++◌, Option, Some, None, Bool, true, false, not, cond, length, map, refl, sym, ap, subst, ◌∙◌, inl, inr}
+use Rattle.std.specs.Prelude.{◌⊎◌, IsTrue, position, slice_get}
+use Rattle.std.specs.List.{position_or_len}
+use Rattle.std.specs.Str.{bytes_eq}
+use Rattle.std.proofs.lemmas.List.{length-map, map-append}
 use Rattle.zb_ids.specs.declared.stamp.Stamp.{Stamp}
 use Rattle.zb_model.specs.declared.data.Transaction.{Transaction}
-use Rattle.zb_model.specs.declared.refusal.Refusal.{Refusal}
 use Rattle.zb_model.specs.declared.refusal.Refusal.TheVariants as refusal
-use Rattle.zb_model.specs.Database.{newest_tid, revision_below}
+use Rattle.zb_model.specs.Database.{newest_tid}
 use Rattle.zb_script.specs.declared.answer.Answer.{Answer}
 use Rattle.zb_script.specs.declared.answer.Answer.TheVariants as answer
 use Rattle.zb_script.specs.declared.line.Line.{Line}
 use Rattle.zb_script.specs.declared.line.Line.TheVariants as lines
 use Rattle.zb_script.specs.declared.line.Turn.{Turn}
 use Rattle.zb_script.specs.Shape.{is_open}
-use Rattle.std.specs.Str.{bytes_eq}
-use Rattle.zodb_top.specs.declared.hub.Seat.{Seat}
-use Rattle.zodb_top.specs.declared.hub.Work.{Work}
+use Rattle.zodb_top.specs.declared.seat.Seat.{Seat}
 use Rattle.zodb_top.specs.declared.vote.HeldVote.{HeldVote}
-use Rattle.zodb_top.specs.declared.decide.VoteError.TheVariants as VoteError
-use Rattle.zodb_top.specs.Decisions.{GivesDecision, IsWritable}
-use Rattle.std.specs.Global.{Vec}
-use Rattle.zodb_top.specs.declared.pending.PendingStore.{PendingStore}
-use Rattle.zodb_top.specs.Machine.{at_number, is_session_of, line_of, opened, session_of, turn_of, decision_of, finish_in, finished, vote_in, voted_by, abort_in, Done, Before, After, answered, load_in, read_revision, is_holder, store_in, with_store, with_transaction, in_transaction, refused, State, Session, OpenTransaction, at_session, begin_in, before_at, after_at, line_in}
-use Rattle.zodb_top.specs.Seen.{IsSound, held_answer, held_writes, IsVoteSound, IsStored, IsWithin, seen_seat, seen_work, state_with}
-use Rattle.zodb_top.specs.Steps.{IsClockStep, IsDone, IsOpening, IsStep, IsTurn}
-use Rattle.zodb_top.proofs.Steps.{at_seat, put_back, seat_at, set_same, stays, within_set}
-use Rattle.zodb_top.proofs.Endings.{is_done}
+use Rattle.zodb_top.specs.Machine.{Done, OpenTransaction, Session, State, at_number, at_session, before_at, in_transaction, is_reading, is_session_of, line_of, load_in, session_of, turn_of}
+use Rattle.zodb_top.specs.Seen.{AreDistinct, HubSeen, IsSound, IsUpTo, seen_seat, state_with}
+use Rattle.zodb_top.specs.Steps.{Gave, IsClockStep, IsDone, IsDoneOr, IsOpening, IsReadStep, IsStep, IsTurn, LineTicks, Ticks}
+use Rattle.zodb_top.proofs.Seats.{all_push, seat_of, sound_seats, stays}
 
 -- ---- sessions of seats
-
-seat_test : (list : List Transaction) (client : List ℕ) (x : Seat) → is_session_of client (seen_seat list x) ≡ bytes_eq x.client client
-seat_test list client x = refl
 
 first-map : {A B : Type 0} (f : A → B) (p : B → Bool) (xs : List A) → position_or_len p (map f xs) ≡ position_or_len (λ x. p (f x)) xs
 first-map f p [] = refl
@@ -52,37 +40,61 @@ session_missing list client seats e = e ∙ sym (position-map (seen_seat list) (
 
 -- ---- open
 
-pub opening : (list : List Transaction) (greatest : ℕ) (seats : List Seat) (vote : Option HeldVote) (client : List ℕ) (n : ℕ) → n ≡ length seats
-    → IsOpening (state_with list greatest seats vote) client (answer.Opened n) (state_with list greatest (seats ++ (record { client = client; work = None }) ∷ []) vote)
-opening list greatest seats vote client n is = λ stamps.
+pub opening : (list : List Transaction) (greatest : ℕ) (seats : List Seat) (voted : Option Transaction) (vote : Option HeldVote) (client : List ℕ) (n : ℕ) → n ≡ length seats
+    → IsOpening (state_with list greatest seats voted vote) client (answer.Opened n) (state_with list greatest (seats ++ (record { client = client; work = None }) ∷ []) voted vote)
+opening list greatest seats voted vote client n is = λ stamps.
     rw (is, length-map seats (seen_seat list), map-append (seen_seat list) seats ((record { client = client; work = None }) ∷ [])) refl
 
-all_push : (count : ℕ) (seats : List Seat) (x : Seat) → AllByRecursion (λ y. IsWithin count y.work) seats → IsWithin count x.work → AllByRecursion (λ y. IsWithin count y.work) (seats ++ x ∷ [])
-all_push count [] x all one = (one, tt)
-all_push count (y ∷ seats) x all one = (all.0, all_push count seats x all.1 one)
+pub opening_sound : (told : Type 0) (old now : HubSeen) (client : List ℕ) → IsSound told old
+    → now.list ≡ old.list → now.vote ≡ old.vote → now.voted ≡ old.voted → now.broken ≡ false → now.seats ≡ old.seats ++ (record { client = client; work = None }) ∷ []
+    → IsSound told now
+opening_sound told old now client sound list vote voted whole seats = sound_seats told old now sound (λ _. list) vote voted whole
+    (rw seats (all_push AreDistinct old.seats (record { client = client; work = None }) sound.distinct tt))
+    (λ tells. rw (list, seats) (all_push (IsUpTo (newest_tid old.list + 1)) old.seats (record { client = client; work = None }) (sound.fronts tells) tt))
 
-pub opening_sound : (list : List Transaction) (seats : List Seat) (vote : Option HeldVote) (client : List ℕ) → IsSound list seats vote → IsSound list (seats ++ (record { client = client; work = None }) ∷ []) vote
-opening_sound list seats vote client sound = record { within = all_push (length list) seats (record { client = client; work = None }) sound.within tt; bounded = sound.bounded; writable = sound.writable }
+-- ---- a clock that tells
+
+is_done : (d : Done) (a : Answer) (new : State) (stamps : List Stamp) → d ≡ record { answer = a; state = new; stamps = stamps } → IsDone d a new (Some stamps)
+is_done d a new stamps is = record { answer = ap (λ (d : Done). d.answer) is; state = ap (λ (d : Done). d.state) is; stamps = ap (λ (d : Done). Some d.stamps) (sym is) }
+
+-- a line that reads no clock
+pub step_clock : (read_failed : Type 0) (told : Option (List Stamp)) (old new : State) (line : Line) (n : ℕ) (a : Answer) → IsStep old line n a new → IsClockStep read_failed told told old line n a new
+step_clock read_failed None old new line n a step = tt
+step_clock read_failed (Some stamps) old new line n a step = inl (is_done _ a new stamps (step stamps))
+
+pub gave_nothing : (told : Option (List Stamp)) (done : List Stamp → Done) → Gave told told done
+gave_nothing None done = tt
+gave_nothing (Some stamps) done = inl refl
+
+-- a load reads of the store, and no clock
+load_stamps : (s : State) (stamps : List Stamp) (oid n : ℕ) (x : Option Session) → (at_session s stamps (lines.Load oid) n x).stamps ≡ stamps
+load_stamps s stamps oid n None = refl
+load_stamps s stamps oid n (Some x) = by_transaction x.open_transaction
+  where
+    by_transaction : (o : Option OpenTransaction) → (in_transaction (before_at s stamps n x) o (load_in (before_at s stamps n x) oid)).stamps ≡ stamps
+    by_transaction None = refl
+    by_transaction (Some t) = refl
+
+pub load_clock : (read_failed : Type 0) (told : Option (List Stamp)) (old new : State) (oid n : ℕ) (a : Answer) → IsReadStep read_failed old (lines.Load oid) n a new → IsClockStep read_failed told told old (lines.Load oid) n a new
+load_clock read_failed told old new oid n a (inl step) = step_clock read_failed told old new (lines.Load oid) n a step
+load_clock read_failed None old new oid n a (inr failed) = tt
+load_clock read_failed (Some stamps) old new oid n a (inr failed) =
+    inr ((refl, failed.0), record { answer = sym failed.1; state = sym failed.2; stamps = ap (λ (left : List Stamp). Some left) (sym (load_stamps old stamps oid n (slice_get old.sessions n))) })
 
 -- ---- lines and turns
 
-pub open_again : (list : List Transaction) (greatest : ℕ) (seats : List Seat) (vote : Option HeldVote) (n : ℕ) → n < length seats
-    → IsStep (state_with list greatest seats vote) lines.Open n (answer.Refused refusal.InTransaction) (state_with list greatest seats vote)
-open_again list greatest seats vote n within =
+pub open_again : (list : List Transaction) (greatest : ℕ) (seats : List Seat) (voted : Option Transaction) (vote : Option HeldVote) (n : ℕ) → n < length seats
+    → IsStep (state_with list greatest seats voted vote) lines.Open n (answer.Refused refusal.InTransaction) (state_with list greatest seats voted vote)
+open_again list greatest seats voted vote n within =
     let x = seat_of seats n within in
-    stays list greatest seats vote lines.Open n x.0 (answer.Refused refusal.InTransaction) within x.1 (λ stamps. refl)
-  where
-    seat_of : (seats : List Seat) (n : ℕ) → n < length seats → (x : Seat) × (x ≡ get_or seats n x)
-    seat_of [] n within = absurd (omega arith)
-    seat_of (x ∷ seats) zero within = (x, refl)
-    seat_of (x ∷ seats) (suc n) within = seat_of seats n (omega arith)
+    stays list greatest seats voted vote lines.Open n x.0 (answer.Refused refusal.InTransaction) within x.1 (λ stamps. refl)
 
-pub turn_opening : (told : Option (List Stamp)) (old new : State) (t : Turn) (a : Answer) → is_open t.line ≡ true → IsOpening old t.client a new → IsTurn told told old t a new
-turn_opening told old new t a does step = by_line told t.line does
+pub turn_opening : (read_failed : Type 0) (told : Option (List Stamp)) (old new : State) (t : Turn) (a : Answer) → is_open t.line ≡ true → IsOpening old t.client a new → IsTurn read_failed told told old t a new
+turn_opening read_failed told old new t a does step = by_line told t.line does
   where
-    by_line : (told : Option (List Stamp)) (line : Line) → is_open line ≡ true → IsTurn told told old (record { client = t.client; line = line }) a new
+    by_line : (told : Option (List Stamp)) (line : Line) → is_open line ≡ true → IsTurn read_failed told told old (record { client = t.client; line = line }) a new
     by_line None line does = tt
-    by_line (Some stamps) lines.Open does = is_done _ a new (Some stamps) stamps (step stamps) refl
+    by_line (Some stamps) lines.Open does = inl (is_done _ a new stamps (step stamps))
     by_line (Some stamps) lines.Begin does = absurd cc
     by_line (Some stamps) (lines.Load oid) does = absurd cc
     by_line (Some stamps) (lines.Store oid base bytes) does = absurd cc
@@ -101,17 +113,25 @@ line_not_open s stamps client lines.Finish other = refl
 line_not_open s stamps client lines.Abort other = refl
 line_not_open s stamps client lines.New other = refl
 
-pub turn_missing : (told : Option (List Stamp)) (old : State) (t : Turn) → is_open t.line ≡ false → None ≡ session_of t.client old.sessions
-    → IsTurn told told old t (answer.Refused refusal.NotOpen) old
-turn_missing None old t other missing = tt
-turn_missing (Some stamps) old t other missing =
-    is_done _ (answer.Refused refusal.NotOpen) old (Some stamps) stamps
-    (line_not_open old stamps t.client t.line other ∙ ap (at_number old stamps t.line) (sym missing)) refl
+pub turn_missing : (read_failed : Type 0) (told : Option (List Stamp)) (old : State) (t : Turn) → is_open t.line ≡ false → None ≡ session_of t.client old.sessions
+    → IsTurn read_failed told told old t (answer.Refused refusal.NotOpen) old
+turn_missing read_failed None old t other missing = tt
+turn_missing read_failed (Some stamps) old t other missing =
+    inl (is_done _ (answer.Refused refusal.NotOpen) old stamps (line_not_open old stamps t.client t.line other ∙ ap (at_number old stamps t.line) (sym missing)))
 
-pub turn_line : (told after : Option (List Stamp)) (old new : State) (t : Turn) (n : ℕ) (a : Answer) → is_open t.line ≡ false → Some n ≡ session_of t.client old.sessions
-    → IsClockStep told after old t.line n a new → IsTurn told after old t a new
-turn_line None after old new t n a other found step = tt
-turn_line (Some stamps) after old new t n a other found step =
-    let e : turn_of old stamps t ≡ at_session old stamps t.line n (slice_get old.sessions n) =
-    line_not_open old stamps t.client t.line other ∙ ap (at_number old stamps t.line) (sym found) in
-    subst (λ (d : Done). IsDone d a new after) (sym e) step
+-- a turn of session n does what its line does
+turn_at : (old : State) (stamps : List Stamp) (t : Turn) (n : ℕ) → is_open t.line ≡ false → Some n ≡ session_of t.client old.sessions
+    → turn_of old stamps t ≡ at_session old stamps t.line n (slice_get old.sessions n)
+turn_at old stamps t n other found = line_not_open old stamps t.client t.line other ∙ ap (at_number old stamps t.line) (sym found)
+
+pub turn_line : (read_failed : Type 0) (told after : Option (List Stamp)) (old new : State) (t : Turn) (n : ℕ) (a : Answer) → is_open t.line ≡ false → Some n ≡ session_of t.client old.sessions
+    → IsClockStep read_failed told after old t.line n a new → IsTurn read_failed told after old t a new
+turn_line read_failed None after old new t n a other found step = tt
+turn_line read_failed (Some stamps) after old new t n a other found step =
+    subst (λ (d : Done). IsDoneOr (IsTrue (is_reading t.line) × read_failed) old d a new after) (sym (turn_at old stamps t n other found)) step
+
+pub turn_ticks : (told after : Option (List Stamp)) (old : State) (t : Turn) (n : ℕ) → is_open t.line ≡ false → Some n ≡ session_of t.client old.sessions
+    → LineTicks told after old t.line n → Ticks told after old t
+turn_ticks None after old t n other found ticks = tt
+turn_ticks (Some stamps) after old t n other found ticks =
+    subst (λ (d : Done). (after ≡ Some stamps) ⊎ (after ≡ Some d.stamps)) (sym (turn_at old stamps t n other found)) ticks

@@ -16,9 +16,8 @@ use Rattle.zb_script.specs.declared.line.Line.{Line}
 use Rattle.zb_script.specs.declared.line.Line.TheVariants as lines
 use Rattle.zb_script.specs.declared.line.Turn.{Turn}
 use Rattle.zodb_top.specs.declared.pending.PendingStore.{PendingStore}
-use Rattle.zodb_top.specs.declared.vote.HeldVote.{HeldVote}
-use Rattle.zodb_top.specs.Laws.{IsRead}
-use Rattle.zodb_top.specs.Machine.{After, Before, OpenTransaction, Session, State, abort_in, at_number, at_session, before_at, begin_in, decision_of, finish_in, finished, in_transaction, is_holder, line_in, line_of, load_in, new_in, read_content, read_revision, refused, session_of, store_in, turn_of, vote_in, voted_by, with_store}
+use Rattle.zodb_top.specs.Laws.{IsRead, ReadsStayBelowTheFront}
+use Rattle.zodb_top.specs.Machine.{After, Before, OpenTransaction, Session, State, Vote, abort_in, at_number, at_session, before_at, begin_in, decision_of, finish_in, finished, in_transaction, is_holder, is_reading, line_in, line_of, load_in, new_in, read_content, read_revision, reading_failed, refused, session_of, store_in, taken, turn_of, vote_in, voted_by, with_store}
 
 -- ---- revisions below a front
 
@@ -91,7 +90,7 @@ voted_read : (b : Before) (verdict : Result (Option Transaction) Refusal) (stamp
 voted_read b (Err why) stamps serial bytes e = cc
 voted_read b (Ok writes) stamps serial bytes e = cc
 
-vote_read : (b : Before) (v : Option HeldVote) (o : Option OpenTransaction) (serial : ℕ) (bytes : List ℕ) → (in_transaction b o (vote_in b v)).answer ≡ answer.Data serial bytes → ⊥
+vote_read : (b : Before) (v : Option Vote) (o : Option OpenTransaction) (serial : ℕ) (bytes : List ℕ) → (in_transaction b o (vote_in b v)).answer ≡ answer.Data serial bytes → ⊥
 vote_read b v None serial bytes e = cc
 vote_read b None (Some t) serial bytes e =
     let d = decision_of b.list t.stores b.stamps in
@@ -106,7 +105,7 @@ finished_read : (b : Before) (writes : Option Transaction) (serial : ℕ) (bytes
 finished_read b None serial bytes e = cc
 finished_read b (Some t) serial bytes e = cc
 
-finish_read : (b : Before) (v : Option HeldVote) (o : Option OpenTransaction) (serial : ℕ) (bytes : List ℕ) → (in_transaction b o (λ t. finish_in b v)).answer ≡ answer.Data serial bytes → ⊥
+finish_read : (b : Before) (v : Option Vote) (o : Option OpenTransaction) (serial : ℕ) (bytes : List ℕ) → (in_transaction b o (λ t. finish_in b v)).answer ≡ answer.Data serial bytes → ⊥
 finish_read b v None serial bytes e = cc
 finish_read b None (Some t) serial bytes e = cc
 finish_read b (Some h) (Some t) serial bytes e = by_test (h.session == b.number) e
@@ -178,5 +177,13 @@ turn_read s stamps client lines.Finish serial bytes e = number_read s stamps cli
 turn_read s stamps client lines.Abort serial bytes e = number_read s stamps client lines.Abort (session_of client s.sessions) serial bytes refl e
 turn_read s stamps client lines.New serial bytes e = number_read s stamps client lines.New (session_of client s.sessions) serial bytes refl e
 
-pub data_is_read : (s : State) (stamps : List Stamp) (t : Turn) (serial : ℕ) (bytes : List ℕ) → (turn_of s stamps t).answer ≡ answer.Data serial bytes → IsRead s t serial bytes
-data_is_read s stamps t serial bytes e = turn_read s stamps t.client t.line serial bytes e
+taken_read : (failed : Bool) (s : State) (stamps : List Stamp) (t : Turn) (serial : ℕ) (bytes : List ℕ) → (taken failed s stamps t).answer ≡ answer.Data serial bytes → IsRead s t serial bytes
+taken_read false s stamps t serial bytes e = turn_read s stamps t.client t.line serial bytes e
+taken_read true s stamps t serial bytes e = by_test (is_reading t.line) e
+  where
+    by_test : (test : Bool) → (cond test (reading_failed s (turn_of s stamps t)) (turn_of s stamps t)).answer ≡ answer.Data serial bytes → IsRead s t serial bytes
+    by_test true e = absurd cc
+    by_test false e = turn_read s stamps t.client t.line serial bytes e
+
+pub data_is_read : ReadsStayBelowTheFront
+data_is_read = taken_read

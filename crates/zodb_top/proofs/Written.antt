@@ -5,7 +5,7 @@ use Rattle.std.proofs.KnownBytes.{Appends-nil}
 use Rattle.std.proofs.lemmas.List.{drop_more, drop_all}
 use Rattle.zb_outside.specs.Written.{AppendsBefore, AppendsFront}
 use Rattle.zb_outside.specs.WrittenLaws.{all_before, front_more, more_before, none_before}
-use Rattle.zodb_top.specs.Listings.{joined}
+use Rattle.zodb_top.specs.Texts.{joined}
 
 pub start_lines : (taken : Option (List ℕ)) (lines : List (List ℕ)) → AppendsBefore taken taken (joined lines) (joined (drop 0 lines))
 start_lines taken lines = none_before taken (joined lines)

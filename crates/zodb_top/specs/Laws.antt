@@ -6,14 +6,14 @@ use Rattle.zb_model.specs.declared.data.Content.TheVariants.{Held}
 use Rattle.zb_model.specs.declared.refusal.Refusal.{Refusal}
 use Rattle.zb_model.specs.declared.refusal.Refusal.TheVariants as refusal
 use Rattle.zb_model.specs.Database.{IsDatabase, revision_below}
-use Rattle.zb_outside.specs.Stamps.{stamps_after}
 use Rattle.zb_script.specs.declared.answer.Answer.{Answer}
 use Rattle.zb_script.specs.declared.answer.Answer.TheVariants as answer
 use Rattle.zb_script.specs.declared.line.Line.TheVariants as lines
 use Rattle.zb_script.specs.declared.line.Turn.{Turn}
 use Rattle.zb_script.specs.Shape.{IsInShape, is_turn_of}
-use Rattle.zodb_top.specs.Machine.{OpenTransaction, Session, State, session_of, start, turn_of}
-use Rattle.zodb_top.specs.Output.{created, run_from}
+use Rattle.zodb_top.specs.Machine.{OpenTransaction, Session, State, session_of, start, taken}
+use Rattle.zb_model.specs.declared.data.Transaction.{Transaction}
+use Rattle.zodb_top.specs.Output.{first_of, others_of, run_from}
 
 -- ---- fronts
 
@@ -23,15 +23,16 @@ front_in (answer.Begun front) = front ∷ []
 front_in _ = []
 
 -- the fronts that a client is given by the turns, in their order
-abbrev pub fronts_of : List ℕ → State → List Stamp → List Turn → List ℕ
-fronts_of client s stamps [] = []
-fronts_of client s stamps (t ∷ turns) =
-    let d = turn_of s stamps t in
-    (if is_turn_of client t then front_in d.answer else []) ++ fronts_of client d.state d.stamps turns
+abbrev pub fronts_of : List ℕ → State → List Stamp → List Bool → List Turn → List ℕ
+fronts_of client s stamps failed [] = []
+fronts_of client s stamps failed (t ∷ turns) =
+    let d = taken (first_of failed) s stamps t in
+    (if is_turn_of client t then front_in d.answer else []) ++ fronts_of client d.state d.stamps (others_of failed) turns
 
--- in every run of a new database, each front that a client is given is at least those given to it before
+-- in every run from a database, whichever reads fail, each front that a client is given is at least those
+-- given to it before
 abbrev pub FrontsNeverFall : Type 0
-FrontsNeverFall = (client : List ℕ) (stamps : List Stamp) (turns : List Turn) → IsNonDecreasing (fronts_of client (start (created stamps)) (stamps_after stamps) turns)
+FrontsNeverFall = (client : List ℕ) (list : List Transaction) (stamps : List Stamp) (failed : List Bool) (turns : List Turn) → IsDatabase list → IsNonDecreasing (fronts_of client (start list) stamps failed turns)
 
 -- ---- reads
 
@@ -52,32 +53,33 @@ pub record IsRead (s : State) (t : Turn) (serial : ℕ) (bytes : List ℕ) : Typ
   pub below : serial < transaction.front
   pub revision : revision_below oid transaction.front transaction.list ≡ Some (record { serial = serial; content = Held bytes })
 
--- in every state, a turn that is answered with data is a read in an open transaction, below its front
+-- in every state, whether reading failed or not, a turn that is answered with data is a read in an open transaction, below its front
 abbrev pub ReadsStayBelowTheFront : Type 0
-ReadsStayBelowTheFront = (s : State) (stamps : List Stamp) (t : Turn) (serial : ℕ) (bytes : List ℕ) → (turn_of s stamps t).answer ≡ answer.Data serial bytes → IsRead s t serial bytes
+ReadsStayBelowTheFront = (failed : Bool) (s : State) (stamps : List Stamp) (t : Turn) (serial : ℕ) (bytes : List ℕ) → (taken failed s stamps t).answer ≡ answer.Data serial bytes → IsRead s t serial bytes
 
 -- ---- lists
 
--- the list that every run of a new database leaves is a database
+-- the list that every run from a database leaves is a database, whichever reads fail
 abbrev pub TheListStaysADatabase : Type 0
-TheListStaysADatabase = (stamps : List Stamp) (turns : List Turn) → IsDatabase (run_from (start (created stamps)) (stamps_after stamps) turns).state.list
+TheListStaysADatabase = (list : List Transaction) (stamps : List Stamp) (failed : List Bool) (turns : List Turn) → IsDatabase list → IsDatabase (run_from (start list) stamps failed turns).state.list
 
 -- ---- refusals
 
--- a turn, the state that it finds, and what it is answered
+-- a turn, the state that it finds, whether it is answered that reading failed, and what it is answered
 pub record Taken : Type 0 where
   pub state : State
   pub turn : Turn
+  pub failed : Bool
   pub answer : Answer
 
 -- the turns as they are taken, in their order
-abbrev pub taken_of : State → List Stamp → List Turn → List Taken
-taken_of s stamps [] = []
-taken_of s stamps (t ∷ turns) =
-    let d = turn_of s stamps t in
-    (record { state = s; turn = t; answer = d.answer }) ∷ taken_of d.state d.stamps turns
+abbrev pub taken_of : State → List Stamp → List Bool → List Turn → List Taken
+taken_of s stamps failed [] = []
+taken_of s stamps failed (t ∷ turns) =
+    let d = taken (first_of failed) s stamps t in
+    (record { state = s; turn = t; failed = first_of failed; answer = d.answer }) ∷ taken_of d.state d.stamps (others_of failed) turns
 
--- whether a refusal is one of the four that the turns of a script in shape get besides OidsSpent
+-- whether a refusal is one of the four that the turns of a script in shape get besides OidsSpent and ReadFault
 abbrev pub is_known_refusal : Refusal → Bool
 is_known_refusal refusal.TidsSpent = true
 is_known_refusal (refusal.Conflict oid base current why) = true
@@ -102,11 +104,17 @@ pub record AsksTooMany (x : Taken) : Type 0 where
   pub spent : 2 ^ 64 - 1 ≤ x.state.greatest
   pub told : x.answer ≡ answer.Refused refusal.OidsSpent
 
--- the answer is no refusal, or one of those four, or OidsSpent where no number is left
-abbrev pub IsExpected : Taken → Type 0
-IsExpected x = IsTrue (is_known x.answer) ⊎ AsksTooMany x
+-- the turn is one in which reading failed, and is told so
+pub record FailedToRead (x : Taken) : Type 0 where
+  pub failed : x.failed ≡ true
+  pub told : x.answer ≡ answer.Refused refusal.ReadFault
 
--- a new database refuses the turns of a script in shape only for TidsSpent, Conflict, Missing or NotVoted, and
--- only those that ask for a number where none is left for OidsSpent
-abbrev pub OnlyFiveRefusals : Type 0
-OnlyFiveRefusals = (stamps : List Stamp) (turns : List Turn) → IsInShape turns → All IsExpected (taken_of (start (created stamps)) (stamps_after stamps) turns)
+-- the answer is no refusal, or one of those four, or OidsSpent where no number is left, or ReadFault where
+-- reading failed
+abbrev pub IsExpected : Taken → Type 0
+IsExpected x = IsTrue (is_known x.answer) ⊎ AsksTooMany x ⊎ FailedToRead x
+
+-- a database refuses the turns of a script in shape only for TidsSpent, Conflict, Missing or NotVoted, only those
+-- that ask for a number where none is left for OidsSpent, and only those in which reading failed for ReadFault
+abbrev pub OnlySixRefusals : Type 0
+OnlySixRefusals = (list : List Transaction) (stamps : List Stamp) (failed : List Bool) (turns : List Turn) → IsDatabase list → IsInShape turns → All IsExpected (taken_of (start list) stamps failed turns)

@@ -4,7 +4,15 @@ pub mod Program
 pub mod Runs
 pub mod Decisions
 pub mod Seen
+pub mod Found
 pub mod Steps
 pub mod Laws
 pub mod Words
 pub mod Listings
+pub mod FileLists
+pub mod Outside
+pub mod Texts
+pub mod Damage
+pub mod Unopened
+pub mod Storing
+pub mod Inputs

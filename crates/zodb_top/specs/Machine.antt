@@ -22,7 +22,6 @@ use Rattle.zb_script.specs.declared.line.Line.{Line}
 use Rattle.zb_script.specs.declared.line.Line.TheVariants as lines
 use Rattle.zb_script.specs.declared.line.Turn.{Turn}
 use Rattle.zodb_top.specs.declared.pending.PendingStore.{PendingStore}
-use Rattle.zodb_top.specs.declared.vote.HeldVote.{HeldVote}
 
 -- ---- what the machine remembers
 
@@ -38,13 +37,19 @@ pub record Session : Type 0 where
   pub client : List ℕ
   pub open_transaction : Option OpenTransaction
 
+-- a vote that is held: the number of the session that holds it, and what its finish will append, or None
+-- where there is nothing to write
+pub record Vote : Type 0 where
+  pub session : ℕ
+  pub writes : Option Transaction
+
 -- the list, the greatest number of an object that stood in it at any moment or was handed out, the
 -- sessions in the order of their `open` lines, and the vote, if one is held
 pub record State : Type 0 where
   pub list : List Transaction
   pub greatest : ℕ
   pub sessions : List Session
-  pub vote : Option HeldVote
+  pub vote : Option Vote
 
 -- a list without sessions
 abbrev pub start : List Transaction → State
@@ -59,7 +64,7 @@ pub record Before : Type 0 where
   pub list : List Transaction
   pub greatest : ℕ
   pub session : Session
-  pub vote : Option HeldVote
+  pub vote : Option Vote
   pub stamps : List Stamp
 
 -- the answer, and what the line leaves of the list, the greatest number of an object, the session, the
@@ -69,7 +74,7 @@ pub record After : Type 0 where
   pub list : List Transaction
   pub greatest : ℕ
   pub session : Session
-  pub vote : Option HeldVote
+  pub vote : Option Vote
   pub stamps : List Stamp
 
 -- an answer, where nothing changes
@@ -115,7 +120,7 @@ abbrev pub load_in : Before → ℕ → OpenTransaction → After
 load_in f oid t = answered f (read_revision oid (revision_below oid t.front t.list))
 
 -- whether this session holds the vote
-abbrev pub is_holder : ℕ → Option HeldVote → Bool
+abbrev pub is_holder : ℕ → Option Vote → Bool
 is_holder number None = false
 is_holder number (Some h) = h.session == number
 
@@ -191,7 +196,7 @@ abbrev pub voted : Before → Decision → After
 voted f d = voted_by f d.verdict d.stamps
 
 -- vote
-abbrev pub vote_in : Before → Option HeldVote → OpenTransaction → After
+abbrev pub vote_in : Before → Option Vote → OpenTransaction → After
 vote_in f None t = voted f (decision_of f.list t.stores f.stamps)
 vote_in f (Some h) t = if h.session == f.number then refused f refusal.Voted else refused f (refusal.Busy h.session)
 
@@ -211,7 +216,7 @@ finished f (Some t) = record {
   stamps = f.stamps;
 }
 
-abbrev pub finish_in : Before → Option HeldVote → After
+abbrev pub finish_in : Before → Option Vote → After
 finish_in f None = refused f refusal.NotVoted
 finish_in f (Some h) = if h.session == f.number then finished f h.writes else refused f refusal.NotVoted
 
@@ -296,3 +301,20 @@ line_of s stamps client line = at_number s stamps line (session_of client s.sess
 -- a turn of a script
 abbrev pub turn_of : State → List Stamp → Turn → Done
 turn_of s stamps t = line_of s stamps t.client t.line
+
+-- in the place of what was done: reading failed. The state is as it was before, and the clock was read as it
+-- would have been.
+abbrev pub reading_failed : State → Done → Done
+reading_failed s d = record { answer = answer.Refused refusal.ReadFault; state = s; stamps = d.stamps }
+
+-- whether a line reads what stands in the list
+abbrev pub is_reading : Line → Bool
+is_reading (lines.Load oid) = true
+is_reading lines.Vote = true
+is_reading _ = false
+
+-- a turn, where `failed` says whether reading failed in it: a line that reads is then answered so, and any
+-- other as ever
+abbrev pub taken : Bool → State → List Stamp → Turn → Done
+taken false s stamps t = turn_of s stamps t
+taken true s stamps t = if is_reading t.line then reading_failed s (turn_of s stamps t) else turn_of s stamps t

@@ -1,38 +1,24 @@
 -- What the program writes, and what its statuses say. Own.
-use Rattle.std.specs.Prelude.{◌≡◌, ℕ, ◌<◌, ◌≤◌, ◌⊎◌, List, [], ◌∷◌, ◌++◌, Option, Some, None, Bool, true, false, IfSome, codes, decimal, length, take}
+use Rattle.std.specs.Prelude.{◌≡◌, ◌≢◌, ℕ, ◌<◌, ◌≤◌, ◌⊎◌, List, [], ◌∷◌, ◌++◌, Option, Some, None, Bool, true, false, IfSome, codes, decimal, length, take}
 use Rattle.std.specs.Io.KnownBytes.{Appends}
+use Rattle.std.specs.Option.{option_map}
+use Rattle.file_store.specs.Kept.{StandsForList}
+use Rattle.file_store.specs.Opening.{GaveAtMostOne, IsMade, SomeRose}
+use Rattle.fs_records.specs.File.{StandsFor}
 use Rattle.zb_ids.specs.declared.stamp.Stamp.{Stamp}
+use Rattle.zb_model.specs.declared.data.Transaction.{Transaction}
 use Rattle.zb_outside.specs.Rose.{Rose}
+use Rattle.zb_outside.specs.Stamps.{stamps_after}
 use Rattle.zb_outside.specs.Written.{AppendsFront}
 use Rattle.zb_script.specs.declared.line.Turn.{Turn}
 use Rattle.zb_script.specs.Script.{IsBadLine, IsScript}
 use Rattle.zodb_top.specs.declared.status.Status.{Status}
-use Rattle.zodb_top.specs.declared.status.Status.TheVariants.{Done, NoMemory, ReadFault, SinkFault, BadLine, Limit}
-use Rattle.zodb_top.specs.Output.{IsOutput, stamps_left}
-
--- ---- texts
-
-abbrev pub line : List ℕ → List ℕ
-line text = text ++ 10 ∷ []
-
-abbrev pub usage_line : List ℕ
-usage_line = line (codes "usage")
-
-abbrev pub read_fault_line : List ℕ
-read_fault_line = line (codes "read fault")
-
-abbrev pub store_fault_line : List ℕ
-store_fault_line = line (codes "store fault")
-
-abbrev pub bad_line : ℕ → List ℕ
-bad_line number = line (codes "bad line " ++ decimal number)
-
--- how many bytes a script has at most: 64 MiB
-abbrev pub most_bytes : ℕ
-most_bytes = 67108864
-
-abbrev pub limit_line : List ℕ
-limit_line = line (codes "limit bytes 67108864")
+use Rattle.zodb_top.specs.declared.status.Status.TheVariants.{Done, NoMemory, ReadFault, SinkFault, StoreFault, Damaged, BadLine, Limit}
+use Rattle.zodb_top.specs.Damage.{NamesDamage}
+use Rattle.zodb_top.specs.Machine.{start}
+use Rattle.zodb_top.specs.Output.{IsCounted, run_from}
+use Rattle.zodb_top.specs.Outside.{Outside, main_of}
+use Rattle.zodb_top.specs.Texts.{bad_line, cut_lines, joined, limit_line, read_fault_line, store_fault_line}
 
 -- a text was written: all of it, but where the sink failed, and then some front of it
 pub record IsWritten (old new : Option (List ℕ)) (before now : ℕ) (text : List ℕ) : Type 0 where
@@ -41,80 +27,150 @@ pub record IsWritten (old new : Option (List ℕ)) (before now : ℕ) (text : Li
 
 -- ---- scripts
 
+-- how many bytes a script has at most: 64 MiB
+abbrev pub most_bytes : ℕ
+most_bytes = 67108864
+
 -- the input is these turns, and within the limit
 abbrev pub IsInput : List ℕ → List Turn → Type 0
 IsInput input turns = (length input ≤ most_bytes) × IsScript input turns
 
--- the output of the turns was written, by a clock that tells
-abbrev pub OutputWritten : List Turn → Option (List Stamp) → Option (List ℕ) → Option (List ℕ) → Type 0
-OutputWritten turns told old new = IfSome told (λ stamps. (output : List ℕ) × IsOutput turns stamps output × Appends old new output)
-
--- some front of it was written
-abbrev pub OutputFront : List Turn → Option (List Stamp) → Option (List ℕ) → Option (List ℕ) → Type 0
-OutputFront turns told old new = IfSome told (λ stamps. (output : List ℕ) × IsOutput turns stamps output × AppendsFront old new output)
-
--- the output of the input's script was written
-pub record WritesOutput (input : List ℕ) (told : Option (List Stamp)) (old new : Option (List ℕ)) : Type 0 where
-  pub turns : List Turn
-  pub script : IsInput input turns
-  pub text : OutputWritten turns told old new
-
--- some front of it was written
-pub record WritesFront (input : List ℕ) (told : Option (List Stamp)) (old new : Option (List ℕ)) : Type 0 where
-  pub turns : List Turn
-  pub script : IsInput input turns
-  pub text : OutputFront turns told old new
-
 -- the input is too long
-pub record IsPastLimit (input : List ℕ) (old new : Option (List ℕ)) (before now : ℕ) : Type 0 where
+pub record IsPastLimit (input : List ℕ) (before after : Outside) : Type 0 where
   pub past : most_bytes < length input
-  pub written : IsWritten old new before now limit_line
+  pub written : IsWritten before.taken after.taken before.sink_faults after.sink_faults limit_line
 
 -- a line is bad
-pub record HasBadLine (input : List ℕ) (old new : Option (List ℕ)) (before now : ℕ) : Type 0 where
+pub record HasBadLine (input : List ℕ) (before after : Outside) : Type 0 where
   pub number : ℕ
   pub within : length input ≤ most_bytes
   pub bad : IsBadLine input number
-  pub written : IsWritten old new before now (bad_line number)
+  pub written : IsWritten before.taken after.taken before.sink_faults after.sink_faults (bad_line number)
 
--- ---- statuses
+-- ---- the list at the start
 
--- What each status of `run` says: its cause, and what was written. `left` is what the source had left, `told`
--- the clock's stamps, `old` and `new` what the sink had taken before and has now, `before` and `now` its
--- count of faults; `unread` says that the source's count rose.
-abbrev pub RunOutcome : Status → Type 0 → Option (List ℕ) → Option (List Stamp) → Option (List ℕ) → Option (List ℕ) → ℕ → ℕ → Type 0
-RunOutcome Done unread left told old new before now = IfSome left (λ input. WritesOutput input told old new)
-RunOutcome NoMemory unread left told old new before now = (new ≡ old) ⊎ IfSome left (λ input. WritesFront input told old new)
-RunOutcome ReadFault unread left told old new before now = unread × IsWritten old new before now read_fault_line
-RunOutcome SinkFault unread left told old new before now = Rose before now × IfSome left (λ input. WritesFront input told old new)
-RunOutcome BadLine unread left told old new before now = IfSome left (λ input. HasBadLine input old new before now)
-RunOutcome Limit unread left told old new before now = IfSome left (λ input. IsPastLimit input old new before now)
-RunOutcome _ unread left told old new before now = ⊥
+-- What opening a file gives: the list that its bytes stand for, and where a tail was cut off; or, where there
+-- are no bytes, the list of a new database, by the clock's first stamp. `told` are the clock's stamps, and `left`
+-- those that it has still to give.
+pub data Opens (bytes : List ℕ) (told left : Option (List Stamp)) (list : List Transaction) (cut : Option ℕ) : Type 0 where
+  there : bytes ≢ [] → StandsFor bytes list cut → left ≡ told → Opens bytes told left list cut
+  made : bytes ≡ [] → IsMade told list cut → left ≡ option_map stamps_after told → Opens bytes told left list cut
+
+-- ---- turns over a list
+
+-- The turns were taken one at a time from this list, by a clock with these stamps: what was written is the line
+-- of the tail that was cut off, if there was one, and their replies; `list'` and `left` are the list and the stamps
+-- behind them. `reads` and `reads'` are the counts of failed reads: some turns are answered that reading failed, in
+-- each of which that count rose.
+pub record AllAnswered (list : List Transaction) (cut : Option ℕ) (stamps : List Stamp) (turns : List Turn) (reads reads' : ℕ) (taken taken' : Option (List ℕ)) (left : Option (List Stamp)) (list' : List Transaction) : Type 0 where
+  pub failed : List Bool
+  pub counted : IsCounted reads failed reads'
+  pub text : Appends taken taken' (joined (cut_lines cut) ++ (run_from (start list) stamps failed turns).text)
+  pub stamps_left : left ≡ Some (run_from (start list) stamps failed turns).stamps
+  pub list_left : list' ≡ (run_from (start list) stamps failed turns).state.list
+
+-- The turns were taken up to some of them: what was written is a front of that text. The clock gave what the
+-- first `read` of them read, and the list is the one behind the first `count` of them.
+pub record SomeAnswered (list : List Transaction) (cut : Option ℕ) (stamps : List Stamp) (turns : List Turn) (reads reads' : ℕ) (taken taken' : Option (List ℕ)) (left : Option (List Stamp)) (list' : List Transaction) : Type 0 where
+  pub failed : List Bool
+  pub counted : IsCounted reads failed reads'
+  pub text : AppendsFront taken taken' (joined (cut_lines cut) ++ (run_from (start list) stamps failed turns).text)
+  pub read : ℕ
+  pub stamps_left : left ≡ Some (run_from (start list) stamps failed (take read turns)).stamps
+  pub count : ℕ
+  pub list_left : list' ≡ (run_from (start list) stamps failed (take count turns)).state.list
+
+-- The turns were taken up to one in which the store failed: what was written is the replies of those before it,
+-- and then the line that says so. `before` and `now` are the counts of the sink's faults.
+pub record AnsweredToFault (list : List Transaction) (cut : Option ℕ) (stamps : List Stamp) (turns : List Turn) (reads reads' before now : ℕ) (taken taken' : Option (List ℕ)) (left : Option (List Stamp)) : Type 0 where
+  pub failed : List Bool
+  pub counted : IsCounted reads failed reads'
+  pub count : ℕ
+  pub written : IsWritten taken taken' before now (joined (cut_lines cut) ++ ((run_from (start list) stamps failed (take count turns)).text ++ store_fault_line))
+  pub read : ℕ
+  pub stamps_left : left ≡ Some (run_from (start list) stamps failed (take read turns)).stamps
+
+-- ---- runs
+
+-- the turns were taken over what Main stood for, and Main stands for the list that they left
+pub record HasRun (turns : List Turn) (before after : Outside) : Type 0 where
+  pub list : List Transaction
+  pub cut : Option ℕ
+  pub stamps : List Stamp
+  pub opens : Opens (main_of before) before.stamps (Some stamps) list cut
+  pub list' : List Transaction
+  pub answers : AllAnswered list cut stamps turns before.read_faults after.read_faults before.taken after.taken after.stamps list'
+  pub stands : StandsForList (main_of after) list'
+
+-- they were taken in part, and Main stands for the list that this left
+pub record HasRunInPart (turns : List Turn) (before after : Outside) : Type 0 where
+  pub list : List Transaction
+  pub cut : Option ℕ
+  pub stamps : List Stamp
+  pub opens : Opens (main_of before) before.stamps (Some stamps) list cut
+  pub list' : List Transaction
+  pub answers : SomeAnswered list cut stamps turns before.read_faults after.read_faults before.taken after.taken after.stamps list'
+  pub stands : StandsForList (main_of after) list'
+
+-- they were taken up to one in which the store failed
+pub record HasRunToFault (turns : List Turn) (before after : Outside) : Type 0 where
+  pub list : List Transaction
+  pub cut : Option ℕ
+  pub stamps : List Stamp
+  pub opens : Opens (main_of before) before.stamps (Some stamps) list cut
+  pub answers : AnsweredToFault list cut stamps turns before.read_faults after.read_faults before.sink_faults after.sink_faults before.taken after.taken after.stamps
+
+-- this holds of the turns of the input, where source and clock tell
+abbrev pub OfInput : Option (List ℕ) → Outside → (List Turn → Type 0) → Type 0
+OfInput left before holds = IfSome before.stamps (λ stamps. IfSome left (λ input. (turns : List Turn) × IsInput input turns × holds turns))
+
+-- the file wasn't opened: nothing was done to it, and the clock wasn't read
+pub record IsUnopened (before after : Outside) : Type 0 where
+  pub stamps : after.stamps ≡ before.stamps
+  pub log : after.log ≡ before.log
+  pub read_faults : after.read_faults ≡ before.read_faults
+  pub write_faults : after.write_faults ≡ before.write_faults
+
+-- it couldn't be opened, since a call of the volume failed
+pub record FailedToOpen (before after : Outside) : Type 0 where
+  pub rose : SomeRose before.read_faults after.read_faults before.write_faults after.write_faults
+  pub written : IsWritten before.taken after.taken before.sink_faults after.sink_faults store_fault_line
+  pub stamps : GaveAtMostOne before.stamps after.stamps
+
+-- it couldn't be opened, since it is damaged
+pub record IsRefused (told : Type 0) (before after : Outside) : Type 0 where
+  pub text : List ℕ
+  pub names : NamesDamage told (main_of before) text
+  pub written : IsWritten before.taken after.taken before.sink_faults after.sink_faults text
+  pub stamps : told → after.stamps ≡ before.stamps
+  pub log : told → after.log ≡ before.log
+
+-- What each status of `run` says: its cause, and what was written. `told` says that the volume tells, and
+-- `unread` that the source's count of faults rose; `left` is what the source had left.
+abbrev pub RunOutcome : Status → Type 0 → Type 0 → Option (List ℕ) → Outside → Outside → Type 0
+RunOutcome Done told unread left before after = told → OfInput left before (λ turns. HasRun turns before after)
+RunOutcome NoMemory told unread left before after =
+    ((after.taken ≡ before.taken) × GaveAtMostOne before.stamps after.stamps) ⊎ (told → OfInput left before (λ turns. HasRunInPart turns before after))
+RunOutcome ReadFault told unread left before after =
+    unread × IsUnopened before after × IsWritten before.taken after.taken before.sink_faults after.sink_faults read_fault_line
+RunOutcome SinkFault told unread left before after =
+    Rose before.sink_faults after.sink_faults × (told → OfInput left before (λ turns. HasRunInPart turns before after))
+RunOutcome StoreFault told unread left before after =
+    FailedToOpen before after ⊎ (Rose before.write_faults after.write_faults × (told → OfInput left before (λ turns. HasRunToFault turns before after)))
+RunOutcome Damaged told unread left before after = IsRefused told before after
+RunOutcome BadLine told unread left before after = IsUnopened before after × IfSome left (λ input. HasBadLine input before after)
+RunOutcome Limit told unread left before after = IsUnopened before after × IfSome left (λ input. IsPastLimit input before after)
+RunOutcome _ told unread left before after = ⊥
 
 -- the status, or want of memory
 abbrev pub IsUnlessMemory : Status → Status → Type 0
 IsUnlessMemory status expected = (status ≡ expected) ⊎ (status ≡ NoMemory)
 
--- the clock gave its stamps to the start and to those votes of the turns that had changes to write, and
--- no other stamp
-abbrev pub ClockLeft : List Turn → Option (List Stamp) → Option (List Stamp) → Type 0
-ClockLeft turns told after = IfSome told (λ stamps. after ≡ Some (stamps_left turns stamps))
-
--- it gave those of some front of the turns
-abbrev pub ClockLeftFront : List Turn → Option (List Stamp) → Option (List Stamp) → Type 0
-ClockLeftFront turns told after = IfSome told (λ stamps. (n : ℕ) × (after ≡ Some (stamps_left (take n turns) stamps)))
-
--- What the clock gave `run`: nothing, where no script was run. `left` is what the source had left, `told` the
--- clock's stamps and `after` those that it has still to give.
-abbrev pub ClockGave : Status → Option (List ℕ) → Option (List Stamp) → Option (List Stamp) → Type 0
-ClockGave Done left told after = IfSome left (λ input. (turns : List Turn) × IsInput input turns × ClockLeft turns told after)
-ClockGave NoMemory left told after = (after ≡ told) ⊎ IfSome left (λ input. (turns : List Turn) × IsInput input turns × ClockLeftFront turns told after)
-ClockGave SinkFault left told after = IfSome left (λ input. (turns : List Turn) × IsInput input turns × ClockLeftFront turns told after)
-ClockGave _ left told after = after ≡ told
-
 -- the source was read to its end
 abbrev pub is_read : Status → Bool
 is_read Done = true
 is_read SinkFault = true
+is_read StoreFault = true
+is_read Damaged = true
 is_read BadLine = true
 is_read _ = false

@@ -1,15 +1,15 @@
 //! What a vote decides.
 
-ghost use Rattle.std.specs.Prelude.{◌≡◌, ◌<◌, ◌-◌, ◌^◌, Some, IfOk, IfSome, IsErrOf, map};
-ghost use Rattle.zb_ids.specs.Tids.{stamp_number, tid_after};
-ghost use Rattle.zb_model.specs.Database.{newest_tid};
-ghost use Rattle.zodb_top.specs.Decisions.{GivesDecision, IsWritable};
-ghost use Rattle.zodb_top.specs.Machine.{change_of, conflict_of};
+ghost use Rattle.std.specs.Prelude.{◌≡◌, ◌<◌, All, false, IfOk, IfSome, IsErrOf, map, nat_eq};
+ghost use Rattle.std.specs.List.{IsDistinct};
+ghost use Rattle.zb_model.specs.Voting.{IsFilled, IsVotable, IsWellFormed};
+ghost use Rattle.zodb_top.specs.Decisions.{GivesDecision, new_change_of};
+ghost use Rattle.zodb_top.specs.Machine.{conflict_of};
 
 use crate::pending::PendingStore;
 use std::alloc::{AllocError, Global};
-use zb_ids::{ListOf, Stamp, Text8, Tid, next_tid};
-use zb_model::{Change, Content, Refusal, Transaction, Why, newest_of, serial_in};
+use zb_ids::{ListOf, Text8, Tid, next_tid};
+use zb_model::{NewChange, NewContent, NewTransaction, Refusal, Store, Why};
 use zb_outside::Clock;
 
 /// Why a vote isn't held.
@@ -20,11 +20,12 @@ pub(crate) enum VoteError {
 }
 
 /// The refusal of the first store whose base isn't current.
-fn conflict(list: &[Transaction], stores: &[PendingStore]) -> Option<Refusal>
-    ensures { result ≡ conflict_of list.now stores.now }
+fn conflict<St: Store>(store: &St, stores: &[PendingStore]) -> Option<Refusal>
+    requires whole { St.broken store.now ≡ false }
+    ensures { St.told → result ≡ conflict_of (St.list store.now) stores.now }
 {
     for pending in stores {
-        let current = serial_in(list, pending.oid);
+        let current = store.serial_of(pending.oid);
         if pending.base != current {
             return Some(Refusal::Conflict {
                 oid: pending.oid,
@@ -37,15 +38,17 @@ fn conflict(list: &[Transaction], stores: &[PendingStore]) -> Option<Refusal>
     None
 }
 
-/// The changes of these stores.
-fn changes_of(alloc: Global, stores: &[PendingStore]) -> Result<ListOf<Change>, AllocError>
-    ensures { IfOk result (λ changes. changes ≡ map change_of stores.now) }
+/// The changes that these stores ask for.
+fn changes_of(alloc: Global, stores: &[PendingStore]) -> Result<ListOf<NewChange>, AllocError>
+    ensures changes { IfOk result (λ changes. changes ≡ map new_change_of stores.now) }
+    ensures filled { IfOk result (λ changes. All (λ c. IsFilled c.content) changes) }
 {
     let mut changes = ListOf::new(alloc);
     for store in stores {
-        changes.push(Change {
+        let bytes = Text8::from_slice(alloc, store.bytes.as_slice())?;
+        changes.push(NewChange {
             oid: store.oid,
-            content: Content::Held(store.bytes.clone()?),
+            content: NewContent::Bytes(bytes),
         })?;
     }
     Ok(changes)
@@ -53,17 +56,21 @@ fn changes_of(alloc: Global, stores: &[PendingStore]) -> Result<ListOf<Change>, 
 
 /// What a vote on these stores will write, if anything. The clock is read exactly where there is
 /// something to write and the memory for it.
-pub(crate) fn decide<C: Clock>(
+pub(crate) fn decide<St: Store, C: Clock>(
     alloc: Global,
-    list: &[Transaction],
+    store: &St,
     stores: &[PendingStore],
     clock: &mut C,
-) -> Result<Option<Transaction>, VoteError>
-    ensures gives { GivesDecision result list.now stores.now (C.stamps clock.old) (C.stamps clock.new) }
-    ensures writable { IfOk result (λ writes. IsWritable writes) }
+) -> Result<Option<NewTransaction>, VoteError>
+    requires whole { St.broken store.now ≡ false }
+    requires distinct { IsDistinct nat_eq (map (λ p. p.oid) stores.now) }
+    ensures gives { St.told → GivesDecision result (St.list store.now) stores.now (C.stamps clock.old) (C.stamps clock.new) }
+    ensures later { IfOk result (λ new. IfSome new (λ t. St.newest_number store.now < t.tid)) }
+    ensures well_formed { IfOk result (λ new. IfSome new IsWellFormed) }
+    ensures votable { St.told → IfOk result (λ new. IfSome new (λ t. IsVotable (St.list store.now) t)) }
     ensures unread { IsErrOf result VoteError.Memory → C.stamps clock.new ≡ C.stamps clock.old }
 {
-    if let Some(why) = conflict(list, stores) {
+    if let Some(why) = conflict(store, stores) {
         return Err(VoteError::Refused(why));
     }
     if stores.is_empty() {
@@ -73,13 +80,12 @@ pub(crate) fn decide<C: Clock>(
         return Err(VoteError::Memory);
     };
     let stamp = clock.stamp();
-    let tid = match next_tid(newest_of(list), stamp) {
+    let tid = match next_tid(store.newest(), stamp) {
         Ok(tid) if tid < Tid(u64::MAX) => tid,
         _ => return Err(VoteError::Refused(Refusal::TidsSpent)),
     };
-    Ok(Some(Transaction {
+    Ok(Some(NewTransaction {
         tid,
-        packed: false,
         user: Text8::new(alloc),
         description: Text8::new(alloc),
         extension: Text8::new(alloc),

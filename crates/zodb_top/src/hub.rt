@@ -1,42 +1,84 @@
-//! The list of transactions, and the sessions that read it and add to it.
+//! The store, and the sessions that read its list and add to it.
 
-use crate::pending::PendingStore;
+ghost use Rattle.std.specs.Prelude.{◌≡◌, None, false, length};
+ghost use Rattle.zodb_top.specs.Machine.{start};
+ghost use Rattle.zodb_top.specs.Seen.{IsSound, state_of};
+
+use crate::seat::Seat;
 use crate::vote::HeldVote;
-use zb_ids::{ListOf, Oid, Tid};
-use zb_model::Transaction;
-use zb_script::Name;
+use std::alloc::Global;
+use std::marker::Model;
+use zb_ids::Oid;
+use zb_model::Store;
 
-/// A session's open transaction. Its view is what the list had when it began: the list only grows,
-/// so the number of transactions then says which.
-#[derive(Debug, Drop)]
-pub struct Work {
-    /// The tid after the newest when it began.
-    pub front: Tid,
-    /// How many transactions the list had when it began.
-    pub length: usize,
-    /// The stores since then.
-    pub stores: Vec<PendingStore>,
-}
-
-/// A client's session.
-#[derive(Debug, Drop)]
-pub struct Seat {
-    /// The client.
-    pub client: Name,
-    /// Its open transaction.
-    pub work: Option<Work>,
-}
-
-/// The list, the greatest number of an object, the sessions in the order in which they were opened,
-/// and the vote.
-#[derive(Debug, Drop)]
-pub struct Hub {
-    /// The transactions, the oldest first.
-    pub list: ListOf<Transaction>,
+/// A store, the greatest number of an object, the sessions in the order in which they were opened, and
+/// the vote.
+#[derive(Drop)]
+pub struct Hub<St: Store> {
+    /// The list of transactions.
+    pub(crate) store: St,
     /// The greatest number of an object that stood in the list at any moment or was handed out.
-    pub greatest: Oid,
+    pub(crate) greatest: Oid,
     /// The sessions.
-    pub seats: Vec<Seat>,
+    pub(crate) seats: Vec<Seat>,
     /// The vote, where one is held.
-    pub vote: Option<HeldVote>,
+    pub(crate) vote: Option<HeldVote>,
+}
+
+impl<St: Store> Model for Hub<St> {
+    ghost use Rattle.zodb_top.specs.Seen.{HubSeen};
+
+    ghost Value = { HubSeen };
+
+    ghost view = { λ hub. record {
+      list = St.list hub.store;
+      newest = St.newest_number hub.store;
+      voted = St.voted hub.store;
+      broken = St.broken hub.store;
+      log = St.log hub.store;
+      read_faults = St.read_faults hub.store;
+      faults = St.faults hub.store;
+      greatest = hub.greatest;
+      seats = hub.seats.items;
+      vote = hub.vote;
+    } };
+}
+
+impl<St: Store> Hub<St> {
+    /// A hub without sessions over this store.
+    pub(crate) fn new(alloc: Global, store: St) -> Hub<St>
+        requires whole { St.broken store ≡ false }
+        requires free { St.voted store ≡ None }
+        ensures state { St.told → state_of result ≡ start (St.list store) }
+        ensures sound { IsSound St.told result }
+        ensures empty { length result.seats ≡ 0 }
+        ensures log { result.log ≡ St.log store }
+        ensures read_faults { result.read_faults ≡ St.read_faults store }
+        ensures faults { result.faults ≡ St.faults store }
+    {
+        let greatest = store.greatest_oid();
+        Hub {
+            store,
+            greatest,
+            seats: Vec::new(alloc),
+            vote: None,
+        }
+    }
+
+    /// The store.
+    pub(crate) fn into_store(self) -> St
+        ensures list { St.list result ≡ self.list }
+        ensures broken { St.broken result ≡ self.broken }
+        ensures log { St.log result ≡ self.log }
+        ensures read_faults { St.read_faults result ≡ self.read_faults }
+        ensures faults { St.faults result ≡ self.faults }
+    {
+        let Hub {
+            store,
+            greatest: _,
+            seats: _,
+            vote: _,
+        } = self;
+        store
+    }
 }

@@ -1,9 +1,10 @@
-//! Laws of the machine: what holds of every script, by every clock.
+//! Laws of the machine: what holds of every script, by every clock, over every database, whichever
+//! reads fail.
 
-ghost use Rattle.zodb_top.specs.Laws.{FrontsNeverFall, OnlyFiveRefusals, ReadsStayBelowTheFront, TheListStaysADatabase};
+ghost use Rattle.zodb_top.specs.Laws.{FrontsNeverFall, OnlySixRefusals, ReadsStayBelowTheFront, TheListStaysADatabase};
 
-/// The law that the fronts of a client's transactions never fall: in every run of a new database,
-/// each `begun` of a client has at least the front of its earlier ones.
+/// The law that the fronts of a client's transactions never fall: in every run from a database, each
+/// `begun` of a client has at least the front of its earlier ones.
 pub fn fronts_never_fall()
     ensures { FrontsNeverFall }
 {}
@@ -15,16 +16,16 @@ pub fn reads_stay_below_the_front()
     ensures { ReadsStayBelowTheFront }
 {}
 
-/// The law that the list stays a database: behind every run of a new database its tids rise strictly
+/// The law that the list stays a database: behind every run from a database its tids rise strictly
 /// from above 0 to below 2^64-1, and no transaction changes an object twice.
 pub fn the_list_stays_a_database()
     ensures { TheListStaysADatabase }
 {}
 
-/// The law that a script in shape has only five refusals: in every run of a new database over turns
-/// in shape, no answer is `NotOpen`, `NoTransaction`, `InTransaction`, `Voted`, `Busy` or
-/// `ReadFault`, and only a `new` is answered `OidsSpent`, where the greatest number of an object
-/// leaves none below 2^64.
-pub fn only_five_refusals()
-    ensures { OnlyFiveRefusals }
+/// The law that a script in shape has only six refusals: in every run from a database over turns in
+/// shape, no answer is `NotOpen`, `NoTransaction`, `InTransaction`, `Voted` or `Busy`; only a `new` is
+/// answered `OidsSpent`, where the greatest number of an object leaves none below 2^64; and only a
+/// turn in which reading failed is answered `ReadFault`.
+pub fn only_six_refusals()
+    ensures { OnlySixRefusals }
 {}

@@ -1,24 +1,26 @@
 //! What a session's lines do.
 
-ghost use Rattle.std.specs.Prelude.{◌≡◌, ◌<◌, ◌≤◌, IfOk, OnOk, IfSome, length, vec_len};
+ghost use Rattle.std.specs.Prelude.{◌≡◌, ◌<◌, ◌≤◌, false, IfErr, IfOk, OnOk, length};
 ghost use Rattle.std.specs.Option.{option_copied};
-ghost use Rattle.zb_model.specs.Database.{revision_below};
-ghost use Rattle.zodb_top.specs.Machine.{is_holder, read_content, read_revision};
-ghost use Rattle.zodb_top.specs.Seen.{IsSoundHub, IsStored, IsWorkOf, state_of};
-ghost use Rattle.zodb_top.specs.Steps.{IsStep};
+ghost use Rattle.zb_outside.specs.Rose.{Rose};
+ghost use Rattle.zodb_top.specs.Seen.{IsSound, IsStored, IsWorkOf, is_holder_of, state_of};
+ghost use Rattle.zodb_top.specs.Found.{answer_of};
+ghost use Rattle.zodb_top.specs.Steps.{IsReadStep, IsStep};
 
-use crate::hub::{Hub, Seat, Work};
+use crate::errors::TurnError;
+use crate::hub::Hub;
 use crate::pending::PendingStore;
+use crate::seat::{Seat, Work};
 use crate::stores::add_store;
 use crate::vote::HeldVote;
 use std::alloc::{AllocError, Global};
 use zb_ids::{Oid, Tid};
-use zb_model::{Content, Refusal, Transaction, newest_of, revision_before};
+use zb_model::{Found, Refusal, Store, StoreError};
 use zb_script::{Answer, Line};
 
 /// Whether a session holds the vote.
 pub(crate) fn is_holder(vote: &Option<HeldVote>, number: u32) -> bool
-    ensures { result ≡ is_holder number vote.now }
+    ensures { result ≡ is_holder_of number vote.now }
 {
     match vote {
         Some(held) => held.session == number,
@@ -26,74 +28,80 @@ pub(crate) fn is_holder(vote: &Option<HeldVote>, number: u32) -> bool
     }
 }
 
+/// The session's open transaction.
+pub(crate) fn work_of(seats: &[Seat], number: u32) -> Option<&Work>
+    requires open { number < length seats.now }
+    ensures value { IsWorkOf seats.now number (option_copied result) }
+{
+    seats[number as usize].work.as_ref()
+}
+
 /// A transaction begins.
 #[tactic(auto, using(crate::proofs::Steps::begin_refused, crate::proofs::Steps::begin_new))]
-pub(crate) fn begin(alloc: Global, hub: &mut Hub, number: u32) -> Answer
-    requires sound { IsSoundHub hub.old }
-    requires open { number < vec_len hub.old.seats }
-    ensures step { IsStep (state_of hub.old) Line.Begin number result (state_of hub.new) }
-    ensures sound { IsSoundHub hub.new }
-    ensures kept { vec_len hub.new.seats ≡ vec_len hub.old.seats }
+pub(crate) fn begin<St: Store>(alloc: Global, hub: &mut Hub<St>, number: u32) -> Answer
+    requires sound { IsSound St.told hub.old }
+    requires open { number < length hub.old.seats }
+    ensures step { St.told → IsStep (state_of hub.old) Line.Begin number result (state_of hub.new) }
+    ensures sound { IsSound St.told hub.new }
+    ensures kept { length hub.new.seats ≡ length hub.old.seats }
+    ensures read_faults { hub.new.read_faults ≡ hub.old.read_faults }
+    ensures faults { hub.new.faults ≡ hub.old.faults }
 {
-    let front = Tid(newest_of(hub.list.as_slice()).0 + 1);
-    let length = hub.list.len();
+    let front = Tid(hub.store.newest().0 + 1);
     let seat = &mut hub.seats[number as usize];
     if seat.work.is_some() {
         return Answer::Refused(Refusal::InTransaction);
     }
     seat.work = Some(Work {
         front,
-        length,
         stores: Vec::new(alloc),
     });
     Answer::Begun { front }
 }
 
-/// What a revision's content is answered.
-fn read_content(oid: Oid, serial: Tid, content: &Content) -> Result<Answer, AllocError>
-    ensures { IfOk result (λ a. a ≡ read_content oid serial content.now) }
+/// What a look-up is answered.
+fn answer_of(oid: Oid, found: Found) -> Answer
+    ensures { result ≡ answer_of oid found }
 {
-    match content {
-        Content::Held(bytes) => Ok(Answer::Data {
+    match found {
+        Found::Held {
             serial,
-            bytes: bytes.clone()?,
-        }),
-        Content::Absent => Ok(Answer::Refused(Refusal::Missing { oid, packed: false })),
+            bytes,
+            end: _,
+        } => Answer::Data { serial, bytes },
+        Found::Absent { serial: _ } => Answer::Refused(Refusal::Missing { oid, packed: false }),
+        Found::Nothing => Answer::Refused(Refusal::Missing { oid, packed: false }),
     }
-}
-
-/// What a read below a front is answered.
-fn read(view: &[Transaction], oid: Oid, front: Tid) -> Result<Answer, AllocError>
-    ensures { IfOk result (λ a. a ≡ read_revision oid (revision_below oid front view.now)) }
-{
-    match revision_before(view, oid, front) {
-        Some((serial, content)) => read_content(oid, serial, content),
-        None => Ok(Answer::Refused(Refusal::Missing { oid, packed: false })),
-    }
-}
-
-/// The session's open transaction.
-#[tactic(auto, using(crate::proofs::Steps::within_at))]
-pub(crate) fn work_of(hub: &Hub, number: u32) -> Option<&Work>
-    requires sound { IsSoundHub hub.now }
-    requires open { number < vec_len hub.now.seats }
-    ensures value { IsWorkOf hub.now number (option_copied result) }
-    ensures within { IfSome result (λ w. w.now.length ≤ length hub.now.list) }
-{
-    hub.seats[number as usize].work.as_ref()
 }
 
 /// An object is read.
 #[tactic(auto, using(crate::proofs::Steps::load_step, crate::proofs::Steps::load_refused))]
-pub(crate) fn load(hub: &Hub, number: u32, oid: Oid) -> Result<Answer, AllocError>
-    requires sound { IsSoundHub hub.now }
-    requires open { number < vec_len hub.now.seats }
-    ensures step { IfOk result (λ a. IsStep (state_of hub.now) (Line.Load oid) number a (state_of hub.now)) }
+pub(crate) fn load<St: Store>(
+    alloc: Global,
+    hub: &mut Hub<St>,
+    number: u32,
+    oid: Oid,
+) -> Result<Answer, TurnError>
+    requires sound { IsSound St.told hub.old }
+    requires open { number < length hub.old.seats }
+    ensures step { St.told → IfOk result (λ a. IsReadStep (Rose hub.old.read_faults hub.new.read_faults) (state_of hub.old) (Line.Load oid) number a (state_of hub.new)) }
+    ensures sound { OnOk result (IsSound St.told hub.new) }
+    ensures kept { length hub.new.seats ≡ length hub.old.seats }
+    ensures memory { IfErr result (λ e. e ≡ TurnError.Memory) }
+    ensures list { St.told → hub.new.list ≡ hub.old.list }
+    ensures whole { hub.new.broken ≡ false }
+    ensures read_faults { hub.old.read_faults ≤ hub.new.read_faults }
+    ensures faults { hub.new.faults ≡ hub.old.faults }
 {
-    let Some(work) = work_of(hub, number) else {
+    let Some(work) = work_of(hub.seats.as_slice(), number) else {
         return Ok(Answer::Refused(Refusal::NoTransaction));
     };
-    read(&hub.list.as_slice()[..work.length], oid, work.front)
+    match hub.store.load_before(alloc, oid, work.front) {
+        Ok(found) => Ok(answer_of(oid, found)),
+        Err(StoreError::ReadFault) => Ok(Answer::Refused(Refusal::ReadFault)),
+        Err(StoreError::Memory) => Err(TurnError::Memory),
+        Err(StoreError::StoreFault) => Err(TurnError::StoreFault),
+    }
 }
 
 /// Puts a store into a session's open transaction, if there is one.
@@ -108,15 +116,23 @@ fn put_store(seat: &mut Seat, new: PendingStore) -> Result<(), AllocError>
 }
 
 /// An object's new bytes wait for the vote.
-#[tactic(auto, using(crate::proofs::Steps::store_refused, crate::proofs::Steps::store_voted, crate::proofs::Steps::store_step, crate::proofs::Steps::store_sound))]
-pub(crate) fn store(hub: &mut Hub, number: u32, new: PendingStore) -> Result<Answer, AllocError>
-    requires sound { IsSoundHub hub.old }
-    requires open { number < vec_len hub.old.seats }
-    ensures step { IfOk result (λ a. IsStep (state_of hub.old) (Line.Store new.oid new.base new.bytes) number a (state_of hub.new)) }
-    ensures sound { OnOk result (IsSoundHub hub.new) }
-    ensures kept { vec_len hub.new.seats ≡ vec_len hub.old.seats }
+#[tactic(auto, using(crate::proofs::Steps::store_refused, crate::proofs::Steps::store_voted, crate::proofs::Steps::store_step))]
+pub(crate) fn store<St: Store>(
+    hub: &mut Hub<St>,
+    number: u32,
+    new: PendingStore,
+) -> Result<Answer, AllocError>
+    requires sound { IsSound St.told hub.old }
+    requires open { number < length hub.old.seats }
+    ensures step { St.told → IfOk result (λ a. IsStep (state_of hub.old) (Line.Store new.oid new.base new.bytes) number a (state_of hub.new)) }
+    ensures sound { OnOk result (IsSound St.told hub.new) }
+    ensures kept { length hub.new.seats ≡ length hub.old.seats }
+    ensures list { St.told → hub.new.list ≡ hub.old.list }
+    ensures whole { hub.new.broken ≡ false }
+    ensures read_faults { hub.new.read_faults ≡ hub.old.read_faults }
+    ensures faults { hub.new.faults ≡ hub.old.faults }
 {
-    if work_of(hub, number).is_none() {
+    if work_of(hub.seats.as_slice(), number).is_none() {
         return Ok(Answer::Refused(Refusal::NoTransaction));
     }
     if is_holder(&hub.vote, number) {

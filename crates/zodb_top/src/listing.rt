@@ -1,58 +1,34 @@
 //! The lists of what stands in a file.
 
-ghost use Rattle.std.specs.Prelude.{◌≡◌, ◌≢◌, ◌⊎◌, ◌≤◌, ◌++◌, ℕ, List, [], Option, map, take, IfOk, OnOk, OnErr, IsErrOf};
-ghost use Rattle.std.specs.Io.KnownBytes.{Appends};
+ghost use Rattle.std.specs.Prelude.{◌≡◌, ◌≢◌, ◌⊎◌, ◌≤◌, ◌++◌, ℕ, List, [], None, Option, map, take, IfOk, OnOk, IsErrOf};
+ghost use Rattle.file_store.specs.Opening.{IsMade};
 ghost use Rattle.fs_reading.specs.Main.{IsIndexed};
 ghost use Rattle.fs_records.specs.Blocks.{Begins, Reached};
 ghost use Rattle.fs_records.specs.File.{StandsFor};
-ghost use Rattle.fs_recovery.specs.Opens.{IsOpened};
+ghost use Rattle.fs_recovery.specs.Opens.{IsNoList, IsOpened};
 ghost use Rattle.fs_records.specs.Places.{IsIndexOf};
 ghost use Rattle.zb_model.specs.declared.data.Transaction.{Transaction};
 ghost use Rattle.zb_outside.specs.Rose.{Rose};
-ghost use Rattle.zb_outside.specs.Written.{AppendsFront};
 ghost use Rattle.zb_script.specs.Lists.{log_text, revision_text};
 ghost use Rattle.zb_volume.specs.declared.areas.Area.TheVariants.{Main};
 ghost use Rattle.zb_volume.specs.Disk.{seen};
-ghost use Rattle.zodb_top.specs.Listings.{IsHarmed, IsSaid, ListOutcome, cut_lines, damage_line, joined, lines_of, without_tail};
-ghost use Rattle.zodb_top.specs.Program.{IsUnlessMemory, line};
+ghost use Rattle.zodb_top.specs.Listings.{IsSaid, ListOutcome, lines_of, without_tail};
+ghost use Rattle.zodb_top.specs.FileLists.{FileListOutcome};
+ghost use Rattle.zodb_top.specs.Texts.{cut_lines};
 
 use crate::command::Listing;
-use crate::saying::say;
+use crate::saying::{cut_lines, say_unopened, write_lines};
 use crate::status::Status;
+use file_store::create_if_empty;
 use fs_reading::{ReadError, read_history, read_undo_log};
-use fs_records::{Field, Index};
-use fs_recovery::{OpenError, Opened, open_main};
-use itoa::Buffer;
+use fs_records::Index;
+use fs_recovery::{Opened, open_main};
 use std::alloc::{AllocError, Global};
 use zb_ids::{ListOf, Text8};
 use zb_model::{LogLine, Revision};
-use zb_outside::{Failed, Sink, write_all};
+use zb_outside::{Clock, Failed, Sink};
 use zb_script::{log_line, revision_line};
-use zb_volume::{Area, Volume};
-
-/// Writes a line.
-fn write_line<K: Sink>(sink: &mut K, line: &Text8) -> Result<(), Failed>
-    ensures ok { OnOk result (Appends (K.taken sink.old) (K.taken sink.new) line.now) }
-    ensures err { OnErr result (AppendsFront (K.taken sink.old) (K.taken sink.new) line.now) }
-    ensures failed { OnErr result (Rose (K.faults sink.old) (K.faults sink.new)) }
-    ensures counted { K.faults sink.old ≤ K.faults sink.new }
-{
-    write_all(sink, line.as_slice())
-}
-
-/// Writes lines in their order, each by a write of its own.
-#[tactic(auto, using(crate::proofs::Written::start_lines, crate::proofs::Written::one_line, crate::proofs::Written::all_lines, crate::proofs::Written::front_lines))]
-fn write_lines<K: Sink>(sink: &mut K, lines: &[Text8]) -> Result<(), Failed>
-    ensures ok { OnOk result (Appends (K.taken sink.old) (K.taken sink.new) (joined lines.now)) }
-    ensures err { OnErr result (AppendsFront (K.taken sink.old) (K.taken sink.new) (joined lines.now)) }
-    ensures failed { OnErr result (Rose (K.faults sink.old) (K.faults sink.new)) }
-    ensures counted { K.faults sink.old ≤ K.faults sink.new }
-{
-    for line in lines {
-        write_line(sink, line)?;
-    }
-    Ok(())
-}
+use zb_volume::Volume;
 
 fn push_log(alloc: Global, out: &mut ListOf<Text8>, lines: &[LogLine]) -> Result<(), AllocError>
     ensures { OnOk result (out.new ≡ out.old ++ map log_text lines.now) }
@@ -106,21 +82,6 @@ fn push_listing<V: Volume>(
     Ok(())
 }
 
-/// The line of a tail that was cut off, where one was.
-fn cut_lines(alloc: Global, cut: Option<u64>) -> Result<ListOf<Text8>, AllocError>
-    ensures { IfOk result (λ lines. lines ≡ cut_lines cut) }
-{
-    let mut lines = ListOf::new(alloc);
-    if let Some(at) = cut {
-        let mut text = Vec::from_slice(alloc, b"cut ")?;
-        let mut buffer = Buffer::new();
-        text.extend_from_slice(buffer.format(at).as_bytes())?;
-        text.push(b'\n')?;
-        lines.push(Text8::from_vec(text))?;
-    }
-    Ok(lines)
-}
-
 /// All the lines of a file that is open.
 fn listing_lines<V: Volume>(
     alloc: Global,
@@ -157,7 +118,7 @@ fn write_listing<K: Sink, V: Volume>(
 ) -> Status
     requires { V.told → IsIndexed (seen (V.log volume.old) Main) opened.now.index }
     ensures outcome { (bytes : List ℕ) → (V.told → IsOpened bytes opened.now × (seen (V.log volume.old) Main ≡ take opened.now.end bytes))
-        → ListOutcome result asked V.told bytes (Rose (V.read_faults volume.old) (V.read_faults volume.new)) ⊥ ⊥
+        → FileListOutcome result asked V.told bytes (Rose (V.read_faults volume.old) (V.read_faults volume.new)) ⊥ ⊥
         (K.taken sink.old) (K.taken sink.new) (K.faults sink.old) (K.faults sink.new) }
     ensures listed { result ≡ Status.Damaged → ⊥ }
     ensures counted { V.read_faults volume.old ≤ V.read_faults volume.new }
@@ -174,21 +135,8 @@ fn write_listing<K: Sink, V: Volume>(
     }
 }
 
-/// The line that names the rule that fails, and where.
-fn damage_text(alloc: Global, at: u64, field: Field) -> Result<Vec<u8>, AllocError>
-    ensures { IfOk result (λ text. text.items ≡ damage_line at field) }
-{
-    let mut text = Vec::from_slice(alloc, b"damaged ")?;
-    let mut buffer = Buffer::new();
-    text.extend_from_slice(buffer.format(at).as_bytes())?;
-    text.push(b' ')?;
-    text.extend_from_slice(field.name().as_bytes())?;
-    text.push(b'\n')?;
-    Ok(text)
-}
-
 /// Opens the file and writes the list.
-#[tactic(auto, using(crate::proofs::Listed::faulted, crate::proofs::Listed::damaged, crate::proofs::Listed::rule_named, crate::proofs::Listed::more_rose, crate::proofs::Listed::kept_front, crate::proofs::Listed::indexed))]
+#[tactic(auto, using(crate::proofs::Listed::more_rose))]
 fn list_opened<K: Sink, V: Volume>(
     alloc: Global,
     asked: Listing,
@@ -196,53 +144,47 @@ fn list_opened<K: Sink, V: Volume>(
     volume: &mut V,
 ) -> Status
     requires { V.told → seen (V.log volume.old) Main ≢ [] }
-    ensures outcome { ListOutcome result asked V.told (seen (V.log volume.old) Main) (Rose (V.read_faults volume.old) (V.read_faults volume.new)) (Rose (V.write_faults volume.old) (V.write_faults volume.new)) (V.log volume.new ≡ V.log volume.old)
+    ensures outcome { FileListOutcome result asked V.told (seen (V.log volume.old) Main) (Rose (V.read_faults volume.old) (V.read_faults volume.new)) (Rose (V.write_faults volume.old) (V.write_faults volume.new)) (V.log volume.new ≡ V.log volume.old)
         (K.taken sink.old) (K.taken sink.new) (K.faults sink.old) (K.faults sink.new) }
     ensures counted { V.read_faults volume.old ≤ V.read_faults volume.new }
     ensures write_counted { V.write_faults volume.old ≤ V.write_faults volume.new }
     ensures sink_counted { K.faults sink.old ≤ K.faults sink.new }
     ensures kept { V.told → result ≡ Status.Done → (list : List Transaction) (cut : Option ℕ) → StandsFor (seen (V.log volume.old) Main) list cut
         → seen (V.log volume.new) Main ≡ without_tail cut (seen (V.log volume.old) Main) }
-    ensures harmed { V.told → IsHarmed (seen (V.log volume.old) Main) → V.log volume.new ≡ V.log volume.old }
+    ensures harmed { V.told → IsNoList (seen (V.log volume.old) Main) → V.log volume.new ≡ V.log volume.old }
     ensures left { V.told → (result ≡ Status.StoreFault → ⊥) → (list : List Transaction) (cut : Option ℕ) → StandsFor (seen (V.log volume.old) Main) list cut
         → (seen (V.log volume.new) Main ≡ seen (V.log volume.old) Main) ⊎ (seen (V.log volume.new) Main ≡ without_tail cut (seen (V.log volume.old) Main)) }
 {
     match open_main(alloc, volume) {
         Ok(opened) => write_listing(alloc, asked, sink, volume, &opened),
-        Err(OpenError::StoreFault) => say(sink, b"store fault\n", Status::StoreFault),
-        Err(OpenError::NotFileStorage) => say(sink, b"damaged 0 magic\n", Status::Damaged),
-        Err(OpenError::BadRecord { at, field }) => match damage_text(alloc, at, field) {
-            Ok(text) => say(sink, text.as_slice(), Status::Damaged),
-            Err(_) => Status::NoMemory,
-        },
-        Err(OpenError::Memory) => Status::NoMemory,
+        Err(error) => say_unopened(alloc, sink, error),
     }
 }
 
-/// Writes a list of what stands in the file, or what of the file is damaged.
-#[tactic(auto, using(crate::proofs::Listed::is_empty_file, crate::proofs::Listed::faulted))]
-pub(crate) fn list_file<K: Sink, V: Volume>(
+/// Writes a list of what stands in the file, which is made first where Main is empty, or what of the
+/// file is damaged.
+pub(crate) fn list_file<K: Sink, V: Volume, C: Clock>(
     alloc: Global,
     asked: Listing,
     sink: &mut K,
     volume: &mut V,
+    clock: &mut C,
 ) -> Status
-    ensures outcome { ListOutcome result asked V.told (seen (V.log volume.old) Main) (Rose (V.read_faults volume.old) (V.read_faults volume.new)) (Rose (V.write_faults volume.old) (V.write_faults volume.new)) (V.log volume.new ≡ V.log volume.old)
-        (K.taken sink.old) (K.taken sink.new) (K.faults sink.old) (K.faults sink.new) }
+    ensures outcome { ListOutcome result asked V.told
+        (record { taken = K.taken sink.old; sink_faults = K.faults sink.old; stamps = C.stamps clock.old; log = V.log volume.old; read_faults = V.read_faults volume.old; write_faults = V.write_faults volume.old })
+        (record { taken = K.taken sink.new; sink_faults = K.faults sink.new; stamps = C.stamps clock.new; log = V.log volume.new; read_faults = V.read_faults volume.new; write_faults = V.write_faults volume.new }) }
     ensures counted { V.read_faults volume.old ≤ V.read_faults volume.new }
     ensures write_counted { V.write_faults volume.old ≤ V.write_faults volume.new }
     ensures sink_counted { K.faults sink.old ≤ K.faults sink.new }
-    ensures kept { V.told → result ≡ Status.Done → (list : List Transaction) (cut : Option ℕ) → StandsFor (seen (V.log volume.old) Main) list cut
+    ensures kept { V.told → result ≡ Status.Done → seen (V.log volume.old) Main ≢ [] → (list : List Transaction) (cut : Option ℕ) → StandsFor (seen (V.log volume.old) Main) list cut
         → seen (V.log volume.new) Main ≡ without_tail cut (seen (V.log volume.old) Main) }
-    ensures harmed { V.told → IsHarmed (seen (V.log volume.old) Main) → V.log volume.new ≡ V.log volume.old }
-    ensures left { V.told → (result ≡ Status.StoreFault → ⊥) → (list : List Transaction) (cut : Option ℕ) → StandsFor (seen (V.log volume.old) Main) list cut
+    ensures made { V.told → result ≡ Status.Done → seen (V.log volume.old) Main ≡ [] → (list : List Transaction) × IsMade (C.stamps clock.old) list None × StandsFor (seen (V.log volume.new) Main) list None }
+    ensures harmed { V.told → IsNoList (seen (V.log volume.old) Main) → V.log volume.new ≡ V.log volume.old }
+    ensures left { V.told → (result ≡ Status.StoreFault → ⊥) → seen (V.log volume.old) Main ≢ [] → (list : List Transaction) (cut : Option ℕ) → StandsFor (seen (V.log volume.old) Main) list cut
         → (seen (V.log volume.new) Main ≡ seen (V.log volume.old) Main) ⊎ (seen (V.log volume.new) Main ≡ without_tail cut (seen (V.log volume.old) Main)) }
 {
-    let Ok(length) = volume.len(Area::Main) else {
-        return say(sink, b"store fault\n", Status::StoreFault);
-    };
-    if length == 0 {
-        return say(sink, b"damaged 0 empty\n", Status::Damaged);
+    match create_if_empty(alloc, volume, clock) {
+        Ok(()) => list_opened(alloc, asked, sink, volume),
+        Err(error) => say_unopened(alloc, sink, error),
     }
-    list_opened(alloc, asked, sink, volume)
 }

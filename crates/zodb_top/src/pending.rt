@@ -1,6 +1,7 @@
 //! Stores that wait for a vote.
 
-use zb_ids::{Oid, Text8, Tid};
+use zb_ids::{Oid, Tid};
+use zb_script::Payload;
 
 /// An object's new bytes, and the revision that they were made from.
 #[derive(Debug, Drop)]
@@ -9,6 +10,6 @@ pub struct PendingStore {
     pub oid: Oid,
     /// The serial of the revision that the bytes were made from, or 0.
     pub base: Tid,
-    /// The bytes, at least one.
-    pub bytes: Text8,
+    /// The bytes.
+    pub bytes: Payload,
 }

@@ -1,71 +1,83 @@
 //! The turns of a script, one after another.
 
-ghost use Rattle.std.specs.Prelude.{◌≡◌, ◌<◌, ◌≤◌, ◌+◌, ◌^◌, OnOk, OnErr, IsErrOf, length, vec_len};
+ghost use Rattle.std.specs.Prelude.{◌≡◌, ◌<◌, ◌≤◌, ◌+◌, ◌^◌, ◌∷◌, [], false, OnOk, IfErr, IsErrOf, length};
 ghost use Rattle.zb_outside.specs.Rose.{Rose};
-ghost use Rattle.zodb_top.specs.Runs.{FrontTicks, Replies, RepliesFront, Runs, RunsFront, Ticks};
-ghost use Rattle.zodb_top.specs.Seen.{IsSoundHub, state_of};
+ghost use Rattle.zodb_top.specs.Runs.{Runs, Stops, at_moment};
+ghost use Rattle.zodb_top.specs.Seen.{IsSound};
 
+use crate::errors::TurnError;
 use crate::hub::Hub;
 use crate::turn::take_turn;
 use std::alloc::Global;
-use zb_outside::{Clock, Sink, write_all};
+use zb_model::Store;
+use zb_outside::{Clock, Failed, Sink, write_all};
 use zb_script::{Turn, answer_line};
 
 /// Why a run ended before its last turn.
 #[derive(Clone, Copy, Debug, PartialEq, Eq)]
 pub(crate) enum RunError {
+    /// There is no memory.
     Memory,
-    Fault,
+    /// A reply could not be written.
+    SinkFault,
+    /// The store failed.
+    StoreFault,
 }
 
 /// Takes a turn and writes its reply.
-#[tactic(auto, using(crate::proofs::Running::replied, crate::proofs::Running::replied_front, crate::proofs::Running::nothing_replied, crate::proofs::Running::ticked, crate::proofs::Running::not_ticked))]
-fn reply<K: Sink, C: Clock>(
+fn reply<St: Store, K: Sink, C: Clock>(
     alloc: Global,
-    hub: &mut Hub,
+    hub: &mut Hub<St>,
     turn: &Turn,
     sink: &mut K,
     clock: &mut C,
 ) -> Result<(), RunError>
-    requires sound { IsSoundHub hub.old }
-    requires few { vec_len hub.old.seats < 2 ^ 32 }
-    ensures ok { OnOk result (Replies (C.stamps clock.old) (C.stamps clock.new) (state_of hub.old) turn.now (state_of hub.new) (K.taken sink.old) (K.taken sink.new)) }
-    ensures err { OnErr result (RepliesFront (C.stamps clock.old) (state_of hub.old) turn.now (K.taken sink.old) (K.taken sink.new)) }
-    ensures clock { OnErr result (Ticks (C.stamps clock.old) (C.stamps clock.new) (state_of hub.old) turn.now) }
-    ensures sound { OnOk result (IsSoundHub hub.new) }
-    ensures grows { OnOk result (vec_len hub.new.seats ≤ vec_len hub.old.seats + 1) }
-    ensures failed { IsErrOf result RunError.Fault → Rose (K.faults sink.old) (K.faults sink.new) }
+    requires sound { IsSound St.told hub.old }
+    requires few { length hub.old.seats < 2 ^ 32 }
+    ensures ok { St.told → OnOk result (Runs (at_moment (K.taken sink.old) (C.stamps clock.old) hub.old) (turn.now ∷ []) (at_moment (K.taken sink.new) (C.stamps clock.new) hub.new)) }
+    ensures err { St.told → IfErr result (λ e. Stops e (at_moment (K.taken sink.old) (C.stamps clock.old) hub.old) (turn.now ∷ []) (at_moment (K.taken sink.new) (C.stamps clock.new) hub.new)) }
+    ensures sound { OnOk result (IsSound St.told hub.new) }
+    ensures grows { OnOk result (length hub.new.seats ≤ length hub.old.seats + 1) }
+    ensures whole { ¬ IsErrOf result RunError.StoreFault → hub.new.broken ≡ false }
+    ensures sink_failed { IsErrOf result RunError.SinkFault → Rose (K.faults sink.old) (K.faults sink.new) }
+    ensures store_failed { IsErrOf result RunError.StoreFault → Rose hub.old.faults hub.new.faults }
     ensures counted { K.faults sink.old ≤ K.faults sink.new }
+    ensures read_faults { hub.old.read_faults ≤ hub.new.read_faults }
+    ensures faults { hub.old.faults ≤ hub.new.faults }
 {
-    let Ok(answer) = take_turn(alloc, hub, turn, clock) else {
-        return Err(RunError::Memory);
+    let answer = match take_turn(alloc, hub, turn, clock) {
+        Ok(answer) => answer,
+        Err(TurnError::Memory) => return Err(RunError::Memory),
+        Err(TurnError::StoreFault) => return Err(RunError::StoreFault),
     };
     let Ok(text) = answer_line(alloc, &turn.client, &answer) else {
         return Err(RunError::Memory);
     };
-    if write_all(sink, text.as_slice()).is_err() {
-        return Err(RunError::Fault);
+    match write_all(sink, text.as_slice()) {
+        Ok(()) => Ok(()),
+        Err(Failed) => Err(RunError::SinkFault),
     }
-    Ok(())
 }
 
 /// Takes the turns in their order and writes each reply by a write of its own.
-#[tactic(auto, using(crate::proofs::Running::start_run, crate::proofs::Running::go_on, crate::proofs::Running::all_run, crate::proofs::Running::front_run, crate::proofs::Running::start_led, crate::proofs::Running::led_on, crate::proofs::Running::front_ticks))]
-pub(crate) fn run<K: Sink, C: Clock>(
+#[tactic(auto, using(crate::proofs::Running::start_run, crate::proofs::Running::go_on, crate::proofs::Running::all_run, crate::proofs::Running::stops_here))]
+pub(crate) fn run<St: Store, K: Sink, C: Clock>(
     alloc: Global,
-    hub: &mut Hub,
+    hub: &mut Hub<St>,
     turns: &[Turn],
     sink: &mut K,
     clock: &mut C,
 ) -> Result<(), RunError>
-    requires sound { IsSoundHub hub.old }
-    requires few { vec_len hub.old.seats + length turns.now < 2 ^ 32 }
-    ensures ok { OnOk result (Runs (C.stamps clock.old) (C.stamps clock.new) (state_of hub.old) turns.now (state_of hub.new) (K.taken sink.old) (K.taken sink.new)) }
-    ensures err { OnErr result (RunsFront (C.stamps clock.old) (state_of hub.old) turns.now (K.taken sink.old) (K.taken sink.new)) }
-    ensures clock { OnErr result (FrontTicks (C.stamps clock.old) (C.stamps clock.new) (state_of hub.old) turns.now) }
-    ensures sound { OnOk result (IsSoundHub hub.new) }
-    ensures failed { IsErrOf result RunError.Fault → Rose (K.faults sink.old) (K.faults sink.new) }
+    requires sound { IsSound St.told hub.old }
+    requires few { length hub.old.seats + length turns.now < 2 ^ 32 }
+    ensures ok { St.told → OnOk result (Runs (at_moment (K.taken sink.old) (C.stamps clock.old) hub.old) turns.now (at_moment (K.taken sink.new) (C.stamps clock.new) hub.new)) }
+    ensures err { St.told → IfErr result (λ e. Stops e (at_moment (K.taken sink.old) (C.stamps clock.old) hub.old) turns.now (at_moment (K.taken sink.new) (C.stamps clock.new) hub.new)) }
+    ensures whole { ¬ IsErrOf result RunError.StoreFault → hub.new.broken ≡ false }
+    ensures sink_failed { IsErrOf result RunError.SinkFault → Rose (K.faults sink.old) (K.faults sink.new) }
+    ensures store_failed { IsErrOf result RunError.StoreFault → Rose hub.old.faults hub.new.faults }
     ensures counted { K.faults sink.old ≤ K.faults sink.new }
+    ensures read_faults { hub.old.read_faults ≤ hub.new.read_faults }
+    ensures faults { hub.old.faults ≤ hub.new.faults }
 {
     for turn in turns {
         reply(alloc, hub, turn, sink, clock)?;

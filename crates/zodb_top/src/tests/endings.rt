@@ -1,9 +1,11 @@
 //! How the program ends.
 
+use super::files::{FIRST_COMMIT, FIRST_COMMIT_REPLIES};
+use super::making::{main_of, new_file};
 use super::replies::{SECOND_WRITER, SECOND_WRITER_REPLIES};
 use super::*;
 
-/// Words, a script, its status and what is written.
+/// Words, a script, its status and what is written over an empty volume.
 const ENDINGS: [(&[&str], &[u8], u8, &[u8]); 11] = [
     (&[], b"", 2, b"usage\n"),
     (&["p"], b"", 2, b"usage\n"),
@@ -28,13 +30,41 @@ const ENDINGS: [(&[&str], &[u8], u8, &[u8]); 11] = [
     (&["p-", "run"], b"a open local\n", 0, b"a opened 0\n"),
 ];
 
+/// The words come first, then the script, and then the file, which is made only for a good script.
 #[test]
 fn run_statuses(rt: HostRuntime) -> Result<(), Fail> {
     for (words, script, status, written) in ENDINGS {
         let ending = run_failing(rt.alloc(), words, script, &[], &[])?;
         assert_eq!(rt; ending.status, status);
         assert_eq!(rt; ending.written.as_slice(), written);
+        let main = main_of(rt.alloc(), &ending.volume)?;
+        assert_eq!(rt; main.is_empty(), status != 0);
     }
+    Ok(())
+}
+
+/// A script that isn't read makes no file.
+#[test]
+fn failed_source_makes_no_file(rt: HostRuntime) -> Result<(), Fail> {
+    let ending = run_failing(rt.alloc(), &["p", "run"], FIRST_COMMIT, &[1], &[])?;
+    assert_eq!(rt; ending.status, 3);
+    assert_eq!(rt; ending.written.as_slice(), b"read fault\n".as_slice());
+    assert!(rt; main_of(rt.alloc(), &ending.volume)?.is_empty());
+    Ok(())
+}
+
+/// Two replies are written, and the third one isn't. The file was made before them.
+#[test]
+fn failed_sink_ends_the_run(rt: HostRuntime) -> Result<(), Fail> {
+    let ending = run_failing(rt.alloc(), &["p", "run"], FIRST_COMMIT, &[], &[3])?;
+    assert_eq!(rt; ending.status, 4);
+    assert_eq!(rt;
+        ending.written.as_slice(),
+        b"a opened 0\na begun 03f58e0000000001\n".as_slice()
+    );
+    assert!(rt; FIRST_COMMIT_REPLIES.starts_with(ending.written.as_slice()));
+    let main = main_of(rt.alloc(), &ending.volume)?;
+    assert_eq!(rt; main.as_slice(), new_file(rt.alloc())?.as_slice());
     Ok(())
 }
 
@@ -65,7 +95,7 @@ fn scripts_have_a_limit(rt: HostRuntime) -> Result<(), Fail> {
 }
 
 /// How many bytes of the replies stand before the line of this number, which counts from 1.
-fn front_of(replies: &[u8], line: u64) -> usize {
+pub fn front_of(replies: &[u8], line: u64) -> usize {
     let mut number = 1;
     for (at, byte) in replies.iter().enumerate() {
         if number == line {

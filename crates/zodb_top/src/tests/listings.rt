@@ -1,54 +1,7 @@
 //! The lists of what stands in a file, and its damage.
 
+use super::making::{changed, first_commit, main_of, volume_with};
 use super::*;
-use fs_records::{DataHeader, Header, write_data_header, write_header};
-
-/// A file with two transactions of 2024-01-01 00:00:00: the first one makes the root object, the
-/// second one stores `abc` in object 1.
-fn first_commit(alloc: Global) -> Result<Vec<u8>, Fail> {
-    let mut file = Vec::from_slice(alloc, b"FS30")?;
-    let root: &[u8] =
-        b"\x80\x03cpersistent.mapping\nPersistentMapping\n.\x80\x03}X\x04\x00\x00\x00data}s.";
-    put(&mut file, 0, b"initial database creation", 0, root)?;
-    put(&mut file, 1, b"", 1, b"abc")?;
-    Ok(file)
-}
-
-/// Puts a committed transaction with one data record at the end. Its tid is the moment's and `more`.
-fn put(
-    file: &mut Vec<u8>,
-    more: u64,
-    description: &[u8],
-    oid: u64,
-    bytes: &[u8],
-) -> Result<(), Fail> {
-    let at = file.len() as u64;
-    let tid = Tid(0x03f5_8e00_0000_0000 | more);
-    let header = Header {
-        tid,
-        length: 65u64
-            .saturating_add(description.len() as u64)
-            .saturating_add(bytes.len() as u64),
-        status: b' ',
-        user: 0,
-        description: u16::try_from(description.len()).unwrap_or(0),
-        extension: 0,
-    };
-    file.extend_from_slice(&write_header(&header))?;
-    file.extend_from_slice(description)?;
-    let record = DataHeader {
-        oid: Oid(oid),
-        tid,
-        previous: 0,
-        transaction: at,
-        version: 0,
-        length: bytes.len() as u64,
-    };
-    file.extend_from_slice(&write_data_header(&record))?;
-    file.extend_from_slice(bytes)?;
-    file.extend_from_slice(&header.length.to_be_bytes())?;
-    Ok(())
-}
 
 /// What a command ended with, wrote, and left of Main.
 #[derive(Drop)]
@@ -56,15 +9,6 @@ struct Listed {
     status: u8,
     written: Vec<u8>,
     main: Vec<u8>,
-}
-
-/// The bytes of Main, of which nothing is pending, by an image, whose calls don't fail.
-fn main_of(alloc: Global, volume: &MemoryVolume) -> Result<Vec<u8>, Fail> {
-    let mut volume = volume.image(true)?;
-    let length = volume.len(Area::Main)?;
-    let mut bytes = vec![in alloc; 0u8; length as usize]?;
-    volume.read(Area::Main, 0, bytes.as_mut_slice())?;
-    Ok(bytes)
 }
 
 /// Runs a command over a file, with the calls of the volume of these numbers failing, counted from 1
@@ -76,33 +20,23 @@ fn list_failing(
     failing_calls: &[u64],
     failing_writes: &[u64],
 ) -> Result<Listed, Fail> {
-    let mut numbers = Vec::new(alloc);
-    for number in failing_calls {
-        numbers.push(number.saturating_add(2))?;
-    }
-    let mut volume = MemoryVolume::new(alloc, numbers);
-    volume.write_at(Area::Main, 0, file)?;
-    volume.sync(Area::Main)?;
-    let words = words(alloc, texts)?;
-    let mut source = MemorySource::new(Vec::new(alloc), Vec::new(alloc));
-    let mut sink = MemorySink::new(alloc, failing_writes.to_vec(alloc)?);
-    let mut clock = ListClock::new(new_year(2024)?, Vec::new(alloc));
-    let (status, volume) = zodb_main(
-        alloc,
-        words.as_slice(),
-        &mut source,
-        &mut sink,
-        volume,
-        &mut clock,
-    );
+    let volume = volume_with(alloc, file, failing_calls)?;
+    let ending = run_over(alloc, volume, texts, b"", &[], failing_writes)?;
     Ok(Listed {
-        status: status as u8,
-        written: sink.bytes().to_vec(alloc)?,
-        main: main_of(alloc, &volume)?,
+        status: ending.status,
+        written: ending.written,
+        main: main_of(alloc, &ending.volume)?,
     })
 }
 
-const BOTH: &[u8] =
+/// The list of a new file.
+pub const FIRST: &[u8] = b"03f58e0000000000 \"\" \"initial database creation\"\n";
+
+/// The same, where behind it a transaction was cut off.
+pub const CUT_FIRST: &[u8] = b"cut 158\n03f58e0000000000 \"\" \"initial database creation\"\n";
+
+/// The list of the first commit.
+pub const BOTH: &[u8] =
     b"03f58e0000000001 \"\" \"\"\n03f58e0000000000 \"\" \"initial database creation\"\n";
 
 #[test]
@@ -131,74 +65,42 @@ fn first_commit_is_listed(rt: HostRuntime) -> Result<(), Fail> {
     Ok(())
 }
 
-/// A change of the file: from this place on these bytes stand, and it ends there at the latest.
-const CUT_AND_DAMAGED: [(usize, &[u8], usize, u8, &[u8]); 8] = [
-    (
-        174,
-        b"\x63",
-        234,
-        0,
-        b"cut 158\n03f58e0000000000 \"\" \"initial database creation\"\n",
-    ),
-    (
-        0,
-        b"",
-        233,
-        0,
-        b"cut 158\n03f58e0000000000 \"\" \"initial database creation\"\n",
-    ),
+/// A change of the file: from this place on these bytes stand, and it ends there at the latest. Then
+/// the status, how many bytes of the file are left, and what is written.
+const CUT_AND_DAMAGED: [(usize, &[u8], usize, u8, usize, &[u8]); 8] = [
+    (174, b"\x63", 234, 0, 158, CUT_FIRST),
+    (0, b"", 233, 0, 158, CUT_FIRST),
     (
         166,
         b"\xff\xff\xff\xff\xff\xff\xff\xff",
         234,
         0,
-        b"cut 158\n03f58e0000000000 \"\" \"initial database creation\"\n",
+        158,
+        CUT_FIRST,
     ),
-    (233, b"\x45", 234, 6, b"damaged 158 closing\n"),
+    (233, b"\x45", 234, 6, 234, b"damaged 158 closing\n"),
     (
         158,
         b"\xff\xff\xff\xff\xff\xff\xff\xff",
         234,
         6,
+        234,
         b"damaged 158 tid\n",
     ),
-    (196, b"\x02", 234, 6, b"damaged 181 serial\n"),
-    (0, b"", 2, 6, b"damaged 0 magic\n"),
-    (0, b"", 0, 6, b"damaged 0 empty\n"),
+    (196, b"\x02", 234, 6, 234, b"damaged 181 serial\n"),
+    (0, b"", 2, 6, 2, b"damaged 0 magic\n"),
+    (0, b"", 4, 0, 4, b""),
 ];
-
-/// The first bytes of a file, where these bytes stand from a place on.
-fn changed(
-    alloc: Global,
-    whole: &[u8],
-    at: usize,
-    bytes: &[u8],
-    length: usize,
-) -> Result<Vec<u8>, Fail> {
-    let mut file = Vec::new(alloc);
-    for (place, byte) in whole.iter().enumerate() {
-        if place < length {
-            let new = if place < at {
-                None
-            } else {
-                bytes.get(place - at)
-            };
-            file.push(*new.unwrap_or(byte))?;
-        }
-    }
-    Ok(file)
-}
 
 #[test]
 fn cut_and_damaged_files(rt: HostRuntime) -> Result<(), Fail> {
     let alloc = rt.alloc();
-    for (at, bytes, length, status, written) in CUT_AND_DAMAGED {
+    for (at, bytes, length, status, left, written) in CUT_AND_DAMAGED {
         let whole = first_commit(alloc)?;
         let file = changed(alloc, whole.as_slice(), at, bytes, length)?;
         let listed = list_failing(alloc, &["p", "undolog"], file.as_slice(), &[], &[])?;
         assert_eq!(rt; listed.status, status);
         assert_eq!(rt; listed.written.as_slice(), written);
-        let left = if status == 0 { 158 } else { file.len() };
         assert_eq!(rt; listed.main.len(), left);
         assert!(rt; file.as_slice().starts_with(listed.main.as_slice()));
     }

@@ -1,5 +1,6 @@
 //! What scripts are answered.
 
+use super::listings::BOTH;
 use super::*;
 
 /// Two clients store the same object: the second one's base isn't current.
@@ -38,6 +39,9 @@ fn second_writer_conflicts(rt: HostRuntime) -> Result<(), Fail> {
     assert_eq!(rt; ending.status, 0);
     assert_eq!(rt; ending.written.as_slice(), SECOND_WRITER_REPLIES);
     assert_eq!(rt; ending.left, 0);
+    let listed = run_over(rt.alloc(), ending.volume, &["p", "undolog"], b"", &[], &[])?;
+    assert_eq!(rt; listed.status, 0);
+    assert_eq!(rt; listed.written.as_slice(), BOTH);
     Ok(())
 }
 
@@ -175,53 +179,5 @@ fn many_clients(rt: HostRuntime) -> Result<(), Fail> {
     let ending = run(alloc, script.as_slice())?;
     assert_eq!(rt; ending.status, 0);
     assert_eq!(rt; ending.written.as_slice(), replies.as_slice());
-    Ok(())
-}
-
-fn transaction(alloc: Global, tid: u64) -> Transaction {
-    Transaction {
-        tid: Tid(tid),
-        packed: false,
-        user: Text8::new(alloc),
-        description: Text8::new(alloc),
-        extension: Text8::new(alloc),
-        changes: ListOf::new(alloc),
-    }
-}
-
-fn stores(alloc: Global) -> Result<Vec<PendingStore>, Fail> {
-    let mut stores = Vec::new(alloc);
-    stores.push(PendingStore {
-        oid: Oid(1),
-        base: Tid(0),
-        bytes: Text8::from_slice(alloc, b"a")?,
-    })?;
-    Ok(stores)
-}
-
-/// A vote behind these newest tids: 2^64-3 has a successor that has one, the next two have none.
-#[test]
-fn tids_are_spent(rt: HostRuntime) -> Result<(), Fail> {
-    let alloc = rt.alloc();
-    for (newest, want) in [
-        (u64::MAX - 2, Some(u64::MAX - 1)),
-        (u64::MAX - 1, None),
-        (u64::MAX, None),
-    ] {
-        let mut list = Vec::new(alloc);
-        list.push(transaction(alloc, newest))?;
-        let stores = stores(alloc)?;
-        let mut clock = ListClock::new(new_year(2024)?, Vec::new(alloc));
-        let tid = match decide(alloc, list.as_slice(), stores.as_slice(), &mut clock) {
-            Ok(Some(transaction)) => Some(transaction.tid.0),
-            Ok(None) => Some(0),
-            Err(VoteError::Refused(why)) => {
-                assert_eq!(rt; why, Refusal::TidsSpent);
-                None
-            }
-            Err(VoteError::Memory) => Some(1),
-        };
-        assert_eq!(rt; tid, want);
-    }
     Ok(())
 }

@@ -1,4 +1,4 @@
-use Rattle.std.proofs.Common.{◌≡◌, List, Option, None, subst, ◌∙◌}
+use Rattle.std.proofs.Common.{◌≡◌, List, None, subst, ◌∙◌}
 use Rattle.std.specs.Prelude.{◌==◌, position}
 use Rattle.zodb_top.specs.declared.pending.PendingStore.{PendingStore}
 use Rattle.zodb_top.proofs.Adding.{store_added}

@@ -1,6 +1,6 @@
 use Rattle.file_store.specs.Opening.{Harm}
 use Rattle.file_store.proofs.Opens.{begun_made, err_is, still_some}
-use Rattle.file_store.proofs.opening.begin.Goals as goal
+use Rattle.file_store.proofs.opening.create_if_empty.Goals as goal
 
 pub returns-in_err-len-clause-makes : goal.returns-in_err-len-clause-makes
 returns-in_err-len-clause-makes g c = λ told. still_some (g.V.Volume.log c.args.volume.now) (g.V.Volume.log c.len.new.self) (g.C.Clock.stamps c.args.clock.now) c.len.ensures.same

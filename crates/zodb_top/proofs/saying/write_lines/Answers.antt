@@ -1,6 +1,6 @@
 use Rattle.std.proofs.Common.{rules, ◌<◌, ◌≡◌, get_or, length}
 use Rattle.zodb_top.proofs.Written.{front_lines}
-use Rattle.zodb_top.proofs.listing.write_lines.Goals as goal
+use Rattle.zodb_top.proofs.saying.write_lines.Goals as goal
 
 pub returns-in_err-write_line-clause-err : goal.returns-in_err-write_line-clause-err
 returns-in_err-write_line-clause-err g c =

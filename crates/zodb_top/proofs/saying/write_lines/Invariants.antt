@@ -1,7 +1,7 @@
 use Rattle.std.proofs.Common.{◌≤◌, drop}
 use Rattle.zb_outside.specs.Written.{AppendsBefore}
-use Rattle.zodb_top.specs.Listings.{joined}
-use Rattle.zodb_top.proofs.listing.write_lines.Given as goal
+use Rattle.zodb_top.specs.Texts.{joined}
+use Rattle.zodb_top.proofs.saying.write_lines.Given as goal
 
 abbrev pub invariant-loop-line : goal.invariant-loop-line
 invariant-loop-line g l =

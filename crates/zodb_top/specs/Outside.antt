@@ -1,0 +1,20 @@
+-- What is seen of the outside. Own.
+use Rattle.std.specs.Prelude.{ℕ, List, Option}
+use Rattle.zb_ids.specs.declared.stamp.Stamp.{Stamp}
+use Rattle.zb_volume.specs.declared.areas.Area.TheVariants.{Main}
+use Rattle.zb_volume.specs.Calls.{Event}
+use Rattle.zb_volume.specs.Disk.{seen}
+
+-- At a moment: what the sink has taken, and its count of faults; the stamps that the clock has still to give; the
+-- calls that changed the volume, the newest first, and its counts of failed reads and of other failed calls.
+pub record Outside : Type 0 where
+  pub taken : Option (List ℕ)
+  pub sink_faults : ℕ
+  pub stamps : Option (List Stamp)
+  pub log : List Event
+  pub read_faults : ℕ
+  pub write_faults : ℕ
+
+-- what Main reads as
+abbrev pub main_of : Outside → List ℕ
+main_of o = seen o.log Main
