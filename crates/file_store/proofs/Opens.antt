@@ -27,7 +27,9 @@ use Rattle.fs_records.specs.WriteLaws.{length-read, without_tail_stands}
 use Rattle.fs_recovery.specs.declared.opening.Opened.{Opened}
 use Rattle.fs_recovery.specs.declared.errors.OpenError.{OpenError}
 use Rattle.fs_recovery.specs.declared.errors.OpenError.TheVariants.{StoreFault, BadRecord, NotFileStorage, Memory}
+use Rattle.fs_recovery.specs.Ends.{whole_end}
 use Rattle.fs_recovery.specs.Opens.{ImagesStand, IsNoList, IsOpened, IsWhole, Opens}
+use Rattle.fs_recovery.specs.Reading.{CountsFault, CountsReads}
 use Rattle.file_store.specs.Kept.{IsKept, StandsForList}
 use Rattle.file_store.specs.KeptLaws.{list_read}
 use Rattle.file_store.specs.Numbers.{NumbersKept, AreNumbersOf}
@@ -232,3 +234,44 @@ opened_after old mid new o cut same opened is fits limit cut_is =
 
 pub images_kept : (old mid new : List Event) → new ≡ mid → ImagesStand old mid → ImagesStand old new
 images_kept old mid new same all = subst (λ (log : List Event). ImagesStand old log) (sym same) all
+
+-- ---- a file that was just made
+
+-- a file that has no tail is read whole
+pub fresh_content : (bytes : List ℕ) (o : Opened) (list : List Transaction) → IsOpened bytes o → StandsFor bytes list None → bytes ≢ [] → (o.cut ≡ None) × (bytes ≡ take o.end bytes)
+fresh_content bytes o list opened (no_bytes none l c) some = absurd (some none)
+fresh_content bytes o list opened (a_file s stands l) some =
+    let same = one_list bytes opened.reached s o.cut None opened.stands stands in
+    let end : s.end ≡ o.end = sym (ap (λ (x : Reached). x.end) same.0) ∙ opened.end_is in (
+      same.1,
+      sym (whole_end bytes s stands) ∙ ap (λ (n : ℕ). take n bytes) end,
+    )
+
+pub fresh_whole : (bytes : List ℕ) (o : Opened) (list : List Transaction) → IsOpened bytes o → StandsFor bytes list None → bytes ≢ [] → IsWhole bytes o
+fresh_whole bytes o list opened stands some = record {
+  reached = opened.reached;
+  stands = subst (λ (k : Option ℕ). StandsAs bytes opened.reached k) (fresh_content bytes o list opened stands some).0 opened.stands;
+  end_is = opened.end_is;
+  index = opened.index;
+}
+
+-- and nothing was done to it
+pub images_still : (old new : List Event) → new ≡ old → ImagesStand old new
+images_still old new same s cut stands settled =
+    subst (λ (log : List Event). LeavesOnly Main (λ image. (k : Option ℕ) × StandsAs image s k) old log) (sym same)
+    (here (settled_leaves old Main (λ image. (k : Option ℕ) × StandsAs image s k) settled (cut, stands)))
+
+pub counts_still : {T : Type 0} (r : Result T OpenError) (old new : List Event) (reads reads' writes writes' : ℕ) → new ≡ old → writes' ≡ writes → CountsReads reads reads' r → CountsFault old new reads reads' writes writes' r
+counts_still (Ok x) old new reads reads' writes writes' same still counts = (counts, still)
+counts_still (Err StoreFault) old new reads reads' writes writes' same still counts = inl (record { rose = counts.1; later = counts.0; writes_same = still; untouched = same })
+counts_still (Err (BadRecord at field)) old new reads reads' writes writes' same still counts = (counts, still)
+counts_still (Err NotFileStorage) old new reads reads' writes writes' same still counts = (counts, still)
+counts_still (Err Memory) old new reads reads' writes writes' same still counts = (counts, still)
+
+pub fresh_read : (r : Result Opened OpenError) (bytes now : List ℕ) (list : List Transaction) → now ≡ bytes → Opens bytes r → StandsFor bytes list None → bytes ≢ [] → IfOk r (λ o. now ≡ take o.end bytes)
+fresh_read (Ok o) bytes now list same opened stands some = same ∙ (fresh_content bytes o list opened stands some).1
+fresh_read (Err e) bytes now list same opened stands some = tt
+
+pub fresh_kept : (r : Result Opened OpenError) (bytes now : List ℕ) (list : List Transaction) → now ≡ bytes → Opens bytes r → StandsFor bytes list None → bytes ≢ [] → IfOk r (λ o. IsWhole now o)
+fresh_kept (Ok o) bytes now list same opened stands some = subst (λ (b : List ℕ). IsWhole b o) (sym same) (fresh_whole bytes o list opened stands some)
+fresh_kept (Err e) bytes now list same opened stands some = tt

@@ -53,6 +53,10 @@ KeepsList old new = (list : List Transaction) (cut : Option ℕ) → seen old Ma
 abbrev pub MakesList : Stamp → List Event → List Event → Type 0
 MakesList stamp old new = seen old Main ≡ [] → IsSettled old Main → LeavesOnly Main (IsNewOr stamp) old new
 
+-- nothing of Main is pending, and it stands for a list without a tail
+abbrev pub IsFresh : List Event → Type 0
+IsFresh log = IsSettled log Main × ((list : List Transaction) × StandsFor (seen log Main) list None)
+
 -- Main isn't empty: it wasn't, and nothing was done, or a new file was made with the clock's first stamp
 pub data IsBegun (old new : List Event) (stamps stamps_now : Option (List Stamp)) : Type 0 where
   there : seen old Main ≢ [] → new ≡ old → stamps_now ≡ stamps → IsBegun old new stamps stamps_now

@@ -1,6 +1,6 @@
 //! A store is opened, and its file made where there is none.
 
-ghost use Rattle.std.specs.Prelude.{◌≡◌, ◌≢◌, ℕ, ◌<◌, ◌≤◌, ◌^◌, [], None, List, length, option_map, slice_get, Some, IfOk, IfErr, IfSome, OnOk, IsErrOf};
+ghost use Rattle.std.specs.Prelude.{◌≡◌, ◌≢◌, ℕ, ◌<◌, ◌≤◌, ◌^◌, [], None, List, length, option_map, slice_get, take, true, Some, IfOk, IfErr, IfSome, OnOk, IsErrOf};
 ghost use Rattle.std.specs.List.{last_or};
 ghost use Rattle.std.specs.Option.{option_map_or};
 ghost use Rattle.zb_volume.specs.declared.areas.Area.TheVariants.{Main};
@@ -15,10 +15,11 @@ ghost use Rattle.fs_records.specs.NumberLaws.{IsBytes};
 ghost use Rattle.fs_reading.specs.Main.{AreStarts};
 ghost use Rattle.fs_reading.specs.declared.errors.ReadError.TheVariants as read_error;
 ghost use Rattle.fs_recovery.specs.declared.errors.OpenError.TheVariants.{StoreFault as Fault};
-ghost use Rattle.fs_recovery.specs.Opens.{IsBounded, IsNoList, IsWhole};
+ghost use Rattle.fs_recovery.specs.Opens.{ImagesStand, IsBounded, IsNoList, IsWhole, Opens};
+ghost use Rattle.fs_recovery.specs.Reading.{CountsFault};
 ghost use Rattle.file_store.specs.Kept.{IsKept};
 ghost use Rattle.file_store.specs.Numbers.{AreNumbersOf};
-ghost use Rattle.file_store.specs.Opening.{GaveAtMostOne, Harm, IsBegun, IsMade, KeepsList, MakesList, SomeRose, first_list};
+ghost use Rattle.file_store.specs.Opening.{GaveAtMostOne, Harm, IsBegun, IsFresh, IsMade, KeepsList, MakesList, SomeRose, first_list};
 
 use crate::first::first_file;
 use crate::numbers::Numbers;
@@ -27,7 +28,7 @@ use fs_append as append;
 use fs_index::last_of;
 use fs_reading::{ReadError, read_outline};
 use fs_records::Place;
-use fs_recovery::{OpenError, Opened, open_main};
+use fs_recovery::{OpenError, Opened, open_main, read_file};
 use std::alloc::Global;
 use zb_ids::{Stamp, Tid};
 use zb_outside::Clock;
@@ -97,7 +98,8 @@ fn make<V: Volume>(alloc: Global, volume: &mut V, clock: Stamp) -> Result<(), Op
 }
 
 /// Makes the file of a new database in Main where that is empty: its list is the first transaction
-/// alone, with a stamp of the clock, which is asked for only there. Nothing else is written.
+/// alone, with a stamp of the clock, which is asked for only there. Nothing else is written. The
+/// answer is whether the file was made; then nothing of Main is pending, and it has no tail.
 ///
 /// It is `StoreFault` only where a call of the volume failed, and else `Memory`; no other error comes.
 /// With an error Main is as it was, unless it was empty.
@@ -105,10 +107,11 @@ pub fn create_if_empty<V: Volume, C: Clock>(
     alloc: Global,
     volume: &mut V,
     clock: &mut C,
-) -> Result<(), OpenError>
+) -> Result<bool, OpenError>
     ensures begun { V.told → OnOk result (IsBegun (V.log volume.old) (V.log volume.new)
         (C.stamps clock.old) (C.stamps clock.new)) }
     ensures some { V.told → OnOk result (seen (V.log volume.new) Main ≢ []) }
+    ensures fresh { V.told → IfOk result (λ made. made ≡ true → IsFresh (V.log volume.new)) }
     ensures fits { V.told → OnOk result (IsBytes (seen (V.log volume.new) Main)) }
     ensures same { V.told → seen (V.log volume.old) Main ≢ [] → V.log volume.new ≡ V.log volume.old }
     ensures stamps_kept { V.told → seen (V.log volume.old) Main ≢ []
@@ -124,11 +127,34 @@ pub fn create_if_empty<V: Volume, C: Clock>(
     ensures writes_later { V.write_faults volume.old ≤ V.write_faults volume.new }
 {
     if volume.len(Area::Main)? > 0 {
-        return Ok(());
+        return Ok(false);
     }
     let now = clock.stamp();
     make(alloc, volume, now)?;
-    Ok(())
+    Ok(true)
+}
+
+/// What is read of the file in Main. One that was just made is only read; any other is opened, with a
+/// tail cut off and Main synced.
+fn recover<V: Volume>(alloc: Global, volume: &mut V, made: bool) -> Result<Opened, OpenError>
+    requires some { V.told → seen (V.log volume.old) Main ≢ [] }
+    requires made { V.told → made ≡ true → IsFresh (V.log volume.old) }
+    ensures opens { V.told → Opens (seen (V.log volume.old) Main) result }
+    ensures content { V.told →
+        IfOk result (λ o. seen (V.log volume.new) Main ≡ take o.end (seen (V.log volume.old) Main)) }
+    ensures whole { V.told → IfOk result (λ o. IsWhole (seen (V.log volume.new) Main) o) }
+    ensures settled { V.told → OnOk result (IsSettled (V.log volume.new) Main) }
+    ensures harmed { V.told → IsNoList (seen (V.log volume.old) Main)
+        → V.log volume.new ≡ V.log volume.old }
+    ensures images { V.told → ImagesStand (V.log volume.old) (V.log volume.new) }
+    ensures bounded { IfOk result (λ o. IsBounded o) }
+    ensures counts { CountsFault (V.log volume.old) (V.log volume.new) (V.read_faults volume.old)
+        (V.read_faults volume.new) (V.write_faults volume.old) (V.write_faults volume.new) result }
+{
+    if made {
+        return read_file(alloc, volume);
+    }
+    open_main(alloc, volume)
 }
 
 /// What is kept of the file in Main, which was opened.
@@ -194,8 +220,8 @@ pub(crate) fn open<V: Volume, C: Clock>(
     ensures reads_later { V.read_faults volume.old ≤ V.read_faults volume.new }
     ensures writes_later { V.write_faults volume.old ≤ V.write_faults volume.new }
 {
-    create_if_empty(alloc, volume, clock)?;
-    let opened = open_main(alloc, volume)?;
+    let made = create_if_empty(alloc, volume, clock)?;
+    let opened = recover(alloc, volume, made)?;
     let ready = keep(alloc, volume, opened)?;
     Ok(ready)
 }

@@ -3,3 +3,4 @@ pub mod Heads
 pub mod Records
 pub mod Opens
 pub mod Fronts
+pub mod Ends

@@ -12,7 +12,7 @@ mod tail;
 mod window;
 
 pub use errors::OpenError;
-pub use opening::{Opened, open_main};
+pub use opening::{Opened, open_main, read_file};
 
 #[cfg(test)]
 mod tests;

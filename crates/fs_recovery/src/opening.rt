@@ -195,6 +195,24 @@ fn read_main<V: Volume>(alloc: Global, volume: &mut V, long: u64) -> Result<Open
     read_blocks(alloc, volume, &mut window)
 }
 
+/// Reads the file in Main, which isn't empty, forward, and changes nothing: for one of which nothing
+/// is pending and which has no tail, as one that was just made. Any other is to be opened by
+/// `open_main`.
+///
+/// Its answers are those of `open_main`, but that a StoreFault comes only where a read failed.
+pub fn read_file<V: Volume>(alloc: Global, volume: &mut V) -> Result<Opened, OpenError>
+    requires { V.told → main (V.log volume.old) ≢ [] }
+    ensures opens { V.told → Opens (main (V.log volume.old)) result }
+    ensures bounded { IfOk result (λ o. IsBounded o) }
+    ensures same { V.log volume.new ≡ V.log volume.old }
+    ensures counts { CountsReads (V.read_faults volume.old) (V.read_faults volume.new) result }
+    ensures write_faults { V.write_faults volume.new ≡ V.write_faults volume.old }
+{
+    let long = volume.len(Area::Main)?;
+    let opened = read_main(alloc, volume, long)?;
+    Ok(opened)
+}
+
 /// Opens the file in Main, which isn't empty: reads it forward, cuts off a transaction at its end
 /// that was never finished, and syncs Main, also where there was nothing to cut.
 ///

@@ -1,11 +1,10 @@
 -- What digits a number is read from.
-use Rattle.std.proofs.Common.{◌≡◌, ℕ, ◌<◌, ◌^◌, List, Option, Some, None, Result, Ok, Err, Bool, true, false, cond, codes, refl, ap, sym, subst, ◌∙◌}
+use Rattle.std.proofs.Common.{◌≡◌, ℕ, ◌<◌, ◌^◌, List, Option, Some, None, Result, Ok, Err, Bool, true, false, cond, codes, refl, ap, sym, ◌∙◌}
 use Rattle.std.specs.Option.{option_map}
 use Rattle.std.specs.Str.{bytes_eq}
 use Rattle.zb_ids.specs.Hex.{hex_number, number_at}
 use Rattle.zb_ids.specs.HexLaws.{number_again, number_takes}
 use Rattle.zb_ids.specs.declared.digits.BadHex.{BadHex}
-use Rattle.zodb_top.specs.declared.command.Command.{Command}
 use Rattle.zodb_top.specs.Words.{history_at, history_command}
 
 pub digits_read : (digits : List ℕ) (n : ℕ) → n < 2 ^ 64 → digits ≡ hex_number n → option_map history_at (number_at digits) ≡ Some (history_at n)

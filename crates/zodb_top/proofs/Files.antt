@@ -1,12 +1,11 @@
 -- The file in Main: what opening it gives, and what turns over it leave.
-use Rattle.std.proofs.Common.{◌≡◌, ◌≢◌, ◌⊎◌, ℕ, List, [], ◌∷◌, Option, Some, None, inl, inr, refl, sym, subst, ap, ◌∙◌, ◌≤◌}
+use Rattle.std.proofs.Common.{◌≡◌, ◌≢◌, ℕ, List, [], ◌∷◌, Option, Some, None, inl, inr, refl, sym, subst, ◌≤◌}
 use Rattle.std.specs.Prelude.{IfSome}
 use Rattle.std.specs.Option.{option_map}
 use Rattle.file_store.specs.Kept.{StandsForList}
 use Rattle.file_store.specs.Opening.{GaveAtMostOne, Harm, IsMade, SomeRose}
-use Rattle.fs_records.specs.File.{IsDamaged, IsNoFile, StandsFor, no_bytes}
+use Rattle.fs_records.specs.File.{StandsFor, no_bytes}
 use Rattle.fs_records.specs.Lists.{not_damaged, not_no_file}
-use Rattle.fs_records.specs.declared.field.Field.{Field}
 use Rattle.fs_recovery.specs.Opens.{IsNoList}
 use Rattle.fs_recovery.specs.declared.errors.OpenError.{OpenError}
 use Rattle.fs_recovery.specs.declared.errors.OpenError.TheVariants as error
@@ -20,7 +19,7 @@ use Rattle.zodb_top.specs.declared.status.Status.{Status}
 use Rattle.zodb_top.specs.declared.status.Status.TheVariants as status
 use Rattle.zodb_top.specs.Damage.{NamesDamage, magic, rule}
 use Rattle.zodb_top.specs.Outside.{Outside, main_of}
-use Rattle.zodb_top.specs.Program.{AllAnswered, AnsweredToFault, FailedToOpen, HasRun, HasRunInPart, HasRunToFault, IsRefused, IsUnlessMemory, Opens, SomeAnswered, made, there}
+use Rattle.zodb_top.specs.Program.{AllAnswered, AnsweredToFault, HasRun, HasRunInPart, HasRunToFault, IsUnlessMemory, Opens, SomeAnswered, made, there}
 use Rattle.zodb_top.specs.Storing.{FileOutcome, StoreOutcome}
 use Rattle.zodb_top.specs.Unopened.{NamesError, SaysUnopened}
 
@@ -56,7 +55,7 @@ pub unopened : (s : Status) (e : OpenError) (told : Type 0) (turns : List Turn) 
     → (e ≡ error.StoreFault → SomeRose before.read_faults after.read_faults before.write_faults after.write_faults)
     → (told → IsNoList (main_of before) → after.log ≡ before.log) → (told → main_of before ≢ [] → after.stamps ≡ before.stamps)
     → FileOutcome s told turns before after
-unopened status.StoreFault e told turns before after said harm gave rose same kept = inl (record { rose = rose said.0; written = said.1; stamps = gave })
+unopened status.StoreFault e told turns before after said harm gave rose same kept = inl (record { rose = rose said.0; written = said.1; stamps = gave; kept = kept })
 unopened status.Damaged e told turns before after (text, names, wrote) harm gave rose same kept = record {
   text = text;
   names = named told (main_of before) e text names harm;

@@ -7,7 +7,7 @@ use Rattle.zb_script.specs.Script.{IsBadLine, IsScript}
 use Rattle.zodb_top.specs.declared.status.Status.{Status}
 use Rattle.zodb_top.specs.declared.status.Status.TheVariants as status
 use Rattle.zodb_top.specs.Outside.{Outside}
-use Rattle.zodb_top.specs.Program.{HasRun, HasRunInPart, HasRunToFault, IsInput, OfInput, RunOutcome, most_bytes}
+use Rattle.zodb_top.specs.Program.{HasRun, HasRunInPart, HasRunToFault, IsInput, RunOutcome, most_bytes}
 use Rattle.zodb_top.specs.Storing.{FileOutcome}
 
 -- what holds of every input holds of what the source had left

@@ -1,8 +1,7 @@
 -- Turns behind turns.
-use Rattle.std.proofs.Common.{◌≡◌, ℕ, zero, suc, List, [], ◌∷◌, ◌++◌, Bool, true, false, length, take, append_assoc, append-nil, refl, sym, ap, ◌∙◌, arith, ◌+◌, ◌<◌, ◌≤◌}
+use Rattle.std.proofs.Common.{◌≡◌, ℕ, suc, List, [], ◌∷◌, ◌++◌, Bool, true, false, length, take, append_assoc, refl, sym, ap, ◌∙◌, arith, ◌+◌, ◌≤◌}
 use Rattle.zb_ids.specs.declared.stamp.Stamp.{Stamp}
-use Rattle.zb_outside.specs.Rose.{Rose}
-use Rattle.zb_outside.specs.RoseLaws.{rose_before, rose_after}
+use Rattle.zb_outside.specs.RoseLaws.{rose_after}
 use Rattle.zb_script.specs.declared.line.Turn.{Turn}
 use Rattle.zb_script.specs.Answers.{reply_text}
 use Rattle.zodb_top.specs.Machine.{State, taken}

@@ -1,24 +1,17 @@
 -- What a list's code writes and leaves.
-use Rattle.std.proofs.Common.{◌≡◌, ◌≢◌, ◌≤◌, ◌⊎◌, ℕ, zero, suc, List, [], ◌∷◌, Option, Some, None, Err, inl, inr, refl, sym, subst, ap, ◌∙◌, ◌++◌, take, drop, length, Bool, true, false, cond, arith}
-use Rattle.std.proofs.lemmas.Bool.{eqb-true}
-use Rattle.std.proofs.lemmas.List.{append-nil, length-append, take-append-drop}
+use Rattle.std.proofs.Common.{◌≡◌, ◌≢◌, ◌≤◌, ◌⊎◌, ℕ, zero, suc, List, [], ◌∷◌, Option, Some, None, Err, inl, inr, refl, sym, subst, ap, ◌∙◌, ◌++◌, take, drop, length, arith}
+use Rattle.std.proofs.lemmas.List.{length-append}
 use Rattle.std.specs.Io.KnownBytes.{Appends}
 use Rattle.file_store.specs.Opening.{GaveAtMostOne, Harm, IsBegun, IsMade, SomeRose, first_list, made, there}
 use Rattle.fs_reading.specs.Main.{IsIndexed}
 use Rattle.fs_records.specs.Blocks.{Begins, Reached, blocks_text, magic, start}
 use Rattle.fs_records.specs.File.{IsDamaged, IsNoFile, StandsAs, StandsFor, a_file, no_bytes}
-use Rattle.fs_records.specs.Headers.{header_of}
-use Rattle.fs_records.specs.Numbers.{number_in}
-use Rattle.fs_records.specs.Rules.{texts_length, verdict}
-use Rattle.std.specs.Prelude.{◌==◌, ◌||◌, not, nat_lt, nat_le, ◌-◌, ◌^◌, ◌+◌}
 use Rattle.fs_records.specs.Unique.{one_list}
-use Rattle.fs_records.specs.declared.verdict.Verdict.{Verdict}
-use Rattle.fs_records.specs.declared.verdict.Verdict.TheVariants.{Ends, Tail, Fault, Begun}
 use Rattle.fs_records.specs.Lists as lists
 use Rattle.fs_records.specs.Lists.{not_damaged, not_no_file}
 use Rattle.fs_records.specs.Places.{IsIndexOf}
 use Rattle.fs_records.specs.WriteLaws.{without_tail_stands}
-use Rattle.fs_records.specs.declared.field.Field.TheVariants as fields
+use Rattle.fs_recovery.specs.Ends.{whole_end}
 use Rattle.fs_recovery.specs.Opens.{IsBounded, IsNoList, IsOpened, Opens}
 use Rattle.fs_recovery.specs.Reading.{CountsFault, IsRefused}
 use Rattle.fs_recovery.specs.declared.errors.OpenError.{OpenError}
@@ -127,37 +120,9 @@ more_rose asked told unread unread' unwritten' untouched' bytes old new before n
 
 -- ---- what is left of the file
 
-no_bytes_left : (xs : List ℕ) → length xs ≡ 0 → xs ≡ []
-no_bytes_left [] e = refl
-no_bytes_left (x ∷ xs) e = absurd (omega (arith, e))
-
-apart : (test : Bool) (v w : Verdict) → (v ≡ Ends → ⊥) → (w ≡ Ends → ⊥) → cond test v w ≡ Ends → ⊥
-apart true v w a b e = a e
-apart false v w a b e = b e
-
-is_none : (test : Bool) (w : Verdict) → (w ≡ Ends → ⊥) → cond test Ends w ≡ Ends → test ≡ true
-is_none true w a e = refl
-is_none false w a e = absurd (a e)
-
-nothing_behind : (newest : ℕ) (rest : List ℕ) → verdict newest rest ≡ Ends → rest ≡ []
-unfolding verdict
-nothing_behind newest rest ends =
-    let h = header_of rest in
-    let p8 = apart (h.tid == 2 ^ 64 - 1) (Fault fields.Tid) Begun (λ x. cc) (λ x. cc) in
-    let p7 = apart (nat_le h.tid newest) (Fault fields.Tid) _ (λ x. cc) p8 in
-    let p6 = apart (not (number_in 8 (drop h.length rest) == h.length)) (Fault fields.Closing) _ (λ x. cc) p7 in
-    let p5 = apart (nat_lt h.length (23 + texts_length h)) (Fault fields.Length) _ (λ x. cc) p6 in
-    let p4 = apart (nat_lt (length rest) (h.length + 8)) Tail _ (λ x. cc) p5 in
-    let p3 = apart (not (h.status == 32 || h.status == 112)) (Fault fields.Status) _ (λ x. cc) p4 in
-    let p2 = apart (h.status == 0) Tail _ (λ x. cc) p3 in
-    let p1 = apart (h.status == 99) Tail _ (λ x. cc) p2 in
-    let p0 = apart (nat_lt (length rest) 23) Tail _ (λ x. cc) p1 in
-    no_bytes_left rest (eqb-true _ _ (is_none (length rest == 0) _ p0 ends))
-
 cut_there : (bytes : List ℕ) (s : Reached) (cut : Option ℕ) → StandsAs bytes s cut → take s.end bytes ≡ without_tail cut bytes
 cut_there bytes s (Some at) stands = ap (λ (n : ℕ). take n bytes) (sym stands.ends.1)
-cut_there bytes s None stands =
-    sym (append-nil (take s.end bytes)) ∙ ap (λ (x : List ℕ). take s.end bytes ++ x) (sym (nothing_behind s.newest (drop s.end bytes) stands.ends)) ∙ take-append-drop s.end bytes
+cut_there bytes s None stands = whole_end bytes s stands
 
 take_none : (n : ℕ) (xs : List ℕ) → xs ≡ [] → take n xs ≡ []
 take_none zero xs e = refl

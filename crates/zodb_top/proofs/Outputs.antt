@@ -1,6 +1,6 @@
 -- What is written of turns over a store's list.
-use Rattle.std.proofs.Common.{◌≡◌, ℕ, List, [], ◌∷◌, ◌++◌, Option, Some, None, append_assoc, refl, subst, sym, ap, ◌∙◌, arith, ◌≤◌}
-use Rattle.std.specs.Prelude.{IfErr, IfSome, Result, Ok, Err}
+use Rattle.std.proofs.Common.{◌≡◌, ℕ, List, [], ◌++◌, Option, Some, None, refl, subst, sym, ap, ◌∙◌, arith, ◌≤◌}
+use Rattle.std.specs.Prelude.{IfErr, IfSome, Result, Err}
 use Rattle.std.specs.Io.KnownBytes.{Appends}
 use Rattle.std.proofs.KnownBytes.{Appends-trans}
 use Rattle.zb_ids.specs.declared.stamp.Stamp.{Stamp}
@@ -8,38 +8,18 @@ use Rattle.zb_model.specs.declared.data.Transaction.{Transaction}
 use Rattle.zb_outside.specs.Rose.{Rose}
 use Rattle.zb_outside.specs.RoseLaws.{rose_after, rose_before}
 use Rattle.zb_outside.specs.Written.{AppendsFront}
-use Rattle.zb_outside.specs.WrittenLaws.{front_more, no_front}
+use Rattle.zb_outside.specs.WrittenLaws.{no_front}
 use Rattle.zb_script.specs.declared.line.Turn.{Turn}
 use Rattle.zodb_top.specs.declared.run.RunError.{RunError}
 use Rattle.zodb_top.specs.declared.run.RunError.TheVariants as errors
 use Rattle.zodb_top.specs.declared.status.Status.{Status}
 use Rattle.zodb_top.specs.declared.status.Status.TheVariants as status
+use Rattle.zodb_top.proofs.Fronting.{behind_front, front_before}
 use Rattle.zodb_top.specs.Machine.{State, start}
-use Rattle.zodb_top.specs.Output.{run_from}
 use Rattle.zodb_top.specs.Program.{AllAnswered, AnsweredToFault, IsWritten, SomeAnswered}
 use Rattle.zodb_top.specs.Runs.{IsCutShort, IsFaulted, IsRun, Moment, Stops}
 use Rattle.zodb_top.specs.Storing.{SaysStopped, StoreOutcome}
 use Rattle.zodb_top.specs.Texts.{cut_lines, joined, store_fault_line}
-
--- a front of what follows a text is a front of both
-pub behind_front : (a b c : Option (List ℕ)) (here rest : List ℕ) → Appends a b here → AppendsFront b c rest → AppendsFront a c (here ++ rest)
-behind_front a b c here rest first front =
-    front_more a b c (here ++ rest) rest [] rest (record { front = here; split = refl; appended = first }) (sym (nothing_more rest)) front
-  where
-    nothing_more : (xs : List ℕ) → xs ++ [] ≡ xs
-    nothing_more [] = refl
-    nothing_more (x ∷ xs) = ap (λ (ys : List ℕ). x ∷ ys) (nothing_more xs)
-
--- a front of a text is a front of it with more behind it
-pub front_before : (a b : Option (List ℕ)) (here rest : List ℕ) → AppendsFront a b here → AppendsFront a b (here ++ rest)
-front_before a b here rest front = record {
-  rest = front.rest ++ rest;
-  before = record {
-    front = front.before.front;
-    split = ap (λ (text : List ℕ). text ++ rest) front.before.split ∙ append_assoc front.before.front front.rest rest;
-    appended = front.before.appended;
-  };
-}
 
 pub nothing_answered : (told : Option (List Stamp)) (list : List Transaction) (cut : Option ℕ) (turns : List Turn) (reads : ℕ) (taken : Option (List ℕ))
     → IfSome told (λ s. SomeAnswered list cut s turns reads reads taken taken told list)
@@ -47,10 +27,10 @@ nothing_answered None list cut turns reads taken = tt
 nothing_answered (Some stamps) list cut turns reads taken = record {
   failed = [];
   counted = omega arith;
+  count = 0;
   text = no_front taken _;
   read = 0;
   stamps_left = refl;
-  count = 0;
   list_left = refl;
 }
 
@@ -60,10 +40,10 @@ cut_front None list cut turns reads taken taken' lines is wrote = tt
 cut_front (Some stamps) list cut turns reads taken taken' lines is wrote = record {
   failed = [];
   counted = omega arith;
+  count = 0;
   text = front_before taken taken' (joined (cut_lines cut)) _ (subst (λ (ls : List (List ℕ)). AppendsFront taken taken' (joined ls)) is wrote);
   read = 0;
   stamps_left = refl;
-  count = 0;
   list_left = refl;
 }
 
@@ -96,10 +76,10 @@ module _ (list : List Transaction) (cut : Option ℕ) (turns : List Turn) (reads
       let r'' = subst (λ (n : ℕ). IsCutShort stamps (record { taken = old.taken; stamps = old.stamps; state = start list; reads = n }) turns new) b.reads_is r' in record {
         failed = r''.failed;
         counted = r''.counted;
+        count = r''.count;
         text = behind_front taken old.taken new.taken _ _ b.text r''.text;
         read = r''.read;
         stamps_left = r''.stamps_left;
-        count = r''.count;
         list_left = left ∙ r''.list_left;
       }
 
@@ -137,6 +117,7 @@ fault_so stamps list cut turns reads before mid now taken taken' old new said b 
       count = r''.count;
       written = then_written taken old.taken taken' before now _ _ b.text (then_written old.taken new.taken taken' before now _ _ r''.text line);
       read = r''.read;
+      near = r''.near;
       stamps_left = r''.stamps_left;
     }
 

@@ -1,25 +1,25 @@
 -- A run goes on by one turn, or ends in one.
-use Rattle.std.proofs.Common.{◌≡◌, ℕ, zero, suc, List, [], ◌∷◌, ◌++◌, Option, Some, None, Bool, true, false, cond, length, drop, take, get_or, inl, inr, append-nil, append_assoc, refl, sym, ap, subst, ◌∙◌, arith, ◌+◌, ◌<◌, ◌≤◌}
+use Rattle.std.proofs.Common.{◌≡◌, ℕ, zero, suc, List, [], ◌∷◌, ◌++◌, Option, Some, None, Bool, true, false, cond, length, min, drop, take, get_or, inl, inr, append-nil, refl, sym, ap, subst, ◌∙◌, arith, ◌+◌, ◌<◌, ◌≤◌}
 use Rattle.std.specs.Prelude.{◌⊎◌, IfErr, IfSome, IsTrue, Result, Ok, Err}
 use Rattle.std.specs.Result.{IsErrAnd}
 use Rattle.std.specs.Io.KnownBytes.{Appends}
 use Rattle.std.proofs.KnownBytes.{Appends-nil, Appends-trans}
 use Rattle.std.proofs.lemmas.List.{drop_more, length-append, take_all, take_more, take-append-drop}
-use Rattle.std.proofs.lemmas.Option.{same_Some}
 use Rattle.zb_ids.specs.declared.stamp.Stamp.{Stamp}
 use Rattle.zb_outside.specs.Rose.{Rose}
 use Rattle.zb_outside.specs.Written.{AppendsFront}
-use Rattle.zb_outside.specs.WrittenLaws.{front_more, no_front, none_before, more_before}
+use Rattle.zb_outside.specs.WrittenLaws.{no_front}
 use Rattle.zb_script.specs.declared.answer.Answer.{Answer}
 use Rattle.zb_script.specs.declared.line.Turn.{Turn}
 use Rattle.zb_script.specs.Answers.{reply_text}
 use Rattle.zodb_top.specs.declared.run.RunError.{RunError}
 use Rattle.zodb_top.specs.declared.run.RunError.TheVariants as errors
 use Rattle.zodb_top.specs.Machine.{Done, State, is_reading, reading_failed, taken, turn_of}
-use Rattle.zodb_top.specs.Output.{IsCounted, Ran, behind_reply, first_of, others_of, run_from}
+use Rattle.zodb_top.specs.Output.{IsCounted, Ran, behind_reply, run_from}
 use Rattle.zodb_top.specs.Runs.{IsCutShort, IsFaulted, IsRun, Moment, Runs, Stops}
 use Rattle.zodb_top.specs.Steps.{IsDone, IsDoneOr, IsTurn, Ticks}
-use Rattle.zodb_top.proofs.Joins.{counted_join, counted_later, run_join, run_past, take_over}
+use Rattle.zodb_top.proofs.Fronting.{behind_front}
+use Rattle.zodb_top.proofs.Joins.{counted_join, run_join, take_over}
 
 -- ---- by a clock that tells
 
@@ -77,10 +77,10 @@ cut_so stamps old new t a counted turn wrote =
     let k = taken_so stamps old t a new.state new.stamps new.reads counted turn in record {
       failed = k.failed ∷ [];
       counted = k.counted;
+      count = 1;
       text = subst (AppendsFront old.taken new.taken) (ap (reply_text t.client) (sym k.done.answer) ∙ sym (append-nil (reply_text t.client (taken k.failed old.state stamps t).answer))) wrote;
       read = 1;
       stamps_left = k.done.stamps;
-      count = 1;
       list_left = ap (λ (s : State). s.list) (sym k.done.state);
     }
 
@@ -97,11 +97,11 @@ pub no_reply : (told : Option (List Stamp)) (old new : Moment) (t : Turn) (a : A
 no_reply told old new t a is counted turn same =
     cut_reply told old new t a (reply_text t.client a) is counted turn refl (subst (λ (taken : Option (List ℕ)). AppendsFront old.taken taken (reply_text t.client a)) (sym same) (no_front old.taken (reply_text t.client a)))
 
--- how many turns the clock was read for
+-- for how many turns the clock was read
 read_for : (stamps : List Stamp) (old : Moment) (t : Turn) (after : Option (List Stamp)) → (after ≡ Some stamps) ⊎ (after ≡ Some (turn_of old.state stamps t).stamps)
-    → (n : ℕ) × (after ≡ Some (run_from old.state stamps [] (take n (t ∷ []))).stamps)
-read_for stamps old t after (inl same) = (0, same)
-read_for stamps old t after (inr read) = (1, read)
+    → (n : ℕ) × ((n ≡ 0) ⊎ (n ≡ 0 + 1)) × (after ≡ Some (run_from old.state stamps [] (take n (t ∷ []))).stamps)
+read_for stamps old t after (inl same) = (0, inl refl, same)
+read_for stamps old t after (inr read) = (1, inr refl, read)
 
 unanswered_so : (stamps : List Stamp) (old new : Moment) (t : Turn) → old.reads ≤ new.reads → (new.stamps ≡ Some stamps) ⊎ (new.stamps ≡ Some (turn_of old.state stamps t).stamps)
     → new.state.list ≡ old.state.list → new.taken ≡ old.taken → IsCutShort stamps old (t ∷ []) new
@@ -109,10 +109,10 @@ unanswered_so stamps old new t counted ticks same nothing =
     let n = read_for stamps old t new.stamps ticks in record {
       failed = [];
       counted = counted;
-      text = subst (λ (taken : Option (List ℕ)). AppendsFront old.taken taken (run_from old.state stamps [] (t ∷ [])).text) (sym nothing) (no_front old.taken _);
-      read = n.0;
-      stamps_left = n.1;
       count = 0;
+      text = subst (λ (taken : Option (List ℕ)). AppendsFront old.taken taken []) (sym nothing) (no_front old.taken []);
+      read = n.0;
+      stamps_left = n.2;
       list_left = same;
     }
 
@@ -131,7 +131,8 @@ faulted_so stamps old new t counted ticks nothing =
       count = 0;
       text = subst (λ (taken : Option (List ℕ)). Appends old.taken taken []) (sym nothing) (Appends-nil old.taken);
       read = n.0;
-      stamps_left = n.1;
+      near = n.1;
+      stamps_left = n.2;
     }
 
 -- the store failed in a turn
@@ -170,13 +171,15 @@ module _ (stamps : List Stamp) (old mid new : Moment) (front : List Turn) (t : T
   }
 
   -- the first of these turns: the front, or the front and the turn
-  upto : (g : List Bool) (n : ℕ) → (k : ℕ) × (run_from old.state stamps (r.failed ++ g) (take k (front ++ t ∷ rest)) ≡ behind_reply (run_from old.state stamps r.failed front).text (run_from mid.state mid_stamps g (take n (t ∷ []))))
+  upto : (g : List Bool) (n : ℕ) → (k : ℕ) × (k ≡ length front + min n 1) × (run_from old.state stamps (r.failed ++ g) (take k (front ++ t ∷ rest)) ≡ behind_reply (run_from old.state stamps r.failed front).text (run_from mid.state mid_stamps g (take n (t ∷ []))))
   upto g zero = (
     length front + 0,
+    refl,
     ap (run_from old.state stamps (r.failed ++ g)) (take_over front (t ∷ rest) 0) ∙ behind g [],
   )
   upto g (suc n) = (
     length front + 1,
+    omega arith,
     ap (run_from old.state stamps (r.failed ++ g)) (take_over front (t ∷ rest) 1) ∙ behind g (t ∷ []) ∙ ap (λ (b : List Turn). behind_reply (run_from old.state stamps r.failed front).text (run_from mid.state mid_stamps g b)) (one n),
   )
     where
@@ -184,30 +187,24 @@ module _ (stamps : List Stamp) (old mid new : Moment) (front : List Turn) (t : T
       one zero = refl
       one (suc n) = refl
 
-  -- the reply of the turn comes first of what follows
-  first_reply : (g : List Bool) → (more : List ℕ) × ((run_from old.state stamps (r.failed ++ g) (front ++ t ∷ rest)).text ≡ (run_from old.state stamps r.failed front).text ++ ((run_from mid.state mid_stamps g (t ∷ [])).text ++ more))
-  first_reply g =
-      let d = taken (first_of g) mid.state mid_stamps t in
-      let more = (run_from d.state d.stamps (others_of g) rest).text in (
-        more,
-        ap (λ (y : Ran). y.text) (behind g (t ∷ rest)) ∙ ap (λ (text : List ℕ). (run_from old.state stamps r.failed front).text ++ (text ++ more)) (sym (append-nil (reply_text t.client d.answer))),
-      )
-
   cut_short_so : IsCutShort mid_stamps mid (t ∷ []) new → IsCutShort stamps old (front ++ t ∷ rest) new
   cut_short_so x =
       let clock = upto x.failed x.read in
-      let list = upto x.failed x.count in
-      let text = first_reply x.failed in record {
+      let so_far = upto x.failed x.count in record {
         failed = r.failed ++ x.failed;
         counted = counted_join old.reads mid.reads new.reads r.failed x.failed r.counted x.counted;
-        text = subst (AppendsFront old.taken new.taken) (sym text.1)
-            (front_more old.taken mid.taken new.taken ((run_from old.state stamps r.failed front).text ++ ((run_from mid.state mid_stamps x.failed (t ∷ [])).text ++ text.0)) (run_from mid.state mid_stamps x.failed (t ∷ [])).text text.0 ((run_from mid.state mid_stamps x.failed (t ∷ [])).text ++ text.0)
-            (record { front = (run_from old.state stamps r.failed front).text; split = refl; appended = r.text }) refl x.text);
+        count = so_far.0;
+        text = subst (AppendsFront old.taken new.taken) (ap (λ (y : Ran). y.text) (sym so_far.2)) (behind_front old.taken mid.taken new.taken (run_from old.state stamps r.failed front).text (run_from mid.state mid_stamps x.failed (take x.count (t ∷ []))).text r.text x.text);
         read = clock.0;
-        stamps_left = x.stamps_left ∙ ap (λ (y : Ran). Some y.stamps) (sym clock.1);
-        count = list.0;
-        list_left = x.list_left ∙ ap (λ (y : Ran). y.state.list) (sym list.1);
+        stamps_left = x.stamps_left ∙ ap (λ (y : Ran). Some y.stamps) (sym clock.2);
+        list_left = x.list_left ∙ ap (λ (y : Ran). y.state.list) (sym so_far.2);
       }
+
+  next_to : (read count k l : ℕ) → (read ≡ count) ⊎ (read ≡ count + 1) → k ≡ length front + min count 1 → l ≡ length front + min read 1 → (l ≡ k) ⊎ (l ≡ k + 1)
+  next_to read zero k l (inl same) k_is l_is = inl (l_is ∙ ap (λ (n : ℕ). length front + min n 1) same ∙ sym k_is)
+  next_to read (suc count) k l (inl same) k_is l_is = inl (l_is ∙ ap (λ (n : ℕ). length front + min n 1) same ∙ sym k_is)
+  next_to read zero k l (inr next) k_is l_is = inr (omega (arith, next, k_is, l_is))
+  next_to read (suc count) k l (inr next) k_is l_is = inl (omega (arith, next, k_is, l_is))
 
   faulted_on_so : IsFaulted mid_stamps mid (t ∷ []) new → IsFaulted stamps old (front ++ t ∷ rest) new
   faulted_on_so x =
@@ -216,9 +213,10 @@ module _ (stamps : List Stamp) (old mid new : Moment) (front : List Turn) (t : T
         failed = r.failed ++ x.failed;
         counted = counted_join old.reads mid.reads new.reads r.failed x.failed r.counted x.counted;
         count = so_far.0;
-        text = subst (Appends old.taken new.taken) (ap (λ (y : Ran). y.text) (sym so_far.1)) (Appends-trans old.taken mid.taken new.taken (run_from old.state stamps r.failed front).text (run_from mid.state mid_stamps x.failed (take x.count (t ∷ []))).text r.text x.text);
+        text = subst (Appends old.taken new.taken) (ap (λ (y : Ran). y.text) (sym so_far.2)) (Appends-trans old.taken mid.taken new.taken (run_from old.state stamps r.failed front).text (run_from mid.state mid_stamps x.failed (take x.count (t ∷ []))).text r.text x.text);
         read = clock.0;
-        stamps_left = x.stamps_left ∙ ap (λ (y : Ran). Some y.stamps) (sym clock.1);
+        near = next_to x.read x.count so_far.0 clock.0 x.near so_far.1 clock.1;
+        stamps_left = x.stamps_left ∙ ap (λ (y : Ran). Some y.stamps) (sym clock.2);
       }
 
 joined_run : (told : Option (List Stamp)) (old mid new : Moment) (front : List Turn) (t : Turn) → IfSome told (λ stamps. IsRun stamps old front mid) → Runs mid (t ∷ []) new → IfSome told (λ stamps. IsRun stamps old (front ++ t ∷ []) new)

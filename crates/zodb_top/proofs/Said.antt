@@ -8,7 +8,7 @@ use Rattle.zodb_top.specs.declared.status.Status.{Status}
 use Rattle.zodb_top.specs.declared.status.Status.TheVariants as status
 use Rattle.zodb_top.specs.Program.{IsWritten}
 use Rattle.zodb_top.specs.Texts.{damage_line, line, store_fault_line}
-use Rattle.zodb_top.specs.Unopened.{NamesError, SaysUnopened}
+use Rattle.zodb_top.specs.Unopened.{SaysUnopened}
 
 pub said_fault : (s : Status) (e : OpenError) (old new : Option (List ℕ)) (before now : ℕ) (text : List ℕ) → s ≡ status.StoreFault → e ≡ error.StoreFault → text ≡ store_fault_line → IsWritten old new before now text
     → SaysUnopened s e old new before now

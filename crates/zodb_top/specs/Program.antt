@@ -1,5 +1,5 @@
 -- What the program writes, and what its statuses say. Own.
-use Rattle.std.specs.Prelude.{◌≡◌, ◌≢◌, ℕ, ◌<◌, ◌≤◌, ◌⊎◌, List, [], ◌∷◌, ◌++◌, Option, Some, None, Bool, true, false, IfSome, codes, decimal, length, take}
+use Rattle.std.specs.Prelude.{◌≡◌, ◌≢◌, ℕ, ◌+◌, ◌<◌, ◌≤◌, ◌⊎◌, List, [], ◌++◌, Option, Some, Bool, true, false, IfSome, length, take}
 use Rattle.std.specs.Io.KnownBytes.{Appends}
 use Rattle.std.specs.Option.{option_map}
 use Rattle.file_store.specs.Kept.{StandsForList}
@@ -50,11 +50,11 @@ pub record HasBadLine (input : List ℕ) (before after : Outside) : Type 0 where
 -- ---- the list at the start
 
 -- What opening a file gives: the list that its bytes stand for, and where a tail was cut off; or, where there
--- are no bytes, the list of a new database, by the clock's first stamp. `told` are the clock's stamps, and `left`
--- those that it has still to give.
-pub data Opens (bytes : List ℕ) (told left : Option (List Stamp)) (list : List Transaction) (cut : Option ℕ) : Type 0 where
-  there : bytes ≢ [] → StandsFor bytes list cut → left ≡ told → Opens bytes told left list cut
-  made : bytes ≡ [] → IsMade told list cut → left ≡ option_map stamps_after told → Opens bytes told left list cut
+-- are no bytes, the list of a new database, by the clock's first stamp. `stamps` are the clock's, and `stamps'` those
+-- that it has still to give.
+pub data Opens (bytes : List ℕ) (stamps stamps' : Option (List Stamp)) (list : List Transaction) (cut : Option ℕ) : Type 0 where
+  there : bytes ≢ [] → StandsFor bytes list cut → stamps' ≡ stamps → Opens bytes stamps stamps' list cut
+  made : bytes ≡ [] → IsMade stamps list cut → stamps' ≡ option_map stamps_after stamps → Opens bytes stamps stamps' list cut
 
 -- ---- turns over a list
 
@@ -69,25 +69,27 @@ pub record AllAnswered (list : List Transaction) (cut : Option ℕ) (stamps : Li
   pub stamps_left : left ≡ Some (run_from (start list) stamps failed turns).stamps
   pub list_left : list' ≡ (run_from (start list) stamps failed turns).state.list
 
--- The turns were taken up to some of them: what was written is a front of that text. The clock gave what the
--- first `read` of them read, and the list is the one behind the first `count` of them.
+-- The first `count` of the turns were taken: what was written is a front of the line of the tail that was cut off
+-- and of their replies, and the list is the one behind them. The clock gave what the first `read` of the turns read.
 pub record SomeAnswered (list : List Transaction) (cut : Option ℕ) (stamps : List Stamp) (turns : List Turn) (reads reads' : ℕ) (taken taken' : Option (List ℕ)) (left : Option (List Stamp)) (list' : List Transaction) : Type 0 where
   pub failed : List Bool
   pub counted : IsCounted reads failed reads'
-  pub text : AppendsFront taken taken' (joined (cut_lines cut) ++ (run_from (start list) stamps failed turns).text)
+  pub count : ℕ
+  pub text : AppendsFront taken taken' (joined (cut_lines cut) ++ (run_from (start list) stamps failed (take count turns)).text)
   pub read : ℕ
   pub stamps_left : left ≡ Some (run_from (start list) stamps failed (take read turns)).stamps
-  pub count : ℕ
   pub list_left : list' ≡ (run_from (start list) stamps failed (take count turns)).state.list
 
--- The turns were taken up to one in which the store failed: what was written is the replies of those before it,
--- and then the line that says so. `before` and `now` are the counts of the sink's faults.
+-- The first `count` of the turns were taken, and the store failed in the next one: what was written is the line of
+-- the tail that was cut off, their replies, and the line that says so. The clock gave what the first `read` of the
+-- turns read, which are these, or these and the next. `before` and `now` are the counts of the sink's faults.
 pub record AnsweredToFault (list : List Transaction) (cut : Option ℕ) (stamps : List Stamp) (turns : List Turn) (reads reads' before now : ℕ) (taken taken' : Option (List ℕ)) (left : Option (List Stamp)) : Type 0 where
   pub failed : List Bool
   pub counted : IsCounted reads failed reads'
   pub count : ℕ
   pub written : IsWritten taken taken' before now (joined (cut_lines cut) ++ ((run_from (start list) stamps failed (take count turns)).text ++ store_fault_line))
   pub read : ℕ
+  pub near : (read ≡ count) ⊎ (read ≡ count + 1)
   pub stamps_left : left ≡ Some (run_from (start list) stamps failed (take read turns)).stamps
 
 -- ---- runs
@@ -131,11 +133,12 @@ pub record IsUnopened (before after : Outside) : Type 0 where
   pub read_faults : after.read_faults ≡ before.read_faults
   pub write_faults : after.write_faults ≡ before.write_faults
 
--- it couldn't be opened, since a call of the volume failed
-pub record FailedToOpen (before after : Outside) : Type 0 where
+-- it couldn't be opened, since a call of the volume failed; the clock was read at most where Main was empty
+pub record FailedToOpen (told : Type 0) (before after : Outside) : Type 0 where
   pub rose : SomeRose before.read_faults after.read_faults before.write_faults after.write_faults
   pub written : IsWritten before.taken after.taken before.sink_faults after.sink_faults store_fault_line
   pub stamps : GaveAtMostOne before.stamps after.stamps
+  pub kept : told → main_of before ≢ [] → after.stamps ≡ before.stamps
 
 -- it couldn't be opened, since it is damaged
 pub record IsRefused (told : Type 0) (before after : Outside) : Type 0 where
@@ -146,21 +149,21 @@ pub record IsRefused (told : Type 0) (before after : Outside) : Type 0 where
   pub log : told → after.log ≡ before.log
 
 -- What each status of `run` says: its cause, and what was written. `told` says that the volume tells, and
--- `unread` that the source's count of faults rose; `left` is what the source had left.
+-- `source_failed` that the source's count of faults rose; `left` is what the source had left.
 abbrev pub RunOutcome : Status → Type 0 → Type 0 → Option (List ℕ) → Outside → Outside → Type 0
-RunOutcome Done told unread left before after = told → OfInput left before (λ turns. HasRun turns before after)
-RunOutcome NoMemory told unread left before after =
+RunOutcome Done told source_failed left before after = told → OfInput left before (λ turns. HasRun turns before after)
+RunOutcome NoMemory told source_failed left before after =
     ((after.taken ≡ before.taken) × GaveAtMostOne before.stamps after.stamps) ⊎ (told → OfInput left before (λ turns. HasRunInPart turns before after))
-RunOutcome ReadFault told unread left before after =
-    unread × IsUnopened before after × IsWritten before.taken after.taken before.sink_faults after.sink_faults read_fault_line
-RunOutcome SinkFault told unread left before after =
+RunOutcome ReadFault told source_failed left before after =
+    source_failed × IsUnopened before after × IsWritten before.taken after.taken before.sink_faults after.sink_faults read_fault_line
+RunOutcome SinkFault told source_failed left before after =
     Rose before.sink_faults after.sink_faults × (told → OfInput left before (λ turns. HasRunInPart turns before after))
-RunOutcome StoreFault told unread left before after =
-    FailedToOpen before after ⊎ (Rose before.write_faults after.write_faults × (told → OfInput left before (λ turns. HasRunToFault turns before after)))
-RunOutcome Damaged told unread left before after = IsRefused told before after
-RunOutcome BadLine told unread left before after = IsUnopened before after × IfSome left (λ input. HasBadLine input before after)
-RunOutcome Limit told unread left before after = IsUnopened before after × IfSome left (λ input. IsPastLimit input before after)
-RunOutcome _ told unread left before after = ⊥
+RunOutcome StoreFault told source_failed left before after =
+    FailedToOpen told before after ⊎ (Rose before.write_faults after.write_faults × (told → OfInput left before (λ turns. HasRunToFault turns before after)))
+RunOutcome Damaged told source_failed left before after = IsRefused told before after
+RunOutcome BadLine told source_failed left before after = IsUnopened before after × IfSome left (λ input. HasBadLine input before after)
+RunOutcome Limit told source_failed left before after = IsUnopened before after × IfSome left (λ input. IsPastLimit input before after)
+RunOutcome _ told source_failed left before after = ⊥
 
 -- the status, or want of memory
 abbrev pub IsUnlessMemory : Status → Status → Type 0

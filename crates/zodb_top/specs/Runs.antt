@@ -1,5 +1,5 @@
 -- What the code of a run answers, writes and leaves.
-use Rattle.std.specs.Prelude.{◌≡◌, ℕ, List, [], ◌∷◌, Bool, Option, Some, IfSome, length, take}
+use Rattle.std.specs.Prelude.{◌≡◌, ◌⊎◌, ℕ, ◌+◌, List, Bool, Option, Some, IfSome, length, take}
 use Rattle.std.specs.Io.KnownBytes.{Appends}
 use Rattle.zb_ids.specs.declared.stamp.Stamp.{Stamp}
 use Rattle.zb_outside.specs.Written.{AppendsFront}
@@ -31,24 +31,26 @@ pub record IsRun (stamps : List Stamp) (old : Moment) (turns : List Turn) (new :
   pub state_left : (run_from old.state stamps failed turns).state ≡ new.state
   pub stamps_left : new.stamps ≡ Some (run_from old.state stamps failed turns).stamps
 
--- The run ended within the turns: some front of their replies was written; the clock gave what the first `read` of
--- them read, and the list is the one behind the first `count` of them.
+-- The run ended behind the first `count` of the turns: some front of their replies was written, and the list is the
+-- one behind them; the clock gave what the first `read` of the turns read.
 pub record IsCutShort (stamps : List Stamp) (old : Moment) (turns : List Turn) (new : Moment) : Type 0 where
   pub failed : List Bool
   pub counted : IsCounted old.reads failed new.reads
-  pub text : AppendsFront old.taken new.taken (run_from old.state stamps failed turns).text
+  pub count : ℕ
+  pub text : AppendsFront old.taken new.taken (run_from old.state stamps failed (take count turns)).text
   pub read : ℕ
   pub stamps_left : new.stamps ≡ Some (run_from old.state stamps failed (take read turns)).stamps
-  pub count : ℕ
   pub list_left : new.state.list ≡ (run_from old.state stamps failed (take count turns)).state.list
 
--- The store failed in one of the turns: the replies of those before it were written.
+-- The store failed in the turn behind the first `count` of them, whose replies were written; the clock gave what these
+-- read, or these and that turn.
 pub record IsFaulted (stamps : List Stamp) (old : Moment) (turns : List Turn) (new : Moment) : Type 0 where
   pub failed : List Bool
   pub counted : IsCounted old.reads failed new.reads
   pub count : ℕ
   pub text : Appends old.taken new.taken (run_from old.state stamps failed (take count turns)).text
   pub read : ℕ
+  pub near : (read ≡ count) ⊎ (read ≡ count + 1)
   pub stamps_left : new.stamps ≡ Some (run_from old.state stamps failed (take read turns)).stamps
 
 -- by a clock that tells

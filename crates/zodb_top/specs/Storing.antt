@@ -1,5 +1,5 @@
 -- What the code of a run says of a store, and of the file in Main.
-use Rattle.std.specs.Prelude.{◌≡◌, ◌⊎◌, ℕ, List, Option, Some, IfSome}
+use Rattle.std.specs.Prelude.{◌≡◌, ◌⊎◌, ℕ, List, Option, IfSome}
 use Rattle.file_store.specs.Opening.{GaveAtMostOne}
 use Rattle.zb_ids.specs.declared.stamp.Stamp.{Stamp}
 use Rattle.zb_model.specs.declared.data.Transaction.{Transaction}
@@ -39,6 +39,6 @@ FileOutcome status.NoMemory told turns before after =
 FileOutcome status.SinkFault told turns before after =
     Rose before.sink_faults after.sink_faults × (told → IfSome before.stamps (λ s. HasRunInPart turns before after))
 FileOutcome status.StoreFault told turns before after =
-    FailedToOpen before after ⊎ (Rose before.write_faults after.write_faults × (told → IfSome before.stamps (λ s. HasRunToFault turns before after)))
+    FailedToOpen told before after ⊎ (Rose before.write_faults after.write_faults × (told → IfSome before.stamps (λ s. HasRunToFault turns before after)))
 FileOutcome status.Damaged told turns before after = IsRefused told before after
 FileOutcome _ told turns before after = ⊥

@@ -5,7 +5,6 @@ use Rattle.std.specs.Str.{bytes_eq}
 use Rattle.zb_ids.specs.Hex.{number_at}
 use Rattle.zodb_top.specs.declared.command.Command.{Command}
 use Rattle.zodb_top.specs.declared.command.Command.TheVariants as command
-use Rattle.zodb_top.specs.declared.command.Listing.{Listing}
 use Rattle.zodb_top.specs.declared.command.Listing.TheVariants.{UndoLog, History}
 
 -- a path isn't empty and doesn't begin with a dash

@@ -184,7 +184,7 @@ pub(crate) fn list_file<K: Sink, V: Volume, C: Clock>(
         → (seen (V.log volume.new) Main ≡ seen (V.log volume.old) Main) ⊎ (seen (V.log volume.new) Main ≡ without_tail cut (seen (V.log volume.old) Main)) }
 {
     match create_if_empty(alloc, volume, clock) {
-        Ok(()) => list_opened(alloc, asked, sink, volume),
+        Ok(_) => list_opened(alloc, asked, sink, volume),
         Err(error) => say_unopened(alloc, sink, error),
     }
 }

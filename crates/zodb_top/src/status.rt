@@ -11,9 +11,9 @@ pub enum Status {
     Usage = 2,
     /// The script could not be read: the source's count of faults rose.
     ReadFault = 3,
-    /// A reply could not be written: the sink's count of faults rose.
+    /// A line could not be written: the sink's count of faults rose.
     SinkFault = 4,
-    /// The file could not be opened: a count of the volume's faults rose.
+    /// A call of the volume failed, while the file was opened or in a turn: a count of its faults rose.
     StoreFault = 5,
     /// The file is damaged.
     Damaged = 6,

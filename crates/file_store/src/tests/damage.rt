@@ -2,19 +2,11 @@
 
 use crate::FileStore;
 use crate::tests::bytes::{CREATED, FIRST};
-use crate::tests::making::{clock_of, content, stamp_at, volume_of};
+use crate::tests::making::{clock_of, content, stamp_at, volume_with};
 use fs_records::Field;
 use fs_recovery::OpenError;
 use std::alloc::Global;
 use std::test::Fail;
-use zb_volume::{Area, MemoryVolume, Volume};
-
-/// A volume with these bytes in Main.
-fn volume_with(alloc: Global, bytes: &[u8]) -> Result<MemoryVolume, Fail> {
-    let mut volume = volume_of(alloc, 0)?;
-    volume.write_at(Area::Main, 0, bytes)?;
-    Ok(volume)
-}
 
 /// Why these bytes aren't opened, after that the volume was handed back with them.
 fn refusal_of(alloc: Global, bytes: &[u8]) -> Result<OpenError, Fail> {

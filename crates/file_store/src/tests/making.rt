@@ -101,6 +101,13 @@ pub fn volume_of(alloc: Global, failing: u64) -> Result<MemoryVolume, Fail>
     Ok(MemoryVolume::new(alloc, numbers))
 }
 
+/// A volume with these bytes in Main, which no sync has made sure.
+pub fn volume_with(alloc: Global, bytes: &[u8]) -> Result<MemoryVolume, Fail> {
+    let mut volume = volume_of(alloc, 0)?;
+    volume.write_at(Area::Main, 0, bytes)?;
+    Ok(volume)
+}
+
 /// What a read gives of Main.
 pub fn content(alloc: Global, volume: &mut MemoryVolume) -> Result<Vec<u8>, Fail> {
     let length = volume.len(Area::Main)?;

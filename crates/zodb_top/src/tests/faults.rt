@@ -41,17 +41,17 @@ fn what_is_left(alloc: Global, volume: &MemoryVolume, all: bool) -> Result<Left,
 /// volume, and what a crash then leaves, with all that waits for a sync and with none of it.
 ///
 /// Five calls make the file: the length of Main is asked for, Side is cut, written and synced, and
-/// then it takes the place of Main. Five open it: its length, one read of its 158 bytes, a sync, and
-/// two reads, of the headers of its transaction and of the record there. The vote writes Main and
-/// syncs it, and so does the finish. Where a sync fails, what was written before it may be left or not.
+/// then it takes the place of Main. Four read it: its length, one read of its 158 bytes, and two, of
+/// the headers of its transaction and of the record there. The vote writes Main and syncs it, and so
+/// does the finish. Where a sync fails, what was written before it may be left or not.
 fn left_by(number: u64) -> (usize, Left, Left) {
     match number {
         0..=5 => (0, Left::Nothing, Left::Nothing),
-        6..=10 => (0, Left::First, Left::First),
-        11 => (4, Left::First, Left::First),
-        12 => (4, Left::Voted, Left::First),
-        13 => (5, Left::Voted, Left::Voted),
-        14 => (5, Left::Both, Left::Voted),
+        6..=9 => (0, Left::First, Left::First),
+        10 => (4, Left::First, Left::First),
+        11 => (4, Left::Voted, Left::First),
+        12 => (5, Left::Voted, Left::Voted),
+        13 => (5, Left::Both, Left::Voted),
         _ => (6, Left::Both, Left::Both),
     }
 }
@@ -98,12 +98,12 @@ fn each_call_of_a_run_fails(rt: HostRuntime) -> Result<(), Fail> {
     Ok(())
 }
 
-/// Call 12 is the sync of Main in the vote, as `left_by` counts them. A crash then leaves the whole
-/// transaction, with the status 63, or nothing of it: the list is the first transaction either way.
+/// Call 11 is the first sync of Main, which is that of the vote, as `left_by` counts them. A crash then
+/// leaves the whole transaction, with the status 63, or nothing of it: the list is the first transaction either way.
 #[test]
-fn failed_sync_of_a_vote(rt: HostRuntime) -> Result<(), Fail> {
+fn first_sync_of_main_fails(rt: HostRuntime) -> Result<(), Fail> {
     let alloc = rt.alloc();
-    let ending = run_on(alloc, empty_volume(alloc, 12)?, FIRST_COMMIT)?;
+    let ending = run_on(alloc, empty_volume(alloc, 11)?, FIRST_COMMIT)?;
     assert_eq!(rt; ending.status, 5);
     assert_eq!(rt;
         ending.written.as_slice(),

@@ -1,4 +1,4 @@
-use Rattle.file_store.specs.Opening.{Harm}
+use Rattle.file_store.specs.Opening.{Harm, first_list}
 use Rattle.file_store.proofs.Opens.{begun_made, err_is, still_some}
 use Rattle.file_store.proofs.opening.create_if_empty.Goals as goal
 
@@ -12,3 +12,6 @@ pub returns-clause-begun : goal.returns-clause-begun
 returns-clause-begun g c = λ told.
     begun_made c.stamp-now.result (g.V.Volume.log c.args.volume.now) (g.V.Volume.log c.len.new.self) (g.V.Volume.log c.make.new.volume) (g.C.Clock.stamps c.args.clock.now) (g.C.Clock.stamps c.stamp-now.new.self) c.in_ok-len.field-0
     c.len.ensures.same (c.in_ok-len.ensures.value told) c.if-branch-gt0.false c.stamp-now.ensures.first c.stamp-now.ensures.left (c.in_ok-make.ensures.made told) (c.in_ok-make.ensures.settled told) (c.make.ensures.any_moment told)
+
+pub returns-clause-fresh : goal.returns-clause-fresh
+returns-clause-fresh g c = λ told is. (c.in_ok-make.ensures.settled told, (first_list c.stamp-now.result, c.in_ok-make.ensures.made told))

@@ -1,4 +1,4 @@
-use Rattle.std.proofs.Common.{◌≡◌, ◌∙◌, ap, subst, List, ℕ, take, arith}
+use Rattle.std.proofs.Common.{◌≡◌, ◌∙◌, ap, subst, List, ℕ, take}
 use Rattle.fs_recovery.specs.Reading.{main}
 use Rattle.fs_recovery.specs.Opens.{IsNoList, IsOpened, MomentsOfOpening}
 use Rattle.fs_recovery.proofs.Steps.{no_list_apart, whole_now}

@@ -1,6 +1,4 @@
-use Rattle.std.specs.Prelude.{IfErr}
-use Rattle.std.proofs.Common.{subst}
-use Rattle.zodb_top.specs.Runs.{Stops, at_moment}
+use Rattle.zodb_top.specs.Runs.{at_moment}
 use Rattle.zodb_top.proofs.Running.{stops_here, stops_with}
 use Rattle.zodb_top.proofs.run.run.Goals as goal
 

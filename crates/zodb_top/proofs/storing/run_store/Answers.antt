@@ -1,4 +1,4 @@
-use Rattle.std.proofs.Common.{rules, ◌∙◌, Err, ap, arith, refl, sym}
+use Rattle.std.proofs.Common.{◌∙◌, Err, ap, arith, refl, sym}
 use Rattle.zb_outside.specs.RoseLaws.{rose_after}
 use Rattle.zodb_top.specs.Runs.{Stops, at_moment}
 use Rattle.zodb_top.proofs.Outputs.{all_answered, begins_so, cut_front, error_said, nothing_answered, stopped_outcome}
@@ -12,8 +12,8 @@ pub returns-in-Err-clause-outcome : goal.returns-in-Err-clause-outcome
 returns-in-Err-clause-outcome g c = (
   c.in-Err.ensures.failed,
   λ told.
-  cut_front (g.C.Clock.stamps c.args.clock.now) (g.St.Store.list c.args.store) c.args.cut c.args.turns.now (g.St.Store.read_faults c.args.store) (g.K.Sink.taken c.args.sink.now) (g.K.Sink.taken c.write_lines.new.sink) c.as_slice.result.now
-  (c.as_slice.ensures ∙ c.in-Ok.ensures) c.in-Err.ensures.err,
+      cut_front (g.C.Clock.stamps c.args.clock.now) (g.St.Store.list c.args.store) c.args.cut c.args.turns.now (g.St.Store.read_faults c.args.store) (g.K.Sink.taken c.args.sink.now) (g.K.Sink.taken c.write_lines.new.sink) c.as_slice.result.now
+      (c.as_slice.ensures ∙ c.in-Ok.ensures) c.in-Err.ensures.err,
 )
 
 pub returns-clause-outcome : goal.returns-clause-outcome
