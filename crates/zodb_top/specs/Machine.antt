@@ -313,8 +313,8 @@ is_reading (lines.Load oid) = true
 is_reading lines.Vote = true
 is_reading _ = false
 
--- a turn, where `failed` says whether reading failed in it: a line that reads is then answered so, and any
--- other as ever
+-- a turn, where `failed` says whether it is to be answered that reading failed: a line that reads is then
+-- answered so, and any other as ever
 abbrev pub taken : Bool → State → List Stamp → Turn → Done
 taken false s stamps t = turn_of s stamps t
 taken true s stamps t = if is_reading t.line then reading_failed s (turn_of s stamps t) else turn_of s stamps t

@@ -60,7 +60,7 @@ pub fn zodb_main<S: Source, K: Sink, V: Volume + Drop, C: Clock>(
         (record { taken = K.taken sink.old; sink_faults = K.faults sink.old; stamps = C.stamps clock.old; log = V.log volume; read_faults = V.read_faults volume; write_faults = V.write_faults volume })
         (record { taken = K.taken sink.new; sink_faults = K.faults sink.new; stamps = C.stamps clock.new; log = V.log result.1; read_faults = V.read_faults result.1; write_faults = V.write_faults result.1 }) }
 
-    // A script is read to its end, or to the first byte past its limit; nothing else is read.
+    // A script is read to its end, and at most to the first byte past its limit; nothing else is read.
     ensures at_end { command_of (map string_bytes words.now) ≡ Some Run → IsTrue (is_read result.0) → IsAtEnd (S.left source.new) }
     ensures taken { (bytes : List ℕ) × Consumes (S.left source.old) (S.left source.new) bytes × (length bytes ≤ most_bytes + 1) }
     ensures unread { ¬ (command_of (map string_bytes words.now) ≡ Some Run) → S.left source.new ≡ S.left source.old }
@@ -90,8 +90,8 @@ pub fn zodb_main<S: Source, K: Sink, V: Volume + Drop, C: Clock>(
     // A file that is damaged is left as it was.
     ensures harmed { V.told → IsNoList (seen (V.log volume) Main) → V.log result.1 ≡ V.log volume }
 
-    // A list leaves the file as it was, or without its tail, and that once it is done; where Main was
-    // empty the file of a new database is then there.
+    // A list leaves a file that isn't empty as it was or without its tail, and without it once the list
+    // is written; where Main was empty the file of a new database is then there.
     ensures left { (asked : Listing) → command_of (map string_bytes words.now) ≡ Some (command.List asked) → V.told → (result.0 ≡ Status.StoreFault → ⊥) → seen (V.log volume) Main ≢ []
         → (list : List Transaction) (cut : Option ℕ) → StandsFor (seen (V.log volume) Main) list cut
         → (seen (V.log result.1) Main ≡ seen (V.log volume) Main) ⊎ (seen (V.log result.1) Main ≡ without_tail cut (seen (V.log volume) Main)) }
