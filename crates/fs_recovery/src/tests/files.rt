@@ -1,6 +1,6 @@
 // Whole files, and files that end too early.
 use crate::tests::build::{T0, back, commit, empty_file, full, two_commits};
-use crate::tests::openings::{content, is_read_alike, open, opened, read_alone, volume_of};
+use crate::tests::openings::{is_read_alike, open, opened, volume_of};
 use crate::tests::slow::Answer::{Damaged, NoFile, Stands};
 use fs_records::{Field, Place};
 use std::alloc::{AllocError, Global};
@@ -43,21 +43,6 @@ fn first_commit_is_indexed(rt: HostRuntime) -> Result<(), Fail> {
     assert_eq!(rt; index.places(Oid(0)), [place(T0, 52)].as_slice());
     assert_eq!(rt; index.places(Oid(1)), [place(T0 + 1, 181)].as_slice());
     assert_eq!(rt; index.places(Oid(2)).len(), 0);
-    Ok(())
-}
-
-/// A file with a tail is read as it is opened, but nothing is cut off or synced.
-#[test]
-fn a_file_is_read_alone(rt: HostRuntime) -> Result<(), Fail> {
-    let alloc = rt.alloc();
-    let file = two_commits(alloc)?;
-    let mut volume = volume_of(alloc, &file[..233], &[])?;
-    let read = read_alone(alloc, &mut volume)??;
-    assert_eq!(rt; read.end, 158);
-    assert_eq!(rt; read.cut, Some(158));
-    assert_eq!(rt; read.index.transactions(), [place(T0, 4)].as_slice());
-    assert_eq!(rt; content(alloc, &mut volume)?.as_slice(), &file[..233]);
-    assert_eq!(rt; content(alloc, &mut volume.image(false)?)?.len(), 0);
     Ok(())
 }
 

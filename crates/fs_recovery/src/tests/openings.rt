@@ -1,6 +1,6 @@
 // Opening a file in memory, beside the second reader.
 use crate::tests::slow::{Answer, Seen, read};
-use crate::{OpenError, Opened, open_main, read_file};
+use crate::{OpenError, Opened, open_main};
 use fs_records::{Index, Place};
 use std::alloc::{AllocError, Global};
 use std::test::Fail;
@@ -24,17 +24,6 @@ pub fn open<V: Volume>(alloc: Global, volume: &mut V) -> Result<Result<Opened, O
         return Err(Fail::new("Main is empty"));
     }
     Ok(open_main(alloc, volume))
-}
-
-/// Reads a Main that isn't empty, and changes nothing.
-pub fn read_alone<V: Volume>(
-    alloc: Global,
-    volume: &mut V,
-) -> Result<Result<Opened, OpenError>, Fail> {
-    if volume.len(Area::Main)? == 0 {
-        return Err(Fail::new("Main is empty"));
-    }
-    Ok(read_file(alloc, volume))
 }
 
 /// What a read gives of Main.
