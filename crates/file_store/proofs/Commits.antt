@@ -12,17 +12,17 @@ use Rattle.zb_volume.specs.Runs.{leaves_less}
 use Rattle.zb_model.specs.declared.data.Transaction.{Transaction}
 use Rattle.zb_model.specs.declared.new_transaction.NewChange.{NewChange}
 use Rattle.zb_model.specs.declared.new_transaction.NewTransaction.{NewTransaction}
-use Rattle.fs_records.specs.NumberLaws.{IsBytes}
+use Rattle.zb_base.specs.Bytes.{AreBytes}
 use Rattle.fs_records.specs.Blocks.{Reached, Begins}
 use Rattle.fs_records.specs.Places.{IsIndexOf}
 use Rattle.zb_model.specs.Voting.{IsVotable, voted_of}
-use Rattle.fs_records.specs.File.{StandsAs, a_file}
+use Rattle.fs_records.specs.File.{IsReadAs, a_file}
 use Rattle.fs_records.specs.Listed.{listed, reached_in, reading_stands}
 use Rattle.fs_records.specs.StatusLaws.{block_status}
 use Rattle.fs_records.specs.Writing.{IsNext, block_of}
-use Rattle.fs_append.specs.Appending.{StandsStill, IsVote, IsVoted}
+use Rattle.fs_append.specs.Appending.{IsStillRead, IsVote, IsVoted}
 use Rattle.file_store.specs.declared.staged.Staged.{Staged}
-use Rattle.file_store.specs.Kept.{HasRoom, IsKept, IsVotedIn, StandsForList, done, voted_in, cut_of, length_by}
+use Rattle.file_store.specs.Kept.{HasRoomForTally, IsKept, IsVotedIn, StandsForList, done, voted_in, cut_of, length_by}
 use Rattle.file_store.specs.KeptLaws.{kept_stands, kept_for, kept_leaves, list_read}
 use Rattle.file_store.specs.Numbers.{NumbersKept, AreNumbersOf}
 use Rattle.file_store.specs.Preparing.{IsPrepared}
@@ -30,7 +30,7 @@ use Rattle.file_store.specs.Staging.{StagedKept, shown_places, shown_starts}
 use Rattle.file_store.proofs.Writes.{Voted, staged_for, voted_kept, finished_kept, aborted_kept, written_end}
 
 -- each byte of a slice is one
-pub are_bytes : (xs : List ℕ) → All (λ byte. byte < 256) xs → IsBytes xs
+pub are_bytes : (xs : List ℕ) → All (λ byte. byte < 256) xs → AreBytes xs
 are_bytes [] all k = omega arith
 are_bytes (x ∷ xs) all zero = All-head (λ byte. byte < 256) x xs all
 are_bytes (x ∷ xs) all (suc k) = are_bytes xs (All-tail (λ byte. byte < 256) x xs all) k
@@ -54,10 +54,10 @@ none_staged None f is = refl
 none_staged (Some s) f is = absurd cc
 
 -- the room that was made is that for what was staged
-pub room_for : (numbers : NumbersKept) (staged : Option Staged) (old : StagedKept) (new : NewTransaction) (text : List ℕ) → staged ≡ Some (staged_for old new text) → HasRoom numbers (length new.changes) → ForSome staged (λ s. HasRoom numbers (length s.oids))
+pub room_for : (numbers : NumbersKept) (staged : Option Staged) (old : StagedKept) (new : NewTransaction) (text : List ℕ) → staged ≡ Some (staged_for old new text) → HasRoomForTally numbers (length new.changes) → ForSome staged (λ s. HasRoomForTally numbers (length s.oids))
 room_for numbers staged old new text is room s some =
     let same : s ≡ staged_for old new text = some_same Staged staged (staged_for old new text) s is some in
-    subst (λ (x : Staged). HasRoom numbers (length x.oids)) (sym same) (subst (λ (n : ℕ). HasRoom numbers n) (sym (length-map new.changes (λ (c : NewChange). c.oid))) room)
+    subst (λ (x : Staged). HasRoomForTally numbers (length x.oids)) (sym same) (subst (λ (n : ℕ). HasRoomForTally numbers n) (sym (length-map new.changes (λ (c : NewChange). c.oid))) room)
 
 pub none_there : (A : Type 0) (P : A → Type 0) (o : Option A) → o ≡ None → ForSome o P
 none_there A P o is a some = absurd cc
@@ -68,15 +68,15 @@ module _ (log : List Event) (index : StagedKept) (numbers : NumbersKept) (settle
   unmoved = here (kept_leaves log index numbers settled kept)
 
   -- what stands for what was read stands for the list
-  pub moments : (new : List Event) → LeavesOnly Main (StandsStill (reached_in (seen log Main))) log new → LeavesOnly Main (λ bytes. StandsForList bytes (listed (seen log Main))) log new
-  moments new leaves = leaves_less Main (StandsStill (reached_in (seen log Main))) (λ bytes. StandsForList bytes (listed (seen log Main))) log new
+  pub moments : (new : List Event) → LeavesOnly Main (IsStillRead (reached_in (seen log Main))) log new → LeavesOnly Main (λ bytes. StandsForList bytes (listed (seen log Main))) log new
+  moments new leaves = leaves_less Main (IsStillRead (reached_in (seen log Main))) (λ bytes. StandsForList bytes (listed (seen log Main))) log new
       (λ image stands. (stands.0, a_file (reached_in (seen log Main)) stands.1 (list_read (seen log Main) (reached_in (seen log Main)) (cut_of index) kept.reading))) leaves
 
   -- a prepared text may be voted there
   pub vote_is : (now : StagedKept) (are : NumbersKept) (new : NewTransaction) (end : ℕ) (text bytes : List ℕ) → index.staged ≡ None → IsPrepared index now are new text → end ≡ index.end → bytes ≡ text → IsVote log (reached_in (seen log Main)) end bytes
   vote_is now are new end text bytes free p end_is text_is = record {
     settled = settled;
-    stands = subst (λ (o : Option Staged). StandsAs (seen log Main) (reached_in (seen log Main)) (option_map (λ (x : Staged). index.end) o)) free (kept_stands (seen log Main) index numbers kept);
+    stands = subst (λ (o : Option Staged). IsReadAs (seen log Main) (reached_in (seen log Main)) (option_map (λ (x : Staged). index.end) o)) free (kept_stands (seen log Main) index numbers kept);
     end_is = kept.end_is ∙ sym end_is;
     whole = kept.whole ∙ ap (λ (o : Option Staged). length_by o index.end) free ∙ sym end_is;
     status = ap (λ (x : List ℕ). get_or x 16 0) (text_is ∙ p.text_is) ∙ block_status index.end (block_of 99 index.kept.entries new);
@@ -90,7 +90,7 @@ module _ (log : List Event) (index : StagedKept) (numbers : NumbersKept) (settle
   pub voted_is : (s : Staged) (end : ℕ) → index.staged ≡ Some s → IsVotedIn (seen log Main) s index → end ≡ index.end → IsVoted log (reached_in (seen log Main)) end
   voted_is s end some voted end_is = record {
     settled = settled;
-    stands = subst (λ (o : Option ℕ). StandsAs (seen log Main) (reached_in (seen log Main)) o)
+    stands = subst (λ (o : Option ℕ). IsReadAs (seen log Main) (reached_in (seen log Main)) o)
         (ap (λ (o : Option Staged). option_map (λ (x : Staged). index.end) o) some ∙ ap (λ (n : ℕ). Some n) (sym end_is)) (kept_stands (seen log Main) index numbers kept);
     end_is = kept.end_is ∙ sym end_is;
     status = ap (λ (n : ℕ). get_or (seen log Main) (n + 16) 0) end_is ∙ voted.status;
@@ -115,7 +115,7 @@ module _ (log : List Event) (index : StagedKept) (numbers : NumbersKept) (settle
 
   -- an abort leaves the list
   pub abort_moments : (new : List Event) (s : Staged) (end : ℕ) → index.staged ≡ Some s → IsVotedIn (seen log Main) s index → end ≡ index.end
-      → ((r : Reached) → IsVoted log r end → LeavesOnly Main (StandsStill r) log new) → LeavesOnly Main (λ bytes. StandsForList bytes (listed (seen log Main))) log new
+      → ((r : Reached) → IsVoted log r end → LeavesOnly Main (IsStillRead r) log new) → LeavesOnly Main (λ bytes. StandsForList bytes (listed (seen log Main))) log new
   abort_moments new s end some voted end_is leaves = moments new (leaves (reached_in (seen log Main)) (voted_is s end some voted end_is))
 
   -- and what is read of it

@@ -7,10 +7,10 @@ use Rattle.zb_ids.specs.Tids.{tid_after}
 use Rattle.zb_model.specs.declared.data.Transaction.{Transaction}
 use Rattle.zb_model.specs.declared.new_transaction.NewTransaction.{NewTransaction}
 use Rattle.zb_model.specs.Creation.{first_transaction}
-use Rattle.zb_model.specs.Voting.{IsSound, IsVotable, voted_of}
+use Rattle.zb_model.specs.Voting.{NamesRevision, IsVotable, voted_of}
 use Rattle.fs_records.specs.declared.place.Place.{Place}
-use Rattle.fs_records.specs.Blocks.{Reached, start, magic, block_text, after, transaction_of, Begins}
-use Rattle.fs_records.specs.File.{StandsAs, StandsFor, a_file}
+use Rattle.fs_records.specs.Blocks.{Reached, file_start, magic, block_text, after_block, transaction_of, Begins}
+use Rattle.fs_records.specs.File.{IsReadAs, StandsFor, a_file}
 use Rattle.fs_records.specs.Places.{Kept, IsIndexOf}
 use Rattle.fs_records.specs.StatusLaws.{status_set}
 use Rattle.fs_records.specs.WriteLaws.{block_stands}
@@ -29,13 +29,13 @@ positive (suc n) = rw (lt-ltb 0 (suc n) (omega arith)) (omega arith)
 votable : (n : ℕ) → IsVotable [] (as_new (first_transaction n))
 votable n =
     let new = as_new (first_transaction n) in
-    record { later = positive n; sound = All-cons (λ c. IsSound [] c.oid c.content) _ [] tt (All-nil (λ c. IsSound [] c.oid c.content)) }
+    record { later = positive n; sound = All-cons (λ c. NamesRevision [] c.oid c.content) _ [] tt (All-nil (λ c. NamesRevision [] c.oid c.content)) }
 
-nothing_begins : Begins magic start
+nothing_begins : Begins magic file_start
 nothing_begins = record { blocks = []; are = tt; parts = refl; is = refl }
 
-one_listed : (b : _) → (after start b).list ≡ transaction_of start b ∷ []
-unfolding after
+one_listed : (b : _) → (after_block file_start b).list ≡ transaction_of file_start b ∷ []
+unfolding after_block
 one_listed b = refl
 
 pub text_behind_16 : (status : ℕ) (kept : Kept) (new : NewTransaction) → 16 < length (block_text 4 (block_of status kept.entries new))
@@ -54,7 +54,7 @@ first_stands n kept file none next is =
     let new = as_new (first_transaction n) in
     let b = block_of 32 [] new in
     let nexts : Nexts (record { entries = []; transactions = [] }) new = subst (λ (k : Kept). Nexts k new) none next in
-    let here : IsNext start b (voted_of [] new) = nexts magic start nothing_begins (record { records = λ oid. refl; transactions = refl }) refl (votable n) in
-    let stands : StandsAs (file_with (first_transaction n)) (after start b) None = block_stands magic start b nothing_begins here.block in
-    a_file (after start b) (subst (λ (x : List ℕ). StandsAs x (after start b) None) (sym is) stands)
+    let here : IsNext file_start b (voted_of [] new) = nexts magic file_start nothing_begins (record { records = λ oid. refl; transactions = refl }) refl (votable n) in
+    let stands : IsReadAs (file_with (first_transaction n)) (after_block file_start b) None = block_stands magic file_start b nothing_begins here.block in
+    a_file (after_block file_start b) (subst (λ (x : List ℕ). IsReadAs x (after_block file_start b) None) (sym is) stands)
     (sym (one_listed b ∙ ap (λ (t : Transaction). t ∷ []) here.is))

@@ -16,9 +16,9 @@ use Rattle.zb_volume.specs.Lasting.{settled_leaves}
 use Rattle.zb_volume.specs.Runs.{joined, weaker}
 use Rattle.zb_model.specs.declared.data.Transaction.{Transaction}
 use Rattle.fs_records.specs.declared.place.Place.{Place}
-use Rattle.fs_records.specs.NumberLaws.{IsBytes, IsBytes-take}
-use Rattle.fs_records.specs.Blocks.{Reached, Begins, magic, start, blocks_text}
-use Rattle.fs_records.specs.File.{StandsAs, StandsFor, no_bytes, a_file}
+use Rattle.zb_base.specs.Bytes.{AreBytes, AreBytes-take}
+use Rattle.fs_records.specs.Blocks.{Reached, Begins, magic, file_start, blocks_text}
+use Rattle.fs_records.specs.File.{IsReadAs, StandsFor, no_bytes, a_file}
 use Rattle.fs_records.specs.Databases.{reading_of}
 use Rattle.fs_records.specs.Listed.{listed, reached_in, reading_is, reached_is}
 use Rattle.fs_records.specs.Places.{places_of}
@@ -49,11 +49,11 @@ last_number (x ∷ ps) (y ∷ ts) p t same first = last_number ps ts (Some x) (S
 -- what stands for what was reached has as many bytes, at least
 pub read_within : (bytes : List ℕ) (s : Reached) → Begins bytes s → s.end ≤ length bytes
 read_within bytes s begins =
-    let front = magic ++ blocks_text start begins.blocks in
-    omega (arith, ap length begins.parts, length-append magic (blocks_text start begins.blocks ++ drop s.end bytes), length-append (blocks_text start begins.blocks) (drop s.end bytes), length-append magic (blocks_text start begins.blocks), length-read bytes s begins)
+    let front = magic ++ blocks_text file_start begins.blocks in
+    omega (arith, ap length begins.parts, length-append magic (blocks_text file_start begins.blocks ++ drop s.end bytes), length-append (blocks_text file_start begins.blocks) (drop s.end bytes), length-append magic (blocks_text file_start begins.blocks), length-read bytes s begins)
 
 pub kept_of : (bytes : List ℕ) (o : Opened) (index : StagedKept) (numbers : NumbersKept) (newest : ℕ)
-    → IsWhole bytes o → IsBytes bytes → length bytes ≤ o.end → o.end < 2 ^ 63
+    → IsWhole bytes o → AreBytes bytes → length bytes ≤ o.end → o.end < 2 ^ 63
     → newest ≡ option_map_or (λ p. p.serial) (last_or None o.index.transactions) 0 → index ≡ record { kept = o.index; staged = None; newest = newest; end = o.end }
     → ((s : Reached) → Begins bytes s → o.index.transactions ≡ s.starts → AreNumbersOf s.list numbers) → IsKept bytes index numbers
 kept_of bytes o index numbers newest whole fits within limit newest_is index_is counted =
@@ -98,7 +98,7 @@ making stamp old new file stands leaves empty settled =
     ]) leaves
 
 -- a file that has a transaction isn't empty
-pub file_of : (bytes : List ℕ) (stamp : Stamp) (cut : Option ℕ) → StandsFor bytes (first_list stamp) cut → (s : Reached) × StandsAs bytes s cut × (first_list stamp ≡ s.list)
+pub file_of : (bytes : List ℕ) (stamp : Stamp) (cut : Option ℕ) → StandsFor bytes (first_list stamp) cut → (s : Reached) × IsReadAs bytes s cut × (first_list stamp ≡ s.list)
 file_of bytes stamp cut (no_bytes none l c) = absurd cc
 file_of bytes stamp cut (a_file s stands l) = (s, stands, l)
 
@@ -114,9 +114,9 @@ no_list_some bytes (inl none) = none.0
 no_list_some bytes (inr harm) = file_begins bytes harm.2.reached harm.2.begins
 
 -- the images while it is opened
-images : (old new : List Event) (s : Reached) (cut : Option ℕ) (list : List Transaction) → list ≡ s.list → StandsAs (seen old Main) s cut → IsSettled old Main → ImagesStand old new → LeavesOnly Main (λ bytes. StandsForList bytes list) old new
+images : (old new : List Event) (s : Reached) (cut : Option ℕ) (list : List Transaction) → list ≡ s.list → IsReadAs (seen old Main) s cut → IsSettled old Main → ImagesStand old new → LeavesOnly Main (λ bytes. StandsForList bytes list) old new
 images old new s cut list is stands settled all =
-    weaker (Leaves Main (λ image. (k : Option ℕ) × StandsAs image s k)) (Leaves Main (λ bytes. StandsForList bytes list)) old new
+    weaker (Leaves Main (λ image. (k : Option ℕ) × IsReadAs image s k)) (Leaves Main (λ bytes. StandsForList bytes list)) old new
     (λ log left image crash. let x = left image crash in (x.0, a_file s x.1 is)) (all s cut stands settled)
 
 pub keeps_after : (old mid new : List Event) → (seen old Main ≢ [] → mid ≡ old) → ImagesStand mid new → KeepsList old new
@@ -150,10 +150,10 @@ untouched_after old mid new same harmed none =
     harmed (subst (λ (log : List Event). IsNoList (seen log Main)) (sym is) none) ∙ is
 
 -- a file isn't harmed
-unharmed : (bytes : List ℕ) (s : Reached) (cut : Option ℕ) (e : OpenError) → StandsAs bytes s cut → Harm bytes e → (other : List ℕ) → Harm other e
+unharmed : (bytes : List ℕ) (s : Reached) (cut : Option ℕ) (e : OpenError) → IsReadAs bytes s cut → Harm bytes e → (other : List ℕ) → Harm other e
 unharmed bytes s cut StoreFault stands harm other = tt
 unharmed bytes s cut (BadRecord at field) stands harm other = absurd (never_both bytes s cut at field stands harm)
-unharmed bytes s cut NotFileStorage stands harm other = absurd (harm.1 (ap (take 4) stands.begins.parts ∙ take_at magic (blocks_text start stands.begins.blocks ++ drop s.end bytes) 4 refl))
+unharmed bytes s cut NotFileStorage stands harm other = absurd (harm.1 (ap (take 4) stands.begins.parts ∙ take_at magic (blocks_text file_start stands.begins.blocks ++ drop s.end bytes) 4 refl))
 unharmed bytes s cut Memory stands harm other = tt
 
 pub harm_after : (old mid : List Event) (stamps now : Option (List Stamp)) (e : OpenError) → IsBegun old mid stamps now → Harm (seen mid Main) e → Harm (seen old Main) e
@@ -162,19 +162,19 @@ harm_after old mid stamps now e (made by empty given left stands settled moments
     let f = file_of (seen mid Main) by None stands in unharmed (seen mid Main) f.0 None e f.1 harm (seen old Main)
 
 -- the list of what is left is what was opened
-pub opened_list : (was now : List ℕ) (o : Opened) (opened : IsOpened was o) → now ≡ take o.end was → IsBytes was → o.end < 2 ^ 63 → listed now ≡ opened.reached.list
+pub opened_list : (was now : List ℕ) (o : Opened) (opened : IsOpened was o) → now ≡ take o.end was → AreBytes was → o.end < 2 ^ 63 → listed now ≡ opened.reached.list
 opened_list was now o opened is fits limit =
     let s = opened.reached in
     let now_is : now ≡ take s.end was = is ∙ ap (λ (n : ℕ). take n was) (sym opened.end_is) in
-    let stands = subst (λ (b : List ℕ). StandsAs b s None) (sym now_is) (without_tail_stands was s o.cut opened.stands) in
-    let bytes : IsBytes now = subst (λ (b : List ℕ). IsBytes b) (sym is) (IsBytes-take o.end was fits) in
+    let stands = subst (λ (b : List ℕ). IsReadAs b s None) (sym now_is) (without_tail_stands was s o.cut opened.stands) in
+    let bytes : AreBytes now = subst (λ (b : List ℕ). AreBytes b) (sym is) (AreBytes-take o.end was fits) in
     list_read now s None (reading_is now s None bytes (omega (arith, ap length is, length-take o.end was, limit)) stands)
 
-pub opened_stands : (was now : List ℕ) (o : Opened) (cut : Option ℕ) (opened : IsOpened was o) → now ≡ take o.end was → IsBytes was → o.end < 2 ^ 63 → cut ≡ o.cut → StandsFor was (listed now) cut
+pub opened_stands : (was now : List ℕ) (o : Opened) (cut : Option ℕ) (opened : IsOpened was o) → now ≡ take o.end was → AreBytes was → o.end < 2 ^ 63 → cut ≡ o.cut → StandsFor was (listed now) cut
 opened_stands was now o cut opened is fits limit cut_is =
-    a_file opened.reached (subst (λ (k : Option ℕ). StandsAs was opened.reached k) (sym cut_is) opened.stands) (opened_list was now o opened is fits limit)
+    a_file opened.reached (subst (λ (k : Option ℕ). IsReadAs was opened.reached k) (sym cut_is) opened.stands) (opened_list was now o opened is fits limit)
 
-pub made_after : (old mid : List Event) (now : List ℕ) (stamps left : Option (List Stamp)) (o : Opened) (cut : Option ℕ) → IsBegun old mid stamps left → IsOpened (seen mid Main) o → now ≡ take o.end (seen mid Main) → IsBytes (seen mid Main) → o.end < 2 ^ 63 → cut ≡ o.cut
+pub made_after : (old mid : List Event) (now : List ℕ) (stamps left : Option (List Stamp)) (o : Opened) (cut : Option ℕ) → IsBegun old mid stamps left → IsOpened (seen mid Main) o → now ≡ take o.end (seen mid Main) → AreBytes (seen mid Main) → o.end < 2 ^ 63 → cut ≡ o.cut
     → seen old Main ≡ [] → IsMade stamps (listed now) cut
 made_after old mid now stamps left o cut (there some same kept) opened is fits limit cut_is empty = absurd (some empty)
 made_after old mid now stamps left o cut (made by none first kept stands settled moments) opened is fits limit cut_is empty =
@@ -221,13 +221,13 @@ still_some old new stamps same = of_all stamps (λ told. (stamp : Stamp) → sli
 pub keeps_same : (old new : List Event) → (seen old Main ≢ [] → new ≡ old) → KeepsList old new
 keeps_same old new same list cut some stands settled = still_keeps old new (same some) list cut some stands settled
 
-pub taken_fits : (was now : List ℕ) (end : ℕ) → now ≡ take end was → IsBytes was → IsBytes now
-taken_fits was now end is fits = subst (λ (b : List ℕ). IsBytes b) (sym is) (IsBytes-take end was fits)
+pub taken_fits : (was now : List ℕ) (end : ℕ) → now ≡ take end was → AreBytes was → AreBytes now
+taken_fits was now end is fits = subst (λ (b : List ℕ). AreBytes b) (sym is) (AreBytes-take end was fits)
 
 pub taken_within : (was now : List ℕ) (end : ℕ) → now ≡ take end was → length now ≤ end
 taken_within was now end is = omega (arith, ap length is, length-take end was)
 
-pub opened_after : (old mid new : List Event) (o : Opened) (cut : Option ℕ) → mid ≡ old → IsOpened (seen mid Main) o → seen new Main ≡ take o.end (seen mid Main) → IsBytes (seen mid Main) → o.end < 2 ^ 63 → cut ≡ o.cut
+pub opened_after : (old mid new : List Event) (o : Opened) (cut : Option ℕ) → mid ≡ old → IsOpened (seen mid Main) o → seen new Main ≡ take o.end (seen mid Main) → AreBytes (seen mid Main) → o.end < 2 ^ 63 → cut ≡ o.cut
     → StandsFor (seen old Main) (listed (seen new Main)) cut
 opened_after old mid new o cut same opened is fits limit cut_is =
     subst (λ (log : List Event). StandsFor (seen log Main) (listed (seen new Main)) cut) same (opened_stands (seen mid Main) (seen new Main) o cut opened is fits limit cut_is)
@@ -250,7 +250,7 @@ fresh_content bytes o list opened (a_file s stands l) some =
 pub fresh_whole : (bytes : List ℕ) (o : Opened) (list : List Transaction) → IsOpened bytes o → StandsFor bytes list None → bytes ≢ [] → IsWhole bytes o
 fresh_whole bytes o list opened stands some = record {
   reached = opened.reached;
-  stands = subst (λ (k : Option ℕ). StandsAs bytes opened.reached k) (fresh_content bytes o list opened stands some).0 opened.stands;
+  stands = subst (λ (k : Option ℕ). IsReadAs bytes opened.reached k) (fresh_content bytes o list opened stands some).0 opened.stands;
   end_is = opened.end_is;
   index = opened.index;
 }
@@ -258,8 +258,8 @@ fresh_whole bytes o list opened stands some = record {
 -- and nothing was done to it
 pub images_still : (old new : List Event) → new ≡ old → ImagesStand old new
 images_still old new same s cut stands settled =
-    subst (λ (log : List Event). LeavesOnly Main (λ image. (k : Option ℕ) × StandsAs image s k) old log) (sym same)
-    (here (settled_leaves old Main (λ image. (k : Option ℕ) × StandsAs image s k) settled (cut, stands)))
+    subst (λ (log : List Event). LeavesOnly Main (λ image. (k : Option ℕ) × IsReadAs image s k) old log) (sym same)
+    (here (settled_leaves old Main (λ image. (k : Option ℕ) × IsReadAs image s k) settled (cut, stands)))
 
 pub counts_still : {T : Type 0} (r : Result T OpenError) (old new : List Event) (reads reads' writes writes' : ℕ) → new ≡ old → writes' ≡ writes → CountsReads reads reads' r → CountsFault old new reads reads' writes writes' r
 counts_still (Ok x) old new reads reads' writes writes' same still counts = (counts, still)

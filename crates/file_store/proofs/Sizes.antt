@@ -14,7 +14,7 @@ use Rattle.fs_records.specs.Blocks.{Known, Written, data_header, record_text, re
 use Rattle.fs_records.specs.Places.{place_of, is_of, places_of}
 use Rattle.fs_records.specs.WriteLaws.{length-block_text}
 use Rattle.fs_records.specs.Writing.{earlier_in, payload_of, written_of, block_of}
-use Rattle.file_store.specs.Staging.{Placed, record_size, placed_from, placed_end, is_placed, placed_of}
+use Rattle.file_store.specs.Staging.{PlacedRecord, record_size, placed_from, placed_end, is_placed, placed_of}
 
 payload_size : (entries : List (ℕ × List Place)) (oid : ℕ) (c : NewContent) → 42 + length (payload_text (payload_of entries oid c)) ≡ record_size c
 payload_size entries oid (new_content.Bytes bytes) = refl
@@ -57,14 +57,14 @@ one_place : (oid tid q : ℕ) (known : List Known) (r : Written) → places_of o
 one_place oid tid q known r =
     ap (map place_of) (filter-append (is_of oid) known (known_at known tid q r ∷ [])) ∙ map-append place_of (filter (is_of oid) known) (filter (is_of oid) (known_at known tid q r ∷ [])) ∙ ap (λ (ps : List Place). places_of oid known ++ ps) (by_cases (eqb oid r.oid))
   where
-    by_cases : (b : Bool) → map place_of (cond b (known_at known tid q r ∷ []) []) ≡ map (λ (p : Placed). p.place) (cond b (record { oid = r.oid; place = record { serial = tid; at = q } } ∷ []) [])
+    by_cases : (b : Bool) → map place_of (cond b (known_at known tid q r ∷ []) []) ≡ map (λ (p : PlacedRecord). p.place) (cond b (record { oid = r.oid; place = record { serial = tid; at = q } } ∷ []) [])
     by_cases true = refl
     by_cases false = refl
 
-placed_of-cons : (oid : ℕ) (p : Placed) (ps : List Placed) → placed_of oid (p ∷ ps) ≡ placed_of oid (p ∷ []) ++ placed_of oid ps
+placed_of-cons : (oid : ℕ) (p : PlacedRecord) (ps : List PlacedRecord) → placed_of oid (p ∷ ps) ≡ placed_of oid (p ∷ []) ++ placed_of oid ps
 placed_of-cons oid p ps = by_cases (eqb oid p.oid)
   where
-    by_cases : (b : Bool) → map (λ (x : Placed). x.place) (cond b (p ∷ filter (is_placed oid) ps) (filter (is_placed oid) ps)) ≡ map (λ (x : Placed). x.place) (cond b (p ∷ []) []) ++ placed_of oid ps
+    by_cases : (b : Bool) → map (λ (x : PlacedRecord). x.place) (cond b (p ∷ filter (is_placed oid) ps) (filter (is_placed oid) ps)) ≡ map (λ (x : PlacedRecord). x.place) (cond b (p ∷ []) []) ++ placed_of oid ps
     by_cases true = refl
     by_cases false = refl
 
@@ -73,7 +73,7 @@ pub places_read : (entries : List (ℕ × List Place)) (oid place tid q : ℕ) (
 places_read entries oid place tid q known [] = sym (append-nil (places_of oid known))
 places_read entries oid place tid q known (c ∷ cs) =
     let r = written_of entries c in
-    let first : Placed = record { oid = c.oid; place = record { serial = tid; at = q } } in
+    let first : PlacedRecord = record { oid = c.oid; place = record { serial = tid; at = q } } in
     ap (λ (n : ℕ). places_of oid (with_records (with_record known tid q r) place tid (q + n) (map (written_of entries) cs))) (record_long entries place tid c)
     ∙ places_read entries oid place tid (q + record_size c.content) (with_record known tid q r) cs
     ∙ ap (λ (ps : List Place). ps ++ placed_of oid (placed_from tid (q + record_size c.content) cs)) (one_place oid tid q known r)

@@ -15,22 +15,14 @@ use Rattle.zb_model.specs.Database.{IsDatabase}
 use Rattle.zb_model.specs.Queries as queries
 use Rattle.zb_model.specs.Queries.{greatest_of, greatest_oid, oids_of, pack_point, changes_up_to, is_packed}
 use Rattle.file_store.specs.declared.tally.Tally.{Tally}
-use Rattle.file_store.specs.Numbers.{tallies_from, total_of, is_up_to, NumbersKept, AreNumbersOf}
+use Rattle.file_store.specs.Numbers.{tallies_from, total_of, is_tally_up_to, NumbersKept, AreNumbersOf}
+use Rattle.zb_base.specs.Lists.{last_or_append, last_or_get}
 
 -- ---- the last one
 
-last_or-get : {X : Type 0} (o : Option X) (x : X) (xs : List X) → last_or o (x ∷ xs) ≡ slice_get (x ∷ xs) (length xs)
-last_or-get o x [] = refl
-last_or-get o x (y ∷ ys) = last_or-get (Some x) y ys
-
 -- the last of a list, as it is read
 pub last_is : (xs : List Tally) → slice_get xs (length xs - 1) ≡ last_or None xs
-last_is [] = refl
-last_is (x ∷ xs) = simp unary_clauses (sym (last_or-get None x xs))
-
-pub last_or-append : {X : Type 0} (o : Option X) (xs ys : List X) → last_or o (xs ++ ys) ≡ last_or (last_or o xs) ys
-last_or-append o [] ys = refl
-last_or-append o (x ∷ xs) ys = last_or-append (Some x) xs ys
+last_is xs = sym (last_or_get xs)
 
 -- ---- a search from the end
 
@@ -44,7 +36,7 @@ found_last p xs i d within is none =
     let e : drop i xs ≡ get_or xs i d ∷ drop (i + 1) xs = grind (arith, common_steps, drop-cons xs i d within) in
     let rest : filter p (drop i xs) ≡ get_or xs i d ∷ [] = rw e (rw is (ap (λ (ys : List Tally). get_or xs i d ∷ ys) none)) in
     let split : filter p xs ≡ filter p (take i xs) ++ (get_or xs i d ∷ []) = ap (filter p) (sym (take-append-drop i xs)) ∙ filter-append p (take i xs) (drop i xs) ∙ ap (λ (ys : List Tally). filter p (take i xs) ++ ys) rest in
-    sym (ap (last_or None) split ∙ last_or-append None (filter p (take i xs)) (get_or xs i d ∷ []))
+    sym (ap (last_or None) split ∙ last_or_append None (filter p (take i xs)) (get_or xs i d ∷ []))
 
 -- ---- what the last tally up to a tid says
 
@@ -63,7 +55,7 @@ counts : Transaction → ℕ
 counts t = length t.changes
 
 record NoneUp (tid n : ℕ) (ts : List Transaction) : Type 0 where
-  tallies : filter (is_up_to tid) (tallies_from n ts) ≡ []
+  tallies : filter (is_tally_up_to tid) (tallies_from n ts) ≡ []
   list : filter (queries.is_up_to tid) ts ≡ []
 
 none_up : (tid n low : ℕ) (ts : List Transaction) → tid ≤ low → Rises low ts → NoneUp tid n ts
@@ -73,12 +65,12 @@ none_up tid n low (t ∷ ts) h r =
     let rest = none_up tid (n + length t.changes) t.tid ts (omega (arith, r.0)) r.1 in
     record { tallies = rw above rest.tallies; list = rw above rest.list }
 
-up_to : (tid n low x : ℕ) (ts : List Transaction) → Rises low ts → changes_of (last_or (Some (record { tid = x; changes = n })) (filter (is_up_to tid) (tallies_from n ts))) ≡ n + changes_up_to tid ts
+up_to : (tid n low x : ℕ) (ts : List Transaction) → Rises low ts → changes_of (last_or (Some (record { tid = x; changes = n })) (filter (is_tally_up_to tid) (tallies_from n ts))) ≡ n + changes_up_to tid ts
 up_to tid n low x [] r = omega arith
 up_to tid n low x (t ∷ ts) r = by_cases (leb t.tid tid) refl (up_to tid (n + length t.changes) t.tid t.tid ts r.1)
   where
-    by_cases : (b : Bool) → leb t.tid tid ≡ b → changes_of (last_or (Some (record { tid = t.tid; changes = n + length t.changes })) (filter (is_up_to tid) (tallies_from (n + length t.changes) ts))) ≡ n + length t.changes + changes_up_to tid ts
-        → changes_of (last_or (Some (record { tid = x; changes = n })) (filter (is_up_to tid) (tallies_from n (t ∷ ts)))) ≡ n + changes_up_to tid (t ∷ ts)
+    by_cases : (b : Bool) → leb t.tid tid ≡ b → changes_of (last_or (Some (record { tid = t.tid; changes = n + length t.changes })) (filter (is_tally_up_to tid) (tallies_from (n + length t.changes) ts))) ≡ n + length t.changes + changes_up_to tid ts
+        → changes_of (last_or (Some (record { tid = x; changes = n })) (filter (is_tally_up_to tid) (tallies_from n (t ∷ ts)))) ≡ n + changes_up_to tid (t ∷ ts)
     by_cases true e rest = rw e (rest ∙ omega (arith, sum_by-cons (λ (u : Transaction). length u.changes) t (filter (queries.is_up_to tid) ts)))
     by_cases false e rest =
         let lt : tid ≤ t.tid = omega (arith, leb-false _ _ e) in
@@ -89,10 +81,10 @@ from_none : (tid : ℕ) (xs : List Tally) → changes_of (last_or None xs) ≡ c
 from_none tid [] = refl
 from_none tid (x ∷ xs) = refl
 
-pub up_to_is : (tid : ℕ) (list : List Transaction) (n : NumbersKept) (o : Option Tally) → IsDatabase list → AreNumbersOf list n → o ≡ last_or None (filter (is_up_to tid) n.tallies) → option_map_or (λ (x : Tally). x.changes) o 0 ≡ changes_up_to tid list
+pub up_to_is : (tid : ℕ) (list : List Transaction) (n : NumbersKept) (o : Option Tally) → IsDatabase list → AreNumbersOf list n → o ≡ last_or None (filter (is_tally_up_to tid) n.tallies) → option_map_or (λ (x : Tally). x.changes) o 0 ≡ changes_up_to tid list
 up_to_is tid list n o database numbers is =
-    ap changes_of (is ∙ ap (λ (xs : List Tally). last_or None (filter (is_up_to tid) xs)) numbers.tallies)
-    ∙ from_none tid (filter (is_up_to tid) (tallies_from 0 list))
+    ap changes_of (is ∙ ap (λ (xs : List Tally). last_or None (filter (is_tally_up_to tid) xs)) numbers.tallies)
+    ∙ from_none tid (filter (is_tally_up_to tid) (tallies_from 0 list))
     ∙ up_to tid 0 0 0 list (rises 0 list database.rising)
     ∙ omega arith
 

@@ -10,9 +10,9 @@ use Rattle.zb_model.specs.declared.new_transaction.NewTransaction.{NewTransactio
 use Rattle.zb_model.specs.Voting.{IsVotable, voted_of}
 use Rattle.zb_model.specs.VotingLaws.{last_or-push, oids_kept}
 use Rattle.fs_records.specs.declared.place.Place.{Place}
-use Rattle.fs_records.specs.NumberLaws.{IsBytes, IsBytes-take}
-use Rattle.fs_records.specs.Blocks.{Known, Reached, Block, block_text, records_from, length_of, with_records, after, transaction_of, Begins}
-use Rattle.fs_records.specs.File.{StandsAs}
+use Rattle.zb_base.specs.Bytes.{AreBytes, AreBytes-take}
+use Rattle.fs_records.specs.Blocks.{Known, Reached, Block, block_text, records_from, length_of, with_records, after_block, transaction_of, Begins}
+use Rattle.fs_records.specs.File.{IsReadAs}
 use Rattle.fs_records.specs.Listed.{listed, reached_in, reading_in, reading_is, reached_is}
 use Rattle.fs_records.specs.Places.{IsIndexOf, places_in, places_of}
 use Rattle.fs_records.specs.StatusLaws.{block_status, status_set}
@@ -28,12 +28,12 @@ use Rattle.file_store.proofs.Sizes.{places_read, text_long}
 
 -- ---- bytes
 
-append_bytes : (xs ys : List ℕ) → IsBytes xs → IsBytes ys → IsBytes (xs ++ ys)
+append_bytes : (xs ys : List ℕ) → AreBytes xs → AreBytes ys → AreBytes (xs ++ ys)
 append_bytes [] ys hx hy k = hy k
 append_bytes (x ∷ xs) ys hx hy zero = hx 0
 append_bytes (x ∷ xs) ys hx hy (suc k) = append_bytes xs ys (λ j. hx (suc j)) hy k
 
-set_bytes : (xs : List ℕ) (i v : ℕ) → v < 256 → IsBytes xs → IsBytes (set xs i v)
+set_bytes : (xs : List ℕ) (i v : ℕ) → v < 256 → AreBytes xs → AreBytes (set xs i v)
 set_bytes [] i v small h k = h k
 set_bytes (x ∷ xs) zero v small h zero = small
 set_bytes (x ∷ xs) zero v small h (suc k) = h (suc k)
@@ -50,21 +50,21 @@ written_end old text end is =
 -- ---- a vote
 
 -- what was read of bytes that stand for it
-read_as : (bytes : List ℕ) (s : Reached) (cut : Option ℕ) → IsBytes bytes → length bytes < 2 ^ 63 → StandsAs bytes s cut → reading_in bytes ≡ Some (reached_in bytes, cut)
+read_as : (bytes : List ℕ) (s : Reached) (cut : Option ℕ) → AreBytes bytes → length bytes < 2 ^ 63 → IsReadAs bytes s cut → reading_in bytes ≡ Some (reached_in bytes, cut)
 read_as bytes s cut fits short stands =
     let r : reading_in bytes ≡ Some (s, cut) = reading_is bytes s cut fits (omega arith) stands in
     r ∙ ap (λ (x : Reached). Some (x, cut)) (sym (reached_is bytes s cut fits (omega arith) stands))
 
 -- what was reached with one transaction more
 record Parts (s : Reached) (b : Block) : Type 0 where
-  end_is : (after s b).end ≡ s.end + (length_of s.end b + 8)
-  newest_is : (after s b).newest ≡ b.tid
-  known_is : (after s b).known ≡ with_records s.known s.end b.tid (records_from s.end b) b.records
-  list_is : (after s b).list ≡ s.list ++ transaction_of s b ∷ []
-  starts_are : (after s b).starts ≡ s.starts ++ record { serial = b.tid; at = s.end } ∷ []
+  end_is : (after_block s b).end ≡ s.end + (length_of s.end b + 8)
+  newest_is : (after_block s b).newest ≡ b.tid
+  known_is : (after_block s b).known ≡ with_records s.known s.end b.tid (records_from s.end b) b.records
+  list_is : (after_block s b).list ≡ s.list ++ transaction_of s b ∷ []
+  starts_are : (after_block s b).starts ≡ s.starts ++ record { serial = b.tid; at = s.end } ∷ []
 
 parts : (s : Reached) (b : Block) → Parts s b
-unfolding after
+unfolding after_block
 parts s b = record { end_is = refl; newest_is = refl; known_is = refl; list_is = refl; starts_are = refl }
 
 -- what a vote leaves: the same list, and what is voted behind it
@@ -83,14 +83,14 @@ numbers_same list was are n t g p = record { tallies = t ∙ n.tallies; greatest
 
 module _ (main text : List ℕ) (old now : StagedKept) (was are : NumbersKept) (new : NewTransaction) (kept : IsKept main old was) (free : old.staged ≡ None) (p : IsPrepared old now are new text)
     (next : (bytes : List ℕ) (s : Reached) → Begins bytes s → IsIndexOf s old.kept → s.end ≡ old.end → IsVotable s.list new → IsNext s (block_of 32 old.kept.entries new) (voted_of s.list new))
-    (votable : IsVotable (listed main) new) (fits : IsBytes text) (end_same : now.end ≡ old.end) (newest_same : now.newest ≡ old.newest)
+    (votable : IsVotable (listed main) new) (fits : AreBytes text) (end_same : now.end ≡ old.end) (newest_same : now.newest ≡ old.newest)
     (places_same : (oid : ℕ) → shown_places now oid ≡ shown_places old oid) (starts_same : shown_starts now ≡ shown_starts old)
     (tallies_same : are.tallies ≡ was.tallies) (greatest_same : are.greatest ≡ was.greatest) (point_same : are.pack_point ≡ was.pack_point) where
   whole : length main ≡ old.end
   whole = kept.whole ∙ ap (λ (o : Option Staged). length_by o old.end) free
 
-  stands : StandsAs main (reached_in main) None
-  stands = subst (λ (o : Option Staged). StandsAs main (reached_in main) (option_map (λ (x : Staged). old.end) o)) free (kept_stands main old was kept)
+  stands : IsReadAs main (reached_in main) None
+  stands = subst (λ (o : Option Staged). IsReadAs main (reached_in main) (option_map (λ (x : Staged). old.end) o)) free (kept_stands main old was kept)
 
   list_is : listed main ≡ (reached_in main).list
   list_is = list_read main (reached_in main) (cut_of old) kept.reading
@@ -119,12 +119,12 @@ module _ (main text : List ℕ) (old now : StagedKept) (was are : NumbersKept) (
   grown_short : length (main ++ text) < 2 ^ 63
   grown_short = omega (arith, length-append main text, whole, p.limit)
 
-  grown_fits : IsBytes (main ++ text)
+  grown_fits : AreBytes (main ++ text)
   grown_fits = append_bytes main text kept.fits fits
 
-  grown_stands : StandsAs (main ++ text) (reached_in main) (Some old.end)
-  grown_stands = subst (λ (n : ℕ). StandsAs (main ++ text) (reached_in main) (Some n)) kept.end_is
-      (subst (λ (x : List ℕ). StandsAs (x ++ text) (reached_in main) (Some (reached_in main).end)) all_of (vote_stands main (reached_in main) text stands.begins (omega (arith, long)) status))
+  grown_stands : IsReadAs (main ++ text) (reached_in main) (Some old.end)
+  grown_stands = subst (λ (n : ℕ). IsReadAs (main ++ text) (reached_in main) (Some n)) kept.end_is
+      (subst (λ (x : List ℕ). IsReadAs (x ++ text) (reached_in main) (Some (reached_in main).end)) all_of (vote_stands main (reached_in main) text stands.begins (omega (arith, long)) status))
 
   same_reached : reached_in (main ++ text) ≡ reached_in main
   same_reached = reached_is (main ++ text) (reached_in main) (Some old.end) grown_fits (omega (arith, grown_short)) grown_stands
@@ -137,19 +137,19 @@ module _ (main text : List ℕ) (old now : StagedKept) (was are : NumbersKept) (
       ∙ ap (λ (x : List ℕ). main ++ set x 16 32) p.text_is
       ∙ ap (λ (x : List ℕ). main ++ x) (status_set old.end (block_of 99 old.kept.entries new) 32)
 
-  finished_stands : StandsAs (done now.end (main ++ text)) (after (reached_in main) (block_of 32 old.kept.entries new)) None
-  finished_stands = subst (λ (x : List ℕ). StandsAs x (after (reached_in main) (block_of 32 old.kept.entries new)) None) (sym finished_is)
-      (subst (λ (n : ℕ). StandsAs (main ++ block_text n (block_of 32 old.kept.entries new)) (after (reached_in main) (block_of 32 old.kept.entries new)) None) kept.end_is
-      (subst (λ (x : List ℕ). StandsAs (x ++ block_text (reached_in main).end (block_of 32 old.kept.entries new)) (after (reached_in main) (block_of 32 old.kept.entries new)) None) all_of
+  finished_stands : IsReadAs (done now.end (main ++ text)) (after_block (reached_in main) (block_of 32 old.kept.entries new)) None
+  finished_stands = subst (λ (x : List ℕ). IsReadAs x (after_block (reached_in main) (block_of 32 old.kept.entries new)) None) (sym finished_is)
+      (subst (λ (n : ℕ). IsReadAs (main ++ block_text n (block_of 32 old.kept.entries new)) (after_block (reached_in main) (block_of 32 old.kept.entries new)) None) kept.end_is
+      (subst (λ (x : List ℕ). IsReadAs (x ++ block_text (reached_in main).end (block_of 32 old.kept.entries new)) (after_block (reached_in main) (block_of 32 old.kept.entries new)) None) all_of
       (block_stands main (reached_in main) (block_of 32 old.kept.entries new) stands.begins next_is.block)))
 
-  finished_fits : IsBytes (done now.end (main ++ text))
+  finished_fits : AreBytes (done now.end (main ++ text))
   finished_fits = set_bytes (main ++ text) (now.end + 16) 32 (omega arith) grown_fits
 
   finished_short : length (done now.end (main ++ text)) < 2 ^ 63
   finished_short = omega (arith, length-set (main ++ text) (now.end + 16) 32, grown_short)
 
-  finished_reached : reached_in (done now.end (main ++ text)) ≡ after (reached_in main) (block_of 32 old.kept.entries new)
+  finished_reached : reached_in (done now.end (main ++ text)) ≡ after_block (reached_in main) (block_of 32 old.kept.entries new)
   finished_reached = reached_is (done now.end (main ++ text)) _ None finished_fits (omega (arith, finished_short)) finished_stands
 
   finished_list : listed (done now.end (main ++ text)) ≡ listed main ++ voted_of (listed main) new ∷ []
@@ -165,7 +165,7 @@ module _ (main text : List ℕ) (old now : StagedKept) (was are : NumbersKept) (
   voted_is : voted_in new.tid now.end (main ++ text) ≡ voted_of (listed main) new
   voted_is = ap (λ (l : List Transaction). record (unwrap_or (last_or None l) nothing) { tid = new.tid }) finished_list ∙ ap (λ (o : Option Transaction). record (unwrap_or o nothing) { tid = new.tid }) (last_or-push None (listed main) (voted_of (listed main) new))
 
-  staged_end : (after (reached_in main) (block_of 32 old.kept.entries new)).end ≡ old.end + length text
+  staged_end : (after_block (reached_in main) (block_of 32 old.kept.entries new)).end ≡ old.end + length text
   staged_end =
       let b = block_of 32 old.kept.entries new in
       omega (arith, (parts (reached_in main) b).end_is, ap (λ (n : ℕ). length_of n b) kept.end_is, kept.end_is, ap length p.text_is, length-block_text old.end (block_of 99 old.kept.entries new))
@@ -224,7 +224,7 @@ pub finished_kept : (main : List ℕ) (old now : StagedKept) (was are : NumbersK
 finished_kept main old now was are s kept voted some is add =
     let t = voted_in s.tid old.end main in
     let bytes = done old.end main in
-    let fits : IsBytes bytes = set_bytes main (old.end + 16) 32 (omega arith) kept.fits in
+    let fits : AreBytes bytes = set_bytes main (old.end + 16) 32 (omega arith) kept.fits in
     let short : length bytes < 2 ^ 63 = omega (arith, length-set main (old.end + 16) 32, kept.short) in
     let whole : length bytes ≡ s.end = length-set main (old.end + 16) 32 ∙ kept.whole ∙ ap (λ (o : Option Staged). length_by o old.end) some in
     subst (λ (i : StagedKept). IsKept bytes i are) (sym is)
@@ -248,10 +248,10 @@ pub aborted_kept : (main : List ℕ) (old now : StagedKept) (numbers : NumbersKe
     → IsKept (take old.end main) now numbers × (listed (take old.end main) ≡ listed main)
 aborted_kept main old now numbers kept within none end_same newest_same places starts =
     let bytes = take old.end main in
-    let fits : IsBytes bytes = IsBytes-take old.end main kept.fits in
+    let fits : AreBytes bytes = AreBytes-take old.end main kept.fits in
     let long : length bytes ≡ old.end = omega (arith, length-take old.end main) in
     let short : length bytes < 2 ^ 63 = omega (arith, kept.short) in
-    let stands : StandsAs bytes (reached_in main) None = subst (λ (n : ℕ). StandsAs (take n main) (reached_in main) None) kept.end_is (without_tail_stands main (reached_in main) (cut_of old) (kept_stands main old numbers kept)) in
+    let stands : IsReadAs bytes (reached_in main) None = subst (λ (n : ℕ). IsReadAs (take n main) (reached_in main) None) kept.end_is (without_tail_stands main (reached_in main) (cut_of old) (kept_stands main old numbers kept)) in
     let same : reached_in bytes ≡ reached_in main = reached_is bytes (reached_in main) None fits (omega arith) stands in
     let list : listed bytes ≡ listed main = list_read bytes (reached_in main) None (reading_is bytes (reached_in main) None fits (omega arith) stands) ∙ sym (list_read main (reached_in main) (cut_of old) kept.reading) in (
       record {

@@ -2,7 +2,7 @@
 use Rattle.std.specs.Prelude.{◌≡◌, ℕ, ◌+◌, ◌<◌, ◌≤◌, ◌^◌, false, List, [], ◌∷◌, ◌++◌, Option, Some, None, length, map, slice_index, slice_set, unwrap_or, option_map}
 use Rattle.std.specs.List.{last_or}
 use Rattle.zb_model.specs.declared.data.Transaction.{Transaction}
-use Rattle.fs_records.specs.NumberLaws.{IsBytes}
+use Rattle.zb_base.specs.Bytes.{AreBytes}
 use Rattle.fs_records.specs.Listed.{listed, reached_in, reading_in}
 use Rattle.fs_records.specs.Places.{places_in, places_of}
 use Rattle.fs_records.specs.File.{StandsFor}
@@ -36,7 +36,7 @@ StandsForList bytes list = (cut : Option ℕ) × StandsFor bytes list cut
 
 -- the bytes are read as a file up to the end, whose records and transactions the index shows, and whose list has these numbers
 pub record IsKept (bytes : List ℕ) (index : StagedKept) (numbers : NumbersKept) : Type 0 where
-  pub fits : IsBytes bytes
+  pub fits : AreBytes bytes
   pub short : length bytes < 2 ^ 63
   pub whole : length bytes ≡ length_by index.staged index.end
   pub reading : reading_in bytes ≡ Some (reached_in bytes, cut_of index)
@@ -60,6 +60,6 @@ pub record IsVotedIn (bytes : List ℕ) (s : Staged) (index : StagedKept) : Type
   pub unpacked : (voted_in s.tid index.end bytes).packed ≡ false
 
 -- there is room for one more transaction with so many changes
-pub record HasRoom (numbers : NumbersKept) (count : ℕ) : Type 0 where
+pub record HasRoomForTally (numbers : NumbersKept) (count : ℕ) : Type 0 where
   pub room : 0 < numbers.room
   pub total : total_of numbers.tallies + count < 2 ^ 64

@@ -10,7 +10,7 @@ use Rattle.zb_volume.specs.Moments.{Leaves}
 use Rattle.zb_volume.specs.Lasting.{settled_leaves}
 use Rattle.zb_model.specs.Database.{IsDatabase}
 use Rattle.fs_records.specs.Blocks.{Reached}
-use Rattle.fs_records.specs.File.{StandsAs, StandsFor, a_file}
+use Rattle.fs_records.specs.File.{IsReadAs, StandsFor, a_file}
 use Rattle.fs_records.specs.Databases.{database_of}
 use Rattle.fs_records.specs.Listed.{content_set, listed, reached_in, reading_in, reading_stands}
 use Rattle.file_store.specs.declared.staged.Staged.{Staged}
@@ -35,7 +35,7 @@ pub list_read : (bytes : List ℕ) (s : Reached) (cut : Option ℕ) → reading_
 list_read bytes s cut is = ap (λ (o : Option (Reached × Option ℕ)). option_map_or (λ r. r.0.list) o []) is
 
 -- the bytes stand for what is read of them
-pub kept_stands : (bytes : List ℕ) (index : StagedKept) (numbers : NumbersKept) → IsKept bytes index numbers → StandsAs bytes (reached_in bytes) (cut_of index)
+pub kept_stands : (bytes : List ℕ) (index : StagedKept) (numbers : NumbersKept) → IsKept bytes index numbers → IsReadAs bytes (reached_in bytes) (cut_of index)
 kept_stands bytes index numbers k = reading_stands bytes (reached_in bytes) (cut_of index) k.reading
 
 -- and for the list

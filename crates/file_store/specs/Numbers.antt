@@ -15,8 +15,8 @@ tallies_from n (t ∷ ts) = record { tid = t.tid; changes = n + length t.changes
 abbrev pub total_of : List Tally → ℕ
 total_of tallies = option_map_or (λ x. x.changes) (last_or None tallies) 0
 
-abbrev pub is_up_to : ℕ → Tally → Bool
-is_up_to tid x = nat_le x.tid tid
+abbrev pub is_tally_up_to : ℕ → Tally → Bool
+is_tally_up_to tid x = nat_le x.tid tid
 
 -- what contracts see of the numbers of a list: its tallies, its greatest object, its pack point, and for how many tallies more there is room
 pub record NumbersKept : Type 0 where

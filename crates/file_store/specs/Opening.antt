@@ -3,7 +3,7 @@ use Rattle.std.specs.Prelude.{◌≡◌, ◌≢◌, ◌⊎◌, ℕ, List, [], �
 use Rattle.zb_volume.specs.declared.areas.Area.TheVariants.{Main}
 use Rattle.zb_volume.specs.Calls.{Event}
 use Rattle.zb_volume.specs.Disk.{seen, IsSettled}
-use Rattle.zb_volume.specs.Faults.{Rose}
+use Rattle.zb_base.specs.Counts.{Rose}
 use Rattle.zb_volume.specs.Moments.{LeavesOnly}
 use Rattle.zb_ids.specs.declared.stamp.Stamp.{Stamp}
 use Rattle.zb_outside.specs.Stamps.{stamps_after}

@@ -5,7 +5,7 @@ use Rattle.fs_records.specs.Blocks.{block_text, records_from}
 use Rattle.fs_records.specs.Places.{places_in}
 use Rattle.fs_records.specs.Writing.{block_of}
 use Rattle.file_store.specs.Numbers.{NumbersKept}
-use Rattle.file_store.specs.Kept.{HasRoom}
+use Rattle.file_store.specs.Kept.{HasRoomForTally}
 use Rattle.file_store.specs.Staging.{StagedKept, placed_from, placed_of, shown_places, shown_starts}
 
 -- where the data records of a new transaction begin that is written at the end
@@ -19,4 +19,4 @@ pub record IsPrepared (old now : StagedKept) (numbers : NumbersKept) (new : NewT
   pub staged_is : now.staged ≡ Some (record { tid = new.tid; end = old.end + length text; oids = map (λ c. c.oid) new.changes })
   pub records : (oid : ℕ) → places_in now.kept.entries oid ≡ shown_places old oid ++ placed_of oid (placed_from new.tid (begin_of old new) new.changes)
   pub transactions : now.kept.transactions ≡ shown_starts old ++ record { serial = new.tid; at = old.end } ∷ []
-  pub room : HasRoom numbers (length new.changes)
+  pub room : HasRoomForTally numbers (length new.changes)

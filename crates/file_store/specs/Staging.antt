@@ -4,11 +4,11 @@ use Rattle.zb_model.specs.declared.new_transaction.NewContent.{NewContent}
 use Rattle.zb_model.specs.declared.new_transaction.NewContent.TheVariants as new_content
 use Rattle.zb_model.specs.declared.new_transaction.NewChange.{NewChange}
 use Rattle.fs_records.specs.declared.place.Place.{Place}
-use Rattle.fs_records.specs.Places.{Kept, places_in, is_below, IsBefore, AreBefore}
+use Rattle.fs_records.specs.Places.{Kept, places_in, is_place_below, IsBefore, AreBefore}
 use Rattle.file_store.specs.declared.staged.Staged.{Staged}
 
 -- where a data record of an object stands
-pub record Placed : Type 0 where
+pub record PlacedRecord : Type 0 where
   pub oid : ℕ
   pub place : Place
 
@@ -19,7 +19,7 @@ record_size new_content.Absent = 50
 record_size (new_content.AsOf serial) = 50
 
 -- where the data records of some changes stand, one behind another from q on
-abbrev pub placed_from : ℕ → ℕ → List NewChange → List Placed
+abbrev pub placed_from : ℕ → ℕ → List NewChange → List PlacedRecord
 placed_from tid q [] = []
 placed_from tid q (c ∷ cs) = record { oid = c.oid; place = record { serial = tid; at = q } } ∷ placed_from tid (q + record_size c.content) cs
 
@@ -28,11 +28,11 @@ abbrev pub placed_end : ℕ → List NewChange → ℕ
 placed_end q [] = q
 placed_end q (c ∷ cs) = placed_end (q + record_size c.content) cs
 
-abbrev pub is_placed : ℕ → Placed → Bool
+abbrev pub is_placed : ℕ → PlacedRecord → Bool
 is_placed oid p = oid == p.oid
 
 -- the places of an object among these
-abbrev pub placed_of : ℕ → List Placed → List Place
+abbrev pub placed_of : ℕ → List PlacedRecord → List Place
 placed_of oid placed = map (λ p. p.place) (filter (is_placed oid) placed)
 
 -- What contracts see of an index with a transaction that may be staged: all that is kept, what is staged, and the tid and the end of the rest.
@@ -45,7 +45,7 @@ pub record StagedKept : Type 0 where
 -- places without those of what is staged
 abbrev pub shown : Option Staged → List Place → List Place
 shown None places = places
-shown (Some s) places = filter (is_below s.tid) places
+shown (Some s) places = filter (is_place_below s.tid) places
 
 -- an object's places without those that are staged
 abbrev pub shown_places : StagedKept → ℕ → List Place
@@ -56,15 +56,15 @@ abbrev pub shown_starts : StagedKept → List Place
 shown_starts index = shown index.staged index.kept.transactions
 
 -- all that is kept stands before a place, and is of no later transaction
-pub record IsUpTo (kept : Kept) (tid at : ℕ) : Type 0 where
+pub record IsAllBefore (kept : Kept) (tid at : ℕ) : Type 0 where
   pub records : AreBefore kept.entries tid at
   pub transactions : All (IsBefore tid at) kept.transactions
 
 -- behind what was kept before, the places of what is staged are kept
 pub record IsAhead (s : Staged) (kept : Kept) (newest end : ℕ) : Type 0 where
   pub earlier : Kept
-  pub placed : List Placed
-  pub up_to : IsUpTo earlier newest end
+  pub placed : List PlacedRecord
+  pub up_to : IsAllBefore earlier newest end
   pub above : newest < s.tid
   pub bound : s.tid < 2 ^ 64 - 1
   pub limit : s.end < 2 ^ 63
@@ -72,11 +72,11 @@ pub record IsAhead (s : Staged) (kept : Kept) (newest end : ℕ) : Type 0 where
   pub of_it : All (λ p. p.place.serial ≡ s.tid) placed
   pub records : (oid : ℕ) → places_in kept.entries oid ≡ places_in earlier.entries oid ++ placed_of oid placed
   pub transactions : kept.transactions ≡ earlier.transactions ++ record { serial = s.tid; at = end } ∷ []
-  pub whole : IsUpTo kept s.tid s.end
+  pub whole : IsAllBefore kept s.tid s.end
 
 -- what is kept, whether something is staged or not
 abbrev pub IsStaging : Option Staged → Kept → ℕ → ℕ → Type 0
-IsStaging None kept newest end = IsUpTo kept newest end
+IsStaging None kept newest end = IsAllBefore kept newest end
 IsStaging (Some s) kept newest end = IsAhead s kept newest end
 
 -- an index with a transaction that may be staged is sound

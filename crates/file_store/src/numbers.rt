@@ -6,7 +6,7 @@ ghost use Rattle.std.specs.Option.{option_map_or};
 ghost use Rattle.zb_model.specs.declared.data.Transaction.{Transaction};
 ghost use Rattle.zb_model.specs.Database.{IsDatabase};
 ghost use Rattle.zb_model.specs.Queries.{changes_up_to, greatest_of};
-ghost use Rattle.file_store.specs.Numbers.{AreNumbersOf, is_up_to, tallies_from, total_of};
+ghost use Rattle.file_store.specs.Numbers.{AreNumbersOf, is_tally_up_to, tallies_from, total_of};
 
 use crate::tally::Tally;
 use std::alloc::{AllocError, Global};
@@ -59,7 +59,7 @@ fn point_with(point: Tid, packed: bool, tid: Tid) -> Tid
 /// The last of these whose number is at most this one. The search begins at the end.
 #[tactic(auto, using(crate::proofs::Tallies::found_last, crate::proofs::Tallies::none_more))]
 fn last_up_to(tallies: &[Tally], tid: Tid) -> Option<Tally>
-    ensures { result ≡ last_or None (filter (is_up_to tid) tallies.now) }
+    ensures { result ≡ last_or None (filter (is_tally_up_to tid) tallies.now) }
 {
     let mut left = tallies.len();
     while left > 0 {

@@ -5,13 +5,13 @@ ghost use Rattle.std.specs.List.{last_or};
 ghost use Rattle.std.specs.Option.{option_map_or};
 ghost use Rattle.zb_volume.specs.declared.areas.Area.TheVariants.{Main};
 ghost use Rattle.zb_volume.specs.Disk.{seen, IsSettled};
-ghost use Rattle.zb_volume.specs.Faults.{Rose};
+ghost use Rattle.zb_base.specs.Counts.{Rose};
 ghost use Rattle.zb_ids.specs.declared.stamp.Stamp.{Stamp};
 ghost use Rattle.zb_outside.specs.Stamps.{stamps_after};
 ghost use Rattle.fs_records.specs.Blocks.{Reached, Begins};
 ghost use Rattle.fs_records.specs.File.{StandsFor};
 ghost use Rattle.fs_records.specs.Listed.{listed};
-ghost use Rattle.fs_records.specs.NumberLaws.{IsBytes};
+ghost use Rattle.zb_base.specs.Bytes.{AreBytes};
 ghost use Rattle.fs_reading.specs.Main.{AreStarts};
 ghost use Rattle.fs_reading.specs.declared.errors.ReadError.TheVariants as read_error;
 ghost use Rattle.fs_recovery.specs.declared.errors.OpenError.TheVariants.{StoreFault as Fault};
@@ -83,7 +83,7 @@ fn read_numbers<V: Volume>(
 fn make<V: Volume>(alloc: Global, volume: &mut V, clock: Stamp) -> Result<(), OpenError>
     ensures made { V.told → OnOk result
         (StandsFor (seen (V.log volume.new) Main) (first_list clock) None) }
-    ensures fits { V.told → OnOk result (IsBytes (seen (V.log volume.new) Main)) }
+    ensures fits { V.told → OnOk result (AreBytes (seen (V.log volume.new) Main)) }
     ensures settled { V.told → OnOk result (IsSettled (V.log volume.new) Main) }
     ensures harm { (bytes : List ℕ) → IfErr result (λ e. Harm bytes e) }
     ensures any_moment { V.told → MakesList clock (V.log volume.old) (V.log volume.new) }
@@ -112,7 +112,7 @@ pub fn create_if_empty<V: Volume, C: Clock>(
         (C.stamps clock.old) (C.stamps clock.new)) }
     ensures some { V.told → OnOk result (seen (V.log volume.new) Main ≢ []) }
     ensures fresh { V.told → IfOk result (λ made. made ≡ true → IsFresh (V.log volume.new)) }
-    ensures fits { V.told → OnOk result (IsBytes (seen (V.log volume.new) Main)) }
+    ensures fits { V.told → OnOk result (AreBytes (seen (V.log volume.new) Main)) }
     ensures same { V.told → seen (V.log volume.old) Main ≢ [] → V.log volume.new ≡ V.log volume.old }
     ensures stamps_kept { V.told → seen (V.log volume.old) Main ≢ []
         → C.stamps clock.new ≡ C.stamps clock.old }
@@ -160,7 +160,7 @@ fn recover<V: Volume>(alloc: Global, volume: &mut V, made: bool) -> Result<Opene
 /// What is kept of the file in Main, which was opened.
 fn keep<V: Volume>(alloc: Global, volume: &mut V, opened: Opened) -> Result<Ready, OpenError>
     requires whole { V.told → IsWhole (seen (V.log volume.old) Main) opened }
-    requires fits { V.told → IsBytes (seen (V.log volume.old) Main) }
+    requires fits { V.told → AreBytes (seen (V.log volume.old) Main) }
     requires within { V.told → length (seen (V.log volume.old) Main) ≤ opened.end }
     requires bounded { IsBounded opened }
     ensures kept { V.told → IfOk result (λ r.

@@ -7,7 +7,7 @@ ghost use Rattle.zb_model.specs.Voting.{IsVotable, IsWellFormed, voted_of};
 ghost use Rattle.fs_records.specs.Blocks.{Begins, Reached};
 ghost use Rattle.fs_records.specs.Places.{IsIndexOf};
 ghost use Rattle.fs_records.specs.Writing.{IsNext, block_of};
-ghost use Rattle.file_store.specs.Kept.{HasRoom};
+ghost use Rattle.file_store.specs.Kept.{HasRoomForTally};
 ghost use Rattle.file_store.specs.Numbers.{AreNumbersOf};
 ghost use Rattle.file_store.specs.Preparing.{IsPrepared};
 ghost use Rattle.file_store.specs.Staging.{shown_places, shown_starts};
@@ -69,7 +69,7 @@ pub(crate) fn prepare(
 
 /// Counts what is staged, for which room was made.
 pub(crate) fn count_staged(numbers: &mut Numbers, index: &StagedIndex)
-    requires { ForSome index.now.staged (λ s. HasRoom numbers.old (length s.oids)) }
+    requires { ForSome index.now.staged (λ s. HasRoomForTally numbers.old (length s.oids)) }
     ensures { ForSome index.now.staged (λ s. (list : List Transaction) (t : Transaction)
         → t.tid ≡ s.tid → t.packed ≡ false → map (λ c. c.oid) t.changes ≡ s.oids
         → AreNumbersOf list numbers.old → AreNumbersOf (list ++ t ∷ []) numbers.new) }

@@ -5,7 +5,7 @@ ghost use Rattle.std.specs.Prelude.{◌≡◌, ℕ, ◌+◌, ◌-◌, ◌^◌, �
 ghost use Rattle.std.specs.Option.{ForSome, option_copied};
 ghost use Rattle.fs_records.specs.declared.place.Place.{Place};
 ghost use Rattle.fs_records.specs.Places.{AreBefore, IsRising, places_in};
-ghost use Rattle.file_store.specs.Staging.{IsUpTo, Placed, placed_end, placed_from, placed_of, record_size, shown_places, shown_starts};
+ghost use Rattle.file_store.specs.Staging.{IsAllBefore, PlacedRecord, placed_end, placed_from, placed_of, record_size, shown_places, shown_starts};
 
 use crate::staged::Staged;
 use fs_index::count_below;
@@ -59,7 +59,7 @@ fn oids_of(alloc: Global, changes: &[NewChange]) -> Result<ListOf<Oid>, AllocErr
 
 /// Takes back the last place of each of these objects, the last one first. It takes no memory.
 fn pop_records(index: &mut Index, oids: &[Oid])
-    ensures taken { (earlier : ℕ → List Place) (placed : List Placed) → map (λ p. p.oid) placed ≡ oids.now
+    ensures taken { (earlier : ℕ → List Place) (placed : List PlacedRecord) → map (λ p. p.oid) placed ≡ oids.now
         → ((oid : ℕ) → places_in index.old.entries oid ≡ earlier oid ++ placed_of oid placed)
         → (oid : ℕ) → places_in index.new.entries oid ≡ earlier oid }
     ensures transactions { index.new.transactions ≡ index.old.transactions }
@@ -110,7 +110,7 @@ impl StagedIndex {
     pub(crate) fn new(index: Index, newest: Tid, end: u64) -> StagedIndex
         requires bound { newest < 2 ^ 64 - 1 }
         requires limit { end < 2 ^ 63 }
-        requires up_to { IsUpTo index newest end }
+        requires up_to { IsAllBefore index newest end }
         ensures { result ≡ record { kept = index; staged = None; newest = newest; end = end } }
     {
         StagedIndex {

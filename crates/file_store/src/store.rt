@@ -9,7 +9,7 @@ ghost use Rattle.zb_outside.specs.Stamps.{stamps_after};
 ghost use Rattle.fs_records.specs.File.{StandsFor};
 ghost use Rattle.fs_recovery.specs.declared.errors.OpenError.TheVariants.{StoreFault as Fault};
 ghost use Rattle.fs_recovery.specs.Opens.{IsNoList};
-ghost use Rattle.file_store.specs.Kept.{HasRoom, IsKept, IsVotedIn, StandsForList};
+ghost use Rattle.file_store.specs.Kept.{HasRoomForTally, IsKept, IsVotedIn, StandsForList};
 ghost use Rattle.file_store.specs.KeptLaws.{kept_once, voted_once};
 ghost use Rattle.file_store.specs.Opening.{GaveAtMostOne, Harm, IsMade, KeepsList, MakesList, SomeRose};
 
@@ -24,7 +24,7 @@ use fs_reading::{
 };
 use fs_recovery::OpenError;
 use std::alloc::Global;
-use zb_ids::{Oid, Tid};
+use zb_ids::{ListOf, Oid, Tid};
 use zb_model::{Found, LogLine, NewTransaction, Revision, Store, StoreError, Transaction};
 use zb_outside::Clock;
 use zb_volume::{StoreFault, Volume};
@@ -40,7 +40,7 @@ pub struct FileStore<V: Volume> {
     pub(crate) numbers: Numbers,
     /// Whether a call is under way that changes the volume, or one has failed.
     pub(crate) broken: bool,
-    ghost room: { ForSome index.staged (λ s. HasRoom numbers (length s.oids)) },
+    ghost room: { ForSome index.staged (λ s. HasRoomForTally numbers (length s.oids)) },
     ghost settled: { V.told → broken ≡ false → IsSettled (V.log volume) Main },
     ghost kept: { V.told → broken ≡ false → IsKept (seen (V.log volume) Main) index numbers } by { kept_once V.told (broken ≡ false) (seen (V.log volume) Main) index numbers },
     ghost voted: { V.told → broken ≡ false → ForSome index.staged (λ s. IsVotedIn (seen (V.log volume) Main) s index) } by { voted_once V.told (broken ≡ false) (seen (V.log volume) Main) index },
@@ -57,12 +57,12 @@ impl<V: Volume + Drop> FileStore<V> {
         mut volume: V,
         clock: &mut C,
     ) -> Result<(FileStore<V>, Option<u64>), (OpenError, V)>
-        ensures whole { IfOk result (λ r. ⟦<FileStore<V> as Store>⟧.broken r.0 ≡ false) }
-        ensures free { IfOk result (λ r. ⟦<FileStore<V> as Store>⟧.voted r.0 ≡ None) }
+        ensures whole { IfOk result (λ r. (⟦<FileStore<V> as Store>⟧.state r.0).broken ≡ false) }
+        ensures free { IfOk result (λ r. (⟦<FileStore<V> as Store>⟧.state r.0).voted ≡ None) }
         ensures opened { V.told → seen (V.log volume) Main ≢ [] → IfOk result (λ r.
-            StandsFor (seen (V.log volume) Main) (⟦<FileStore<V> as Store>⟧.list r.0) r.1) }
+            StandsFor (seen (V.log volume) Main) (⟦<FileStore<V> as Store>⟧.state r.0).list r.1) }
         ensures made { V.told → seen (V.log volume) Main ≡ [] → IfOk result (λ r.
-            IsMade (C.stamps clock.old) (⟦<FileStore<V> as Store>⟧.list r.0) r.1) }
+            IsMade (C.stamps clock.old) (⟦<FileStore<V> as Store>⟧.state r.0).list r.1) }
         ensures stamps_kept { V.told → seen (V.log volume) Main ≢ []
             → C.stamps clock.new ≡ C.stamps clock.old }
         ensures stamps_left { V.told → seen (V.log volume) Main ≡ []
@@ -71,19 +71,19 @@ impl<V: Volume + Drop> FileStore<V> {
         ensures harm { V.told → IfErr result (λ e. Harm (seen (V.log volume) Main) e.0) }
         ensures untouched { V.told → IsNoList (seen (V.log volume) Main)
             → IfErr result (λ e. V.log e.1 ≡ V.log volume) }
-        ensures keeps { V.told → IfOk result (λ r. KeepsList (V.log volume) (⟦<FileStore<V> as Store>⟧.log r.0)) }
+        ensures keeps { V.told → IfOk result (λ r. KeepsList (V.log volume) (⟦<FileStore<V> as Store>⟧.state r.0).log) }
         ensures keeps_refused { V.told → IfErr result (λ e. KeepsList (V.log volume) (V.log e.1)) }
         ensures makes { V.told → IfSome (C.stamps clock.old) (λ stamps. (stamp : Stamp)
             → slice_get stamps 0 ≡ Some stamp → IfOk result (λ r.
-            MakesList stamp (V.log volume) (⟦<FileStore<V> as Store>⟧.log r.0))) }
+            MakesList stamp (V.log volume) (⟦<FileStore<V> as Store>⟧.state r.0).log)) }
         ensures makes_refused { V.told → IfSome (C.stamps clock.old) (λ stamps. (stamp : Stamp)
             → slice_get stamps 0 ≡ Some stamp → IfErr result (λ e.
             MakesList stamp (V.log volume) (V.log e.1))) }
         ensures fault { IfErr result (λ e. e.0 ≡ Fault → SomeRose (V.read_faults volume)
             (V.read_faults e.1) (V.write_faults volume) (V.write_faults e.1)) }
         ensures read_faults { IfOk result (λ r.
-            ⟦<FileStore<V> as Store>⟧.read_faults r.0 ≡ V.read_faults volume) }
-        ensures faults { IfOk result (λ r. V.write_faults volume ≤ ⟦<FileStore<V> as Store>⟧.faults r.0) }
+            (⟦<FileStore<V> as Store>⟧.state r.0).read_faults ≡ V.read_faults volume) }
+        ensures faults { IfOk result (λ r. V.write_faults volume ≤ (⟦<FileStore<V> as Store>⟧.state r.0).faults) }
         ensures refused_reads { IfErr result (λ e. V.read_faults volume ≤ V.read_faults e.1) }
         ensures refused_writes { IfErr result (λ e. V.write_faults volume ≤ V.write_faults e.1) }
     {
@@ -110,11 +110,11 @@ impl<V: Volume + Drop> FileStore<V> {
     /// voted is dropped from the store alone: its bytes still stand behind the file, and are cut off
     /// when that is opened.
     pub fn into_volume(self) -> V
-        ensures stands { V.told → ⟦<FileStore<V> as Store>⟧.broken self ≡ false
-            → StandsForList (seen (V.log result) Main) (⟦<FileStore<V> as Store>⟧.list self) }
-        ensures log { V.log result ≡ ⟦<FileStore<V> as Store>⟧.log self }
-        ensures faults { V.write_faults result ≡ ⟦<FileStore<V> as Store>⟧.faults self }
-        ensures read_faults { V.read_faults result ≡ ⟦<FileStore<V> as Store>⟧.read_faults self }
+        ensures stands { V.told → (⟦<FileStore<V> as Store>⟧.state self).broken ≡ false
+            → StandsForList (seen (V.log result) Main) (⟦<FileStore<V> as Store>⟧.state self).list }
+        ensures log { V.log result ≡ (⟦<FileStore<V> as Store>⟧.state self).log }
+        ensures faults { V.write_faults result ≡ (⟦<FileStore<V> as Store>⟧.state self).faults }
+        ensures read_faults { V.read_faults result ≡ (⟦<FileStore<V> as Store>⟧.state self).read_faults }
     {
         let FileStore {
             volume,
@@ -140,21 +140,17 @@ impl<V: Volume + Drop> Store for FileStore<V> {
 
     ghost quiet = { ⊥ };
 
-    ghost log = { λ store. V.log store.volume };
-
     ghost stands = { StandsForList };
 
-    ghost broken = { λ store. store.broken };
-
-    ghost list = { λ store. listed (seen (V.log store.volume) Main) };
-
-    ghost newest_number = { λ store. store.index.newest };
-
-    ghost voted = { λ store. option_map (λ s. voted_in s.tid store.index.end (seen (V.log store.volume) Main)) store.index.staged };
-
-    ghost faults = { λ store. V.write_faults store.volume };
-
-    ghost read_faults = { λ store. V.read_faults store.volume };
+    ghost state = { λ store. record {
+      list = listed (seen (V.log store.volume) Main);
+      voted = option_map (λ s. voted_in s.tid store.index.end (seen (V.log store.volume) Main)) store.index.staged;
+      newest = store.index.newest;
+      broken = store.broken;
+      log = V.log store.volume;
+      faults = V.write_faults store.volume;
+      read_faults = V.read_faults store.volume;
+    } };
 
     ghost database = { λ store told whole. kept_database (seen (V.log store.volume) Main) store.index store.numbers (store.kept told whole) };
 
@@ -198,14 +194,14 @@ impl<V: Volume + Drop> Store for FileStore<V> {
         Ok(found)
     }
 
-    fn history(&mut self, alloc: Global, oid: Oid) -> Result<Vec<Revision>, StoreError> {
+    fn history(&mut self, alloc: Global, oid: Oid) -> Result<ListOf<Revision>, StoreError> {
         let lines = read_history_at(alloc, &mut self.volume, self.index.places(oid))?;
-        Ok(lines.into_vec())
+        Ok(lines)
     }
 
-    fn undo_log(&mut self, alloc: Global) -> Result<Vec<LogLine>, StoreError> {
+    fn undo_log(&mut self, alloc: Global) -> Result<ListOf<LogLine>, StoreError> {
         let lines = read_undo_log_at(alloc, &mut self.volume, self.index.starts())?;
-        Ok(lines.into_vec())
+        Ok(lines)
     }
 
     fn vote(&mut self, alloc: Global, new: &NewTransaction) -> Result<(), StoreError> {

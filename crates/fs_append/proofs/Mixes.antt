@@ -10,7 +10,7 @@ use Rattle.zb_volume.specs.Moments.{LeavesOnly}
 use Rattle.zb_volume.specs.Lasting.{settled_mix}
 use Rattle.zb_volume.specs.Runs.{leaves_less}
 use Rattle.fs_records.specs.Blocks.{Reached, Begins}
-use Rattle.fs_append.specs.Appending.{StandsStill, IsVote, IsVoted}
+use Rattle.fs_append.specs.Appending.{IsStillRead, IsVote, IsVoted}
 use Rattle.fs_append.specs.Rests.{IsUnfinished, rest_stands}
 
 -- ---- one content more over settled bytes: each byte of a mix is the old one or the new one
@@ -45,10 +45,10 @@ module _ (s : Reached) (old new c : List ℕ) (begins : Begins old s) (old_long 
     | inr past ↦ inr (get_or_past c (s.end + 16) 0 past)
   ]
 
-  pub mix_stands : StandsStill s c
+  pub mix_stands : IsStillRead s c
   mix_stands =
       let parts : take s.end old ++ drop s.end c ≡ c = ap (λ (l : List ℕ). l ++ drop s.end c) (sym front) ∙ take-append-drop s.end c in
-      subst (StandsStill s) parts (rest_stands old s (drop s.end c) begins (subst IsUnfinished (sym (get_or-drop s.end c 16 0)) status))
+      subst (IsStillRead s) parts (rest_stands old s (drop s.end c) begins (subst IsUnfinished (sym (get_or-drop s.end c 16 0)) status))
 
 -- ---- a vote
 
@@ -58,7 +58,7 @@ written_end old text end is =
     ∙ ap (λ (l : List ℕ). old ++ text ++ l) (drop_all (end + length text) old (omega (arith, is)))
     ∙ append-nil (old ++ text)
 
-vote_mix : (s : Reached) (old text : List ℕ) (end : ℕ) → Begins old s → s.end ≡ end → length old ≡ end → get_or text 16 0 ≡ 99 → (c : List ℕ) → IsImage old (written old end text ∷ []) c → StandsStill s c
+vote_mix : (s : Reached) (old text : List ℕ) (end : ℕ) → Begins old s → s.end ≡ end → length old ≡ end → get_or text 16 0 ≡ 99 → (c : List ℕ) → IsImage old (written old end text ∷ []) c → IsStillRead s c
 vote_mix s old text end begins end_is whole voted c =
     let new = written old end text in
     let is : new ≡ old ++ text = written_end old text end whole in
@@ -69,13 +69,13 @@ vote_mix s old text end begins end_is whole voted c =
     (inl (ap (λ (l : List ℕ). get_or l (s.end + 16) 0) is ∙ ap (λ (n : ℕ). get_or (old ++ text) n 0) place ∙ get_or-append-add old text 16 0 ∙ voted))
 
 pub vote_leaves : (old new : List Event) (s : Reached) (end : ℕ) (text : List ℕ) → IsVote old s end text
-    → LeavesOnly Main (CrashLeavesWith old Main (written (seen old Main) end text)) old new → LeavesOnly Main (StandsStill s) old new
-vote_leaves old new s end text vote = leaves_less Main _ (StandsStill s) old new
-    (settled_mix old Main _ (StandsStill s) vote.settled (vote_mix s (seen old Main) text end vote.stands.begins vote.end_is vote.whole vote.status))
+    → LeavesOnly Main (CrashLeavesWith old Main (written (seen old Main) end text)) old new → LeavesOnly Main (IsStillRead s) old new
+vote_leaves old new s end text vote = leaves_less Main _ (IsStillRead s) old new
+    (settled_mix old Main _ (IsStillRead s) vote.settled (vote_mix s (seen old Main) text end vote.stands.begins vote.end_is vote.whole vote.status))
 
 -- ---- an abort
 
-abort_mix : (s : Reached) (old : List ℕ) (end : ℕ) → Begins old s → s.end ≡ end → end ≤ length old → get_or old (end + 16) 0 ≡ 99 → (c : List ℕ) → IsImage old (take end old ∷ []) c → StandsStill s c
+abort_mix : (s : Reached) (old : List ℕ) (end : ℕ) → Begins old s → s.end ≡ end → end ≤ length old → get_or old (end + 16) 0 ≡ 99 → (c : List ℕ) → IsImage old (take end old ∷ []) c → IsStillRead s c
 abort_mix s old end begins end_is within voted c =
     let place : s.end + 16 ≡ end + 16 = omega arith in
     mix_stands s old (take end old) c begins (omega arith) (omega (arith, length-take end old))
@@ -84,9 +84,9 @@ abort_mix s old end begins end_is within voted c =
     (inr (get_or_past (take end old) (s.end + 16) 0 (omega (arith, length-take end old))))
 
 pub abort_leaves : (old new : List Event) (s : Reached) (end : ℕ) → end ≤ length (seen old Main) → IsVoted old s end
-    → LeavesOnly Main (CrashLeavesWith old Main (take end (seen old Main))) old new → LeavesOnly Main (StandsStill s) old new
-abort_leaves old new s end within voted = leaves_less Main _ (StandsStill s) old new
-    (settled_mix old Main _ (StandsStill s) voted.settled (abort_mix s (seen old Main) end voted.stands.begins voted.end_is within voted.status))
+    → LeavesOnly Main (CrashLeavesWith old Main (take end (seen old Main))) old new → LeavesOnly Main (IsStillRead s) old new
+abort_leaves old new s end within voted = leaves_less Main _ (IsStillRead s) old new
+    (settled_mix old Main _ (IsStillRead s) voted.settled (abort_mix s (seen old Main) end voted.stands.begins voted.end_is within voted.status))
 
 -- ---- a finish
 

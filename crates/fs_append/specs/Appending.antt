@@ -4,16 +4,16 @@ use Rattle.zb_volume.specs.declared.areas.Area.TheVariants.{Main}
 use Rattle.zb_volume.specs.Calls.{Event}
 use Rattle.zb_volume.specs.Disk.{seen, IsSettled}
 use Rattle.fs_records.specs.Blocks.{Reached}
-use Rattle.fs_records.specs.File.{StandsAs}
+use Rattle.fs_records.specs.File.{IsReadAs}
 
 -- these bytes stand for what was read, with a tail or without
-abbrev pub StandsStill : Reached → List ℕ → Type 0
-StandsStill s image = (cut : Option ℕ) × StandsAs image s cut
+abbrev pub IsStillRead : Reached → List ℕ → Type 0
+IsStillRead s image = (cut : Option ℕ) × IsReadAs image s cut
 
 -- A text may be voted at this end: nothing of Main is pending, its bytes stand for what was read, without a tail, and end there, and the text has the status of a vote.
 pub record IsVote (log : List Event) (s : Reached) (end : ℕ) (text : List ℕ) : Type 0 where
   pub settled : IsSettled log Main
-  pub stands : StandsAs (seen log Main) s None
+  pub stands : IsReadAs (seen log Main) s None
   pub end_is : s.end ≡ end
   pub whole : length (seen log Main) ≡ end
   pub status : slice_index text 16 ≡ 99
@@ -21,6 +21,6 @@ pub record IsVote (log : List Event) (s : Reached) (end : ℕ) (text : List ℕ)
 -- Behind what was read a tail stands at this end whose status is that of a vote, and nothing of Main is pending.
 pub record IsVoted (log : List Event) (s : Reached) (end : ℕ) : Type 0 where
   pub settled : IsSettled log Main
-  pub stands : StandsAs (seen log Main) s (Some end)
+  pub stands : IsReadAs (seen log Main) s (Some end)
   pub end_is : s.end ≡ end
   pub status : slice_index (seen log Main) (end + 16) ≡ 99

@@ -6,7 +6,7 @@ use Rattle.fs_records.specs.Headers.{header_of}
 use Rattle.fs_records.specs.Blocks.{Reached, Begins}
 use Rattle.fs_records.specs.Rules.{verdict}
 use Rattle.fs_records.specs.WriteLaws.{behind_read, begins_with, voted_is_tail}
-use Rattle.fs_append.specs.Appending.{StandsStill}
+use Rattle.fs_append.specs.Appending.{IsStillRead}
 
 -- The status is that of a vote, or 0, as where its byte was not written yet or where there is none.
 abbrev pub IsUnfinished : ℕ → Type 0
@@ -46,7 +46,7 @@ unfinished_verdict newest rest status =
     ]
 
 -- and the bytes before it stand for what was read of them
-pub rest_stands : (bytes : List ℕ) (s : Reached) (rest : List ℕ) → Begins bytes s → IsUnfinished (get_or rest 16 0) → StandsStill s (take s.end bytes ++ rest)
+pub rest_stands : (bytes : List ℕ) (s : Reached) (rest : List ℕ) → Begins bytes s → IsUnfinished (get_or rest 16 0) → IsStillRead s (take s.end bytes ++ rest)
 rest_stands bytes s rest begins status =
     let same = begins_with bytes s rest begins in
     let is : verdict s.newest (drop s.end (take s.end bytes ++ rest)) ≡ verdict s.newest rest = ap (verdict s.newest) (behind_read bytes s rest begins) in

@@ -4,10 +4,10 @@ ghost use Rattle.std.specs.Prelude.{◌≡◌, ◌⊎◌, ◌+◌, ◌<◌, ◌�
 ghost use Rattle.zb_volume.specs.declared.areas.Area.{Area};
 ghost use Rattle.zb_volume.specs.Calls.{Wrote, Cut, Synced};
 ghost use Rattle.zb_volume.specs.Disk.{seen, area_length, written, IsSettled};
-ghost use Rattle.zb_volume.specs.Faults.{HasCause};
+ghost use Rattle.zb_base.specs.Counts.{HasCause};
 ghost use Rattle.zb_volume.specs.Moments.{LeavesOnly, StaysAs};
 ghost use Rattle.fs_records.specs.Blocks.{Reached};
-ghost use Rattle.fs_append.specs.Appending.{StandsStill, IsVote, IsVoted};
+ghost use Rattle.fs_append.specs.Appending.{IsStillRead, IsVote, IsVoted};
 
 use zb_volume::{Area, StoreFault, Volume, cut_and_sync, write_and_sync};
 
@@ -31,7 +31,7 @@ pub fn vote<V: Volume>(volume: &mut V, end: u64, bytes: &[u8]) -> Result<(), Sto
     ensures calls { V.told → OnOk result
         (V.log volume.new ≡ Synced Area.Main ∷ Wrote Area.Main end bytes.now ∷ V.log volume.old) }
     ensures any_moment { V.told → (s : Reached) → IsVote (V.log volume.old) s end bytes.now →
-        LeavesOnly Area.Main (StandsStill s) (V.log volume.old) (V.log volume.new) }
+        LeavesOnly Area.Main (IsStillRead s) (V.log volume.old) (V.log volume.new) }
     ensures side { V.told → StaysAs Area.Side (V.log volume.old) (V.log volume.new) }
     ensures limit { OnOk result (end + length bytes.now < 2 ^ 63) }
     ensures cause { HasCause (V.write_faults volume.old) (V.write_faults volume.new) result }
@@ -77,7 +77,7 @@ pub fn abort<V: Volume>(volume: &mut V, end: u64) -> Result<(), StoreFault>
     ensures calls { V.told → OnOk result
         (V.log volume.new ≡ Synced Area.Main ∷ Cut Area.Main end ∷ V.log volume.old) }
     ensures any_moment { V.told → (s : Reached) → IsVoted (V.log volume.old) s end →
-        LeavesOnly Area.Main (StandsStill s) (V.log volume.old) (V.log volume.new) }
+        LeavesOnly Area.Main (IsStillRead s) (V.log volume.old) (V.log volume.new) }
     ensures side { V.told → StaysAs Area.Side (V.log volume.old) (V.log volume.new) }
     ensures cause { HasCause (V.write_faults volume.old) (V.write_faults volume.new) result }
     ensures read_faults { V.read_faults volume.new ≡ V.read_faults volume.old }

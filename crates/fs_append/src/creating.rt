@@ -4,7 +4,7 @@ ghost use Rattle.std.specs.Prelude.{◌≡◌, ◌⊎◌, [], ◌∷◌, OnOk};
 ghost use Rattle.zb_volume.specs.declared.areas.Area.{Area};
 ghost use Rattle.zb_volume.specs.Calls.{Wrote, Cut, Synced, Replaced};
 ghost use Rattle.zb_volume.specs.Disk.{seen, IsSettled};
-ghost use Rattle.zb_volume.specs.Faults.{HasCause};
+ghost use Rattle.zb_base.specs.Counts.{HasCause};
 ghost use Rattle.zb_volume.specs.Images.{CrashLeaves};
 ghost use Rattle.zb_volume.specs.Moments.{LeavesOnly};
 

@@ -6,37 +6,23 @@ use Rattle.std.specs.List.Sorted.{IsPartitionPoint, IsNonDecreasingBy}
 use Rattle.std.proofs.lemmas.Bool.{cases_lt, eqb-false, ltb-true, ne_eqb, ltb-false, le-leb, lt-leb}
 use Rattle.std.proofs.lemmas.List.{get_or_default}
 use Rattle.fs_records.specs.declared.place.Place.{Place}
-use Rattle.fs_records.specs.Places.{last_below, is_below}
-use Rattle.fs_index.specs.Found.{is_from, first_from}
-
-filter_front : {X : Type 0} (p : X → Bool) (xs : List X) (n : ℕ) → ((k : ℕ) (d : X) → k < n → p (get_or xs k d) ≡ true) → ((k : ℕ) (d : X) → n ≤ k → k < length xs → p (get_or xs k d) ≡ false) → n ≤ length xs → filter p xs ≡ take n xs
-filter_front p [] zero front behind h = refl
-filter_front p [] (suc n) front behind h = refl
-filter_front p (x ∷ xs) zero front behind h =
-    let not_below : p x ≡ false = behind 0 x (omega arith) (omega arith) in
-    rw not_below (filter_front p xs 0 (λ k d l. absurd (omega arith)) (λ k d m l. behind (suc k) d (omega arith) (omega arith)) (omega arith))
-filter_front p (x ∷ xs) (suc n) front behind h =
-    let below : p x ≡ true = front 0 x (omega arith) in
-    rw below (ap (λ ys. x ∷ ys) (filter_front p xs n (λ k d l. front (suc k) d (omega arith)) (λ k d m l. behind (suc k) d (omega arith) (omega arith)) (omega arith)))
-
-last_take : {X : Type 0} (o : Option X) (xs : List X) (n : ℕ) (d : X) → n < length xs → last_or o (take (suc n) xs) ≡ Some (get_or xs n d)
-last_take o [] n d h = absurd (omega arith)
-last_take o (x ∷ xs) zero d h = refl
-last_take o (x ∷ xs) (suc n) d h = last_take (Some x) xs n d (omega arith)
+use Rattle.fs_records.specs.Places.{last_below, is_place_below}
+use Rattle.fs_index.specs.Found.{is_place_from, first_from}
+use Rattle.zb_base.specs.Lists.{filter_take, last_or_take}
 
 -- those below the front are the first ones
-pub filtered : (front : ℕ) (xs : List Place) (n : ℕ) → n ≤ length xs → IsPartitionPoint (λ p. is_below front p ≡ true) (λ p. is_below front p ≡ false) xs n → take n xs ≡ filter (is_below front) xs
-filtered front xs n h parts = sym (filter_front (is_below front) xs n (λ k d l. parts.0 k d (omega arith) l) (λ k d m l. parts.1 k d m l) h)
+pub filtered : (front : ℕ) (xs : List Place) (n : ℕ) → n ≤ length xs → IsPartitionPoint (λ p. is_place_below front p ≡ true) (λ p. is_place_below front p ≡ false) xs n → take n xs ≡ filter (is_place_below front) xs
+filtered front xs n h parts = sym (filter_take (is_place_below front) xs n (λ k d l. parts.0 k d (omega arith) l) (λ k d m l. parts.1 k d m l) h)
 
-pub none_below : (front : ℕ) (xs : List Place) (n : ℕ) → take n xs ≡ filter (is_below front) xs → n ≡ 0 → None ≡ last_below front xs
+pub none_below : (front : ℕ) (xs : List Place) (n : ℕ) → take n xs ≡ filter (is_place_below front) xs → n ≡ 0 → None ≡ last_below front xs
 unfolding last_below
 none_below front xs n first zero_is = ap (λ k. last_or None (take k xs)) (sym zero_is) ∙ ap (last_or None) first
 
-pub one_below : (front : ℕ) (xs : List Place) (n : ℕ) (d : Place) → n ≤ length xs → take n xs ≡ filter (is_below front) xs → 0 < n → Some (get_or xs (n - 1) d) ≡ last_below front xs
+pub one_below : (front : ℕ) (xs : List Place) (n : ℕ) (d : Place) → n ≤ length xs → take n xs ≡ filter (is_place_below front) xs → 0 < n → Some (get_or xs (n - 1) d) ≡ last_below front xs
 unfolding last_below
 one_below front xs n d h first some =
     let n_is : n ≡ suc (n - 1) = omega arith in
-    sym (last_take None xs (n - 1) d (omega arith)) ∙ ap (λ k. last_or None (take k xs)) (sym n_is) ∙ ap (last_or None) first
+    sym (last_or_take None xs (n - 1) d (omega arith)) ∙ ap (λ k. last_or None (take k xs)) (sym n_is) ∙ ap (last_or None) first
 
 -- what is left by a filter passes it
 first_passes : {X : Type 0} (p : X → Bool) (x : X) (ys xs : List X) → x ∷ ys ≡ filter p xs → p x ≡ true
@@ -48,28 +34,28 @@ first_passes p x ys (z ∷ zs) e = by_cases (p z) refl e (first_passes p x ys zs
     by_cases false fails is rest = rest is
 
 -- one that isn't below the front isn't below it
-from_is : (front : ℕ) (p : Place) (b : Bool) → is_below front p ≡ b → is_from front p ≡ not b
+from_is : (front : ℕ) (p : Place) (b : Bool) → is_place_below front p ≡ b → is_place_from front p ≡ not b
 from_is front p true below = lt-leb front p.serial (ltb-true p.serial front below)
 from_is front p false behind = le-leb front p.serial (ltb-false p.serial front behind)
 
 -- the first one behind those
-pub first_behind : (front : ℕ) (xs : List Place) (n : ℕ) → take n xs ≡ filter (is_below front) xs → slice_get xs n ≡ first_from front xs
+pub first_behind : (front : ℕ) (xs : List Place) (n : ℕ) → take n xs ≡ filter (is_place_below front) xs → slice_get xs n ≡ first_from front xs
 first_behind front [] zero first = refl
 first_behind front [] (suc n) first = refl
-first_behind front (x ∷ xs) zero first = by_cases (is_below front x) refl first
+first_behind front (x ∷ xs) zero first = by_cases (is_place_below front x) refl first
   where
-    by_cases : (b : Bool) → is_below front x ≡ b → [] ≡ cond b (x ∷ filter (is_below front) xs) (filter (is_below front) xs) → Some x ≡ cond (is_from front x) (Some x) (first_from front xs)
+    by_cases : (b : Bool) → is_place_below front x ≡ b → [] ≡ cond b (x ∷ filter (is_place_below front) xs) (filter (is_place_below front) xs) → Some x ≡ cond (is_place_from front x) (Some x) (first_from front xs)
     by_cases true below is = absurd cc
     by_cases false behind is = sym (ap (λ b. cond b (Some x) (first_from front xs)) (from_is front x false behind))
-first_behind front (x ∷ xs) (suc n) first = by_cases (is_below front x) refl first (first_behind front xs n)
+first_behind front (x ∷ xs) (suc n) first = by_cases (is_place_below front x) refl first (first_behind front xs n)
   where
-    by_cases : (b : Bool) → is_below front x ≡ b → x ∷ take n xs ≡ cond b (x ∷ filter (is_below front) xs) (filter (is_below front) xs) → (take n xs ≡ filter (is_below front) xs → slice_get xs n ≡ first_from front xs)
-        → slice_get xs n ≡ cond (is_from front x) (Some x) (first_from front xs)
+    by_cases : (b : Bool) → is_place_below front x ≡ b → x ∷ take n xs ≡ cond b (x ∷ filter (is_place_below front) xs) (filter (is_place_below front) xs) → (take n xs ≡ filter (is_place_below front) xs → slice_get xs n ≡ first_from front xs)
+        → slice_get xs n ≡ cond (is_place_from front x) (Some x) (first_from front xs)
     by_cases true below is behind =
-        let rest : take n xs ≡ filter (is_below front) xs = cc in
+        let rest : take n xs ≡ filter (is_place_below front) xs = cc in
         behind rest ∙ sym (ap (λ b. cond b (Some x) (first_from front xs)) (from_is front x true below))
     by_cases false behind is rest =
-        let passes : is_below front x ≡ true = first_passes (is_below front) x (take n xs) xs is in
+        let passes : is_place_below front x ≡ true = first_passes (is_place_below front) x (take n xs) xs is in
         absurd cc
 
 -- no place is `at`
@@ -107,13 +93,3 @@ found_at at xs n d h parts rise = by_cases (eqb (get_or xs n d).at at) refl
 pub none_found : (at : ℕ) (xs : List Place) (n : ℕ) → length xs ≤ n → PartsAt at xs n → false ≡ list_any (λ p. eqb p.at at) xs
 none_found at xs n h parts = sym (none_at at xs (λ k d l. ne_eqb _ _ (λ e. absurd (omega (arith, ltb-true _ _ (parts.0 k d (omega arith) (omega arith)), e)))))
 
-last_or-more : {X : Type 0} (o : Option X) (x : X) (xs : List X) → last_or o (x ∷ xs) ≡ slice_get (x ∷ xs) (length xs)
-last_or-more o x [] = refl
-last_or-more o x (z ∷ zs) = last_or-more (Some x) z zs
-
--- the last item is that at the last place
-pub last_or_get : {X : Type 0} (xs : List X) → last_or None xs ≡ slice_get xs (length xs - 1)
-last_or_get [] = refl
-last_or_get (x ∷ xs) =
-    let n : length xs ≡ length (x ∷ xs) - 1 = omega arith in
-    last_or-more None x xs ∙ ap (λ (k : ℕ). slice_get (x ∷ xs) k) n

@@ -5,12 +5,12 @@ use Rattle.fs_records.specs.declared.place.Place.{Place}
 use Rattle.fs_records.specs.Blocks.{Known, Reached, is_known}
 use Rattle.fs_records.specs.Places.{Kept, places_in, knows, is_of, place_of, IsIndexOf}
 
-abbrev pub is_from : ℕ → Place → Bool
-is_from front p = nat_le front p.serial
+abbrev pub is_place_from : ℕ → Place → Bool
+is_place_from front p = nat_le front p.serial
 
 -- the first place whose serial isn't below the front
 abbrev pub first_from : ℕ → List Place → Option Place
-first_from front places = find (is_from front) places
+first_from front places = find (is_place_from front) places
 
 -- the object's last record
 abbrev pub last_record : ℕ → List Known → Option Known

@@ -2,14 +2,14 @@
 
 ghost use Rattle.std.specs.Prelude.{◌≡◌, ◌==◌, ◌≤◌, length, take, filter};
 ghost use Rattle.std.specs.List.{last_or, list_any};
-ghost use Rattle.fs_records.specs.Places.{is_below, last_below, IsRising};
+ghost use Rattle.fs_records.specs.Places.{is_place_below, last_below, IsRising};
 ghost use Rattle.fs_index.specs.Found.{first_from};
 
 use fs_records::Place;
 use zb_ids::Tid;
 
 /// The last of these places, or `None` where there are none. It takes no memory.
-#[tactic(auto, using(crate::proofs::Finding::last_or_get))]
+#[tactic(auto, using(zb_base::specs::Lists::last_or_get))]
 pub fn last_of(places: &[Place]) -> Option<Place>
     ensures { result ≡ last_or None places.now }
 {
@@ -21,7 +21,7 @@ pub fn last_of(places: &[Place]) -> Option<Place>
 pub fn count_below(places: &[Place], front: Tid) -> usize
     requires { IsRising places.now }
     ensures within { result ≤ length places.now }
-    ensures first { take result places.now ≡ filter (is_below front) places.now }
+    ensures first { take result places.now ≡ filter (is_place_below front) places.now }
 {
     places.partition_point(|p| p.serial < front)
 }

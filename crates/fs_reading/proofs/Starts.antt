@@ -12,7 +12,7 @@ use Rattle.fs_records.specs.declared.place.Place.{Place}
 use Rattle.fs_records.specs.Blocks.{Reached, Begins}
 use Rattle.fs_records.specs.Places.{IsBefore, IsRising}
 use Rattle.fs_records.specs.Databases.{reading_of}
-use Rattle.fs_records.specs.Lookups.{placed}
+use Rattle.fs_records.specs.Lookups.{are_before_end}
 use Rattle.fs_index.specs.Found.{first_from}
 use Rattle.fs_reading.specs.Cases.{by_bool}
 
@@ -162,5 +162,5 @@ pub none_above_all : (bytes : List ℕ) (s : Reached) (tid : ℕ) → Begins byt
 none_above_all bytes s tid begins high =
     let reading = reading_of bytes s begins in
     let below : s.newest < 2 ^ 64 - 1 = omega (arith, reading.is.bounded, reading.newest) in
-    let most : All (λ (p : Place). p.serial ≤ tid) s.starts = All-weaker (IsBefore s.newest s.end) (λ (p : Place). p.serial ≤ tid) (λ p b. let least : p.serial ≤ s.newest = b.0 in omega arith) s.starts (placed bytes s begins).starts in
+    let most : All (λ (p : Place). p.serial ≤ tid) s.starts = All-weaker (IsBefore s.newest s.end) (λ (p : Place). p.serial ≤ tid) (λ p b. let least : p.serial ≤ s.newest = b.0 in omega arith) s.starts (are_before_end bytes s begins).starts in
     sym (none_by (above tid) s.starts s.list reading.starts (none_above tid s.starts most))

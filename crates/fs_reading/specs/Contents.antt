@@ -10,7 +10,7 @@ use Rattle.fs_records.specs.Numbers.{number, number_in}
 use Rattle.fs_records.specs.NumberLaws.{length-number, number_in-number}
 use Rattle.fs_records.specs.Headers.{data_header_of, data_header_text}
 use Rattle.fs_records.specs.HeaderLaws.{IsDataHeader, data_header_again, length-data_header_text}
-use Rattle.fs_records.specs.Blocks.{Payload, Full, From, Written, Known, payload_length, payload_text, data_header, record_text, is_at, is_known, content_at, content_of, known_at, IsPayload, IsWritten}
+use Rattle.fs_records.specs.Blocks.{Payload, Full, From, Written, Known, payload_length, payload_text, data_header, record_text, is_at, is_known, content_at, content_of, known_at, IsPayload, IsWrittenRecord}
 use Rattle.fs_records.specs.Rules.{payload_size}
 use Rattle.fs_reading.specs.Cases.{by_bool}
 use Rattle.fs_reading.specs.Standing.{data_head_at, back_at, HasPayload, IsContent, held, absent, earlier}
@@ -51,7 +51,7 @@ payload_fits known oid (Full bytes) is = is.1
 payload_fits known oid (From at) is = omega arith
 
 -- its header is read again
-pub record_head : (bytes : List ℕ) (known : List Known) (place tid q : ℕ) (r : Written) (more : List ℕ) → tid < 2 ^ 64 → place < 2 ^ 64 → IsWritten known r → drop q bytes ≡ record_text place tid r ++ more
+pub record_head : (bytes : List ℕ) (known : List Known) (place tid q : ℕ) (r : Written) (more : List ℕ) → tid < 2 ^ 64 → place < 2 ^ 64 → IsWrittenRecord known r → drop q bytes ≡ record_text place tid r ++ more
     → (data_head_at bytes q ≡ data_header place tid r) × (drop (q + 42) bytes ≡ payload_text r.payload ++ more)
 unfolding record_text
 record_head bytes known place tid q r more tid_fits place_fits is stands =
@@ -95,7 +95,7 @@ content_by bytes known q oid (From at) more is len behind all before =
         earlier q whole len (omega arith) (let b : at < q = known_before q known oid at before k in omega arith) (subst (λ (n : ℕ). IsContent bytes (content_at known oid at) n) (sym back) (known_content bytes known oid at all k))
 
 -- a data record that stands there has the content that is known of it
-pub record_content : (bytes : List ℕ) (known : List Known) (place tid q : ℕ) (r : Written) (more : List ℕ) → tid < 2 ^ 64 → place < 2 ^ 64 → IsWritten known r → drop q bytes ≡ record_text place tid r ++ more
+pub record_content : (bytes : List ℕ) (known : List Known) (place tid q : ℕ) (r : Written) (more : List ℕ) → tid < 2 ^ 64 → place < 2 ^ 64 → IsWrittenRecord known r → drop q bytes ≡ record_text place tid r ++ more
     → AllByRecursion (ContentStands bytes) known → AllByRecursion (StandsBefore q) known → ContentStands bytes (known_at known tid q r)
 record_content bytes known place tid q r more tid_fits place_fits is stands all before =
     let h = record_head bytes known place tid q r more tid_fits place_fits is stands in

@@ -14,10 +14,10 @@ use Rattle.fs_records.specs.declared.header.Header.{Header}
 use Rattle.fs_records.specs.NumberLaws.{length-number}
 use Rattle.fs_records.specs.Rules.{texts_length}
 use Rattle.fs_records.specs.Numbers.{number}
-use Rattle.fs_records.specs.Blocks.{Block, Known, is_known, content_at, Reached, start, after, after_all, texts, records_text, records_from, length_of, header_for, block_text, blocks_text, transaction_of, with_records, as_change, IsBlock, AreBlocks, Begins, magic}
+use Rattle.fs_records.specs.Blocks.{Block, Known, is_known, content_at, Reached, file_start, after_block, after_blocks, texts, records_text, records_from, length_of, header_for, block_text, blocks_text, transaction_of, with_records, as_change, IsBlock, AreBlocks, Begins, magic}
 use Rattle.fs_records.specs.Places.{is_of}
 use Rattle.fs_reading.specs.Cases.{by_bool}
-use Rattle.fs_reading.specs.Standing.{data_head_at, head_at, IsContent, user_at, description_at, RecordStands, TransactionStands, TransactionsStand, is_replaced, lasts, revision_at}
+use Rattle.fs_reading.specs.Standing.{data_head_at, head_at, IsContent, user_at, description_at, RecordStands, TransactionStands, TransactionsStand, is_replaced, lasts, revision_line_of}
 use Rattle.fs_reading.specs.Merged.{read_of, with_records-read, merged}
 use Rattle.fs_reading.specs.Contents.{ContentStands, StandsBefore, known_content}
 use Rattle.fs_reading.specs.ChangesStand.{RecordsBetween, ChangesStand, AllChangesStand, AllChangesStand-push, records_begin, records_end, entries_read, records_between}
@@ -62,13 +62,13 @@ last_holds P first (k ∷ ks) one all = last_holds P (Some k) ks all.0 all.1
 -- ---- what stands
 
 -- What was read of a file stands in its bytes: each data record, each transaction, and the history of each object by its records.
-pub record Stands (bytes : List ℕ) (s : Reached) : Type 0 where
+pub record HasHistories (bytes : List ℕ) (s : Reached) : Type 0 where
   pub records : AllByRecursion (RecordStands bytes) s.known
   pub places_before : AllByRecursion (StandsBefore s.end) s.known
   pub tids_below : AllByRecursion (λ k. k.tid ≤ s.newest) s.known
   pub transactions : TransactionsStand bytes s.starts s.list
   pub changes : AllChangesStand bytes s.starts s.list
-  pub histories : (oid : ℕ) → map (revision_at bytes) (lasts (filter (is_of oid) s.known)) ≡ filter_map (history_line oid) s.list
+  pub histories : (oid : ℕ) → map (revision_line_of bytes) (lasts (filter (is_of oid) s.known)) ≡ filter_map (history_line oid) s.list
 
 abbrev line : ℕ → Option ℕ → List ℕ → List ℕ → Revision
 line tid size user description = record { tid = tid; size = size; user = user; description = description }
@@ -76,7 +76,7 @@ line tid size user description = record { tid = tid; size = size; user = user; d
 -- what the history says of the object's last record in the transaction is what it says of the transaction
 line_is : (bytes : List ℕ) (place tid to : ℕ) (t : Transaction) (oid : ℕ) (last : Option Known) → IfSome last (NewStands bytes place tid to) → TransactionStands bytes (record { serial = tid; at = place }) t
     → change_in oid t.changes ≡ option_map (λ c. record { oid = oid; content = c }) (option_map (λ (k : Known). k.content) last)
-    → history_line oid t ≡ option_map (revision_at bytes) last
+    → history_line oid t ≡ option_map (revision_line_of bytes) last
 line_is bytes place tid to t oid None new stands changed = ap (option_map (λ (c : Change). line t.tid (size_of c.content) t.user t.description)) changed
 line_is bytes place tid to t oid (Some k) new stands changed =
     let at : ℕ = (data_head_at bytes k.place).transaction in
@@ -96,8 +96,8 @@ in_list f (Some k) = refl
 content_stands : (bytes : List ℕ) (k : Known) → RecordStands bytes k → ContentStands bytes k
 content_stands bytes k r = r.content
 
-one_block : (bytes : List ℕ) (s : Reached) (b : Block) (more : List ℕ) → Stands bytes s → IsBlock s b → drop s.end bytes ≡ block_text s.end b ++ more → Stands bytes (after s b)
-unfolding after
+one_block : (bytes : List ℕ) (s : Reached) (b : Block) (more : List ℕ) → HasHistories bytes s → IsBlock s b → drop s.end bytes ≡ block_text s.end b ++ more → HasHistories bytes (after_block s b)
+unfolding after_block
 one_block bytes s b more so_far is here =
     let p : ℕ = s.end in
     let from : ℕ = records_from p b in
@@ -133,7 +133,7 @@ one_block bytes s b more so_far is here =
     each-append (λ (k : Known). k.tid ≤ b.tid) s.known new
     (each_weaker (λ (k : Known). k.tid ≤ s.newest) (λ (k : Known). k.tid ≤ b.tid) (λ k h. omega arith) s.known so_far.tids_below)
     (each_weaker (NewStands bytes p b.tid to) (λ (k : Known). k.tid ≤ b.tid) (λ k h. let l : k.tid ≡ b.tid = h.tid_is in omega arith) new stand) in
-    let history : (oid : ℕ) → map (revision_at bytes) (lasts (filter (is_of oid) (s.known ++ new))) ≡ filter_map (history_line oid) (s.list ++ t ∷ []) = λ oid.
+    let history : (oid : ℕ) → map (revision_line_of bytes) (lasts (filter (is_of oid) (s.known ++ new))) ≡ filter_map (history_line oid) (s.list ++ t ∷ []) = λ oid.
     let olds : List Known = filter (is_of oid) s.known in
     let news : List Known = filter (is_of oid) new in
     let news_stand = each-filter (NewStands bytes p b.tid to) (is_of oid) new stand in
@@ -142,13 +142,13 @@ one_block bytes s b more so_far is here =
     lasts-append b.tid olds news
     (each-filter (IsBelowTid b.tid) (is_of oid) s.known (each_weaker (λ (k : Known). k.tid ≤ s.newest) (IsBelowTid b.tid) (λ k h. omega arith) s.known so_far.tids_below))
     (each_weaker (NewStands bytes p b.tid to) (IsOfTid b.tid) (λ k h. h.tid_is) news news_stand) in
-    let said : history_line oid t ≡ option_map (revision_at bytes) last =
+    let said : history_line oid t ≡ option_map (revision_line_of bytes) last =
     line_is bytes p b.tid to t oid last (last_holds (NewStands bytes p b.tid to) None news tt news_stand) there.stands (merged oid s.known p b.tid from b.records) in
-    ap (λ (x : List Known). map (revision_at bytes) (lasts x)) (filter-append (is_of oid) s.known new)
-    ∙ ap (map (revision_at bytes)) split
-    ∙ map-append (revision_at bytes) (lasts olds) (option_to_list last)
-    ∙ ap (λ (x : List Revision). x ++ map (revision_at bytes) (option_to_list last)) (so_far.histories oid)
-    ∙ ap (λ (x : List Revision). filter_map (history_line oid) s.list ++ x) (in_list (revision_at bytes) last ∙ ap (λ (o : Option Revision). cons_option o []) (sym said))
+    ap (λ (x : List Known). map (revision_line_of bytes) (lasts x)) (filter-append (is_of oid) s.known new)
+    ∙ ap (map (revision_line_of bytes)) split
+    ∙ map-append (revision_line_of bytes) (lasts olds) (option_to_list last)
+    ∙ ap (λ (x : List Revision). x ++ map (revision_line_of bytes) (option_to_list last)) (so_far.histories oid)
+    ∙ ap (λ (x : List Revision). filter_map (history_line oid) s.list ++ x) (in_list (revision_line_of bytes) last ∙ ap (λ (o : Option Revision). cons_option o []) (sym said))
     ∙ sym (filter_map-append (history_line oid) s.list (t ∷ [])) in
     record {
       records = subst (λ (ks : List Known). AllByRecursion (RecordStands bytes) ks) known_is all_records;
@@ -156,28 +156,28 @@ one_block bytes s b more so_far is here =
       tids_below = subst (λ (ks : List Known). AllByRecursion (λ k. k.tid ≤ b.tid) ks) known_is all_below;
       transactions = TransactionsStand-push bytes s.starts s.list (record { serial = b.tid; at = s.end }) t so_far.transactions there.stands;
       changes = AllChangesStand-push bytes s.starts s.list (record { serial = b.tid; at = s.end }) t so_far.changes changes_stand;
-      histories = λ oid. subst (λ (ks : List Known). map (revision_at bytes) (lasts (filter (is_of oid) ks)) ≡ filter_map (history_line oid) (s.list ++ t ∷ [])) known_is (history oid);
+      histories = λ oid. subst (λ (ks : List Known). map (revision_line_of bytes) (lasts (filter (is_of oid) ks)) ≡ filter_map (history_line oid) (s.list ++ t ∷ [])) known_is (history oid);
     }
 
-after_end : (s : Reached) (b : Block) → (after s b).end ≡ s.end + (length_of s.end b + 8)
-unfolding after
+after_end : (s : Reached) (b : Block) → (after_block s b).end ≡ s.end + (length_of s.end b + 8)
+unfolding after_block
 after_end s b = refl
 
-all_blocks : (bytes : List ℕ) (s : Reached) (bs : List Block) (more : List ℕ) → Stands bytes s → AreBlocks s bs → drop s.end bytes ≡ blocks_text s bs ++ more → Stands bytes (after_all s bs)
+all_blocks : (bytes : List ℕ) (s : Reached) (bs : List Block) (more : List ℕ) → HasHistories bytes s → AreBlocks s bs → drop s.end bytes ≡ blocks_text s bs ++ more → HasHistories bytes (after_blocks s bs)
 all_blocks bytes s [] more so_far are here = so_far
 all_blocks bytes s (b ∷ bs) more so_far are here =
-    let others : List ℕ = blocks_text (after s b) bs in
+    let others : List ℕ = blocks_text (after_block s b) bs in
     let there : drop s.end bytes ≡ block_text s.end b ++ (others ++ more) = here ∙ append_assoc (block_text s.end b) others more in
     let next = one_block bytes s b (others ++ more) so_far are.0 there in
     let behind = (block_stands bytes s b (others ++ more) are.0 there).behind in
-    all_blocks bytes (after s b) bs more next are.1 (ap (λ (n : ℕ). drop n bytes) (after_end s b) ∙ behind)
+    all_blocks bytes (after_block s b) bs more next are.1 (ap (λ (n : ℕ). drop n bytes) (after_end s b) ∙ behind)
 
 -- what was read of a file stands in its bytes
-pub stands : (bytes : List ℕ) (s : Reached) → Begins bytes s → Stands bytes s
+pub stands : (bytes : List ℕ) (s : Reached) → Begins bytes s → HasHistories bytes s
 stands bytes s begins =
-    let here : drop 4 bytes ≡ blocks_text start begins.blocks ++ drop s.end bytes = ap (drop 4) begins.parts ∙ drop_at magic _ 4 refl in
-    let first : Stands bytes start = record { records = tt; places_before = tt; tids_below = tt; transactions = tt; changes = tt; histories = λ oid. refl } in
-    subst (λ (x : Reached). Stands bytes x) (sym begins.is) (all_blocks bytes start begins.blocks (drop s.end bytes) first begins.are here)
+    let here : drop 4 bytes ≡ blocks_text file_start begins.blocks ++ drop s.end bytes = ap (drop 4) begins.parts ∙ drop_at magic _ 4 refl in
+    let first : HasHistories bytes file_start = record { records = tt; places_before = tt; tids_below = tt; transactions = tt; changes = tt; histories = λ oid. refl } in
+    subst (λ (x : Reached). HasHistories bytes x) (sym begins.is) (all_blocks bytes file_start begins.blocks (drop s.end bytes) first begins.are here)
 
 -- a record that was read at a place has the content there that is known of it
 pub content_known : (bytes : List ℕ) (s : Reached) (oid at : ℕ) → Begins bytes s → is_known s.known oid at ≡ true → IsContent bytes (content_at s.known oid at) at

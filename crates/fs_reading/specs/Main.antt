@@ -6,10 +6,7 @@ use Rattle.zb_volume.specs.Disk.{seen}
 use Rattle.fs_records.specs.declared.place.Place.{Place}
 use Rattle.fs_records.specs.Blocks.{Reached, Begins}
 use Rattle.fs_records.specs.Places.{Kept, IsIndexOf, places_of}
-
--- what a read gives of the file of the database
-abbrev pub main : List Event → List ℕ
-main log = seen log Main
+use Rattle.zb_volume.specs.Disk.{main_bytes}
 
 -- the bytes begin as a file, whatever stands behind what was reached of them, the index is the one of what was reached, and every place within the bytes is a number of 64 bits
 pub record IsIndexed (bytes : List ℕ) (kept : Kept) : Type 0 where

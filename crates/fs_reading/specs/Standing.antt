@@ -98,8 +98,8 @@ lasts [] = []
 lasts (k ∷ ks) = if is_replaced k ks then lasts ks else k ∷ lasts ks
 
 -- what a history says of a data record
-abbrev pub revision_at : List ℕ → Known → Revision
-revision_at bytes k = record {
+abbrev pub revision_line_of : List ℕ → Known → Revision
+revision_line_of bytes k = record {
   tid = k.tid;
   size = size_of k.content;
   user = user_at bytes (data_head_at bytes k.place).transaction;

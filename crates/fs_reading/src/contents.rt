@@ -2,9 +2,9 @@
 
 ghost use Rattle.std.specs.Prelude.{◌≡◌, ℕ, ◌+◌, ◌≤◌, ◌<◌, ◌^◌, true, length, IfOk, OnOk, IsErrOf};
 ghost use Rattle.zb_model.specs.declared.data.Content.{Content};
-ghost use Rattle.zb_volume.specs.Faults.{HasCause, Rose};
+ghost use Rattle.zb_base.specs.Counts.{Rose, HasCause};
 ghost use Rattle.fs_records.specs.Blocks.{Reached, Begins, is_known, content_at};
-ghost use Rattle.fs_reading.specs.Main.{main};
+ghost use Rattle.zb_volume.specs.Disk.{main_bytes};
 ghost use Rattle.fs_reading.specs.Standing.{data_head_at, IsContent};
 ghost use Rattle.fs_reading.specs.Sources.{IsSource, IsKnownPlace};
 ghost use Rattle.fs_reading.specs.declared.errors.ReadError.TheVariants.{ReadFault, Memory};
@@ -32,11 +32,11 @@ pub(crate) fn source_of<V: Volume>(
     at: u64,
     header: &DataHeader,
 ) -> Result<Option<Source>, StoreFault>
-    requires short { V.told → length (main (V.log volume.old)) < 2 ^ 64 }
-    requires header { V.told → header.now ≡ data_head_at (main (V.log volume.old)) at }
-    requires some { V.told → (content : Content) × IsContent (main (V.log volume.old)) content at }
-    ensures value { V.told → (content : Content) → IsContent (main (V.log volume.old)) content at
-        → IfOk result (λ source. IsSource (main (V.log volume.old)) content source) }
+    requires short { V.told → length (main_bytes (V.log volume.old)) < 2 ^ 64 }
+    requires header { V.told → header.now ≡ data_head_at (main_bytes (V.log volume.old)) at }
+    requires some { V.told → (content : Content) × IsContent (main_bytes (V.log volume.old)) content at }
+    ensures value { V.told → (content : Content) → IsContent (main_bytes (V.log volume.old)) content at
+        → IfOk result (λ source. IsSource (main_bytes (V.log volume.old)) content source) }
     ensures same { V.log volume.new ≡ V.log volume.old }
     ensures cause { HasCause (V.read_faults volume.old) (V.read_faults volume.new) result }
     ensures uncounted { OnOk result (V.read_faults volume.new ≡ V.read_faults volume.old) }
@@ -65,10 +65,10 @@ pub(crate) fn content_of<V: Volume>(
     at: u64,
     header: &DataHeader,
 ) -> Result<Content, ReadError>
-    requires short { V.told → length (main (V.log volume.old)) < 2 ^ 64 }
-    requires header { V.told → header.now ≡ data_head_at (main (V.log volume.old)) at }
-    requires some { V.told → (content : Content) × IsContent (main (V.log volume.old)) content at }
-    ensures value { V.told → (content : Content) → IsContent (main (V.log volume.old)) content at
+    requires short { V.told → length (main_bytes (V.log volume.old)) < 2 ^ 64 }
+    requires header { V.told → header.now ≡ data_head_at (main_bytes (V.log volume.old)) at }
+    requires some { V.told → (content : Content) × IsContent (main_bytes (V.log volume.old)) content at }
+    ensures value { V.told → (content : Content) → IsContent (main_bytes (V.log volume.old)) content at
         → IfOk result (λ read. read ≡ content) }
     ensures same { V.log volume.new ≡ V.log volume.old }
     ensures later { V.read_faults volume.old ≤ V.read_faults volume.new }
@@ -89,9 +89,9 @@ pub(crate) fn content_of<V: Volume>(
 /// of the earlier record that its back pointer leads to. It is `ReadFault` only where a read failed,
 /// and else `Memory`. The volume is as it was.
 pub fn read_content<V: Volume>(alloc: Global, volume: &mut V, at: u64) -> Result<Content, ReadError>
-    requires { V.told → IsKnownPlace (main (V.log volume.old)) at }
+    requires { V.told → IsKnownPlace (main_bytes (V.log volume.old)) at }
     ensures content { V.told → (reached : Reached) (oid : ℕ)
-        → Begins (main (V.log volume.old)) reached → is_known reached.known oid at ≡ true
+        → Begins (main_bytes (V.log volume.old)) reached → is_known reached.known oid at ≡ true
         → IfOk result (λ content. content ≡ content_at reached.known oid at) }
     ensures same { V.log volume.new ≡ V.log volume.old }
     ensures later { V.read_faults volume.old ≤ V.read_faults volume.new }

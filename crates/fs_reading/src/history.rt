@@ -3,13 +3,14 @@
 ghost use Rattle.std.specs.Prelude.{◌≡◌, ℕ, ◌+◌, ◌≤◌, ◌<◌, ◌^◌, if◌then◌else◌, Some, None, List, length, map, reverse, IfOk, OnOk, IsErrOf};
 ghost use Rattle.std.specs.List.{AllByRecursion};
 ghost use Rattle.zb_model.specs.Lists.{history_of};
-ghost use Rattle.zb_volume.specs.Faults.{Rose};
+ghost use Rattle.zb_base.specs.Counts.{Rose};
 ghost use Rattle.fs_records.specs.Blocks.{Reached, Begins, Known};
 ghost use Rattle.fs_records.specs.Places.{IsIndexOf, place_of, places_of};
-ghost use Rattle.fs_reading.specs.Main.{main, IsIndexed, ArePlaces};
-ghost use Rattle.fs_reading.specs.Standing.{RecordStands, is_replaced, lasts, revision_at};
+ghost use Rattle.fs_reading.specs.Main.{IsIndexed, ArePlaces};
+ghost use Rattle.fs_reading.specs.Standing.{RecordStands, is_replaced, lasts, revision_line_of};
 ghost use Rattle.fs_reading.specs.Sources.{is_same_transaction};
 ghost use Rattle.fs_reading.specs.declared.errors.ReadError.TheVariants.{ReadFault, Memory};
+ghost use Rattle.zb_volume.specs.Disk.{main_bytes};
 
 use crate::contents::source_of;
 use crate::errors::ReadError;
@@ -22,12 +23,12 @@ use zb_volume::Volume;
 
 /// The line of the data record at a place.
 fn line_at<V: Volume>(alloc: Global, volume: &mut V, place: Place) -> Result<Revision, ReadError>
-    requires short { V.told → length (main (V.log volume.old)) < 2 ^ 64 }
+    requires short { V.told → length (main_bytes (V.log volume.old)) < 2 ^ 64 }
     requires stands { V.told
-        → (k : Known) × (place ≡ place_of k) × RecordStands (main (V.log volume.old)) k }
+        → (k : Known) × (place ≡ place_of k) × RecordStands (main_bytes (V.log volume.old)) k }
     ensures value { V.told → (k : Known) → place ≡ place_of k
-        → RecordStands (main (V.log volume.old)) k
-        → IfOk result (λ line. line ≡ revision_at (main (V.log volume.old)) k) }
+        → RecordStands (main_bytes (V.log volume.old)) k
+        → IfOk result (λ line. line ≡ revision_line_of (main_bytes (V.log volume.old)) k) }
     ensures same { V.log volume.new ≡ V.log volume.old }
     ensures later { V.read_faults volume.old ≤ V.read_faults volume.new }
     ensures fault { IsErrOf result ReadFault
@@ -66,13 +67,13 @@ fn line_of_last<V: Volume>(
     place: Place,
     later: &[Place],
 ) -> Result<Option<Revision>, ReadError>
-    requires short { V.told → length (main (V.log volume.old)) < 2 ^ 64 }
+    requires short { V.told → length (main_bytes (V.log volume.old)) < 2 ^ 64 }
     requires stands { V.told
-        → (k : Known) × (place ≡ place_of k) × RecordStands (main (V.log volume.old)) k }
+        → (k : Known) × (place ≡ place_of k) × RecordStands (main_bytes (V.log volume.old)) k }
     ensures value { V.told → (k : Known) (ks : List Known) → place ≡ place_of k
-        → later.now ≡ map place_of ks → RecordStands (main (V.log volume.old)) k
+        → later.now ≡ map place_of ks → RecordStands (main_bytes (V.log volume.old)) k
         → IfOk result (λ line. line
-        ≡ (if is_replaced k ks then None else Some (revision_at (main (V.log volume.old)) k))) }
+        ≡ (if is_replaced k ks then None else Some (revision_line_of (main_bytes (V.log volume.old)) k))) }
     ensures same { V.log volume.new ≡ V.log volume.old }
     ensures later { V.read_faults volume.old ≤ V.read_faults volume.new }
     ensures fault { IsErrOf result ReadFault
@@ -95,13 +96,13 @@ fn lines_at<V: Volume>(
     volume: &mut V,
     places: &[Place],
 ) -> Result<ListOf<Revision>, ReadError>
-    requires short { V.told → length (main (V.log volume.old)) < 2 ^ 64 }
+    requires short { V.told → length (main_bytes (V.log volume.old)) < 2 ^ 64 }
     requires stand { V.told → (ks : List Known) × (places.now ≡ map place_of ks)
-        × AllByRecursion (RecordStands (main (V.log volume.old))) ks }
+        × AllByRecursion (RecordStands (main_bytes (V.log volume.old))) ks }
     ensures lines { V.told → (ks : List Known) → places.now ≡ map place_of ks
-        → AllByRecursion (RecordStands (main (V.log volume.old))) ks
+        → AllByRecursion (RecordStands (main_bytes (V.log volume.old))) ks
         → IfOk result (λ lines.
-        lines ≡ reverse (map (revision_at (main (V.log volume.old))) (lasts ks))) }
+        lines ≡ reverse (map (revision_line_of (main_bytes (V.log volume.old))) (lasts ks))) }
     ensures same { V.log volume.new ≡ V.log volume.old }
     ensures later { V.read_faults volume.old ≤ V.read_faults volume.new }
     ensures fault { IsErrOf result ReadFault
@@ -133,9 +134,9 @@ pub fn read_history_at<V: Volume>(
     volume: &mut V,
     places: &[Place],
 ) -> Result<ListOf<Revision>, ReadError>
-    requires { V.told → ArePlaces (main (V.log volume.old)) places.now }
+    requires { V.told → ArePlaces (main_bytes (V.log volume.old)) places.now }
     ensures lines { V.told → (reached : Reached) (oid : ℕ)
-        → Begins (main (V.log volume.old)) reached → places.now ≡ places_of oid reached.known
+        → Begins (main_bytes (V.log volume.old)) reached → places.now ≡ places_of oid reached.known
         → IfOk result (λ lines. lines ≡ history_of oid reached.list) }
     ensures same { V.log volume.new ≡ V.log volume.old }
     ensures later { V.read_faults volume.old ≤ V.read_faults volume.new }
@@ -160,8 +161,8 @@ pub fn read_history<V: Volume>(
     index: &Index,
     oid: Oid,
 ) -> Result<ListOf<Revision>, ReadError>
-    requires { V.told → IsIndexed (main (V.log volume.old)) index.now }
-    ensures lines { V.told → (reached : Reached) → Begins (main (V.log volume.old)) reached
+    requires { V.told → IsIndexed (main_bytes (V.log volume.old)) index.now }
+    ensures lines { V.told → (reached : Reached) → Begins (main_bytes (V.log volume.old)) reached
         → IsIndexOf reached index.now → IfOk result (λ lines. lines ≡ history_of oid reached.list) }
     ensures same { V.log volume.new ≡ V.log volume.old }
     ensures later { V.read_faults volume.old ≤ V.read_faults volume.new }

@@ -3,12 +3,13 @@
 ghost use Rattle.std.specs.Prelude.{◌≡◌, ℕ, ◌≤◌, IfOk, OnOk, IsErrOf};
 ghost use Rattle.std.specs.Option.{option_map};
 ghost use Rattle.zb_model.specs.Queries.{first_after, found_as, found_below, transaction_at};
-ghost use Rattle.zb_volume.specs.Faults.{Rose};
+ghost use Rattle.zb_base.specs.Counts.{Rose};
 ghost use Rattle.fs_records.specs.Blocks.{Reached, Begins};
 ghost use Rattle.fs_records.specs.Places.{IsRising, places_of};
 ghost use Rattle.fs_index.specs.Found.{first_from};
-ghost use Rattle.fs_reading.specs.Main.{main, ArePlaces, AreStarts};
+ghost use Rattle.fs_reading.specs.Main.{ArePlaces, AreStarts};
 ghost use Rattle.fs_reading.specs.declared.errors.ReadError.TheVariants.{ReadFault, Memory};
+ghost use Rattle.zb_volume.specs.Disk.{main_bytes};
 
 use crate::contents::read_content;
 use crate::errors::ReadError;
@@ -49,10 +50,10 @@ pub fn read_before<V: Volume>(
     places: &[Place],
     front: Tid,
 ) -> Result<Found, ReadError>
-    requires places { V.told → ArePlaces (main (V.log volume.old)) places.now }
+    requires places { V.told → ArePlaces (main_bytes (V.log volume.old)) places.now }
     requires rising { IsRising places.now }
     ensures found { V.told → (reached : Reached) (oid : ℕ)
-        → Begins (main (V.log volume.old)) reached → places.now ≡ places_of oid reached.known
+        → Begins (main_bytes (V.log volume.old)) reached → places.now ≡ places_of oid reached.known
         → IfOk result (λ found. found ≡ found_below oid front reached.list) }
     ensures same { V.log volume.new ≡ V.log volume.old }
     ensures later { V.read_faults volume.old ≤ V.read_faults volume.new }
@@ -81,9 +82,9 @@ pub fn read_transaction_with<V: Volume>(
     starts: &[Place],
     tid: Tid,
 ) -> Result<Option<Transaction>, ReadError>
-    requires starts { V.told → AreStarts (main (V.log volume.old)) starts.now }
+    requires starts { V.told → AreStarts (main_bytes (V.log volume.old)) starts.now }
     requires rising { IsRising starts.now }
-    ensures found { V.told → (reached : Reached) → Begins (main (V.log volume.old)) reached
+    ensures found { V.told → (reached : Reached) → Begins (main_bytes (V.log volume.old)) reached
         → starts.now ≡ reached.starts
         → IfOk result (λ found. found ≡ transaction_at tid reached.list) }
     ensures same { V.log volume.new ≡ V.log volume.old }
@@ -114,9 +115,9 @@ pub fn read_first_after<V: Volume>(
     starts: &[Place],
     tid: Tid,
 ) -> Result<Option<Transaction>, ReadError>
-    requires starts { V.told → AreStarts (main (V.log volume.old)) starts.now }
+    requires starts { V.told → AreStarts (main_bytes (V.log volume.old)) starts.now }
     requires rising { IsRising starts.now }
-    ensures found { V.told → (reached : Reached) → Begins (main (V.log volume.old)) reached
+    ensures found { V.told → (reached : Reached) → Begins (main_bytes (V.log volume.old)) reached
         → starts.now ≡ reached.starts
         → IfOk result (λ found. found ≡ first_after tid reached.list) }
     ensures same { V.log volume.new ≡ V.log volume.old }

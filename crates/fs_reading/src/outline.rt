@@ -2,13 +2,14 @@
 
 ghost use Rattle.std.specs.Prelude.{◌≡◌, ℕ, ◌+◌, ◌≤◌, ◌<◌, ◌^◌, [], List, Some, length, slice_get, IfOk, OnOk, IsErrOf};
 ghost use Rattle.zb_model.specs.declared.data.Transaction.{Transaction};
-ghost use Rattle.zb_volume.specs.Faults.{Rose};
+ghost use Rattle.zb_base.specs.Counts.{Rose};
 ghost use Rattle.fs_records.specs.Blocks.{Reached, Begins, Known};
-ghost use Rattle.fs_reading.specs.Main.{main, IsStart, IsStartOf};
+ghost use Rattle.fs_reading.specs.Main.{IsStart, IsStartOf};
 ghost use Rattle.fs_reading.specs.ChangesStand.{ChangesStand, RecordsBetween};
 ghost use Rattle.fs_reading.specs.Outlines.{IsOutlineOf, oids_by};
 ghost use Rattle.fs_reading.specs.Standing.{TransactionStands};
 ghost use Rattle.fs_reading.specs.declared.errors.ReadError.TheVariants.{ReadFault, Memory};
+ghost use Rattle.zb_volume.specs.Disk.{main_bytes};
 
 use crate::errors::ReadError;
 use crate::pieces::{data_header_at, header_at};
@@ -44,11 +45,11 @@ fn oids_between<V: Volume>(
     from: u64,
     end: u64,
 ) -> Result<IndexSet<Oid>, ReadError>
-    requires within { V.told → end ≤ length (main (V.log volume.old)) }
+    requires within { V.told → end ≤ length (main_bytes (V.log volume.old)) }
     requires stand { V.told
-        → (ks : List Known) × RecordsBetween (main (V.log volume.old)) from end ks }
+        → (ks : List Known) × RecordsBetween (main_bytes (V.log volume.old)) from end ks }
     ensures value { V.told → (ks : List Known)
-        → RecordsBetween (main (V.log volume.old)) from end ks
+        → RecordsBetween (main_bytes (V.log volume.old)) from end ks
         → IfOk result (λ oids. oids.keys ≡ oids_by [] ks) }
     ensures same { V.log volume.new ≡ V.log volume.old }
     ensures later { V.read_faults volume.old ≤ V.read_faults volume.new }
@@ -72,13 +73,13 @@ fn oids_between<V: Volume>(
 
 /// The outline of the transaction at a place.
 fn outline_at<V: Volume>(alloc: Global, volume: &mut V, place: Place) -> Result<Outline, ReadError>
-    requires short { V.told → length (main (V.log volume.old)) < 2 ^ 64 }
+    requires short { V.told → length (main_bytes (V.log volume.old)) < 2 ^ 64 }
     requires stands { V.told → (t : Transaction)
-        × TransactionStands (main (V.log volume.old)) place t
-        × ChangesStand (main (V.log volume.old)) place.at t.changes }
+        × TransactionStands (main_bytes (V.log volume.old)) place t
+        × ChangesStand (main_bytes (V.log volume.old)) place.at t.changes }
     ensures value { V.told → (t : Transaction)
-        → TransactionStands (main (V.log volume.old)) place t
-        → ChangesStand (main (V.log volume.old)) place.at t.changes
+        → TransactionStands (main_bytes (V.log volume.old)) place t
+        → ChangesStand (main_bytes (V.log volume.old)) place.at t.changes
         → IfOk result (λ outline. IsOutlineOf t outline) }
     ensures same { V.log volume.new ≡ V.log volume.old }
     ensures later { V.read_faults volume.old ≤ V.read_faults volume.new }
@@ -113,9 +114,9 @@ pub fn read_outline<V: Volume>(
     volume: &mut V,
     place: Place,
 ) -> Result<Outline, ReadError>
-    requires { V.told → IsStart (main (V.log volume.old)) place }
+    requires { V.told → IsStart (main_bytes (V.log volume.old)) place }
     ensures outline { V.told → (reached : Reached) (number : ℕ)
-        → Begins (main (V.log volume.old)) reached → IsStartOf reached number place
+        → Begins (main_bytes (V.log volume.old)) reached → IsStartOf reached number place
         → IfOk result (λ outline. (t : Transaction) → slice_get reached.list number ≡ Some t
         → IsOutlineOf t outline) }
     ensures same { V.log volume.new ≡ V.log volume.old }

@@ -2,14 +2,15 @@
 
 ghost use Rattle.std.specs.Prelude.{◌≡◌, ℕ, ◌+◌, ◌≤◌, ◌<◌, ◌^◌, [], List, Some, length, map, slice_get, slice_index_or, IfOk, OnOk, IsErrOf};
 ghost use Rattle.zb_model.specs.declared.data.Transaction.{Transaction};
-ghost use Rattle.zb_volume.specs.Faults.{Rose};
+ghost use Rattle.zb_base.specs.Counts.{Rose};
 ghost use Rattle.fs_records.specs.Blocks.{Reached, Begins, Known, as_change};
 ghost use Rattle.fs_records.specs.Places.{IsIndexOf};
 ghost use Rattle.fs_records.specs.Rules.{payload_size};
-ghost use Rattle.fs_reading.specs.Main.{main, IsIndexed, IsStart, IsStartOf};
+ghost use Rattle.fs_reading.specs.Main.{IsIndexed, IsStart, IsStartOf};
 ghost use Rattle.fs_reading.specs.ChangesStand.{ChangesStand, RecordsBetween, entries_of};
 ghost use Rattle.fs_reading.specs.Standing.{TransactionStands};
 ghost use Rattle.fs_reading.specs.declared.errors.ReadError.TheVariants.{ReadFault, Memory};
+ghost use Rattle.zb_volume.specs.Disk.{main_bytes};
 
 use crate::contents::content_of;
 use crate::errors::ReadError;
@@ -48,12 +49,12 @@ fn entries_between<V: Volume>(
     from: u64,
     end: u64,
 ) -> Result<IndexMap<Oid, Content>, ReadError>
-    requires short { V.told → length (main (V.log volume.old)) < 2 ^ 64 }
-    requires within { V.told → end ≤ length (main (V.log volume.old)) }
+    requires short { V.told → length (main_bytes (V.log volume.old)) < 2 ^ 64 }
+    requires within { V.told → end ≤ length (main_bytes (V.log volume.old)) }
     requires stand { V.told
-        → (ks : List Known) × RecordsBetween (main (V.log volume.old)) from end ks }
+        → (ks : List Known) × RecordsBetween (main_bytes (V.log volume.old)) from end ks }
     ensures value { V.told → (ks : List Known)
-        → RecordsBetween (main (V.log volume.old)) from end ks
+        → RecordsBetween (main_bytes (V.log volume.old)) from end ks
         → IfOk result (λ entries. entries.entries ≡ entries_of [] ks) }
     ensures same { V.log volume.new ≡ V.log volume.old }
     ensures later { V.read_faults volume.old ≤ V.read_faults volume.new }
@@ -82,13 +83,13 @@ fn transaction_at<V: Volume>(
     volume: &mut V,
     place: Place,
 ) -> Result<Transaction, ReadError>
-    requires short { V.told → length (main (V.log volume.old)) < 2 ^ 64 }
+    requires short { V.told → length (main_bytes (V.log volume.old)) < 2 ^ 64 }
     requires stands { V.told → (t : Transaction)
-        × TransactionStands (main (V.log volume.old)) place t
-        × ChangesStand (main (V.log volume.old)) place.at t.changes }
+        × TransactionStands (main_bytes (V.log volume.old)) place t
+        × ChangesStand (main_bytes (V.log volume.old)) place.at t.changes }
     ensures value { V.told → (t : Transaction)
-        → TransactionStands (main (V.log volume.old)) place t
-        → ChangesStand (main (V.log volume.old)) place.at t.changes
+        → TransactionStands (main_bytes (V.log volume.old)) place t
+        → ChangesStand (main_bytes (V.log volume.old)) place.at t.changes
         → IfOk result (λ read. read ≡ t) }
     ensures same { V.log volume.new ≡ V.log volume.old }
     ensures later { V.read_faults volume.old ≤ V.read_faults volume.new }
@@ -129,9 +130,9 @@ pub fn read_transaction_at<V: Volume>(
     volume: &mut V,
     place: Place,
 ) -> Result<Transaction, ReadError>
-    requires { V.told → IsStart (main (V.log volume.old)) place }
+    requires { V.told → IsStart (main_bytes (V.log volume.old)) place }
     ensures transaction { V.told → (reached : Reached) (number : ℕ)
-        → Begins (main (V.log volume.old)) reached → IsStartOf reached number place
+        → Begins (main_bytes (V.log volume.old)) reached → IsStartOf reached number place
         → IfOk result (λ t. slice_get reached.list number ≡ Some t) }
     ensures same { V.log volume.new ≡ V.log volume.old }
     ensures later { V.read_faults volume.old ≤ V.read_faults volume.new }
@@ -154,9 +155,9 @@ pub fn read_transaction<V: Volume>(
     index: &Index,
     number: usize,
 ) -> Result<Transaction, ReadError>
-    requires indexed { V.told → IsIndexed (main (V.log volume.old)) index.now }
+    requires indexed { V.told → IsIndexed (main_bytes (V.log volume.old)) index.now }
     requires number { number < length index.now.transactions }
-    ensures transaction { V.told → (reached : Reached) → Begins (main (V.log volume.old)) reached
+    ensures transaction { V.told → (reached : Reached) → Begins (main_bytes (V.log volume.old)) reached
         → IsIndexOf reached index.now
         → IfOk result (λ t. t ≡ slice_index_or reached.list number t) }
     ensures same { V.log volume.new ≡ V.log volume.old }

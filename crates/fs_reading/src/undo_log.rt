@@ -3,12 +3,13 @@
 ghost use Rattle.std.specs.Prelude.{◌≡◌, ℕ, ◌+◌, ◌≤◌, ◌<◌, ◌^◌, length, reverse, IfOk, OnOk, IsErrOf};
 ghost use Rattle.std.specs.List.{AllByRecursion, filter_map};
 ghost use Rattle.zb_model.specs.Lists.{undo_log_of};
-ghost use Rattle.zb_volume.specs.Faults.{Rose};
+ghost use Rattle.zb_base.specs.Counts.{Rose};
 ghost use Rattle.fs_records.specs.Blocks.{Reached, Begins};
 ghost use Rattle.fs_records.specs.Places.{IsIndexOf};
-ghost use Rattle.fs_reading.specs.Main.{main, IsIndexed, AreStarts};
+ghost use Rattle.fs_reading.specs.Main.{IsIndexed, AreStarts};
 ghost use Rattle.fs_reading.specs.Standing.{log_line_at, HasTexts};
 ghost use Rattle.fs_reading.specs.declared.errors.ReadError.TheVariants.{ReadFault, Memory};
+ghost use Rattle.zb_volume.specs.Disk.{main_bytes};
 
 use crate::errors::ReadError;
 use crate::pieces::{header_at, keep, user_and_description};
@@ -27,10 +28,10 @@ fn line_at<V: Volume>(
     volume: &mut V,
     place: Place,
 ) -> Result<Option<LogLine>, ReadError>
-    requires short { V.told → length (main (V.log volume.old)) < 2 ^ 64 }
-    requires texts { V.told → HasTexts (main (V.log volume.old)) place.at }
+    requires short { V.told → length (main_bytes (V.log volume.old)) < 2 ^ 64 }
+    requires texts { V.told → HasTexts (main_bytes (V.log volume.old)) place.at }
     ensures value { V.told → IfOk result (λ line.
-        line ≡ log_line_at (main (V.log volume.old)) place) }
+        line ≡ log_line_at (main_bytes (V.log volume.old)) place) }
     ensures same { V.log volume.new ≡ V.log volume.old }
     ensures later { V.read_faults volume.old ≤ V.read_faults volume.new }
     ensures fault { IsErrOf result ReadFault
@@ -57,11 +58,11 @@ fn lines_at<V: Volume>(
     volume: &mut V,
     places: &[Place],
 ) -> Result<ListOf<LogLine>, ReadError>
-    requires short { V.told → length (main (V.log volume.old)) < 2 ^ 64 }
+    requires short { V.told → length (main_bytes (V.log volume.old)) < 2 ^ 64 }
     requires texts { V.told
-        → AllByRecursion (λ p. HasTexts (main (V.log volume.old)) p.at) places.now }
+        → AllByRecursion (λ p. HasTexts (main_bytes (V.log volume.old)) p.at) places.now }
     ensures lines { V.told → IfOk result (λ lines.
-        lines ≡ reverse (filter_map (log_line_at (main (V.log volume.old))) places.now)) }
+        lines ≡ reverse (filter_map (log_line_at (main_bytes (V.log volume.old))) places.now)) }
     ensures same { V.log volume.new ≡ V.log volume.old }
     ensures later { V.read_faults volume.old ≤ V.read_faults volume.new }
     ensures fault { IsErrOf result ReadFault
@@ -90,8 +91,8 @@ pub fn read_undo_log_at<V: Volume>(
     volume: &mut V,
     places: &[Place],
 ) -> Result<ListOf<LogLine>, ReadError>
-    requires { V.told → AreStarts (main (V.log volume.old)) places.now }
-    ensures lines { V.told → (reached : Reached) → Begins (main (V.log volume.old)) reached
+    requires { V.told → AreStarts (main_bytes (V.log volume.old)) places.now }
+    ensures lines { V.told → (reached : Reached) → Begins (main_bytes (V.log volume.old)) reached
         → places.now ≡ reached.starts → IfOk result (λ lines. lines ≡ undo_log_of reached.list) }
     ensures same { V.log volume.new ≡ V.log volume.old }
     ensures later { V.read_faults volume.old ≤ V.read_faults volume.new }
@@ -113,8 +114,8 @@ pub fn read_undo_log<V: Volume>(
     volume: &mut V,
     index: &Index,
 ) -> Result<ListOf<LogLine>, ReadError>
-    requires { V.told → IsIndexed (main (V.log volume.old)) index.now }
-    ensures lines { V.told → (reached : Reached) → Begins (main (V.log volume.old)) reached
+    requires { V.told → IsIndexed (main_bytes (V.log volume.old)) index.now }
+    ensures lines { V.told → (reached : Reached) → Begins (main_bytes (V.log volume.old)) reached
         → IsIndexOf reached index.now → IfOk result (λ lines. lines ≡ undo_log_of reached.list) }
     ensures same { V.log volume.new ≡ V.log volume.old }
     ensures later { V.read_faults volume.old ≤ V.read_faults volume.new }

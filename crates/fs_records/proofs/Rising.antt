@@ -3,7 +3,7 @@ use Rattle.std.proofs.Common.{◌≡◌, ℕ, ◌-◌, Bool, true, false, cond, 
 use Rattle.std.proofs.lemmas.Bool.{eqb-true}
 use Rattle.std.proofs.lemmas.List.Sorted.{IsNonDecreasingBy-push}
 use Rattle.fs_records.specs.declared.place.Place.{Place}
-use Rattle.fs_records.specs.Places.{Kept, IsSound, places_in, IsRising, AreRising, IsBefore, Added}
+use Rattle.fs_records.specs.Places.{Kept, IsSoundIndex, places_in, IsRising, AreRising, IsBefore, Added}
 
 -- one place more at the end
 pub rising_more : (ps : List Place) (p : Place) → IsRising ps → All (IsBefore p.serial p.at) ps → IsRising (ps ++ p ∷ [])
@@ -28,7 +28,7 @@ pub are_rising_still : (old new : List (ℕ × List Place)) → AreRising old �
 are_rising_still old new is same o = subst (λ (ps : List Place). IsRising ps) (sym (same o)) (is o)
 
 -- whether a record's place was kept or not
-pub sound_after : {E : Type 0} (r : Result (Unit {0}) E) (kept : Kept) (new : List (ℕ × List Place)) (oid : ℕ) (p : Place) → IsSound kept → All (IsBefore p.serial p.at) (places_in kept.entries oid)
-    → OnOk r (Added kept.entries oid p new) → OnErr r (new ≡ kept.entries) → IsSound (record { entries = new; transactions = kept.transactions })
+pub sound_after : {E : Type 0} (r : Result (Unit {0}) E) (kept : Kept) (new : List (ℕ × List Place)) (oid : ℕ) (p : Place) → IsSoundIndex kept → All (IsBefore p.serial p.at) (places_in kept.entries oid)
+    → OnOk r (Added kept.entries oid p new) → OnErr r (new ≡ kept.entries) → IsSoundIndex (record { entries = new; transactions = kept.transactions })
 sound_after (Ok u) kept new oid p sound before ok err = record { objects = are_rising_more kept.entries new oid p sound.objects before ok; transactions = sound.transactions }
 sound_after (Err e) kept new oid p sound before ok err = record { objects = are_rising_still kept.entries new sound.objects (λ o. ap (λ (x : List (ℕ × List Place)). places_in x o) err); transactions = sound.transactions }

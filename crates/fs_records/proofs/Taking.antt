@@ -7,7 +7,7 @@ use Rattle.std.proofs.lemmas.Bool.{eqb-true, ne_eqb, eqb-false}
 use Rattle.std.proofs.lemmas.List.{length-append, take_at}
 use Rattle.std.proofs.lemmas.List.Sorted.{IsNonDecreasingBy-take}
 use Rattle.fs_records.specs.declared.place.Place.{Place}
-use Rattle.fs_records.specs.Places.{Kept, IsSound, places_in, IsRising, AreRising, all_but_last, Taken}
+use Rattle.fs_records.specs.Places.{Kept, IsSoundIndex, places_in, IsRising, AreRising, all_but_last, IsTakenBack}
 
 last_behind : (o : Option Place) (ps : List Place) (p : Place) → Some p ≡ last_or o (ps ++ p ∷ [])
 last_behind o [] p = refl
@@ -22,7 +22,7 @@ popped (Some p) old new last empty =
 
 -- where each look-up answers as before, but for the one key, which has the shorter list
 pub taken_by : (old new : List (ℕ × List Place)) (oid : ℕ) (ps shorter : List Place) → places_in old oid ≡ ps → shorter ≡ all_but_last ps
-    → ((q : ℕ) → lookup (nat_eq q) new ≡ cond (nat_eq oid q) (Some shorter) (lookup (nat_eq q) old)) → Taken old oid new
+    → ((q : ℕ) → lookup (nat_eq q) new ≡ cond (nat_eq oid q) (Some shorter) (lookup (nat_eq q) old)) → IsTakenBack old oid new
 taken_by old new oid ps shorter ps_is shorter_is h o = by_cases (eqb o oid) refl
   where
     now : (b : Bool) → eqb oid o ≡ b → places_in new o ≡ unwrap_or (cond b (Some shorter) (lookup (nat_eq o) old)) []
@@ -43,7 +43,7 @@ rising_less ps is = record {
   places_rise = IsNonDecreasingBy-take (λ p. p.at) (length ps - 1) ps is.places_rise;
 }
 
-pub are_rising_less : (old new : List (ℕ × List Place)) (oid : ℕ) → AreRising old → Taken old oid new → AreRising new
+pub are_rising_less : (old new : List (ℕ × List Place)) (oid : ℕ) → AreRising old → IsTakenBack old oid new → AreRising new
 are_rising_less old new oid is taken o = by_cases (eqb o oid) refl
   where
     by_cases : (b : Bool) → eqb o oid ≡ b → IsRising (places_in new o)
@@ -56,5 +56,5 @@ are_rising_less old new oid is taken o = by_cases (eqb o oid) refl
         either false = is o
 
 -- an index stays sound
-pub sound_less : (kept : Kept) (new : List (ℕ × List Place)) (oid : ℕ) → IsSound kept → Taken kept.entries oid new → IsSound (record { entries = new; transactions = kept.transactions })
+pub sound_less : (kept : Kept) (new : List (ℕ × List Place)) (oid : ℕ) → IsSoundIndex kept → IsTakenBack kept.entries oid new → IsSoundIndex (record { entries = new; transactions = kept.transactions })
 sound_less kept new oid sound taken = record { objects = are_rising_less kept.entries new oid sound.objects taken; transactions = sound.transactions }

@@ -19,9 +19,9 @@ use Rattle.zb_model.specs.declared.new_transaction.NewContent.TheVariants as new
 use Rattle.zb_model.specs.declared.new_transaction.NewChange.{NewChange}
 use Rattle.zb_model.specs.declared.new_transaction.NewTransaction.{NewTransaction}
 use Rattle.zb_model.specs.Database.{IsDatabase, ObjectRevision, change_in, revisions, is_below, revision_below}
-use Rattle.zb_model.specs.Voting.{has_serial, revision_at, content_as_of, voted_content, voted_change, voted_of, IsHeld, IsSound, IsFilled, IsWellFormed, IsVotable}
+use Rattle.zb_model.specs.Voting.{has_serial, revision_at, content_as_of, voted_content, voted_change, voted_of, IsHeld, NamesRevision, IsFilled, IsWellFormed, IsVotable}
 use Rattle.fs_records.specs.declared.place.Place.{Place}
-use Rattle.fs_records.specs.Blocks.{Known, Written, record_text, records_text, texts, is_at, is_known, content_at, content_of, known_at, with_record, with_records, changes_of, as_change, Reached, start, after, records_from, Block, IsPayload, AreWritten, after_all, Begins}
+use Rattle.fs_records.specs.Blocks.{Known, Written, record_text, records_text, texts, is_at, is_known, content_at, content_of, known_at, with_record, with_records, changes_of, as_change, Reached, file_start, after_block, records_from, Block, IsPayload, AreWritten, after_blocks, Begins}
 use Rattle.fs_records.specs.BlockLaws.{after-end}
 use Rattle.fs_records.specs.Databases.{reading_of}
 use Rattle.fs_records.specs.Places.{Kept, places_in, ArePlacesOf, IsIndexOf, last_below}
@@ -48,16 +48,16 @@ none_at_0 oid known place tid q [] h some = h
 none_at_0 oid known place tid q (r ∷ rs) h some =
     none_at_0 oid (with_record known tid q r) place tid (q + length (record_text place tid r)) rs (not_at_0 oid known (known_at known tid q r) h some) (omega arith)
 
-one_block_at_0 : (oid : ℕ) (s : Reached) (b : Block) → is_known s.known oid 0 ≡ false → 0 < s.end → is_known (after s b).known oid 0 ≡ false
-unfolding after
+one_block_at_0 : (oid : ℕ) (s : Reached) (b : Block) → is_known s.known oid 0 ≡ false → 0 < s.end → is_known (after_block s b).known oid 0 ≡ false
+unfolding after_block
 one_block_at_0 oid s b h some = none_at_0 oid s.known s.end b.tid (records_from s.end b) b.records h (omega arith)
 
-blocks_at_0 : (oid : ℕ) (s : Reached) (bs : List Block) → is_known s.known oid 0 ≡ false → 0 < s.end → is_known (after_all s bs).known oid 0 ≡ false
+blocks_at_0 : (oid : ℕ) (s : Reached) (bs : List Block) → is_known s.known oid 0 ≡ false → 0 < s.end → is_known (after_blocks s bs).known oid 0 ≡ false
 blocks_at_0 oid s [] h some = h
-blocks_at_0 oid s (b ∷ bs) h some = blocks_at_0 oid (after s b) bs (one_block_at_0 oid s b h some) (omega (arith, after-end s b))
+blocks_at_0 oid s (b ∷ bs) h some = blocks_at_0 oid (after_block s b) bs (one_block_at_0 oid s b h some) (omega (arith, after-end s b))
 
 none_known_at_0 : (bytes : List ℕ) (s : Reached) (oid : ℕ) → Begins bytes s → is_known s.known oid 0 ≡ false
-none_known_at_0 bytes s oid begins = ap (λ (r : Reached). is_known r.known oid 0) begins.is ∙ blocks_at_0 oid start begins.blocks refl (omega arith)
+none_known_at_0 bytes s oid begins = ap (λ (r : Reached). is_known r.known oid 0) begins.is ∙ blocks_at_0 oid file_start begins.blocks refl (omega arith)
 
 -- ---- what is known stays known
 
@@ -166,20 +166,20 @@ abbrev oids : List NewChange → List ℕ
 oids cs = map (λ (c : NewChange). c.oid) cs
 
 abbrev AreSound : Reached → List NewChange → Type 0
-AreSound s cs = All (λ (c : NewChange). IsSound s.list c.oid c.content) cs
+AreSound s cs = All (λ (c : NewChange). NamesRevision s.list c.oid c.content) cs
 
 abbrev AreFilled : List NewChange → Type 0
 AreFilled cs = All (λ (c : NewChange). IsFilled c.content) cs
 
 module _ (bytes : List ℕ) (s : Reached) (entries : List (ℕ × List Place)) (begins : Begins bytes s) (index : ArePlacesOf s.known entries) where
-  earlier_is : (oid serial : ℕ) → IsSound s.list oid (new_content.AsOf serial) → Earlier s oid (earlier_in entries oid serial) (content_as_of oid serial s.list)
+  earlier_is : (oid serial : ℕ) → NamesRevision s.list oid (new_content.AsOf serial) → Earlier s oid (earlier_in entries oid serial) (content_as_of oid serial s.list)
   earlier_is oid serial sound =
       earlier_found s oid serial (last_below (serial + 1) (places_in entries oid)) (revision_at oid serial s.list)
       (subst (λ (ps : List Place). RevisionRead s oid (serial + 1) (last_below (serial + 1) ps)) (sym (index oid)) (revision_read bytes s oid (serial + 1) begins))
       (λ r e. as_of_is_last s.list oid serial r (reading_of bytes s begins).is e) sound
 
   -- what a payload gives is what is voted
-  payload_content : (oid : ℕ) (c : NewContent) (known more : List Known) → known ≡ s.known ++ more → IsSound s.list oid c → content_of known oid (payload_of entries oid c) ≡ voted_content s.list oid c
+  payload_content : (oid : ℕ) (c : NewContent) (known more : List Known) → known ≡ s.known ++ more → NamesRevision s.list oid c → content_of known oid (payload_of entries oid c) ≡ voted_content s.list oid c
   payload_content oid (new_content.Bytes held) known more is sound = refl
   payload_content oid new_content.Absent known more is sound = refl
   payload_content oid (new_content.AsOf serial) known more is sound =
@@ -190,7 +190,7 @@ module _ (bytes : List ℕ) (s : Reached) (entries : List (ℕ × List Place)) (
       ap (λ (b : Bool). cond b Absent (content_at known oid at)) not_0 ∙ ap (λ (ks : List Known). content_at ks oid at) is ∙ content_still s.known more oid at e.known ∙ e.holds
 
   -- and may stand there
-  payload_stands : (oid : ℕ) (c : NewContent) (known more : List Known) → known ≡ s.known ++ more → IsSound s.list oid c → IsFilled c → PayloadFits (payload_of entries oid c) → IsPayload known oid (payload_of entries oid c)
+  payload_stands : (oid : ℕ) (c : NewContent) (known more : List Known) → known ≡ s.known ++ more → NamesRevision s.list oid c → IsFilled c → PayloadFits (payload_of entries oid c) → IsPayload known oid (payload_of entries oid c)
   payload_stands oid (new_content.Bytes held) known more is sound filled fits = (filled, fits)
   payload_stands oid new_content.Absent known more is sound filled fits = (fits, refl)
   payload_stands oid (new_content.AsOf serial) known more is sound filled fits =
@@ -205,8 +205,8 @@ module _ (bytes : List ℕ) (s : Reached) (entries : List (ℕ × List Place)) (
   are_written place tid [] q known more is sound filled room = tt
   are_written place tid (c ∷ cs) q known more is sound filled room =
       let r : Written = written_of entries c in
-      let sound_here = All-head (λ (c : NewChange). IsSound s.list c.oid c.content) c cs sound in
-      let sound_there = All-tail (λ (c : NewChange). IsSound s.list c.oid c.content) c cs sound in (
+      let sound_here = All-head (λ (c : NewChange). NamesRevision s.list c.oid c.content) c cs sound in
+      let sound_there = All-tail (λ (c : NewChange). NamesRevision s.list c.oid c.content) c cs sound in (
         record { oid = room.0.oid; previous = room.0.previous; payload = payload_stands c.oid c.content known more is sound_here (All-head (λ (c : NewChange). IsFilled c.content) c cs filled) room.0.payload },
         are_written place tid cs (q + length (record_text place tid r)) (with_record known tid q r) (more ++ known_at known tid q r ∷ []) (more_known known more (known_at known tid q r) is) sound_there (All-tail (λ (c : NewChange). IsFilled c.content) c cs filled) room.1,
       )
@@ -219,8 +219,8 @@ module _ (bytes : List ℕ) (s : Reached) (entries : List (ℕ × List Place)) (
       let v : Content = content_of known r.oid r.payload in
       let next : ℕ = q + length (record_text place tid r) in
       let others = map (voted_change s.list) cs in
-      let sound_here = All-head (λ (c : NewChange). IsSound s.list c.oid c.content) c cs sound in
-      let sound_there = All-tail (λ (c : NewChange). IsSound s.list c.oid c.content) c cs sound in
+      let sound_here = All-head (λ (c : NewChange). NamesRevision s.list c.oid c.content) c cs sound in
+      let sound_there = All-tail (λ (c : NewChange). NamesRevision s.list c.oid c.content) c cs sound in
       let distinct_there = subst (λ (ks : List ℕ). IsDistinct nat_eq ks) (sym (keys_at_end done c.oid (oids cs) v)) distinct in
       ap (λ (es : List (ℕ × Content)). map as_change (changes_of es (with_record known tid q r) place tid next (map (written_of entries) cs))) (insert_at_end done c.oid (oids cs) v distinct)
       ∙ changes_are place tid cs next (with_record known tid q r) (more ++ known_at known tid q r ∷ []) (done ++ (c.oid, v) ∷ []) (more_known known more (known_at known tid q r) is) sound_there distinct_there

@@ -6,37 +6,37 @@ use Rattle.fs_records.specs.declared.field.Field.{Field}
 use Rattle.fs_records.specs.declared.verdict.Verdict.{Verdict}
 use Rattle.fs_records.specs.declared.verdict.Verdict.TheVariants.{Ends, Tail, Fault, Begun}
 use Rattle.fs_records.specs.Headers.{header_of}
-use Rattle.fs_records.specs.NumberLaws.{IsBytes, IsBytes-drop}
-use Rattle.fs_records.specs.Blocks.{Known, Written, with_records, is_known, Reached, start, after, Begins, magic}
-use Rattle.fs_records.specs.Rules.{Stand, record_at, record_in, verdict}
-use Rattle.fs_records.specs.File.{StandsAs, IsDamaged, head, data_record, RecordFault, data_from, data_to}
+use Rattle.zb_base.specs.Bytes.{AreBytes, AreBytes-drop}
+use Rattle.fs_records.specs.Blocks.{Known, Written, with_records, is_known, Reached, file_start, after_block, Begins, magic}
+use Rattle.fs_records.specs.Rules.{AreRecordsBetween, record_at, record_in, verdict}
+use Rattle.fs_records.specs.File.{IsReadAs, IsDamaged, head, data_record, RecordFault, data_from, data_to}
 use Rattle.fs_records.specs.ScanLaws.{stand_more}
 use Rattle.fs_records.specs.BlockLaws.{judged, block_in, block_takes, begins_more, begins_here, after-end}
 
 abbrev pub RecordsOr : List ℕ → List Known → ℕ → ℕ → ℕ → ℕ → Type 0
-RecordsOr bytes known place tid from end = ((rs : List Written) × Stand bytes known place tid from end rs) ⊎ ((at : ℕ) × (field : Field) × RecordFault bytes known place tid from end at field)
+RecordsOr bytes known place tid from end = ((rs : List Written) × AreRecordsBetween bytes known place tid from end rs) ⊎ ((at : ℕ) × (field : Field) × RecordFault bytes known place tid from end at field)
 
 -- it stands for a list, or is damaged
 abbrev pub FileOr : List ℕ → Type 0
-FileOr bytes = ((s : Reached) × (cut : Option ℕ) × StandsAs bytes s cut) ⊎ ((at : ℕ) × (field : Field) × IsDamaged bytes at field)
+FileOr bytes = ((s : Reached) × (cut : Option ℕ) × IsReadAs bytes s cut) ⊎ ((at : ℕ) × (field : Field) × IsDamaged bytes at field)
 
-module _ (bytes : List ℕ) (fits : IsBytes bytes) where
-  records_step : (fuel : ℕ) (known : List Known) (place tid from end q : ℕ) (rs : List Written) → end ≤ length bytes → q < end → end ≤ q + suc fuel → Stand bytes known place tid from q rs
+module _ (bytes : List ℕ) (fits : AreBytes bytes) where
+  records_step : (fuel : ℕ) (known : List Known) (place tid from end q : ℕ) (rs : List Written) → end ≤ length bytes → q < end → end ≤ q + suc fuel → AreRecordsBetween bytes known place tid from q rs
       → (r : Result (ℕ × ℕ) Field) → record_at (is_known (with_records known place tid from rs)) place tid (end - q) (drop q bytes) ≡ r
-      → ((n : ℕ) (ss : List Written) → n ≤ end → end ≤ n + fuel → Stand bytes known place tid from n ss → RecordsOr bytes known place tid from end) → RecordsOr bytes known place tid from end
+      → ((n : ℕ) (ss : List Written) → n ≤ end → end ≤ n + fuel → AreRecordsBetween bytes known place tid from n ss → RecordsOr bytes known place tid from end) → RecordsOr bytes known place tid from end
   records_step fuel known place tid from end q rs within lt enough stand (Err field) e again = inr (q, field, record { records = rs; stand = stand; before = lt; fault = e })
   records_step fuel known place tid from end q rs within lt enough stand (Ok x) e again =
-      let more = stand_more bytes known place tid from q end x.0 x.1 rs (IsBytes-drop q bytes fits) within (omega arith) stand e in
+      let more = stand_more bytes known place tid from q end x.0 x.1 rs (AreBytes-drop q bytes fits) within (omega arith) stand e in
       again (q + x.1) (rs ++ record_in (drop q bytes) ∷ []) (omega (arith, more.2)) (omega (arith, more.1)) more.0
 
-  records_always : (fuel : ℕ) (known : List Known) (place tid from end q : ℕ) (rs : List Written) → end ≤ length bytes → q ≤ end → end ≤ q + fuel → Stand bytes known place tid from q rs → RecordsOr bytes known place tid from end
+  records_always : (fuel : ℕ) (known : List Known) (place tid from end q : ℕ) (rs : List Written) → end ≤ length bytes → q ≤ end → end ≤ q + fuel → AreRecordsBetween bytes known place tid from q rs → RecordsOr bytes known place tid from end
   records_always zero known place tid from end q rs within order enough stand =
       let same : q ≡ end = omega arith in
-      inl (rs, subst (λ (n : ℕ). Stand bytes known place tid from n rs) same stand)
+      inl (rs, subst (λ (n : ℕ). AreRecordsBetween bytes known place tid from n rs) same stand)
   records_always (suc fuel) known place tid from end q rs within order enough stand =
       elim (cases_lt q end) [
         | inl lt ↦ records_step fuel known place tid from end q rs within lt enough stand (record_at (is_known (with_records known place tid from rs)) place tid (end - q) (drop q bytes)) refl (λ n ss o f st. records_always fuel known place tid from end n ss within o f st)
-        | inr le ↦ (let same : q ≡ end = omega arith in inl (rs, subst (λ (n : ℕ). Stand bytes known place tid from n rs) same stand))
+        | inr le ↦ (let same : q ≡ end = omega arith in inl (rs, subst (λ (n : ℕ). AreRecordsBetween bytes known place tid from n rs) same stand))
       ]
 
   module _ (short : length bytes < 2 ^ 64) where
@@ -52,7 +52,7 @@ module _ (bytes : List ℕ) (fits : IsBytes bytes) where
         let records = records_always (length bytes) s.known s.end (header_of rest).tid (data_from bytes s.end) (data_to bytes s.end) (data_from bytes s.end) [] (omega (arith, j.long, left)) (omega (arith, j.texts_fit)) (omega (arith, j.long, left)) (record { written = tt; parts = refl; next = omega arith }) in
         elim records [
           | inr f ↦ inr (f.0, f.1, record { reached = s; begins = begins; fault = data_record e f.2 })
-          | inl r ↦ (let t = block_takes bytes s r.0 (omega arith) fits e r.1 in let b = block_in rest r.0 in again (after s b) (omega (arith, after-end s b)) (omega (arith, after-end s b, t.length_is, j.long, left)) (begins_more bytes s b begins t))
+          | inl r ↦ (let t = block_takes bytes s r.0 (omega arith) fits e r.1 in let b = block_in rest r.0 in again (after_block s b) (omega (arith, after-end s b)) (omega (arith, after-end s b, t.length_is, j.long, left)) (begins_more bytes s b begins t))
         ]
 
     blocks_always : (fuel : ℕ) (s : Reached) → Begins bytes s → s.end ≤ length bytes → length bytes ≤ s.end + fuel → FileOr bytes
@@ -61,4 +61,4 @@ module _ (bytes : List ℕ) (fits : IsBytes bytes) where
 
     -- what begins as a file does stands for a list or is damaged
     pub file_or_damage : 4 ≤ length bytes → take 4 bytes ≡ magic → FileOr bytes
-    file_or_damage long is = blocks_always (length bytes) start (begins_here bytes is) (omega arith) (omega arith)
+    file_or_damage long is = blocks_always (length bytes) file_start (begins_here bytes is) (omega arith) (omega arith)

@@ -4,7 +4,7 @@ use Rattle.std.specs.Prelude.{option_map, ◌&&◌}
 use Rattle.std.specs.List.{last_or}
 use Rattle.fs_records.specs.declared.place.Place.{Place}
 use Rattle.fs_records.specs.Blocks.{Known, Reached}
-use Rattle.fs_records.specs.Places.{Kept, place_of, is_of, is_below, is_of_below, places_in, last_below, record_below, IsIndexOf}
+use Rattle.fs_records.specs.Places.{Kept, place_of, is_of, is_place_below, is_of_below, places_in, last_below, record_below, IsIndexOf}
 
 -- the last of the images is the image of the last
 last_map : {A B : Type 0} (f : A → B) (o : Option A) (xs : List A) → last_or (option_map f o) (map f xs) ≡ option_map f (last_or o xs)
@@ -12,21 +12,21 @@ last_map f o [] = refl
 last_map f o (x ∷ xs) = last_map f (Some x) xs
 
 -- an object's places below a front are those of its records below it
-places_below : (oid front : ℕ) (ks : List Known) → filter (is_below front) (map place_of (filter (is_of oid) ks)) ≡ map place_of (filter (is_of_below oid front) ks)
+places_below : (oid front : ℕ) (ks : List Known) → filter (is_place_below front) (map place_of (filter (is_of oid) ks)) ≡ map place_of (filter (is_of_below oid front) ks)
 places_below oid front [] = refl
 places_below oid front (k ∷ ks) = by_cases (eqb oid k.oid) (places_below oid front ks)
   where
-    inside : (b : Bool) → filter (is_below front) (map place_of (filter (is_of oid) ks)) ≡ map place_of (filter (is_of_below oid front) ks)
-        → cond b (place_of k ∷ filter (is_below front) (map place_of (filter (is_of oid) ks))) (filter (is_below front) (map place_of (filter (is_of oid) ks))) ≡ map place_of (cond b (k ∷ filter (is_of_below oid front) ks) (filter (is_of_below oid front) ks))
+    inside : (b : Bool) → filter (is_place_below front) (map place_of (filter (is_of oid) ks)) ≡ map place_of (filter (is_of_below oid front) ks)
+        → cond b (place_of k ∷ filter (is_place_below front) (map place_of (filter (is_of oid) ks))) (filter (is_place_below front) (map place_of (filter (is_of oid) ks))) ≡ map place_of (cond b (k ∷ filter (is_of_below oid front) ks) (filter (is_of_below oid front) ks))
     inside true e = ap (λ (ps : List Place). place_of k ∷ ps) e
     inside false e = e
 
-    by_cases : (a : Bool) → filter (is_below front) (map place_of (filter (is_of oid) ks)) ≡ map place_of (filter (is_of_below oid front) ks)
-        → filter (is_below front) (map place_of (cond a (k ∷ filter (is_of oid) ks) (filter (is_of oid) ks))) ≡ map place_of (cond (a && ltb k.tid front) (k ∷ filter (is_of_below oid front) ks) (filter (is_of_below oid front) ks))
+    by_cases : (a : Bool) → filter (is_place_below front) (map place_of (filter (is_of oid) ks)) ≡ map place_of (filter (is_of_below oid front) ks)
+        → filter (is_place_below front) (map place_of (cond a (k ∷ filter (is_of oid) ks) (filter (is_of oid) ks))) ≡ map place_of (cond (a && ltb k.tid front) (k ∷ filter (is_of_below oid front) ks) (filter (is_of_below oid front) ks))
     by_cases true e = inside (ltb k.tid front) e
     by_cases false e = e
 
 pub below_is : (s : Reached) (kept : Kept) (oid front : ℕ) → IsIndexOf s kept → last_below front (places_in kept.entries oid) ≡ option_map place_of (record_below oid front s.known)
 unfolding last_below
 below_is s kept oid front is =
-    ap (λ (ps : List Place). last_or None (filter (is_below front) ps)) (is.records oid) ∙ ap (λ (ps : List Place). last_or None ps) (places_below oid front s.known) ∙ last_map place_of None (filter (is_of_below oid front) s.known)
+    ap (λ (ps : List Place). last_or None (filter (is_place_below front) ps)) (is.records oid) ∙ ap (λ (ps : List Place). last_or None ps) (places_below oid front s.known) ∙ last_map place_of None (filter (is_of_below oid front) s.known)

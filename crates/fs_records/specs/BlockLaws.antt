@@ -8,11 +8,12 @@ use Rattle.fs_records.specs.declared.field.Field.TheVariants.{Status, Length, Cl
 use Rattle.fs_records.specs.declared.verdict.Verdict.{Verdict}
 use Rattle.fs_records.specs.declared.verdict.Verdict.TheVariants.{Ends, Tail, Fault, Begun}
 use Rattle.fs_records.specs.Numbers.{number, number_in}
-use Rattle.fs_records.specs.NumberLaws.{IsBytes, IsBytes-drop, IsBytes-take, number_back_8}
+use Rattle.fs_records.specs.NumberLaws.{number_back_8}
 use Rattle.fs_records.specs.Headers.{header_text, header_of}
 use Rattle.fs_records.specs.HeaderLaws.{header_small, header_split, header_from}
-use Rattle.fs_records.specs.Blocks.{Written, AreWritten, records_text, Block, Reached, start, texts, records_from, length_of, header_for, block_text, after, IsBlock, AreBlocks, blocks_text, after_all, Begins, magic}
-use Rattle.fs_records.specs.Rules.{Stand, texts_length, verdict}
+use Rattle.fs_records.specs.Blocks.{Written, AreWritten, records_text, Block, Reached, file_start, texts, records_from, length_of, header_for, block_text, after_block, IsBlock, AreBlocks, blocks_text, after_blocks, Begins, magic}
+use Rattle.fs_records.specs.Rules.{AreRecordsBetween, texts_length, verdict}
+use Rattle.zb_base.specs.Bytes.{AreBytes, AreBytes-drop, AreBytes-take}
 
 past : (b : Bool) (v r : Verdict) → (v ≡ Begun → ⊥) → cond b v r ≡ Begun → (b ≡ false) × (r ≡ Begun)
 past true v r apart h = absurd (apart h)
@@ -79,8 +80,8 @@ three_texts u d e tail =
     sym (take-append-drop u tail) ∙ ap (λ (x : List ℕ). take u tail ++ x) (sym (take-append-drop d t1) ∙ ap (λ (x : List ℕ). take d t1 ++ x) (sym (take-append-drop e t2))) in
     whole ∙ ap (λ (x : List ℕ). take u tail ++ (take d t1 ++ (take e t2 ++ x))) (sym behind) ∙ ap (λ (x : List ℕ). take u tail ++ x) (sym (append_assoc (take d t1) (take e t2) (drop (u + d + e) tail))) ∙ sym (append_assoc (take u tail) (take d t1 ++ take e t2) (drop (u + d + e) tail))
 
-pub block_takes : (bytes : List ℕ) (s : Reached) (rs : List Written) → s.end < 2 ^ 64 → IsBytes bytes → verdict s.newest (drop s.end bytes) ≡ Begun
-    → Stand bytes s.known s.end (header_of (drop s.end bytes)).tid (s.end + (23 + texts_length (header_of (drop s.end bytes)))) (s.end + (header_of (drop s.end bytes)).length) rs
+pub block_takes : (bytes : List ℕ) (s : Reached) (rs : List Written) → s.end < 2 ^ 64 → AreBytes bytes → verdict s.newest (drop s.end bytes) ≡ Begun
+    → AreRecordsBetween bytes s.known s.end (header_of (drop s.end bytes)).tid (s.end + (23 + texts_length (header_of (drop s.end bytes)))) (s.end + (header_of (drop s.end bytes)).length) rs
     → BlockTaken s (drop s.end bytes) (block_in (drop s.end bytes) rs)
 unfolding block_text
 block_takes bytes s rs place_small fits begun stand =
@@ -90,7 +91,7 @@ block_takes bytes s rs place_small fits begun stand =
     let b : Block = block_in rest rs in
     let j = judged s.newest rest begun in
     let tail : List ℕ = drop 23 rest in
-    let rest_fits : IsBytes rest = IsBytes-drop p bytes fits in
+    let rest_fits : AreBytes rest = AreBytes-drop p bytes fits in
     let tail_long : texts_length h ≤ length tail = omega (arith, length-drop 23 rest, j.long, j.texts_fit) in
     let u_is : length b.user ≡ h.user = length-take-le h.user tail (omega arith) in
     let d_is : length b.description ≡ h.description = length-take-le h.description (drop h.user tail) (omega (arith, length-drop h.user tail)) in
@@ -101,7 +102,7 @@ block_takes bytes s rs place_small fits begun stand =
     let length_is : length_of p b ≡ h.length = omega (arith, stand.next) in
     let header_is : header_for p b ≡ h = header_from h refl length_is refl u_is d_is e_is in
     let closing_is : drop h.length rest ≡ number 8 (length_of p b) ++ drop (h.length + 8) rest =
-    let back : number 8 (number_in 8 (drop h.length rest)) ≡ take 8 (drop h.length rest) = number_back_8 (drop h.length rest) (omega (arith, length-drop h.length rest, j.long)) (IsBytes-drop h.length rest rest_fits) in
+    let back : number 8 (number_in 8 (drop h.length rest)) ≡ take 8 (drop h.length rest) = number_back_8 (drop h.length rest) (omega (arith, length-drop h.length rest, j.long)) (AreBytes-drop h.length rest rest_fits) in
     sym (take-append-drop 8 (drop h.length rest)) ∙ ap (λ (x : List ℕ). x ++ drop 8 (drop h.length rest)) (sym back ∙ ap (number 8) (j.closing ∙ sym length_is)) ∙ ap (λ (x : List ℕ). number 8 (length_of p b) ++ x) (drop-drop 8 h.length rest) in
     let records_are : drop (texts_length h) tail ≡ text ++ drop h.length rest =
     drop-drop (texts_length h) 23 rest ∙ drop-drop (23 + texts_length h) p bytes ∙ stand.parts ∙ ap (λ (x : List ℕ). text ++ x) (sym (drop-drop h.length p bytes)) in
@@ -118,7 +119,7 @@ block_takes bytes s rs place_small fits begun stand =
     record {
       length_is = length_is;
       from_is = from_is;
-      parts = header_split rest j.some (IsBytes-take 23 rest rest_fits) ∙ ap (λ (x : List ℕ). header_text h ++ x) body ∙ ap (λ (x : Header). header_text x ++ (texts b ++ (text ++ (number 8 (length_of p b) ++ after_it)))) (sym header_is) ∙ regroup;
+      parts = header_split rest j.some (AreBytes-take 23 rest rest_fits) ∙ ap (λ (x : List ℕ). header_text h ++ x) body ∙ ap (λ (x : Header). header_text x ++ (texts b ++ (text ++ (number 8 (length_of p b) ++ after_it)))) (sym header_is) ∙ regroup;
       is = record {
         place = place_small;
         above = j.above;
@@ -134,35 +135,35 @@ block_takes bytes s rs place_small fits begun stand =
 
 -- ---- one block more
 
-AreBlocks-push : (s : Reached) (bs : List Block) (b : Block) → AreBlocks s bs → IsBlock (after_all s bs) b → AreBlocks s (bs ++ b ∷ [])
+AreBlocks-push : (s : Reached) (bs : List Block) (b : Block) → AreBlocks s bs → IsBlock (after_blocks s bs) b → AreBlocks s (bs ++ b ∷ [])
 AreBlocks-push s [] b h one = (one, tt)
-AreBlocks-push s (x ∷ xs) b h one = (h.0, AreBlocks-push (after s x) xs b h.1 one)
+AreBlocks-push s (x ∷ xs) b h one = (h.0, AreBlocks-push (after_block s x) xs b h.1 one)
 
-after_all-push : (s : Reached) (bs : List Block) (b : Block) → after_all s (bs ++ b ∷ []) ≡ after (after_all s bs) b
+after_all-push : (s : Reached) (bs : List Block) (b : Block) → after_blocks s (bs ++ b ∷ []) ≡ after_block (after_blocks s bs) b
 after_all-push s [] b = refl
-after_all-push s (x ∷ xs) b = after_all-push (after s x) xs b
+after_all-push s (x ∷ xs) b = after_all-push (after_block s x) xs b
 
-blocks_text-push : (s : Reached) (bs : List Block) (b : Block) → blocks_text s (bs ++ b ∷ []) ≡ blocks_text s bs ++ block_text (after_all s bs).end b
+blocks_text-push : (s : Reached) (bs : List Block) (b : Block) → blocks_text s (bs ++ b ∷ []) ≡ blocks_text s bs ++ block_text (after_blocks s bs).end b
 blocks_text-push s [] b = append-nil (block_text s.end b)
-blocks_text-push s (x ∷ xs) b = ap (λ (t : List ℕ). block_text s.end x ++ t) (blocks_text-push (after s x) xs b) ∙ sym (append_assoc (block_text s.end x) (blocks_text (after s x) xs) (block_text (after_all (after s x) xs).end b))
+blocks_text-push s (x ∷ xs) b = ap (λ (t : List ℕ). block_text s.end x ++ t) (blocks_text-push (after_block s x) xs b) ∙ sym (append_assoc (block_text s.end x) (blocks_text (after_block s x) xs) (block_text (after_blocks (after_block s x) xs).end b))
 
-pub after-end : (s : Reached) (b : Block) → (after s b).end ≡ s.end + (length_of s.end b + 8)
-unfolding after
+pub after-end : (s : Reached) (b : Block) → (after_block s b).end ≡ s.end + (length_of s.end b + 8)
+unfolding after_block
 after-end s b = refl
 
-pub begins_more : (bytes : List ℕ) (s : Reached) (b : Block) → Begins bytes s → BlockTaken s (drop s.end bytes) b → Begins bytes (after s b)
+pub begins_more : (bytes : List ℕ) (s : Reached) (b : Block) → Begins bytes s → BlockTaken s (drop s.end bytes) b → Begins bytes (after_block s b)
 begins_more bytes s b so_far t =
     let bs = so_far.blocks in
     let rest = drop s.end bytes in
     let n = (header_of rest).length + 8 in
-    let behind : drop n rest ≡ drop (after s b).end bytes = drop-drop n s.end bytes ∙ ap (λ (k : ℕ). drop k bytes) (ap (λ (l : ℕ). s.end + (l + 8)) (sym t.length_is) ∙ sym (after-end s b)) in
-    let text_is : blocks_text start (bs ++ b ∷ []) ≡ blocks_text start bs ++ block_text s.end b = blocks_text-push start bs b ∙ ap (λ (x : Reached). blocks_text start bs ++ block_text x.end b) (sym so_far.is) in
+    let behind : drop n rest ≡ drop (after_block s b).end bytes = drop-drop n s.end bytes ∙ ap (λ (k : ℕ). drop k bytes) (ap (λ (l : ℕ). s.end + (l + 8)) (sym t.length_is) ∙ sym (after-end s b)) in
+    let text_is : blocks_text file_start (bs ++ b ∷ []) ≡ blocks_text file_start bs ++ block_text s.end b = blocks_text-push file_start bs b ∙ ap (λ (x : Reached). blocks_text file_start bs ++ block_text x.end b) (sym so_far.is) in
     record {
       blocks = bs ++ b ∷ [];
-      are = AreBlocks-push start bs b so_far.are (subst (λ (x : Reached). IsBlock x b) so_far.is t.is);
-      parts = so_far.parts ∙ ap (λ (x : List ℕ). magic ++ x) (ap (λ (x : List ℕ). blocks_text start bs ++ x) (t.parts ∙ ap (λ (x : List ℕ). block_text s.end b ++ x) behind) ∙ sym (append_assoc (blocks_text start bs) (block_text s.end b) (drop (after s b).end bytes)) ∙ ap (λ (x : List ℕ). x ++ drop (after s b).end bytes) (sym text_is));
-      is = ap (λ (x : Reached). after x b) so_far.is ∙ sym (after_all-push start bs b);
+      are = AreBlocks-push file_start bs b so_far.are (subst (λ (x : Reached). IsBlock x b) so_far.is t.is);
+      parts = so_far.parts ∙ ap (λ (x : List ℕ). magic ++ x) (ap (λ (x : List ℕ). blocks_text file_start bs ++ x) (t.parts ∙ ap (λ (x : List ℕ). block_text s.end b ++ x) behind) ∙ sym (append_assoc (blocks_text file_start bs) (block_text s.end b) (drop (after_block s b).end bytes)) ∙ ap (λ (x : List ℕ). x ++ drop (after_block s b).end bytes) (sym text_is));
+      is = ap (λ (x : Reached). after_block x b) so_far.is ∙ sym (after_all-push file_start bs b);
     }
 
-pub begins_here : (bytes : List ℕ) → take 4 bytes ≡ magic → Begins bytes start
+pub begins_here : (bytes : List ℕ) → take 4 bytes ≡ magic → Begins bytes file_start
 begins_here bytes e = record { blocks = []; are = tt; parts = sym (take-append-drop 4 bytes) ∙ ap (λ (x : List ℕ). x ++ drop 4 bytes) e; is = refl }

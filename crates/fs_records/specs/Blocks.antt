@@ -133,8 +133,8 @@ abbrev pub magic : List ℕ
 magic = codes "FS30"
 
 -- behind them nothing was read yet
-abbrev pub start : Reached
-start = record { end = 4; newest = 0; known = []; list = []; starts = [] }
+abbrev pub file_start : Reached
+file_start = record { end = 4; newest = 0; known = []; list = []; starts = [] }
 
 -- the transaction of the list that a block is, behind what was read
 abbrev pub transaction_of : Reached → Block → Transaction
@@ -148,8 +148,8 @@ transaction_of s b = record {
 }
 
 -- with one transaction more
-unfoldable pub after : Reached → Block → Reached
-after s b = record {
+unfoldable pub after_block : Reached → Block → Reached
+after_block s b = record {
   end = s.end + (length_of s.end b + 8);
   newest = b.tid;
   known = with_records s.known s.end b.tid (records_from s.end b) b.records;
@@ -165,7 +165,7 @@ IsPayload known oid (Full bytes) = (0 < length bytes) × (length bytes < 2 ^ 64)
 IsPayload known oid (From place) = (place < 2 ^ 64) × ((place == 0 || is_known known oid place) ≡ true)
 
 -- a data record behind these
-pub record IsWritten (known : List Known) (r : Written) : Type 0 where
+pub record IsWrittenRecord (known : List Known) (r : Written) : Type 0 where
   pub oid : r.oid < 2 ^ 64
   pub previous : r.previous < 2 ^ 64
   pub payload : IsPayload known r.oid r.payload
@@ -173,7 +173,7 @@ pub record IsWritten (known : List Known) (r : Written) : Type 0 where
 -- data records from q on, each behind those before it
 abbrev pub AreWritten : List Known → ℕ → ℕ → ℕ → List Written → Type 0
 AreWritten known place tid q [] = Unit {0}
-AreWritten known place tid q (r ∷ rs) = IsWritten known r × AreWritten (with_record known tid q r) place tid (q + length (record_text place tid r)) rs
+AreWritten known place tid q (r ∷ rs) = IsWrittenRecord known r × AreWritten (with_record known tid q r) place tid (q + length (record_text place tid r)) rs
 
 -- A block may come next: its status is committed or packed, its tid is above the last and below 2^64-1, its numbers have room in their fields, and its data records may stand there.
 pub record IsBlock (s : Reached) (b : Block) : Type 0 where
@@ -190,19 +190,19 @@ pub record IsBlock (s : Reached) (b : Block) : Type 0 where
 -- blocks, each behind those before it
 abbrev pub AreBlocks : Reached → List Block → Type 0
 AreBlocks s [] = Unit {0}
-AreBlocks s (b ∷ bs) = IsBlock s b × AreBlocks (after s b) bs
+AreBlocks s (b ∷ bs) = IsBlock s b × AreBlocks (after_block s b) bs
 
 abbrev pub blocks_text : Reached → List Block → List ℕ
 blocks_text s [] = []
-blocks_text s (b ∷ bs) = block_text s.end b ++ blocks_text (after s b) bs
+blocks_text s (b ∷ bs) = block_text s.end b ++ blocks_text (after_block s b) bs
 
-abbrev pub after_all : Reached → List Block → Reached
-after_all s [] = s
-after_all s (b ∷ bs) = after_all (after s b) bs
+abbrev pub after_blocks : Reached → List Block → Reached
+after_blocks s [] = s
+after_blocks s (b ∷ bs) = after_blocks (after_block s b) bs
 
 -- the bytes begin as a file with blocks up to what was reached
 pub record Begins (bytes : List ℕ) (s : Reached) : Type 0 where
   pub blocks : List Block
-  pub are : AreBlocks start blocks
-  pub parts : bytes ≡ magic ++ (blocks_text start blocks ++ drop s.end bytes)
-  pub is : s ≡ after_all start blocks
+  pub are : AreBlocks file_start blocks
+  pub parts : bytes ≡ magic ++ (blocks_text file_start blocks ++ drop s.end bytes)
+  pub is : s ≡ after_blocks file_start blocks

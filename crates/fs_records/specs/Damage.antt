@@ -8,7 +8,7 @@ use Rattle.fs_records.specs.Blocks.{Written, Known, AreWritten, with_record, wit
 use Rattle.fs_records.specs.Rules.{record_at}
 use Rattle.fs_records.specs.File.{IsFault, head, data_record, IsDamaged, data_from, data_to}
 use Rattle.fs_records.specs.Headers.{header_of}
-use Rattle.fs_records.specs.NumberLaws.{IsBytes, IsBytes-drop}
+use Rattle.zb_base.specs.Bytes.{AreBytes, AreBytes-drop}
 use Rattle.fs_records.specs.HeaderLaws.{header_small}
 use Rattle.fs_records.specs.BlockLaws.{judged}
 use Rattle.fs_records.specs.RecordLaws.{record_again}
@@ -57,20 +57,20 @@ one_fault known place tid q at bt end f g (r ∷ rs) (s ∷ ss) x y p t hr hs e 
     (omega (arith, b, len, length-append (record_text place tid s) (records_text place tid ss)))
     la lb fx fy_too
 
-faults_same : (bytes : List ℕ) (s : Reached) (a b : ℕ) (f g : Field) → IsBytes bytes → length bytes < 2 ^ 64 → IsFault bytes s a f → IsFault bytes s b g → (a ≡ b) × (f ≡ g)
+faults_same : (bytes : List ℕ) (s : Reached) (a b : ℕ) (f g : Field) → AreBytes bytes → length bytes < 2 ^ 64 → IsFault bytes s a f → IsFault bytes s b g → (a ≡ b) × (f ≡ g)
 faults_same bytes s a b f g fits short (head va pa) (head vb pb) = (pa ∙ sym pb, same_fault f g (sym va ∙ vb))
 faults_same bytes s a b f g fits short (head va pa) (data_record vb rb) = absurd (cc (va, vb))
 faults_same bytes s a b f g fits short (data_record va ra) (head vb pb) = absurd (cc (va, vb))
 faults_same bytes s a b f g fits short (data_record va ra) (data_record vb rb) =
     let rest = drop s.end bytes in
     let j = judged s.newest rest va in
-    let small = header_small rest (IsBytes-drop s.end bytes fits) in
+    let small = header_small rest (AreBytes-drop s.end bytes fits) in
     let tid_small = small.tid in
     one_fault s.known s.end (header_of rest).tid (data_from bytes s.end) a b (data_to bytes s.end) f g ra.records rb.records (drop a bytes) (drop b bytes) (omega (arith, j.some, length-drop s.end bytes)) (omega (arith, tid_small)) ra.stand.written rb.stand.written
     (sym ra.stand.parts ∙ rb.stand.parts) ra.stand.next rb.stand.next ra.before rb.before ra.fault rb.fault
 
 -- damaged at one place, by one rule
-pub one_damage : (bytes : List ℕ) (a b : ℕ) (f g : Field) → IsBytes bytes → length bytes < 2 ^ 64 → IsDamaged bytes a f → IsDamaged bytes b g → (a ≡ b) × (f ≡ g)
+pub one_damage : (bytes : List ℕ) (a b : ℕ) (f g : Field) → AreBytes bytes → length bytes < 2 ^ 64 → IsDamaged bytes a f → IsDamaged bytes b g → (a ≡ b) × (f ≡ g)
 one_damage bytes a b f g fits short da db =
     let same = reached_same bytes da.reached db.reached da.begins db.begins (fault_stops bytes da.reached a f da.fault) (fault_stops bytes db.reached b g db.fault) in
     faults_same bytes db.reached a b f g fits short (subst (λ (r : Reached). IsFault bytes r a f) same da.fault) db.fault

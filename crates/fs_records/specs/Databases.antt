@@ -12,7 +12,7 @@ use Rattle.zb_model.specs.declared.data.Transaction.{Transaction}
 use Rattle.zb_model.specs.Database.{IsDatabase, newest_tid}
 use Rattle.zb_model.specs.VotingLaws.{database-push, newest-push}
 use Rattle.fs_records.specs.declared.place.Place.{Place}
-use Rattle.fs_records.specs.Blocks.{Known, Written, record_text, content_of, with_record, changes_of, as_change, Reached, start, transaction_of, after, records_from, Block, IsBlock, AreBlocks, after_all, Begins}
+use Rattle.fs_records.specs.Blocks.{Known, Written, record_text, content_of, with_record, changes_of, as_change, Reached, file_start, transaction_of, after_block, records_from, Block, IsBlock, AreBlocks, after_blocks, Begins}
 use Rattle.fs_records.specs.File.{StandsFor, no_bytes, a_file}
 
 -- ---- no object twice in a transaction
@@ -58,28 +58,28 @@ pub record IsReading (s : Reached) : Type 0 where
   pub newest : newest_tid s.list ≡ s.newest
   pub starts : map (λ p. p.serial) s.starts ≡ map (λ t. t.tid) s.list
 
-reading_start : IsReading start
+reading_start : IsReading file_start
 reading_start = record {
   is = record { rising = λ k l. absurd (omega arith); bounded = omega arith; distinct = λ k d l. absurd (omega arith) };
   newest = refl;
   starts = refl;
 }
 
-pub reading_more : (s : Reached) (b : Block) → IsReading s → IsBlock s b → IsReading (after s b)
-unfolding after
+pub reading_more : (s : Reached) (b : Block) → IsReading s → IsBlock s b → IsReading (after_block s b)
+unfolding after_block
 reading_more s b r block = record {
   is = database-push s.list (transaction_of s b) r.is (omega (arith, r.newest, block.above)) block.below (distinct_oids s b);
   newest = newest-push s.list (transaction_of s b);
   starts = map-append (λ (p : Place). p.serial) s.starts (record { serial = b.tid; at = s.end } ∷ []) ∙ ap (λ (ns : List ℕ). ns ++ b.tid ∷ []) r.starts ∙ sym (map-append (λ (x : Transaction). x.tid) s.list (transaction_of s b ∷ []));
 }
 
-readings : (s : Reached) (bs : List Block) → IsReading s → AreBlocks s bs → IsReading (after_all s bs)
+readings : (s : Reached) (bs : List Block) → IsReading s → AreBlocks s bs → IsReading (after_blocks s bs)
 readings s [] r h = r
-readings s (b ∷ bs) r h = readings (after s b) bs (reading_more s b r h.0) h.1
+readings s (b ∷ bs) r h = readings (after_block s b) bs (reading_more s b r h.0) h.1
 
 -- what bytes begin as
 pub reading_of : (bytes : List ℕ) (s : Reached) → Begins bytes s → IsReading s
-reading_of bytes s begins = subst (λ (r : Reached). IsReading r) (sym begins.is) (readings start begins.blocks reading_start begins.are)
+reading_of bytes s begins = subst (λ (r : Reached). IsReading r) (sym begins.is) (readings file_start begins.blocks reading_start begins.are)
 
 -- and what they stand for
 pub database_of : (bytes : List ℕ) (list : List Transaction) (cut : Option ℕ) → StandsFor bytes list cut → IsDatabase list

@@ -5,7 +5,7 @@ use Rattle.fs_records.specs.declared.field.Field.{Field}
 use Rattle.fs_records.specs.declared.verdict.Verdict.TheVariants.{Ends, Tail, Fault, Begun}
 use Rattle.fs_records.specs.Headers.{header_of}
 use Rattle.fs_records.specs.Blocks.{Written, Known, is_known, with_records, Reached, magic, Begins}
-use Rattle.fs_records.specs.Rules.{verdict, texts_length, record_at, Stand}
+use Rattle.fs_records.specs.Rules.{verdict, texts_length, record_at, AreRecordsBetween}
 
 -- what stands behind the blocks is a transaction that was never finished
 abbrev pub IsTail : ℕ → List ℕ → Type 0
@@ -17,14 +17,14 @@ EndsAt bytes s None = verdict s.newest (drop s.end bytes) ≡ Ends
 EndsAt bytes s (Some at) = IsTail s.newest (drop s.end bytes) × (at ≡ s.end)
 
 -- the bytes are `FS30`, blocks, and then nothing or a tail; s is what is read of them
-pub record StandsAs (bytes : List ℕ) (s : Reached) (cut : Option ℕ) : Type 0 where
+pub record IsReadAs (bytes : List ℕ) (s : Reached) (cut : Option ℕ) : Type 0 where
   pub begins : Begins bytes s
   pub ends : EndsAt bytes s cut
 
 -- the bytes stand for a list of transactions, with the place where a tail is cut off; no bytes at all stand for the empty list
 pub data StandsFor (bytes : List ℕ) (list : List Transaction) (cut : Option ℕ) : Type 0 where
   no_bytes : bytes ≡ [] → list ≡ [] → cut ≡ None → StandsFor bytes list cut
-  a_file : (s : Reached) → StandsAs bytes s cut → list ≡ s.list → StandsFor bytes list cut
+  a_file : (s : Reached) → IsReadAs bytes s cut → list ≡ s.list → StandsFor bytes list cut
 
 -- there are bytes, and the first four aren't `FS30`, or there are fewer
 abbrev pub IsNoFile : List ℕ → Type 0
@@ -35,7 +35,7 @@ IsNoFile bytes = (bytes ≢ []) × (take 4 bytes ≢ magic)
 -- data records stand up to `at`, and the first rule that fails there is that of the field
 pub record RecordFault (bytes : List ℕ) (known : List Known) (place tid from end at : ℕ) (field : Field) : Type 0 where
   pub records : List Written
-  pub stand : Stand bytes known place tid from at records
+  pub stand : AreRecordsBetween bytes known place tid from at records
   pub before : at < end
   pub fault : record_at (is_known (with_records known place tid from records)) place tid (end - at) (drop at bytes) ≡ Err field
 

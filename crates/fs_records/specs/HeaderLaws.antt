@@ -4,29 +4,30 @@ use Rattle.std.proofs.lemmas.List.{length-take, length-drop, length-append, take
 use Rattle.fs_records.specs.declared.header.Header.{Header}
 use Rattle.fs_records.specs.declared.header.DataHeader.{DataHeader}
 use Rattle.fs_records.specs.Numbers.{number, number_in}
-use Rattle.fs_records.specs.NumberLaws.{IsBytes, IsBytes-drop, length-number, number_in-number, number_in-take, number_in-lt, number_back_8, number_back_2}
+use Rattle.fs_records.specs.NumberLaws.{length-number, number_in-number, number_in-take, number_in-lt, number_back_8, number_back_2}
 use Rattle.fs_records.specs.Headers.{header_text, header_of, data_header_text, data_header_of}
+use Rattle.zb_base.specs.Bytes.{AreBytes, AreBytes-drop}
 
 -- the first n bytes from k on, and the rest
 split_at : (k n m : ℕ) (bytes : List ℕ) → k + n ≡ m → take n (drop k bytes) ++ drop m bytes ≡ drop k bytes
 split_at k n m bytes e = rw (← e) (ap (λ (x : List ℕ). take n (drop k bytes) ++ x) (sym (drop-drop n k bytes)) ∙ take-append-drop n (drop k bytes))
 
 -- what the numbers of these widths from k on are
-eight : (k m : ℕ) (bytes rest : List ℕ) → k + 8 ≡ m → m ≤ length bytes → IsBytes bytes → rest ≡ drop m bytes → number 8 (number_in 8 (drop k bytes)) ++ rest ≡ drop k bytes
+eight : (k m : ℕ) (bytes rest : List ℕ) → k + 8 ≡ m → m ≤ length bytes → AreBytes bytes → rest ≡ drop m bytes → number 8 (number_in 8 (drop k bytes)) ++ rest ≡ drop k bytes
 eight k m bytes rest e long fits is =
-    rw (number_back_8 (drop k bytes) (omega (arith, length-drop k bytes)) (IsBytes-drop k bytes fits), is) (split_at k 8 m bytes e)
+    rw (number_back_8 (drop k bytes) (omega (arith, length-drop k bytes)) (AreBytes-drop k bytes fits), is) (split_at k 8 m bytes e)
 
-two : (k m : ℕ) (bytes rest : List ℕ) → k + 2 ≡ m → m ≤ length bytes → IsBytes bytes → rest ≡ drop m bytes → number 2 (number_in 2 (drop k bytes)) ++ rest ≡ drop k bytes
+two : (k m : ℕ) (bytes rest : List ℕ) → k + 2 ≡ m → m ≤ length bytes → AreBytes bytes → rest ≡ drop m bytes → number 2 (number_in 2 (drop k bytes)) ++ rest ≡ drop k bytes
 two k m bytes rest e long fits is =
-    rw (number_back_2 (drop k bytes) (omega (arith, length-drop k bytes)) (IsBytes-drop k bytes fits), is) (split_at k 2 m bytes e)
+    rw (number_back_2 (drop k bytes) (omega (arith, length-drop k bytes)) (AreBytes-drop k bytes fits), is) (split_at k 2 m bytes e)
 
-last_two : (k : ℕ) (bytes : List ℕ) → k + 2 ≡ length bytes → IsBytes bytes → number 2 (number_in 2 (drop k bytes)) ≡ drop k bytes
-last_two k bytes e fits = number_back_2 (drop k bytes) (omega (arith, length-drop k bytes)) (IsBytes-drop k bytes fits) ∙ take_all 2 (drop k bytes) (omega (arith, length-drop k bytes))
+last_two : (k : ℕ) (bytes : List ℕ) → k + 2 ≡ length bytes → AreBytes bytes → number 2 (number_in 2 (drop k bytes)) ≡ drop k bytes
+last_two k bytes e fits = number_back_2 (drop k bytes) (omega (arith, length-drop k bytes)) (AreBytes-drop k bytes fits) ∙ take_all 2 (drop k bytes) (omega (arith, length-drop k bytes))
 
-last_eight : (k : ℕ) (bytes : List ℕ) → k + 8 ≡ length bytes → IsBytes bytes → number 8 (number_in 8 (drop k bytes)) ≡ drop k bytes
-last_eight k bytes e fits = number_back_8 (drop k bytes) (omega (arith, length-drop k bytes)) (IsBytes-drop k bytes fits) ∙ take_all 8 (drop k bytes) (omega (arith, length-drop k bytes))
+last_eight : (k : ℕ) (bytes : List ℕ) → k + 8 ≡ length bytes → AreBytes bytes → number 8 (number_in 8 (drop k bytes)) ≡ drop k bytes
+last_eight k bytes e fits = number_back_8 (drop k bytes) (omega (arith, length-drop k bytes)) (AreBytes-drop k bytes fits) ∙ take_all 8 (drop k bytes) (omega (arith, length-drop k bytes))
 
-pub header_back : (bytes : List ℕ) → length bytes ≡ 23 → IsBytes bytes → header_text (header_of bytes) ≡ bytes
+pub header_back : (bytes : List ℕ) → length bytes ≡ 23 → AreBytes bytes → header_text (header_of bytes) ≡ bytes
 unfolding header_text header_of
 header_back bytes long fits =
     let e : number 2 (number_in 2 (drop 21 bytes)) ≡ drop 21 bytes = last_two 21 bytes (omega arith) fits in
@@ -36,7 +37,7 @@ header_back bytes long fits =
     let l = eight 8 16 bytes _ refl (omega arith) fits s in
     eight 0 8 bytes _ refl (omega arith) fits l
 
-pub data_header_back : (bytes : List ℕ) → length bytes ≡ 42 → IsBytes bytes → data_header_text (data_header_of bytes) ≡ bytes
+pub data_header_back : (bytes : List ℕ) → length bytes ≡ 42 → AreBytes bytes → data_header_text (data_header_of bytes) ≡ bytes
 unfolding data_header_text data_header_of
 data_header_back bytes long fits =
     let a = last_eight 34 bytes (omega arith) fits in
@@ -148,25 +149,25 @@ header_of-take bytes =
     header_from (header_of bytes) (part 8 0 23 bytes (omega arith)) (part 8 8 23 bytes (omega arith)) (get_or-take 23 bytes 16 0 (omega arith)) (part 2 17 23 bytes (omega arith)) (part 2 19 23 bytes (omega arith)) (part 2 21 23 bytes (omega arith))
 
 -- a header and what stands behind it
-pub data_header_split : (bytes : List ℕ) → 42 ≤ length bytes → IsBytes (take 42 bytes) → bytes ≡ data_header_text (data_header_of bytes) ++ drop 42 bytes
+pub data_header_split : (bytes : List ℕ) → 42 ≤ length bytes → AreBytes (take 42 bytes) → bytes ≡ data_header_text (data_header_of bytes) ++ drop 42 bytes
 data_header_split bytes long fits =
     let front : data_header_text (data_header_of bytes) ≡ take 42 bytes = ap data_header_text (sym (data_header_of-take bytes)) ∙ data_header_back (take 42 bytes) (omega (arith, length-take 42 bytes)) fits in
     sym (take-append-drop 42 bytes) ∙ ap (λ (x : List ℕ). x ++ drop 42 bytes) (sym front)
 
-pub header_split : (bytes : List ℕ) → 23 ≤ length bytes → IsBytes (take 23 bytes) → bytes ≡ header_text (header_of bytes) ++ drop 23 bytes
+pub header_split : (bytes : List ℕ) → 23 ≤ length bytes → AreBytes (take 23 bytes) → bytes ≡ header_text (header_of bytes) ++ drop 23 bytes
 header_split bytes long fits =
     let front : header_text (header_of bytes) ≡ take 23 bytes = ap header_text (sym (header_of-take bytes)) ∙ header_back (take 23 bytes) (omega (arith, length-take 23 bytes)) fits in
     sym (take-append-drop 23 bytes) ∙ ap (λ (x : List ℕ). x ++ drop 23 bytes) (sym front)
 
 -- numbers of their widths
-pub header_small : (bytes : List ℕ) → IsBytes bytes → IsHeader (header_of bytes)
+pub header_small : (bytes : List ℕ) → AreBytes bytes → IsHeader (header_of bytes)
 unfolding header_of
 header_small bytes fits = record {
   tid = number_in-lt 8 bytes fits;
-  length = number_in-lt 8 (drop 8 bytes) (IsBytes-drop 8 bytes fits);
-  user = number_in-lt 2 (drop 17 bytes) (IsBytes-drop 17 bytes fits);
-  description = number_in-lt 2 (drop 19 bytes) (IsBytes-drop 19 bytes fits);
-  extension = number_in-lt 2 (drop 21 bytes) (IsBytes-drop 21 bytes fits);
+  length = number_in-lt 8 (drop 8 bytes) (AreBytes-drop 8 bytes fits);
+  user = number_in-lt 2 (drop 17 bytes) (AreBytes-drop 17 bytes fits);
+  description = number_in-lt 2 (drop 19 bytes) (AreBytes-drop 19 bytes fits);
+  extension = number_in-lt 2 (drop 21 bytes) (AreBytes-drop 21 bytes fits);
 }
 
 -- what is written is read again

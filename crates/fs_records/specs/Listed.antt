@@ -11,9 +11,9 @@ use Rattle.std.proofs.lemmas.Slice.Eq.{bytes_eq-Decides}
 use Rattle.zb_model.specs.declared.data.Content.{Content}
 use Rattle.zb_model.specs.declared.data.Transaction.{Transaction}
 use Rattle.fs_records.specs.declared.place.Place.{Place}
-use Rattle.fs_records.specs.NumberLaws.{IsBytes}
-use Rattle.fs_records.specs.Blocks.{Reached, start, magic, Begins, blocks_text}
-use Rattle.fs_records.specs.File.{StandsAs, StandsFor, no_bytes, a_file}
+use Rattle.zb_base.specs.Bytes.{AreBytes}
+use Rattle.fs_records.specs.Blocks.{Reached, file_start, magic, Begins, blocks_text}
+use Rattle.fs_records.specs.File.{IsReadAs, StandsFor, no_bytes, a_file}
 use Rattle.fs_records.specs.Places.{Kept, IsIndexOf}
 use Rattle.fs_records.specs.Always.{FileOr, file_or_damage}
 use Rattle.fs_records.specs.Unique.{one_list, never_both}
@@ -22,7 +22,7 @@ use Rattle.fs_records.specs.Unique.{one_list, never_both}
 
 -- each number is a byte, there are fewer than 2^64, and the first four are `FS30`
 record CanBeRead (bytes : List ℕ) : Type 0 where
-  fits : IsBytes bytes
+  fits : AreBytes bytes
   short : length bytes < 2 ^ 64
   long : 4 ≤ length bytes
   begin : take 4 bytes ≡ magic
@@ -30,13 +30,13 @@ record CanBeRead (bytes : List ℕ) : Type 0 where
 is_byte : ℕ → Bool
 is_byte n = nat_lt n 256
 
-bytes_fit : (bytes : List ℕ) → list_all is_byte bytes ≡ true → IsBytes bytes
+bytes_fit : (bytes : List ℕ) → list_all is_byte bytes ≡ true → AreBytes bytes
 unfolding is_byte
 bytes_fit [] all i = omega arith
 bytes_fit (x ∷ xs) all zero = ltb-true x 256 (and_parts (is_byte x) (list_all is_byte xs) all).0
 bytes_fit (x ∷ xs) all (suc i) = bytes_fit xs (and_parts (is_byte x) (list_all is_byte xs) all).1 i
 
-fit_bytes : (bytes : List ℕ) → IsBytes bytes → list_all is_byte bytes ≡ true
+fit_bytes : (bytes : List ℕ) → AreBytes bytes → list_all is_byte bytes ≡ true
 unfolding is_byte
 fit_bytes [] fits = refl
 fit_bytes (x ∷ xs) fits = and_from (is_byte x) (list_all is_byte xs) (lt-ltb x 256 (fits 0)) (fit_bytes xs (λ i. fits (suc i)))
@@ -91,7 +91,7 @@ listed bytes = option_map_or (λ r. r.0.list) (reading_in bytes) []
 
 -- what is read of them, or what is read of `FS30` alone
 abbrev pub reached_in : List ℕ → Reached
-reached_in bytes = option_map_or (λ r. r.0) (reading_in bytes) start
+reached_in bytes = option_map_or (λ r. r.0) (reading_in bytes) file_start
 
 -- where a tail is cut off
 abbrev pub cut_in : List ℕ → Option ℕ
@@ -99,17 +99,17 @@ cut_in bytes = option_map_or (λ r. r.1) (reading_in bytes) None
 
 -- where fewer than 2^64 bytes stand for what was reached, it is what is read of them
 abbrev pub ReadingIs : Type 0
-ReadingIs = (bytes : List ℕ) (s : Reached) (cut : Option ℕ) → IsBytes bytes → length bytes < 2 ^ 64 → StandsAs bytes s cut → reading_in bytes ≡ Some (s, cut)
+ReadingIs = (bytes : List ℕ) (s : Reached) (cut : Option ℕ) → AreBytes bytes → length bytes < 2 ^ 64 → IsReadAs bytes s cut → reading_in bytes ≡ Some (s, cut)
 
 -- they stand for what is read of them
 abbrev pub ReadingStands : Type 0
-ReadingStands = (bytes : List ℕ) (s : Reached) (cut : Option ℕ) → reading_in bytes ≡ Some (s, cut) → StandsAs bytes s cut
+ReadingStands = (bytes : List ℕ) (s : Reached) (cut : Option ℕ) → reading_in bytes ≡ Some (s, cut) → IsReadAs bytes s cut
 
 -- ---- there is one
 
-can_read : (bytes : List ℕ) (s : Reached) → IsBytes bytes → length bytes < 2 ^ 64 → Begins bytes s → CanBeRead bytes
+can_read : (bytes : List ℕ) (s : Reached) → AreBytes bytes → length bytes < 2 ^ 64 → Begins bytes s → CanBeRead bytes
 can_read bytes s fits short begins =
-    let rest : List ℕ = blocks_text start begins.blocks ++ drop s.end bytes in
+    let rest : List ℕ = blocks_text file_start begins.blocks ++ drop s.end bytes in
     record {
       fits = fits;
       short = short;
@@ -117,36 +117,36 @@ can_read bytes s fits short begins =
       begin = ap (take 4) begins.parts ∙ take_at magic rest 4 refl;
     }
 
-or_is : (bytes : List ℕ) (s : Reached) (cut : Option ℕ) (file : FileOr bytes) → StandsAs bytes s cut → reading_or bytes file ≡ Some (s, cut)
+or_is : (bytes : List ℕ) (s : Reached) (cut : Option ℕ) (file : FileOr bytes) → IsReadAs bytes s cut → reading_or bytes file ≡ Some (s, cut)
 unfolding reading_or
 or_is bytes s cut (inl file) stands =
     let same = one_list bytes file.0 s file.1 cut file.2 stands in
     ap (λ (r : Reached). Some (r, file.1)) same.0 ∙ ap (λ (c : Option ℕ). Some (s, c)) same.1
 or_is bytes s cut (inr damaged) stands = absurd (never_both bytes s cut damaged.0 damaged.1 stands damaged.2)
 
-by_is : (bytes : List ℕ) (s : Reached) (cut : Option ℕ) (can : CanBeRead bytes ⊎ (CanBeRead bytes → ⊥)) → CanBeRead bytes → StandsAs bytes s cut → reading_by bytes can ≡ Some (s, cut)
+by_is : (bytes : List ℕ) (s : Reached) (cut : Option ℕ) (can : CanBeRead bytes ⊎ (CanBeRead bytes → ⊥)) → CanBeRead bytes → IsReadAs bytes s cut → reading_by bytes can ≡ Some (s, cut)
 unfolding reading_by
 by_is bytes s cut (inl can) does stands = or_is bytes s cut (file_or_damage bytes can.fits can.short can.long can.begin) stands
 by_is bytes s cut (inr not) does stands = absurd (not does)
 
-pub reading_is : (bytes : List ℕ) (s : Reached) (cut : Option ℕ) → IsBytes bytes → length bytes < 2 ^ 64 → StandsAs bytes s cut → reading_in bytes ≡ Some (s, cut)
+pub reading_is : (bytes : List ℕ) (s : Reached) (cut : Option ℕ) → AreBytes bytes → length bytes < 2 ^ 64 → IsReadAs bytes s cut → reading_in bytes ≡ Some (s, cut)
 unfolding reading_in
 reading_is bytes s cut fits short stands = by_is bytes s cut (can_be_read bytes) (can_read bytes s fits short stands.begins) stands
 
-or_stands : (bytes : List ℕ) (s : Reached) (cut : Option ℕ) (file : FileOr bytes) → reading_or bytes file ≡ Some (s, cut) → StandsAs bytes s cut
+or_stands : (bytes : List ℕ) (s : Reached) (cut : Option ℕ) (file : FileOr bytes) → reading_or bytes file ≡ Some (s, cut) → IsReadAs bytes s cut
 unfolding reading_or
 or_stands bytes s cut (inl file) is =
     let R : Type 0 = Reached × Option ℕ in
     let same : ◌≡◌ {A = R} (file.0, file.1) (s, cut) = cc in
-    subst (λ (r : R). StandsAs bytes r.0 r.1) same file.2
+    subst (λ (r : R). IsReadAs bytes r.0 r.1) same file.2
 or_stands bytes s cut (inr damaged) is = absurd cc
 
-by_stands : (bytes : List ℕ) (s : Reached) (cut : Option ℕ) (can : CanBeRead bytes ⊎ (CanBeRead bytes → ⊥)) → reading_by bytes can ≡ Some (s, cut) → StandsAs bytes s cut
+by_stands : (bytes : List ℕ) (s : Reached) (cut : Option ℕ) (can : CanBeRead bytes ⊎ (CanBeRead bytes → ⊥)) → reading_by bytes can ≡ Some (s, cut) → IsReadAs bytes s cut
 unfolding reading_by
 by_stands bytes s cut (inl can) is = or_stands bytes s cut (file_or_damage bytes can.fits can.short can.long can.begin) is
 by_stands bytes s cut (inr not) is = absurd cc
 
-pub reading_stands : (bytes : List ℕ) (s : Reached) (cut : Option ℕ) → reading_in bytes ≡ Some (s, cut) → StandsAs bytes s cut
+pub reading_stands : (bytes : List ℕ) (s : Reached) (cut : Option ℕ) → reading_in bytes ≡ Some (s, cut) → IsReadAs bytes s cut
 unfolding reading_in
 reading_stands bytes s cut is = by_stands bytes s cut (can_be_read bytes) is
 
@@ -156,7 +156,7 @@ no_reading None is = refl
 no_reading (Some r) is = let begins = (reading_stands [] r.0 r.1 is).begins in absurd (cc (begins.parts))
 
 -- the list and the place where a tail is cut off are those that bytes stand for, no bytes too
-pub listed_is : (bytes : List ℕ) (list : List Transaction) (cut : Option ℕ) → IsBytes bytes → length bytes < 2 ^ 64 → StandsFor bytes list cut → (listed bytes ≡ list) × (cut_in bytes ≡ cut)
+pub listed_is : (bytes : List ℕ) (list : List Transaction) (cut : Option ℕ) → AreBytes bytes → length bytes < 2 ^ 64 → StandsFor bytes list cut → (listed bytes ≡ list) × (cut_in bytes ≡ cut)
 listed_is bytes list cut fits short (no_bytes none l c) =
     let here : reading_in bytes ≡ None = ap reading_in none ∙ no_reading (reading_in []) refl in
     (ap (λ (o : Option (Reached × Option ℕ)). option_map_or (λ r. r.0.list) o []) here ∙ sym l, ap (λ (o : Option (Reached × Option ℕ)). option_map_or (λ r. r.1) o None) here ∙ sym c)
@@ -164,8 +164,8 @@ listed_is bytes list cut fits short (a_file s stands l) =
     let here = reading_is bytes s cut fits short stands in
     (ap (λ (o : Option (Reached × Option ℕ)). option_map_or (λ r. r.0.list) o []) here ∙ sym l, ap (λ (o : Option (Reached × Option ℕ)). option_map_or (λ r. r.1) o None) here)
 
-pub reached_is : (bytes : List ℕ) (s : Reached) (cut : Option ℕ) → IsBytes bytes → length bytes < 2 ^ 64 → StandsAs bytes s cut → reached_in bytes ≡ s
-reached_is bytes s cut fits short stands = ap (λ (o : Option (Reached × Option ℕ)). option_map_or (λ r. r.0) o start) (reading_is bytes s cut fits short stands)
+pub reached_is : (bytes : List ℕ) (s : Reached) (cut : Option ℕ) → AreBytes bytes → length bytes < 2 ^ 64 → IsReadAs bytes s cut → reached_in bytes ≡ s
+reached_is bytes s cut fits short stands = ap (λ (o : Option (Reached × Option ℕ)). option_map_or (λ r. r.0) o file_start) (reading_is bytes s cut fits short stands)
 
 -- ---- facts that hold in one way, so that a type can keep them
 

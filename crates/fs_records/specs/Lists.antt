@@ -4,8 +4,8 @@ use Rattle.std.proofs.lemmas.Bool.{eqb-true, eqb-false}
 use Rattle.std.proofs.lemmas.List.{length-take, take_at}
 use Rattle.zb_model.specs.declared.data.Transaction.{Transaction}
 use Rattle.fs_records.specs.declared.field.Field.{Field}
-use Rattle.fs_records.specs.NumberLaws.{IsBytes}
-use Rattle.fs_records.specs.Blocks.{Reached, start, magic, Begins, blocks_text}
+use Rattle.zb_base.specs.Bytes.{AreBytes}
+use Rattle.fs_records.specs.Blocks.{Reached, file_start, magic, Begins, blocks_text}
 use Rattle.fs_records.specs.File.{StandsFor, no_bytes, a_file, IsNoFile, IsDamaged}
 use Rattle.fs_records.specs.Unique as readings
 use Rattle.fs_records.specs.Always.{FileOr, file_or_damage}
@@ -15,7 +15,7 @@ some_bytes : (bytes : List ℕ) (s : Reached) → Begins bytes s → bytes ≢ [
 some_bytes bytes s begins none = absurd (cc (begins.parts, none))
 
 first_four : (bytes : List ℕ) (s : Reached) → Begins bytes s → take 4 bytes ≡ magic
-first_four bytes s begins = ap (take 4) begins.parts ∙ take_at magic (blocks_text start begins.blocks ++ drop s.end bytes) 4 refl
+first_four bytes s begins = ap (take 4) begins.parts ∙ take_at magic (blocks_text file_start begins.blocks ++ drop s.end bytes) 4 refl
 
 pub one_list : (bytes : List ℕ) (list other : List Transaction) (a b : Option ℕ) → StandsFor bytes list a → StandsFor bytes other b → (list ≡ other) × (a ≡ b)
 one_list bytes list other a b (no_bytes none l c) (no_bytes none_too m d) = (l ∙ sym m, c ∙ sym d)
@@ -57,7 +57,7 @@ answer_of : (bytes : List ℕ) → FileOr bytes → Answers bytes
 answer_of bytes (inl stands) = inl (stands.0.list, stands.1, a_file stands.0 stands.2 refl)
 answer_of bytes (inr damaged) = inr (inr damaged)
 
-pub always : (bytes : List ℕ) → IsBytes bytes → length bytes < 2 ^ 64 → Answers bytes
+pub always : (bytes : List ℕ) → AreBytes bytes → length bytes < 2 ^ 64 → Answers bytes
 always [] fits short = inl ([], None, no_bytes refl refl refl)
 always (x ∷ xs) fits short =
     elim (same_or_not (take 4 (x ∷ xs)) magic) [

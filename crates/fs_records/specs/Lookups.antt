@@ -17,8 +17,8 @@ use Rattle.zb_model.specs.Queries.{is_from, end_of}
 use Rattle.fs_records.specs.declared.place.Place.{Place}
 use Rattle.fs_records.specs.Headers.{data_header_text}
 use Rattle.fs_records.specs.HeaderLaws.{length-data_header_text}
-use Rattle.fs_records.specs.Blocks.{data_header, payload_text, Known, Written, is_at, is_known, content_at, content_of, known_at, with_record, with_records, record_text, records_text, changes_of, Reached, start, transaction_of, records_from, length_of, after, Block, IsBlock, AreBlocks, after_all, Begins}
-use Rattle.fs_records.specs.Places.{Kept, IsIndexOf, IsBefore, AreBefore, place_of, is_of, is_below, is_of_below, places_of, last_below, record_below, revision_of}
+use Rattle.fs_records.specs.Blocks.{data_header, payload_text, Known, Written, is_at, is_known, content_at, content_of, known_at, with_record, with_records, record_text, records_text, changes_of, Reached, file_start, transaction_of, records_from, length_of, after_block, Block, IsBlock, AreBlocks, after_blocks, Begins}
+use Rattle.fs_records.specs.Places.{Kept, IsIndexOf, IsBefore, AreBefore, place_of, is_of, is_place_below, is_of_below, places_of, last_below, record_below, revision_of}
 use Rattle.fs_records.specs.Databases.{distinct_changes}
 use Rattle.fs_records.specs.Revisions.{change_is, revises_of}
 
@@ -47,11 +47,11 @@ abbrev StandsBefore : ℕ → ℕ → Known → Type 0
 StandsBefore tid at k = IsBefore tid at (place_of k)
 
 -- each record stands behind those before it
-abbrev pub Apart : List Known → Type 0
-Apart [] = Unit {0}
-Apart (k ∷ ks) = All (λ (x : Known). k.place < x.place) ks × Apart ks
+abbrev pub AreApart : List Known → Type 0
+AreApart [] = Unit {0}
+AreApart (k ∷ ks) = All (λ (x : Known). k.place < x.place) ks × AreApart ks
 
-apart_more : (ks : List Known) (k : Known) → Apart ks → All (λ (x : Known). x.place < k.place) ks → Apart (ks ++ k ∷ [])
+apart_more : (ks : List Known) (k : Known) → AreApart ks → All (λ (x : Known). x.place < k.place) ks → AreApart (ks ++ k ∷ [])
 apart_more [] k apart before = (All-nil (λ (y : Known). k.place < y.place), tt)
 apart_more (x ∷ ks) k apart before =
     let Before : Known → Type 0 = λ (y : Known). y.place < k.place in
@@ -59,11 +59,11 @@ apart_more (x ∷ ks) k apart before =
 
 -- these records stand one behind another, before this place, and none is of a later transaction
 pub record ArePlaced (known : List Known) (tid at : ℕ) : Type 0 where
-  pub apart : Apart known
+  pub apart : AreApart known
   pub before : All (λ k. IsBefore tid at (place_of k)) known
 
 -- all that was read stands before the end
-pub record Placed (s : Reached) : Type 0 where
+pub record AreBeforeEnd (s : Reached) : Type 0 where
   pub records : ArePlaced s.known s.newest s.end
   pub starts : All (IsBefore s.newest s.end) s.starts
 
@@ -83,8 +83,8 @@ placed_records known place tid q (r ∷ rs) h =
     let to_is : next + length (records_text place tid rs) ≡ q + length (records_text place tid (r ∷ rs)) = omega (arith, length-append (record_text place tid r) (records_text place tid rs)) in
     subst (λ (n : ℕ). ArePlaced (with_records known place tid q (r ∷ rs)) tid n) to_is (placed_records (with_record known tid q r) place tid next rs more)
 
-placed_more : (s : Reached) (b : Block) → Placed s → IsBlock s b → Placed (after s b)
-unfolding after
+placed_more : (s : Reached) (b : Block) → AreBeforeEnd s → IsBlock s b → AreBeforeEnd (after_block s b)
+unfolding after_block
 placed_more s b h block =
     let from : ℕ = records_from s.end b in
     let to : ℕ = from + length (records_text s.end b.tid b.records) in
@@ -103,20 +103,20 @@ placed_more s b h block =
       starts = All-push (IsBefore b.tid end) s.starts (record { serial = b.tid; at = s.end }) (All-weaker (IsBefore s.newest s.end) (IsBefore b.tid end) (λ x w. (omega arith, omega arith)) s.starts h.starts) (le_refl b.tid, omega arith);
     }
 
-placed_all : (s : Reached) (bs : List Block) → Placed s → AreBlocks s bs → Placed (after_all s bs)
+placed_all : (s : Reached) (bs : List Block) → AreBeforeEnd s → AreBlocks s bs → AreBeforeEnd (after_blocks s bs)
 placed_all s [] h are = h
-placed_all s (b ∷ bs) h are = placed_all (after s b) bs (placed_more s b h are.0) are.1
+placed_all s (b ∷ bs) h are = placed_all (after_block s b) bs (placed_more s b h are.0) are.1
 
 -- all records and transactions of what bytes begin as stand in order
-pub placed : (bytes : List ℕ) (s : Reached) → Begins bytes s → Placed s
-placed bytes s begins =
-    let first : Placed start = record { records = record { apart = tt; before = All-nil (StandsBefore 0 4) }; starts = All-nil (IsBefore 0 4) } in
-    subst (λ (r : Reached). Placed r) (sym begins.is) (placed_all start begins.blocks first begins.are)
+pub are_before_end : (bytes : List ℕ) (s : Reached) → Begins bytes s → AreBeforeEnd s
+are_before_end bytes s begins =
+    let first : AreBeforeEnd file_start = record { records = record { apart = tt; before = All-nil (StandsBefore 0 4) }; starts = All-nil (IsBefore 0 4) } in
+    subst (λ (r : Reached). AreBeforeEnd r) (sym begins.is) (placed_all file_start begins.blocks first begins.are)
 
 -- so do the places that an index keeps
 pub places_before : (bytes : List ℕ) (s : Reached) → Begins bytes s → (kept : Kept) → IsIndexOf s kept → AreBefore kept.entries s.newest s.end × All (IsBefore s.newest s.end) kept.transactions
 places_before bytes s begins kept index =
-    let all = placed bytes s begins in
+    let all = are_before_end bytes s begins in
     let P : Place → Type 0 = IsBefore s.newest s.end in (
       (λ oid.
           let of_object : All P (places_of oid s.known) = All-map P place_of (filter (is_of oid) s.known) (All-filter (is_of oid) (StandsBefore s.newest s.end) s.known all.records.before) in
@@ -141,7 +141,7 @@ own_behind k x ks before own =
     let other : is_at x.oid x.place k ≡ false = and_right (eqb x.oid k.oid) (eqb k.place x.place) (ne_eqb k.place x.place (λ same. omega arith)) in
     (or_right (is_at x.oid x.place k) (is_known ks x.oid x.place) own.0, cond-false (is_at x.oid x.place k) k.content (content_at ks x.oid x.place) other ∙ own.1)
 
-pub own_content : (known : List Known) → Apart known → All (IsOwn known) known
+pub own_content : (known : List Known) → AreApart known → All (IsOwn known) known
 own_content [] apart = All-nil (IsOwn [])
 own_content (k ∷ ks) apart =
     All-cons (IsOwn (k ∷ ks)) k ks (own_first k ks) (λ i d within. own_behind k (get_or ks i d) ks (apart.0 i d within) (own_content ks apart.1 i d within))
@@ -151,7 +151,7 @@ last_holds P None [] x is some all = absurd cc
 last_holds P (Some y) [] x is some all = let same : y ≡ x = cc in subst P same some
 last_holds P o (y ∷ ys) x is some all = last_holds P (Some y) ys x is (All-head P y ys all) (All-tail P y ys all)
 
-own_below : (oid front : ℕ) (known : List Known) (k : Known) → Apart known → record_below oid front known ≡ Some k → (is_known known oid k.place ≡ true) × (content_at known oid k.place ≡ k.content)
+own_below : (oid front : ℕ) (known : List Known) (k : Known) → AreApart known → record_below oid front known ≡ Some k → (is_known known oid k.place ≡ true) × (content_at known oid k.place ≡ k.content)
 own_below oid front known k apart is =
     let P : Known → Type 0 = λ (x : Known). IsOwn known x × (is_of_below oid front x ≡ true) in
     let own = All-filter (is_of_below oid front) (IsOwn known) known (own_content known apart) in
@@ -166,17 +166,17 @@ last_map : {A B : Type 0} (f : A → B) (o : Option A) (xs : List A) → last_or
 last_map f o [] = refl
 last_map f o (x ∷ xs) = last_map f (Some x) xs
 
-below_front : (oid front : ℕ) (ks : List Known) → filter (is_below front) (places_of oid ks) ≡ map place_of (filter (is_of_below oid front) ks)
+below_front : (oid front : ℕ) (ks : List Known) → filter (is_place_below front) (places_of oid ks) ≡ map place_of (filter (is_of_below oid front) ks)
 below_front oid front [] = refl
 below_front oid front (k ∷ ks) = by_cases (eqb oid k.oid) (below_front oid front ks)
   where
-    inside : (b : Bool) → filter (is_below front) (places_of oid ks) ≡ map place_of (filter (is_of_below oid front) ks)
-        → cond b (place_of k ∷ filter (is_below front) (places_of oid ks)) (filter (is_below front) (places_of oid ks)) ≡ map place_of (cond b (k ∷ filter (is_of_below oid front) ks) (filter (is_of_below oid front) ks))
+    inside : (b : Bool) → filter (is_place_below front) (places_of oid ks) ≡ map place_of (filter (is_of_below oid front) ks)
+        → cond b (place_of k ∷ filter (is_place_below front) (places_of oid ks)) (filter (is_place_below front) (places_of oid ks)) ≡ map place_of (cond b (k ∷ filter (is_of_below oid front) ks) (filter (is_of_below oid front) ks))
     inside true rest = ap (λ (ps : List Place). place_of k ∷ ps) rest
     inside false rest = rest
 
-    by_cases : (a : Bool) → filter (is_below front) (places_of oid ks) ≡ map place_of (filter (is_of_below oid front) ks)
-        → filter (is_below front) (map place_of (cond a (k ∷ filter (is_of oid) ks) (filter (is_of oid) ks))) ≡ map place_of (cond (a && ltb k.tid front) (k ∷ filter (is_of_below oid front) ks) (filter (is_of_below oid front) ks))
+    by_cases : (a : Bool) → filter (is_place_below front) (places_of oid ks) ≡ map place_of (filter (is_of_below oid front) ks)
+        → filter (is_place_below front) (map place_of (cond a (k ∷ filter (is_of oid) ks) (filter (is_of oid) ks))) ≡ map place_of (cond (a && ltb k.tid front) (k ∷ filter (is_of_below oid front) ks) (filter (is_of_below oid front) ks))
     by_cases true rest = inside (ltb k.tid front) rest
     by_cases false rest = rest
 
@@ -184,7 +184,7 @@ last_below_is : (oid front : ℕ) (known : List Known) → last_below front (pla
 unfolding last_below
 last_below_is oid front known = ap (λ (ps : List Place). last_or None ps) (below_front oid front known) ∙ last_map place_of None (filter (is_of_below oid front) known)
 
-read_by : (s : Reached) (oid front : ℕ) (o : Option Known) → record_below oid front s.known ≡ o → option_map revision_of o ≡ revision_below oid front s.list → Apart s.known → RevisionRead s oid front (option_map place_of o)
+read_by : (s : Reached) (oid front : ℕ) (o : Option Known) → record_below oid front s.known ≡ o → option_map revision_of o ≡ revision_below oid front s.list → AreApart s.known → RevisionRead s oid front (option_map place_of o)
 read_by s oid front None is revision apart = sym revision
 read_by s oid front (Some k) is revision apart =
     let own = own_below oid front s.known k apart is in
@@ -192,7 +192,7 @@ read_by s oid front (Some k) is revision apart =
 
 pub revision_read : (bytes : List ℕ) (s : Reached) (oid front : ℕ) → Begins bytes s → RevisionRead s oid front (last_below front (places_of oid s.known))
 revision_read bytes s oid front begins =
-    let read = read_by s oid front (record_below oid front s.known) refl (revises_of bytes s begins oid front) (placed bytes s begins).records.apart in
+    let read = read_by s oid front (record_below oid front s.known) refl (revises_of bytes s begins oid front) (are_before_end bytes s begins).records.apart in
     subst (λ (o : Option Place). RevisionRead s oid front o) (sym (last_below_is oid front s.known)) read
 
 -- ---- the last serial
@@ -355,8 +355,8 @@ serial_for_map : {A B : Type 0} (tid : ℕ) (f : A → B) (o : Option A) → ser
 serial_for_map tid f None = refl
 serial_for_map tid f (Some x) = refl
 
-next_more : (s : Reached) (b : Block) → NextOnes s → NextOnes (after s b)
-unfolding after
+next_more : (s : Reached) (b : Block) → NextOnes s → NextOnes (after_block s b)
+unfolding after_block
 next_more s b so_far oid front =
     let entries : List (ℕ × Content) = changes_of [] s.known s.end b.tid (records_from s.end b) b.records in
     let content : Change → Content = λ (c : Change). c.content in
@@ -379,9 +379,9 @@ next_more s b so_far oid front =
         none_next oid front s.end b.tid (records_from s.end b) s.known b.records e ∙ so_far oid front
         ∙ sym (list_more ∙ ap (option_or (end_of oid front s.list)) (cond-false (nat_le front b.tid) (serial_for b.tid (change_in oid (transaction_of s b).changes)) None e) ∙ or_none (end_of oid front s.list))
 
-next_all : (s : Reached) (bs : List Block) → NextOnes s → NextOnes (after_all s bs)
+next_all : (s : Reached) (bs : List Block) → NextOnes s → NextOnes (after_blocks s bs)
 next_all s [] h = h
-next_all s (b ∷ bs) h = next_all (after s b) bs (next_more s b h)
+next_all s (b ∷ bs) h = next_all (after_block s b) bs (next_more s b h)
 
 pub next_read : (bytes : List ℕ) (s : Reached) (oid front : ℕ) → Begins bytes s → option_map (λ p. p.serial) (find (λ p. nat_le front p.serial) (places_of oid s.known)) ≡ end_of oid front s.list
-next_read bytes s oid front begins = subst (λ (r : Reached). NextOnes r) (sym begins.is) (next_all start begins.blocks (λ o f. refl)) oid front
+next_read bytes s oid front begins = subst (λ (r : Reached). NextOnes r) (sym begins.is) (next_all file_start begins.blocks (λ o f. refl)) oid front

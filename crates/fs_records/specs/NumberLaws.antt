@@ -6,20 +6,7 @@ use Rattle.std.proofs.lemmas.Bool.{cases_lt}
 use Rattle.std.proofs.lemmas.List.{length-take, get_or-take, get_or-drop, get_or_past}
 use Rattle.byteorder.specs.Numbers.{big_number-reads_back, big_from-append, big_from-take, big_from-lt, length-bytes_high_first}
 use Rattle.fs_records.specs.Numbers.{number, number_in}
-
--- bytes are below 256
-abbrev pub IsBytes : List ℕ → Type 0
-IsBytes bytes = (i : ℕ) → get_or bytes i 0 < 256
-
-pub IsBytes-drop : (n : ℕ) (bytes : List ℕ) → IsBytes bytes → IsBytes (drop n bytes)
-IsBytes-drop n bytes h i = rw get_or-drop (h (n + i))
-
-pub IsBytes-take : (n : ℕ) (bytes : List ℕ) → IsBytes bytes → IsBytes (take n bytes)
-IsBytes-take n bytes h i =
-    elim (cases_lt i n) [
-      | inl lt ↦ rw (get_or-take n bytes i 0 lt) (h i)
-      | inr le ↦ rw (get_or_past (take n bytes) i 0 (omega (arith, length-take n bytes))) (omega arith)
-    ]
+use Rattle.zb_base.specs.Bytes.{AreBytes}
 
 pub length-number : (n x : ℕ) → length (number n x) ≡ n
 unfolding number
@@ -37,18 +24,18 @@ pub number_in-take : (n m : ℕ) (xs : List ℕ) → n ≤ m → number_in n (ta
 unfolding number_in
 number_in-take n m xs h = big_from-take 0 n m xs (omega arith)
 
-pub number_in-lt : (n : ℕ) (xs : List ℕ) → IsBytes xs → number_in n xs < 256 ^ n
+pub number_in-lt : (n : ℕ) (xs : List ℕ) → AreBytes xs → number_in n xs < 256 ^ n
 unfolding number_in
 number_in-lt n xs h = big_from-lt 0 n xs h
 
-pub number_back_8 : (bytes : List ℕ) → 8 ≤ length bytes → IsBytes bytes → number 8 (number_in 8 bytes) ≡ take 8 bytes
+pub number_back_8 : (bytes : List ℕ) → 8 ≤ length bytes → AreBytes bytes → number 8 (number_in 8 bytes) ≡ take 8 bytes
 unfolding number number_in
 number_back_8 bytes long fits =
     let is : number_in 8 bytes ≡ from_be_bytes w64 (take 8 bytes) = sym (number_in-take 8 8 bytes (omega arith)) ∙ omega arith in
-    be_bytes_8 (take 8 bytes) _ (omega (arith, length-take 8 bytes)) (IsBytes-take 8 bytes fits) is
+    be_bytes_8 (take 8 bytes) _ (omega (arith, length-take 8 bytes)) (AreBytes-take 8 bytes fits) is
 
-pub number_back_2 : (bytes : List ℕ) → 2 ≤ length bytes → IsBytes bytes → number 2 (number_in 2 bytes) ≡ take 2 bytes
+pub number_back_2 : (bytes : List ℕ) → 2 ≤ length bytes → AreBytes bytes → number 2 (number_in 2 bytes) ≡ take 2 bytes
 unfolding number number_in
 number_back_2 bytes long fits =
     let is : number_in 2 bytes ≡ from_be_bytes w16 (take 2 bytes) = sym (number_in-take 2 2 bytes (omega arith)) ∙ omega arith in
-    be_bytes_2 (take 2 bytes) _ (omega (arith, length-take 2 bytes)) (IsBytes-take 2 bytes fits) is
+    be_bytes_2 (take 2 bytes) _ (omega (arith, length-take 2 bytes)) (AreBytes-take 2 bytes fits) is

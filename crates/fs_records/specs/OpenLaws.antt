@@ -5,9 +5,9 @@ use Rattle.std.proofs.lemmas.List.Elements.{All-weaker}
 use Rattle.fs_records.specs.declared.header.Header.{Header}
 use Rattle.fs_records.specs.declared.place.Place.{Place}
 use Rattle.fs_records.specs.declared.verdict.Verdict.TheVariants.{Begun}
-use Rattle.fs_records.specs.NumberLaws.{IsBytes}
+use Rattle.zb_base.specs.Bytes.{AreBytes}
 use Rattle.fs_records.specs.Headers.{header_of}
-use Rattle.fs_records.specs.Blocks.{Known, start, after, magic, with_records}
+use Rattle.fs_records.specs.Blocks.{Known, file_start, after_block, magic, with_records}
 use Rattle.fs_records.specs.Rules.{texts_length, verdict}
 use Rattle.fs_records.specs.File.{data_from, data_to}
 use Rattle.fs_records.specs.Places.{Kept, places_in, ArePlacesOf, IsBefore, AreBefore}
@@ -41,15 +41,15 @@ pub before_weaker : (entries : List (ℕ × List Place)) (tid at new_tid to : �
 before_weaker entries tid at new_tid to a b before o = All-weaker (IsBefore tid at) (IsBefore new_tid to) (λ p h. (omega (arith, h.0), omega (arith, h.1))) (places_in entries o) (before o)
 
 pub nothing_yet : (bytes : List ℕ) → take 4 bytes ≡ magic → Indexed bytes 4 0 (record { entries = []; transactions = [] })
-nothing_yet bytes is = record { reached = start; begins = begins_here bytes is; end_is = refl; newest_is = refl; index = record { records = λ o. refl; transactions = refl } }
+nothing_yet bytes is = record { reached = file_start; begins = begins_here bytes is; end_is = refl; newest_is = refl; index = record { records = λ o. refl; transactions = refl } }
 
 -- One transaction more: what was read of its data records, and its own place.
-pub block_more : (bytes : List ℕ) (p newest : ℕ) (h : Header) (old new : Kept) → p < 2 ^ 64 → IsBytes bytes
+pub block_more : (bytes : List ℕ) (p newest : ℕ) (h : Header) (old new : Kept) → p < 2 ^ 64 → AreBytes bytes
     → Begun ≡ verdict newest (drop p bytes) → h ≡ header_of (drop p bytes)
     → ((known : List Known) → ArePlacesOf known old.entries → RecordsIndexed bytes known p h.tid (p + (23 + texts_length h)) (p + h.length) new.entries)
     → new.transactions ≡ old.transactions ++ record { serial = h.tid; at = p } ∷ []
     → Indexed bytes p newest old → Indexed bytes (p + h.length + 8) h.tid new
-unfolding after
+unfolding after_block
 block_more bytes p newest h old new small fits begun is records pushed so_far =
     let s = so_far.reached in
     let rest = drop s.end bytes in
@@ -61,7 +61,7 @@ block_more bytes p newest h old new small fits begun is records pushed so_far =
     let b = block_in rest read.records in
     let t = block_takes bytes s read.records (omega (arith, small, so_far.end_is)) fits begun_here read.stand in
     record {
-      reached = after s b;
+      reached = after_block s b;
       begins = begins_more bytes s b so_far.begins t;
       end_is = omega (arith, t.length_is, so_far.end_is, ap (λ (x : Header). x.length) h_is);
       newest_is = sym (ap (λ (x : Header). x.tid) h_is);

@@ -27,7 +27,7 @@ abbrev pub AreRising : List (ℕ × List Place) → Type 0
 AreRising entries = (oid : ℕ) → IsRising (places_in entries oid)
 
 -- what holds of every index: the places of each object rise, and those of the transactions
-pub record IsSound (kept : Kept) : Type 0 where
+pub record IsSoundIndex (kept : Kept) : Type 0 where
   pub objects : AreRising kept.entries
   pub transactions : IsRising kept.transactions
 
@@ -48,17 +48,17 @@ abbrev pub all_but_last : {A : Type 0} → List A → List A
 all_but_last xs = take (length xs - 1) xs
 
 -- the last place of one object is taken back, and all others are as they were
-abbrev pub Taken : List (ℕ × List Place) → ℕ → List (ℕ × List Place) → Type 0
-Taken old oid new = (o : ℕ) → places_in new o ≡ (if o == oid then all_but_last (places_in old o) else places_in old o)
+abbrev pub IsTakenBack : List (ℕ × List Place) → ℕ → List (ℕ × List Place) → Type 0
+IsTakenBack old oid new = (o : ℕ) → places_in new o ≡ (if o == oid then all_but_last (places_in old o) else places_in old o)
 
 -- ---- what is looked up
 
-abbrev pub is_below : ℕ → Place → Bool
-is_below front p = nat_lt p.serial front
+abbrev pub is_place_below : ℕ → Place → Bool
+is_place_below front p = nat_lt p.serial front
 
 -- the last place with a serial below the front
 unfoldable pub last_below : ℕ → List Place → Option Place
-last_below front places = last_or None (filter (is_below front) places)
+last_below front places = last_or None (filter (is_place_below front) places)
 
 -- whether a record of the object is kept that stands at the place
 abbrev pub knows : List (ℕ × List Place) → ℕ → ℕ → Bool

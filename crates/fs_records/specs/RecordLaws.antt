@@ -7,11 +7,12 @@ use Rattle.fs_records.specs.declared.header.DataHeader.{DataHeader}
 use Rattle.fs_records.specs.declared.field.Field.{Field}
 use Rattle.fs_records.specs.declared.field.Field.TheVariants.{Serial, Position, Version, Size, Back}
 use Rattle.fs_records.specs.Numbers.{number, number_in}
-use Rattle.fs_records.specs.NumberLaws.{IsBytes, IsBytes-drop, IsBytes-take, length-number, number_in-number, number_in-lt, number_back_8}
+use Rattle.fs_records.specs.NumberLaws.{length-number, number_in-number, number_in-lt, number_back_8}
 use Rattle.fs_records.specs.Headers.{data_header_text, data_header_of}
 use Rattle.fs_records.specs.HeaderLaws.{data_header_from, data_header_split, data_header_again, length-data_header_text, IsDataHeader}
-use Rattle.fs_records.specs.Blocks.{Payload, Full, From, Written, Known, payload_length, payload_text, data_header, record_text, is_known, IsPayload, IsWritten}
+use Rattle.fs_records.specs.Blocks.{Payload, Full, From, Written, Known, payload_length, payload_text, data_header, record_text, is_known, IsPayload, IsWrittenRecord}
 use Rattle.fs_records.specs.Rules.{payload_size, is_astray, record_at, payload_in, record_in}
+use Rattle.zb_base.specs.Bytes.{AreBytes, AreBytes-drop, AreBytes-take}
 
 -- a test that did not fail
 pub unless : {A E : Type 0} (b : Bool) (e : E) (r : Result A E) (y : A) → cond b (Err e) r ≡ Ok y → (b ≡ false) × (r ≡ Ok y)
@@ -34,7 +35,7 @@ pub record PayloadTaken (known : List Known) (oid len size : ℕ) (tail : List �
   pub size_is : length (payload_text p) ≡ size
   pub is : IsPayload known oid p
 
-payload_taken : (known : List Known) (knows : ℕ → ℕ → Bool) (oid len : ℕ) (tail : List ℕ) (b : Bool) → eqb len 0 ≡ b → ((at : ℕ) → knows oid at ≡ is_known known oid at) → IsBytes tail → len < 2 ^ 64 → cond b 8 len ≤ length tail
+payload_taken : (known : List Known) (knows : ℕ → ℕ → Bool) (oid len : ℕ) (tail : List ℕ) (b : Bool) → eqb len 0 ≡ b → ((at : ℕ) → knows oid at ≡ is_known known oid at) → AreBytes tail → len < 2 ^ 64 → cond b 8 len ≤ length tail
     → cond b (cond (eqb (number_in 8 tail) 0) false (not (knows oid (number_in 8 tail)))) false ≡ false
     → PayloadTaken known oid len (cond b 8 len) tail (cond b (From (number_in 8 tail)) (Full (take len tail)))
 payload_taken known knows oid len tail true zero_is same fits small long leads =
@@ -56,13 +57,13 @@ payload_taken known knows oid len tail false some same fits small long leads =
     }
 
 -- what was read is a record, and stands there
-pub record Taken (known : List Known) (place tid room : ℕ) (rest : List ℕ) (oid size : ℕ) : Type 0 where
+pub record IsRecordRead (known : List Known) (place tid room : ℕ) (rest : List ℕ) (oid size : ℕ) : Type 0 where
   pub oid_is : oid ≡ (record_in rest).oid
   pub fits : size ≤ room
   pub some : 0 < size
   pub size_is : size ≡ length (record_text place tid (record_in rest))
   pub parts : rest ≡ record_text place tid (record_in rest) ++ drop size rest
-  pub is : IsWritten known (record_in rest)
+  pub is : IsWrittenRecord known (record_in rest)
 
 abbrev pair : {A : Type 0} → A → Result A Field
 pair x = Ok x
@@ -71,8 +72,8 @@ ok_is : {A : Type 0} (x y : A) → pair x ≡ pair y → x ≡ y
 ok_is x y e = cc
 
 pub record_takes : (known : List Known) (knows : ℕ → ℕ → Bool) (place tid room : ℕ) (rest : List ℕ) (oid size : ℕ)
-    → ((oid at : ℕ) → knows oid at ≡ is_known known oid at) → IsBytes rest → room ≤ length rest
-    → record_at knows place tid room rest ≡ Ok (oid, size) → Taken known place tid room rest oid size
+    → ((oid at : ℕ) → knows oid at ≡ is_known known oid at) → AreBytes rest → room ≤ length rest
+    → record_at knows place tid room rest ≡ Ok (oid, size) → IsRecordRead known place tid room rest oid size
 unfolding record_at record_text data_header_of
 record_takes known knows place tid room rest oid size same fits long e =
     let h : DataHeader = data_header_of rest in
@@ -90,9 +91,9 @@ record_takes known knows place tid room rest oid size same fits long e =
     let version_is : h.version ≡ 0 = eqb-true _ _ (not_false _ d.0) in
     let oid_is : h.oid ≡ oid = ap (λ (p : ℕ × ℕ). p.0) got in
     let size_is : 42 + payload_size h ≡ size = ap (λ (p : ℕ × ℕ). p.1) got in
-    let p = payload_taken known knows h.oid h.length (drop 42 rest) (eqb h.length 0) refl (same h.oid) (IsBytes-drop 42 rest fits) (omega (arith, number_in-lt 8 (drop 34 rest) (IsBytes-drop 34 rest fits))) (omega (arith, length-drop 42 rest)) g.0 in
+    let p = payload_taken known knows h.oid h.length (drop 42 rest) (eqb h.length 0) refl (same h.oid) (AreBytes-drop 42 rest fits) (omega (arith, number_in-lt 8 (drop 34 rest) (AreBytes-drop 34 rest fits))) (omega (arith, length-drop 42 rest)) g.0 in
     let header_is : data_header place tid (record_in rest) ≡ h = data_header_from h refl (sym tid_is) refl (sym place_is) (sym version_is) p.len_is in
-    let split = data_header_split rest (omega arith) (IsBytes-take 42 rest fits) in
+    let split = data_header_split rest (omega arith) (AreBytes-take 42 rest fits) in
     let text_is : record_text place tid (record_in rest) ≡ data_header_text h ++ payload_text (payload_in h rest) = ap (λ (x : DataHeader). data_header_text x ++ payload_text (payload_in h rest)) header_is in
     let behind : drop size rest ≡ drop (payload_size h) (drop 42 rest) = ap (λ (n : ℕ). drop n rest) (sym size_is) ∙ sym (drop-drop (payload_size h) 42 rest) in
     record {
@@ -101,7 +102,7 @@ record_takes known knows place tid room rest oid size same fits long e =
       some = omega arith;
       size_is = sym size_is ∙ sym (ap length text_is ∙ length-append (data_header_text h) (payload_text (payload_in h rest)) ∙ ap (λ (n : ℕ). n + length (payload_text (payload_in h rest))) (length-data_header_text h) ∙ ap (λ (n : ℕ). 42 + n) p.size_is);
       parts = split ∙ ap (λ (x : List ℕ). data_header_text h ++ x) p.parts ∙ sym (append_assoc (data_header_text h) (payload_text (payload_in h rest)) (drop (payload_size h) (drop 42 rest))) ∙ ap (λ (x : List ℕ). x ++ drop (payload_size h) (drop 42 rest)) (sym text_is) ∙ ap (λ (x : List ℕ). record_text place tid (record_in rest) ++ x) (sym behind);
-      is = record { oid = omega (arith, number_in-lt 8 rest fits); previous = omega (arith, number_in-lt 8 (drop 16 rest) (IsBytes-drop 16 rest fits)); payload = p.is };
+      is = record { oid = omega (arith, number_in-lt 8 rest fits); previous = omega (arith, number_in-lt 8 (drop 16 rest) (AreBytes-drop 16 rest fits)); payload = p.is };
     }
 
 eqb-same : (n : ℕ) → eqb n n ≡ true
@@ -146,7 +147,7 @@ payload_fits known oid (From at) is = omega arith
 abbrev written : ℕ → ℕ → Payload → Written
 written oid previous p = record { oid = oid; previous = previous; payload = p }
 
-pub record_again : (known : List Known) (knows : ℕ → ℕ → Bool) (place tid room : ℕ) (r : Written) (more : List ℕ) → ((oid at : ℕ) → knows oid at ≡ is_known known oid at) → IsWritten known r → tid < 2 ^ 64 → place < 2 ^ 64 → length (record_text place tid r) ≤ room
+pub record_again : (known : List Known) (knows : ℕ → ℕ → Bool) (place tid room : ℕ) (r : Written) (more : List ℕ) → ((oid at : ℕ) → knows oid at ≡ is_known known oid at) → IsWrittenRecord known r → tid < 2 ^ 64 → place < 2 ^ 64 → length (record_text place tid r) ≤ room
     → (record_at knows place tid room (record_text place tid r ++ more) ≡ Ok (r.oid, length (record_text place tid r))) × (record_in (record_text place tid r ++ more) ≡ r)
 unfolding record_text
 record_again known knows place tid room r more same is tid_fits place_fits fits =

@@ -11,7 +11,7 @@ use Rattle.zb_model.specs.declared.data.Change.{Change}
 use Rattle.zb_model.specs.declared.data.Transaction.{Transaction}
 use Rattle.zb_model.specs.Database as database
 use Rattle.zb_model.specs.Database.{ObjectRevision, is_change_of, change_in, revision_in, revisions, revision_below}
-use Rattle.fs_records.specs.Blocks.{Known, Written, record_text, content_of, known_at, with_record, with_records, changes_of, as_change, Reached, start, transaction_of, after, records_from, Block, after_all, Begins}
+use Rattle.fs_records.specs.Blocks.{Known, Written, record_text, content_of, known_at, with_record, with_records, changes_of, as_change, Reached, file_start, transaction_of, after_block, records_from, Block, after_blocks, Begins}
 use Rattle.fs_records.specs.Places.{is_of_below, record_below, revision_of}
 use Rattle.fs_records.specs.Databases.{distinct_changes}
 
@@ -134,8 +134,8 @@ none_twice : (s : Reached) (b : Block) → IsDistinct nat_eq (keys_of (changes_o
 unfolding IsDistinct
 none_twice s b = distinct_changes [] s.known s.end b.tid (records_from s.end b) b.records tt
 
-pub revises_more : (s : Reached) (b : Block) → Revises s → Revises (after s b)
-unfolding after
+pub revises_more : (s : Reached) (b : Block) → Revises s → Revises (after_block s b)
+unfolding after_block
 revises_more s b so_far oid front = by_cases (nat_lt b.tid front) refl
   where
     by_cases : (below : Bool) → nat_lt b.tid front ≡ below → option_map revision_of (record_below oid front (with_records s.known s.end b.tid (records_from s.end b) b.records)) ≡ revision_below oid front (s.list ++ transaction_of s b ∷ [])
@@ -149,10 +149,10 @@ revises_more s b so_far oid front = by_cases (nat_lt b.tid front) refl
         ∙ so_far oid front
         ∙ sym (revision_more oid front s.list (transaction_of s b) ∙ ap (λ (c : Bool). cond c (made b.tid (option_map content_of_change (change_in oid (transaction_of s b).changes)) (revision_below oid front s.list)) (revision_below oid front s.list)) e)
 
-all_revise : (s : Reached) (bs : List Block) → Revises s → Revises (after_all s bs)
+all_revise : (s : Reached) (bs : List Block) → Revises s → Revises (after_blocks s bs)
 all_revise s [] h = h
-all_revise s (b ∷ bs) h = all_revise (after s b) bs (revises_more s b h)
+all_revise s (b ∷ bs) h = all_revise (after_block s b) bs (revises_more s b h)
 
 -- of what bytes begin as
 pub revises_of : (bytes : List ℕ) (s : Reached) → Begins bytes s → Revises s
-revises_of bytes s begins = subst (λ (r : Reached). Revises r) (sym begins.is) (all_revise start begins.blocks (λ oid front. refl))
+revises_of bytes s begins = subst (λ (r : Reached). Revises r) (sym begins.is) (all_revise file_start begins.blocks (λ oid front. refl))

@@ -58,7 +58,7 @@ abbrev pub record_in : List ℕ → Written
 record_in rest = record { oid = (data_header_of rest).oid; previous = (data_header_of rest).previous; payload = payload_in (data_header_of rest) rest }
 
 -- these records stand in the bytes between two places
-pub record Stand (bytes : List ℕ) (known : List Known) (place tid from to : ℕ) (records : List Written) : Type 0 where
+pub record AreRecordsBetween (bytes : List ℕ) (known : List Known) (place tid from to : ℕ) (records : List Written) : Type 0 where
   pub written : AreWritten known place tid from records
   pub parts : drop from bytes ≡ records_text place tid records ++ drop to bytes
   pub next : to ≡ from + length (records_text place tid records)

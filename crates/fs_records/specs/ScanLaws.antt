@@ -6,9 +6,9 @@ use Rattle.std.proofs.lemmas.List.{append-nil, length-append, length-drop, drop-
 use Rattle.std.proofs.lemmas.List.Elements.{All-weaker, All-push}
 use Rattle.fs_records.specs.declared.field.Field.{Field}
 use Rattle.fs_records.specs.declared.place.Place.{Place}
-use Rattle.fs_records.specs.NumberLaws.{IsBytes}
-use Rattle.fs_records.specs.Blocks.{Known, known_at, Written, AreWritten, IsWritten, with_record, with_records, records_text, record_text, is_known}
-use Rattle.fs_records.specs.Rules.{Stand, record_at, record_in}
+use Rattle.zb_base.specs.Bytes.{AreBytes}
+use Rattle.fs_records.specs.Blocks.{Known, known_at, Written, AreWritten, IsWrittenRecord, with_record, with_records, records_text, record_text, is_known}
+use Rattle.fs_records.specs.Rules.{AreRecordsBetween, record_at, record_in}
 use Rattle.fs_records.specs.File.{RecordFault}
 use Rattle.fs_records.specs.Places.{place_of, IsBefore, Added, places_in, places_of, is_of, knows, ArePlacesOf, AreBefore}
 use Rattle.fs_records.specs.RecordLaws.{record_takes}
@@ -67,7 +67,7 @@ with_records-push known place tid q (x ∷ xs) r =
     with_records-push (with_record known tid q x) place tid (q + length (record_text place tid x)) xs r
     ∙ ap (λ (n : ℕ). with_record (with_records known place tid q (x ∷ xs)) tid n r) (omega (arith, length-append (record_text place tid x) (records_text place tid xs)))
 
-AreWritten-push : (known : List Known) (place tid q : ℕ) (rs : List Written) (r : Written) → AreWritten known place tid q rs → IsWritten (with_records known place tid q rs) r → AreWritten known place tid q (rs ++ r ∷ [])
+AreWritten-push : (known : List Known) (place tid q : ℕ) (rs : List Written) (r : Written) → AreWritten known place tid q rs → IsWrittenRecord (with_records known place tid q rs) r → AreWritten known place tid q (rs ++ r ∷ [])
 AreWritten-push known place tid q [] r h one = (one, tt)
 AreWritten-push known place tid q (x ∷ xs) r h one = (h.0, AreWritten-push (with_record known tid q x) place tid (q + length (record_text place tid x)) xs r h.1 one)
 
@@ -78,11 +78,11 @@ records_text-push place tid (x ∷ xs) r = ap (λ (t : List ℕ). record_text pl
 pub none_yet : (bytes : List ℕ) (known : List Known) (place tid from : ℕ) (entries : List (ℕ × List Place)) → ArePlacesOf known entries → RecordsIndexed bytes known place tid from from entries
 none_yet bytes known place tid from entries index = record { records = []; stand = record { written = tt; parts = refl; next = omega arith }; index = index }
 
-pub one_more : (bytes : List ℕ) (known : List Known) (place tid from q end oid size : ℕ) (old new : List (ℕ × List Place)) → IsBytes (drop q bytes) → end ≤ length bytes → q ≤ end
+pub one_record_more : (bytes : List ℕ) (known : List Known) (place tid from q end oid size : ℕ) (old new : List (ℕ × List Place)) → AreBytes (drop q bytes) → end ≤ length bytes → q ≤ end
     → Ok (oid, size) ≡ record_at (knows old) place tid (end - q) (drop q bytes)
     → Added old oid (record { serial = tid; at = q }) new
     → RecordsIndexed bytes known place tid from q old → RecordsIndexed bytes known place tid from (q + size) new
-one_more bytes known place tid from q end oid size old new fits within order read added so_far =
+one_record_more bytes known place tid from q end oid size old new fits within order read added so_far =
     let rs = so_far.records in
     let r = record_in (drop q bytes) in
     let known_now = with_records known place tid from rs in
@@ -112,9 +112,9 @@ fault_found bytes known place tid from q end field entries before fault so_far =
 }
 
 -- the same without an index
-pub stand_more : (bytes : List ℕ) (known : List Known) (place tid from q end oid size : ℕ) (rs : List Written) → IsBytes (drop q bytes) → end ≤ length bytes → q ≤ end
-    → Stand bytes known place tid from q rs → record_at (is_known (with_records known place tid from rs)) place tid (end - q) (drop q bytes) ≡ Ok (oid, size)
-    → Stand bytes known place tid from (q + size) (rs ++ record_in (drop q bytes) ∷ []) × (0 < size) × (size ≤ end - q)
+pub stand_more : (bytes : List ℕ) (known : List Known) (place tid from q end oid size : ℕ) (rs : List Written) → AreBytes (drop q bytes) → end ≤ length bytes → q ≤ end
+    → AreRecordsBetween bytes known place tid from q rs → record_at (is_known (with_records known place tid from rs)) place tid (end - q) (drop q bytes) ≡ Ok (oid, size)
+    → AreRecordsBetween bytes known place tid from (q + size) (rs ++ record_in (drop q bytes) ∷ []) × (0 < size) × (size ≤ end - q)
 stand_more bytes known place tid from q end oid size rs fits within order stand read =
     let r = record_in (drop q bytes) in
     let known_now = with_records known place tid from rs in

@@ -11,9 +11,9 @@ use Rattle.fs_records.specs.Numbers.{number, number_in}
 use Rattle.fs_records.specs.NumberLaws.{length-number, number_in-number}
 use Rattle.fs_records.specs.Headers.{data_header_text, header_text, header_of}
 use Rattle.fs_records.specs.HeaderLaws.{length-data_header_text, IsHeader, header_again, length-header_text}
-use Rattle.fs_records.specs.Blocks.{data_header, payload_text, Written, Known, AreWritten, IsWritten, with_record, with_records, record_text, records_text, is_known, Block, Reached, start, texts, records_from, length_of, header_for, block_text, after, IsBlock, AreBlocks, blocks_text, after_all, Begins, magic}
+use Rattle.fs_records.specs.Blocks.{data_header, payload_text, Written, Known, AreWritten, IsWrittenRecord, with_record, with_records, record_text, records_text, is_known, Block, Reached, file_start, texts, records_from, length_of, header_for, block_text, after_block, IsBlock, AreBlocks, blocks_text, after_blocks, Begins, magic}
 use Rattle.fs_records.specs.Rules.{record_at, record_in, texts_length, verdict}
-use Rattle.fs_records.specs.File.{StandsAs, EndsAt, IsDamaged, IsFault, head, data_record, RecordFault, data_from, data_to}
+use Rattle.fs_records.specs.File.{IsReadAs, EndsAt, IsDamaged, IsFault, head, data_record, RecordFault, data_from, data_to}
 use Rattle.fs_records.specs.RecordLaws.{record_again}
 
 -- ---- fronts of the same length
@@ -34,7 +34,7 @@ record_long : (place tid : ℕ) (r : Written) → 42 ≤ length (record_text pla
 unfolding record_text
 record_long place tid r = omega (arith, length-append (data_header_text (data_header place tid r)) (payload_text r.payload), length-data_header_text (data_header place tid r))
 
-pub one_record : (known : List Known) (place tid : ℕ) (r s : Written) (x y : List ℕ) → place < 2 ^ 64 → tid < 2 ^ 64 → IsWritten known r → IsWritten known s → record_text place tid r ++ x ≡ record_text place tid s ++ y → r ≡ s
+pub one_record : (known : List Known) (place tid : ℕ) (r s : Written) (x y : List ℕ) → place < 2 ^ 64 → tid < 2 ^ 64 → IsWrittenRecord known r → IsWrittenRecord known s → record_text place tid r ++ x ≡ record_text place tid s ++ y → r ≡ s
 one_record known place tid r s x y p t hr hs e =
     let a = record_again known (is_known known) place tid (length (record_text place tid r)) r x (λ o q. refl) hr t p (omega arith) in
     let b = record_again known (is_known known) place tid (length (record_text place tid s)) s y (λ o q. refl) hs t p (omega arith) in
@@ -197,28 +197,28 @@ fault_stops bytes s at field (data_record is f) b more block e =
 
 -- ---- one reading
 
-blocks_same : (s : Reached) (bs cs : List Block) (x y : List ℕ) → AreBlocks s bs → AreBlocks s cs → blocks_text s bs ++ x ≡ blocks_text s cs ++ y → Stops (after_all s bs) x → Stops (after_all s cs) y → bs ≡ cs
+blocks_same : (s : Reached) (bs cs : List Block) (x y : List ℕ) → AreBlocks s bs → AreBlocks s cs → blocks_text s bs ++ x ≡ blocks_text s cs ++ y → Stops (after_blocks s bs) x → Stops (after_blocks s cs) y → bs ≡ cs
 unfolding Stops
 blocks_same s [] [] x y hb hc e sx sy = refl
-blocks_same s [] (c ∷ cs) x y hb hc e sx sy = absurd (sx c (blocks_text (after s c) cs ++ y) hc.0 (e ∙ append_assoc (block_text s.end c) (blocks_text (after s c) cs) y))
-blocks_same s (b ∷ bs) [] x y hb hc e sx sy = absurd (sy b (blocks_text (after s b) bs ++ x) hb.0 (sym e ∙ append_assoc (block_text s.end b) (blocks_text (after s b) bs) x))
+blocks_same s [] (c ∷ cs) x y hb hc e sx sy = absurd (sx c (blocks_text (after_block s c) cs ++ y) hc.0 (e ∙ append_assoc (block_text s.end c) (blocks_text (after_block s c) cs) y))
+blocks_same s (b ∷ bs) [] x y hb hc e sx sy = absurd (sy b (blocks_text (after_block s b) bs ++ x) hb.0 (sym e ∙ append_assoc (block_text s.end b) (blocks_text (after_block s b) bs) x))
 blocks_same s (b ∷ bs) (c ∷ cs) x y hb hc e sx sy =
-    let whole : block_text s.end b ++ (blocks_text (after s b) bs ++ x) ≡ block_text s.end c ++ (blocks_text (after s c) cs ++ y) = sym (append_assoc (block_text s.end b) (blocks_text (after s b) bs) x) ∙ e ∙ append_assoc (block_text s.end c) (blocks_text (after s c) cs) y in
+    let whole : block_text s.end b ++ (blocks_text (after_block s b) bs ++ x) ≡ block_text s.end c ++ (blocks_text (after_block s c) cs ++ y) = sym (append_assoc (block_text s.end b) (blocks_text (after_block s b) bs) x) ∙ e ∙ append_assoc (block_text s.end c) (blocks_text (after_block s c) cs) y in
     let one : c ≡ b = sym (block_same s b c _ _ hb.0 hc.0 whole) in
     let len = ap (λ (w : Block). length (block_text s.end w)) one in
     let behind = front_same (block_text s.end b) (block_text s.end c) _ _ (sym len) whole in
-    let others : AreBlocks (after s b) cs = subst (λ (w : Block). AreBlocks (after s w) cs) one hc.1 in
-    let behind_too : blocks_text (after s b) bs ++ x ≡ blocks_text (after s b) cs ++ y = behind.1 ∙ ap (λ (w : Block). blocks_text (after s w) cs ++ y) one in
-    let stops_too : Stops (after_all (after s b) cs) y = subst (λ (w : Block). Stops (after_all (after s w) cs) y) one sy in
-    let same = blocks_same (after s b) bs cs x y hb.1 others behind_too sx stops_too in
+    let others : AreBlocks (after_block s b) cs = subst (λ (w : Block). AreBlocks (after_block s w) cs) one hc.1 in
+    let behind_too : blocks_text (after_block s b) bs ++ x ≡ blocks_text (after_block s b) cs ++ y = behind.1 ∙ ap (λ (w : Block). blocks_text (after_block s w) cs ++ y) one in
+    let stops_too : Stops (after_blocks (after_block s b) cs) y = subst (λ (w : Block). Stops (after_blocks (after_block s w) cs) y) one sy in
+    let same = blocks_same (after_block s b) bs cs x y hb.1 others behind_too sx stops_too in
     cc (one, same)
 
 -- two readings that stop are one
 pub reached_same : (bytes : List ℕ) (s t : Reached) → Begins bytes s → Begins bytes t → Stops s (drop s.end bytes) → Stops t (drop t.end bytes) → s ≡ t
 reached_same bytes s t bs bt ss st =
     let e = append_cancel_left magic _ _ (sym bs.parts ∙ bt.parts) in
-    let same = blocks_same start bs.blocks bt.blocks (drop s.end bytes) (drop t.end bytes) bs.are bt.are e (subst (λ (r : Reached). Stops r (drop s.end bytes)) bs.is ss) (subst (λ (r : Reached). Stops r (drop t.end bytes)) bt.is st) in
-    bs.is ∙ ap (after_all start) same ∙ sym bt.is
+    let same = blocks_same file_start bs.blocks bt.blocks (drop s.end bytes) (drop t.end bytes) bs.are bt.are e (subst (λ (r : Reached). Stops r (drop s.end bytes)) bs.is ss) (subst (λ (r : Reached). Stops r (drop t.end bytes)) bt.is st) in
+    bs.is ∙ ap (after_blocks file_start) same ∙ sym bt.is
 
 one_cut : (bytes : List ℕ) (s : Reached) (a b : Option ℕ) → EndsAt bytes s a → EndsAt bytes s b → a ≡ b
 one_cut bytes s None None ha hb = refl
@@ -227,7 +227,7 @@ one_cut bytes s (Some a) None ha hb = absurd (cc (ha.0, hb))
 one_cut bytes s (Some a) (Some b) ha hb = ap (λ (n : ℕ). Some n) (ha.1 ∙ sym hb.1)
 
 -- the list is one, and so is the cut
-pub one_list : (bytes : List ℕ) (s t : Reached) (a b : Option ℕ) → StandsAs bytes s a → StandsAs bytes t b → (s ≡ t) × (a ≡ b)
+pub one_list : (bytes : List ℕ) (s t : Reached) (a b : Option ℕ) → IsReadAs bytes s a → IsReadAs bytes t b → (s ≡ t) × (a ≡ b)
 one_list bytes s t a b hs ht =
     let same = reached_same bytes s t hs.begins ht.begins (ends_stops bytes s a hs.ends) (ends_stops bytes t b ht.ends) in
     (same, one_cut bytes s a b hs.ends (subst (λ (r : Reached). EndsAt bytes r b) (sym same) ht.ends))
@@ -239,7 +239,7 @@ no_end bytes s None at field ends (data_record is f) = cc
 no_end bytes s (Some a) at field ends (data_record is f) = absurd (cc (ends.0, is))
 
 -- what stands for a list is not damaged
-pub never_both : (bytes : List ℕ) (s : Reached) (cut : Option ℕ) (at : ℕ) (field : Field) → StandsAs bytes s cut → IsDamaged bytes at field → ⊥
+pub never_both : (bytes : List ℕ) (s : Reached) (cut : Option ℕ) (at : ℕ) (field : Field) → IsReadAs bytes s cut → IsDamaged bytes at field → ⊥
 never_both bytes s cut at field stands damaged =
     let same = reached_same bytes damaged.reached s damaged.begins stands.begins (fault_stops bytes damaged.reached at field damaged.fault) (ends_stops bytes s cut stands.ends) in
     no_end bytes s cut at field stands.ends (subst (λ (r : Reached). IsFault bytes r at field) same damaged.fault)

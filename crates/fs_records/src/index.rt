@@ -2,7 +2,7 @@
 
 ghost use Rattle.std.specs.Prelude.{◌≡◌, List, [], ◌∷◌, ◌++◌, All, OnOk, OnErr};
 ghost use Rattle.std.specs.List.{last_or};
-ghost use Rattle.fs_records.specs.Places.{places_in, Added, Taken, all_but_last, IsBefore, IsRising};
+ghost use Rattle.fs_records.specs.Places.{places_in, Added, IsTakenBack, all_but_last, IsBefore, IsRising};
 
 use crate::place::Place;
 use indexmap::IndexMap;
@@ -21,13 +21,13 @@ pub struct Index {
 }
 
 impl Model for Index {
-    ghost use Rattle.fs_records.specs.Places.{Kept, IsSound};
+    ghost use Rattle.fs_records.specs.Places.{Kept, IsSoundIndex};
 
     ghost Value = { Kept };
 
     ghost view = { λ index. record { entries = index.objects.entries; transactions = index.transactions } };
 
-    ghost invariant = { λ index. IsSound (record { entries = index.objects.entries; transactions = index.transactions }) };
+    ghost invariant = { λ index. IsSoundIndex (record { entries = index.objects.entries; transactions = index.transactions }) };
 }
 
 /// Puts a place at the end of an object's places.
@@ -53,7 +53,7 @@ fn keep(
 /// Takes the last of an object's places off, or answers None where there is none.
 fn take_back(objects: &mut IndexMap<Oid, ListOf<Place>>, oid: Oid) -> Option<Place>
     ensures value { result ≡ last_or None (places_in objects.old.entries oid) }
-    ensures taken { Taken objects.old.entries oid objects.new.entries }
+    ensures taken { IsTakenBack objects.old.entries oid objects.new.entries }
 {
     match objects.get_mut(&oid) {
         None => None,
@@ -120,7 +120,7 @@ impl Index {
     /// takes no memory.
     pub fn pop_record(&mut self, oid: Oid) -> Option<Place>
         ensures value { result ≡ last_or None (places_in self.old.entries oid) }
-        ensures taken { Taken self.old.entries oid self.new.entries }
+        ensures taken { IsTakenBack self.old.entries oid self.new.entries }
         ensures transactions { self.new.transactions ≡ self.old.transactions }
     {
         take_back(&mut self.objects, oid)

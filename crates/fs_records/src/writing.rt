@@ -18,7 +18,7 @@ use zb_ids::{Text8, Tid};
 use zb_model::{NewChange, NewContent, NewTransaction};
 
 /// Where the last of these places is, or 0 where there is none.
-#[tactic(auto, using(crate::proofs::Searching::last_or_get))]
+#[tactic(auto, using(zb_base::specs::Lists::last_or_get))]
 fn newest(places: &[Place]) -> u64
     ensures { result ≡ at_or_0 (last_or None places.now) }
 {

@@ -9,10 +9,10 @@ use Rattle.fs_records.specs.declared.field.Field.{Field}
 use Rattle.fs_records.specs.declared.verdict.Verdict.{Verdict}
 use Rattle.fs_records.specs.declared.verdict.Verdict.TheVariants.{Ends, Tail, Fault, Begun}
 use Rattle.fs_records.specs.Headers.{header_of}
-use Rattle.fs_records.specs.NumberLaws.{IsBytes}
+use Rattle.zb_base.specs.Bytes.{AreBytes}
 use Rattle.fs_records.specs.Blocks.{Known, Reached}
 use Rattle.fs_records.specs.Rules.{verdict, texts_length}
-use Rattle.fs_records.specs.File.{StandsAs, a_file, RecordFault, IsDamaged, head, data_record, data_from, data_to}
+use Rattle.fs_records.specs.File.{IsReadAs, a_file, RecordFault, IsDamaged, head, data_record, data_from, data_to}
 use Rattle.fs_records.specs.Places.{Kept, AreBefore, IsBefore, ArePlacesOf}
 use Rattle.fs_records.specs.Scan.{Indexed, RecordsIndexed}
 use Rattle.fs_records.specs.Lists.{not_damaged, not_no_file}
@@ -20,7 +20,7 @@ use Rattle.fs_records.specs.WriteLaws.{without_tail_stands}
 use Rattle.fs_records.specs.OpenLaws.{before_weaker, block_more}
 use Rattle.fs_recovery.specs.declared.errors.OpenError.{OpenError}
 use Rattle.fs_recovery.specs.declared.errors.OpenError.TheVariants.{StoreFault, BadRecord, NotFileStorage, Memory}
-use Rattle.fs_recovery.specs.Heads.{Begins}
+use Rattle.fs_recovery.specs.Heads.{HeaderBegins}
 use Rattle.fs_recovery.specs.Records.{RecordsRead}
 use Rattle.fs_recovery.specs.declared.opening.Opened.{Opened}
 use Rattle.fs_recovery.specs.Opens.{newest_kept, KeptBefore, BlockRead, IsNoList, IsOpened, IsWhole}
@@ -82,7 +82,7 @@ fault_here bytes kept p newest field so_far e =
     record { reached = s; begins = so_far.begins; fault = head (verdict_here bytes p newest s (Fault field) so_far.end_is so_far.newest_is e) (sym so_far.end_is) }
 
 -- a fault in a data record
-fault_inside : (bytes : List ℕ) (kept : Kept) (p newest : ℕ) (h : Header) (at : ℕ) (field : Field) → Begins bytes p newest h → (so_far : Indexed bytes p newest kept)
+fault_inside : (bytes : List ℕ) (kept : Kept) (p newest : ℕ) (h : Header) (at : ℕ) (field : Field) → HeaderBegins bytes p newest h → (so_far : Indexed bytes p newest kept)
     → RecordFault bytes so_far.reached.known p h.tid (p + (23 + texts_length h)) (p + h.length) at field → IsDamaged bytes at field
 fault_inside bytes kept p newest h at field begins so_far fault =
     let s = so_far.reached in
@@ -94,7 +94,7 @@ fault_inside bytes kept p newest h at field begins so_far fault =
     record { reached = s; begins = so_far.begins; fault = data_record (verdict_here bytes p newest s Begun so_far.end_is so_far.newest_is begins.begun) here }
 
 -- what its data records answered where they weren't all read
-pub refused : (bytes : List ℕ) (old new : Kept) (entries : List (ℕ × List Place)) (p newest : ℕ) (h : Header) (to tid : ℕ) (e : OpenError) → Begins bytes p newest h → (so_far : Indexed bytes p newest old)
+pub refused : (bytes : List ℕ) (old new : Kept) (entries : List (ℕ × List Place)) (p newest : ℕ) (h : Header) (to tid : ℕ) (e : OpenError) → HeaderBegins bytes p newest h → (so_far : Indexed bytes p newest old)
     → ((known : List Known) → ArePlacesOf known old.entries → RecordsRead bytes known p h.tid (p + (23 + texts_length h)) (p + h.length) entries (Err e)) → BlockRead bytes to tid new (Err e)
 refused bytes old new entries p newest h to tid StoreFault begins so_far read = tt
 refused bytes old new entries p newest h to tid (BadRecord at field) begins so_far read = fault_inside bytes old p newest h at field begins so_far (read so_far.reached.known so_far.index.records)
@@ -102,7 +102,7 @@ refused bytes old new entries p newest h to tid NotFileStorage begins so_far rea
 refused bytes old new entries p newest h to tid Memory begins so_far read = tt
 
 -- and where they were
-pub accepted : (bytes : List ℕ) (old mid new : Kept) (p newest : ℕ) (h : Header) → p < 2 ^ 64 → IsBytes bytes → Begins bytes p newest h
+pub accepted : (bytes : List ℕ) (old mid new : Kept) (p newest : ℕ) (h : Header) → p < 2 ^ 64 → AreBytes bytes → HeaderBegins bytes p newest h
     → ((known : List Known) → ArePlacesOf known old.entries → RecordsIndexed bytes known p h.tid (p + (23 + texts_length h)) (p + h.length) mid.entries)
     → mid.transactions ≡ old.transactions → new.transactions ≡ mid.transactions ++ record { serial = h.tid; at = p } ∷ [] → new.entries ≡ mid.entries
     → Indexed bytes p newest old → Indexed bytes (p + h.length + 8) h.tid new
@@ -118,7 +118,7 @@ whole_now bytes now o is opened =
     let cut_there : take s.end bytes ≡ now = ap (λ (n : ℕ). take n bytes) opened.end_is ∙ sym is in
     record {
       reached = s;
-      stands = subst (λ (b : List ℕ). StandsAs b s None) cut_there (without_tail_stands bytes s o.cut opened.stands);
+      stands = subst (λ (b : List ℕ). IsReadAs b s None) cut_there (without_tail_stands bytes s o.cut opened.stands);
       end_is = opened.end_is;
       index = opened.index;
     }

@@ -4,7 +4,7 @@ use Rattle.std.specs.Prelude.{◌==◌, ◌||◌, not, nat_lt, nat_le}
 use Rattle.std.proofs.lemmas.Bool.{eqb-true}
 use Rattle.std.proofs.lemmas.List.{append-nil, nil_from_length, take-append-drop}
 use Rattle.fs_records.specs.Blocks.{Reached}
-use Rattle.fs_records.specs.File.{StandsAs}
+use Rattle.fs_records.specs.File.{IsReadAs}
 use Rattle.fs_records.specs.Headers.{header_of}
 use Rattle.fs_records.specs.Numbers.{number_in}
 use Rattle.fs_records.specs.Rules.{texts_length, verdict}
@@ -37,6 +37,6 @@ nothing_behind newest rest ends =
     nil_from_length rest (eqb-true _ _ (is_none (length rest == 0) _ p0 ends))
 
 -- a file without a tail ends where what was reached of it ends
-pub whole_end : (bytes : List ℕ) (s : Reached) → StandsAs bytes s None → take s.end bytes ≡ bytes
+pub whole_end : (bytes : List ℕ) (s : Reached) → IsReadAs bytes s None → take s.end bytes ≡ bytes
 whole_end bytes s stands =
     sym (append-nil (take s.end bytes)) ∙ ap (λ (x : List ℕ). take s.end bytes ++ x) (sym (nothing_behind s.newest (drop s.end bytes) stands.ends)) ∙ take-append-drop s.end bytes

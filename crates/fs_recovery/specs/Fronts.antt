@@ -11,8 +11,8 @@ use Rattle.fs_records.specs.Numbers.{number_in}
 use Rattle.fs_records.specs.Headers.{header_of}
 use Rattle.fs_records.specs.HeaderLaws.{header_of-take}
 use Rattle.fs_records.specs.Rules.{verdict, texts_length}
-use Rattle.fs_records.specs.Blocks.{Reached, start, blocks_text, magic, Begins}
-use Rattle.fs_records.specs.File.{StandsAs, IsTail}
+use Rattle.fs_records.specs.Blocks.{Reached, file_start, blocks_text, magic, Begins}
+use Rattle.fs_records.specs.File.{IsReadAs, IsTail}
 
 -- ---- the rules, of so many bytes with this header and this closing length
 
@@ -129,7 +129,7 @@ empty_ends newest rest is = verdict_is newest rest ∙ nothing (eqb (length rest
 
 pub begins_shorter : (bytes : List ℕ) (s : Reached) (n : ℕ) → s.end ≤ n → s.end ≤ length bytes → Begins bytes s → Begins (take n bytes) s
 begins_shorter bytes s n enough within begins =
-    let text = blocks_text start begins.blocks in
+    let text = blocks_text file_start begins.blocks in
     let front : List ℕ = magic ++ text in
     let parts : bytes ≡ front ++ drop s.end bytes = begins.parts ∙ sym (append_assoc magic text (drop s.end bytes)) in
     let long : length front ≡ s.end = omega (arith, ap length parts, length-append front (drop s.end bytes), length-drop s.end bytes) in
@@ -146,7 +146,7 @@ rest_shorter bytes s n enough =
     let e : s.end + (n - s.end) ≡ n = omega arith in
     ap (λ (k : ℕ). drop s.end (take k bytes)) (sym e) ∙ drop-take s.end (n - s.end) bytes
 
-pub stands_shorter : (bytes : List ℕ) (s : Reached) (cut : Option ℕ) (n : ℕ) → s.end ≤ n → s.end ≤ length bytes → StandsAs bytes s cut → (k : Option ℕ) × StandsAs (take n bytes) s k
+pub stands_shorter : (bytes : List ℕ) (s : Reached) (cut : Option ℕ) (n : ℕ) → s.end ≤ n → s.end ≤ length bytes → IsReadAs bytes s cut → (k : Option ℕ) × IsReadAs (take n bytes) s k
 stands_shorter bytes s None n enough within stands =
     let rest = rest_shorter bytes s n enough in
     let none = ends_empty s.newest (drop s.end bytes) stands.ends in

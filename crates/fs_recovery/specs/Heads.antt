@@ -15,12 +15,12 @@ Judges (heads.Fault field) newest rest = verdict newest rest ≡ verdicts.Fault 
 Judges (heads.Begun h) newest rest = (verdict newest rest ≡ verdicts.Begun) × (h ≡ header_of rest)
 
 -- a transaction with this header begins at a place
-pub record Begins (bytes : List ℕ) (p newest : ℕ) (h : Header) : Type 0 where
+pub record HeaderBegins (bytes : List ℕ) (p newest : ℕ) (h : Header) : Type 0 where
   pub begun : verdict newest (drop p bytes) ≡ verdicts.Begun
   pub header_is : h ≡ header_of (drop p bytes)
 
 -- of a transaction that begins, whatever a volume gives: it ends within the room, has room for its texts, and its number is above the last and below 2^64-1
-pub record Fits (h : Header) (newest room : ℕ) : Type 0 where
+pub record HeaderFits (h : Header) (newest room : ℕ) : Type 0 where
   pub long : h.length + 8 ≤ room
   pub texts : 23 + texts_length h ≤ h.length
   pub above : newest < h.tid
@@ -30,4 +30,4 @@ abbrev pub IsFit : Head → ℕ → ℕ → Type 0
 IsFit heads.Ends newest room = Unit {0}
 IsFit heads.Tail newest room = Unit {0}
 IsFit (heads.Fault field) newest room = Unit {0}
-IsFit (heads.Begun h) newest room = Fits h newest room
+IsFit (heads.Begun h) newest room = HeaderFits h newest room

@@ -4,19 +4,18 @@ use Rattle.std.specs.List.{last_or}
 use Rattle.std.specs.Option.{option_map_or}
 use Rattle.zb_volume.specs.declared.areas.Area.TheVariants.{Main}
 use Rattle.zb_volume.specs.Calls.{Event}
-use Rattle.zb_volume.specs.Disk.{IsSettled}
+use Rattle.zb_volume.specs.Disk.{IsSettled, main_bytes}
 use Rattle.zb_volume.specs.Images.{CrashLeavesWith}
 use Rattle.zb_volume.specs.Moments.{LeavesOnly}
 use Rattle.fs_records.specs.declared.field.Field.{Field}
 use Rattle.fs_records.specs.declared.place.Place.{Place}
 use Rattle.fs_records.specs.Blocks.{Reached}
-use Rattle.fs_records.specs.File.{StandsAs, IsNoFile, IsDamaged}
+use Rattle.fs_records.specs.File.{IsReadAs, IsNoFile, IsDamaged}
 use Rattle.fs_records.specs.Places.{Kept, AreBefore, IsBefore, IsIndexOf}
 use Rattle.fs_records.specs.Scan.{Indexed}
 use Rattle.fs_recovery.specs.declared.errors.OpenError.{OpenError}
 use Rattle.fs_recovery.specs.declared.errors.OpenError.TheVariants.{StoreFault, BadRecord, NotFileStorage, Memory}
 use Rattle.fs_recovery.specs.declared.opening.Opened.{Opened}
-use Rattle.fs_recovery.specs.Reading.{main}
 
 -- ---- what an index keeps, whatever a volume gives
 
@@ -51,7 +50,7 @@ BlockRead bytes p newest kept (Err Memory) = Unit {0}
 -- the bytes stand for what was reached, with this cut, up to this end, and the index is one of that
 pub record IsOpened (bytes : List ℕ) (o : Opened) : Type 0 where
   pub reached : Reached
-  pub stands : StandsAs bytes reached o.cut
+  pub stands : IsReadAs bytes reached o.cut
   pub end_is : reached.end ≡ o.end
   pub index : IsIndexOf reached o.index
 
@@ -75,8 +74,8 @@ IsNoList bytes = IsNoFile bytes ⊎ ((at : ℕ) × (field : Field) × IsDamaged 
 
 -- where Main stands for a list, a crash at any moment leaves of it what it could leave before, or that cut at some length down to the end of the list
 abbrev pub MomentsOfOpening : List Event → List Event → Type 0
-MomentsOfOpening old new = (s : Reached) (cut : Option ℕ) → StandsAs (main old) s cut → LeavesOnly Main (CrashLeavesWith old Main (take s.end (main old))) old new
+MomentsOfOpening old new = (s : Reached) (cut : Option ℕ) → IsReadAs (main_bytes old) s cut → LeavesOnly Main (CrashLeavesWith old Main (take s.end (main_bytes old))) old new
 
 -- where Main stands for a list and nothing of it was pending, all that a crash at any moment leaves of it stands for that list
 abbrev pub ImagesStand : List Event → List Event → Type 0
-ImagesStand old new = (s : Reached) (cut : Option ℕ) → StandsAs (main old) s cut → IsSettled old Main → LeavesOnly Main (λ image. (k : Option ℕ) × StandsAs image s k) old new
+ImagesStand old new = (s : Reached) (cut : Option ℕ) → IsReadAs (main_bytes old) s cut → IsSettled old Main → LeavesOnly Main (λ image. (k : Option ℕ) × IsReadAs image s k) old new

@@ -3,13 +3,10 @@ use Rattle.std.specs.Prelude.{◌≡◌, ◌⊎◌, ℕ, ◌+◌, ◌≤◌, Lis
 use Rattle.zb_volume.specs.declared.areas.Area.TheVariants.{Main}
 use Rattle.zb_volume.specs.Calls.{Event}
 use Rattle.zb_volume.specs.Disk.{seen}
-use Rattle.zb_volume.specs.Faults.{Rose}
+use Rattle.zb_base.specs.Counts.{Rose}
 use Rattle.fs_recovery.specs.declared.errors.OpenError.{OpenError}
 use Rattle.fs_recovery.specs.declared.errors.OpenError.TheVariants.{StoreFault, BadRecord, NotFileStorage, Memory}
-
--- what a read gives of Main
-abbrev pub main : List Event → List ℕ
-main log = seen log Main
+use Rattle.zb_volume.specs.Disk.{main_bytes}
 
 -- the first `count` bytes that are held are those of the text from a place on
 abbrev pub Shows : ℕ → ℕ → List ℕ → List ℕ → Type 0
@@ -52,9 +49,9 @@ CountsFault old new reads reads_now writes writes_now (Err NotFileStorage) = (re
 CountsFault old new reads reads_now writes writes_now (Err Memory) = (reads_now ≡ reads) × (writes_now ≡ writes)
 
 -- it is refused for what Main is, or for want of memory
-abbrev pub IsRefused : {T : Type 0} → Result T OpenError → Type 0
-IsRefused (Ok x) = ⊥
-IsRefused (Err StoreFault) = ⊥
-IsRefused (Err (BadRecord at field)) = Unit {0}
-IsRefused (Err NotFileStorage) = Unit {0}
-IsRefused (Err Memory) = Unit {0}
+abbrev pub RefusesMain : {T : Type 0} → Result T OpenError → Type 0
+RefusesMain (Ok x) = ⊥
+RefusesMain (Err StoreFault) = ⊥
+RefusesMain (Err (BadRecord at field)) = Unit {0}
+RefusesMain (Err NotFileStorage) = Unit {0}
+RefusesMain (Err Memory) = Unit {0}

@@ -9,12 +9,12 @@ use Rattle.fs_recovery.specs.declared.errors.OpenError.{OpenError}
 use Rattle.fs_recovery.specs.declared.errors.OpenError.TheVariants.{StoreFault, BadRecord, NotFileStorage, Memory}
 
 -- one data record at q: what the rules say of it, unless a read failed
-abbrev pub Gives : Result (ℕ × ℕ) OpenError → ℕ → Result (ℕ × ℕ) Field → Type 0
-Gives (Ok x) q read = read ≡ Ok x
-Gives (Err StoreFault) q read = Unit {0}
-Gives (Err (BadRecord at field)) q read = (at ≡ q) × (read ≡ Err field)
-Gives (Err NotFileStorage) q read = ⊥
-Gives (Err Memory) q read = ⊥
+abbrev pub RecordGives : Result (ℕ × ℕ) OpenError → ℕ → Result (ℕ × ℕ) Field → Type 0
+RecordGives (Ok x) q read = read ≡ Ok x
+RecordGives (Err StoreFault) q read = Unit {0}
+RecordGives (Err (BadRecord at field)) q read = (at ≡ q) × (read ≡ Err field)
+RecordGives (Err NotFileStorage) q read = ⊥
+RecordGives (Err Memory) q read = ⊥
 
 -- all of them: they stand and are kept, or the first fault among them
 abbrev pub RecordsRead : List ℕ → List Known → ℕ → ℕ → ℕ → ℕ → List (ℕ × List Place) → Result (Unit {0}) OpenError → Type 0

@@ -1,9 +1,10 @@
 //! What stands where a transaction may begin.
 
 ghost use Rattle.std.specs.Prelude.{◌≡◌, ◌-◌, ◌≤◌, length, drop, IfOk, OnOk};
-ghost use Rattle.zb_volume.specs.Faults.{HasCause};
-ghost use Rattle.fs_recovery.specs.Reading.{main, Shows};
+ghost use Rattle.zb_base.specs.Counts.{HasCause};
+ghost use Rattle.fs_recovery.specs.Reading.{Shows};
 ghost use Rattle.fs_recovery.specs.Heads.{Judges, IsFit};
+ghost use Rattle.zb_volume.specs.Disk.{main_bytes};
 
 use crate::head::Head;
 use crate::pieces::{header_at, number_behind};
@@ -23,13 +24,13 @@ pub fn judge<V: Volume, const N: usize>(
 ) -> Result<Head, StoreFault>
     requires small { 42 ≤ N }
     requires order { p ≤ window.old.length }
-    requires length { V.told → window.old.length ≡ length (main (V.log volume.old)) }
+    requires length { V.told → window.old.length ≡ length (main_bytes (V.log volume.old)) }
     requires shows { V.told →
-        Shows window.old.at window.old.count window.old.held (main (V.log volume.old)) }
-    ensures value { V.told → IfOk result (λ x. Judges x newest (drop p (main (V.log volume.old)))) }
+        Shows window.old.at window.old.count window.old.held (main_bytes (V.log volume.old)) }
+    ensures value { V.told → IfOk result (λ x. Judges x newest (drop p (main_bytes (V.log volume.old)))) }
     ensures fit { IfOk result (λ x. IsFit x newest (window.old.length - p)) }
     ensures shows { V.told →
-        Shows window.new.at window.new.count window.new.held (main (V.log volume.old)) }
+        Shows window.new.at window.new.count window.new.held (main_bytes (V.log volume.old)) }
     ensures length { window.new.length ≡ window.old.length }
     ensures same { V.log volume.new ≡ V.log volume.old }
     ensures cause { HasCause (V.read_faults volume.old) (V.read_faults volume.new) result }

@@ -3,15 +3,15 @@
 ghost use Rattle.std.specs.Prelude.{◌≡◌, ◌≢◌, ℕ, ◌+◌, ◌<◌, ◌≤◌, ◌^◌, List, [], length, take, drop, IfOk, OnOk};
 ghost use Rattle.std.specs.Str.{bytes_eq};
 ghost use Rattle.zb_volume.specs.declared.areas.Area.{Area};
-ghost use Rattle.zb_volume.specs.Disk.{IsSettled};
-ghost use Rattle.zb_volume.specs.Faults.{HasCause};
+ghost use Rattle.zb_volume.specs.Disk.{IsSettled, main_bytes};
+ghost use Rattle.zb_base.specs.Counts.{HasCause};
 ghost use Rattle.zb_volume.specs.Moments.{StaysAs};
-ghost use Rattle.fs_records.specs.NumberLaws.{IsBytes};
+ghost use Rattle.zb_base.specs.Bytes.{AreBytes};
 ghost use Rattle.fs_records.specs.Blocks.{magic};
 ghost use Rattle.fs_records.specs.Headers.{header_of};
 ghost use Rattle.fs_records.specs.Rules.{texts_length};
-ghost use Rattle.fs_recovery.specs.Reading.{main, Shows, CountsReads, CountsFault, IsRefused};
-ghost use Rattle.fs_recovery.specs.Heads.{Begins};
+ghost use Rattle.fs_recovery.specs.Reading.{Shows, CountsReads, CountsFault, RefusesMain};
+ghost use Rattle.fs_recovery.specs.Heads.{HeaderBegins};
 ghost use Rattle.fs_recovery.specs.Opens.{newest_kept, KeptBefore, BlockRead, IsBounded, IsNoList, IsWhole, Opens, MomentsOfOpening, ImagesStand};
 ghost use Rattle.fs_records.specs.Scan.{Indexed};
 
@@ -55,19 +55,19 @@ fn keep_block<V: Volume, const N: usize>(
     requires texts { 23 + texts_length header.now ≤ header.now.length }
     requires above { newest_kept index.old < header.now.tid }
     requires before { KeptBefore index.old p }
-    requires length { V.told → window.old.length ≡ length (main (V.log volume.old)) }
+    requires length { V.told → window.old.length ≡ length (main_bytes (V.log volume.old)) }
     requires shows { V.told →
-        Shows window.old.at window.old.count window.old.held (main (V.log volume.old)) }
-    requires bytes { V.told → IsBytes (main (V.log volume.old)) }
+        Shows window.old.at window.old.count window.old.held (main_bytes (V.log volume.old)) }
+    requires bytes { V.told → AreBytes (main_bytes (V.log volume.old)) }
     ensures before { OnOk result (KeptBefore index.new (p + header.now.length + 8)) }
     ensures newest { OnOk result (newest_kept index.new ≡ header.now.tid) }
     ensures read { V.told →
-        Begins (main (V.log volume.old)) p (newest_kept index.old) header.now →
-        Indexed (main (V.log volume.old)) p (newest_kept index.old) index.old →
-        BlockRead (main (V.log volume.old)) (p + header.now.length + 8) header.now.tid
+        HeaderBegins (main_bytes (V.log volume.old)) p (newest_kept index.old) header.now →
+        Indexed (main_bytes (V.log volume.old)) p (newest_kept index.old) index.old →
+        BlockRead (main_bytes (V.log volume.old)) (p + header.now.length + 8) header.now.tid
         index.new result }
     ensures shows { V.told →
-        Shows window.new.at window.new.count window.new.held (main (V.log volume.old)) }
+        Shows window.new.at window.new.count window.new.held (main_bytes (V.log volume.old)) }
     ensures length { window.new.length ≡ window.old.length }
     ensures same { V.log volume.new ≡ V.log volume.old }
     ensures counts { CountsReads (V.read_faults volume.old) (V.read_faults volume.new) result }
@@ -99,12 +99,12 @@ fn read_blocks<V: Volume, const N: usize>(
 ) -> Result<Opened, OpenError>
     requires small { 42 ≤ N }
     requires long { 4 ≤ window.old.length }
-    requires length { V.told → window.old.length ≡ length (main (V.log volume.old)) }
+    requires length { V.told → window.old.length ≡ length (main_bytes (V.log volume.old)) }
     requires shows { V.told →
-        Shows window.old.at window.old.count window.old.held (main (V.log volume.old)) }
-    requires bytes { V.told → IsBytes (main (V.log volume.old)) }
-    requires magic { V.told → take 4 (main (V.log volume.old)) ≡ magic }
-    ensures opens { V.told → Opens (main (V.log volume.old)) result }
+        Shows window.old.at window.old.count window.old.held (main_bytes (V.log volume.old)) }
+    requires bytes { V.told → AreBytes (main_bytes (V.log volume.old)) }
+    requires magic { V.told → take 4 (main_bytes (V.log volume.old)) ≡ magic }
+    ensures opens { V.told → Opens (main_bytes (V.log volume.old)) result }
     ensures bounded { IfOk result (λ o. IsBounded o) }
     ensures end { IfOk result (λ o. o.end ≤ window.old.length) }
     ensures same { V.log volume.new ≡ V.log volume.old }
@@ -154,13 +154,13 @@ fn has_magic<V: Volume, const N: usize>(
 ) -> Result<bool, StoreFault>
     requires small { 42 ≤ N }
     requires long { 4 ≤ window.old.length }
-    requires length { V.told → window.old.length ≡ length (main (V.log volume.old)) }
+    requires length { V.told → window.old.length ≡ length (main_bytes (V.log volume.old)) }
     requires shows { V.told →
-        Shows window.old.at window.old.count window.old.held (main (V.log volume.old)) }
+        Shows window.old.at window.old.count window.old.held (main_bytes (V.log volume.old)) }
     ensures value { V.told →
-        IfOk result (λ b. b ≡ bytes_eq (take 4 (main (V.log volume.old))) magic) }
+        IfOk result (λ b. b ≡ bytes_eq (take 4 (main_bytes (V.log volume.old))) magic) }
     ensures shows { V.told →
-        Shows window.new.at window.new.count window.new.held (main (V.log volume.old)) }
+        Shows window.new.at window.new.count window.new.held (main_bytes (V.log volume.old)) }
     ensures length { window.new.length ≡ window.old.length }
     ensures same { V.log volume.new ≡ V.log volume.old }
     ensures cause { HasCause (V.read_faults volume.old) (V.read_faults volume.new) result }
@@ -175,10 +175,10 @@ fn has_magic<V: Volume, const N: usize>(
 /// Reads Main, which has so many bytes.
 fn read_main<V: Volume>(alloc: Global, volume: &mut V, long: u64) -> Result<Opened, OpenError>
     requires limit { long < 2 ^ 63 }
-    requires some { V.told → main (V.log volume.old) ≢ [] }
-    requires length { V.told → long ≡ length (main (V.log volume.old)) }
-    requires bytes { V.told → IsBytes (main (V.log volume.old)) }
-    ensures opens { V.told → Opens (main (V.log volume.old)) result }
+    requires some { V.told → main_bytes (V.log volume.old) ≢ [] }
+    requires length { V.told → long ≡ length (main_bytes (V.log volume.old)) }
+    requires bytes { V.told → AreBytes (main_bytes (V.log volume.old)) }
+    ensures opens { V.told → Opens (main_bytes (V.log volume.old)) result }
     ensures bounded { IfOk result (λ o. IsBounded o) }
     ensures end { IfOk result (λ o. o.end ≤ long) }
     ensures same { V.log volume.new ≡ V.log volume.old }
@@ -201,8 +201,8 @@ fn read_main<V: Volume>(alloc: Global, volume: &mut V, long: u64) -> Result<Open
 ///
 /// Its answers are those of `open_main`, but that a StoreFault comes only where a read failed.
 pub fn read_file<V: Volume>(alloc: Global, volume: &mut V) -> Result<Opened, OpenError>
-    requires { V.told → main (V.log volume.old) ≢ [] }
-    ensures opens { V.told → Opens (main (V.log volume.old)) result }
+    requires { V.told → main_bytes (V.log volume.old) ≢ [] }
+    ensures opens { V.told → Opens (main_bytes (V.log volume.old)) result }
     ensures bounded { IfOk result (λ o. IsBounded o) }
     ensures same { V.log volume.new ≡ V.log volume.old }
     ensures counts { CountsReads (V.read_faults volume.old) (V.read_faults volume.new) result }
@@ -225,14 +225,14 @@ pub fn read_file<V: Volume>(alloc: Global, volume: &mut V) -> Result<Opened, Ope
 /// share a read, the content of the records is skipped, and no file takes more than two reads for
 /// each transaction, two for each data record and one besides.
 pub fn open_main<V: Volume>(alloc: Global, volume: &mut V) -> Result<Opened, OpenError>
-    requires { V.told → main (V.log volume.old) ≢ [] }
-    ensures opens { V.told → Opens (main (V.log volume.old)) result }
+    requires { V.told → main_bytes (V.log volume.old) ≢ [] }
+    ensures opens { V.told → Opens (main_bytes (V.log volume.old)) result }
     ensures content { V.told →
-        IfOk result (λ o. main (V.log volume.new) ≡ take o.end (main (V.log volume.old))) }
-    ensures whole { V.told → IfOk result (λ o. IsWhole (main (V.log volume.new)) o) }
+        IfOk result (λ o. main_bytes (V.log volume.new) ≡ take o.end (main_bytes (V.log volume.old))) }
+    ensures whole { V.told → IfOk result (λ o. IsWhole (main_bytes (V.log volume.new)) o) }
     ensures settled { V.told → OnOk result (IsSettled (V.log volume.new) Area.Main) }
-    ensures untouched { IsRefused result → V.log volume.new ≡ V.log volume.old }
-    ensures harmed { V.told → IsNoList (main (V.log volume.old)) → V.log volume.new ≡ V.log volume.old }
+    ensures untouched { RefusesMain result → V.log volume.new ≡ V.log volume.old }
+    ensures harmed { V.told → IsNoList (main_bytes (V.log volume.old)) → V.log volume.new ≡ V.log volume.old }
     ensures side { V.told → StaysAs Area.Side (V.log volume.old) (V.log volume.new) }
     ensures any_moment { V.told → MomentsOfOpening (V.log volume.old) (V.log volume.new) }
     ensures images { V.told → ImagesStand (V.log volume.old) (V.log volume.new) }

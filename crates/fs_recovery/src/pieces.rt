@@ -1,10 +1,11 @@
 //! Headers and numbers of Main.
 
 ghost use Rattle.std.specs.Prelude.{◌≡◌, ◌+◌, ◌<◌, ◌^◌, ◌≤◌, length, drop, IfOk, OnOk};
-ghost use Rattle.zb_volume.specs.Faults.{HasCause};
+ghost use Rattle.zb_base.specs.Counts.{HasCause};
 ghost use Rattle.fs_records.specs.Headers.{header_of, data_header_of};
 ghost use Rattle.fs_records.specs.Numbers.{number_in};
-ghost use Rattle.fs_recovery.specs.Reading.{main, Shows};
+ghost use Rattle.fs_recovery.specs.Reading.{Shows};
+ghost use Rattle.zb_volume.specs.Disk.{main_bytes};
 
 use crate::window::Window;
 use byteorder::{BigEndian, ByteOrder};
@@ -19,12 +20,12 @@ pub fn header_at<V: Volume, const N: usize>(
 ) -> Result<Header, StoreFault>
     requires small { 42 ≤ N }
     requires within { at + 23 ≤ window.old.length }
-    requires length { V.told → window.old.length ≡ length (main (V.log volume.old)) }
+    requires length { V.told → window.old.length ≡ length (main_bytes (V.log volume.old)) }
     requires shows { V.told →
-        Shows window.old.at window.old.count window.old.held (main (V.log volume.old)) }
-    ensures value { V.told → IfOk result (λ h. h ≡ header_of (drop at (main (V.log volume.old)))) }
+        Shows window.old.at window.old.count window.old.held (main_bytes (V.log volume.old)) }
+    ensures value { V.told → IfOk result (λ h. h ≡ header_of (drop at (main_bytes (V.log volume.old)))) }
     ensures shows { V.told →
-        Shows window.new.at window.new.count window.new.held (main (V.log volume.old)) }
+        Shows window.new.at window.new.count window.new.held (main_bytes (V.log volume.old)) }
     ensures length { window.new.length ≡ window.old.length }
     ensures same { V.log volume.new ≡ V.log volume.old }
     ensures cause { HasCause (V.read_faults volume.old) (V.read_faults volume.new) result }
@@ -44,13 +45,13 @@ pub fn data_header_at<V: Volume, const N: usize>(
 ) -> Result<DataHeader, StoreFault>
     requires small { 42 ≤ N }
     requires within { at + 42 ≤ window.old.length }
-    requires length { V.told → window.old.length ≡ length (main (V.log volume.old)) }
+    requires length { V.told → window.old.length ≡ length (main_bytes (V.log volume.old)) }
     requires shows { V.told →
-        Shows window.old.at window.old.count window.old.held (main (V.log volume.old)) }
+        Shows window.old.at window.old.count window.old.held (main_bytes (V.log volume.old)) }
     ensures value { V.told →
-        IfOk result (λ h. h ≡ data_header_of (drop at (main (V.log volume.old)))) }
+        IfOk result (λ h. h ≡ data_header_of (drop at (main_bytes (V.log volume.old)))) }
     ensures shows { V.told →
-        Shows window.new.at window.new.count window.new.held (main (V.log volume.old)) }
+        Shows window.new.at window.new.count window.new.held (main_bytes (V.log volume.old)) }
     ensures length { window.new.length ≡ window.old.length }
     ensures same { V.log volume.new ≡ V.log volume.old }
     ensures cause { HasCause (V.read_faults volume.old) (V.read_faults volume.new) result }
@@ -71,11 +72,11 @@ pub fn number_behind<V: Volume, const N: usize>(
     n: u64,
 ) -> Result<u64, StoreFault>
     requires within { at + n + 8 ≤ window.now.length }
-    requires length { V.told → window.now.length ≡ length (main (V.log volume.old)) }
+    requires length { V.told → window.now.length ≡ length (main_bytes (V.log volume.old)) }
     requires shows { V.told →
-        Shows window.now.at window.now.count window.now.held (main (V.log volume.old)) }
+        Shows window.now.at window.now.count window.now.held (main_bytes (V.log volume.old)) }
     ensures value { V.told →
-        IfOk result (λ x. x ≡ number_in 8 (drop n (drop at (main (V.log volume.old))))) }
+        IfOk result (λ x. x ≡ number_in 8 (drop n (drop at (main_bytes (V.log volume.old))))) }
     ensures same { V.log volume.new ≡ V.log volume.old }
     ensures cause { HasCause (V.read_faults volume.old) (V.read_faults volume.new) result }
     ensures uncounted { OnOk result (V.read_faults volume.new ≡ V.read_faults volume.old) }

@@ -1,13 +1,14 @@
 //! The data records of a transaction.
 
 ghost use Rattle.std.specs.Prelude.{◌≡◌, ℕ, ◌+◌, ◌-◌, ◌<◌, ◌≤◌, List, length, drop, IfOk, OnOk};
-ghost use Rattle.zb_volume.specs.Faults.{HasCause};
-ghost use Rattle.fs_records.specs.NumberLaws.{IsBytes};
+ghost use Rattle.zb_base.specs.Counts.{HasCause};
+ghost use Rattle.zb_base.specs.Bytes.{AreBytes};
 ghost use Rattle.fs_records.specs.Blocks.{Known};
 ghost use Rattle.fs_records.specs.Rules.{record_at, payload_size, is_astray};
 ghost use Rattle.fs_records.specs.Places.{knows, AreBefore, ArePlacesOf};
-ghost use Rattle.fs_recovery.specs.Reading.{main, Shows, CountsReads};
-ghost use Rattle.fs_recovery.specs.Records.{Gives, RecordsRead};
+ghost use Rattle.fs_recovery.specs.Reading.{Shows, CountsReads};
+ghost use Rattle.fs_recovery.specs.Records.{RecordGives, RecordsRead};
+ghost use Rattle.zb_volume.specs.Disk.{main_bytes};
 
 use crate::errors::OpenError;
 use crate::pieces::{data_header_at, number_behind};
@@ -33,12 +34,12 @@ fn is_astray<V: Volume, const N: usize>(
     index: &Index,
 ) -> Result<bool, StoreFault>
     requires within { q + 42 + payload_size header.now ≤ window.now.length }
-    requires length { V.told → window.now.length ≡ length (main (V.log volume.old)) }
+    requires length { V.told → window.now.length ≡ length (main_bytes (V.log volume.old)) }
     requires shows { V.told →
-        Shows window.now.at window.now.count window.now.held (main (V.log volume.old)) }
+        Shows window.now.at window.now.count window.now.held (main_bytes (V.log volume.old)) }
     ensures value { V.told →
         IfOk result (λ b. b ≡ is_astray (knows index.now.entries) header.now
-        (drop q (main (V.log volume.old)))) }
+        (drop q (main_bytes (V.log volume.old)))) }
     ensures same { V.log volume.new ≡ V.log volume.old }
     ensures cause { HasCause (V.read_faults volume.old) (V.read_faults volume.new) result }
     ensures uncounted { OnOk result (V.read_faults volume.new ≡ V.read_faults volume.old) }
@@ -76,15 +77,15 @@ fn read_record<V: Volume, const N: usize>(
     requires small { 42 ≤ N }
     requires order { q ≤ end }
     requires within { end ≤ window.old.length }
-    requires length { V.told → window.old.length ≡ length (main (V.log volume.old)) }
+    requires length { V.told → window.old.length ≡ length (main_bytes (V.log volume.old)) }
     requires shows { V.told →
-        Shows window.old.at window.old.count window.old.held (main (V.log volume.old)) }
+        Shows window.old.at window.old.count window.old.held (main_bytes (V.log volume.old)) }
     ensures size { IfOk result (λ r. (0 < r.1) × (r.1 ≤ end - q)) }
     ensures value { V.told →
-        Gives result q (record_at (knows index.now.entries) place tid (end - q)
-        (drop q (main (V.log volume.old)))) }
+        RecordGives result q (record_at (knows index.now.entries) place tid (end - q)
+        (drop q (main_bytes (V.log volume.old)))) }
     ensures shows { V.told →
-        Shows window.new.at window.new.count window.new.held (main (V.log volume.old)) }
+        Shows window.new.at window.new.count window.new.held (main_bytes (V.log volume.old)) }
     ensures length { window.new.length ≡ window.old.length }
     ensures same { V.log volume.new ≡ V.log volume.old }
     ensures counts { CountsReads (V.read_faults volume.old) (V.read_faults volume.new) result }
@@ -128,17 +129,17 @@ pub fn read_records<V: Volume, const N: usize>(
     requires small { 42 ≤ N }
     requires order { from ≤ end }
     requires within { end ≤ window.old.length }
-    requires length { V.told → window.old.length ≡ length (main (V.log volume.old)) }
+    requires length { V.told → window.old.length ≡ length (main_bytes (V.log volume.old)) }
     requires shows { V.told →
-        Shows window.old.at window.old.count window.old.held (main (V.log volume.old)) }
-    requires bytes { V.told → IsBytes (main (V.log volume.old)) }
+        Shows window.old.at window.old.count window.old.held (main_bytes (V.log volume.old)) }
+    requires bytes { V.told → AreBytes (main_bytes (V.log volume.old)) }
     requires before { AreBefore index.old.entries tid from }
     ensures before { OnOk result (AreBefore index.new.entries tid end) }
     ensures read { V.told → (known : List Known) → ArePlacesOf known index.old.entries →
-        RecordsRead (main (V.log volume.old)) known place tid from end index.new.entries result }
+        RecordsRead (main_bytes (V.log volume.old)) known place tid from end index.new.entries result }
     ensures transactions { index.new.transactions ≡ index.old.transactions }
     ensures shows { V.told →
-        Shows window.new.at window.new.count window.new.held (main (V.log volume.old)) }
+        Shows window.new.at window.new.count window.new.held (main_bytes (V.log volume.old)) }
     ensures length { window.new.length ≡ window.old.length }
     ensures same { V.log volume.new ≡ V.log volume.old }
     ensures counts { CountsReads (V.read_faults volume.old) (V.read_faults volume.new) result }

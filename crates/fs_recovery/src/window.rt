@@ -1,8 +1,9 @@
 //! A piece of Main that was read.
 
 ghost use Rattle.std.specs.Prelude.{◌≡◌, ◌+◌, ◌-◌, ◌<◌, ◌≤◌, ◌^◌, length, take, drop, true, OnOk};
-ghost use Rattle.zb_volume.specs.Faults.{HasCause};
-ghost use Rattle.fs_recovery.specs.Reading.{main, Shows, Covers};
+ghost use Rattle.zb_base.specs.Counts.{HasCause};
+ghost use Rattle.fs_recovery.specs.Reading.{Shows, Covers};
+ghost use Rattle.zb_volume.specs.Disk.{main_bytes};
 
 use zb_volume::{Area, StoreFault, Volume};
 
@@ -51,11 +52,11 @@ impl<const N: usize> Window<N> {
     fn fill<V: Volume>(&mut self, volume: &mut V, at: u64, n: usize) -> Result<(), StoreFault>
         requires small { n ≤ N }
         requires within { at + n ≤ self.old.length }
-        requires length { V.told → self.old.length ≡ length (main (V.log volume.old)) }
+        requires length { V.told → self.old.length ≡ length (main_bytes (V.log volume.old)) }
         requires shows { V.told →
-            Shows self.old.at self.old.count self.old.held (main (V.log volume.old)) }
+            Shows self.old.at self.old.count self.old.held (main_bytes (V.log volume.old)) }
         ensures shows { V.told →
-            Shows self.new.at self.new.count self.new.held (main (V.log volume.old)) }
+            Shows self.new.at self.new.count self.new.held (main_bytes (V.log volume.old)) }
         ensures covers { OnOk result (Covers self.new.at self.new.count at n) }
         ensures length { self.new.length ≡ self.old.length }
         ensures same { V.log volume.new ≡ V.log volume.old }
@@ -97,13 +98,13 @@ impl<const N: usize> Window<N> {
     ) -> Result<(), StoreFault>
         requires small { length out.old ≤ N }
         requires within { at + length out.old ≤ self.old.length }
-        requires length { V.told → self.old.length ≡ length (main (V.log volume.old)) }
+        requires length { V.told → self.old.length ≡ length (main_bytes (V.log volume.old)) }
         requires shows { V.told →
-            Shows self.old.at self.old.count self.old.held (main (V.log volume.old)) }
+            Shows self.old.at self.old.count self.old.held (main_bytes (V.log volume.old)) }
         ensures bytes { V.told →
-            OnOk result (out.new ≡ take (length out.old) (drop at (main (V.log volume.old)))) }
+            OnOk result (out.new ≡ take (length out.old) (drop at (main_bytes (V.log volume.old)))) }
         ensures shows { V.told →
-            Shows self.new.at self.new.count self.new.held (main (V.log volume.old)) }
+            Shows self.new.at self.new.count self.new.held (main_bytes (V.log volume.old)) }
         ensures length { self.new.length ≡ self.old.length }
         ensures same { V.log volume.new ≡ V.log volume.old }
         ensures cause { HasCause (V.read_faults volume.old) (V.read_faults volume.new) result }
@@ -119,11 +120,11 @@ impl<const N: usize> Window<N> {
     /// Fills `out` with the bytes at a place, and keeps what it holds, wherever that is.
     pub fn peek<V: Volume>(&self, volume: &mut V, at: u64, out: &mut [u8]) -> Result<(), StoreFault>
         requires within { at + length out.old ≤ self.now.length }
-        requires length { V.told → self.now.length ≡ length (main (V.log volume.old)) }
+        requires length { V.told → self.now.length ≡ length (main_bytes (V.log volume.old)) }
         requires shows { V.told →
-            Shows self.now.at self.now.count self.now.held (main (V.log volume.old)) }
+            Shows self.now.at self.now.count self.now.held (main_bytes (V.log volume.old)) }
         ensures bytes { V.told →
-            OnOk result (out.new ≡ take (length out.old) (drop at (main (V.log volume.old)))) }
+            OnOk result (out.new ≡ take (length out.old) (drop at (main_bytes (V.log volume.old)))) }
         ensures same { V.log volume.new ≡ V.log volume.old }
         ensures cause { HasCause (V.read_faults volume.old) (V.read_faults volume.new) result }
         ensures uncounted { OnOk result (V.read_faults volume.new ≡ V.read_faults volume.old) }

@@ -10,7 +10,7 @@ use crate::gathering::{gather_history, gather_undo_log};
 use crate::making::{copy_of, find_below, make_voted};
 use crate::walks::{count_to, first_above, greatest_oid_of, pack_point_of, transaction_with};
 use std::alloc::{AllocError, Global};
-use zb_ids::{Oid, Tid};
+use zb_ids::{ListOf, Oid, Tid};
 use zb_model::{
     Found, LogLine, NewTransaction, Revision, Store, StoreError, Transaction, newest_of, serial_in,
 };
@@ -38,9 +38,9 @@ impl MappingStore {
     /// A store that has this transaction, with nothing voted. The one error is want of memory.
     pub fn new(alloc: Global, first: Transaction) -> Result<MappingStore, AllocError>
         requires { IsDatabase (first ∷ []) }
-        ensures list { IfOk result (λ s. ⟦<MappingStore as Store>⟧.list s ≡ first ∷ []) }
-        ensures voted { IfOk result (λ s. ⟦<MappingStore as Store>⟧.voted s ≡ None) }
-        ensures broken { IfOk result (λ s. ⟦<MappingStore as Store>⟧.broken s ≡ false) }
+        ensures list { IfOk result (λ s. (⟦<MappingStore as Store>⟧.state s).list ≡ first ∷ []) }
+        ensures voted { IfOk result (λ s. (⟦<MappingStore as Store>⟧.state s).voted ≡ None) }
+        ensures broken { IfOk result (λ s. (⟦<MappingStore as Store>⟧.state s).broken ≡ false) }
     {
         let count = first.changes.len() as u64;
         let mut items = Vec::new(alloc);
@@ -54,7 +54,7 @@ impl MappingStore {
 
     /// The transactions, the oldest first, where they stand.
     pub fn list(&self) -> &[Transaction]
-        ensures { result.now ≡ ⟦<MappingStore as Store>⟧.list self.now }
+        ensures { result.now ≡ (⟦<MappingStore as Store>⟧.state self.now).list }
     {
         self.items.as_slice()
     }
@@ -70,21 +70,17 @@ impl Store for MappingStore {
 
     ghost quiet = { Unit {0} };
 
-    ghost log = { λ _. [] };
-
     ghost stands = { λ _ _. ⊥ };
 
-    ghost broken = { λ _. false };
-
-    ghost list = { λ store. store.items.items };
-
-    ghost newest_number = { λ store. newest_tid store.items.items };
-
-    ghost voted = { λ store. store.voted };
-
-    ghost faults = { λ _. 0 };
-
-    ghost read_faults = { λ _. 0 };
+    ghost state = { λ store. record {
+      list = store.items.items;
+      voted = store.voted;
+      newest = newest_tid store.items.items;
+      broken = false;
+      log = [];
+      faults = 0;
+      read_faults = 0;
+    } };
 
     ghost database = { λ store _ _. store.database };
 
@@ -125,14 +121,14 @@ impl Store for MappingStore {
         Ok(found)
     }
 
-    fn history(&mut self, alloc: Global, oid: Oid) -> Result<Vec<Revision>, StoreError> {
+    fn history(&mut self, alloc: Global, oid: Oid) -> Result<ListOf<Revision>, StoreError> {
         let lines = gather_history(alloc, self.items.as_slice(), oid)?;
-        Ok(lines)
+        Ok(ListOf::from_vec(lines))
     }
 
-    fn undo_log(&mut self, alloc: Global) -> Result<Vec<LogLine>, StoreError> {
+    fn undo_log(&mut self, alloc: Global) -> Result<ListOf<LogLine>, StoreError> {
         let lines = gather_undo_log(alloc, self.items.as_slice())?;
-        Ok(lines)
+        Ok(ListOf::from_vec(lines))
     }
 
     #[tactic(auto, using(zb_model::specs::VotingLaws::voted_database))]

@@ -11,8 +11,8 @@ use Rattle.pickle_ops.specs.declared.table.Kind.{Kind}
 use Rattle.pickle_ops.specs.declared.table.Kind.TheVariants as kinds
 use Rattle.pickle_ops.specs.declared.argument.Fault.TheVariants.{Missing}
 use Rattle.pickle_ops.specs.declared.token.TokenError.TheVariants.{Cut}
-use Rattle.pickle_ops.specs.Arguments.{Found, argument_in, span, counted, signed_span, checked, second_line, first_line, two_lines, is_newline, version}
-use Rattle.pickle_ops.specs.Tokens.{token_at, placed, row_token}
+use Rattle.pickle_ops.specs.Arguments.{Found, argument_in, span, counted_bytes, signed_span, checked, second_line, lines_from, two_lines, is_newline, version}
+use Rattle.pickle_ops.specs.Tokens.{token_at, token_placed, row_token}
 use Rattle.pickle_ops.specs.Grammar.{SpellsNumber, SpellsCounted, SpellsLines, IsArgument, IsToken, is_one_line, unsigned_value, signed_value}
 use Rattle.pickle_ops.proofs.Lines.{position-line, position-cut}
 
@@ -48,7 +48,7 @@ guarded size text n found missed = either (ltb (length (take n text)) size) refl
     either true e = refl
     either false e = missed (omega (arith, ltb-false _ _ e, length-take n text))
 
-counted_cut : (size : ℕ) (text : List ℕ) (number : ℤ) (held : List ℕ) (n : ℕ) → SpellsCounted size (unsigned_value size) text number held → n < length text → IsMissed (counted size) text n
+counted_cut : (size : ℕ) (text : List ℕ) (number : ℤ) (held : List ℕ) (n : ℕ) → SpellsCounted size (unsigned_value size) text number held → n < length text → IsMissed (counted_bytes size) text n
 counted_cut size text number held n s short =
     let count : little_number size s.head ≡ length held = cc (s.count) in
     guarded size text n (span size (little_number size (take n text)) (take n text))
@@ -67,7 +67,7 @@ version_cut text number held (suc n) s short = absurd (omega (arith, s.long))
 first_cut : (a b : List ℕ) (n : ℕ) → is_one_line a ≡ true → n ≤ length a → two_lines (take n (a ++ 10 ∷ (b ++ 10 ∷ []))) ≡ Err Missing
 first_cut a b n one short =
     let text : List ℕ = take n (a ++ 10 ∷ (b ++ 10 ∷ [])) in
-    ap (first_line text) (position-cut a (10 ∷ (b ++ 10 ∷ [])) n one short)
+    ap (lines_from text) (position-cut a (10 ∷ (b ++ 10 ∷ [])) n one short)
 
 -- two lines, of which the second is cut
 second_cut : (a b : List ℕ) (n : ℕ) → is_one_line a ≡ true → is_one_line b ≡ true → n ≤ length b → two_lines (take (length a + 1 + n) (a ++ 10 ∷ (b ++ 10 ∷ []))) ≡ Err Missing
@@ -80,7 +80,7 @@ second_cut a b n one two short =
     ap (λ k. take k (a ++ 10 ∷ tail)) size ∙ ap (take (length line + n)) (join tail) ∙ take-append-add line tail n ∙ sym (join (take n tail)) in
     let behind : drop (length a + 1) (a ++ 10 ∷ take n tail) ≡ take n tail = ap (drop (length a + 1)) (join (take n tail)) ∙ drop_at line (take n tail) (length a + 1) (length-append a (10 ∷ [])) in
     let cut : position is_newline (drop (length a + 1) (a ++ 10 ∷ take n tail)) ≡ None = ap (position is_newline) behind ∙ position-cut b (10 ∷ []) n two short in
-    ap two_lines text ∙ ap (first_line (a ++ 10 ∷ take n tail)) (position-line a (take n tail) one) ∙ ap (second_line (a ++ 10 ∷ take n tail) (length a)) cut
+    ap two_lines text ∙ ap (lines_from (a ++ 10 ∷ take n tail)) (position-line a (take n tail) one) ∙ ap (second_line (a ++ 10 ∷ take n tail) (length a)) cut
 
 either_cut : (a b : List ℕ) (n : ℕ) → is_one_line a ≡ true → is_one_line b ≡ true → n < length a + 1 + length b + 1 → two_lines (take n (a ++ 10 ∷ (b ++ 10 ∷ []))) ≡ Err Missing
 either_cut a b n one two short = side (ltb (length a) n) refl
@@ -116,4 +116,4 @@ token_cut at text op number held zero s short = refl
 token_cut at text op number held (suc n) s short =
     let less : n < length s.argument = omega (arith, ap length s.spelled) in
     ap (λ x. token_at at (take (suc n) x)) s.spelled ∙ ap (row_token at s.row.byte (take n s.argument)) s.listed
-    ∙ ap (placed at s.row.op) (argument_cut s.row.kind s.argument number held n s.says less)
+    ∙ ap (token_placed at s.row.op) (argument_cut s.row.kind s.argument number held n s.says less)

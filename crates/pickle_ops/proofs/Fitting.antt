@@ -12,21 +12,7 @@ use Rattle.pickle_ops.specs.declared.table.Op.{Op}
 use Rattle.pickle_ops.specs.Rows.{row_in}
 use Rattle.pickle_ops.specs.Grammar.{SpellsNumber, SpellsCounted, SpellsLines, IsArgument, IsToken, unsigned_value, signed_value}
 use Rattle.pickle_ops.specs.Fits.{IsBelow, IsSigned32, IsNothing, IsShortText, Fits}
-
--- numbers below 256
-abbrev pub AreBytes : List ℕ → Type 0
-AreBytes bytes = (k : ℕ) → slice_index bytes k < 256
-
-pub take-bytes : (n : ℕ) (bytes : List ℕ) → AreBytes bytes → AreBytes (take n bytes)
-take-bytes zero bytes h k = omega arith
-take-bytes (suc n) [] h k = omega arith
-take-bytes (suc n) (byte ∷ bytes) h zero = h zero
-take-bytes (suc n) (byte ∷ bytes) h (suc k) = take-bytes n bytes (λ j. h (suc j)) k
-
-pub drop-bytes : (n : ℕ) (bytes : List ℕ) → AreBytes bytes → AreBytes (drop n bytes)
-drop-bytes zero bytes h k = h k
-drop-bytes (suc n) [] h k = omega arith
-drop-bytes (suc n) (byte ∷ bytes) h k = drop-bytes n bytes (λ j. h (suc j)) k
+use Rattle.zb_base.specs.Bytes.{AreBytes, AreBytes-take, AreBytes-drop}
 
 front-bytes : (front rest : List ℕ) → AreBytes (front ++ rest) → AreBytes front
 front-bytes [] rest h k = omega arith

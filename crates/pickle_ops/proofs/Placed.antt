@@ -8,12 +8,13 @@ use Rattle.pickle_ops.specs.declared.argument.Argument.{Argument}
 use Rattle.pickle_ops.specs.declared.token.Token.{Token}
 use Rattle.pickle_ops.specs.Rows.{row_in}
 use Rattle.pickle_ops.specs.Arguments.{Found, argument_in, held_in}
-use Rattle.pickle_ops.specs.Tokens.{Read, IsWithin, argument_bytes, placed, row_token, token_at}
+use Rattle.pickle_ops.specs.Tokens.{Read, IsWithin, argument_bytes, token_placed, row_token, token_at}
 use Rattle.pickle_ops.specs.Grammar.{IsToken, IsArgument}
 use Rattle.pickle_ops.proofs.Once.{byte-row_in}
 use Rattle.pickle_ops.specs.Fits.{Fits}
-use Rattle.pickle_ops.proofs.Fitting.{AreBytes, take-bytes, drop-bytes, token_fits}
+use Rattle.pickle_ops.proofs.Fitting.{token_fits}
 use Rattle.pickle_ops.proofs.Spelled.{Spelled, found-spelled}
+use Rattle.zb_base.specs.Bytes.{AreBytes, AreBytes-take, AreBytes-drop}
 
 pub record Stands (input : List ℕ) (at : ℕ) (t : Token) (next : ℕ) : Type 0 where
   pub within : IsWithin at (length input) t next
@@ -36,7 +37,7 @@ stands input at byte rest row a here room listed s =
     }
 
 of_found : (input : List ℕ) (at byte : ℕ) (rest : List ℕ) (row : Row) (found : Found) → drop at input ≡ byte ∷ rest → at + 1 + length rest ≡ length input → row_in TABLE.rows byte ≡ Some row → argument_in row.kind rest ≡ found →
-    IfOk (placed at row.op found) (λ r. Stands input at r.0 r.1)
+    IfOk (token_placed at row.op found) (λ r. Stands input at r.0 r.1)
 of_found input at byte rest row (Err fault) here room listed is = tt
 of_found input at byte rest row (Ok a) here room listed is = stands input at byte rest row a here room listed (found-spelled row.kind rest a is)
 
@@ -64,5 +65,5 @@ spelled-stands input at (Err e) h = tt
 
 pub fits-stands : (input : List ℕ) (at : ℕ) (r : Read) → AreBytes input → IfOk r (λ r. Stands input at r.0 r.1) → IfOk r (λ r. Fits r.0.op r.0.number (argument_bytes input r.0))
 fits-stands input at (Ok r) bytes h =
-    token_fits (slice_range input at r.1) r.0.op r.0.number (argument_bytes input r.0) (take-bytes (r.1 - at) (drop at input) (drop-bytes at input bytes)) h.spelled
+    token_fits (slice_range input at r.1) r.0.op r.0.number (argument_bytes input r.0) (AreBytes-take (r.1 - at) (drop at input) (AreBytes-drop at input bytes)) h.spelled
 fits-stands input at (Err e) bytes h = tt

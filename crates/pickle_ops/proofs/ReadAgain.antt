@@ -14,9 +14,9 @@ use Rattle.pickle_ops.specs.declared.table.Kind.TheVariants as kinds
 use Rattle.pickle_ops.specs.declared.argument.Argument.{Argument}
 use Rattle.pickle_ops.specs.declared.argument.Fault.TheVariants.{Missing, BadText}
 use Rattle.pickle_ops.specs.Rows.{row_in}
-use Rattle.pickle_ops.specs.Arguments.{Found, argument_in, held_in, span, counted, signed_span, checked, second_line, first_line, two_lines, is_newline, version}
-use Rattle.pickle_ops.specs.Tokens.{token_at, placed, row_token}
-use Rattle.pickle_ops.specs.Grammar.{SpellsNumber, SpellsCounted, SpellsLines, IsLine, IsArgument, IsToken, spelled_token, unsigned_value, signed_value}
+use Rattle.pickle_ops.specs.Arguments.{Found, argument_in, held_in, span, counted_bytes, signed_span, checked, second_line, lines_from, two_lines, is_newline, version}
+use Rattle.pickle_ops.specs.Tokens.{token_at, token_placed, row_token}
+use Rattle.pickle_ops.specs.Grammar.{SpellsNumber, SpellsCounted, SpellsLines, IsGlobalLine, IsArgument, IsToken, spelled_token, unsigned_value, signed_value}
 use Rattle.pickle_ops.proofs.Lines.{position-line}
 
 -- the argument whose bytes end its text
@@ -73,7 +73,7 @@ head_value size value text rest number held s reads =
     let text' : text ++ rest ≡ s.head ++ (held ++ rest) = ap (λ x. x ++ rest) s.spelled ∙ append_assoc s.head held rest in
     (ap value text' ∙ reads s.head (held ++ rest) s.long ∙ s.count, omega (arith, ap length text', length-append s.head (held ++ rest), s.long))
 
-counted_again : (size : ℕ) (text rest : List ℕ) (number : ℤ) (held : List ℕ) → SpellsCounted size (unsigned_value size) text number held → Again (counted size) text rest number held
+counted_again : (size : ℕ) (text rest : List ℕ) (number : ℤ) (held : List ℕ) → SpellsCounted size (unsigned_value size) text number held → Again (counted_bytes size) text rest number held
 counted_again size text rest number held s =
     let h = head_value size (unsigned_value size) text rest number held s (λ head behind long. ap pos (first_bytes size head behind long)) in
     let count : little_number size (text ++ rest) ≡ length held = cc (h.0) in
@@ -115,7 +115,7 @@ version_again (byte ∷ []) rest number held s small =
     record { short = omega arith; reads = first ∙ ap (λ z. Ok (record { number = z; before = 0; length = 1 })) says ∙ ap (λ (n : ℕ). Ok (record { number = number; before = n; length = 1 })) front ∙ ap (λ (n : ℕ). Ok (record { number = number; before = 1 - length held; length = n })) (sym whole) }
 
 -- two lines
-lines_read : (a b rest : List ℕ) → IsLine a → IsLine b → two_lines (a ++ 10 ∷ (b ++ 10 ∷ rest)) ≡ whole_of (length a + 1 + length b + 1)
+lines_read : (a b rest : List ℕ) → IsGlobalLine a → IsGlobalLine b → two_lines (a ++ 10 ∷ (b ++ 10 ∷ rest)) ≡ whole_of (length a + 1 + length b + 1)
 lines_read a b rest one two =
     let tail : List ℕ = b ++ 10 ∷ rest in
     let line : List ℕ = a ++ 10 ∷ [] in
@@ -125,7 +125,7 @@ lines_read a b rest one two =
     let name : is_utf8 (take (length b) tail) ≡ true = ap is_utf8 (take_at b (10 ∷ rest) (length b) refl) ∙ two.utf8 in
     let utf8_second : is_utf8 (take (length b) (drop (length a + 1) (a ++ 10 ∷ tail))) ≡ true = ap (λ x. is_utf8 (take (length b) x)) behind ∙ name in
     let ends : position is_newline (drop (length a + 1) (a ++ 10 ∷ tail)) ≡ Some (length b) = ap (position is_newline) behind ∙ position-line b rest two.one in
-    ap (first_line (a ++ 10 ∷ tail)) (position-line a tail one.one) ∙ ap (second_line (a ++ 10 ∷ tail) (length a)) ends ∙ both_pass _ _ (whole_of (length a + 1 + length b + 1)) utf8_first utf8_second
+    ap (lines_from (a ++ 10 ∷ tail)) (position-line a tail one.one) ∙ ap (second_line (a ++ 10 ∷ tail) (length a)) ends ∙ both_pass _ _ (whole_of (length a + 1 + length b + 1)) utf8_first utf8_second
   where
     both_pass : (s t : Bool) (found : Found) → s ≡ true → t ≡ true → cond s (cond t found (Err BadText)) (Err BadText) ≡ found
     both_pass s t found p q = rw (p, q) refl
@@ -158,11 +158,11 @@ argument_again kinds.TwoLines text rest number held s = lines_again text rest nu
 
 -- the token of a row
 row_again : (at : ℕ) (row : Row) (text rest : List ℕ) (number : ℤ) (held : List ℕ) → Again (argument_in row.kind) text rest number held →
-    placed at row.op (argument_in row.kind (text ++ rest)) ≡ Ok (spelled_token at (row.byte ∷ text) row.op number held)
+    token_placed at row.op (argument_in row.kind (text ++ rest)) ≡ Ok (spelled_token at (row.byte ∷ text) row.op number held)
 row_again at row text rest number held again =
     let start : at + 1 + (length text - length held) ≡ at + (suc (length text) - length held) = omega (arith, again.short) in
     let next : at + 1 + (length text - length held) + length held ≡ at + suc (length text) = omega (arith, again.short) in
-    let found : placed at row.op (argument_in row.kind (text ++ rest)) ≡ placed at row.op (Ok (argument_of text number held)) = ap (placed at row.op) again.reads in
+    let found : token_placed at row.op (argument_in row.kind (text ++ rest)) ≡ token_placed at row.op (Ok (argument_of text number held)) = ap (token_placed at row.op) again.reads in
     found
     ∙ ap (λ (n : ℕ). Ok (record { op = row.op; number = number; start = n; length = length held }, at + 1 + (length text - length held) + length held)) start
     ∙ ap (λ (n : ℕ). Ok (record { op = row.op; number = number; start = at + (suc (length text) - length held); length = length held }, n)) next

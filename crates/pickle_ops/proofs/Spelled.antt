@@ -11,7 +11,7 @@ use Rattle.pickle_ops.specs.declared.table.Kind.{Kind}
 use Rattle.pickle_ops.specs.declared.table.Kind.TheVariants as kinds
 use Rattle.pickle_ops.specs.declared.argument.Argument.{Argument}
 use Rattle.pickle_ops.specs.declared.argument.Fault.TheVariants.{Missing, Version, BadText}
-use Rattle.pickle_ops.specs.Arguments.{Found, argument_in, held_in, span, counted, signed_span, checked, second_line, first_line, is_newline, version}
+use Rattle.pickle_ops.specs.Arguments.{Found, argument_in, held_in, span, counted_bytes, signed_span, checked, second_line, lines_from, is_newline, version}
 use Rattle.pickle_ops.specs.Grammar.{SpellsNumber, SpellsCounted, SpellsLines, IsArgument, unsigned_value, signed_value}
 use Rattle.pickle_ops.proofs.Guards.{past_guard, through_guard}
 use Rattle.pickle_ops.proofs.Lines.{EndsAt, ends_at}
@@ -47,7 +47,7 @@ counts size count value rest a head same h =
     subst (Spelled (SpellsCounted size value) rest) is
     (record { inside = long; says = record { head = take size rest; spelled = take-add size count rest; long = head_long; count = same ∙ ap pos (sym count_long); none = refl } })
 
-counted_case : (size : ℕ) (rest : List ℕ) (a : Argument) → counted size rest ≡ Ok a → Spelled (SpellsCounted size (unsigned_value size)) rest a
+counted_case : (size : ℕ) (rest : List ℕ) (a : Argument) → counted_bytes size rest ≡ Ok a → Spelled (SpellsCounted size (unsigned_value size)) rest a
 counted_case size rest a h =
     let g = past_guard (ltb (length rest) size) Missing (span size (little_number size rest) rest) a h in
     counts size (little_number size rest) (unsigned_value size) rest a (ltb-false _ _ g.0) (ap pos (first_bytes size rest)) g.1
@@ -98,7 +98,7 @@ second_case rest i (Some j) a one at h =
     subst (Spelled SpellsLines rest) is
     (record { inside = omega (arith, one.inside, two.inside, length-drop (i + 1) rest); says = record { first = take i rest; second = take j behind; module_line = record { one = one.one; utf8 = g.0 }; name_line = record { one = two.one; utf8 = k.0 }; spelled = lines; none = refl; whole = ap (λ n. take n rest) (sym all) } })
 
-first_case : (rest : List ℕ) (o : Option ℕ) (a : Argument) → position is_newline rest ≡ o → first_line rest o ≡ Ok a → Spelled SpellsLines rest a
+first_case : (rest : List ℕ) (o : Option ℕ) (a : Argument) → position is_newline rest ≡ o → lines_from rest o ≡ Ok a → Spelled SpellsLines rest a
 first_case rest None a at h = cc
 first_case rest (Some i) a at h = second_case rest i (position is_newline (drop (i + 1) rest)) a (ends_at rest i at) refl h
 
@@ -117,7 +117,7 @@ found-spelled kinds.SignedCounted4 rest a h =
     let g = past_guard (ltb (length rest) 4) Missing (signed_span z rest) a h in
     signed_case z rest a (ltb-false _ _ g.0) (ap (twos_complement 4) (first_bytes 4 rest)) g.1
 found-spelled kinds.Text4 rest a h =
-    let g = checked_case rest (counted 4 rest) a h in
+    let g = checked_case rest (counted_bytes 4 rest) a h in
     let s = counted_case 4 rest a g.0 in
     record { inside = s.inside; says = (s.says, g.1) }
 found-spelled kinds.TwoLines rest a h = first_case rest (position is_newline rest) a refl h

@@ -23,8 +23,8 @@ version (byte ∷ rest) =
     if nat_lt 3 byte then Err (Version byte) else Ok (record { number = pos byte; before = 0; length = 1 })
 
 -- a number of so many bytes, the lowest first
-abbrev pub number : ℕ → List ℕ → Found
-number size rest =
+abbrev pub number_argument : ℕ → List ℕ → Found
+number_argument size rest =
     if nat_lt (length rest) size then Err Missing
     else Ok (record { number = pos (little_number size rest); before = 0; length = size })
 
@@ -41,8 +41,8 @@ span before count rest =
     else Ok (record { number = pos 0; before = before; length = count })
 
 -- a length of so many bytes, and the bytes that it counts
-abbrev pub counted : ℕ → List ℕ → Found
-counted size rest = if nat_lt (length rest) size then Err Missing else span size (little_number size rest) rest
+abbrev pub counted_bytes : ℕ → List ℕ → Found
+counted_bytes size rest = if nat_lt (length rest) size then Err Missing else span size (little_number size rest) rest
 
 -- the bytes that a length in two's complement counts
 abbrev pub signed_span : ℤ → List ℕ → Found
@@ -59,7 +59,7 @@ checked rest (Err fault) = Err fault
 checked rest (Ok a) = if is_utf8 (held_in rest a) then Ok a else Err BadText
 
 abbrev pub text : List ℕ → Found
-text rest = checked rest (counted 4 rest)
+text rest = checked rest (counted_bytes 4 rest)
 
 abbrev pub is_newline : ℕ → Bool
 is_newline byte = byte == 10
@@ -71,24 +71,24 @@ second_line rest i (Some j) =
     if is_utf8 (take i rest) then if is_utf8 (take j (drop (i + 1) rest)) then Ok (record { number = pos 0; before = 0; length = i + 1 + j + 1 })
     else Err BadText else Err BadText
 
-abbrev pub first_line : List ℕ → Option ℕ → Found
-first_line rest None = Err Missing
-first_line rest (Some i) = second_line rest i (position is_newline (drop (i + 1) rest))
+abbrev pub lines_from : List ℕ → Option ℕ → Found
+lines_from rest None = Err Missing
+lines_from rest (Some i) = second_line rest i (position is_newline (drop (i + 1) rest))
 
 abbrev pub two_lines : List ℕ → Found
-two_lines rest = first_line rest (position is_newline rest)
+two_lines rest = lines_from rest (position is_newline rest)
 
 -- the argument of a kind
 abbrev pub argument_in : Kind → List ℕ → Found
 argument_in kinds.Nothing rest = span 0 0 rest
 argument_in kinds.Version rest = version rest
-argument_in kinds.Unsigned1 rest = number 1 rest
-argument_in kinds.Unsigned2 rest = number 2 rest
-argument_in kinds.Unsigned4 rest = number 4 rest
+argument_in kinds.Unsigned1 rest = number_argument 1 rest
+argument_in kinds.Unsigned2 rest = number_argument 2 rest
+argument_in kinds.Unsigned4 rest = number_argument 4 rest
 argument_in kinds.Signed4 rest = signed_number rest
 argument_in kinds.Float8 rest = span 0 8 rest
-argument_in kinds.Counted1 rest = counted 1 rest
-argument_in kinds.Counted4 rest = counted 4 rest
+argument_in kinds.Counted1 rest = counted_bytes 1 rest
+argument_in kinds.Counted4 rest = counted_bytes 4 rest
 argument_in kinds.SignedCounted4 rest = signed_counted rest
 argument_in kinds.Text4 rest = text rest
 argument_in kinds.TwoLines rest = two_lines rest

@@ -29,7 +29,7 @@ abbrev pub is_one_line : List ℕ → Bool
 is_one_line [] = true
 is_one_line (byte ∷ bytes) = if byte == 10 then false else is_one_line bytes
 
-pub record IsLine (line : List ℕ) : Type 0 where
+pub record IsGlobalLine (line : List ℕ) : Type 0 where
   pub one : is_one_line line ≡ true
   pub utf8 : is_utf8 line ≡ true
 
@@ -37,8 +37,8 @@ pub record IsLine (line : List ℕ) : Type 0 where
 pub record SpellsLines (text : List ℕ) (number : ℤ) (held : List ℕ) : Type 0 where
   pub first : List ℕ
   pub second : List ℕ
-  pub module_line : IsLine first
-  pub name_line : IsLine second
+  pub module_line : IsGlobalLine first
+  pub name_line : IsGlobalLine second
   pub spelled : text ≡ first ++ 10 ∷ (second ++ 10 ∷ [])
   pub none : number ≡ pos 0
   pub whole : held ≡ text

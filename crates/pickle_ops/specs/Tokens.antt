@@ -22,14 +22,14 @@ refusal at (faults.Version byte) = UnknownOp (at + 1) byte
 refusal at faults.BadText = BadText at
 
 -- the token of an opcode at a place
-abbrev pub placed : ℕ → Op → Found → Read
-placed at op (Err fault) = Err (refusal at fault)
-placed at op (Ok a) =
+abbrev pub token_placed : ℕ → Op → Found → Read
+token_placed at op (Err fault) = Err (refusal at fault)
+token_placed at op (Ok a) =
     Ok (record { op = op; number = a.number; start = at + 1 + a.before; length = a.length }, at + 1 + a.before + a.length)
 
 abbrev pub row_token : ℕ → ℕ → List ℕ → Option Row → Read
 row_token at byte rest None = Err (UnknownOp at byte)
-row_token at byte rest (Some row) = placed at row.op (argument_in row.kind rest)
+row_token at byte rest (Some row) = token_placed at row.op (argument_in row.kind rest)
 
 -- the token at the front of the bytes behind a place
 abbrev pub token_at : ℕ → List ℕ → Read

@@ -2,7 +2,7 @@
 
 ghost use Rattle.std.specs.Prelude.{◌≡◌, IfOk, ◌==◌, position, ◌+◌, ◌≤◌, length};
 ghost use Rattle.std.specs.Str.{is_utf8};
-ghost use Rattle.pickle_ops.specs.Arguments.{argument_in, is_newline, number, signed_number, span, counted, signed_counted, text, two_lines, version};
+ghost use Rattle.pickle_ops.specs.Arguments.{argument_in, is_newline, number_argument, signed_number, span, counted_bytes, signed_counted, text, two_lines, version};
 
 use crate::table::Kind;
 use byteorder::{ByteOrder, LittleEndian};
@@ -69,7 +69,7 @@ fn read_version(rest: &[u8]) -> Result<Argument, Fault>
 fn read_number(size: usize, rest: &[u8]) -> Result<Argument, Fault>
     requires low { 1 ≤ size }
     requires high { size ≤ 4 }
-    ensures argument { result ≡ number size rest.now }
+    ensures argument { result ≡ number_argument size rest.now }
     ensures within { IfOk result (λ a. a.before + a.length ≤ length rest.now) }
 {
     if rest.len() < size {
@@ -117,7 +117,7 @@ fn read_span(before: usize, count: usize, rest: &[u8]) -> Result<Argument, Fault
 fn read_counted(size: usize, rest: &[u8]) -> Result<Argument, Fault>
     requires low { 1 ≤ size }
     requires high { size ≤ 4 }
-    ensures argument { result ≡ counted size rest.now }
+    ensures argument { result ≡ counted_bytes size rest.now }
     ensures within { IfOk result (λ a. a.before + a.length ≤ length rest.now) }
 {
     if rest.len() < size {

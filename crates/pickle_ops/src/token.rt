@@ -3,7 +3,7 @@
 ghost use Rattle.std.specs.Prelude.{◌≡◌, IfOk, ◌+◌, ◌^◌, ◌<◌, ◌≤◌, length, drop, slice_range};
 ghost use Rattle.std.specs.Result.{ForOk};
 ghost use Rattle.pickle_ops.specs.Rows.{row_in};
-ghost use Rattle.pickle_ops.specs.Tokens.{IsWithin, argument_bytes, placed, row_token, token_at};
+ghost use Rattle.pickle_ops.specs.Tokens.{IsWithin, argument_bytes, token_placed, row_token, token_at};
 ghost use Rattle.pickle_ops.specs.Grammar.{IsToken};
 ghost use Rattle.pickle_ops.specs.Fits.{Fits};
 
@@ -63,7 +63,7 @@ fn place_token(
 ) -> Result<(Token, usize), TokenError>
     requires opcode { at + 1 < 2 ^ 64 }
     requires room { ForOk found (λ a. at + 1 + (a.before + a.length) < 2 ^ 64) }
-    ensures { result ≡ placed at op found }
+    ensures { result ≡ token_placed at op found }
 {
     match found {
         Ok(argument) => {

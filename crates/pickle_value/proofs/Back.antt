@@ -17,7 +17,7 @@ use Rattle.pickle_value.specs.declared.parts.Part.TheVariants.{Byte}
 use Rattle.pickle_value.specs.declared.state.State.{State}
 use Rattle.pickle_value.specs.declared.state.Item.TheVariants.{Value}
 use Rattle.pickle_value.specs.Graph.{Graph, AreNodes, IsNode, AllBelow, PairsBelow, ActsBelow, is_tuple}
-use Rattle.pickle_value.specs.Reading.{graphs, read_from, start}
+use Rattle.pickle_value.specs.Reading.{graphs, read_from, empty_state}
 use Rattle.pickle_value.specs.Parts.{item_parts, pair_parts, act_parts, tuple_parts, list_parts, dict_parts, object_parts, parts_of, items_in}
 use Rattle.pickle_value.specs.Walks.{has_walk}
 use Rattle.pickle_value.specs.Shared.{is_shared}
@@ -151,22 +151,22 @@ module _ (sr : SpelledIsRead) where
   stop_token : IsToken (0x2e ∷ []) ops.Stop (pos 0) []
   stop_token = record { row = record { byte = 0x2e; op = ops.Stop; kind = args.Nothing }; argument = []; listed = refl; named = refl; spelled = refl; says = record { long = refl; says = refl; whole = refl } }
 
-  nothing_stands : (g : Graph) → Stands g.nodes [] (start NODE_LIMIT) []
+  nothing_stands : (g : Graph) → Stands g.nodes [] (empty_state NODE_LIMIT) []
   nothing_stands g = record { count = refl; tuples = λ i m e t. absurd cc; memo = λ m k e. absurd cc; few = omega arith; limit = omega arith }
 
   reads-same : (g : Graph) (text : List ℕ) → text ≡ 0x80 ∷ 3 ∷ ((root_piece g.nodes g.root).text ++ 0x2e ∷ []) → has_walk (suc WALK_LIMIT) g.nodes g.root ≡ false →
       Shown g.nodes g.root (root_piece g.nodes g.root) [] (visits (suc WALK_LIMIT) g.nodes (is_shared g.nodes g.root) g.root []) → (root_piece g.nodes g.root).made ≤ NODE_LIMIT → ReadsSame g text
   reads-same g text whole short a room =
       let p : Piece = root_piece g.nodes g.root in
-      let x = a.built (start NODE_LIMIT) [] (nothing_stands g) (omega (arith, room)) in
-      let last : State = at_end (start NODE_LIMIT) x.nodes (Value x.number ∷ []) x.memo in
+      let x = a.built (empty_state NODE_LIMIT) [] (nothing_stands g) (omega (arith, room)) in
+      let last : State = at_end (empty_state NODE_LIMIT) x.nodes (Value x.number ∷ []) x.memo in
       let copy : Graph = record { nodes = x.nodes; root = x.number } in
       let at : ℕ = 2 + length p.text in
       let stop : read_from graphs 0 last at (0x2e ∷ []) ≡ Ok (copy, at + 1) = read_from-stop graphs last at (0x2e ∷ []) (spelled_token at (0x2e ∷ []) ops.Stop (pos 0) []).0 (at + 1) (sr at (0x2e ∷ []) [] ops.Stop (pos 0) [] stop_token) refl (omega arith) (omega arith) in
       let end : at + 1 ≡ length text = let e = ap length whole in omega (arith, e, length-append p.text (0x2e ∷ [])) in
       record {
         copy = copy;
-        reads = ap (read_from graphs 0 (start NODE_LIMIT) 0) whole ∙ proto_goes (start NODE_LIMIT) 0 (p.text ++ 0x2e ∷ []) ∙ x.goes 2 (0x2e ∷ []) ∙ stop ∙ ap (λ (k : ℕ). Ok (copy, k)) end;
+        reads = ap (read_from graphs 0 (empty_state NODE_LIMIT) 0) whole ∙ proto_goes (empty_state NODE_LIMIT) 0 (p.text ++ 0x2e ∷ []) ∙ x.goes 2 (0x2e ∷ []) ∙ stop ∙ ap (λ (k : ℕ). Ok (copy, k)) end;
         same = record { origin = a.origins; each = x.copies; root = x.found; once = apart-times g.nodes a.origins (λ k held. let e = a.same k in let f = visits-once g.nodes g.root short k held in omega (arith, e, f)) };
       }
 
@@ -174,9 +174,9 @@ module _ (sr : SpelledIsRead) where
       Shown g.nodes g.root (root_piece g.nodes g.root) [] (visits (suc WALK_LIMIT) g.nodes (is_shared g.nodes g.root) g.root []) → NODE_LIMIT < (root_piece g.nodes g.root).made → ReadsTooLarge text
   reads-large g text whole a over =
       let p : Piece = root_piece g.nodes g.root in
-      let stops = stops_right (start NODE_LIMIT) (start NODE_LIMIT) (0x80 ∷ 3 ∷ []) p.text (proto_goes (start NODE_LIMIT)) (a.beyond (start NODE_LIMIT) [] (nothing_stands g) (omega arith) (omega (arith, over))) in
+      let stops = stops_right (empty_state NODE_LIMIT) (empty_state NODE_LIMIT) (0x80 ∷ 3 ∷ []) p.text (proto_goes (empty_state NODE_LIMIT)) (a.beyond (empty_state NODE_LIMIT) [] (nothing_stands g) (omega arith) (omega (arith, over))) in
       let x = stops 0 (0x2e ∷ []) in
-      record { place = x.0; refused = ap (read_from graphs 0 (start NODE_LIMIT) 0) whole ∙ x.1 }
+      record { place = x.0; refused = ap (read_from graphs 0 (empty_state NODE_LIMIT) 0) whole ∙ x.1 }
 
   -- What is written reads back as the same graph, or as too large.
   pub read_back : WrittenReadsBack

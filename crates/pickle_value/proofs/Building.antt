@@ -11,7 +11,7 @@ use Rattle.pickle_value.specs.declared.state.Item.TheVariants.{Value}
 use Rattle.pickle_value.specs.Steps.{make, step, act_of, leaf_or}
 use Rattle.pickle_value.specs.Shared.{times}
 use Rattle.pickle_value.specs.Spelling.{Piece, no_piece, followed}
-use Rattle.pickle_value.specs.Same.{AllStandFor, IsCopy, AllCopies}
+use Rattle.pickle_value.specs.Same.{HaveOrigins, IsCopy, AllCopies}
 use Rattle.pickle_value.proofs.Walks.{cases_bool}
 use Rattle.pickle_value.proofs.Counts.{times-append}
 use Rattle.pickle_value.proofs.Going.{Goes, Stops, goes_none, goes_then, goes_to, stops_left, stops_right, goes_make, stops_make}
@@ -38,7 +38,7 @@ pub record AllBuilt (g : List Node) (ms : List ℕ) (p : Piece) (os : List ℕ) 
   pub memo : List (ℕ × ℕ)
   pub goes : Goes s p.text (at_end s nodes (values_onto numbers s.stack) memo)
   pub copies : AllCopies (o ++ os) g nodes os
-  pub found : AllStandFor (o ++ os) numbers ms
+  pub found : HaveOrigins (o ++ os) numbers ms
   pub puts : MemoHas (o ++ os) memo p.puts
 
 -- A piece behind puts, with the nodes whose texts it has: it builds them where there is room, else it stops.
@@ -107,7 +107,7 @@ more_shown g m ms p q puts vs us a b = record {
             let P : List ℕ → Type 0 = λ all. AllCopies all g (x.nodes ++ y.nodes) (a.origins ++ b.origins) in
             subst P joined (copies-append _ g x.nodes a.origins y.nodes b.origins (copies-more (o ++ a.origins) b.origins g x.nodes a.origins x.copies) y.copies);
         found =
-            let P : List ℕ → Type 0 = λ all. AllStandFor all (x.number ∷ y.numbers) (m ∷ ms) in
+            let P : List ℕ → Type 0 = λ all. HaveOrigins all (x.number ∷ y.numbers) (m ∷ ms) in
             subst P joined (get-more (o ++ a.origins) b.origins x.number m x.found, y.found);
         puts = let P : List ℕ → Type 0 = λ all. MemoHas all y.memo q.puts in subst P joined y.puts;
       };

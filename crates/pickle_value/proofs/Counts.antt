@@ -6,7 +6,7 @@ use Rattle.pickle_value.specs.declared.node.Node.{Node}
 use Rattle.pickle_value.specs.Parts.{items_of, items_at}
 use Rattle.pickle_value.specs.Walks.{leads}
 use Rattle.pickle_value.specs.Shared.{times, ends_from, ends_of, is_shared}
-use Rattle.pickle_value.specs.Numbers.{number_of, is_known, AllFresh, IsReach, one_more, counted, all_counted, known_ends, above_one, is_many}
+use Rattle.pickle_value.specs.Numbers.{number_of, has_number, AllFresh, IsReach, one_edge_more, with_edge, with_edges, known_ends, above_one, is_many}
 use Rattle.pickle_value.specs.declared.depth.TheConstants.{WALK_LIMIT}
 use Rattle.pickle_value.proofs.Walks.{cases_bool, not_true}
 
@@ -17,42 +17,42 @@ capped zero = None
 capped (suc zero) = Some 1
 capped (suc (suc n)) = Some 2
 
-pub counted_append : (xs ys : List ℕ) (counts : List (ℕ × ℕ)) → all_counted (xs ++ ys) counts ≡ all_counted ys (all_counted xs counts)
+pub counted_append : (xs ys : List ℕ) (counts : List (ℕ × ℕ)) → with_edges (xs ++ ys) counts ≡ with_edges ys (with_edges xs counts)
 counted_append [] ys counts = refl
-counted_append (x ∷ xs) ys counts = counted_append xs ys (counted x counts)
+counted_append (x ∷ xs) ys counts = counted_append xs ys (with_edge x counts)
 
-one-here : (k : ℕ) (counts : List (ℕ × ℕ)) (n : ℕ) (found : Option ℕ) → number_of k counts ≡ found → found ≡ capped n → number_of k (one_more k counts found) ≡ capped (suc n)
-one-here k counts zero found is e = let t = eq-eqb k k refl in subst (λ (o : Option ℕ). number_of k (one_more k counts o) ≡ Some 1) (sym e) (rw t refl)
-one-here k counts (suc zero) found is e = let t = eq-eqb k k refl in subst (λ (o : Option ℕ). number_of k (one_more k counts o) ≡ Some 2) (sym e) (rw t refl)
-one-here k counts (suc (suc n)) found is e = subst (λ (o : Option ℕ). number_of k (one_more k counts o) ≡ Some 2) (sym e) (is ∙ e)
+one-here : (k : ℕ) (counts : List (ℕ × ℕ)) (n : ℕ) (found : Option ℕ) → number_of k counts ≡ found → found ≡ capped n → number_of k (one_edge_more k counts found) ≡ capped (suc n)
+one-here k counts zero found is e = let t = eq-eqb k k refl in subst (λ (o : Option ℕ). number_of k (one_edge_more k counts o) ≡ Some 1) (sym e) (rw t refl)
+one-here k counts (suc zero) found is e = let t = eq-eqb k k refl in subst (λ (o : Option ℕ). number_of k (one_edge_more k counts o) ≡ Some 2) (sym e) (rw t refl)
+one-here k counts (suc (suc n)) found is e = subst (λ (o : Option ℕ). number_of k (one_edge_more k counts o) ≡ Some 2) (sym e) (is ∙ e)
 
-one-other : (k m : ℕ) (counts : List (ℕ × ℕ)) (found : Option ℕ) → eqb m k ≡ false → number_of k (one_more m counts found) ≡ number_of k counts
+one-other : (k m : ℕ) (counts : List (ℕ × ℕ)) (found : Option ℕ) → eqb m k ≡ false → number_of k (one_edge_more m counts found) ≡ number_of k counts
 one-other k m counts None e = rw e refl
 one-other k m counts (Some n) e = elim (cases_bool (ltb n 2)) [ inl t ↦ rw (t, e) refl | inr t ↦ rw t refl ]
 
-counted-right : (k m n : ℕ) (counts : List (ℕ × ℕ)) → number_of k counts ≡ capped n → number_of k (counted m counts) ≡ capped (cond (eqb m k) 1 0 + n)
+counted-right : (k m n : ℕ) (counts : List (ℕ × ℕ)) → number_of k counts ≡ capped n → number_of k (with_edge m counts) ≡ capped (cond (eqb m k) 1 0 + n)
 counted-right k m n counts e = elim (cases_bool (eqb m k)) [
   | inl t ↦
       let same : m ≡ k = eqb-true m k t in
       let one : suc n ≡ 1 + n = omega arith in
-      let here : number_of k (counted k counts) ≡ capped (1 + n) = one-here k counts n (number_of k counts) refl e ∙ ap capped one in
-      rw t (subst (λ (x : ℕ). number_of k (counted x counts) ≡ capped (1 + n)) (sym same) here)
+      let here : number_of k (with_edge k counts) ≡ capped (1 + n) = one-here k counts n (number_of k counts) refl e ∙ ap capped one in
+      rw t (subst (λ (x : ℕ). number_of k (with_edge x counts) ≡ capped (1 + n)) (sym same) here)
   | inr t ↦
       let none : n ≡ 0 + n = omega arith in
       rw t (one-other k m counts (number_of m counts) t ∙ e ∙ ap capped none)
 ]
 
-all-right : (k : ℕ) (ms : List ℕ) (n : ℕ) (counts : List (ℕ × ℕ)) → number_of k counts ≡ capped n → number_of k (all_counted ms counts) ≡ capped (times k ms + n)
+all-right : (k : ℕ) (ms : List ℕ) (n : ℕ) (counts : List (ℕ × ℕ)) → number_of k counts ≡ capped n → number_of k (with_edges ms counts) ≡ capped (times k ms + n)
 all-right k [] n counts e = e ∙ ap capped (omega arith)
 all-right k (m ∷ ms) n counts e =
-    all-right k ms (cond (eqb m k) 1 0 + n) (counted m counts) (counted-right k m n counts e) ∙ ap capped (omega arith)
+    all-right k ms (cond (eqb m k) 1 0 + n) (with_edge m counts) (counted-right k m n counts e) ∙ ap capped (omega arith)
 
 above-capped : (n : ℕ) → above_one (capped n) ≡ ltb 1 n
 above-capped zero = refl
 above-capped (suc zero) = refl
 above-capped (suc (suc n)) = sym (lt-ltb 1 (suc (suc n)) (omega arith))
 
-pub many-times : (k : ℕ) (ms : List ℕ) → is_many (all_counted ms []) k ≡ ltb 1 (times k ms)
+pub many-times : (k : ℕ) (ms : List ℕ) → is_many (with_edges ms []) k ≡ ltb 1 (times k ms)
 many-times k ms =
     let e : times k ms + 0 ≡ times k ms = omega arith in
     ap above_one (all-right k ms 0 [] refl) ∙ above-capped (times k ms + 0) ∙ ap (ltb 1) e
@@ -116,29 +116,29 @@ ends-none : (i : ℕ) (ns : List Node) → ends_from (λ j. false) i ns ≡ []
 ends-none i [] = refl
 ends-none i (node ∷ rest) = ends-none (i + 1) rest
 
-pub known-ends : (ns : List Node) (hs : List (ℕ × ℕ)) (k : ℕ) → AllFresh hs → times k (known_ends ns hs) ≡ times k (ends_from (is_known hs) 0 ns)
+pub known-ends : (ns : List Node) (hs : List (ℕ × ℕ)) (k : ℕ) → AllFresh hs → times k (known_ends ns hs) ≡ times k (ends_from (has_number hs) 0 ns)
 known-ends ns [] k h = ap (times k) (sym (ends-none 0 ns))
 known-ends ns (x ∷ hs) k h =
     let ih = known-ends ns hs k h.1 in
     let f = times-append k (items_at ns x.0) (known_ends ns hs) in
     let zero-on : 0 + x.0 ≡ x.0 = omega arith in
-    let here : is_known (x ∷ hs) (0 + x.0) ≡ true = let t = eq-eqb x.0 (0 + x.0) (sym zero-on) in rw t refl in
-    let new : is_known hs (0 + x.0) ≡ false = ap (is_known hs) zero-on ∙ h.0 in
-    let g = ends-more (is_known hs) (is_known (x ∷ hs)) 0 x.0 ns k here new (λ j e. let t : eqb x.0 j ≡ false = not_true _ (λ u. e (sym (eqb-true x.0 j u) ∙ sym zero-on)) in rw t refl) in
+    let here : has_number (x ∷ hs) (0 + x.0) ≡ true = let t = eq-eqb x.0 (0 + x.0) (sym zero-on) in rw t refl in
+    let new : has_number hs (0 + x.0) ≡ false = ap (has_number hs) zero-on ∙ h.0 in
+    let g = ends-more (has_number hs) (has_number (x ∷ hs)) 0 x.0 ns k here new (λ j e. let t : eqb x.0 j ≡ false = not_true _ (λ u. e (sym (eqb-true x.0 j u) ∙ sym zero-on)) in rw t refl) in
     omega (arith, ih, f, g)
 
 -- What is counted decides what is shared.
-pub many_shared : (ns : List Node) (root : ℕ) (hs : List (ℕ × ℕ)) → IsReach ns root hs → (m : ℕ) → is_many (all_counted (root ∷ known_ends ns (reverse hs)) []) m ≡ is_shared ns root m
+pub many_shared : (ns : List Node) (root : ℕ) (hs : List (ℕ × ℕ)) → IsReach ns root hs → (m : ℕ) → is_many (with_edges (root ∷ known_ends ns (reverse hs)) []) m ≡ is_shared ns root m
 many_shared ns root hs h m =
     let a = ends-reverse ns hs m in
     let b = known-ends ns hs m h.fresh in
-    let c : ends_from (is_known hs) 0 ns ≡ ends_from (leads WALK_LIMIT ns root) 0 ns = ends-same (is_known hs) (leads WALK_LIMIT ns root) 0 ns (λ j l. h.known j) in
+    let c : ends_from (has_number hs) 0 ns ≡ ends_from (leads WALK_LIMIT ns root) 0 ns = ends-same (has_number hs) (leads WALK_LIMIT ns root) 0 ns (λ j l. h.known j) in
     let d = ap (times m) c in
     let e : times m (root ∷ known_ends ns (reverse hs)) ≡ times m (ends_of ns root) = omega (arith, a, b, d) in
     many-times m (root ∷ known_ends ns (reverse hs)) ∙ ap (ltb 1) e
 
 pub count_step : (ns : List Node) (from : List (ℕ × ℕ)) (i : ℕ) (d : ℕ × ℕ) (counts : List (ℕ × ℕ)) → i < length from →
-    all_counted (known_ends ns (drop i from)) counts ≡ all_counted (known_ends ns (drop (i + 1) from)) (all_counted (items_at ns (get_or from i d).0) counts)
+    with_edges (known_ends ns (drop i from)) counts ≡ with_edges (known_ends ns (drop (i + 1) from)) (with_edges (items_at ns (get_or from i d).0) counts)
 count_step ns [] i d counts h = absurd (omega arith)
 count_step ns (x ∷ from) zero d counts h = counted_append (items_at ns x.0) (known_ends ns from) counts
 count_step ns (x ∷ from) (suc i) d counts h = let one : suc i + 1 ≡ suc (i + 1) = omega arith in rw one (count_step ns from i d counts (omega arith))

@@ -20,8 +20,8 @@ use Rattle.pickle_value.specs.Stacks.{put_at, node_at}
 use Rattle.pickle_value.specs.Steps.{make, step, act_of, leaf_or, get_of, put_of}
 use Rattle.pickle_value.specs.Reading.{is_stop}
 use Rattle.pickle_value.specs.Shared.{times}
-use Rattle.pickle_value.specs.Spelling.{Piece, place_of, get_text, put_text, put_behind}
-use Rattle.pickle_value.specs.Same.{AllStandFor, IsCopy, AllCopies}
+use Rattle.pickle_value.specs.Spelling.{Piece, put_number, get_text, put_text, put_behind}
+use Rattle.pickle_value.specs.Same.{HaveOrigins, IsCopy, AllCopies}
 use Rattle.pickle_value.proofs.Walks.{cases_bool}
 use Rattle.pickle_value.proofs.Counts.{times-append}
 use Rattle.pickle_value.proofs.Going.{Goes, Stops, goes_none, goes_then, goes_to, stops_left, stops_right, Spells, goes_token, goes_make, stops_make, made}
@@ -147,7 +147,7 @@ module _ (sr : SpelledIsRead) where
     }) (λ at. ap (put_of at k s) e))
   ]
 
-  pub get_shown : (g : List Node) (m k : ℕ) (puts : List ℕ) → place_of m puts ≡ Some k → Shown g m (record { text = get_text k; puts = puts; made = 0 }) puts []
+  pub get_shown : (g : List Node) (m k : ℕ) (puts : List ℕ) → put_number m puts ≡ Some k → Shown g m (record { text = get_text k; puts = puts; made = 0 }) puts []
   get_shown g m k puts e = record {
     origins = [];
     size = refl;
@@ -224,7 +224,7 @@ module _ (sr : SpelledIsRead) where
 
   abbrev pub Closes : (g : List Node) (P : List ℕ → Node → Type 0) (items : List ℕ) (marked : Bool) (op : Op) → Type 0
   Closes g P items marked op =
-      (s : State) (o numbers : List ℕ) (stack : List Item) → Tuples g o s.nodes → length s.nodes ≡ length o → AllStandFor o numbers items → s.stack ≡ values_onto numbers (base marked stack) →
+      (s : State) (o numbers : List ℕ) (stack : List Item) → Tuples g o s.nodes → length s.nodes ≡ length o → HaveOrigins o numbers items → s.stack ≡ values_onto numbers (base marked stack) →
       (x : Node) × ((more : List ℕ) → P (o ++ more) x) × ((at : ℕ) → step op at (pos 0) [] s ≡ make at x (record s { stack = stack }))
 
   pub close_open : (g : List Node) (m : ℕ) (P : List ℕ → Node → Type 0) (items : List ℕ) (marked : Bool) (byte : ℕ) (op : Op) (q : Piece) (puts us : List ℕ) →
@@ -283,7 +283,7 @@ module _ (sr : SpelledIsRead) where
 
   abbrev pub Grows : (P Q : List ℕ → Node → Type 0) (items : List ℕ) (marked : Bool) (op : Op) → Type 0
   Grows P Q items marked op =
-      (s : State) (o numbers : List ℕ) (stack : List Item) (j : ℕ) (x : Node) → P o x → AllStandFor o numbers items → s.stack ≡ values_onto numbers (base marked (Value j ∷ stack)) → slice_get s.nodes j ≡ Some x →
+      (s : State) (o numbers : List ℕ) (stack : List Item) (j : ℕ) (x : Node) → P o x → HaveOrigins o numbers items → s.stack ≡ values_onto numbers (base marked (Value j ∷ stack)) → slice_get s.nodes j ≡ Some x →
       (y : Node) × Q o y × ((at : ℕ) → step op at (pos 0) [] s ≡ Ok (record s { nodes = slice_set s.nodes j y; stack = Value j ∷ stack }))
 
   regroup : {A : Type 0} (xs cs bs ys : List A) (b : A) → (xs ++ (cs ++ b ∷ bs)) ++ ys ≡ (xs ++ cs) ++ b ∷ (bs ++ ys)

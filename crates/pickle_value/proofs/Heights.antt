@@ -10,7 +10,7 @@ use Rattle.pickle_value.specs.declared.parts.Part.TheVariants.{Byte, Item}
 use Rattle.pickle_value.specs.Parts.{items_at, items_in}
 use Rattle.pickle_value.specs.Walks.{some_item, has_walk, has_way, leads}
 use Rattle.pickle_value.specs.Same.{has}
-use Rattle.pickle_value.specs.Numbers.{number_of, is_known, IsHeight, IsMeasured, IsOpen, AllOpen, IsSettled, Measures, walks_in, leads_in, IsTop, MeasuresAll, IsReach}
+use Rattle.pickle_value.specs.Numbers.{number_of, has_number, IsHeight, IsMeasured, IsOpen, AllOpen, IsMeasuredSince, Measures, walks_in, leads_in, IsTop, MeasuresAll, IsReach}
 use Rattle.pickle_value.proofs.Walks.{clash, cases_bool, not_true, same_bool, has-head, has-here, has-later, has-append, has-left, has-right, some-has, some-find, walk-in, walk-less, way-step, round-walk, back-walk, leads-self, leads-on}
 
 some_is : (a b : ℕ) → Some a ≡ Some b → a ≡ b
@@ -99,7 +99,7 @@ all-more ns levels old mid new items c h hc top some a b t low = record {
   kept = λ k e. b.kept k (a.kept k e);
   each = λ k e. elim (has-append k items (c ∷ []) e) [
     | inl l ↦ b.kept k (a.each k l)
-    | inr r ↦ elim (has-head k c [] r) [ inl x ↦ ap (is_known new) (sym x) ∙ b.here | inr x ↦ absurd cc ]
+    | inr r ↦ elim (has-head k c [] r) [ inl x ↦ ap (has_number new) (sym x) ∙ b.here | inr x ↦ absurd cc ]
   ];
   led = λ k e. elim (b.led k e) [
     | inl l ↦ elim (a.led k l) [ inl x ↦ inl x | inr x ↦ inr (leads-left levels ns items (c ∷ []) k x) ]
@@ -120,16 +120,16 @@ all_same ns levels old mid new items c h hc some a b less = all-more ns levels o
 height-top : (ns : List Node) (m h : ℕ) → IsTop ns (items_at ns m) h → IsHeight ns m h
 height-top ns m h t = record { walk = walk-in h ns m ∙ t.walk; last = walk-in (suc h) ns m ∙ t.last }
 
-known-head : (k m h : ℕ) (hs : List (ℕ × ℕ)) → is_known ((m, h) ∷ hs) k ≡ true → (m ≡ k) ⊎ (is_known hs k ≡ true)
+known-head : (k m h : ℕ) (hs : List (ℕ × ℕ)) → has_number ((m, h) ∷ hs) k ≡ true → (m ≡ k) ⊎ (has_number hs k ≡ true)
 known-head k m h hs e = elim (cases_bool (eqb m k)) [
   | inl t ↦ inl (eqb-true m k t)
   | inr t ↦ inr (ap (λ (b : Bool). is_some (cond b (Some h) (number_of k hs))) (sym t) ∙ e)
 ]
 
-known-here : (k m h : ℕ) (hs : List (ℕ × ℕ)) → m ≡ k → is_known ((m, h) ∷ hs) k ≡ true
+known-here : (k m h : ℕ) (hs : List (ℕ × ℕ)) → m ≡ k → has_number ((m, h) ∷ hs) k ≡ true
 known-here k m h hs e = let t = eq-eqb m k e in rw t refl
 
-known-later : (k m h : ℕ) (hs : List (ℕ × ℕ)) → is_known hs k ≡ true → is_known ((m, h) ∷ hs) k ≡ true
+known-later : (k m h : ℕ) (hs : List (ℕ × ℕ)) → has_number hs k ≡ true → has_number ((m, h) ∷ hs) k ≡ true
 known-later k m h hs e = elim (cases_bool (eqb m k)) [ inl t ↦ rw t refl | inr t ↦ rw t e ]
 
 right-head : (ns : List Node) (m h : ℕ) (hs : List (ℕ × ℕ)) → IsHeight ns m h → ((k g : ℕ) → number_of k hs ≡ Some g → IsHeight ns k g) → (k g : ℕ) → number_of k ((m, h) ∷ hs) ≡ Some g → IsHeight ns k g
@@ -140,14 +140,14 @@ right-head ns m h hs here rest k g e = elim (cases_bool (eqb m k)) [
   | inr t ↦ rest k g (ap (λ (b : Bool). cond b (Some h) (number_of k hs)) (sym t) ∙ e)
 ]
 
-unknown : (m : ℕ) (hs : List (ℕ × ℕ)) → number_of m hs ≡ None → is_known hs m ≡ false
+unknown : (m : ℕ) (hs : List (ℕ × ℕ)) → number_of m hs ≡ None → has_number hs m ≡ false
 unknown m hs e = ap is_some e
 
 -- the items of a node were measured: so is the node
 pub node_measured : (ns : List Node) (levels : ℕ) (old mid : List (ℕ × ℕ)) (m h : ℕ) → number_of m old ≡ None → MeasuresAll ns levels old (items_at ns m) mid h → Measures ns levels old m ((m, h) ∷ mid) h
 node_measured ns levels old mid m h none a =
     let here : IsHeight ns m h = height-top ns m h a.height in
-    let new : is_known mid m ≡ false = not_true _ (λ t. elim (a.led m t) [
+    let new : has_number mid m ≡ false = not_true _ (λ t. elim (a.led m t) [
       | inl l ↦ clash _ l (unknown m old none)
       | inr r ↦ clash _ (back-walk levels (suc h) ns m r) here.last
     ]) in
@@ -195,11 +195,11 @@ deep_item ns levels items c h some w =
 
 -- ---- all that the root reaches
 
-known-leads : (ns : List Node) (hs : List (ℕ × ℕ)) → IsMeasured ns hs → (n a b : ℕ) → is_known hs a ≡ true → leads n ns a b ≡ true → is_known hs b ≡ true
+known-leads : (ns : List Node) (hs : List (ℕ × ℕ)) → IsMeasured ns hs → (n a b : ℕ) → has_number hs a ≡ true → leads n ns a b ≡ true → has_number hs b ≡ true
 unfolding leads
-known-leads ns hs h zero a b k e = ap (is_known hs) (sym (eqb-true a b e)) ∙ k
+known-leads ns hs h zero a b k e = ap (has_number hs) (sym (eqb-true a b e)) ∙ k
 known-leads ns hs h (suc n) a b k e = elim (cases_bool (eqb a b)) [
-  | inl t ↦ ap (is_known hs) (sym (eqb-true a b t)) ∙ k
+  | inl t ↦ ap (has_number hs) (sym (eqb-true a b t)) ∙ k
   | inr t ↦
       let rest : some_item (λ m. leads n ns m b) (items_at ns a) ≡ true = ap (λ (x : Bool). cond x true (some_item (λ m. leads n ns m b) (items_at ns a))) (sym t) ∙ e in
       let f = some-find (λ m. leads n ns m b) (items_at ns a) rest in
@@ -269,26 +269,26 @@ node_built ns levels old mid new m h items none is more a =
 
 -- ---- nodes that were begun
 
-pub settled_none : (begun heights : List (ℕ × ℕ)) → IsSettled begun begun heights
+pub settled_none : (begun heights : List (ℕ × ℕ)) → IsMeasuredSince begun begun heights
 settled_none begun heights b h = inl h
 
-pub settled_more : (begun mid later old new : List (ℕ × ℕ)) → IsSettled begun mid old → IsSettled mid later new → ((k : ℕ) → is_known old k ≡ true → is_known new k ≡ true) → IsSettled begun later new
+pub settled_more : (begun mid later old new : List (ℕ × ℕ)) → IsMeasuredSince begun mid old → IsMeasuredSince mid later new → ((k : ℕ) → has_number old k ≡ true → has_number new k ≡ true) → IsMeasuredSince begun later new
 settled_more begun mid later old new a b kept k h = elim (b k h) [
   | inl l ↦ elim (a k l) [ inl x ↦ inl x | inr x ↦ inr (kept k x) ]
   | inr r ↦ inr r
 ]
 
-pub settled_node : (begun later heights : List (ℕ × ℕ)) (m n h : ℕ) → IsSettled ((m, n) ∷ begun) later heights → IsSettled begun later ((m, h) ∷ heights)
+pub settled_node : (begun later heights : List (ℕ × ℕ)) (m n h : ℕ) → IsMeasuredSince ((m, n) ∷ begun) later heights → IsMeasuredSince begun later ((m, h) ∷ heights)
 settled_node begun later heights m n h a k e = elim (a k e) [
   | inl l ↦ elim (known-head k m n begun l) [ inl x ↦ inr (known-here k m h heights x) | inr x ↦ inl x ]
   | inr r ↦ inr (known-later k m h heights r)
 ]
 
 -- what was open stays so, as more is begun and measured
-pub open_later : (ns : List Node) (begun later old new : List (ℕ × ℕ)) (m : ℕ) → IsOpen ns begun old m → IsSettled begun later new → ((k : ℕ) → is_known old k ≡ true → is_known new k ≡ true) → IsOpen ns later new m
+pub open_later : (ns : List Node) (begun later old new : List (ℕ × ℕ)) (m : ℕ) → IsOpen ns begun old m → IsMeasuredSince begun later new → ((k : ℕ) → has_number old k ≡ true → has_number new k ≡ true) → IsOpen ns later new m
 open_later ns begun later old new m a settled kept b h none = elim (settled b h) [
-  | inl l ↦ a b l (not_true (is_known old b) (λ t. clash (is_known new b) (kept b t) none))
-  | inr r ↦ clash (is_known new b) r none
+  | inl l ↦ a b l (not_true (has_number old b) (λ t. clash (has_number new b) (kept b t) none))
+  | inr r ↦ clash (has_number new b) r none
 ]
 
 pub open_items : (ns : List Node) (begun heights : List (ℕ × ℕ)) (m n : ℕ) → IsOpen ns begun heights m → AllOpen ns ((m, n) ∷ begun) heights (items_at ns m)

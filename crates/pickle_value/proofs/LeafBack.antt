@@ -12,7 +12,7 @@ use Rattle.byteorder.specs.Numbers.{little_number-reads_back, length-bytes_low_f
 use Rattle.pickle_ops.specs.declared.table.Op.{Op}
 use Rattle.pickle_ops.specs.declared.table.Op.TheVariants as ops
 use Rattle.pickle_ops.specs.declared.table.Kind.TheVariants as args
-use Rattle.pickle_ops.specs.Grammar.{IsLine, is_one_line}
+use Rattle.pickle_ops.specs.Grammar.{IsGlobalLine, is_one_line}
 use Rattle.pickle_value.specs.declared.node.Node.{Node}
 use Rattle.pickle_value.specs.declared.node.Node.TheVariants as kinds
 use Rattle.pickle_value.specs.Graph.{IsNode, IsSigned128}
@@ -434,7 +434,7 @@ behind-line (byte ∷ line) rest h = elim (cases_bool (eqb byte 10)) [
     stop true e h = cc
     stop false e h = absurd cc
 
-global_leaf : (first second : List ℕ) → IsLine first → IsLine second → MakesLeaf (kinds.Global first second) (0x63 ∷ (first ++ 10 ∷ (second ++ 10 ∷ [])))
+global_leaf : (first second : List ℕ) → IsGlobalLine first → IsGlobalLine second → MakesLeaf (kinds.Global first second) (0x63 ∷ (first ++ 10 ∷ (second ++ 10 ∷ [])))
 global_leaf first second f g =
     let all : List ℕ = first ++ 10 ∷ (second ++ 10 ∷ []) in
     let a : first_line all ≡ first = first-line first (second ++ 10 ∷ []) f.one in

@@ -20,14 +20,14 @@ use Rattle.pickle_value.specs.declared.state.Extent.{Extent}
 use Rattle.pickle_value.specs.declared.state.Extent.TheVariants.{Marked, Top}
 use Rattle.pickle_value.specs.Graph.{is_tuple}
 use Rattle.pickle_value.specs.Leaves.{leaf_of}
-use Rattle.pickle_value.specs.Stacks.{taken, above_mark}
+use Rattle.pickle_value.specs.Stacks.{values_taken, above_mark}
 use Rattle.pickle_value.specs.Additions.{pairs_of, with_pair, added}
 use Rattle.pickle_value.specs.Steps.{step, tuple_of, append_to, changed, set_in, set_pairs, reference_of}
 use Rattle.pickle_value.specs.Reading.{is_stop}
 use Rattle.pickle_value.specs.Parts.{item_parts, pair_parts, tuple_parts, list_parts, dict_parts, is_held, items_in}
 use Rattle.pickle_value.specs.Shared.{times}
 use Rattle.pickle_value.specs.Spelling.{Piece, parts_piece}
-use Rattle.pickle_value.specs.Same.{has, AllStandFor, PairsStandFor, IsCopy}
+use Rattle.pickle_value.specs.Same.{has, HaveOrigins, PairsStandFor, IsCopy}
 use Rattle.pickle_value.proofs.Walks.{has-here, has-later}
 use Rattle.pickle_value.proofs.Counts.{times-append}
 use Rattle.pickle_value.proofs.Standing.{get-more, all-more}
@@ -41,12 +41,12 @@ above-onto : (vs : List ℕ) (stack : List OnStack) (more : List ℕ) → above_
 above-onto [] stack more = refl
 above-onto (v ∷ vs) stack more = above-onto vs (Value v ∷ stack) more
 
-pub taken_marked : (vs : List ℕ) (stack : List OnStack) → taken Marked (values_onto vs (Mark ∷ stack)) ≡ Some (vs, stack)
+pub taken_marked : (vs : List ℕ) (stack : List OnStack) → values_taken Marked (values_onto vs (Mark ∷ stack)) ≡ Some (vs, stack)
 taken_marked vs stack = above-onto vs (Mark ∷ stack) [] ∙ ap (λ (l : List ℕ). Some (l, stack)) (append-nil vs)
 
 -- so many values are taken as there are items
 abbrev pub Takes : Extent → Bool → List ℕ → Type 0
-Takes extent marked items = (o numbers : List ℕ) (stack : List OnStack) → AllStandFor o numbers items → taken extent (values_onto numbers (base marked stack)) ≡ Some (numbers, stack)
+Takes extent marked items = (o numbers : List ℕ) (stack : List OnStack) → HaveOrigins o numbers items → values_taken extent (values_onto numbers (base marked stack)) ≡ Some (numbers, stack)
 
 takes_marked : (items : List ℕ) → Takes Marked true items
 takes_marked items o numbers stack h = taken_marked numbers stack
@@ -113,7 +113,7 @@ pub pair_items : (pairs : List (ℕ × ℕ)) → item_parts (flat pairs) ≡ pai
 pair_items [] = refl
 pair_items (pair ∷ pairs) = ap (λ (l : List Part). Item pair.0 ∷ Item pair.1 ∷ l) (pair_items pairs)
 
-pub pairs_back : (o numbers : List ℕ) (pairs : List (ℕ × ℕ)) → AllStandFor o numbers (flat pairs) → (ps : List (ℕ × ℕ)) × (pairs_of numbers ≡ Some ps) × PairsStandFor o ps pairs
+pub pairs_back : (o numbers : List ℕ) (pairs : List (ℕ × ℕ)) → HaveOrigins o numbers (flat pairs) → (ps : List (ℕ × ℕ)) × (pairs_of numbers ≡ Some ps) × PairsStandFor o ps pairs
 pairs_back o [] [] h = ([], refl, tt)
 pairs_back o (x ∷ l) [] h = absurd h
 pairs_back o [] (pair ∷ pairs) h = absurd h
@@ -176,11 +176,11 @@ module _ (sr : SpelledIsRead) (g : List Node) (go : ℕ → List ℕ → Piece) 
   -- ---- tuples
 
   tuple_closes : (m : ℕ) (items : List ℕ) (marked : Bool) (extent : Extent) (op : Op) → slice_get g m ≡ Some (kinds.Tuple items) → Takes extent marked items →
-      ((s : State) (at : ℕ) → step op at (pos 0) [] s ≡ tuple_of at s (taken extent s.stack)) → Closes sr g (CopyOf g m) items marked op
+      ((s : State) (at : ℕ) → step op at (pos 0) [] s ≡ tuple_of at s (values_taken extent s.stack)) → Closes sr g (CopyOf g m) items marked op
   tuple_closes m items marked extent op here takes is s o numbers stack tuples count found e = (
     kinds.Tuple numbers,
     (λ more. is_copy g m (o ++ more) (kinds.Tuple numbers) (kinds.Tuple items) here (all-more o more numbers items found)),
-    λ at. is s at ∙ ap (λ (l : List OnStack). tuple_of at s (taken extent l)) e ∙ ap (tuple_of at s) (takes o numbers stack found),
+    λ at. is s at ∙ ap (λ (l : List OnStack). tuple_of at s (values_taken extent l)) e ∙ ap (tuple_of at s) (takes o numbers stack found),
   )
 
   pub tuple_whole : (m : ℕ) (items puts : List ℕ) → slice_get g m ≡ Some (kinds.Tuple items) → is_held (kinds.Tuple items) ≡ true → Each (items_in (tuple_parts items)) → Whole m (CopyOf g m) (tuple_parts items) puts
@@ -199,11 +199,11 @@ module _ (sr : SpelledIsRead) (g : List Node) (go : ℕ → List ℕ → Piece) 
   -- ---- lists
 
   list_grows : (m : ℕ) (items : List ℕ) (marked : Bool) (extent : Extent) (op : Op) → slice_get g m ≡ Some (kinds.List items) → Takes extent marked items →
-      ((s : State) (at : ℕ) → step op at (pos 0) [] s ≡ append_to at s (taken extent s.stack)) → Grows sr (λ o x. x ≡ kinds.List []) (CopyOf g m) items marked op
+      ((s : State) (at : ℕ) → step op at (pos 0) [] s ≡ append_to at s (values_taken extent s.stack)) → Grows sr (λ o x. x ≡ kinds.List []) (CopyOf g m) items marked op
   list_grows m items marked extent op here takes is s o numbers stack j x empty found e at_j = (
     kinds.List numbers,
     is_copy g m o (kinds.List numbers) (kinds.List items) here found,
-    λ at. is s at ∙ ap (λ (l : List OnStack). append_to at s (taken extent l)) e ∙ ap (append_to at s) (takes o numbers (Value j ∷ stack) found)
+    λ at. is s at ∙ ap (λ (l : List OnStack). append_to at s (values_taken extent l)) e ∙ ap (append_to at s) (takes o numbers (Value j ∷ stack) found)
         ∙ ap (λ (f : Option Node). changed at s j stack (added (additions.Values numbers) f)) (at_j ∙ ap (λ (y : Node). Some y) empty),
   )
 
@@ -222,12 +222,12 @@ module _ (sr : SpelledIsRead) (g : List Node) (go : ℕ → List ℕ → Piece) 
   -- ---- dictionaries
 
   dict_grows : (m : ℕ) (pairs : List (ℕ × ℕ)) (marked : Bool) (extent : Extent) (op : Op) → slice_get g m ≡ Some (kinds.Dict pairs) → Takes extent marked (flat pairs) →
-      ((s : State) (at : ℕ) → step op at (pos 0) [] s ≡ set_in at s (taken extent s.stack)) → Grows sr (λ o x. x ≡ kinds.Dict []) (CopyOf g m) (flat pairs) marked op
+      ((s : State) (at : ℕ) → step op at (pos 0) [] s ≡ set_in at s (values_taken extent s.stack)) → Grows sr (λ o x. x ≡ kinds.Dict []) (CopyOf g m) (flat pairs) marked op
   dict_grows m pairs marked extent op here takes is s o numbers stack j x empty found e at_j =
       let r = pairs_back o numbers pairs found in (
         kinds.Dict r.0,
         is_copy g m o (kinds.Dict r.0) (kinds.Dict pairs) here r.2,
-        λ at. is s at ∙ ap (λ (l : List OnStack). set_in at s (taken extent l)) e ∙ ap (set_in at s) (takes o numbers (Value j ∷ stack) found)
+        λ at. is s at ∙ ap (λ (l : List OnStack). set_in at s (values_taken extent l)) e ∙ ap (set_in at s) (takes o numbers (Value j ∷ stack) found)
             ∙ ap (λ (ps : Option (List (ℕ × ℕ))). set_pairs at s ps (Value j ∷ stack)) r.1
             ∙ ap (λ (f : Option Node). changed at s j stack (added (additions.Pairs r.0) f)) (at_j ∙ ap (λ (y : Node). Some y) empty),
       )

@@ -20,13 +20,13 @@ use Rattle.pickle_value.specs.declared.state.State.{State}
 use Rattle.pickle_value.specs.declared.state.Item.{Item as OnStack}
 use Rattle.pickle_value.specs.declared.state.Extent.TheVariants.{Top}
 use Rattle.pickle_value.specs.Graph.{is_tuple, IsNode}
-use Rattle.pickle_value.specs.Stacks.{taken}
+use Rattle.pickle_value.specs.Stacks.{values_taken}
 use Rattle.pickle_value.specs.Additions.{added}
 use Rattle.pickle_value.specs.Steps.{make, step, append_to, set_in, build_of, changed, object_of}
 use Rattle.pickle_value.specs.Reading.{is_stop}
 use Rattle.pickle_value.specs.Parts.{item_parts, act_parts, object_parts, object_byte, parts_of, is_held, items_in}
-use Rattle.pickle_value.specs.Spelling.{Piece, place_of, no_piece, followed, parts_piece, held_piece, node_piece, leaf_text}
-use Rattle.pickle_value.specs.Same.{has, StandsFor, ActsStandFor, IsCopy}
+use Rattle.pickle_value.specs.Spelling.{Piece, put_number, no_piece, followed, parts_piece, held_piece, node_piece, leaf_text}
+use Rattle.pickle_value.specs.Same.{has, HasOrigin, ActsStandFor, IsCopy}
 use Rattle.pickle_value.proofs.Walks.{cases_bool, clash, has-here, has-head, has-later, has-append}
 use Rattle.pickle_value.proofs.Pieces.{acts_step}
 use Rattle.pickle_value.proofs.LeafBack.{leaf_back}
@@ -42,8 +42,8 @@ record Half (callee arguments : ℕ) (by_new : Bool) (done : List Act) (o : List
   a : ℕ
   acts : List Act
   is : x ≡ kinds.Object c a by_new acts
-  called : StandsFor o c callee
-  taken : StandsFor o a arguments
+  called : HasOrigin o c callee
+  values_taken : HasOrigin o a arguments
   did : ActsStandFor o acts done
 
 half_keeps : (g : List Node) (m callee arguments : ℕ) (by_new : Bool) (done : List Act) → is_tuple (slice_get g m) ≡ false → Keeps g m (Half callee arguments by_new done)
@@ -66,7 +66,7 @@ module _ (sr : SpelledIsRead) (g : List Node) (go : ℕ → List ℕ → Piece) 
   append_grows callee arguments by_new done value s o (n ∷ []) stack j x h found e at_j = (
     kinds.Object h.c h.a by_new (h.acts ++ Append n ∷ []),
     half_more callee arguments by_new done o x (Append n) (Append value) h (found.0, tt),
-    λ at. ap (λ (l : List OnStack). append_to at s (taken (Top 1) l)) e ∙ ap (λ (f : Option Node). changed at s j stack (added (additions.Values (n ∷ [])) f)) (at_j ∙ ap (λ (y : Node). Some y) h.is),
+    λ at. ap (λ (l : List OnStack). append_to at s (values_taken (Top 1) l)) e ∙ ap (λ (f : Option Node). changed at s j stack (added (additions.Values (n ∷ [])) f)) (at_j ∙ ap (λ (y : Node). Some y) h.is),
   )
   append_grows callee arguments by_new done value s o (n ∷ n' ∷ l) stack j x h found e at_j = absurd found.1
 
@@ -76,7 +76,7 @@ module _ (sr : SpelledIsRead) (g : List Node) (go : ℕ → List ℕ → Piece) 
   set_grows callee arguments by_new done key value s o (k ∷ v ∷ []) stack j x h found e at_j = (
     kinds.Object h.c h.a by_new (h.acts ++ Set k v ∷ []),
     half_more callee arguments by_new done o x (Set k v) (Set key value) h ((found.0, found.1.0), tt),
-    λ at. ap (λ (l : List OnStack). set_in at s (taken (Top 2) l)) e ∙ ap (λ (f : Option Node). changed at s j stack (added (additions.Pairs ((k, v) ∷ [])) f)) (at_j ∙ ap (λ (y : Node). Some y) h.is),
+    λ at. ap (λ (l : List OnStack). set_in at s (values_taken (Top 2) l)) e ∙ ap (λ (f : Option Node). changed at s j stack (added (additions.Pairs ((k, v) ∷ [])) f)) (at_j ∙ ap (λ (y : Node). Some y) h.is),
   )
   set_grows callee arguments by_new done key value s o (k ∷ v ∷ w ∷ l) stack j x h found e at_j = absurd found.1.1
 
@@ -218,7 +218,7 @@ module _ (sr : SpelledIsRead) (g : List Node) (go : ℕ → List ℕ → Piece) 
   node_whole m (kinds.Text b) puts here ok held each = absurd cc
   node_whole m (kinds.Global a b) puts here ok held each = absurd cc
 
-  held_shown : (m : ℕ) (parts : List Part) (puts : List ℕ) (shared : Bool) (found : Option ℕ) → place_of m puts ≡ found → Whole sr g go vis m (CopyOf g m) parts puts →
+  held_shown : (m : ℕ) (parts : List Part) (puts : List ℕ) (shared : Bool) (found : Option ℕ) → put_number m puts ≡ found → Whole sr g go vis m (CopyOf g m) parts puts →
       Shown g m (held_piece shared found m puts (parts_piece go parts puts)) puts (visit_held found m (visit_parts vis go parts puts))
   held_shown m parts puts shared (Some k) e w = get_shown sr g m k puts e
   held_shown m parts puts false None e w = finished g m (CopyOf g m) (whole_of sr g go vis parts puts) puts (m ∷ visit_parts vis go parts puts) w (λ o x h. h)
@@ -227,6 +227,6 @@ module _ (sr : SpelledIsRead) (g : List Node) (go : ℕ → List ℕ → Piece) 
 
   pub node_shown : (shared : ℕ → Bool) (m : ℕ) (x : Node) (puts : List ℕ) → slice_get g m ≡ Some x → IsNode g x → Each sr g go vis (items_in (parts_of x)) → Shown g m (node_piece shared go m puts (Some x)) puts (visit_node vis go m puts (Some x))
   node_shown shared m x puts here ok each = elim (cases_bool (is_held x)) [
-    | inl h ↦ rw h (held_shown m (parts_of x) puts (shared m) (place_of m puts) refl (node_whole m x puts here ok h each))
+    | inl h ↦ rw h (held_shown m (parts_of x) puts (shared m) (put_number m puts) refl (node_whole m x puts here ok h each))
     | inr h ↦ rw h (leaf_shown sr g m x (leaf_text x) puts here (leaf-copy x h) (leaf_back g x ok h))
   ]

@@ -9,8 +9,8 @@ use Rattle.pickle_value.specs.declared.depth.TheConstants.{WALK_LIMIT}
 use Rattle.pickle_value.specs.Parts.{items_in, items_at, parts_of, is_held}
 use Rattle.pickle_value.specs.Walks.{some_item, has_walk, has_way, leads}
 use Rattle.pickle_value.specs.Shared.{times, ends_from, ends_of, is_shared}
-use Rattle.pickle_value.specs.Spelling.{Piece, place_of, held_piece, parts_piece, node_piece, piece_of}
-use Rattle.pickle_value.specs.Same.{has, holds_items, is_held_at, Apart}
+use Rattle.pickle_value.specs.Spelling.{Piece, put_number, held_piece, parts_piece, node_piece, piece_of}
+use Rattle.pickle_value.specs.Same.{has, holds_items, is_held_at, StandOnce}
 use Rattle.pickle_value.proofs.Walks.{clash, cases_bool, not_true, has-head, has-here, has-later, some-has, some-find, walk-less, walk-item, way-walk, way-step, round-walk}
 use Rattle.pickle_value.proofs.Counts.{ends-same, ends-more}
 use Rattle.pickle_value.proofs.Visits.{visit_parts, visit_held, visit_node, visits}
@@ -61,7 +61,7 @@ times-other : (k x : ℕ) → (x ≡ k → ⊥) → times k (x ∷ []) ≡ 0
 times-other k x h = let t = not_true (eqb x k) (λ u. h (eqb-true x k u)) in rw t refl
 
 -- from these counts no node with items stands twice
-pub apart-times : (ns : List Node) (xs : List ℕ) → ((k : ℕ) → is_held_at ns k ≡ true → times k xs ≤ 1) → Apart ns xs
+pub apart-times : (ns : List Node) (xs : List ℕ) → ((k : ℕ) → is_held_at ns k ≡ true → times k xs ≤ 1) → StandOnce ns xs
 apart-times ns [] h = tt
 apart-times ns (x ∷ xs) h = (
   λ held. not_true (has x xs) (λ t. let a = h x held in let b = times-has x xs t in let e = eq-eqb x x refl in let d : times x (x ∷ xs) ≡ 1 + times x xs = rw e refl in omega (arith, a, b, d)),
@@ -107,7 +107,7 @@ module _ (ns : List Node) (root : ℕ) (short : has_walk (suc WALK_LIMIT) ns roo
     budget : (k : ℕ) → met k + times k now + later k + left done busy k ≤ most k
     met_done : (k : ℕ) → has k done ≡ true → 0 < met k
     met_busy : (k : ℕ) → has k busy ≡ true → 0 < met k
-    put : (k : ℕ) → is_shared ns root k ≡ true → has k done ≡ true → is_some (place_of k puts) ≡ true
+    put : (k : ℕ) → is_shared ns root k ≡ true → has k done ≡ true → is_some (put_number k puts) ≡ true
     single : (k : ℕ) → times k done ≤ 1
     apart : (k : ℕ) → has k busy ≡ true → has k done ≡ false
 
@@ -192,7 +192,7 @@ module _ (ns : List Node) (root : ℕ) (short : has_walk (suc WALK_LIMIT) ns roo
     grown = λ k h. let g = a.grown k h in omega (arith, g);
   }
     where
-      puts-have : (b : Bool) → is_shared ns root x ≡ b → (k : ℕ) → is_shared ns root k ≡ true → has k (x ∷ a.now_done) ≡ true → is_some (place_of k (puts_after b x puts)) ≡ true
+      puts-have : (b : Bool) → is_shared ns root x ≡ b → (k : ℕ) → is_shared ns root k ≡ true → has k (x ∷ a.now_done) ≡ true → is_some (put_number k (puts_after b x puts)) ≡ true
       puts-have true e k s h = elim (cases_bool (eqb x k)) [
         | inl t ↦ rw t refl
         | inr t ↦ elim (has-head k x a.now_done h) [ inl u ↦ clash (eqb x k) (eq-eqb x k u) t | inr u ↦ let p = a.stage.put k s u in rw t p ]
@@ -216,7 +216,7 @@ module _ (ns : List Node) (root : ℕ) (short : has_walk (suc WALK_LIMIT) ns roo
   none-put : (k : ℕ) (found : Option ℕ) → found ≡ None → is_some found ≡ true → ⊥
   none-put k found e h = absurd cc
 
-  held-after : (go : ℕ → List ℕ → Piece) (vis : ℕ → List ℕ → List ℕ) (x j : ℕ) (node : Node) (done busy puts : List ℕ) (met later : ℕ → ℕ) (found : Option ℕ) → place_of x puts ≡ found → slice_get ns x ≡ Some node →
+  held-after : (go : ℕ → List ℕ → Piece) (vis : ℕ → List ℕ → List ℕ) (x j : ℕ) (node : Node) (done busy puts : List ℕ) (met later : ℕ → ℕ) (found : Option ℕ) → put_number x puts ≡ found → slice_get ns x ≡ Some node →
       ((n : ℕ) → has_way (suc n) ns x x ≡ true → ⊥) → has_way j ns root x ≡ true → Ways busy x → ((c : ℕ) → has c (items_in (parts_of node)) ≡ true → Step go vis (x ∷ busy) c) → Stage done busy puts met later (x ∷ []) →
       After done busy (held_piece (is_shared ns root x) found x puts (parts_piece go (parts_of node) puts)).puts later (visit_held found x (visit_parts vis go (parts_of node) puts))
   held-after go vis x j node done busy puts met later (Some n) e here round way ways each st = passed done busy puts [] met later x st (λ k h. refl)
@@ -226,7 +226,7 @@ module _ (ns : List Node) (root : ℕ) (short : has_walk (suc WALK_LIMIT) ns roo
       let a = st.met_done x t in
       let b = st.budget x in
       let s : is_shared ns root x ≡ true = lt-ltb 1 (most x) (omega (arith, a, b, one)) in
-      none-put x (place_of x puts) e (st.put x s t)) in
+      none-put x (put_number x puts) e (st.put x s t)) in
       let idle : has x busy ≡ false = not_true (has x busy) (λ t. let w = ways x t in round w.0 w.1) in
       let r : reached x ≡ true = reached-way ns root x j short way in
       let items : items_at ns x ≡ items_in (parts_of node) = ap Rattle.pickle_value.specs.Parts.items_of here in
@@ -251,7 +251,7 @@ module _ (ns : List Node) (root : ℕ) (short : has_walk (suc WALK_LIMIT) ns roo
   node-after go vis x j None done busy puts met later here round way ways each st = passed done busy puts [] met later x st (λ k h. refl)
   node-after go vis x j (Some node) done busy puts met later here round way ways each st = elim (cases_bool (is_held node)) [
     | inl h ↦
-        rw h (held-after go vis x j node done busy puts met later (place_of x puts) refl here round way ways (λ c i. each c (ap (λ (f : Option Node). has c (Rattle.pickle_value.specs.Parts.items_of f)) here ∙ i)) st)
+        rw h (held-after go vis x j node done busy puts met later (put_number x puts) refl here round way ways (λ c i. each c (ap (λ (f : Option Node). has c (Rattle.pickle_value.specs.Parts.items_of f)) here ∙ i)) st)
     | inr h ↦
         let leaf : is_held_at ns x ≡ false = ap holds_items here ∙ h in
         rw h (passed done busy puts (x ∷ []) met later x st (λ k held. times-other k x (λ e. clash (is_held_at ns k) held (ap (is_held_at ns) (sym e) ∙ leaf))))

@@ -13,10 +13,10 @@ use Rattle.pickle_value.specs.declared.depth.TheConstants.{WALK_LIMIT}
 use Rattle.pickle_value.specs.declared.error.WriteError.TheVariants as errors
 use Rattle.pickle_value.specs.declared.writing.Writing.{Writing}
 use Rattle.pickle_value.specs.Parts.{act_parts, parts_of, is_held}
-use Rattle.pickle_value.specs.Numbers.{number_of, IsReach, all_counted, known_ends, is_many, numbered, nodes_of}
+use Rattle.pickle_value.specs.Numbers.{number_of, IsReach, with_edges, known_ends, is_many, numbered, nodes_of}
 use Rattle.pickle_value.specs.Shared.{is_shared}
-use Rattle.pickle_value.specs.Spelling.{Piece, place_of, fewest, followed, parts_piece, node_piece, piece_of, spelling_of}
-use Rattle.pickle_value.specs.Writing.{behind, held_at}
+use Rattle.pickle_value.specs.Spelling.{Piece, put_number, fewest, followed, parts_piece, node_piece, piece_of, spelling_of}
+use Rattle.pickle_value.specs.Writing.{with_piece, held_at}
 use Rattle.pickle_value.specs.Walks.{has_walk}
 use Rattle.pickle_value.proofs.Counts.{many_shared}
 
@@ -50,16 +50,16 @@ pub nodes_length : (pairs : List (ℕ × ℕ)) → length (nodes_of pairs) ≡ l
 nodes_length [] = refl
 nodes_length (pair ∷ pairs) = let e = nodes_length pairs in omega (arith, e)
 
-pub numbered_place : (m : ℕ) (puts : List ℕ) → number_of m (numbered puts) ≡ place_of m puts
+pub numbered_place : (m : ℕ) (puts : List ℕ) → number_of m (numbered puts) ≡ put_number m puts
 numbered_place m [] = refl
 numbered_place m (x ∷ puts) = let e = numbered_place m puts in rw e refl
 
 -- ---- what goes behind
 
-pub behind_byte : (w : Writing) (byte : ℕ) (rest : Piece) → behind (record w { text = w.text ++ byte ∷ [] }) rest ≡ behind w (followed (record { text = byte ∷ []; puts = w.puts; made = 0 }) rest)
+pub behind_byte : (w : Writing) (byte : ℕ) (rest : Piece) → with_piece (record w { text = w.text ++ byte ∷ [] }) rest ≡ with_piece w (followed (record { text = byte ∷ []; puts = w.puts; made = 0 }) rest)
 behind_byte w byte rest = ap (λ (t : List ℕ). record { text = t; puts = rest.puts }) (append_assoc w.text (byte ∷ []) rest.text)
 
-pub behind_item : (w : Writing) (one rest : Piece) → behind (behind w one) rest ≡ behind w (followed one rest)
+pub behind_item : (w : Writing) (one rest : Piece) → with_piece (with_piece w one) rest ≡ with_piece w (followed one rest)
 behind_item w one rest = ap (λ (t : List ℕ). record { text = t; puts = rest.puts }) (append_assoc w.text one.text rest.text)
 
 -- ---- the same nodes are shared
@@ -86,9 +86,9 @@ piece_same f g same (suc levels) ns m puts = node-same f g same (piece_of levels
 -- ---- spellings
 
 pub spelled_ok : (ns : List Node) (root : ℕ) (reached : List (ℕ × ℕ)) (w : Writing) → IsReach ns root reached →
-    w ≡ behind (record { text = []; puts = [] }) (piece_of (WALK_LIMIT + 1) ns (is_many (all_counted (root ∷ known_ends ns (reverse reached)) [])) root []) → spelling_of ns root ≡ Ok w.text
+    w ≡ with_piece (record { text = []; puts = [] }) (piece_of (WALK_LIMIT + 1) ns (is_many (with_edges (root ∷ known_ends ns (reverse reached)) [])) root []) → spelling_of ns root ≡ Ok w.text
 spelled_ok ns root reached w h is =
-    let same = piece_same (is_many (all_counted (root ∷ known_ends ns (reverse reached)) [])) (is_shared ns root) (many_shared ns root reached h) (WALK_LIMIT + 1) ns root [] in
+    let same = piece_same (is_many (with_edges (root ∷ known_ends ns (reverse reached)) [])) (is_shared ns root) (many_shared ns root reached h) (WALK_LIMIT + 1) ns root [] in
     let text : w.text ≡ (piece_of (WALK_LIMIT + 1) ns (is_shared ns root) root []).text = ap (λ (x : Writing). x.text) is ∙ ap (λ (x : Piece). x.text) same in
     let short : has_walk (WALK_LIMIT + 1) ns root ≡ false = h.short in
     rw (short, text) refl

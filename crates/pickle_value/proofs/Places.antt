@@ -7,7 +7,7 @@ use Rattle.pickle_ops.specs.declared.token.Token.{Token}
 use Rattle.pickle_ops.specs.Tokens.{token_at, IsWithin}
 use Rattle.pickle_value.specs.declared.error.PickleError.{PickleError}
 use Rattle.pickle_value.specs.declared.error.PickleError.TheVariants as errors
-use Rattle.pickle_value.specs.Steps.{Fails}
+use Rattle.pickle_value.specs.Steps.{RefusesAs}
 use Rattle.pickle_value.specs.Reading.{Reader, read_from, is_stop, bytes_of}
 use Rattle.pickle_value.proofs.Runs.{read_from-stop, read_from-step, read_from-refused}
 
@@ -25,7 +25,7 @@ room : (input : List ℕ) (at next : ℕ) → at < next → next ≤ length inpu
 room input at next h k = omega (arith, length-drop {A = ℕ})
 
 -- a refusal of a step is one of reading
-pub refused : {X Y : Type 0} (e : PickleError) (step : Result X PickleError) (read : Result Y PickleError) → Fails e step → ((f : PickleError) → step ≡ Err f → read ≡ Err f) → Fails e read
+pub refused : {X Y : Type 0} (e : PickleError) (step : Result X PickleError) (read : Result Y PickleError) → RefusesAs e step → ((f : PickleError) → step ≡ Err f → read ≡ Err f) → RefusesAs e read
 refused errors.Memory step read h go = tt
 refused (errors.Token e) step read h go = go _ h
 refused (errors.Stack at) step read h go = go _ h

@@ -12,7 +12,7 @@ use Rattle.std.proofs.lemmas.List.{length-set}
 use Rattle.pickle_ops.specs.declared.table.Op.{Op}
 use Rattle.pickle_ops.specs.declared.table.Op.TheVariants as ops
 use Rattle.pickle_ops.specs.Fits.{Fits}
-use Rattle.pickle_ops.specs.Grammar.{SpellsLines, is_one_line, IsLine}
+use Rattle.pickle_ops.specs.Grammar.{SpellsLines, is_one_line, IsGlobalLine}
 use Rattle.pickle_value.specs.declared.node.Node.{Node}
 use Rattle.pickle_value.specs.declared.node.Node.TheVariants as kinds
 use Rattle.pickle_value.specs.declared.node.Act.{Act}
@@ -26,16 +26,17 @@ use Rattle.pickle_value.specs.declared.state.Extent.TheVariants.{Marked, Top}
 use Rattle.pickle_value.specs.declared.state.Item.{Item}
 use Rattle.pickle_value.specs.declared.state.Item.TheVariants.{Value, Mark}
 use Rattle.pickle_value.specs.Graph.{AllBelow, PairsBelow, ActBelow, ActsBelow, is_tuple, IsObject, IsNode, AreNodes}
-use Rattle.pickle_value.specs.Stacks.{Taken, above_mark, top_values, taken, put_at, node_at}
+use Rattle.pickle_value.specs.Stacks.{TakenValues, above_mark, top_values, values_taken, put_at, node_at}
 use Rattle.pickle_value.specs.Leaves.{long_number, long_of, first_line, behind_line, global_of, leaf_of}
 use Rattle.pickle_value.specs.Additions.{with_pair, pairs_of, append_acts, set_acts, acts_with, added}
 use Rattle.pickle_value.specs.Steps.{Outcome, make, popped, unmarked, doubled, tuple_of, changed, add_to, append_to, set_pairs, set_in, build_of, object_of, reference_of, put_of, get_of, act_of, leaf_or, step}
-use Rattle.pickle_value.specs.Sound.{StackBelow, MemoBelow, IsSound}
-use Rattle.pickle_value.proofs.Longs.{AreBytes, long-signed, signed32-wider, below-wider}
+use Rattle.pickle_value.specs.Sound.{StackBelow, MemoBelow, IsSoundState}
+use Rattle.pickle_value.proofs.Longs.{long-signed, signed32-wider, below-wider}
+use Rattle.zb_base.specs.Bytes.{AreBytes}
 
 -- what holds of the state, if there is one
 abbrev pub SoundAfter : Outcome → Type 0
-SoundAfter (Ok s) = IsSound s
+SoundAfter (Ok s) = IsSoundState s
 SoundAfter (Err e) = Unit {0}
 
 -- what holds of a node, if there is one
@@ -148,7 +149,7 @@ memo-more n m [] le h = tt
 memo-more n m (x ∷ xs) le h = (omega (arith, h.0), memo-more n m xs le h.1)
 
 -- values that were taken, and what lies below them
-abbrev TakenBelow : ℕ → Taken → Type 0
+abbrev TakenBelow : ℕ → TakenValues → Type 0
 TakenBelow n None = Unit {0}
 TakenBelow n (Some found) = AllBelow n found.0 × StackBelow n found.1
 
@@ -162,7 +163,7 @@ top-below n zero xs values h k = (k, h)
 top-below n (suc count) (Value v ∷ xs) values h k = top-below n count xs (v ∷ values) h.1 (h.0, k)
 top-below n (suc count) _ values h k = tt
 
-taken-below : (n : ℕ) (extent : Extent) (xs : List Item) → StackBelow n xs → TakenBelow n (taken extent xs)
+taken-below : (n : ℕ) (extent : Extent) (xs : List Item) → StackBelow n xs → TakenBelow n (values_taken extent xs)
 taken-below n Marked xs h = above-below n xs [] h tt
 taken-below n (Top count) xs h = top-below n count xs [] h tt
 
@@ -229,11 +230,11 @@ either : (b : Bool) (x y : Outcome) → SoundAfter x → SoundAfter y → SoundA
 either true x y h k = h
 either false x y h k = k
 
-make-sound : (at : ℕ) (node : Node) (s : State) → IsSound s → IsNode s.nodes node → SoundAfter (make at node s)
+make-sound : (at : ℕ) (node : Node) (s : State) → IsSoundState s → IsNode s.nodes node → SoundAfter (make at node s)
 make-sound at node s h k =
     let g : Grows s.nodes (s.nodes ++ node ∷ []) = grows-push s.nodes node in
     let n : length (s.nodes ++ node ∷ []) ≡ length s.nodes + 1 = push-length s.nodes node in
-    let sound : IsSound (record s { nodes = s.nodes ++ node ∷ []; stack = Value (length s.nodes) ∷ s.stack }) = record {
+    let sound : IsSoundState (record s { nodes = s.nodes ++ node ∷ []; stack = Value (length s.nodes) ∷ s.stack }) = record {
       nodes = nodes-push (s.nodes ++ node ∷ []) s.nodes node (nodes-more s.nodes _ s.nodes g h.nodes) (node-more s.nodes _ node g k);
       values = (omega (arith, n), stack-more (length s.nodes) _ s.stack g.longer h.values);
       puts = memo-more (length s.nodes) _ s.memo g.longer h.puts;
@@ -241,14 +242,14 @@ make-sound at node s h k =
     either (ltb (length s.nodes) s.limit) _ (Err (errors.TooLarge at)) sound tt
 
 -- the same state with another stack
-restacked : (s : State) (stack : List Item) → IsSound s → StackBelow (length s.nodes) stack → IsSound (record s { stack = stack })
+restacked : (s : State) (stack : List Item) → IsSoundState s → StackBelow (length s.nodes) stack → IsSoundState (record s { stack = stack })
 restacked s stack h k = record { nodes = h.nodes; values = k; puts = h.puts }
 
-tuple_of-sound : (at : ℕ) (s : State) (found : Taken) → IsSound s → TakenBelow (length s.nodes) found → SoundAfter (tuple_of at s found)
+tuple_of-sound : (at : ℕ) (s : State) (found : TakenValues) → IsSoundState s → TakenBelow (length s.nodes) found → SoundAfter (tuple_of at s found)
 tuple_of-sound at s None h k = tt
 tuple_of-sound at s (Some found) h k = make-sound at (kinds.Tuple found.0) (record s { stack = found.1 }) (restacked s found.1 h k.1) k.0
 
-changed-sound : (at : ℕ) (s : State) (n : ℕ) (below : List Item) (node : Option Node) → IsSound s → n < length s.nodes → StackBelow (length s.nodes) below → ChangedIn s.nodes (slice_get s.nodes n) node → SoundAfter (changed at s n below node)
+changed-sound : (at : ℕ) (s : State) (n : ℕ) (below : List Item) (node : Option Node) → IsSoundState s → n < length s.nodes → StackBelow (length s.nodes) below → ChangedIn s.nodes (slice_get s.nodes n) node → SoundAfter (changed at s n below node)
 changed-sound at s n below None h l b k = tt
 changed-sound at s n below (Some node) h l b k =
     let g : Grows s.nodes (slice_set s.nodes n node) = grows-set s.nodes n node k.1 in
@@ -258,41 +259,41 @@ changed-sound at s n below (Some node) h l b k =
       puts = memo-more (length s.nodes) _ s.memo g.longer h.puts;
     }
 
-add_to-sound : (at : ℕ) (s : State) (addition : Addition) (stack : List Item) → IsSound s → AdditionBelow (length s.nodes) addition → StackBelow (length s.nodes) stack → SoundAfter (add_to at s addition stack)
+add_to-sound : (at : ℕ) (s : State) (addition : Addition) (stack : List Item) → IsSoundState s → AdditionBelow (length s.nodes) addition → StackBelow (length s.nodes) stack → SoundAfter (add_to at s addition stack)
 add_to-sound at s addition (Value n ∷ below) h a k =
     changed-sound at s n below (added addition (slice_get s.nodes n)) h k.0 k.1 (added-sound s.nodes addition (slice_get s.nodes n) a (nodes-get s.nodes s.nodes n h.nodes))
 add_to-sound at s addition _ h a k = tt
 
-append_to-sound : (at : ℕ) (s : State) (found : Taken) → IsSound s → TakenBelow (length s.nodes) found → SoundAfter (append_to at s found)
+append_to-sound : (at : ℕ) (s : State) (found : TakenValues) → IsSoundState s → TakenBelow (length s.nodes) found → SoundAfter (append_to at s found)
 append_to-sound at s None h k = tt
 append_to-sound at s (Some found) h k = add_to-sound at s (additions.Values found.0) found.1 h k.0 k.1
 
-set_pairs-sound : (at : ℕ) (s : State) (pairs : Option (List (ℕ × ℕ))) (stack : List Item) → IsSound s → PairsIn (length s.nodes) pairs → StackBelow (length s.nodes) stack → SoundAfter (set_pairs at s pairs stack)
+set_pairs-sound : (at : ℕ) (s : State) (pairs : Option (List (ℕ × ℕ))) (stack : List Item) → IsSoundState s → PairsIn (length s.nodes) pairs → StackBelow (length s.nodes) stack → SoundAfter (set_pairs at s pairs stack)
 set_pairs-sound at s None stack h p k = tt
 set_pairs-sound at s (Some pairs) stack h p k = add_to-sound at s (additions.Pairs pairs) stack h p k
 
-set_in-sound : (at : ℕ) (s : State) (found : Taken) → IsSound s → TakenBelow (length s.nodes) found → SoundAfter (set_in at s found)
+set_in-sound : (at : ℕ) (s : State) (found : TakenValues) → IsSoundState s → TakenBelow (length s.nodes) found → SoundAfter (set_in at s found)
 set_in-sound at s None h k = tt
 set_in-sound at s (Some found) h k = set_pairs-sound at s (pairs_of found.0) found.1 h (pairs_of-below (length s.nodes) found.0 k.0) k.1
 
-build_of-sound : (at : ℕ) (s : State) (stack : List Item) → IsSound s → StackBelow (length s.nodes) stack → SoundAfter (build_of at s stack)
+build_of-sound : (at : ℕ) (s : State) (stack : List Item) → IsSoundState s → StackBelow (length s.nodes) stack → SoundAfter (build_of at s stack)
 build_of-sound at s (Value state ∷ below) h k = add_to-sound at s (additions.State state) below h k.0 k.1
 build_of-sound at s _ h k = tt
 
-popped-sound : (at : ℕ) (s : State) (stack : List Item) → IsSound s → StackBelow (length s.nodes) stack → SoundAfter (popped at s stack)
+popped-sound : (at : ℕ) (s : State) (stack : List Item) → IsSoundState s → StackBelow (length s.nodes) stack → SoundAfter (popped at s stack)
 popped-sound at s [] h k = tt
 popped-sound at s (Value v ∷ below) h k = restacked s below h k.1
 popped-sound at s (Mark ∷ below) h k = restacked s below h k
 
-unmarked-sound : (at : ℕ) (s : State) (found : Taken) → IsSound s → TakenBelow (length s.nodes) found → SoundAfter (unmarked at s found)
+unmarked-sound : (at : ℕ) (s : State) (found : TakenValues) → IsSoundState s → TakenBelow (length s.nodes) found → SoundAfter (unmarked at s found)
 unmarked-sound at s None h k = tt
 unmarked-sound at s (Some found) h k = restacked s found.1 h k.1
 
-doubled-sound : (at : ℕ) (s : State) (stack : List Item) → IsSound s → StackBelow (length s.nodes) stack → SoundAfter (doubled at s stack)
+doubled-sound : (at : ℕ) (s : State) (stack : List Item) → IsSoundState s → StackBelow (length s.nodes) stack → SoundAfter (doubled at s stack)
 doubled-sound at s (Value v ∷ below) h k = restacked s (Value v ∷ s.stack) h (k.0, h.values)
 doubled-sound at s _ h k = tt
 
-object_of-sound : (by_new : Bool) (at : ℕ) (s : State) (stack : List Item) → IsSound s → StackBelow (length s.nodes) stack → SoundAfter (object_of by_new at s stack)
+object_of-sound : (by_new : Bool) (at : ℕ) (s : State) (stack : List Item) → IsSoundState s → StackBelow (length s.nodes) stack → SoundAfter (object_of by_new at s stack)
 object_of-sound by_new at s (Value arguments ∷ Value callee ∷ below) h k = test (is_tuple (slice_get s.nodes arguments)) refl
   where
     test : (b : Bool) → is_tuple (slice_get s.nodes arguments) ≡ b → SoundAfter (cond b (make at (kinds.Object callee arguments by_new []) (record s { stack = below })) (Err (errors.Stack at)))
@@ -300,7 +301,7 @@ object_of-sound by_new at s (Value arguments ∷ Value callee ∷ below) h k = t
     test false e = tt
 object_of-sound by_new at s _ h k = tt
 
-reference_of-sound : (at : ℕ) (s : State) (stack : List Item) → IsSound s → StackBelow (length s.nodes) stack → SoundAfter (reference_of at s stack)
+reference_of-sound : (at : ℕ) (s : State) (stack : List Item) → IsSoundState s → StackBelow (length s.nodes) stack → SoundAfter (reference_of at s stack)
 reference_of-sound at s (Value id ∷ below) h k = make-sound at (kinds.Reference id) (record s { stack = below }) (restacked s below h k.1) k.0
 reference_of-sound at s _ h k = tt
 
@@ -314,7 +315,7 @@ put_at-below n [] number v h k = (k, tt)
 put_at-below n (e ∷ es) number v h k =
     by_order n (nat_cmp number e.0) ((number, v) ∷ e ∷ es) ((e.0, v) ∷ es) (e ∷ insert_entry nat_cmp es number v) (k, (h.0, h.1)) (k, h.1) (h.0, put_at-below n es number v h.1 k)
 
-put_of-sound : (at number : ℕ) (s : State) (stack : List Item) → IsSound s → StackBelow (length s.nodes) stack → SoundAfter (put_of at number s stack)
+put_of-sound : (at number : ℕ) (s : State) (stack : List Item) → IsSoundState s → StackBelow (length s.nodes) stack → SoundAfter (put_of at number s stack)
 put_of-sound at number s (Value v ∷ below) h k = record { nodes = h.nodes; values = h.values; puts = put_at-below (length s.nodes) s.memo number v h.puts k.0 }
 put_of-sound at number s _ h k = tt
 
@@ -331,24 +332,24 @@ node_at-below : (n : ℕ) (memo : List (ℕ × ℕ)) (number : ℕ) → MemoBelo
 node_at-below n [] number h = tt
 node_at-below n (e ∷ es) number h = pick n e.1 (is_at (nat_cmp number) e.0) (lookup (is_at (nat_cmp number)) es) h.0 (node_at-below n es number h.1)
 
-get_of-sound : (at : ℕ) (s : State) (found : Option ℕ) → IsSound s → ValueBelow (length s.nodes) found → SoundAfter (get_of at s found)
+get_of-sound : (at : ℕ) (s : State) (found : Option ℕ) → IsSoundState s → ValueBelow (length s.nodes) found → SoundAfter (get_of at s found)
 get_of-sound at s None h k = tt
 get_of-sound at s (Some v) h k = restacked s (Value v ∷ s.stack) h (k, h.values)
 
-act_of-sound : (op : Op) (at : ℕ) (number : ℤ) (s : State) → IsSound s → SoundAfter (act_of op at number s)
+act_of-sound : (op : Op) (at : ℕ) (number : ℤ) (s : State) → IsSoundState s → SoundAfter (act_of op at number s)
 act_of-sound ops.Proto at number s h = h
 act_of-sound ops.Mark at number s h = restacked s (Mark ∷ s.stack) h h.values
 act_of-sound ops.Pop at number s h = popped-sound at s s.stack h h.values
-act_of-sound ops.PopMark at number s h = unmarked-sound at s (taken Marked s.stack) h (taken-below (length s.nodes) Marked s.stack h.values)
+act_of-sound ops.PopMark at number s h = unmarked-sound at s (values_taken Marked s.stack) h (taken-below (length s.nodes) Marked s.stack h.values)
 act_of-sound ops.Dup at number s h = doubled-sound at s s.stack h h.values
-act_of-sound ops.Tuple at number s h = tuple_of-sound at s (taken Marked s.stack) h (taken-below (length s.nodes) Marked s.stack h.values)
-act_of-sound ops.Tuple1 at number s h = tuple_of-sound at s (taken (Top 1) s.stack) h (taken-below (length s.nodes) (Top 1) s.stack h.values)
-act_of-sound ops.Tuple2 at number s h = tuple_of-sound at s (taken (Top 2) s.stack) h (taken-below (length s.nodes) (Top 2) s.stack h.values)
-act_of-sound ops.Tuple3 at number s h = tuple_of-sound at s (taken (Top 3) s.stack) h (taken-below (length s.nodes) (Top 3) s.stack h.values)
-act_of-sound ops.Append at number s h = append_to-sound at s (taken (Top 1) s.stack) h (taken-below (length s.nodes) (Top 1) s.stack h.values)
-act_of-sound ops.Appends at number s h = append_to-sound at s (taken Marked s.stack) h (taken-below (length s.nodes) Marked s.stack h.values)
-act_of-sound ops.SetItem at number s h = set_in-sound at s (taken (Top 2) s.stack) h (taken-below (length s.nodes) (Top 2) s.stack h.values)
-act_of-sound ops.SetItems at number s h = set_in-sound at s (taken Marked s.stack) h (taken-below (length s.nodes) Marked s.stack h.values)
+act_of-sound ops.Tuple at number s h = tuple_of-sound at s (values_taken Marked s.stack) h (taken-below (length s.nodes) Marked s.stack h.values)
+act_of-sound ops.Tuple1 at number s h = tuple_of-sound at s (values_taken (Top 1) s.stack) h (taken-below (length s.nodes) (Top 1) s.stack h.values)
+act_of-sound ops.Tuple2 at number s h = tuple_of-sound at s (values_taken (Top 2) s.stack) h (taken-below (length s.nodes) (Top 2) s.stack h.values)
+act_of-sound ops.Tuple3 at number s h = tuple_of-sound at s (values_taken (Top 3) s.stack) h (taken-below (length s.nodes) (Top 3) s.stack h.values)
+act_of-sound ops.Append at number s h = append_to-sound at s (values_taken (Top 1) s.stack) h (taken-below (length s.nodes) (Top 1) s.stack h.values)
+act_of-sound ops.Appends at number s h = append_to-sound at s (values_taken Marked s.stack) h (taken-below (length s.nodes) Marked s.stack h.values)
+act_of-sound ops.SetItem at number s h = set_in-sound at s (values_taken (Top 2) s.stack) h (taken-below (length s.nodes) (Top 2) s.stack h.values)
+act_of-sound ops.SetItems at number s h = set_in-sound at s (values_taken Marked s.stack) h (taken-below (length s.nodes) Marked s.stack h.values)
 act_of-sound ops.Reduce at number s h = object_of-sound false at s s.stack h h.values
 act_of-sound ops.NewObj at number s h = object_of-sound true at s s.stack h h.values
 act_of-sound ops.Build at number s h = build_of-sound at s s.stack h h.values
@@ -387,7 +388,7 @@ global_of-sound ns number bytes h =
     let first : first_line bytes ≡ h.first = ap first_line h.spelled ∙ first-line h.first (h.second ++ 10 ∷ []) h.module_line.one in
     let rest : behind_line bytes ≡ h.second ++ 10 ∷ [] = ap behind_line h.spelled ∙ behind-line h.first (h.second ++ 10 ∷ []) h.module_line.one in
     let second : first_line (behind_line bytes) ≡ h.second = ap first_line rest ∙ first-line h.second [] h.name_line.one in
-    record { first = subst IsLine (sym first) h.module_line; second = subst IsLine (sym second) h.name_line }
+    record { first = subst IsGlobalLine (sym first) h.module_line; second = subst IsGlobalLine (sym second) h.name_line }
 
 leaf_of-sound : (ns : List Node) (op : Op) (number : ℤ) (bytes : List ℕ) → AreBytes bytes → Fits op number bytes → NodeIn ns (leaf_of op number bytes)
 leaf_of-sound ns ops.None number bytes are f = tt
@@ -410,11 +411,11 @@ leaf_of-sound ns ops.EmptyDict number bytes are f = tt
 leaf_of-sound ns ops.Global number bytes are f = global_of-sound ns number bytes f
 leaf_of-sound ns _ number bytes are f = tt
 
-leaf_or-sound : (at : ℕ) (s : State) (node : Option Node) (outcome : Outcome) → IsSound s → NodeIn s.nodes node → SoundAfter outcome → SoundAfter (leaf_or at s node outcome)
+leaf_or-sound : (at : ℕ) (s : State) (node : Option Node) (outcome : Outcome) → IsSoundState s → NodeIn s.nodes node → SoundAfter outcome → SoundAfter (leaf_or at s node outcome)
 leaf_or-sound at s (Some node) outcome h k o = make-sound at node s h k
 leaf_or-sound at s None outcome h k o = o
 
 -- A step keeps a state sound.
-pub step-sound : (op : Op) (at : ℕ) (number : ℤ) (bytes : List ℕ) (s : State) → AreBytes bytes → Fits op number bytes → IsSound s → SoundAfter (step op at number bytes s)
+pub step-sound : (op : Op) (at : ℕ) (number : ℤ) (bytes : List ℕ) (s : State) → AreBytes bytes → Fits op number bytes → IsSoundState s → SoundAfter (step op at number bytes s)
 step-sound op at number bytes s are f h =
     leaf_or-sound at s (leaf_of op number bytes) (act_of op at number s) h (leaf_of-sound s.nodes op number bytes are f) (act_of-sound op at number s h)

@@ -12,8 +12,8 @@ use Rattle.pickle_value.specs.declared.state.State.{State}
 use Rattle.pickle_value.specs.declared.state.Item.{Item}
 use Rattle.pickle_value.specs.Graph.{is_tuple}
 use Rattle.pickle_value.specs.Stacks.{put_at, node_at}
-use Rattle.pickle_value.specs.Spelling.{place_of}
-use Rattle.pickle_value.specs.Same.{AllStandFor, PairsStandFor, ActStandsFor, ActsStandFor, IsCopy, AllCopies}
+use Rattle.pickle_value.specs.Spelling.{put_number}
+use Rattle.pickle_value.specs.Same.{HaveOrigins, PairsStandFor, ActStandsFor, ActsStandFor, IsCopy, AllCopies}
 use Rattle.pickle_value.proofs.Walks.{cases_bool, not_true}
 
 -- ---- lists
@@ -38,13 +38,13 @@ set-between (a ∷ xs) ys x y = ap (λ zs. a ∷ zs) (set-between xs ys x y)
 
 -- ---- copies
 
-pub all-more : (o p ns ms : List ℕ) → AllStandFor o ns ms → AllStandFor (o ++ p) ns ms
+pub all-more : (o p ns ms : List ℕ) → HaveOrigins o ns ms → HaveOrigins (o ++ p) ns ms
 all-more o p [] [] h = tt
 all-more o p [] (m ∷ ms) h = absurd h
 all-more o p (n ∷ ns) [] h = absurd h
 all-more o p (n ∷ ns) (m ∷ ms) h = (get-more o p n m h.0, all-more o p ns ms h.1)
 
-pub all-length : (o ns ms : List ℕ) → AllStandFor o ns ms → length ns ≡ length ms
+pub all-length : (o ns ms : List ℕ) → HaveOrigins o ns ms → length ns ≡ length ms
 all-length o [] [] h = refl
 all-length o [] (m ∷ ms) h = absurd h
 all-length o (n ∷ ns) [] h = absurd h
@@ -163,16 +163,16 @@ tuples-one g m x h (suc i) y e t = absurd cc
 
 -- the memo leads to the node that stands for each node put
 abbrev pub MemoHas : List ℕ → List (ℕ × ℕ) → List ℕ → Type 0
-MemoHas o memo puts = (m k : ℕ) → place_of m puts ≡ Some k → (i : ℕ) × (node_at memo k ≡ Some i) × (slice_get o i ≡ Some m)
+MemoHas o memo puts = (m k : ℕ) → put_number m puts ≡ Some k → (i : ℕ) × (node_at memo k ≡ Some i) × (slice_get o i ≡ Some m)
 
 pub memo-more : (o p : List ℕ) (memo : List (ℕ × ℕ)) (puts : List ℕ) → MemoHas o memo puts → MemoHas (o ++ p) memo puts
 memo-more o p memo puts h m k e = let x = h m k e in (x.0, x.1, get-more o p x.0 m x.2)
 
-pub place-less : (m k : ℕ) (puts : List ℕ) → place_of m puts ≡ Some k → k < length puts
+pub place-less : (m k : ℕ) (puts : List ℕ) → put_number m puts ≡ Some k → k < length puts
 place-less m k [] e = absurd cc
 place-less m k (x ∷ puts) e = elim (cases_bool (eqb x m)) [
-  | inl t ↦ let s : length puts ≡ k = some_is (length puts) k (ap (λ (b : Bool). cond b (Some (length puts)) (place_of m puts)) (sym t) ∙ e) in omega (arith, s)
-  | inr t ↦ let l = place-less m k puts (ap (λ (b : Bool). cond b (Some (length puts)) (place_of m puts)) (sym t) ∙ e) in omega (arith, l)
+  | inl t ↦ let s : length puts ≡ k = some_is (length puts) k (ap (λ (b : Bool). cond b (Some (length puts)) (put_number m puts)) (sym t) ∙ e) in omega (arith, s)
+  | inr t ↦ let l = place-less m k puts (ap (λ (b : Bool). cond b (Some (length puts)) (put_number m puts)) (sym t) ∙ e) in omega (arith, l)
 ]
 
 not_less : (a : ℕ) → ltb a a ≡ false
@@ -215,10 +215,10 @@ put-other (e ∷ memo) k v q h = elim (cases_bool (ltb k e.0)) [
 pub memo-put : (o : List ℕ) (memo : List (ℕ × ℕ)) (puts : List ℕ) (v m : ℕ) → MemoHas o memo puts → slice_get o v ≡ Some m → MemoHas o (put_at memo (length puts) v) (m ∷ puts)
 memo-put o memo puts v m h here m' k e = elim (cases_bool (eqb m m')) [
   | inl t ↦
-      let s : length puts ≡ k = some_is (length puts) k (ap (λ (b : Bool). cond b (Some (length puts)) (place_of m' puts)) (sym t) ∙ e) in
+      let s : length puts ≡ k = some_is (length puts) k (ap (λ (b : Bool). cond b (Some (length puts)) (put_number m' puts)) (sym t) ∙ e) in
       (v, ap (node_at (put_at memo (length puts) v)) (sym s) ∙ put-same memo (length puts) v, here ∙ ap (λ (y : ℕ). Some y) (eqb-true m m' t))
   | inr t ↦
-      let old : place_of m' puts ≡ Some k = ap (λ (b : Bool). cond b (Some (length puts)) (place_of m' puts)) (sym t) ∙ e in
+      let old : put_number m' puts ≡ Some k = ap (λ (b : Bool). cond b (Some (length puts)) (put_number m' puts)) (sym t) ∙ e in
       let less = place-less m' k puts old in
       let x = h m' k old in
       (x.0, put-other memo (length puts) v k (λ z. omega (arith, less, z)) ∙ x.1, x.2)

@@ -7,7 +7,7 @@ use Rattle.pickle_value.specs.declared.parts.Part.{Part}
 use Rattle.pickle_value.specs.declared.parts.Part.TheVariants.{Byte, Item}
 use Rattle.pickle_value.specs.Parts.{item_parts, parts_of, is_held, items_in}
 use Rattle.pickle_value.specs.Same.{has}
-use Rattle.pickle_value.specs.Spelling.{Piece, place_of, no_piece, followed, parts_piece, piece_of}
+use Rattle.pickle_value.specs.Spelling.{Piece, put_number, no_piece, followed, parts_piece, piece_of}
 use Rattle.pickle_value.proofs.Walks.{has-left, has-right}
 use Rattle.pickle_value.proofs.Building.{piece_is}
 use Rattle.pickle_value.proofs.Growing.{front}
@@ -23,7 +23,7 @@ visit_held None m more = m ∷ more
 
 abbrev pub visit_node : (ℕ → List ℕ → List ℕ) → (ℕ → List ℕ → Piece) → ℕ → List ℕ → Option Node → List ℕ
 visit_node visit piece m puts None = []
-visit_node visit piece m puts (Some x) = cond (is_held x) (visit_held (place_of m puts) m (visit_parts visit piece (parts_of x) puts)) (m ∷ [])
+visit_node visit piece m puts (Some x) = cond (is_held x) (visit_held (put_number m puts) m (visit_parts visit piece (parts_of x) puts)) (m ∷ [])
 
 unfoldable pub visits : ℕ → List Node → (ℕ → Bool) → ℕ → List ℕ → List ℕ
 visits zero ns shared m puts = []

@@ -1,6 +1,6 @@
 -- Graphs: nodes that name each other by number, counted from 0, and a root.
 use Rattle.std.specs.Prelude.{ℕ, ℤ, pos, negsuc, Bool, true, false, List, [], ◌∷◌, Option, Some, length, slice_get, ◌-◌, ◌^◌, ◌<◌, ◌≤ℤ◌, ◌<ℤ◌, ◌≡◌}
-use Rattle.pickle_ops.specs.Grammar.{IsLine}
+use Rattle.pickle_ops.specs.Grammar.{IsGlobalLine}
 use Rattle.pickle_ops.specs.Fits.{IsShortText}
 use Rattle.pickle_value.specs.declared.node.Act.{Act}
 use Rattle.pickle_value.specs.declared.node.Act.TheVariants.{Append, Set, Build}
@@ -44,8 +44,8 @@ pub record IsWide (bytes : List ℕ) : Type 0 where
   pub short : length bytes < 2 ^ 31
 
 pub record IsGlobal (module_line name_line : List ℕ) : Type 0 where
-  pub first : IsLine module_line
-  pub second : IsLine name_line
+  pub first : IsGlobalLine module_line
+  pub second : IsGlobalLine name_line
 
 -- a callee, arguments and acts among the nodes, of which the arguments are a tuple
 pub record IsObject (ns : List Node) (callee arguments : ℕ) (acts : List Act) : Type 0 where

@@ -11,13 +11,13 @@ abbrev pub number_of : ℕ → List (ℕ × ℕ) → Option ℕ
 number_of m [] = None
 number_of m (pair ∷ pairs) = if pair.0 == m then Some pair.1 else number_of m pairs
 
-abbrev pub is_known : List (ℕ × ℕ) → ℕ → Bool
-is_known pairs m = is_some (number_of m pairs)
+abbrev pub has_number : List (ℕ × ℕ) → ℕ → Bool
+has_number pairs m = is_some (number_of m pairs)
 
 -- each node stands once
 abbrev pub AllFresh : List (ℕ × ℕ) → Type 0
 AllFresh [] = Unit {0}
-AllFresh (pair ∷ pairs) = (is_known pairs pair.0 ≡ false) × AllFresh pairs
+AllFresh (pair ∷ pairs) = (has_number pairs pair.0 ≡ false) × AllFresh pairs
 
 -- ---- heights
 
@@ -29,28 +29,28 @@ pub record IsHeight (ns : List Node) (m h : ℕ) : Type 0 where
 -- heights of nodes are known together with those of their items
 pub record IsMeasured (ns : List Node) (heights : List (ℕ × ℕ)) : Type 0 where
   pub right : (m h : ℕ) → number_of m heights ≡ Some h → IsHeight ns m h
-  pub closed : (m c : ℕ) → is_known heights m ≡ true → has c (items_at ns m) ≡ true → is_known heights c ≡ true
+  pub closed : (m c : ℕ) → has_number heights m ≡ true → has c (items_at ns m) ≡ true → has_number heights c ≡ true
   pub fresh : AllFresh heights
 
 -- a walk of one edge or more leads to a node from each that was begun and isn't measured
 abbrev pub IsOpen : List Node → List (ℕ × ℕ) → List (ℕ × ℕ) → ℕ → Type 0
-IsOpen ns begun heights m = (b : ℕ) → is_known begun b ≡ true → is_known heights b ≡ false → (j : ℕ) × (has_way (suc j) ns b m ≡ true)
+IsOpen ns begun heights m = (b : ℕ) → has_number begun b ≡ true → has_number heights b ≡ false → (j : ℕ) × (has_way (suc j) ns b m ≡ true)
 
 abbrev pub AllOpen : List Node → List (ℕ × ℕ) → List (ℕ × ℕ) → List ℕ → Type 0
 AllOpen ns begun heights items = (c : ℕ) → has c items ≡ true → IsOpen ns begun heights c
 
 -- what came to be begun is measured
-abbrev pub IsSettled : List (ℕ × ℕ) → List (ℕ × ℕ) → List (ℕ × ℕ) → Type 0
-IsSettled begun later heights = (b : ℕ) → is_known later b ≡ true → (is_known begun b ≡ true) ⊎ (is_known heights b ≡ true)
+abbrev pub IsMeasuredSince : List (ℕ × ℕ) → List (ℕ × ℕ) → List (ℕ × ℕ) → Type 0
+IsMeasuredSince begun later heights = (b : ℕ) → has_number later b ≡ true → (has_number begun b ≡ true) ⊎ (has_number heights b ≡ true)
 
 -- a node was measured: what came to be known is led to from it
 pub record Measures (ns : List Node) (levels : ℕ) (old : List (ℕ × ℕ)) (m : ℕ) (new : List (ℕ × ℕ)) (h : ℕ) : Type 0 where
   pub measured : IsMeasured ns new
   pub height : IsHeight ns m h
   pub low : h ≤ levels
-  pub kept : (k : ℕ) → is_known old k ≡ true → is_known new k ≡ true
-  pub here : is_known new m ≡ true
-  pub led : (k : ℕ) → is_known new k ≡ true → (is_known old k ≡ true) ⊎ (leads levels ns m k ≡ true)
+  pub kept : (k : ℕ) → has_number old k ≡ true → has_number new k ≡ true
+  pub here : has_number new m ≡ true
+  pub led : (k : ℕ) → has_number new k ≡ true → (has_number old k ≡ true) ⊎ (leads levels ns m k ≡ true)
 
 -- a walk of so many edges, of which the first leads to one of these
 abbrev pub walks_in : ℕ → List Node → List ℕ → Bool
@@ -71,29 +71,29 @@ pub record MeasuresAll (ns : List Node) (levels : ℕ) (old : List (ℕ × ℕ))
   pub measured : IsMeasured ns new
   pub height : IsTop ns items h
   pub low : h ≤ levels
-  pub kept : (k : ℕ) → is_known old k ≡ true → is_known new k ≡ true
-  pub each : (c : ℕ) → has c items ≡ true → is_known new c ≡ true
-  pub led : (k : ℕ) → is_known new k ≡ true → (is_known old k ≡ true) ⊎ (leads_in levels ns items k ≡ true)
+  pub kept : (k : ℕ) → has_number old k ≡ true → has_number new k ≡ true
+  pub each : (c : ℕ) → has c items ≡ true → has_number new c ≡ true
+  pub led : (k : ℕ) → has_number new k ≡ true → (has_number old k ≡ true) ⊎ (leads_in levels ns items k ≡ true)
 
 -- the nodes that the root reaches are known, each once, and no walk is too long
 pub record IsReach (ns : List Node) (root : ℕ) (heights : List (ℕ × ℕ)) : Type 0 where
-  pub known : (k : ℕ) → is_known heights k ≡ leads WALK_LIMIT ns root k
+  pub known : (k : ℕ) → has_number heights k ≡ leads WALK_LIMIT ns root k
   pub fresh : AllFresh heights
   pub short : has_walk (suc WALK_LIMIT) ns root ≡ false
 
 -- ---- counts
 
-abbrev pub one_more : ℕ → List (ℕ × ℕ) → Option ℕ → List (ℕ × ℕ)
-one_more m counts None = (m, 1) ∷ counts
-one_more m counts (Some n) = if nat_lt n 2 then (m, 2) ∷ counts else counts
+abbrev pub one_edge_more : ℕ → List (ℕ × ℕ) → Option ℕ → List (ℕ × ℕ)
+one_edge_more m counts None = (m, 1) ∷ counts
+one_edge_more m counts (Some n) = if nat_lt n 2 then (m, 2) ∷ counts else counts
 
 -- one more edge leads to a node; beyond two none is counted
-abbrev pub counted : ℕ → List (ℕ × ℕ) → List (ℕ × ℕ)
-counted m counts = one_more m counts (number_of m counts)
+abbrev pub with_edge : ℕ → List (ℕ × ℕ) → List (ℕ × ℕ)
+with_edge m counts = one_edge_more m counts (number_of m counts)
 
-abbrev pub all_counted : List ℕ → List (ℕ × ℕ) → List (ℕ × ℕ)
-all_counted [] counts = counts
-all_counted (m ∷ ms) counts = all_counted ms (counted m counts)
+abbrev pub with_edges : List ℕ → List (ℕ × ℕ) → List (ℕ × ℕ)
+with_edges [] counts = counts
+with_edges (m ∷ ms) counts = with_edges ms (with_edge m counts)
 
 -- the ends of the edges from these nodes
 abbrev pub known_ends : List Node → List (ℕ × ℕ) → List ℕ

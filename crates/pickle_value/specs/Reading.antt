@@ -56,9 +56,9 @@ abbrev pub graphs : Reader State (Pickle × ℕ)
 graphs = record { turn = step; finish = λ at next s. root_of at next s s.stack }
 
 -- nothing was read yet
-abbrev pub start : ℕ → State
-start limit = record { limit = limit; nodes = []; stack = []; memo = [] }
+abbrev pub empty_state : ℕ → State
+empty_state limit = record { limit = limit; nodes = []; stack = []; memo = [] }
 
 -- the graph of the bytes behind a place, of so many nodes at most, and the place behind it; or the refusal
 abbrev pub graph_at : ℕ → ℕ → List ℕ → Result (Pickle × ℕ) PickleError
-graph_at limit at bytes = read_from graphs 0 (start limit) at bytes
+graph_at limit at bytes = read_from graphs 0 (empty_state limit) at bytes

@@ -14,7 +14,7 @@ use Rattle.pickle_value.specs.declared.state.Item.{Item}
 use Rattle.pickle_value.specs.declared.state.Item.TheVariants.{Value}
 use Rattle.pickle_value.specs.declared.state.State.{State}
 use Rattle.pickle_value.specs.Steps.{step}
-use Rattle.pickle_value.specs.Reading.{Reader, read_from, start}
+use Rattle.pickle_value.specs.Reading.{Reader, read_from, empty_state}
 
 -- an oid is eight bytes, the highest first
 abbrev pub oid_in : List ℕ → Named
@@ -26,13 +26,13 @@ oid_of (Some (kinds.OldText bytes)) = oid_in bytes
 oid_of _ = Bad
 
 -- what the first item of a tuple names
-abbrev pub first_of : List Node → List ℕ → Named
-first_of ns [] = Bad
-first_of ns (first ∷ rest) = oid_of (slice_get ns first)
+abbrev pub named_first : List Node → List ℕ → Named
+named_first ns [] = Bad
+named_first ns (first ∷ rest) = oid_of (slice_get ns first)
 
 -- what a persistent id names: an oid, or a tuple whose first item is one; a list is a weak or foreign reference
 abbrev pub named_by : List Node → Option Node → Named
-named_by ns (Some (kinds.Tuple items)) = first_of ns items
+named_by ns (Some (kinds.Tuple items)) = named_first ns items
 named_by ns (Some (kinds.List items)) = Weak
 named_by ns node = oid_of node
 
@@ -48,9 +48,9 @@ noted at s oids Weak = Ok (record { state = s; oids = oids })
 noted at s oids Bad = Err (errors.BadReference at)
 
 -- only a persistent id's token names something
-abbrev pub seen : Op → List Node → List Item → Named
-seen ops.BinPersid ns stack = named_on ns stack
-seen _ ns stack = Weak
+abbrev pub named_by_token : Op → List Node → List Item → Named
+named_by_token ops.BinPersid ns stack = named_on ns stack
+named_by_token _ ns stack = Weak
 
 abbrev pub noted_in : ℕ → List ℕ → Named → Result State PickleError → Result Finding PickleError
 noted_in at oids named (Ok s) = noted at s oids named
@@ -59,7 +59,7 @@ noted_in at oids named (Err e) = Err e
 -- what a token does, and what its persistent id names
 abbrev pub find : Op → ℕ → ℤ → List ℕ → Finding → Result Finding PickleError
 find op at number bytes f =
-    noted_in at f.oids (seen op f.state.nodes f.state.stack) (step op at number bytes f.state)
+    noted_in at f.oids (named_by_token op f.state.nodes f.state.stack) (step op at number bytes f.state)
 
 -- at STOP a value has to stand on the top
 abbrev pub oids_at : ℕ → ℕ → List ℕ → List Item → Result (List ℕ × ℕ) PickleError
@@ -71,4 +71,4 @@ references = record { turn = find; finish = λ at next f. oids_at at next f.oids
 
 -- the oids in the bytes behind a place, in the order of their tokens, and the place behind the pickle; or the refusal
 abbrev pub oids_from : ℕ → ℕ → List ℕ → Result (List ℕ × ℕ) PickleError
-oids_from limit at bytes = read_from references 0 (record { state = start limit; oids = [] }) at bytes
+oids_from limit at bytes = read_from references 0 (record { state = empty_state limit; oids = [] }) at bytes

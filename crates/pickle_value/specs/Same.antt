@@ -8,23 +8,23 @@ use Rattle.pickle_value.specs.Graph.{Graph}
 use Rattle.pickle_value.specs.Parts.{is_held}
 
 -- The origins are a list: for each node of the copy, the number of the node for which it stands.
-abbrev pub StandsFor : List ℕ → ℕ → ℕ → Type 0
-StandsFor origin n m = slice_get origin n ≡ Some m
+abbrev pub HasOrigin : List ℕ → ℕ → ℕ → Type 0
+HasOrigin origin n m = slice_get origin n ≡ Some m
 
-abbrev pub AllStandFor : List ℕ → List ℕ → List ℕ → Type 0
-AllStandFor origin [] [] = Unit {0}
-AllStandFor origin (n ∷ ns) (m ∷ ms) = StandsFor origin n m × AllStandFor origin ns ms
-AllStandFor origin _ _ = ⊥
+abbrev pub HaveOrigins : List ℕ → List ℕ → List ℕ → Type 0
+HaveOrigins origin [] [] = Unit {0}
+HaveOrigins origin (n ∷ ns) (m ∷ ms) = HasOrigin origin n m × HaveOrigins origin ns ms
+HaveOrigins origin _ _ = ⊥
 
 abbrev pub PairsStandFor : List ℕ → List (ℕ × ℕ) → List (ℕ × ℕ) → Type 0
 PairsStandFor origin [] [] = Unit {0}
-PairsStandFor origin (n ∷ ns) (m ∷ ms) = StandsFor origin n.0 m.0 × StandsFor origin n.1 m.1 × PairsStandFor origin ns ms
+PairsStandFor origin (n ∷ ns) (m ∷ ms) = HasOrigin origin n.0 m.0 × HasOrigin origin n.1 m.1 × PairsStandFor origin ns ms
 PairsStandFor origin _ _ = ⊥
 
 abbrev pub ActStandsFor : List ℕ → Act → Act → Type 0
-ActStandsFor origin (Append n) (Append m) = StandsFor origin n m
-ActStandsFor origin (Set key value) (Set old_key old_value) = StandsFor origin key old_key × StandsFor origin value old_value
-ActStandsFor origin (Build n) (Build m) = StandsFor origin n m
+ActStandsFor origin (Append n) (Append m) = HasOrigin origin n m
+ActStandsFor origin (Set key value) (Set old_key old_value) = HasOrigin origin key old_key × HasOrigin origin value old_value
+ActStandsFor origin (Build n) (Build m) = HasOrigin origin n m
 ActStandsFor origin _ _ = ⊥
 
 abbrev pub ActsStandFor : List ℕ → List Act → List Act → Type 0
@@ -34,8 +34,8 @@ ActsStandFor origin _ _ = ⊥
 
 -- two objects: made alike, of parts that stand for each other's
 pub record ObjectsAlike (origin : List ℕ) (callee arguments : ℕ) (by_new : Bool) (acts : List Act) (old_callee old_arguments : ℕ) (old_by_new : Bool) (old_acts : List Act) : Type 0 where
-  pub called : StandsFor origin callee old_callee
-  pub taken : StandsFor origin arguments old_arguments
+  pub called : HasOrigin origin callee old_callee
+  pub taken : HasOrigin origin arguments old_arguments
   pub made : by_new ≡ old_by_new
   pub done : ActsStandFor origin acts old_acts
 
@@ -49,11 +49,11 @@ IsCopy origin (kinds.Float x) (Some (kinds.Float y)) = x ≡ y
 IsCopy origin (kinds.Bytes x) (Some (kinds.Bytes y)) = x ≡ y
 IsCopy origin (kinds.OldText x) (Some (kinds.OldText y)) = x ≡ y
 IsCopy origin (kinds.Text x) (Some (kinds.Text y)) = x ≡ y
-IsCopy origin (kinds.Tuple ns) (Some (kinds.Tuple ms)) = AllStandFor origin ns ms
-IsCopy origin (kinds.List ns) (Some (kinds.List ms)) = AllStandFor origin ns ms
+IsCopy origin (kinds.Tuple ns) (Some (kinds.Tuple ms)) = HaveOrigins origin ns ms
+IsCopy origin (kinds.List ns) (Some (kinds.List ms)) = HaveOrigins origin ns ms
 IsCopy origin (kinds.Dict ns) (Some (kinds.Dict ms)) = PairsStandFor origin ns ms
 IsCopy origin (kinds.Global a b) (Some (kinds.Global c d)) = (a ≡ c) × (b ≡ d)
-IsCopy origin (kinds.Reference n) (Some (kinds.Reference m)) = StandsFor origin n m
+IsCopy origin (kinds.Reference n) (Some (kinds.Reference m)) = HasOrigin origin n m
 IsCopy origin (kinds.Object callee arguments by_new acts) (Some (kinds.Object old_callee old_arguments old_by_new old_acts)) =
     ObjectsAlike origin callee arguments by_new acts old_callee old_arguments old_by_new old_acts
 IsCopy origin _ _ = ⊥
@@ -77,14 +77,14 @@ abbrev pub is_held_at : List Node → ℕ → Bool
 is_held_at ns m = holds_items (slice_get ns m)
 
 -- no node with items stands twice
-abbrev pub Apart : List Node → List ℕ → Type 0
-Apart ns [] = Unit {0}
-Apart ns (m ∷ ms) = (is_held_at ns m ≡ true → has m ms ≡ false) × Apart ns ms
+abbrev pub StandOnce : List Node → List ℕ → Type 0
+StandOnce ns [] = Unit {0}
+StandOnce ns (m ∷ ms) = (is_held_at ns m ≡ true → has m ms ≡ false) × StandOnce ns ms
 
 -- The copy is the same graph: each of its nodes stands for one of the graph, and its root for the root; and no node with
 -- items stands twice, so such nodes are shared as they were.
 pub record IsSame (g copy : Graph) : Type 0 where
   pub origin : List ℕ
   pub each : AllCopies origin g.nodes copy.nodes origin
-  pub root : StandsFor origin copy.root g.root
-  pub once : Apart g.nodes origin
+  pub root : HasOrigin origin copy.root g.root
+  pub once : StandOnce g.nodes origin

@@ -14,7 +14,7 @@ abbrev pub MemoBelow : ℕ → List (ℕ × ℕ) → Type 0
 MemoBelow n [] = Unit {0}
 MemoBelow n (pair ∷ pairs) = (pair.1 < n) × MemoBelow n pairs
 
-pub record IsSound (s : State) : Type 0 where
+pub record IsSoundState (s : State) : Type 0 where
   pub nodes : AreNodes s.nodes s.nodes
   pub values : StackBelow (length s.nodes) s.stack
   pub puts : MemoBelow (length s.nodes) s.memo

@@ -83,9 +83,9 @@ pub record Piece : Type 0 where
   pub made : ℕ
 
 -- the number under which a node is put: how many were put before
-abbrev pub place_of : ℕ → List ℕ → Option ℕ
-place_of m [] = None
-place_of m (x ∷ puts) = if x == m then Some (length puts) else place_of m puts
+abbrev pub put_number : ℕ → List ℕ → Option ℕ
+put_number m [] = None
+put_number m (x ∷ puts) = if x == m then Some (length puts) else put_number m puts
 
 -- no bytes, behind these puts
 abbrev pub no_piece : List ℕ → Piece
@@ -114,7 +114,7 @@ held_piece shared None m puts whole = put_behind shared m (record whole { made =
 abbrev pub node_piece : (ℕ → Bool) → (ℕ → List ℕ → Piece) → ℕ → List ℕ → Option Node → Piece
 node_piece shared piece m puts None = no_piece puts
 node_piece shared piece m puts (Some node) =
-    if is_held node then held_piece (shared m) (place_of m puts) m puts (parts_piece piece (parts_of node) puts)
+    if is_held node then held_piece (shared m) (put_number m puts) m puts (parts_piece piece (parts_of node) puts)
     else record { text = leaf_text node; puts = puts; made = 1 }
 
 -- the piece of a node from which each walk has fewer edges than there are levels

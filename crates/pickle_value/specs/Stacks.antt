@@ -13,25 +13,25 @@ top_of [] = None
 top_of (item ∷ below) = Some item
 
 -- values, the lowest first, and what lies below them; or there are none to take
-abbrev pub Taken : Type 0
-Taken = Option (List ℕ × List Item)
+abbrev pub TakenValues : Type 0
+TakenValues = Option (List ℕ × List Item)
 
 -- the values above the last mark, in front of these; the mark is gone
-abbrev pub above_mark : List Item → List ℕ → Taken
+abbrev pub above_mark : List Item → List ℕ → TakenValues
 above_mark [] values = None
 above_mark (Mark ∷ below) values = Some (values, below)
 above_mark (Value v ∷ below) values = above_mark below (v ∷ values)
 
 -- so many values from the top, in front of these, with no mark among them
-abbrev pub top_values : ℕ → List Item → List ℕ → Taken
+abbrev pub top_values : ℕ → List Item → List ℕ → TakenValues
 top_values zero stack values = Some (values, stack)
 top_values (suc n) (Value v ∷ below) values = top_values n below (v ∷ values)
 top_values (suc n) _ values = None
 
 -- the values that a token takes
-abbrev pub taken : Extent → List Item → Taken
-taken Marked stack = above_mark stack []
-taken (Top count) stack = top_values count stack []
+abbrev pub values_taken : Extent → List Item → TakenValues
+values_taken Marked stack = above_mark stack []
+values_taken (Top count) stack = top_values count stack []
 
 -- the memo with a node put under a number, where it replaces what was put there before
 abbrev pub put_at : List (ℕ × ℕ) → ℕ → ℕ → List (ℕ × ℕ)

@@ -15,23 +15,23 @@ use Rattle.pickle_value.specs.declared.state.Item.TheVariants.{Value, Mark}
 use Rattle.pickle_value.specs.declared.state.Extent.TheVariants.{Marked, Top}
 use Rattle.pickle_value.specs.declared.state.State.{State}
 use Rattle.pickle_value.specs.Graph.{is_tuple}
-use Rattle.pickle_value.specs.Stacks.{Taken, taken, put_at, node_at}
+use Rattle.pickle_value.specs.Stacks.{TakenValues, values_taken, put_at, node_at}
 use Rattle.pickle_value.specs.Leaves.{leaf_of}
 use Rattle.pickle_value.specs.Additions.{pairs_of, added}
 
 -- memory is free to run out; every other refusal is the one of the definition
-abbrev pub Fails : {X : Type 0} → PickleError → Result X PickleError → Type 0
-Fails errors.Memory read = Unit {0}
-Fails (errors.Token e) read = read ≡ Err (errors.Token e)
-Fails (errors.Stack at) read = read ≡ Err (errors.Stack at)
-Fails (errors.Memo at) read = read ≡ Err (errors.Memo at)
-Fails (errors.TooLarge at) read = read ≡ Err (errors.TooLarge at)
-Fails (errors.BadReference at) read = read ≡ Err (errors.BadReference at)
+abbrev pub RefusesAs : {X : Type 0} → PickleError → Result X PickleError → Type 0
+RefusesAs errors.Memory read = Unit {0}
+RefusesAs (errors.Token e) read = read ≡ Err (errors.Token e)
+RefusesAs (errors.Stack at) read = read ≡ Err (errors.Stack at)
+RefusesAs (errors.Memo at) read = read ≡ Err (errors.Memo at)
+RefusesAs (errors.TooLarge at) read = read ≡ Err (errors.TooLarge at)
+RefusesAs (errors.BadReference at) read = read ≡ Err (errors.BadReference at)
 
 -- the answer is the one of the definition
-abbrev pub Gives : {X : Type 0} → Result X PickleError → Result X PickleError → Type 0
-Gives (Ok x) read = read ≡ Ok x
-Gives (Err e) read = Fails e read
+abbrev pub AnswersAs : {X : Type 0} → Result X PickleError → Result X PickleError → Type 0
+AnswersAs (Ok x) read = read ≡ Ok x
+AnswersAs (Err e) read = RefusesAs e read
 
 -- what a token leaves, or the refusal
 abbrev pub Outcome : Type 0
@@ -53,7 +53,7 @@ popped at s [] = Err (errors.Stack at)
 popped at s (item ∷ below) = Ok (record s { stack = below })
 
 -- a mark and all above it are taken
-abbrev pub unmarked : ℕ → State → Taken → Outcome
+abbrev pub unmarked : ℕ → State → TakenValues → Outcome
 unmarked at s None = Err (errors.Stack at)
 unmarked at s (Some found) = Ok (record s { stack = found.1 })
 
@@ -63,7 +63,7 @@ doubled at s (Value v ∷ below) = push (Value v) s
 doubled at s _ = Err (errors.Stack at)
 
 -- a tuple of the values taken
-abbrev pub tuple_of : ℕ → State → Taken → Outcome
+abbrev pub tuple_of : ℕ → State → TakenValues → Outcome
 tuple_of at s None = Err (errors.Stack at)
 tuple_of at s (Some found) = make at (kinds.Tuple found.0) (record s { stack = found.1 })
 
@@ -77,7 +77,7 @@ add_to at s addition (Value n ∷ below) = changed at s n below (added addition 
 add_to at s addition _ = Err (errors.Stack at)
 
 -- the values taken are appended to the node below them
-abbrev pub append_to : ℕ → State → Taken → Outcome
+abbrev pub append_to : ℕ → State → TakenValues → Outcome
 append_to at s None = Err (errors.Stack at)
 append_to at s (Some found) = add_to at s (Values found.0) found.1
 
@@ -86,7 +86,7 @@ abbrev pub set_pairs : ℕ → State → Option (List (ℕ × ℕ)) → List Ite
 set_pairs at s None stack = Err (errors.Stack at)
 set_pairs at s (Some pairs) stack = add_to at s (Pairs pairs) stack
 
-abbrev pub set_in : ℕ → State → Taken → Outcome
+abbrev pub set_in : ℕ → State → TakenValues → Outcome
 set_in at s None = Err (errors.Stack at)
 set_in at s (Some found) = set_pairs at s (pairs_of found.0) found.1
 
@@ -122,16 +122,16 @@ abbrev pub act_of : Op → ℕ → ℤ → State → Outcome
 act_of ops.Proto at number s = Ok s
 act_of ops.Mark at number s = push Mark s
 act_of ops.Pop at number s = popped at s s.stack
-act_of ops.PopMark at number s = unmarked at s (taken Marked s.stack)
+act_of ops.PopMark at number s = unmarked at s (values_taken Marked s.stack)
 act_of ops.Dup at number s = doubled at s s.stack
-act_of ops.Tuple at number s = tuple_of at s (taken Marked s.stack)
-act_of ops.Tuple1 at number s = tuple_of at s (taken (Top 1) s.stack)
-act_of ops.Tuple2 at number s = tuple_of at s (taken (Top 2) s.stack)
-act_of ops.Tuple3 at number s = tuple_of at s (taken (Top 3) s.stack)
-act_of ops.Append at number s = append_to at s (taken (Top 1) s.stack)
-act_of ops.Appends at number s = append_to at s (taken Marked s.stack)
-act_of ops.SetItem at number s = set_in at s (taken (Top 2) s.stack)
-act_of ops.SetItems at number s = set_in at s (taken Marked s.stack)
+act_of ops.Tuple at number s = tuple_of at s (values_taken Marked s.stack)
+act_of ops.Tuple1 at number s = tuple_of at s (values_taken (Top 1) s.stack)
+act_of ops.Tuple2 at number s = tuple_of at s (values_taken (Top 2) s.stack)
+act_of ops.Tuple3 at number s = tuple_of at s (values_taken (Top 3) s.stack)
+act_of ops.Append at number s = append_to at s (values_taken (Top 1) s.stack)
+act_of ops.Appends at number s = append_to at s (values_taken Marked s.stack)
+act_of ops.SetItem at number s = set_in at s (values_taken (Top 2) s.stack)
+act_of ops.SetItems at number s = set_in at s (values_taken Marked s.stack)
 act_of ops.Reduce at number s = object_of false at s s.stack
 act_of ops.NewObj at number s = object_of true at s s.stack
 act_of ops.Build at number s = build_of at s s.stack

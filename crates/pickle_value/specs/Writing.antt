@@ -3,11 +3,11 @@ use Rattle.std.specs.Prelude.{ℕ, Bool, true, false, List, ◌∷◌, ◌++◌,
 use Rattle.pickle_value.specs.declared.node.Node.{Node}
 use Rattle.pickle_value.specs.declared.writing.Writing.{Writing}
 use Rattle.pickle_value.specs.Parts.{parts_in}
-use Rattle.pickle_value.specs.Spelling.{Piece, place_of, put_text, held_piece, parts_piece, piece_of}
+use Rattle.pickle_value.specs.Spelling.{Piece, put_number, put_text, held_piece, parts_piece, piece_of}
 
 -- a piece goes behind what is written
-abbrev pub behind : Writing → Piece → Writing
-behind w piece = record { text = w.text ++ piece.text; puts = piece.puts }
+abbrev pub with_piece : Writing → Piece → Writing
+with_piece w piece = record { text = w.text ++ piece.text; puts = piece.puts }
 
 -- a node is put, if it is shared
 abbrev pub after_put : Bool → ℕ → Writing → Writing
@@ -17,4 +17,4 @@ after_put true m w = record { text = w.text ++ put_text (length w.puts); puts = 
 -- the piece of a node with items
 abbrev pub held_at : ℕ → List Node → (ℕ → Bool) → ℕ → List ℕ → Piece
 held_at levels ns shared m puts =
-    held_piece (shared m) (place_of m puts) m puts (parts_piece (piece_of levels ns shared) (parts_in (slice_get ns m)) puts)
+    held_piece (shared m) (put_number m puts) m puts (parts_piece (piece_of levels ns shared) (parts_in (slice_get ns m)) puts)

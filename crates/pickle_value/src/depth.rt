@@ -4,7 +4,7 @@ ghost use Rattle.std.specs.Prelude.{◌≡◌, ◌+◌, true, Some, None, IfOk, 
 ghost use Rattle.pickle_value.specs.declared.error.WriteError.TheVariants.{TooDeep};
 ghost use Rattle.pickle_value.specs.Parts.{items_in};
 ghost use Rattle.pickle_value.specs.Walks.{has_walk};
-ghost use Rattle.pickle_value.specs.Numbers.{number_of, IsMeasured, IsOpen, AllOpen, IsSettled, Measures, MeasuresAll, IsReach, walks_in};
+ghost use Rattle.pickle_value.specs.Numbers.{number_of, IsMeasured, IsOpen, AllOpen, IsMeasuredSince, Measures, MeasuresAll, IsReach, walks_in};
 
 use crate::error::WriteError;
 use crate::node::Node;
@@ -38,7 +38,7 @@ fn recall(
     requires measured { IsMeasured nodes.now heights }
     requires known { number_of node heights ≡ Some height }
     ensures ok { IfOk result (λ r. Measures nodes.now levels heights node r.heights r.height) }
-    ensures settled { IfOk result (λ r. IsSettled begun r.begun r.heights) }
+    ensures settled { IfOk result (λ r. IsMeasuredSince begun r.begun r.heights) }
     ensures err { IfErr result (λ e. e ≡ TooDeep → has_walk (levels + 1) nodes.now node ≡ true) }
 {
     if height > levels {
@@ -65,7 +65,7 @@ fn measure_items(
     requires measured { IsMeasured nodes.now heights }
     requires way { AllOpen nodes.now begun heights (items_in parts.now) }
     ensures ok { IfOk result (λ r. MeasuresAll nodes.now levels heights (items_in parts.now) r.heights r.height) }
-    ensures settled { IfOk result (λ r. IsSettled begun r.begun r.heights) }
+    ensures settled { IfOk result (λ r. IsMeasuredSince begun r.begun r.heights) }
     ensures err { IfErr result (λ e. e ≡ TooDeep → walks_in (levels + 1) nodes.now (items_in parts.now) ≡ true) }
 {
     let mut height = 0;
@@ -107,7 +107,7 @@ fn measure_new(
     requires unknown { number_of node heights ≡ None }
     requires way { IsOpen nodes.now begun heights node }
     ensures ok { IfOk result (λ r. Measures nodes.now levels heights node r.heights r.height) }
-    ensures settled { IfOk result (λ r. IsSettled begun r.begun r.heights) }
+    ensures settled { IfOk result (λ r. IsMeasuredSince begun r.begun r.heights) }
     ensures err { IfErr result (λ e. e ≡ TooDeep → has_walk (levels + 1) nodes.now node ≡ true) }
 {
     let parts = parts_at(alloc, nodes, node)?;
@@ -137,7 +137,7 @@ fn measure(
     requires measured { IsMeasured nodes.now heights }
     requires way { IsOpen nodes.now begun heights node }
     ensures ok { IfOk result (λ r. Measures nodes.now levels heights node r.heights r.height) }
-    ensures settled { IfOk result (λ r. IsSettled begun r.begun r.heights) }
+    ensures settled { IfOk result (λ r. IsMeasuredSince begun r.begun r.heights) }
     ensures err { IfErr result (λ e. e ≡ TooDeep → has_walk (levels + 1) nodes.now node ≡ true) }
 {
     match heights.get(node) {

@@ -1,8 +1,8 @@
 //! Reading graphs.
 
 ghost use Rattle.std.specs.Prelude.{◌≡◌, ◌<◌, ◌≤◌, drop, length, IfOk};
-ghost use Rattle.pickle_value.specs.Sound.{IsSound};
-ghost use Rattle.pickle_value.specs.Steps.{Gives};
+ghost use Rattle.pickle_value.specs.Sound.{IsSoundState};
+ghost use Rattle.pickle_value.specs.Steps.{AnswersAs};
 ghost use Rattle.pickle_value.specs.Reading.{is_stop, root_of, graph_at};
 
 use crate::error::PickleError;
@@ -27,8 +27,8 @@ pub(crate) fn ends(op: Op) -> bool
 
 /// The graph at STOP.
 fn finish(mut state: State, at: usize, next: usize) -> Result<(Pickle, usize), PickleError>
-    requires { IsSound state }
-    ensures graph { Gives result (root_of at next state state.stack) }
+    requires { IsSoundState state }
+    ensures graph { AnswersAs result (root_of at next state state.stack) }
     ensures place { IfOk result (λ r. r.1 ≡ next) }
 {
     let Some(Item::Value(root)) = state.stack.pop() else {
@@ -44,7 +44,7 @@ pub(crate) fn read_within(
     at: usize,
     limit: u32,
 ) -> Result<(Pickle, usize), PickleError>
-    ensures graph { Gives result (graph_at limit at (drop at input.now)) }
+    ensures graph { AnswersAs result (graph_at limit at (drop at input.now)) }
     ensures behind { IfOk result (λ r. at < r.1) }
     ensures inside { IfOk result (λ r. r.1 ≤ length input.now) }
 {
@@ -70,7 +70,7 @@ pub(crate) fn read_within(
 /// but would make one node more than `NODE_LIMIT` (`TooLarge`); the first such token decides. Want of
 /// memory answers `Memory`.
 pub fn read_pickle(alloc: Global, input: &[u8], at: usize) -> Result<(Pickle, usize), PickleError>
-    ensures graph { Gives result (graph_at NODE_LIMIT at (drop at input.now)) }
+    ensures graph { AnswersAs result (graph_at NODE_LIMIT at (drop at input.now)) }
     ensures behind { IfOk result (λ r. at < r.1) }
     ensures inside { IfOk result (λ r. r.1 ≤ length input.now) }
 {

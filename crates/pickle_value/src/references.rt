@@ -1,8 +1,8 @@
 //! References.
 
 ghost use Rattle.std.specs.Prelude.{◌≡◌, ◌<◌, ◌≤◌, drop, length, slice_get, IfOk};
-ghost use Rattle.pickle_value.specs.Steps.{Gives};
-ghost use Rattle.pickle_value.specs.References.{oid_in, oid_of, first_of, named_by, seen, noted, find, oids_at, oids_from};
+ghost use Rattle.pickle_value.specs.Steps.{AnswersAs};
+ghost use Rattle.pickle_value.specs.References.{oid_in, oid_of, named_first, named_by, named_by_token, noted, find, oids_at, oids_from};
 
 use crate::error::PickleError;
 use crate::node::Node;
@@ -55,7 +55,7 @@ fn read_id(nodes: &NodeTable, number: u32) -> Named
 
 /// What a tuple of these items names.
 fn name_first(nodes: &NodeTable, items: &[u32]) -> Named
-    ensures { result ≡ first_of nodes.now items.now }
+    ensures { result ≡ named_first nodes.now items.now }
 {
     match items {
         [] => Named::Bad,
@@ -76,7 +76,7 @@ fn name(nodes: &NodeTable, number: u32) -> Named
 
 /// What the token of an opcode names.
 fn name_at(op: Op, state: &State) -> Named
-    ensures { result ≡ seen op state.now.nodes state.now.stack }
+    ensures { result ≡ named_by_token op state.now.nodes state.now.stack }
 {
     match op {
         Op::BinPersid => match state.stack.top() {
@@ -94,7 +94,7 @@ fn note(
     at: usize,
     named: Named,
 ) -> Result<Finding, PickleError>
-    ensures { Gives result (noted at state oids named) }
+    ensures { AnswersAs result (noted at state oids named) }
 {
     match named {
         Named::Strong(oid) => {
@@ -114,7 +114,7 @@ fn find_step(
     at: usize,
     bytes: &[u8],
 ) -> Result<Finding, PickleError>
-    ensures { Gives result (find token.op at token.number bytes.now finding) }
+    ensures { AnswersAs result (find token.op at token.number bytes.now finding) }
 {
     let Finding { state, oids } = finding;
     let named = name_at(token.op, &state);
@@ -124,7 +124,7 @@ fn find_step(
 
 /// The oids at STOP.
 fn finish(finding: Finding, at: usize, next: usize) -> Result<(ListOf<Oid>, usize), PickleError>
-    ensures oids { Gives result (oids_at at next finding.oids finding.state.stack) }
+    ensures oids { AnswersAs result (oids_at at next finding.oids finding.state.stack) }
     ensures place { IfOk result (λ r. r.1 ≡ next) }
 {
     match finding.state.stack.top() {
@@ -140,7 +140,7 @@ pub(crate) fn references_within(
     at: usize,
     limit: u32,
 ) -> Result<(ListOf<Oid>, usize), PickleError>
-    ensures oids { Gives result (oids_from limit at (drop at input.now)) }
+    ensures oids { AnswersAs result (oids_from limit at (drop at input.now)) }
     ensures behind { IfOk result (λ r. at < r.1) }
     ensures inside { IfOk result (λ r. r.1 ≤ length input.now) }
 {
@@ -173,7 +173,7 @@ pub fn references_of(
     input: &[u8],
     at: usize,
 ) -> Result<(ListOf<Oid>, usize), PickleError>
-    ensures oids { Gives result (oids_from NODE_LIMIT at (drop at input.now)) }
+    ensures oids { AnswersAs result (oids_from NODE_LIMIT at (drop at input.now)) }
     ensures behind { IfOk result (λ r. at < r.1) }
     ensures inside { IfOk result (λ r. r.1 ≤ length input.now) }
 {

@@ -2,7 +2,7 @@
 
 ghost use Rattle.std.specs.Prelude.{◌≡◌, [], ◌∷◌, reverse, IfOk};
 ghost use Rattle.pickle_value.specs.Parts.{items_in};
-ghost use Rattle.pickle_value.specs.Numbers.{counted, all_counted, known_ends};
+ghost use Rattle.pickle_value.specs.Numbers.{with_edge, with_edges, known_ends};
 ghost use Rattle.pickle_value.specs.Numbers;
 
 use crate::node::Node;
@@ -13,7 +13,7 @@ use zb_ids::ListOf;
 
 /// Counts one more edge to a node. Beyond two none is counted.
 fn count(counts: NodeMap, node: u32) -> Result<NodeMap, AllocError>
-    ensures { IfOk result (λ more. more ≡ counted node counts) }
+    ensures { IfOk result (λ more. more ≡ with_edge node counts) }
 {
     match counts.get(node) {
         None => counts.with(node, 1),
@@ -28,7 +28,7 @@ fn count(counts: NodeMap, node: u32) -> Result<NodeMap, AllocError>
 
 /// Counts the edges to the items among parts.
 fn count_items(mut counts: NodeMap, parts: &[Part]) -> Result<NodeMap, AllocError>
-    ensures { IfOk result (λ more. more ≡ all_counted (items_in parts.now) counts) }
+    ensures { IfOk result (λ more. more ≡ with_edges (items_in parts.now) counts) }
 {
     for part in parts {
         match part {
@@ -47,7 +47,7 @@ fn count_all(
     nodes: &ListOf<Node>,
     from: &[(u32, u64)],
 ) -> Result<NodeMap, AllocError>
-    ensures { IfOk result (λ more. more ≡ all_counted (known_ends nodes.now from.now) counts) }
+    ensures { IfOk result (λ more. more ≡ with_edges (known_ends nodes.now from.now) counts) }
 {
     for pair in from {
         let parts = parts_at(alloc, nodes, pair.0)?;
@@ -63,7 +63,7 @@ pub(crate) fn count_edges(
     reached: &NodeMap,
     root: u32,
 ) -> Result<NodeMap, AllocError>
-    ensures { IfOk result (λ counts. counts ≡ all_counted (root ∷ known_ends nodes.now (reverse reached.now)) []) }
+    ensures { IfOk result (λ counts. counts ≡ with_edges (root ∷ known_ends nodes.now (reverse reached.now)) []) }
 {
     let counts = count(NodeMap::new(alloc), root)?;
     count_all(alloc, counts, nodes, reached.pairs())

@@ -2,7 +2,7 @@
 
 ghost use Rattle.std.specs.Prelude.{◌≡◌, ◌<◌, [], ◌∷◌, ◌++◌, length, slice_get, slice_set, OnOk, OnErr, IfOk, MatchOption, Some, None};
 ghost use Rattle.std.specs.Option.{option_copied};
-ghost use Rattle.pickle_value.specs.Stacks.{top_of, above_mark, top_values, taken, put_at, node_at};
+ghost use Rattle.pickle_value.specs.Stacks.{top_of, above_mark, top_values, values_taken, put_at, node_at};
 
 use crate::node::Node;
 use std::alloc::{AllocError, AllocFailed, Global};
@@ -114,8 +114,8 @@ impl Stack {
 
     /// Takes the values of an extent, the lowest first, or answers `None` where there are too few.
     pub fn take(&mut self, alloc: Global, extent: Extent) -> Result<Option<ListOf<u32>>, AllocError>
-        ensures { IfOk result (λ popped. MatchOption popped (taken extent self.old ≡ None)
-            (λ values. taken extent self.old ≡ Some (values, self.new))) }
+        ensures { IfOk result (λ popped. MatchOption popped (values_taken extent self.old ≡ None)
+            (λ values. values_taken extent self.old ≡ Some (values, self.new))) }
     {
         match extent {
             Extent::Marked => self.pop_to_mark(alloc),

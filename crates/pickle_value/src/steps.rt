@@ -4,8 +4,8 @@ ghost use Rattle.std.specs.Prelude.{◌≡◌, slice_get};
 ghost use Rattle.std.specs.Int.RustNames.{unsigned_abs};
 ghost use Rattle.pickle_value.specs.declared.state.Extent.TheVariants.{Marked};
 ghost use Rattle.pickle_value.specs.Graph.{is_tuple};
-ghost use Rattle.pickle_value.specs.Stacks.{taken, node_at};
-ghost use Rattle.pickle_value.specs.Steps.{Gives, make, push, popped, unmarked, doubled, tuple_of, add_to, append_to, set_in, build_of, object_of, reference_of, put_of, get_of, act_of, step};
+ghost use Rattle.pickle_value.specs.Stacks.{values_taken, node_at};
+ghost use Rattle.pickle_value.specs.Steps.{AnswersAs, make, push, popped, unmarked, doubled, tuple_of, add_to, append_to, set_in, build_of, object_of, reference_of, put_of, get_of, act_of, step};
 
 use crate::additions::{Addition, add, in_pairs};
 use crate::error::PickleError;
@@ -18,7 +18,7 @@ use zb_ids::ListOf;
 
 /// Makes a node, and pushes its number.
 fn make_node(mut state: State, at: usize, node: Node) -> Result<State, PickleError>
-    ensures { Gives result (make at node state) }
+    ensures { AnswersAs result (make at node state) }
 {
     let count = state.nodes.len();
     if count >= state.limit as usize {
@@ -30,14 +30,14 @@ fn make_node(mut state: State, at: usize, node: Node) -> Result<State, PickleErr
 }
 
 fn push_item(mut state: State, item: Item) -> Result<State, PickleError>
-    ensures { Gives result (push item state) }
+    ensures { AnswersAs result (push item state) }
 {
     state.stack.push(item)?;
     Ok(state)
 }
 
 fn pop(mut state: State, at: usize) -> Result<State, PickleError>
-    ensures { Gives result (popped at state state.stack) }
+    ensures { AnswersAs result (popped at state state.stack) }
 {
     match state.stack.pop() {
         Some(_) => Ok(state),
@@ -46,7 +46,7 @@ fn pop(mut state: State, at: usize) -> Result<State, PickleError>
 }
 
 fn pop_mark(alloc: Global, mut state: State, at: usize) -> Result<State, PickleError>
-    ensures { Gives result (unmarked at state (taken Marked state.stack)) }
+    ensures { AnswersAs result (unmarked at state (values_taken Marked state.stack)) }
 {
     match state.stack.take(alloc, Extent::Marked)? {
         Some(_) => Ok(state),
@@ -55,7 +55,7 @@ fn pop_mark(alloc: Global, mut state: State, at: usize) -> Result<State, PickleE
 }
 
 fn double(mut state: State, at: usize) -> Result<State, PickleError>
-    ensures { Gives result (doubled at state state.stack) }
+    ensures { AnswersAs result (doubled at state state.stack) }
 {
     let Some(Item::Value(value)) = state.stack.pop() else {
         return Err(PickleError::Stack { at });
@@ -71,7 +71,7 @@ fn make_tuple(
     at: usize,
     extent: Extent,
 ) -> Result<State, PickleError>
-    ensures { Gives result (tuple_of at state (taken extent state.stack)) }
+    ensures { AnswersAs result (tuple_of at state (values_taken extent state.stack)) }
 {
     match state.stack.take(alloc, extent)? {
         Some(values) => make_node(state, at, Node::Tuple(values)),
@@ -82,7 +82,7 @@ fn make_tuple(
 /// Adds to the node on the top.
 #[tactic(auto, using(crate::proofs::Sets::set_twice))]
 fn add_to_top(mut state: State, at: usize, addition: Addition) -> Result<State, PickleError>
-    ensures { Gives result (add_to at state addition state.stack) }
+    ensures { AnswersAs result (add_to at state addition state.stack) }
 {
     let Some(Item::Value(number)) = state.stack.pop() else {
         return Err(PickleError::Stack { at });
@@ -100,7 +100,7 @@ fn add_to_top(mut state: State, at: usize, addition: Addition) -> Result<State, 
 }
 
 fn append(alloc: Global, mut state: State, at: usize, extent: Extent) -> Result<State, PickleError>
-    ensures { Gives result (append_to at state (taken extent state.stack)) }
+    ensures { AnswersAs result (append_to at state (values_taken extent state.stack)) }
 {
     match state.stack.take(alloc, extent)? {
         Some(values) => add_to_top(state, at, Addition::Values(values)),
@@ -109,7 +109,7 @@ fn append(alloc: Global, mut state: State, at: usize, extent: Extent) -> Result<
 }
 
 fn set(alloc: Global, mut state: State, at: usize, extent: Extent) -> Result<State, PickleError>
-    ensures { Gives result (set_in at state (taken extent state.stack)) }
+    ensures { AnswersAs result (set_in at state (values_taken extent state.stack)) }
 {
     let Some(values) = state.stack.take(alloc, extent)? else {
         return Err(PickleError::Stack { at });
@@ -121,7 +121,7 @@ fn set(alloc: Global, mut state: State, at: usize, extent: Extent) -> Result<Sta
 }
 
 fn build(mut state: State, at: usize) -> Result<State, PickleError>
-    ensures { Gives result (build_of at state state.stack) }
+    ensures { AnswersAs result (build_of at state state.stack) }
 {
     let Some(Item::Value(value)) = state.stack.pop() else {
         return Err(PickleError::Stack { at });
@@ -145,7 +145,7 @@ fn make_object(
     at: usize,
     by_new: bool,
 ) -> Result<State, PickleError>
-    ensures { Gives result (object_of by_new at state state.stack) }
+    ensures { AnswersAs result (object_of by_new at state state.stack) }
 {
     let Some(Item::Value(arguments)) = state.stack.pop() else {
         return Err(PickleError::Stack { at });
@@ -166,7 +166,7 @@ fn make_object(
 }
 
 fn refer(mut state: State, at: usize) -> Result<State, PickleError>
-    ensures { Gives result (reference_of at state state.stack) }
+    ensures { AnswersAs result (reference_of at state state.stack) }
 {
     let Some(Item::Value(id)) = state.stack.pop() else {
         return Err(PickleError::Stack { at });
@@ -175,7 +175,7 @@ fn refer(mut state: State, at: usize) -> Result<State, PickleError>
 }
 
 fn put(mut state: State, at: usize, number: u64) -> Result<State, PickleError>
-    ensures { Gives result (put_of at number state state.stack) }
+    ensures { AnswersAs result (put_of at number state state.stack) }
 {
     let Some(Item::Value(value)) = state.stack.pop() else {
         return Err(PickleError::Stack { at });
@@ -186,7 +186,7 @@ fn put(mut state: State, at: usize, number: u64) -> Result<State, PickleError>
 }
 
 fn get(state: State, at: usize, number: u64) -> Result<State, PickleError>
-    ensures { Gives result (get_of at state (node_at state.memo number)) }
+    ensures { AnswersAs result (get_of at state (node_at state.memo number)) }
 {
     match state.memo.get(number) {
         Some(value) => push_item(state, Item::Value(value)),
@@ -196,7 +196,7 @@ fn get(state: State, at: usize, number: u64) -> Result<State, PickleError>
 
 /// What a token does whose opcode makes no node by itself.
 fn act(alloc: Global, state: State, token: Token, at: usize) -> Result<State, PickleError>
-    ensures { Gives result (act_of token.op at token.number state) }
+    ensures { AnswersAs result (act_of token.op at token.number state) }
 {
     match token.op {
         Op::Proto => Ok(state),
@@ -230,7 +230,7 @@ pub(crate) fn take_step(
     at: usize,
     bytes: &[u8],
 ) -> Result<State, PickleError>
-    ensures { Gives result (step token.op at token.number bytes.now state) }
+    ensures { AnswersAs result (step token.op at token.number bytes.now state) }
 {
     match leaf(alloc, token, bytes)? {
         Some(node) => make_node(state, at, node),

@@ -2,8 +2,8 @@
 
 ghost use Rattle.std.specs.Prelude.{◌≡◌, ◌<◌, ◌++◌, [], ◌∷◌, length, slice_get, IfOk};
 ghost use Rattle.pickle_value.specs.Numbers.{is_many};
-ghost use Rattle.pickle_value.specs.Spelling.{get_text, place_of, parts_piece, piece_of, spelling_of, pickle_text, Writes};
-ghost use Rattle.pickle_value.specs.Writing.{behind, after_put, held_at};
+ghost use Rattle.pickle_value.specs.Spelling.{get_text, put_number, parts_piece, piece_of, spelling_of, pickle_text, Writes};
+ghost use Rattle.pickle_value.specs.Writing.{with_piece, after_put, held_at};
 
 use crate::depth::{WALK_LIMIT, measure_from};
 use crate::error::WriteError;
@@ -55,7 +55,7 @@ impl Puts {
     /// The number under which a node was put.
     #[tactic(auto, using(crate::proofs::Pieces::numbered_place))]
     fn number(&self, node: u32) -> Option<u64>
-        ensures { result ≡ place_of node self.now }
+        ensures { result ≡ put_number node self.now }
     {
         self.numbers.get(node)
     }
@@ -112,7 +112,7 @@ fn write_parts(
     parts: &[Part],
     levels: u32,
 ) -> Result<Writing, AllocError>
-    ensures { IfOk result (λ all. all ≡ behind writing (parts_piece (piece_of levels nodes.now (is_many counts.now)) parts.now writing.puts)) }
+    ensures { IfOk result (λ all. all ≡ with_piece writing (parts_piece (piece_of levels nodes.now (is_many counts.now)) parts.now writing.puts)) }
 {
     for part in parts {
         match part {
@@ -135,7 +135,7 @@ fn write_held(
     node: u32,
     levels: u32,
 ) -> Result<Writing, AllocError>
-    ensures { IfOk result (λ all. all ≡ behind writing (held_at levels nodes.now (is_many counts.now) node writing.puts)) }
+    ensures { IfOk result (λ all. all ≡ with_piece writing (held_at levels nodes.now (is_many counts.now) node writing.puts)) }
 {
     match writing.puts.number(node) {
         Some(number) => write_get(writing, number),
@@ -158,7 +158,7 @@ fn write_node(
     node: u32,
     levels: u32,
 ) -> Result<Writing, AllocError>
-    ensures { IfOk result (λ all. all ≡ behind writing (piece_of levels nodes.now (is_many counts.now) node writing.puts)) }
+    ensures { IfOk result (λ all. all ≡ with_piece writing (piece_of levels nodes.now (is_many counts.now) node writing.puts)) }
 {
     if levels == 0 {
         return Ok(writing);

@@ -19,13 +19,3 @@ pub last_serial-is : (rs : List ObjectRevision) → last_serial 0 rs ≡ option_
 last_serial-is [] = refl
 last_serial-is (r ∷ rs) = last_serial-some r rs
 
-last_or-get : {A : Type 0} (o : Option A) (x : A) (xs : List A) (y : A) → slice_get (x ∷ xs) (length xs) ≡ Some y → last_or o (x ∷ xs) ≡ Some y
-last_or-get o x [] y e = e
-last_or-get o x (z ∷ zs) y e = last_or-get (Some x) z zs y e
-
--- the item at the last place is the last
-pub last_or-at : {A : Type 0} (xs : List A) (y : A) → slice_get xs (length xs - 1) ≡ Some y → last_or None xs ≡ Some y
-last_or-at [] y e = absurd cc
-last_or-at (x ∷ xs) y e =
-    let n : length (x ∷ xs) - 1 ≡ length xs = omega arith in
-    last_or-get None x xs y (rw n at e)

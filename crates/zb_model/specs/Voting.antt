@@ -50,10 +50,10 @@ IsHeld (Held bytes) = Unit {0}
 IsHeld Absent = ⊥
 
 -- an earlier content is a record that the object had
-abbrev pub IsSound : List Transaction → ℕ → NewContent → Type 0
-IsSound list oid (new_content.Bytes bytes) = Unit {0}
-IsSound list oid new_content.Absent = Unit {0}
-IsSound list oid (new_content.AsOf serial) = IsSomeAnd (revision_at oid serial list) (λ r. IsHeld r.content)
+abbrev pub NamesRevision : List Transaction → ℕ → NewContent → Type 0
+NamesRevision list oid (new_content.Bytes bytes) = Unit {0}
+NamesRevision list oid new_content.Absent = Unit {0}
+NamesRevision list oid (new_content.AsOf serial) = IsSomeAnd (revision_at oid serial list) (λ r. IsHeld r.content)
 
 -- new bytes aren't empty
 abbrev pub IsFilled : NewContent → Type 0
@@ -73,4 +73,4 @@ pub record IsWellFormed (new : NewTransaction) : Type 0 where
 -- a new transaction may be voted over a list: it is later, and what it takes over was there
 pub record IsVotable (list : List Transaction) (new : NewTransaction) : Type 0 where
   pub later : newest_tid list < new.tid
-  pub sound : All (λ c. IsSound list c.oid c.content) new.changes
+  pub sound : All (λ c. NamesRevision list c.oid c.content) new.changes

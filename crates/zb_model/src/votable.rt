@@ -2,7 +2,7 @@
 
 ghost use Rattle.std.specs.Prelude.{◌↔◌, ◌≡◌, IsTrue, All, map, nat_eq, false, true};
 ghost use Rattle.std.specs.List.{IsDistinct};
-ghost use Rattle.zb_model.specs.Voting.{IsFilled, IsSound, IsVotable, IsWellFormed};
+ghost use Rattle.zb_model.specs.Voting.{IsFilled, NamesRevision, IsVotable, IsWellFormed};
 
 use crate::data::{Content, Transaction};
 use crate::new_transaction::{NewChange, NewContent, NewTransaction};
@@ -71,7 +71,7 @@ pub fn is_well_formed(new: &NewTransaction) -> bool
 
 /// Whether an earlier content is a record that the object had.
 fn is_sound(list: &[Transaction], oid: Oid, content: &NewContent) -> bool
-    ensures { IsTrue result ↔ IsSound list.now oid content.now }
+    ensures { IsTrue result ↔ NamesRevision list.now oid content.now }
 {
     match content {
         NewContent::Bytes(_) => true,
@@ -86,7 +86,7 @@ fn is_sound(list: &[Transaction], oid: Oid, content: &NewContent) -> bool
 
 /// Whether the content of each change is sound.
 fn are_sound(list: &[Transaction], changes: &[NewChange]) -> bool
-    ensures { IsTrue result ↔ All (λ c. IsSound list.now c.oid c.content) changes.now }
+    ensures { IsTrue result ↔ All (λ c. NamesRevision list.now c.oid c.content) changes.now }
 {
     for change in changes {
         if !is_sound(list, change.oid, &change.content) {

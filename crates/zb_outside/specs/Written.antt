@@ -9,6 +9,6 @@ pub record AppendsBefore (old new : Option (List ℕ)) (whole rest : List ℕ) :
   pub appended : Appends old new front
 
 -- known bytes grew by some front of `whole`
-pub record AppendsFront (old new : Option (List ℕ)) (whole : List ℕ) : Type 0 where
+pub record AppendsPrefix (old new : Option (List ℕ)) (whole : List ℕ) : Type 0 where
   pub rest : List ℕ
   pub before : AppendsBefore old new whole rest

@@ -3,7 +3,7 @@ use Rattle.std.proofs.Common.{refl, [], append-nil, append_assoc, take-append-dr
 use Rattle.std.proofs.lemmas.List.{take_rest}
 use Rattle.std.specs.Io.KnownBytes.{Appends, Consumes, Keeps}
 use Rattle.std.proofs.KnownBytes.{Appends-trans, Appends-kept, Appends-nil, Consumes-trans}
-use Rattle.zb_outside.specs.Written.{AppendsFront, AppendsBefore}
+use Rattle.zb_outside.specs.Written.{AppendsPrefix, AppendsBefore}
 
 -- ---- one text, in pieces
 
@@ -14,7 +14,7 @@ appends_more a b c bytes n m p q =
     subst (Appends a c) (ap (λ (l : List ℕ). take n bytes ++ take m l) (take_rest bytes n) ∙ sym (take-add n m bytes)) (Appends-trans a b c _ _ p q)
 
 -- a front, and then nothing, is a front
-pub front_kept : (a b c : Option (List ℕ)) (bytes : List ℕ) (n : ℕ) → Appends a b (take n bytes) → Keeps b c → AppendsFront a c bytes
+pub front_kept : (a b c : Option (List ℕ)) (bytes : List ℕ) (n : ℕ) → Appends a b (take n bytes) → Keeps b c → AppendsPrefix a c bytes
 front_kept a b c bytes n p q =
     record { rest = drop n bytes; before = record { front = take n bytes; split = sym (take-append-drop n bytes); appended = Appends-kept a b c _ p q } }
 
@@ -36,25 +36,25 @@ all_before a b c whole here p q = subst (Appends a c) (sym p.split) (Appends-tra
 
 -- a front of what comes next was written
 pub front_more : (a b c : Option (List ℕ)) (whole here rest both : List ℕ) → AppendsBefore a b whole both → both ≡ here ++ rest
-    → AppendsFront b c here → AppendsFront a c whole
+    → AppendsPrefix b c here → AppendsPrefix a c whole
 front_more a b c whole here rest both p e q =
     record { rest = q.rest ++ rest; before = record { front = p.front ++ q.before.front; split = p.split ∙ ap (λ (l : List ℕ). p.front ++ l) (e ∙ ap (λ (l : List ℕ). l ++ rest) q.before.split) ∙ simp append_assoc; appended = Appends-trans a b c p.front q.before.front p.appended q.before.appended } }
 
 -- a front of all that was left was written
 pub last_front : (a b c : Option (List ℕ)) (whole here last : List ℕ) → AppendsBefore a b whole last → last ≡ here
-    → AppendsFront b c here → AppendsFront a c whole
+    → AppendsPrefix b c here → AppendsPrefix a c whole
 last_front a b c whole here last p e q = front_more a b c whole here [] last p (e ∙ sym (append-nil here)) q
 
 -- what was written so far is a front
-pub so_far_front : (a b : Option (List ℕ)) (whole rest : List ℕ) → AppendsBefore a b whole rest → AppendsFront a b whole
+pub so_far_front : (a b : Option (List ℕ)) (whole rest : List ℕ) → AppendsBefore a b whole rest → AppendsPrefix a b whole
 so_far_front a b whole rest p = record { rest = rest; before = p }
 
 -- all of a text is a front of it
-pub all_front : (a b : Option (List ℕ)) (whole : List ℕ) → Appends a b whole → AppendsFront a b whole
+pub all_front : (a b : Option (List ℕ)) (whole : List ℕ) → Appends a b whole → AppendsPrefix a b whole
 all_front a b whole p = record { rest = []; before = record { front = whole; split = sym (append-nil whole); appended = p } }
 
 -- nothing is a front of every text
-pub no_front : (a : Option (List ℕ)) (whole : List ℕ) → AppendsFront a a whole
+pub no_front : (a : Option (List ℕ)) (whole : List ℕ) → AppendsPrefix a a whole
 no_front a whole = record { rest = whole; before = none_before a whole }
 
 -- ---- reads

@@ -3,7 +3,7 @@
 ghost use Rattle.std.specs.Prelude.{◌≡◌, ◌≤◌, ◌<◌, ◌⊎◌, ℕ, [], Contains, length, Some, IfOk, IsErr, OnOk, OnErr};
 ghost use Rattle.std.specs.Io.KnownBytes.{WriteAppends};
 ghost use Rattle.zb_outside.specs.MemoryState.{SinkState};
-ghost use Rattle.zb_outside.specs.Rose.{Rose, one_more};
+ghost use Rattle.zb_base.specs.Counts.{Rose, one_more};
 
 use crate::failed::Failed;
 use crate::sink::Sink;

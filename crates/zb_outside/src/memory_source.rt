@@ -3,7 +3,7 @@
 ghost use Rattle.std.specs.Prelude.{◌≡◌, ◌≤◌, ◌<◌, ◌↔◌, ℕ, [], All, Contains, length, min, Some, IfOk, IsErr, IsOk, OnOk, OnErr};
 ghost use Rattle.std.specs.Io.KnownBytes.{ReadConsumes};
 ghost use Rattle.zb_outside.specs.MemoryState.{SourceState};
-ghost use Rattle.zb_outside.specs.Rose.{Rose, one_more};
+ghost use Rattle.zb_base.specs.Counts.{Rose, one_more};
 
 use crate::failed::Failed;
 use crate::source::Source;

@@ -2,8 +2,8 @@
 
 ghost use Rattle.std.specs.Prelude.{◌≤◌, OnOk, OnErr};
 ghost use Rattle.std.specs.Io.KnownBytes.{Appends};
-ghost use Rattle.zb_outside.specs.Rose.{Rose};
-ghost use Rattle.zb_outside.specs.Written.{AppendsFront};
+ghost use Rattle.zb_base.specs.Counts.{Rose};
+ghost use Rattle.zb_outside.specs.Written.{AppendsPrefix};
 
 use crate::failed::Failed;
 use crate::sink::Sink;
@@ -13,7 +13,7 @@ use crate::sink::Sink;
 #[tactic(auto, using(crate::specs::WrittenLaws::appends_more, crate::specs::WrittenLaws::front_kept))]
 pub fn write_all<K: Sink>(sink: &mut K, bytes: &[u8]) -> Result<(), Failed>
     ensures ok { OnOk result (Appends (K.taken sink.old) (K.taken sink.new) bytes.now) }
-    ensures err { OnErr result (AppendsFront (K.taken sink.old) (K.taken sink.new) bytes.now) }
+    ensures err { OnErr result (AppendsPrefix (K.taken sink.old) (K.taken sink.new) bytes.now) }
     ensures failed { OnErr result (Rose (K.faults sink.old) (K.faults sink.new)) }
     ensures counted { K.faults sink.old ≤ K.faults sink.new }
 {

@@ -5,17 +5,6 @@ use Rattle.std.specs.List.{last_or}
 use Rattle.zb_script.specs.declared.line.Turn.{Turn}
 use Rattle.zb_script.specs.Shape.{is_step_of, last_line}
 
-last_or-get : {A : Type 0} (o : Option A) (x : A) (xs : List A) (y : A) → slice_get (x ∷ xs) (length xs) ≡ Some y → last_or o (x ∷ xs) ≡ Some y
-last_or-get o x [] y e = e
-last_or-get o x (z ∷ zs) y e = last_or-get (Some x) z zs y e
-
--- the item at the last place is the last
-pub last_or-at : {A : Type 0} (xs : List A) (y : A) → slice_get xs (length xs - 1) ≡ Some y → last_or None xs ≡ Some y
-last_or-at [] y e = absurd cc
-last_or-at (x ∷ xs) y e =
-    let n : length (x ∷ xs) - 1 ≡ length xs = omega arith in
-    last_or-get None x xs y (rw n at e)
-
 one_more : {A : Type 0} (kept passes : Bool) (o : Option A) (y x : A) (longer xs : List A)
     → last_or (Some y) longer ≡ cond passes (Some x) (last_or (Some y) xs) → last_or o longer ≡ cond passes (Some x) (last_or o xs)
     → last_or o (cond kept (y ∷ longer) longer) ≡ cond passes (Some x) (last_or o (cond kept (y ∷ xs) xs))

@@ -17,9 +17,9 @@ use Rattle.zb_script.specs.declared.line.Line.{Line}
 use Rattle.zb_script.specs.declared.line.Line.TheVariants as lines
 use Rattle.zb_script.specs.declared.line.Turn.{Turn}
 use Rattle.zb_script.specs.Names.{is_letter_or_digit, is_name, IsName}
-use Rattle.zb_script.specs.Payloads.{IsPayload}
+use Rattle.zb_script.specs.Payloads.{IsRecordBytes}
 use Rattle.zb_script.specs.Spelling.{line_text, turn_text, IsLine, IsTurn}
-use Rattle.zb_script.specs.Reading.{cut_at, behind, field_at, load_at, payload_at, store_at, words_at, if_some, line_at, name_at, turn_at}
+use Rattle.zb_script.specs.Reading.{cut_at, behind_word, field_at, load_at, payload_at, store_at, words_at, if_some, line_at, name_at, turn_at}
 
 -- no byte below k
 abbrev pub From : ℕ → List ℕ → Type 0
@@ -72,8 +72,8 @@ cut_again c a b h =
 
 -- ---- words
 
-behind_takes : (word bytes rest : List ℕ) → behind word bytes ≡ Some rest → bytes ≡ word ++ rest
-unfolding behind
+behind_takes : (word bytes rest : List ℕ) → behind_word word bytes ≡ Some rest → bytes ≡ word ++ rest
+unfolding behind_word
 behind_takes word bytes rest e =
     let p = cond_some (bytes_eq (take (length word) bytes) word) (drop (length word) bytes) rest e in
     let front : take (length word) bytes ≡ word = (bytes_eq-Decides _ _).0 p.0 in
@@ -109,12 +109,12 @@ length-hex_text [] = refl
 length-hex_text (b ∷ bytes) = omega (arith, length-hex_text bytes)
 
 -- what few enough digits spell is a payload where it isn't empty
-pub payload_of_digits : (text bytes : List ℕ) → length text ≤ 33554432 → bytes_at text ≡ Some bytes → length bytes ≢ 0 → IsPayload bytes
+pub payload_of_digits : (text bytes : List ℕ) → length text ≤ 33554432 → bytes_at text ≡ Some bytes → length bytes ≢ 0 → IsRecordBytes bytes
 payload_of_digits text bytes short e some =
     let t = bytes_take text bytes e in
     record { some = omega arith; fits = omega (arith, length-hex_text bytes, ap length t.0); are_bytes = All-from_recursion (λ b. b < 256) bytes t.1 }
 
-payload_takes : (text bytes : List ℕ) → payload_at text ≡ Some bytes → IsPayload bytes × (text ≡ hex_text bytes)
+payload_takes : (text bytes : List ℕ) → payload_at text ≡ Some bytes → IsRecordBytes bytes × (text ≡ hex_text bytes)
 unfolding payload_at
 payload_takes text bytes e =
     let p = cond_none (ltb 33554432 (length text)) _ bytes e in
@@ -125,7 +125,7 @@ payload_takes text bytes e =
     let some : length bytes ≢ 0 = rw (← g.1) (eqb-false _ _ g.0) in
     (payload_of_digits text bytes short is some, (bytes_take text bytes is).0))
 
-payload_again : (bytes : List ℕ) → IsPayload bytes → payload_at (hex_text bytes) ≡ Some bytes
+payload_again : (bytes : List ℕ) → IsRecordBytes bytes → payload_at (hex_text bytes) ≡ Some bytes
 unfolding payload_at
 payload_again bytes h =
     let short : ltb 33554432 (length (hex_text bytes)) ≡ false = le-ltb _ _ (omega (arith, length-hex_text bytes, h.fits)) in
@@ -135,7 +135,7 @@ payload_again bytes h =
 -- ---- what stands behind the name
 
 line_again : (l : Line) → IsLine l → line_at (line_text l) ≡ Some l
-unfolding line_at behind words_at load_at store_at
+unfolding line_at behind_word words_at load_at store_at
 line_again lines.Open h = refl
 line_again lines.Begin h = refl
 line_again (lines.Load oid) h = rw (number_again oid h) refl
@@ -194,9 +194,9 @@ words_take bytes l e =
 line_takes : (bytes : List ℕ) (l : Line) → line_at bytes ≡ Some l → IsText bytes l
 unfolding line_at
 line_takes bytes l e =
-    elim (which (behind (codes "load ") bytes) load_at (if_some (behind (codes "store ") bytes) store_at (words_at bytes)) l e) [
+    elim (which (behind_word (codes "load ") bytes) load_at (if_some (behind_word (codes "store ") bytes) store_at (words_at bytes)) l e) [
       | inl load ↦ rw (behind_takes (codes "load ") bytes load.0 load.1) (load_takes load.0 l load.2)
-      | inr other ↦ elim (which (behind (codes "store ") bytes) store_at (words_at bytes) l other) [
+      | inr other ↦ elim (which (behind_word (codes "store ") bytes) store_at (words_at bytes) l other) [
         | inl store ↦ rw (behind_takes (codes "store ") bytes store.0 store.1) (store_takes store.0 l store.2)
         | inr words ↦ words_take bytes l words
       ]

@@ -13,7 +13,7 @@ use Rattle.zb_script.specs.declared.line.Turn.{Turn}
 use Rattle.zb_script.specs.Spelling.{line_text, turn_text, script_text, IsTurn, Spells, Lacks, IsEnd}
 use Rattle.zb_script.specs.Shape.{can_stand, is_empty, all_stand}
 use Rattle.zb_script.specs.Script.{IsScript, IsBadLine}
-use Rattle.zb_script.specs.Reading.{turn_at, pieces, placed, then_turns, turns_at}
+use Rattle.zb_script.specs.Reading.{turn_at, pieces, turn_placed, then_turns, turns_at}
 use Rattle.zb_script.proofs.LineLaws.{From, From-append, From-weaker, hex_from, number_from, name_from, turn_takes, turn_again}
 use Rattle.zb_script.proofs.Pieces.{pieces_line, pieces_last, first_piece, pieces_newline, pieces_nil, some_piece}
 
@@ -53,21 +53,21 @@ not_chosen : {A : Type 0} (b : Bool) (x : A) → cond b (Some x) None ≡ None �
 not_chosen true x e = absurd cc
 not_chosen false x e = refl
 
-placed_some : (before : List Turn) (ends : Bool) (o : Option Turn) (t : Turn) → placed before ends o ≡ Some t → (o ≡ Some t) × (can_stand before t ends ≡ true)
+placed_some : (before : List Turn) (ends : Bool) (o : Option Turn) (t : Turn) → turn_placed before ends o ≡ Some t → (o ≡ Some t) × (can_stand before t ends ≡ true)
 placed_some before ends None t e = absurd cc
 placed_some before ends (Some s) t e =
     let p = cond_some (can_stand before s ends) s t e in
     (ap (λ (x : Turn). Some x) p.1, subst (λ (x : Turn). can_stand before x ends ≡ true) p.1 p.0)
 
-none_stands : (before : List Turn) (ends : Bool) (bad : List ℕ) → placed before ends (turn_at bad) ≡ None → (t : Turn) → IsTurn t → turn_text t ≡ bad → can_stand before t ends ≡ false
+none_stands : (before : List Turn) (ends : Bool) (bad : List ℕ) → turn_placed before ends (turn_at bad) ≡ None → (t : Turn) → IsTurn t → turn_text t ≡ bad → can_stand before t ends ≡ false
 none_stands before ends bad none t h e =
     let read : turn_at bad ≡ Some t = ap turn_at (sym e) ∙ turn_again t h in
-    not_chosen (can_stand before t ends) t (sym (ap (placed before ends) read) ∙ none)
+    not_chosen (can_stand before t ends) t (sym (ap (turn_placed before ends) read) ∙ none)
 
-none_placed : (before : List Turn) (ends : Bool) (bad : List ℕ) → ((t : Turn) → IsTurn t → turn_text t ≡ bad → can_stand before t ends ≡ false) → placed before ends (turn_at bad) ≡ None
+none_placed : (before : List Turn) (ends : Bool) (bad : List ℕ) → ((t : Turn) → IsTurn t → turn_text t ≡ bad → can_stand before t ends ≡ false) → turn_placed before ends (turn_at bad) ≡ None
 none_placed before ends bad none = by_cases (turn_at bad) refl
   where
-    by_cases : (r : Option Turn) → turn_at bad ≡ r → placed before ends r ≡ None
+    by_cases : (r : Option Turn) → turn_at bad ≡ r → turn_placed before ends r ≡ None
     by_cases None e = refl
     by_cases (Some t) e = let p = turn_takes bad t e in rw (none t p.0 (sym p.1)) refl
 
@@ -104,7 +104,7 @@ turns_take before [] whole e =
     let same : before ≡ whole = cc in
     record { new = []; parts = sym same ∙ sym (append-nil before); each = tt; texts = refl; shape = refl }
 turns_take before (p ∷ ps) whole e =
-    then_ok before (placed before (is_empty ps) (turn_at p)) (λ turns. turns_at turns ps) whole e (λ t at_turn at_rest.
+    then_ok before (turn_placed before (is_empty ps) (turn_at p)) (λ turns. turns_at turns ps) whole e (λ t at_turn at_rest.
     let q = placed_some before (is_empty ps) (turn_at p) t at_turn in
     let one = turn_takes p t q.0 in
     let later = turns_take (before ++ t ∷ []) ps whole at_rest in
@@ -134,13 +134,13 @@ pub record FailsAt (before : List Turn) (ps : List (List ℕ)) (k : ℕ) : Type 
   pub shape : IsTrue (all_stand before front false)
   pub parts : ps ≡ map turn_text front ++ bad ∷ others
   pub place : k ≡ length before + length front + 1
-  pub none : placed (before ++ front) (is_empty others) (turn_at bad) ≡ None
+  pub none : turn_placed (before ++ front) (is_empty others) (turn_at bad) ≡ None
 
 turns_fail : (before : List Turn) (k : ℕ) (ps : List (List ℕ)) → turns_at before ps ≡ Err k → FailsAt before ps k
 unfolding turns_at
 turns_fail before k [] e = absurd cc
 turns_fail before k (p ∷ ps) e =
-    elim (then_err before k (placed before (is_empty ps) (turn_at p)) (λ turns. turns_at turns ps) e) [
+    elim (then_err before k (turn_placed before (is_empty ps) (turn_at p)) (λ turns. turns_at turns ps) e) [
       | inl bad ↦ record { front = []; bad = p; others = ps; each = tt; shape = refl; parts = refl; place = omega (arith, bad.1); none = rw (append-nil before) (bad.0) }
       | inr good ↦
           let q = placed_some before (is_empty ps) (turn_at p) good.0 good.1 in
@@ -156,22 +156,22 @@ turns_fail before k (p ∷ ps) e =
             shape = both_true _ _ stands later.shape;
             parts = cc (one.1, later.parts);
             place = omega (arith, later.place, length-append before (good.0 ∷ []));
-            none = subst (λ (x : List Turn). placed x (is_empty later.others) (turn_at later.bad) ≡ None) (append_assoc before (good.0 ∷ []) later.front) later.none;
+            none = subst (λ (x : List Turn). turn_placed x (is_empty later.others) (turn_at later.bad) ≡ None) (append_assoc before (good.0 ∷ []) later.front) later.none;
           }
     ]
 
 turns_fail_again : (before : List Turn) (k : ℕ) (front : List Turn) (bad : List ℕ) (others : List (List ℕ)) → AllByRecursion IsTurn front → IsTrue (all_stand before front false)
-    → placed (before ++ front) (is_empty others) (turn_at bad) ≡ None → k ≡ length before + length front + 1
+    → turn_placed (before ++ front) (is_empty others) (turn_at bad) ≡ None → k ≡ length before + length front + 1
     → turns_at before (map turn_text front ++ bad ∷ others) ≡ Err k
 unfolding turns_at
 turns_fail_again before k [] bad others each shape none place =
-    let here : placed before (is_empty others) (turn_at bad) ≡ None = subst (λ (x : List Turn). placed x (is_empty others) (turn_at bad) ≡ None) (append-nil before) none in
+    let here : turn_placed before (is_empty others) (turn_at bad) ≡ None = subst (λ (x : List Turn). turn_placed x (is_empty others) (turn_at bad) ≡ None) (append-nil before) none in
     let n : length before + 1 ≡ k = omega (arith, place) in
     rw here (ap (λ (x : ℕ). Err x) n)
 turns_fail_again before k (t ∷ front) bad others each shape none place =
     let p = and_parts (can_stand before t false) (all_stand (before ++ t ∷ []) front false) shape in
     let stands : can_stand before t (is_empty (map turn_text front ++ bad ∷ others)) ≡ true = subst (λ (x : Bool). can_stand before t x ≡ true) (sym (more_left (map turn_text front) bad others)) p.0 in
-    let later = subst (λ (x : List Turn). placed x (is_empty others) (turn_at bad) ≡ None) (sym (append_assoc before (t ∷ []) front)) none in
+    let later = subst (λ (x : List Turn). turn_placed x (is_empty others) (turn_at bad) ≡ None) (sym (append_assoc before (t ∷ []) front)) none in
     rw (turn_again t each.0, stands) (turns_fail_again (before ++ t ∷ []) k front bad others each.1 p.1 later (omega (arith, place, length-append before (t ∷ []))))
 
 -- ---- pieces from turns
@@ -288,14 +288,14 @@ bad_found bytes n e =
       one_line = s.one_line;
       ends = s.ends;
       number = omega (arith, f.place);
-      none = none_stands f.front (nat_le (length s.more) 1) f.bad (subst (λ (x : Bool). placed f.front x (turn_at f.bad) ≡ None) (sym s.at_end) f.none);
+      none = none_stands f.front (nat_le (length s.more) 1) f.bad (subst (λ (x : Bool). turn_placed f.front x (turn_at f.bad) ≡ None) (sym s.at_end) f.none);
     }
 
 pub bad_read : (bytes : List ℕ) (n : ℕ) → IsBadLine bytes n → turns_at [] (pieces bytes) ≡ Err n
 bad_read bytes n b =
     let p = bad_piece b.bad b.more b.one_line b.ends in
     let whole : pieces bytes ≡ map turn_text b.front ++ b.bad ∷ p.0 = ap pieces b.parts ∙ pieces_script b.front (b.bad ++ b.more) b.each ∙ ap (λ (x : List (List ℕ)). map turn_text b.front ++ x) p.1 in
-    let none : placed b.front (is_empty p.0) (turn_at b.bad) ≡ None = subst (λ (x : Bool). placed b.front x (turn_at b.bad) ≡ None) p.2 (none_placed b.front (nat_le (length b.more) 1) b.bad b.none) in
+    let none : turn_placed b.front (is_empty p.0) (turn_at b.bad) ≡ None = subst (λ (x : Bool). turn_placed b.front x (turn_at b.bad) ≡ None) p.2 (none_placed b.front (nat_le (length b.more) 1) b.bad b.none) in
     ap (turns_at []) whole ∙ turns_fail_again [] n b.front b.bad p.0 b.each b.shape none (omega (arith, b.number))
 
 pub one_script : (bytes : List ℕ) (one other : List Turn) → IsScript bytes one → IsScript bytes other → one ≡ other

@@ -4,7 +4,7 @@ use Rattle.std.specs.Prelude.{◌==◌}
 use Rattle.std.proofs.lemmas.Bool.{eqb-true, ne_eqb}
 use Rattle.zb_script.specs.declared.line.Turn.{Turn}
 use Rattle.zb_script.specs.Shape.{is_empty}
-use Rattle.zb_script.specs.Reading.{turn_at, pieces, placed, turns_at}
+use Rattle.zb_script.specs.Reading.{turn_at, pieces, turn_placed, turns_at}
 use Rattle.zb_script.proofs.Pieces.{some_piece}
 
 -- no line is left exactly where no byte is left
@@ -14,11 +14,11 @@ empty_pieces (b ∷ after) = some_piece b (b == 10) (pieces after) ∙ sym (ne_e
 
 -- what is asked of a line's turn
 here : (front before : List Turn) (text after : List ℕ) (ends : Bool) (o : Option Turn) → before ≡ front → ends ≡ (length after == 0)
-    → placed before ends (turn_at text) ≡ o → placed front (is_empty (pieces after)) (turn_at text) ≡ o
+    → turn_placed before ends (turn_at text) ≡ o → turn_placed front (is_empty (pieces after)) (turn_at text) ≡ o
 here front before text after ends o same at_end e = rw (empty_pieces after, ← at_end, ← same) e
 
 pub turn_read : (front before : List Turn) (t : Turn) (rest text after : List ℕ) (ends : Bool) (total : Result (List Turn) ℕ) → pieces rest ≡ text ∷ pieces after
-    → before ≡ front → ends ≡ (length after == 0) → placed before ends (turn_at text) ≡ Some t
+    → before ≡ front → ends ≡ (length after == 0) → turn_placed before ends (turn_at text) ≡ Some t
     → turns_at front (pieces rest) ≡ total → turns_at (front ++ t ∷ []) (pieces after) ≡ total
 unfolding turns_at
 turn_read front before t rest text after ends total e same at_end placed_so so_far =
@@ -27,7 +27,7 @@ turn_read front before t rest text after ends total e same at_end placed_so so_f
     sym one ∙ so_far
 
 pub turn_refused : (front before : List Turn) (rest text after : List ℕ) (ends : Bool) (n : ℕ) (total : Result (List Turn) ℕ) → pieces rest ≡ text ∷ pieces after
-    → before ≡ front → ends ≡ (length after == 0) → placed before ends (turn_at text) ≡ None → n ≡ length front
+    → before ≡ front → ends ≡ (length after == 0) → turn_placed before ends (turn_at text) ≡ None → n ≡ length front
     → turns_at front (pieces rest) ≡ total → total ≡ Err (n + 1)
 unfolding turns_at
 turn_refused front before rest text after ends n total e same at_end placed_so number so_far =

@@ -12,13 +12,13 @@ use Rattle.zb_script.specs.Names.{is_name}
 use Rattle.zb_script.specs.Shape.{can_stand, is_empty}
 
 -- What a function returned, seen by view, is what reading gives, unless memory ran out.
-abbrev pub Fails : {Y : Type 0} → ReadError → Option Y → Type 0
-Fails errors.Memory read = Unit {0}
-Fails errors.Bad read = read ≡ None
+abbrev pub RefusesToRead : {Y : Type 0} → ReadError → Option Y → Type 0
+RefusesToRead errors.Memory read = Unit {0}
+RefusesToRead errors.Bad read = read ≡ None
 
-abbrev pub Gives : {X Y : Type 0} → (X → Y) → Result X ReadError → Option Y → Type 0
-Gives view (Ok x) read = read ≡ Some (view x)
-Gives view (Err e) read = Fails e read
+abbrev pub ReadsAs : {X Y : Type 0} → (X → Y) → Result X ReadError → Option Y → Type 0
+ReadsAs view (Ok x) read = read ≡ Some (view x)
+ReadsAs view (Err e) read = RefusesToRead e read
 
 -- what stands before the first separator, and what stands behind it
 unfoldable pub cut_at : ℕ → List ℕ → Option (List ℕ × List ℕ)
@@ -27,8 +27,8 @@ cut_at separator bytes = do
   Some (take i bytes, drop (i + 1) bytes)
 
 -- what stands behind a word
-unfoldable pub behind : List ℕ → List ℕ → Option (List ℕ)
-behind word bytes = if bytes_eq (take (length word) bytes) word then Some (drop (length word) bytes) else None
+unfoldable pub behind_word : List ℕ → List ℕ → Option (List ℕ)
+behind_word word bytes = if bytes_eq (take (length word) bytes) word then Some (drop (length word) bytes) else None
 
 -- a number and a blank
 unfoldable pub field_at : List ℕ → Option (ℕ × List ℕ)
@@ -69,7 +69,7 @@ if_some (Some x) f other = f x
 if_some None f other = other
 
 unfoldable pub line_at : List ℕ → Option Line
-line_at bytes = if_some (behind (codes "load ") bytes) load_at (if_some (behind (codes "store ") bytes) store_at (words_at bytes))
+line_at bytes = if_some (behind_word (codes "load ") bytes) load_at (if_some (behind_word (codes "store ") bytes) store_at (words_at bytes))
 
 unfoldable pub name_at : List ℕ → Option (List ℕ)
 name_at bytes = if is_name bytes then Some bytes else None
@@ -87,9 +87,9 @@ pieces [] = []
 pieces (b ∷ bytes) = if b == 10 then [] ∷ pieces bytes else onto_first b (pieces bytes)
 
 -- the turn, where it can stand behind those before it
-abbrev pub placed : List Turn → Bool → Option Turn → Option Turn
-placed before ends None = None
-placed before ends (Some t) = if can_stand before t ends then Some t else None
+abbrev pub turn_placed : List Turn → Bool → Option Turn → Option Turn
+turn_placed before ends None = None
+turn_placed before ends (Some t) = if can_stand before t ends then Some t else None
 
 abbrev pub then_turns : List Turn → Option Turn → (List Turn → Result (List Turn) ℕ) → Result (List Turn) ℕ
 then_turns before None rest = Err (length before + 1)
@@ -98,4 +98,4 @@ then_turns before (Some t) rest = rest (before ++ t ∷ [])
 -- the turns that the pieces spell behind those before them, or the number of the first bad piece
 unfoldable pub turns_at : List Turn → List (List ℕ) → Result (List Turn) ℕ
 turns_at before [] = Ok before
-turns_at before (piece ∷ others) = then_turns before (placed before (is_empty others) (turn_at piece)) (λ turns. turns_at turns others)
+turns_at before (piece ∷ others) = then_turns before (turn_placed before (is_empty others) (turn_at piece)) (λ turns. turns_at turns others)

@@ -6,7 +6,7 @@ use Rattle.zb_script.specs.declared.line.Line.{Line}
 use Rattle.zb_script.specs.declared.line.Line.TheVariants as lines
 use Rattle.zb_script.specs.declared.line.Turn.{Turn}
 use Rattle.zb_script.specs.Names.{IsName}
-use Rattle.zb_script.specs.Payloads.{IsPayload}
+use Rattle.zb_script.specs.Payloads.{IsRecordBytes}
 
 -- what stands behind the client's name and a blank
 abbrev pub line_text : Line → List ℕ
@@ -26,7 +26,7 @@ turn_text t = t.client ++ 32 ∷ line_text t.line
 -- what the fields of a line can be: numbers of 64 bits, and a payload
 abbrev pub IsLine : Line → Type 0
 IsLine (lines.Load oid) = oid < 2 ^ 64
-IsLine (lines.Store oid base bytes) = (oid < 2 ^ 64) × (base < 2 ^ 64) × IsPayload bytes
+IsLine (lines.Store oid base bytes) = (oid < 2 ^ 64) × (base < 2 ^ 64) × IsRecordBytes bytes
 IsLine _ = Unit {0}
 
 abbrev pub IsTurn : Turn → Type 0

@@ -1,7 +1,7 @@
 //! The bytes that a line stores.
 
 ghost use Rattle.std.specs.Prelude.{◌≡◌, ◌<◌, ◌≤◌, ℕ, All, length, IsOk, IfOk, IfSome, IsSome, ◌↔◌};
-ghost use Rattle.zb_script.specs.Payloads.{IsPayload};
+ghost use Rattle.zb_script.specs.Payloads.{IsRecordBytes};
 
 use std::alloc::AllocError;
 use std::marker::Model;
@@ -20,19 +20,19 @@ pub struct Payload {
 
 impl Model for Payload {
     ghost use Rattle.std.specs.Prelude.{ℕ, List};
-    ghost use Rattle.zb_script.specs.Payloads.{IsPayload};
+    ghost use Rattle.zb_script.specs.Payloads.{IsRecordBytes};
 
     ghost Value = { List ℕ };
 
     ghost view = { λ payload. payload.text };
 
-    ghost invariant = { λ payload. IsPayload payload.text };
+    ghost invariant = { λ payload. IsRecordBytes payload.text };
 }
 
 impl Payload {
     /// The payload of these bytes, or `None` where there is no byte or there are more than 16 MiB.
     pub fn new(text: Text8) -> Option<Payload>
-        ensures some { IsSome result ↔ IsPayload text }
+        ensures some { IsSome result ↔ IsRecordBytes text }
         ensures value { IfSome result (λ payload. payload ≡ text) }
     {
         let count = text.as_slice().len();
@@ -45,7 +45,7 @@ impl Payload {
     /// The bytes, where they stand.
     pub fn as_slice(&self) -> &[u8]
         ensures value { result.now ≡ self.now }
-        ensures is_payload { IsPayload self.now }
+        ensures is_payload { IsRecordBytes self.now }
     {
         self.text.as_slice()
     }

@@ -2,7 +2,7 @@
 
 ghost use Rattle.std.specs.Prelude.{◌≡◌, ◌<◌, ◌==◌, ℕ, length, IfSome, position};
 ghost use Rattle.zb_ids.specs.Hex.{bytes_at, number_at};
-ghost use Rattle.zb_script.specs.Reading.{Gives, behind, cut_at, field_at, line_at, load_at, name_at, payload_at, store_at, turn_at, words_at};
+ghost use Rattle.zb_script.specs.Reading.{ReadsAs, behind_word, cut_at, field_at, line_at, load_at, name_at, payload_at, store_at, turn_at, words_at};
 
 use crate::errors::ReadError;
 use crate::line::{Line, Turn};
@@ -21,7 +21,7 @@ pub(crate) fn place_of(separator: u8, bytes: &[u8]) -> Option<usize>
 
 #[tactic(auto, unfolding(crate::specs::Reading::cut_at))]
 fn cut(separator: u8, bytes: &[u8]) -> Result<(&[u8], &[u8]), ReadError>
-    ensures { Gives (λ x. (x.0.now, x.1.now)) result (cut_at separator bytes.now) }
+    ensures { ReadsAs (λ x. (x.0.now, x.1.now)) result (cut_at separator bytes.now) }
 {
     let Some(i) = place_of(separator, bytes) else {
         return Err(ReadError::Bad);
@@ -31,7 +31,7 @@ fn cut(separator: u8, bytes: &[u8]) -> Result<(&[u8], &[u8]), ReadError>
 
 #[tactic(auto, unfolding(crate::specs::Reading::name_at))]
 fn name_of(bytes: &[u8]) -> Result<Name, ReadError>
-    ensures { Gives (λ name. name) result (name_at bytes.now) }
+    ensures { ReadsAs (λ name. name) result (name_at bytes.now) }
 {
     match Name::new(bytes) {
         Some(name) => Ok(name),
@@ -40,7 +40,7 @@ fn name_of(bytes: &[u8]) -> Result<Name, ReadError>
 }
 
 fn number_of(text: &[u8]) -> Result<u64, ReadError>
-    ensures { Gives (λ number. number) result (number_at text.now) }
+    ensures { ReadsAs (λ number. number) result (number_at text.now) }
 {
     match read_hex(text) {
         Ok(number) => Ok(number),
@@ -50,7 +50,7 @@ fn number_of(text: &[u8]) -> Result<u64, ReadError>
 
 #[tactic(auto, unfolding(crate::specs::Reading::field_at))]
 fn field_of(bytes: &[u8]) -> Result<(u64, &[u8]), ReadError>
-    ensures { Gives (λ x. (x.0, x.1.now)) result (field_at bytes.now) }
+    ensures { ReadsAs (λ x. (x.0, x.1.now)) result (field_at bytes.now) }
 {
     let (word, rest) = cut(b' ', bytes)?;
     let number = number_of(word)?;
@@ -59,7 +59,7 @@ fn field_of(bytes: &[u8]) -> Result<(u64, &[u8]), ReadError>
 
 #[tactic(auto, using(zb_ids::specs::HexLaws::pair_read, zb_ids::specs::HexLaws::pair_refused, zb_ids::specs::HexLaws::all_read, zb_ids::specs::HexLaws::odd_refused))]
 fn bytes_of(alloc: Global, text: &[u8]) -> Result<Vec<u8>, ReadError>
-    ensures { Gives (λ bytes. bytes.items) result (bytes_at text.now) }
+    ensures { ReadsAs (λ bytes. bytes.items) result (bytes_at text.now) }
 {
     if text.len() % 2 != 0 {
         return Err(ReadError::Bad);
@@ -76,7 +76,7 @@ fn bytes_of(alloc: Global, text: &[u8]) -> Result<Vec<u8>, ReadError>
 
 #[tactic(auto, unfolding(crate::specs::Reading::payload_at))]
 fn payload_of(alloc: Global, text: &[u8]) -> Result<Payload, ReadError>
-    ensures { Gives (λ payload. payload) result (payload_at text.now) }
+    ensures { ReadsAs (λ payload. payload) result (payload_at text.now) }
 {
     if text.len() > MOST_DIGITS {
         return Err(ReadError::Bad);
@@ -90,7 +90,7 @@ fn payload_of(alloc: Global, text: &[u8]) -> Result<Payload, ReadError>
 
 #[tactic(auto, unfolding(crate::specs::Reading::load_at))]
 fn load_of(bytes: &[u8]) -> Result<Line, ReadError>
-    ensures { Gives (λ line. line) result (load_at bytes.now) }
+    ensures { ReadsAs (λ line. line) result (load_at bytes.now) }
 {
     let oid = number_of(bytes)?;
     Ok(Line::Load { oid: Oid(oid) })
@@ -98,7 +98,7 @@ fn load_of(bytes: &[u8]) -> Result<Line, ReadError>
 
 #[tactic(auto, unfolding(crate::specs::Reading::store_at))]
 fn store_of(alloc: Global, bytes: &[u8]) -> Result<Line, ReadError>
-    ensures { Gives (λ line. line) result (store_at bytes.now) }
+    ensures { ReadsAs (λ line. line) result (store_at bytes.now) }
 {
     let (oid, rest) = field_of(bytes)?;
     let (base, rest) = field_of(rest)?;
@@ -112,7 +112,7 @@ fn store_of(alloc: Global, bytes: &[u8]) -> Result<Line, ReadError>
 
 #[tactic(auto, unfolding(crate::specs::Reading::words_at))]
 fn words_of(bytes: &[u8]) -> Result<Line, ReadError>
-    ensures { Gives (λ line. line) result (words_at bytes.now) }
+    ensures { ReadsAs (λ line. line) result (words_at bytes.now) }
 {
     if bytes == b"open local".as_slice() {
         Ok(Line::Open)
@@ -131,9 +131,9 @@ fn words_of(bytes: &[u8]) -> Result<Line, ReadError>
     }
 }
 
-#[tactic(auto, unfolding(crate::specs::Reading::line_at, crate::specs::Reading::behind))]
+#[tactic(auto, unfolding(crate::specs::Reading::line_at, crate::specs::Reading::behind_word))]
 fn line_of(alloc: Global, bytes: &[u8]) -> Result<Line, ReadError>
-    ensures { Gives (λ line. line) result (line_at bytes.now) }
+    ensures { ReadsAs (λ line. line) result (line_at bytes.now) }
 {
     if let Some(rest) = bytes.strip_prefix(b"load ") {
         load_of(rest)
@@ -147,7 +147,7 @@ fn line_of(alloc: Global, bytes: &[u8]) -> Result<Line, ReadError>
 /// The turn that a line spells.
 #[tactic(auto, unfolding(crate::specs::Reading::turn_at))]
 pub(crate) fn turn_of(alloc: Global, bytes: &[u8]) -> Result<Turn, ReadError>
-    ensures { Gives (λ turn. turn) result (turn_at bytes.now) }
+    ensures { ReadsAs (λ turn. turn) result (turn_at bytes.now) }
 {
     let (word, rest) = cut(b' ', bytes)?;
     let client = name_of(word)?;

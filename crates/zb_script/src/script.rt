@@ -2,7 +2,7 @@
 
 ghost use Rattle.std.specs.Prelude.{◌≡◌, ◌<◌, ◌≤◌, ◌⊎◌, ℕ, List, [], ◌∷◌, length, IfOk, Ok, Err, IsOkUnless};
 ghost use Rattle.zb_script.specs.declared.line.Turn.{Turn};
-ghost use Rattle.zb_script.specs.Reading.{Gives, pieces, placed, turn_at, turns_at};
+ghost use Rattle.zb_script.specs.Reading.{ReadsAs, pieces, turn_placed, turn_at, turns_at};
 ghost use Rattle.zb_script.specs.Script.{IsBadLine, IsScript};
 ghost use Rattle.zb_script.specs.Turns.{GivesTurns};
 
@@ -27,7 +27,7 @@ fn first_line(bytes: &[u8]) -> (&[u8], &[u8])
 
 /// The turn that a line spells, where it can stand behind those before it.
 fn placed_turn(alloc: Global, before: &[Turn], text: &[u8], ends: bool) -> Result<Turn, ReadError>
-    ensures { Gives (λ turn. turn) result (placed before.now ends (turn_at text.now)) }
+    ensures { ReadsAs (λ turn. turn) result (turn_placed before.now ends (turn_at text.now)) }
 {
     let turn = turn_of(alloc, text)?;
     if !can_stand(before, &turn, ends) {

@@ -31,9 +31,9 @@ pub record Contents : Type 0 where
   pub main : List ℕ
   pub side : List ℕ
 
-abbrev pub content_of : Contents → Area → List ℕ
-content_of contents Main = contents.main
-content_of contents Side = contents.side
+abbrev pub area_content : Contents → Area → List ℕ
+area_content contents Main = contents.main
+area_content contents Side = contents.side
 
 -- a call that was made or that failed; of one that failed half way, what a read gives afterwards
 pub record Event : Type 0 where

@@ -2,7 +2,7 @@
 use Rattle.std.specs.Prelude.{Option, Some, None, ◌≡◌, ℕ, ◌+◌, ◌<◌, if◌then◌else◌, List, [], ◌∷◌, ◌++◌, length, take, drop, slice_index}
 use Rattle.zb_volume.specs.declared.areas.Area.{Area}
 use Rattle.zb_volume.specs.declared.areas.Area.TheVariants.{Main, Side}
-use Rattle.zb_volume.specs.Calls.{Call, WriteAt, CutTo, SyncOf, Replace, Contents, content_of, touches, same_area, Event}
+use Rattle.zb_volume.specs.Calls.{Call, WriteAt, CutTo, SyncOf, Replace, Contents, area_content, touches, same_area, Event}
 
 -- what no sync has made sure of: the bytes of the last sync, and each content since then, the newest first
 pub record Pending : Type 0 where
@@ -43,18 +43,22 @@ after_call (SyncOf a) d b = if same_area a b then settled (d b).now else d b
 after_call Replace d b = after_replace d b
 
 -- After a call that failed half way, what was pending before it may be pending, or what is pending after it.
-abbrev pub after : Option Contents → Call → (Area → Disk) → Area → Disk
-after None call d b = after_call call d b
-after (Some now) call d b = if touches call b then record { now = content_of now b; pending = (d b).pending ++ (after_call call d b).pending } else d b
+abbrev pub after_event : Option Contents → Call → (Area → Disk) → Area → Disk
+after_event None call d b = after_call call d b
+after_event (Some now) call d b = if touches call b then record { now = area_content now b; pending = (d b).pending ++ (after_call call d b).pending } else d b
 
 -- each area after these calls, the newest first, on a volume that was empty
 abbrev pub disk : List Event → Area → Disk
 disk [] = λ a. settled []
-disk (e ∷ log) = after e.failed e.call (disk log)
+disk (e ∷ log) = after_event e.failed e.call (disk log)
 
 -- what a read gives of an area
 abbrev pub seen : List Event → Area → List ℕ
 seen log a = (disk log a).now
+
+-- what a read gives of Main
+abbrev pub main_bytes : List Event → List ℕ
+main_bytes log = seen log Main
 
 abbrev pub area_length : List Event → Area → ℕ
 area_length log a = length (seen log a)
@@ -63,5 +67,3 @@ area_length log a = length (seen log a)
 abbrev pub IsSettled : List Event → Area → Type 0
 IsSettled log a = disk log a ≡ settled (seen log a)
 
-abbrev pub IsBytes : List ℕ → Type 0
-IsBytes xs = (k : ℕ) → slice_index xs k < 256

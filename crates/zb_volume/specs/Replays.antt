@@ -14,9 +14,9 @@ greatest synced (x ∷ since) = x ++ drop (length x) (greatest synced since)
 abbrev pub least : List ℕ → List (List ℕ) → List ℕ
 least synced since = take (least_length synced since) synced
 
-abbrev pub greatest_of : List Pending → List ℕ
-greatest_of [] = []
-greatest_of (p ∷ ps) = greatest p.synced p.since
+abbrev pub greatest_pending : List Pending → List ℕ
+greatest_pending [] = []
+greatest_pending (p ∷ ps) = greatest p.synced p.since
 
 abbrev pub least_of : List Pending → List ℕ
 least_of [] = []
@@ -24,7 +24,7 @@ least_of (p ∷ ps) = least p.synced p.since
 
 -- the greatest image, with each write since the last sync, or the least, with none
 abbrev pub image_of : Bool → Disk → List ℕ
-image_of all d = if all then greatest_of d.pending else least_of d.pending
+image_of all d = if all then greatest_pending d.pending else least_of d.pending
 
 -- these contents, the oldest first, before others that are listed with the newest first
 abbrev pub contents_from : List (List ℕ) → List (Vec ℕ) → List (List ℕ)

@@ -3,7 +3,7 @@ use Rattle.std.proofs.Common.{◌≡◌, ◌⊎◌, inl, inr, ⊎_elim, Bool, tr
 use Rattle.std.proofs.lemmas.Bool.{true≢false}
 use Rattle.zb_volume.specs.declared.areas.Area.{Area}
 use Rattle.zb_volume.specs.declared.areas.Area.TheVariants.{Main, Side}
-use Rattle.zb_volume.specs.Calls.{Event, Call, WriteAt, CutTo, SyncOf, Replace, made, content_of, touches, same_area}
+use Rattle.zb_volume.specs.Calls.{Event, Call, WriteAt, CutTo, SyncOf, Replace, made, area_content, touches, same_area}
 use Rattle.zb_volume.specs.Disk.{Pending, Disk, disk, after_call}
 use Rattle.zb_volume.specs.Images.{MayLeave}
 use Rattle.zb_volume.specs.Faults.{Fails}
@@ -31,7 +31,7 @@ goes_on (Ok _) a Q e old log new so_far done ok err = subst (λ (l : List Event)
 goes_on (Err _) a Q e old log new so_far done ok err = ⊎_elim
     (λ same. subst (λ (l : List Event). LeavesOnly a Q old l) (sym same) so_far)
     (λ fails. subst (λ (l : List Event). LeavesOnly a Q old l) (sym fails.1)
-    (more (half_way (touches e.call a) (disk log a) (after_call e.call (disk log) a) (content_of fails.0 a) Q (along_now (Leaves a Q) old log so_far) done) so_far))
+    (more (half_way (touches e.call a) (disk log a) (after_call e.call (disk log) a) (area_content fails.0 a) Q (along_now (Leaves a Q) old log so_far) done) so_far))
     err
 
 untouched : (b : Bool) (d e : Disk) → b ≡ false → (if b then e else d) ≡ d

@@ -6,7 +6,7 @@ ghost use Rattle.zb_volume.specs.Calls.{Wrote, Cut, Synced, Replaced, same_area}
 ghost use Rattle.zb_volume.specs.Disk.{seen, area_length, written, IsSettled};
 ghost use Rattle.zb_volume.specs.Images.{CrashLeavesWith};
 ghost use Rattle.zb_volume.specs.Durable.{OldOrSide};
-ghost use Rattle.zb_volume.specs.Faults.{HasCause};
+ghost use Rattle.zb_base.specs.Counts.{HasCause};
 ghost use Rattle.zb_volume.specs.Moments.{LeavesOnly, StaysAs};
 
 use crate::{Area, StoreFault, Volume};

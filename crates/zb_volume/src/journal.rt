@@ -2,7 +2,7 @@
 
 ghost use Rattle.std.specs.Prelude.{◌≡◌, ◌<◌, ◌++◌, length, slice_index, slice_set, OnOk};
 ghost use Rattle.zb_volume.specs.Disk.{seen, area_length, IsSettled};
-ghost use Rattle.zb_volume.specs.Faults.{HasCause};
+ghost use Rattle.zb_base.specs.Counts.{HasCause};
 ghost use Rattle.zb_volume.specs.Journal.{IsOldOrNew};
 ghost use Rattle.zb_volume.specs.Moments.{LeavesOnly};
 

@@ -4,10 +4,11 @@
 ghost use Rattle.std.specs.Prelude.{◌≡◌, ◌↔◌, ◌+◌, ◌<◌, ◌≤◌, ◌^◌, List, [], ◌∷◌, length, IfOk, OnOk, OnErr, IsTrue};
 ghost use Rattle.zb_volume.specs.declared.areas.Area.{Area};
 ghost use Rattle.zb_volume.specs.Calls.{WriteAt, CutTo, SyncOf, Replace};
-ghost use Rattle.zb_volume.specs.Disk.{Disk, disk, seen, area_length, IsSettled, IsBytes};
+ghost use Rattle.zb_volume.specs.Disk.{Disk, disk, seen, area_length, IsSettled};
 ghost use Rattle.zb_volume.specs.Images.{MayLeave, CrashLeaves};
 ghost use Rattle.zb_volume.specs.Kept.{MemoryState, count_after, is_listed, log_of, calls_of};
 ghost use Rattle.zb_volume.specs.Replays.{IsReplay, image_of};
+ghost use Rattle.zb_base.specs.Bytes.{AreBytes};
 
 use crate::images::{greatest_image, is_image, least_image};
 use crate::kept::{KeptCall, keep, keep_write};
@@ -107,7 +108,7 @@ fn holding(alloc: Global, main: Vec<u8>, side: Vec<u8>) -> Result<MemoryVolume, 
 // The number of bytes, each of which is one.
 fn measure(bytes: &[u8]) -> u64
     ensures length { result ≡ length bytes.now }
-    ensures bytes { IsBytes bytes.now }
+    ensures bytes { AreBytes bytes.now }
 {
     bytes.len() as u64
 }

@@ -2,9 +2,11 @@
 
 ghost use Rattle.std.specs.Prelude.{◌≡◌, ℕ, ◌+◌, ◌<◌, ◌≤◌, ◌^◌, List, ◌∷◌, length, take, drop, Bool, true, false, is_err, OnOk, OnErr, IfOk};
 ghost use Rattle.zb_volume.specs.Calls.{Event, Wrote, Cut, Synced, Replaced};
-ghost use Rattle.zb_volume.specs.Disk.{seen, area_length, IsBytes};
+ghost use Rattle.zb_volume.specs.Disk.{seen, area_length};
 ghost use Rattle.zb_volume.specs.Images.{CrashLeaves};
-ghost use Rattle.zb_volume.specs.Faults.{Fails, HasCause};
+ghost use Rattle.zb_volume.specs.Faults.{Fails};
+ghost use Rattle.zb_base.specs.Counts.{HasCause};
+ghost use Rattle.zb_base.specs.Bytes.{AreBytes};
 
 use crate::{Area, StoreFault};
 
@@ -41,7 +43,7 @@ pub trait Volume {
     fn len(&mut self, area: Area) -> Result<u64, StoreFault>
         ensures value { told → IfOk result (λ n. n ≡ area_length (log self.old) area) }
         ensures limit { IfOk result (λ n. n < 2 ^ 63) }
-        ensures bytes { told → OnOk result (IsBytes (seen (log self.old) area)) }
+        ensures bytes { told → OnOk result (AreBytes (seen (log self.old) area)) }
         ensures same { log self.new ≡ log self.old }
         ensures cause { HasCause (read_faults self.old) (read_faults self.new) result }
         ensures uncounted { OnOk result (read_faults self.new ≡ read_faults self.old) }

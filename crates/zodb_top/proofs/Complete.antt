@@ -5,7 +5,7 @@ use Rattle.fs_records.specs.Lists.{not_damaged, not_no_file}
 use Rattle.fs_recovery.specs.Opens.{IsNoList}
 use Rattle.zb_ids.specs.declared.stamp.Stamp.{Stamp}
 use Rattle.zb_model.specs.declared.data.Transaction.{Transaction}
-use Rattle.zb_outside.specs.Rose.{Rose}
+use Rattle.zb_base.specs.Counts.{Rose}
 use Rattle.zodb_top.specs.declared.command.Listing.{Listing}
 use Rattle.zodb_top.specs.declared.status.Status.{Status}
 use Rattle.zodb_top.specs.declared.status.Status.TheVariants as status
@@ -13,7 +13,7 @@ use Rattle.zodb_top.proofs.Listed.{never_no_list}
 use Rattle.zodb_top.specs.Damage.{NamesDamage, magic, rule}
 use Rattle.zodb_top.specs.Listings.{ListOutcome}
 use Rattle.zodb_top.specs.Outside.{Outside, main_of}
-use Rattle.zodb_top.specs.Program.{IsUnlessMemory, Opens, made, there}
+use Rattle.zodb_top.specs.Program.{IsUnlessMemory, OpensAs, made, there}
 
 not_named : (told : Type 0) (bytes text : List ℕ) (list : List Transaction) (cut : Option ℕ) → told → StandsFor bytes list cut → NamesDamage told bytes text → ⊥
 not_named told bytes text list cut here stands (magic other names) = not_no_file bytes list cut stands (other here)
@@ -33,7 +33,7 @@ list_done status.ReadFault asked told before after o here reads writes sinks lis
 list_done status.BadLine asked told before after o here reads writes sinks list cut stands = absurd o
 list_done status.Limit asked told before after o here reads writes sinks list cut stands = absurd o
 
-not_opened : (bytes : List ℕ) (stamps left : Option (List Stamp)) (list : List Transaction) (cut : Option ℕ) → IsNoList bytes → Opens bytes stamps left list cut → ⊥
+not_opened : (bytes : List ℕ) (stamps left : Option (List Stamp)) (list : List Transaction) (cut : Option ℕ) → IsNoList bytes → OpensAs bytes stamps left list cut → ⊥
 not_opened bytes stamps left list cut harm (there some stands same) = never_no_list bytes list cut stands harm
 not_opened bytes stamps left list cut harm (made empty is given) = never_no_list bytes [] None (no_bytes empty refl refl) harm
 

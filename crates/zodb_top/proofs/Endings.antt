@@ -20,13 +20,13 @@ use Rattle.zodb_top.specs.declared.seat.Seat.{Seat}
 use Rattle.zodb_top.specs.declared.seat.Work.{Work}
 use Rattle.zodb_top.specs.declared.vote.HeldVote.{HeldVote}
 use Rattle.zodb_top.specs.declared.vote.Writes.{Writes}
-use Rattle.zodb_top.specs.Machine.{After, Before, Done, OpenTransaction, Session, State, Vote, abort_in, after_at, at_session, before_at, finish_in, finished, in_transaction, is_holder, line_in, raised, refused, with_transaction}
-use Rattle.zodb_top.specs.Seen.{AreDistinct, HasVoted, HubSeen, IsLater, IsSound, IsUpTo, IsVoteLater, IsVoteOf, IsWorkOf, is_before, is_holder_of, seen_seat, seen_vote, seen_work, state_of, state_with, view_at}
+use Rattle.zodb_top.specs.Machine.{After, Before, TurnDone, OpenTransaction, Session, State, Vote, abort_in, after_at, at_session, before_at, finish_in, finished, in_transaction, is_holder, line_in, raised, refused, with_transaction}
+use Rattle.zodb_top.specs.Seen.{AreDistinct, HasVoted, HubSeen, IsLater, IsSoundHub, HasFrontUpTo, IsVoteLater, IsVoteOf, IsWorkOf, is_before, is_holder_of, seen_seat, seen_vote, seen_work, state_of, state_with, view_at}
 use Rattle.zodb_top.specs.Steps.{IsStep}
 use Rattle.zodb_top.proofs.Seats.{all_set, at_seat, put_back, seat_at, set_same, stays}
 
 -- what was done
-abbrev pub done : Answer → State → List Stamp → Done
+abbrev pub done : Answer → State → List Stamp → TurnDone
 done a s stamps = record { answer = a; state = s; stamps = stamps }
 
 -- ---- lines of a session
@@ -177,7 +177,7 @@ full_later newest vote voted h w t later is writes full =
     subst (λ (o : Option Transaction). IsLater newest (Some w) o) full
     (subst (λ (o : Option Writes). IsLater newest o voted) writes (subst (λ (o : Option HeldVote). IsVoteLater newest o voted) is later))
 
-pub finish_empty : (told : Type 0) (v hub : HubSeen) (seats : List Seat) (left : Option HeldVote) (n : ℕ) (w : Option Work) (h : HeldVote) (x : Seat) → v ≡ hub → IsSound told hub → seats ≡ v.seats → IsWorkOf seats n w → is_some w ≡ true
+pub finish_empty : (told : Type 0) (v hub : HubSeen) (seats : List Seat) (left : Option HeldVote) (n : ℕ) (w : Option Work) (h : HeldVote) (x : Seat) → v ≡ hub → IsSoundHub told hub → seats ≡ v.seats → IsWorkOf seats n w → is_some w ≡ true
     → Some h ≡ taken_vote n v.vote → h.writes ≡ None → x ≡ get_or v.seats n x → left ≡ left_vote n v.vote
     → IsStep (state_of hub) lines.Finish n answer.Empty (state_with v.list v.greatest (set v.seats n (record { client = x.client; work = None })) v.voted left)
 finish_empty told v hub seats left n w h x same sound is e some taken empty here leaves =
@@ -194,38 +194,38 @@ finish_empty told v hub seats left n w h x same sound is e some taken empty here
 filter_grown : (front : ℕ) (list : List Transaction) (t : Transaction) → front ≤ t.tid → view_at front (list ++ t ∷ []) ≡ view_at front list
 filter_grown front list t later = filter-append (is_before front) list (t ∷ []) ∙ rw (le-ltb t.tid front later) (append-nil (view_at front list))
 
-work_grown : (list : List Transaction) (t : Transaction) (w : Option Work) → newest_tid list < t.tid → IsUpTo (newest_tid list + 1) w → option_map (seen_work list) w ≡ option_map (seen_work (list ++ t ∷ [])) w
+work_grown : (list : List Transaction) (t : Transaction) (w : Option Work) → newest_tid list < t.tid → HasFrontUpTo (newest_tid list + 1) w → option_map (seen_work list) w ≡ option_map (seen_work (list ++ t ∷ [])) w
 work_grown list t None later front = refl
 work_grown list t (Some w) later front =
     ap (λ (l : List Transaction). let o : Option OpenTransaction = Some (record { front = w.front; list = l; stores = w.stores.items }) in o) (sym (filter_grown w.front list t (omega arith)))
 
-seen_grown : (list : List Transaction) (t : Transaction) (seats : List Seat) → newest_tid list < t.tid → AllByRecursion (λ x. IsUpTo (newest_tid list + 1) x.work) seats
+seen_grown : (list : List Transaction) (t : Transaction) (seats : List Seat) → newest_tid list < t.tid → AllByRecursion (λ x. HasFrontUpTo (newest_tid list + 1) x.work) seats
     → map (seen_seat list) seats ≡ map (seen_seat (list ++ t ∷ [])) seats
 seen_grown list t [] later all = refl
 seen_grown list t (x ∷ seats) later all =
     ap (λ (o : Option OpenTransaction). let s : Session = record { client = x.client; open_transaction = o } in s ∷ map (seen_seat list) seats) (work_grown list t x.work later all.0)
     ∙ ap (λ (ss : List Session). seen_seat (list ++ t ∷ []) x ∷ ss) (seen_grown list t seats later all.1)
 
-more_fronts : (n m : ℕ) (seats : List Seat) → n ≤ m → AllByRecursion (λ x. IsUpTo n x.work) seats → AllByRecursion (λ x. IsUpTo m x.work) seats
+more_fronts : (n m : ℕ) (seats : List Seat) → n ≤ m → AllByRecursion (λ x. HasFrontUpTo n x.work) seats → AllByRecursion (λ x. HasFrontUpTo m x.work) seats
 more_fronts n m [] le all = tt
 more_fronts n m (x ∷ seats) le all = (one x.work all.0, more_fronts n m seats le all.1)
   where
-    one : (w : Option Work) → IsUpTo n w → IsUpTo m w
+    one : (w : Option Work) → HasFrontUpTo n w → HasFrontUpTo m w
     one None h = tt
     one (Some w) h = omega arith
 
 pub finish_committed : (told : Type 0) (v hub : HubSeen) (list : List Transaction) (greatest : ℕ) (seats : List Seat) (voted' : Option Transaction) (left : Option HeldVote) (n : ℕ) (w : Option Work) (h : HeldVote) (wr : Writes) (shown : ℕ) (x : Seat)
-    → told → v ≡ hub → IsSound told hub → seats ≡ v.seats → IsWorkOf seats n w → is_some w ≡ true
+    → told → v ≡ hub → IsSoundHub told hub → seats ≡ v.seats → IsWorkOf seats n w → is_some w ≡ true
     → Some h ≡ taken_vote n v.vote → h.writes ≡ Some wr → shown ≡ wr.tid → x ≡ get_or v.seats n x
     → ForSome v.voted (λ t. list ≡ v.list ++ t ∷ []) → greatest ≡ max v.greatest wr.greatest → left ≡ left_vote n v.vote
     → IsStep (state_of hub) lines.Finish n (answer.Committed shown) (state_with list greatest (set v.seats n (record { client = x.client; work = None })) voted' left)
 finish_committed told v hub list greatest seats voted' left n w h wr shown x tells same sound is e some taken full shows here grows raises leaves =
     let holds = some_taken n v.vote h taken in
-    let sound_v = subst (IsSound told) (sym same) sound in
+    let sound_v = subst (IsSoundHub told) (sym same) sound in
     let voted = full_voted v.vote v.voted h wr sound_v.vote holds.0 full in
     let later = full_later (newest_tid v.list) v.vote v.voted h wr voted.0 (sound_v.later tells) holds.0 full voted.1 in
     let t = voted.0 in
-    let grown = seen_grown v.list t (set v.seats n (ended x)) later.0 (all_set (IsUpTo (newest_tid v.list + 1)) v.seats n (ended x) (sound_v.fronts tells) tt) in
+    let grown = seen_grown v.list t (set v.seats n (ended x)) later.0 (all_set (HasFrontUpTo (newest_tid v.list + 1)) v.seats n (ended x) (sound_v.fronts tells) tt) in
     subst (λ (o : HubSeen). IsStep (state_of o) lines.Finish n (answer.Committed shown) (state_with list greatest (set v.seats n (ended x)) voted' left)) same (λ stamps.
     finished_line v (v.list ++ t ∷ []) (raised v.greatest t) seats n w h (Some t) x (answer.Committed t.tid) is e some taken voted.1 here
     (λ b list_is greatest_is. ap (λ (l : List Transaction). let r : After = record { answer = answer.Committed t.tid; list = l ++ t ∷ []; greatest = raised b.greatest t; session = with_transaction b.session None; vote = None; stamps = b.stamps } in r) list_is
@@ -253,14 +253,14 @@ left_later newest n vote voted voted' sound kept = by_test (is_holder_of n vote)
     by_test false kept = subst (IsVoteLater newest vote) (sym (kept refl)) sound
 
 -- a transaction ended, and the list is as before
-ended_sound : (told : Type 0) (v now : HubSeen) (n : ℕ) (x : Seat) → IsSound told v → now.broken ≡ false → now.seats ≡ set v.seats n (ended x) → (told → now.list ≡ v.list) → now.vote ≡ left_vote n v.vote
-    → (is_holder_of n v.vote ≡ false → now.voted ≡ v.voted) → (is_holder_of n v.vote ≡ true → now.voted ≡ None) → IsSound told now
+ended_sound : (told : Type 0) (v now : HubSeen) (n : ℕ) (x : Seat) → IsSoundHub told v → now.broken ≡ false → now.seats ≡ set v.seats n (ended x) → (told → now.list ≡ v.list) → now.vote ≡ left_vote n v.vote
+    → (is_holder_of n v.vote ≡ false → now.voted ≡ v.voted) → (is_holder_of n v.vote ≡ true → now.voted ≡ None) → IsSoundHub told now
 ended_sound told v now n x sound whole still list left kept gone = record {
   whole = whole;
   vote = subst (λ (o : Option HeldVote). IsVoteOf o now.voted) (sym left) (left_is n v.vote v.voted now.voted sound.vote kept gone);
   distinct = subst (λ (ss : List Seat). AllByRecursion (λ y. AreDistinct y.work) ss) (sym still) (all_set AreDistinct v.seats n (ended x) sound.distinct tt);
-  fronts = λ tells. subst (λ (ss : List Seat). AllByRecursion (λ y. IsUpTo (newest_tid now.list + 1) y.work) ss) (sym still)
-      (subst (λ (l : List Transaction). AllByRecursion (λ y. IsUpTo (newest_tid l + 1) y.work) (set v.seats n (ended x))) (sym (list tells)) (all_set (IsUpTo (newest_tid v.list + 1)) v.seats n (ended x) (sound.fronts tells) tt));
+  fronts = λ tells. subst (λ (ss : List Seat). AllByRecursion (λ y. HasFrontUpTo (newest_tid now.list + 1) y.work) ss) (sym still)
+      (subst (λ (l : List Transaction). AllByRecursion (λ y. HasFrontUpTo (newest_tid l + 1) y.work) (set v.seats n (ended x))) (sym (list tells)) (all_set (HasFrontUpTo (newest_tid v.list + 1)) v.seats n (ended x) (sound.fronts tells) tt));
   later = λ tells. subst (λ (o : Option HeldVote). IsVoteLater (newest_tid now.list) o now.voted) (sym left)
       (subst (λ (l : List Transaction). IsVoteLater (newest_tid l) (left_vote n v.vote) now.voted) (sym (list tells)) (left_later (newest_tid v.list) n v.vote v.voted now.voted (sound.later tells) kept));
 }
@@ -269,17 +269,17 @@ pub none_of : {A : Type 0} (o : Option A) → is_some o ≡ false → o ≡ None
 none_of None e = refl
 none_of (Some x) e = absurd cc
 
-pub empty_sound : (told : Type 0) (v hub now : HubSeen) (n : ℕ) (h : HeldVote) (x : Seat) → v ≡ hub → IsSound told hub → Some h ≡ taken_vote n v.vote → h.writes ≡ None
-    → now.broken ≡ v.broken → now.seats ≡ set v.seats n (ended x) → now.list ≡ v.list → now.vote ≡ left_vote n v.vote → now.voted ≡ v.voted → IsSound told now
+pub empty_sound : (told : Type 0) (v hub now : HubSeen) (n : ℕ) (h : HeldVote) (x : Seat) → v ≡ hub → IsSoundHub told hub → Some h ≡ taken_vote n v.vote → h.writes ≡ None
+    → now.broken ≡ v.broken → now.seats ≡ set v.seats n (ended x) → now.list ≡ v.list → now.vote ≡ left_vote n v.vote → now.voted ≡ v.voted → IsSoundHub told now
 empty_sound told v hub now n h x same sound taken empty whole still list left voted =
-    let sound_v = subst (IsSound told) (sym same) sound in
+    let sound_v = subst (IsSoundHub told) (sym same) sound in
     let holds = some_taken n v.vote h taken in
     ended_sound told v now n x sound_v (whole ∙ sound_v.whole) still (λ tells. list) left (λ other. voted) (λ is. voted ∙ empty_voted v.vote v.voted h sound_v.vote holds.0 empty)
 
-pub committed_sound : (told : Type 0) (v hub now : HubSeen) (n : ℕ) (h : HeldVote) (wr : Writes) (x : Seat) → v ≡ hub → IsSound told hub → Some h ≡ taken_vote n v.vote → h.writes ≡ Some wr
-    → now.broken ≡ false → now.seats ≡ set v.seats n (ended x) → (told → ForSome v.voted (λ t. now.list ≡ v.list ++ t ∷ [])) → now.vote ≡ left_vote n v.vote → now.voted ≡ None → IsSound told now
+pub committed_sound : (told : Type 0) (v hub now : HubSeen) (n : ℕ) (h : HeldVote) (wr : Writes) (x : Seat) → v ≡ hub → IsSoundHub told hub → Some h ≡ taken_vote n v.vote → h.writes ≡ Some wr
+    → now.broken ≡ false → now.seats ≡ set v.seats n (ended x) → (told → ForSome v.voted (λ t. now.list ≡ v.list ++ t ∷ [])) → now.vote ≡ left_vote n v.vote → now.voted ≡ None → IsSoundHub told now
 committed_sound told v hub now n h wr x same sound taken full whole still list left voted =
-    let sound_v = subst (IsSound told) (sym same) sound in
+    let sound_v = subst (IsSoundHub told) (sym same) sound in
     let holds = some_taken n v.vote h taken in
     let gone = left ∙ gone_vote n v.vote holds.1 in
     let is = full_voted v.vote v.voted h wr sound_v.vote holds.0 full in record {
@@ -289,8 +289,8 @@ committed_sound told v hub now n h wr x same sound taken full whole still list l
       fronts = λ tells.
           let later = full_later (newest_tid v.list) v.vote v.voted h wr is.0 (sound_v.later tells) holds.0 full is.1 in
           let newest : newest_tid now.list ≡ is.0.tid = ap newest_tid (list tells is.0 is.1) ∙ newest-push v.list is.0 in
-          subst (λ (ss : List Seat). AllByRecursion (λ y. IsUpTo (newest_tid now.list + 1) y.work) ss) (sym still)
-          (more_fronts (newest_tid v.list + 1) (newest_tid now.list + 1) (set v.seats n (ended x)) (omega (arith, newest, later.0)) (all_set (IsUpTo (newest_tid v.list + 1)) v.seats n (ended x) (sound_v.fronts tells) tt));
+          subst (λ (ss : List Seat). AllByRecursion (λ y. HasFrontUpTo (newest_tid now.list + 1) y.work) ss) (sym still)
+          (more_fronts (newest_tid v.list + 1) (newest_tid now.list + 1) (set v.seats n (ended x)) (omega (arith, newest, later.0)) (all_set (HasFrontUpTo (newest_tid v.list + 1)) v.seats n (ended x) (sound_v.fronts tells) tt));
       later = λ tells. subst (λ (o : Option HeldVote). IsVoteLater (newest_tid now.list) o now.voted) (sym gone) tt;
     }
 
@@ -326,13 +326,13 @@ pub aborted_step : (v hub : HubSeen) (list : List Transaction) (seats : List Sea
 aborted_step v hub list seats voted' left n w h x same is e some here taken keeps leaves =
     abort_step v hub list seats voted' left n w x same is e some here keeps leaves (holder_keeps n v.vote h v.voted voted' taken)
 
-pub free_sound : (told : Type 0) (v hub now : HubSeen) (n : ℕ) (x : Seat) → v ≡ hub → IsSound told hub → None ≡ taken_vote n v.vote
-    → now.broken ≡ v.broken → now.seats ≡ set v.seats n (ended x) → now.list ≡ v.list → now.vote ≡ left_vote n v.vote → now.voted ≡ v.voted → IsSound told now
+pub free_sound : (told : Type 0) (v hub now : HubSeen) (n : ℕ) (x : Seat) → v ≡ hub → IsSoundHub told hub → None ≡ taken_vote n v.vote
+    → now.broken ≡ v.broken → now.seats ≡ set v.seats n (ended x) → now.list ≡ v.list → now.vote ≡ left_vote n v.vote → now.voted ≡ v.voted → IsSoundHub told now
 free_sound told v hub now n x same sound none whole still list left voted =
-    let sound_v = subst (IsSound told) (sym same) sound in
+    let sound_v = subst (IsSoundHub told) (sym same) sound in
     ended_sound told v now n x sound_v (whole ∙ sound_v.whole) still (λ tells. list) left (λ other. voted) (λ holds. absurd (cc (none_taken n v.vote none, holds)))
 
-pub aborted_sound : (told : Type 0) (v hub now : HubSeen) (n : ℕ) (h : HeldVote) (x : Seat) → v ≡ hub → IsSound told hub → Some h ≡ taken_vote n v.vote
-    → now.broken ≡ false → now.seats ≡ set v.seats n (ended x) → (told → now.list ≡ v.list) → now.vote ≡ left_vote n v.vote → now.voted ≡ None → IsSound told now
+pub aborted_sound : (told : Type 0) (v hub now : HubSeen) (n : ℕ) (h : HeldVote) (x : Seat) → v ≡ hub → IsSoundHub told hub → Some h ≡ taken_vote n v.vote
+    → now.broken ≡ false → now.seats ≡ set v.seats n (ended x) → (told → now.list ≡ v.list) → now.vote ≡ left_vote n v.vote → now.voted ≡ None → IsSoundHub told now
 aborted_sound told v hub now n h x same sound taken whole still list left voted =
-    ended_sound told v now n x (subst (IsSound told) (sym same) sound) whole still list left (holder_keeps n v.vote h v.voted now.voted taken) (λ holds. voted)
+    ended_sound told v now n x (subst (IsSoundHub told) (sym same) sound) whole still list left (holder_keeps n v.vote h v.voted now.voted taken) (λ holds. voted)

@@ -3,7 +3,7 @@ use Rattle.std.proofs.Common.{◌≡◌, ◌≢◌, ℕ, List, [], ◌∷◌, Op
 use Rattle.std.specs.Prelude.{IfSome}
 use Rattle.std.specs.Option.{option_map}
 use Rattle.file_store.specs.Kept.{StandsForList}
-use Rattle.file_store.specs.Opening.{GaveAtMostOne, Harm, IsMade, SomeRose}
+use Rattle.file_store.specs.Opening.{Harm, IsMade, SomeRose}
 use Rattle.fs_records.specs.File.{StandsFor, no_bytes}
 use Rattle.fs_records.specs.Lists.{not_damaged, not_no_file}
 use Rattle.fs_recovery.specs.Opens.{IsNoList}
@@ -11,15 +11,14 @@ use Rattle.fs_recovery.specs.declared.errors.OpenError.{OpenError}
 use Rattle.fs_recovery.specs.declared.errors.OpenError.TheVariants as error
 use Rattle.zb_ids.specs.declared.stamp.Stamp.{Stamp}
 use Rattle.zb_model.specs.declared.data.Transaction.{Transaction}
-use Rattle.zb_outside.specs.Rose.{Rose}
-use Rattle.zb_outside.specs.RoseLaws.{rose_after}
+use Rattle.zb_base.specs.Counts.{Rose, rose_after}
 use Rattle.zb_outside.specs.Stamps.{stamps_after}
 use Rattle.zb_script.specs.declared.line.Turn.{Turn}
 use Rattle.zodb_top.specs.declared.status.Status.{Status}
 use Rattle.zodb_top.specs.declared.status.Status.TheVariants as status
 use Rattle.zodb_top.specs.Damage.{NamesDamage, magic, rule}
 use Rattle.zodb_top.specs.Outside.{Outside, main_of}
-use Rattle.zodb_top.specs.Program.{AllAnswered, AnsweredToFault, HasRun, HasRunInPart, HasRunToFault, IsUnlessMemory, Opens, SomeAnswered, made, there}
+use Rattle.zodb_top.specs.Program.{AllAnswered, AnsweredToFault, HasRun, HasRunInPart, HasRunToFault, IsUnlessMemory, OpensAs, SomeAnswered, made, there}
 use Rattle.zodb_top.specs.Storing.{FileOutcome, StoreOutcome}
 use Rattle.zodb_top.specs.Unopened.{NamesError, SaysUnopened}
 
@@ -51,25 +50,25 @@ named told bytes error.Memory text names harm = absurd names
 -- ---- a file that isn't open
 
 pub unopened : (s : Status) (e : OpenError) (told : Type 0) (turns : List Turn) (before after : Outside) → SaysUnopened s e before.taken after.taken before.sink_faults after.sink_faults
-    → (told → Harm (main_of before) e) → GaveAtMostOne before.stamps after.stamps
+    → (told → Harm (main_of before) e)
     → (e ≡ error.StoreFault → SomeRose before.read_faults after.read_faults before.write_faults after.write_faults)
-    → (told → IsNoList (main_of before) → after.log ≡ before.log) → (told → main_of before ≢ [] → after.stamps ≡ before.stamps)
+    → (told → IsNoList (main_of before) → after.log ≡ before.log) → IsLeftUnopened told before after
     → FileOutcome s told turns before after
-unopened status.StoreFault e told turns before after said harm gave rose same kept = inl (record { rose = rose said.0; written = said.1; stamps = gave; kept = kept })
-unopened status.Damaged e told turns before after (text, names, wrote) harm gave rose same kept = record {
+unopened status.StoreFault e told turns before after said harm rose same left = inl (record { rose = rose said.0; written = said.1; left = left })
+unopened status.Damaged e told turns before after (text, names, wrote) harm rose same left = record {
   text = text;
   names = named told (main_of before) e text names harm;
   written = wrote;
-  stamps = λ here. kept here (no_list_some (main_of before) (harm_none (main_of before) e text names (harm here)));
+  stamps = λ here. left.kept here (no_list_some (main_of before) (harm_none (main_of before) e text names (harm here)));
   log = λ here. same here (harm_none (main_of before) e text names (harm here));
 }
-unopened status.NoMemory e told turns before after said harm gave rose same kept = inl (said.1, gave)
-unopened status.Done e told turns before after said harm gave rose same kept = absurd said
-unopened status.Usage e told turns before after said harm gave rose same kept = absurd said
-unopened status.ReadFault e told turns before after said harm gave rose same kept = absurd said
-unopened status.SinkFault e told turns before after said harm gave rose same kept = absurd said
-unopened status.BadLine e told turns before after said harm gave rose same kept = absurd said
-unopened status.Limit e told turns before after said harm gave rose same kept = absurd said
+unopened status.NoMemory e told turns before after said harm rose same left = inl (said.1, left)
+unopened status.Done e told turns before after said harm rose same left = absurd said
+unopened status.Usage e told turns before after said harm rose same left = absurd said
+unopened status.ReadFault e told turns before after said harm rose same left = absurd said
+unopened status.SinkFault e told turns before after said harm rose same left = absurd said
+unopened status.BadLine e told turns before after said harm rose same left = absurd said
+unopened status.Limit e told turns before after said harm rose same left = absurd said
 
 -- a file that stands for a list isn't refused
 pub unopened_done : (s : Status) (e : OpenError) (bytes : List ℕ) (list : List Transaction) (cut : Option ℕ) (reads reads' writes writes' before now : ℕ) (old new : Option (List ℕ)) → SaysUnopened s e old new before now → Harm bytes e
@@ -101,26 +100,26 @@ unopened_damaged status.Limit e reads reads' writes writes' before now old new s
 
 -- what Main stood for, whether it was empty or not
 pub opens_as : (bytes : List ℕ) (told left : Option (List Stamp)) (list : List Transaction) (cut : Option ℕ) → (bytes ≢ [] → StandsFor bytes list cut) → (bytes ≡ [] → IsMade told list cut)
-    → (bytes ≢ [] → left ≡ told) → (bytes ≡ [] → left ≡ option_map stamps_after told) → Opens bytes told left list cut
+    → (bytes ≢ [] → left ≡ told) → (bytes ≡ [] → left ≡ option_map stamps_after told) → OpensAs bytes told left list cut
 opens_as [] told left list cut opened new kept given = made refl (new refl) (given refl)
 opens_as (b ∷ bytes) told left list cut opened new kept given =
     let some : b ∷ bytes ≢ [] = λ e. absurd cc in
     there some (opened some) (kept some)
 
 -- the stamps that are left once a clock that tells was read, or not
-left_of : (bytes : List ℕ) (stamps : List Stamp) (left : Option (List Stamp)) (list : List Transaction) (cut : Option ℕ) → Opens bytes (Some stamps) left list cut → (s : List Stamp) × (left ≡ Some s)
+left_of : (bytes : List ℕ) (stamps : List Stamp) (left : Option (List Stamp)) (list : List Transaction) (cut : Option ℕ) → OpensAs bytes (Some stamps) left list cut → (s : List Stamp) × (left ≡ Some s)
 left_of bytes stamps left list cut (there some stands same) = (stamps, same)
 left_of bytes stamps left list cut (made none new given) = (stamps_after stamps, given)
 
-module _ (turns : List Turn) (before after : Outside) (left : Option (List Stamp)) (list : List Transaction) (cut : Option ℕ) (list' : List Transaction) (opens : Opens (main_of before) before.stamps left list cut) where
+module _ (turns : List Turn) (before after : Outside) (left : Option (List Stamp)) (list : List Transaction) (cut : Option ℕ) (list' : List Transaction) (opens : OpensAs (main_of before) before.stamps left list cut) where
   left_so : (stamps : List Stamp) → before.stamps ≡ Some stamps → (s : List Stamp) × (left ≡ Some s)
-  left_so stamps is = left_of (main_of before) stamps left list cut (subst (λ (o : Option (List Stamp)). Opens (main_of before) o left list cut) is opens)
+  left_so stamps is = left_of (main_of before) stamps left list cut (subst (λ (o : Option (List Stamp)). OpensAs (main_of before) o left list cut) is opens)
 
   told_left : (P : List Stamp → Type 0) (s : List Stamp) → left ≡ Some s → IfSome left P → P s
   told_left P s is holds = subst (λ (o : Option (List Stamp)). IfSome o P) is holds
 
-  opens_so : (s : List Stamp) → left ≡ Some s → Opens (main_of before) before.stamps (Some s) list cut
-  opens_so s is = subst (λ (o : Option (List Stamp)). Opens (main_of before) before.stamps o list cut) is opens
+  opens_so : (s : List Stamp) → left ≡ Some s → OpensAs (main_of before) before.stamps (Some s) list cut
+  opens_so s is = subst (λ (o : Option (List Stamp)). OpensAs (main_of before) before.stamps o list cut) is opens
 
   ran : (stamps : Option (List Stamp)) → before.stamps ≡ stamps → IfSome left (λ s. AllAnswered list cut s turns before.read_faults after.read_faults before.taken after.taken after.stamps list') → StandsForList (main_of after) list'
       → IfSome stamps (λ s. HasRun turns before after)
@@ -145,7 +144,7 @@ module _ (turns : List Turn) (before after : Outside) (left : Option (List Stamp
 
 -- the turns over a store on the file in Main
 pub over_file : (s : Status) (told : Type 0) (turns : List Turn) (before after : Outside) (left : Option (List Stamp)) (list : List Transaction) (cut : Option ℕ) (list' : List Transaction) (faults : ℕ)
-    → (told → Opens (main_of before) before.stamps left list cut)
+    → (told → OpensAs (main_of before) before.stamps left list cut)
     → StoreOutcome s told list cut turns before.read_faults after.read_faults faults after.write_faults before.sink_faults after.sink_faults before.taken after.taken left after.stamps list'
     → before.write_faults ≤ faults → (told → (s ≡ status.StoreFault → ⊥) → StandsForList (main_of after) list') → FileOutcome s told turns before after
 over_file status.Done told turns before after left list cut list' faults opens o le stands =
@@ -165,7 +164,7 @@ over_file status.Limit told turns before after left list cut list' faults opens 
 -- the same, where the store's counts are those of the volume
 pub over_volume : (s : Status) (told : Type 0) (turns : List Turn) (before after : Outside) (left : Option (List Stamp)) (list : List Transaction) (cut : Option ℕ) (list' : List Transaction) (reads reads' faults faults' : ℕ)
     → reads ≡ before.read_faults → after.read_faults ≡ reads' → after.write_faults ≡ faults'
-    → (told → Opens (main_of before) before.stamps left list cut)
+    → (told → OpensAs (main_of before) before.stamps left list cut)
     → StoreOutcome s told list cut turns reads reads' faults faults' before.sink_faults after.sink_faults before.taken after.taken left after.stamps list'
     → before.write_faults ≤ faults → (told → (s ≡ status.StoreFault → ⊥) → StandsForList (main_of after) list') → FileOutcome s told turns before after
 over_volume s told turns before after left list cut list' reads reads' faults faults' first last writes opens o le stands =

@@ -25,7 +25,7 @@ spread (Some stamps) (Some input) all turns P is within script holds = (turns, s
 pub run_of_input : (s : Status) (told unread : Type 0) (left : Option (List ℕ)) (all : List ℕ) (turns : List Turn) (before after : Outside) → IfSome left (λ input. all ≡ input) → length all ≤ most_bytes → IsScript all turns
     → FileOutcome s told turns before after → RunOutcome s told unread left before after
 run_of_input status.Done told unread left all turns before after is within script o = λ here. spread before.stamps left all turns (λ ts. HasRun ts before after) is within script (o here)
-run_of_input status.NoMemory told unread left all turns before after is within script (inl nothing) = inl nothing
+run_of_input status.NoMemory told unread left all turns before after is within script (inl (nothing, unopened)) = inl (nothing, inr unopened)
 run_of_input status.NoMemory told unread left all turns before after is within script (inr o) = inr (λ here. spread before.stamps left all turns (λ ts. HasRunInPart ts before after) is within script (o here))
 run_of_input status.SinkFault told unread left all turns before after is within script o = (o.0, λ here. spread before.stamps left all turns (λ ts. HasRunInPart ts before after) is within script (o.1 here))
 run_of_input status.StoreFault told unread left all turns before after is within script (inl failed) = inl failed

@@ -1,10 +1,10 @@
 -- Turns behind turns.
 use Rattle.std.proofs.Common.{◌≡◌, ℕ, suc, List, [], ◌∷◌, ◌++◌, Bool, true, false, length, take, append_assoc, refl, sym, ap, ◌∙◌, arith, ◌+◌, ◌≤◌}
 use Rattle.zb_ids.specs.declared.stamp.Stamp.{Stamp}
-use Rattle.zb_outside.specs.RoseLaws.{rose_after}
+use Rattle.zb_base.specs.Counts.{rose_after}
 use Rattle.zb_script.specs.declared.line.Turn.{Turn}
 use Rattle.zb_script.specs.Answers.{reply_text}
-use Rattle.zodb_top.specs.Machine.{State, taken}
+use Rattle.zodb_top.specs.Machine.{State, turn_taken}
 use Rattle.zodb_top.specs.Output.{IsCounted, Ran, behind_reply, run_from}
 
 -- ---- counts
@@ -36,7 +36,7 @@ run_join s stamps [] g [] b each = refl
 run_join s stamps [] g (t ∷ a) b each = absurd (omega (arith, each))
 run_join s stamps (x ∷ f) g [] b each = absurd (omega (arith, each))
 run_join s stamps (x ∷ f) g (t ∷ a) b each =
-    let d = taken x s stamps t in
+    let d = turn_taken x s stamps t in
     ap (behind_reply (reply_text t.client d.answer)) (run_join d.state d.stamps f g a b (omega (arith, each)))
     ∙ behind_both (reply_text t.client d.answer) (run_from d.state d.stamps f a).text (run_from (run_from d.state d.stamps f a).state (run_from d.state d.stamps f a).stamps g b)
 
@@ -46,7 +46,7 @@ run_past s stamps [] g [] each = refl
 run_past s stamps [] g (t ∷ a) each = absurd (omega (arith, each))
 run_past s stamps (x ∷ f) g [] each = absurd (omega (arith, each))
 run_past s stamps (x ∷ f) g (t ∷ a) each =
-    let d = taken x s stamps t in
+    let d = turn_taken x s stamps t in
     ap (behind_reply (reply_text t.client d.answer)) (run_past d.state d.stamps f g a (omega (arith, each)))
 
 -- the front of turns that goes so far into others behind them

@@ -20,8 +20,8 @@ use Rattle.zb_script.specs.declared.line.Line.TheVariants as lines
 use Rattle.zb_script.specs.declared.line.Turn.{Turn}
 use Rattle.zb_script.specs.Shape.{is_turn_of}
 use Rattle.zodb_top.specs.declared.pending.PendingStore.{PendingStore}
-use Rattle.zodb_top.specs.Machine.{After, Before, Decision, Done, OpenTransaction, Session, State, Vote, abort_in, answered, at_number, at_session, before_at, begin_in, change_of, conflict_of, decision_at, decision_of, decision_on, finish_in, finished, in_transaction, is_holder, is_reading, line_in, line_of, load_in, new_in, next_number, read_content, read_revision, reading_failed, refused, session_of, start, store_in, taken, transaction_of, turn_of, vote_in, voted_by, with_store}
-use Rattle.zodb_top.specs.Output.{first_of, others_of, run_from}
+use Rattle.zodb_top.specs.Machine.{After, Before, Decision, TurnDone, OpenTransaction, Session, State, Vote, abort_in, answered, at_number, at_session, before_at, begin_in, change_of, conflict_of, decision_at, decision_of, decision_on, finish_in, finished, in_transaction, is_holder, is_reading, line_in, line_of, load_in, new_in, next_number, read_content, read_revision, reading_failed, refused, session_of, start, store_in, turn_taken, transaction_of_stores, turn_of, vote_in, voted_by, with_store}
+use Rattle.zodb_top.specs.Output.{said_first, others_of, run_from}
 use Rattle.zodb_top.specs.Laws.{FrontsNeverFall, TheListStaysADatabase, front_in, fronts_of}
 
 -- ---- what is kept
@@ -130,7 +130,7 @@ decided-at : (list : List Transaction) (tid : ℕ) (stores : List PendingStore) 
 decided-at list tid stores stamps above distinct = by_test (nat_lt tid (2 ^ 64 - 1)) refl
   where
     by_test : (test : Bool) → nat_lt tid (2 ^ 64 - 1) ≡ test
-        → VerdictFits list (cond {A = Decision} test (record { verdict = Ok (Some (transaction_of tid stores)); stamps = stamps }) (record { verdict = Err refusal.TidsSpent; stamps = stamps })).verdict
+        → VerdictFits list (cond {A = Decision} test (record { verdict = Ok (Some (transaction_of_stores tid stores)); stamps = stamps }) (record { verdict = Err refusal.TidsSpent; stamps = stamps })).verdict
     by_test true e = record { above = above; bounded = ltb-true tid (2 ^ 64 - 1) e; distinct = subst (IsDistinct nat_eq) (sym (oids-changed stores)) distinct }
     by_test false e = tt
 
@@ -261,7 +261,7 @@ line_fits b lines.New fit = new_fits b fit
 -- ---- turns
 
 -- what a turn leaves
-pub record TurnFits (s : State) (d : Done) : Type 0 where
+pub record TurnFits (s : State) (d : TurnDone) : Type 0 where
   pub fit : IsFit d.state
   pub grown : newest_tid s.list ≤ newest_tid d.state.list
   pub front : FrontIs (newest_tid s.list + 1) d.answer
@@ -300,10 +300,10 @@ turn_fits s stamps client lines.Abort fit = number_fits s stamps lines.Abort (se
 turn_fits s stamps client lines.New fit = number_fits s stamps lines.New (session_of client s.sessions) fit
 
 -- one in which reading failed leaves the state as it was
-failed_fits : (s : State) (d : Done) → IsFit s → TurnFits s (reading_failed s d)
+failed_fits : (s : State) (d : TurnDone) → IsFit s → TurnFits s (reading_failed s d)
 failed_fits s d fit = record { fit = fit; grown = omega arith; front = tt }
 
-taken_fits : (failed : Bool) (s : State) (stamps : List Stamp) (t : Turn) → IsFit s → TurnFits s (taken failed s stamps t)
+taken_fits : (failed : Bool) (s : State) (stamps : List Stamp) (t : Turn) → IsFit s → TurnFits s (turn_taken failed s stamps t)
 taken_fits false s stamps t fit = turn_fits s stamps t.client t.line fit
 taken_fits true s stamps t fit = by_test (is_reading t.line)
   where
@@ -320,8 +320,8 @@ start_fits list is = record { list = is; sessions = tt; vote = tt }
 run_fits : (s : State) (stamps : List Stamp) (failed : List Bool) (turns : List Turn) → IsFit s → IsFit (run_from s stamps failed turns).state
 run_fits s stamps failed [] fit = fit
 run_fits s stamps failed (t ∷ turns) fit =
-    let d = taken (first_of failed) s stamps t in
-    run_fits d.state d.stamps (others_of failed) turns (taken_fits (first_of failed) s stamps t fit).fit
+    let d = turn_taken (said_first failed) s stamps t in
+    run_fits d.state d.stamps (others_of failed) turns (taken_fits (said_first failed) s stamps t fit).fit
 
 pub stays_database : TheListStaysADatabase
 stays_database = λ list stamps failed turns is. (run_fits (start list) stamps failed turns (start_fits list is)).list
@@ -348,8 +348,8 @@ picked_climbs false n m a xs is below climbs = climbs-lower (n + 1) (m + 1) xs (
 fronts_climb : (client : List ℕ) (s : State) (stamps : List Stamp) (failed : List Bool) (turns : List Turn) → IsFit s → Climbs (newest_tid s.list + 1) (fronts_of client s stamps failed turns)
 fronts_climb client s stamps failed [] fit = tt
 fronts_climb client s stamps failed (t ∷ turns) fit =
-    let d = taken (first_of failed) s stamps t in
-    let after = taken_fits (first_of failed) s stamps t fit in
+    let d = turn_taken (said_first failed) s stamps t in
+    let after = taken_fits (said_first failed) s stamps t fit in
     picked_climbs (is_turn_of client t) (newest_tid s.list) (newest_tid d.state.list) d.answer (fronts_of client d.state d.stamps (others_of failed) turns)
     after.front after.grown (fronts_climb client d.state d.stamps (others_of failed) turns after.fit)
 

@@ -4,8 +4,8 @@ use Rattle.std.proofs.lemmas.List.{length-append}
 use Rattle.std.specs.Io.KnownBytes.{Appends}
 use Rattle.file_store.specs.Opening.{GaveAtMostOne, Harm, IsBegun, IsMade, SomeRose, first_list, made, there}
 use Rattle.fs_reading.specs.Main.{IsIndexed}
-use Rattle.fs_records.specs.Blocks.{Begins, Reached, blocks_text, magic, start}
-use Rattle.fs_records.specs.File.{IsDamaged, IsNoFile, StandsAs, StandsFor, a_file, no_bytes}
+use Rattle.fs_records.specs.Blocks.{Begins, Reached, blocks_text, magic, file_start}
+use Rattle.fs_records.specs.File.{IsDamaged, IsNoFile, IsReadAs, StandsFor, a_file, no_bytes}
 use Rattle.fs_records.specs.Unique.{one_list}
 use Rattle.fs_records.specs.Lists as lists
 use Rattle.fs_records.specs.Lists.{not_damaged, not_no_file}
@@ -13,7 +13,7 @@ use Rattle.fs_records.specs.Places.{IsIndexOf}
 use Rattle.fs_records.specs.WriteLaws.{without_tail_stands}
 use Rattle.fs_recovery.specs.Ends.{whole_end}
 use Rattle.fs_recovery.specs.Opens.{IsBounded, IsNoList, IsOpened, Opens}
-use Rattle.fs_recovery.specs.Reading.{CountsFault, IsRefused}
+use Rattle.fs_recovery.specs.Reading.{CountsFault, RefusesMain}
 use Rattle.fs_recovery.specs.declared.errors.OpenError.{OpenError}
 use Rattle.fs_recovery.specs.declared.errors.OpenError.TheVariants.{StoreFault, BadRecord, NotFileStorage, Memory}
 use Rattle.fs_recovery.specs.declared.opening.Opened.{Opened}
@@ -22,8 +22,8 @@ use Rattle.zb_ids.specs.declared.stamp.Stamp.{Stamp}
 use Rattle.zb_volume.specs.declared.areas.Area.TheVariants.{Main}
 use Rattle.zb_volume.specs.Calls.{Event}
 use Rattle.zb_volume.specs.Disk.{seen}
-use Rattle.zb_outside.specs.Rose.{Rose}
-use Rattle.zb_outside.specs.Written.{AppendsFront}
+use Rattle.zb_base.specs.Counts.{Rose}
+use Rattle.zb_outside.specs.Written.{AppendsPrefix}
 use Rattle.zodb_top.specs.declared.command.Listing.{Listing}
 use Rattle.zodb_top.specs.declared.status.Status.{Status}
 use Rattle.zodb_top.specs.declared.status.Status.TheVariants as status
@@ -37,8 +37,8 @@ use Rattle.zodb_top.specs.Unopened.{NamesError, SaysUnopened}
 
 some_bytes : (bytes : List ℕ) (s : Reached) → Begins bytes s → bytes ≢ []
 some_bytes bytes s begins none =
-    let parts : [] ≡ magic ++ (blocks_text start begins.blocks ++ drop s.end bytes) = sym none ∙ begins.parts in
-    absurd (omega (arith, ap length parts, length-append magic (blocks_text start begins.blocks ++ drop s.end bytes)))
+    let parts : [] ≡ magic ++ (blocks_text file_start begins.blocks ++ drop s.end bytes) = sym none ∙ begins.parts in
+    absurd (omega (arith, ap length parts, length-append magic (blocks_text file_start begins.blocks ++ drop s.end bytes)))
 
 -- what is said of an opened file, once its tail is cut off
 pub said_of : (told unread : Type 0) (bytes main : List ℕ) (o : Opened) (asked : Listing) (lines : List (List ℕ))
@@ -48,8 +48,8 @@ pub said_of : (told unread : Type 0) (bytes main : List ℕ) (o : Opened) (asked
 said_of told unread bytes main o asked lines is says here =
     let both = is here in
     let s = both.0.reached in
-    let left : StandsAs main s None =
-    subst (λ (x : List ℕ). StandsAs x s None) (sym (both.1 ∙ ap (λ (n : ℕ). take n bytes) (sym both.0.end_is))) (without_tail_stands bytes s o.cut both.0.stands) in
+    let left : IsReadAs main s None =
+    subst (λ (x : List ℕ). IsReadAs x s None) (sym (both.1 ∙ ap (λ (n : ℕ). take n bytes) (sym both.0.end_is))) (without_tail_stands bytes s o.cut both.0.stands) in
     record {
       list = s.list;
       cut = o.cut;
@@ -67,7 +67,7 @@ listed asked told unread unwritten untouched bytes main o old new before now lin
 pub listed_front : (asked : Listing) (told unread unwritten untouched : Type 0) (bytes main : List ℕ) (o : Opened) (old new : Option (List ℕ)) (before now : ℕ) (lines : List (List ℕ))
     → (told → IsOpened bytes o × (main ≡ take o.end bytes))
     → (told → (s : Reached) → Begins main s → IsIndexOf s o.index → IsSaid s.list o.cut asked unread lines)
-    → Rose before now → AppendsFront old new (joined lines) → FileListOutcome status.SinkFault asked told bytes unread unwritten untouched old new before now
+    → Rose before now → AppendsPrefix old new (joined lines) → FileListOutcome status.SinkFault asked told bytes unread unwritten untouched old new before now
 listed_front asked told unread unwritten untouched bytes main o old new before now lines is says rose wrote = (rose, (lines, said_of told unread bytes main o asked lines is says, wrote))
 
 -- ---- a file that wasn't opened
@@ -120,7 +120,7 @@ more_rose asked told unread unread' unwritten' untouched' bytes old new before n
 
 -- ---- what is left of the file
 
-cut_there : (bytes : List ℕ) (s : Reached) (cut : Option ℕ) → StandsAs bytes s cut → take s.end bytes ≡ without_tail cut bytes
+cut_there : (bytes : List ℕ) (s : Reached) (cut : Option ℕ) → IsReadAs bytes s cut → take s.end bytes ≡ without_tail cut bytes
 cut_there bytes s (Some at) stands = ap (λ (n : ℕ). take n bytes) (sym stands.ends.1)
 cut_there bytes s None stands = whole_end bytes s stands
 
@@ -153,7 +153,7 @@ indexed bytes main o is left bounded = record {
 }
 
 -- where no call failed, a file that isn't opened is left as it was
-refused : (s : Status) (e : OpenError) (old new : Option (List ℕ)) (before now : ℕ) → (s ≡ status.StoreFault → ⊥) → SaysUnopened s e old new before now → IsRefused {T = Opened} (Err e)
+refused : (s : Status) (e : OpenError) (old new : Option (List ℕ)) (before now : ℕ) → (s ≡ status.StoreFault → ⊥) → SaysUnopened s e old new before now → RefusesMain {T = Opened} (Err e)
 refused status.StoreFault e old new before now other said = absurd (other refl)
 refused status.NoMemory StoreFault old new before now other said = absurd (said.0 refl)
 refused status.NoMemory (BadRecord at field) old new before now other said = tt
@@ -170,7 +170,7 @@ refused status.ReadFault e old new before now other said = absurd said
 refused status.BadLine e old new before now other said = absurd said
 refused status.Limit e old new before now other said = absurd said
 
-pub left_unopened : (log log' : List Event) (s : Status) (e : OpenError) (old new : Option (List ℕ)) (before now : ℕ) → (IsRefused {T = Opened} (Err e) → log' ≡ log) → SaysUnopened s e old new before now → (s ≡ status.StoreFault → ⊥)
+pub left_unopened : (log log' : List Event) (s : Status) (e : OpenError) (old new : Option (List ℕ)) (before now : ℕ) → (RefusesMain {T = Opened} (Err e) → log' ≡ log) → SaysUnopened s e old new before now → (s ≡ status.StoreFault → ⊥)
     → seen log' Main ≡ seen log Main
 left_unopened log log' s e old new before now untouched said other = ap (λ (l : List Event). seen l Main) (untouched (refused s e old new before now other said))
 

@@ -5,9 +5,8 @@ use Rattle.std.specs.Io.KnownBytes.{Appends}
 use Rattle.std.proofs.KnownBytes.{Appends-trans}
 use Rattle.zb_ids.specs.declared.stamp.Stamp.{Stamp}
 use Rattle.zb_model.specs.declared.data.Transaction.{Transaction}
-use Rattle.zb_outside.specs.Rose.{Rose}
-use Rattle.zb_outside.specs.RoseLaws.{rose_after, rose_before}
-use Rattle.zb_outside.specs.Written.{AppendsFront}
+use Rattle.zb_base.specs.Counts.{Rose, rose_before, rose_after}
+use Rattle.zb_outside.specs.Written.{AppendsPrefix}
 use Rattle.zb_outside.specs.WrittenLaws.{no_front}
 use Rattle.zb_script.specs.declared.line.Turn.{Turn}
 use Rattle.zodb_top.specs.declared.run.RunError.{RunError}
@@ -30,19 +29,21 @@ nothing_answered (Some stamps) list cut turns reads taken = record {
   count = 0;
   text = no_front taken _;
   read = 0;
+  near = inl refl;
   stamps_left = refl;
   list_left = refl;
 }
 
-pub cut_front : (told : Option (List Stamp)) (list : List Transaction) (cut : Option ℕ) (turns : List Turn) (reads : ℕ) (taken taken' : Option (List ℕ)) (lines : List (List ℕ)) → lines ≡ cut_lines cut → AppendsFront taken taken' (joined lines)
+pub cut_front : (told : Option (List Stamp)) (list : List Transaction) (cut : Option ℕ) (turns : List Turn) (reads : ℕ) (taken taken' : Option (List ℕ)) (lines : List (List ℕ)) → lines ≡ cut_lines cut → AppendsPrefix taken taken' (joined lines)
     → IfSome told (λ s. SomeAnswered list cut s turns reads reads taken taken' told list)
 cut_front None list cut turns reads taken taken' lines is wrote = tt
 cut_front (Some stamps) list cut turns reads taken taken' lines is wrote = record {
   failed = [];
   counted = omega arith;
   count = 0;
-  text = front_before taken taken' (joined (cut_lines cut)) _ (subst (λ (ls : List (List ℕ)). AppendsFront taken taken' (joined ls)) is wrote);
+  text = front_before taken taken' (joined (cut_lines cut)) _ (subst (λ (ls : List (List ℕ)). AppendsPrefix taken taken' (joined ls)) is wrote);
   read = 0;
+  near = inl refl;
   stamps_left = refl;
   list_left = refl;
 }
@@ -79,6 +80,7 @@ module _ (list : List Transaction) (cut : Option ℕ) (turns : List Turn) (reads
         count = r''.count;
         text = behind_front taken old.taken new.taken _ _ b.text r''.text;
         read = r''.read;
+        near = r''.near;
         stamps_left = r''.stamps_left;
         list_left = left ∙ r''.list_left;
       }

@@ -6,18 +6,18 @@ use Rattle.std.specs.Io.KnownBytes.{Appends}
 use Rattle.std.proofs.KnownBytes.{Appends-nil, Appends-trans}
 use Rattle.std.proofs.lemmas.List.{drop_more, length-append, take_all, take_more, take-append-drop}
 use Rattle.zb_ids.specs.declared.stamp.Stamp.{Stamp}
-use Rattle.zb_outside.specs.Rose.{Rose}
-use Rattle.zb_outside.specs.Written.{AppendsFront}
+use Rattle.zb_base.specs.Counts.{Rose}
+use Rattle.zb_outside.specs.Written.{AppendsPrefix}
 use Rattle.zb_outside.specs.WrittenLaws.{no_front}
 use Rattle.zb_script.specs.declared.answer.Answer.{Answer}
 use Rattle.zb_script.specs.declared.line.Turn.{Turn}
 use Rattle.zb_script.specs.Answers.{reply_text}
 use Rattle.zodb_top.specs.declared.run.RunError.{RunError}
 use Rattle.zodb_top.specs.declared.run.RunError.TheVariants as errors
-use Rattle.zodb_top.specs.Machine.{Done, State, is_reading, reading_failed, taken, turn_of}
+use Rattle.zodb_top.specs.Machine.{TurnDone, State, is_reading, reading_failed, turn_taken, turn_of}
 use Rattle.zodb_top.specs.Output.{IsCounted, Ran, behind_reply, run_from}
 use Rattle.zodb_top.specs.Runs.{IsCutShort, IsFaulted, IsRun, Moment, Runs, Stops}
-use Rattle.zodb_top.specs.Steps.{IsDone, IsDoneOr, IsTurn, Ticks}
+use Rattle.zodb_top.specs.Steps.{IsDone, IsDoneOr, IsTurnStep, Ticks}
 use Rattle.zodb_top.proofs.Fronting.{behind_front}
 use Rattle.zodb_top.proofs.Joins.{counted_join, run_join, take_over}
 
@@ -40,15 +40,15 @@ untold P o is = subst (λ (x : Option (List Stamp)). IfSome x P) (sym is) tt
 pub record IsTaken (stamps : List Stamp) (old : Moment) (t : Turn) (a : Answer) (state : State) (left : Option (List Stamp)) (reads : ℕ) : Type 0 where
   pub failed : Bool
   pub counted : IsCounted old.reads (failed ∷ []) reads
-  pub done : IsDone (taken failed old.state stamps t) a state left
+  pub done : IsDone (turn_taken failed old.state stamps t) a state left
 
 taken_so : (stamps : List Stamp) (old : Moment) (t : Turn) (a : Answer) (state : State) (left : Option (List Stamp)) (reads : ℕ) → old.reads ≤ reads
     → IsDoneOr (IsTrue (is_reading t.line) × Rose old.reads reads) old.state (turn_of old.state stamps t) a state left → IsTaken stamps old t a state left reads
 taken_so stamps old t a state left reads counted (inl done) = record { failed = false; counted = (reads, counted, omega arith); done = done }
 taken_so stamps old t a state left reads counted (inr ((reading, rose), done)) =
-    let is : taken true old.state stamps t ≡ reading_failed old.state (turn_of old.state stamps t) =
+    let is : turn_taken true old.state stamps t ≡ reading_failed old.state (turn_of old.state stamps t) =
     ap (λ (test : Bool). cond test (reading_failed old.state (turn_of old.state stamps t)) (turn_of old.state stamps t)) reading in
-    record { failed = true; counted = (reads, rose, omega arith); done = subst (λ (d : Done). IsDone d a state left) (sym is) done }
+    record { failed = true; counted = (reads, rose, omega arith); done = subst (λ (d : TurnDone). IsDone d a state left) (sym is) done }
 
 replied_so : (stamps : List Stamp) (old new : Moment) (t : Turn) (a : Answer) → old.reads ≤ new.reads
     → IsDoneOr (IsTrue (is_reading t.line) × Rose old.reads new.reads) old.state (turn_of old.state stamps t) a new.state new.stamps → Appends old.taken new.taken (reply_text t.client a)
@@ -58,44 +58,45 @@ replied_so stamps old new t a counted turn wrote =
       failed = k.failed ∷ [];
       each = refl;
       counted = k.counted;
-      text = subst (Appends old.taken new.taken) (ap (reply_text t.client) (sym k.done.answer) ∙ sym (append-nil (reply_text t.client (taken k.failed old.state stamps t).answer))) wrote;
+      text = subst (Appends old.taken new.taken) (ap (reply_text t.client) (sym k.done.answer) ∙ sym (append-nil (reply_text t.client (turn_taken k.failed old.state stamps t).answer))) wrote;
       state_left = k.done.state;
       stamps_left = k.done.stamps;
     }
 
 -- a turn was answered, and its reply was written
 pub replied : (told : Option (List Stamp)) (old new : Moment) (t : Turn) (a : Answer) (text : List ℕ) → old.stamps ≡ told → old.reads ≤ new.reads
-    → IsTurn (Rose old.reads new.reads) told new.stamps old.state t a new.state → text ≡ reply_text t.client a → Appends old.taken new.taken text
+    → IsTurnStep (Rose old.reads new.reads) told new.stamps old.state t a new.state → text ≡ reply_text t.client a → Appends old.taken new.taken text
     → Runs old (t ∷ []) new
 replied None old new t a text is counted turn says wrote = untold (λ stamps. IsRun stamps old (t ∷ []) new) old.stamps is
 replied (Some stamps) old new t a text is counted turn says wrote = told_so (λ s. IsRun s old (t ∷ []) new) old.stamps stamps is (replied_so stamps old new t a counted turn (subst (Appends old.taken new.taken) says wrote))
 
 cut_so : (stamps : List Stamp) (old new : Moment) (t : Turn) (a : Answer) → old.reads ≤ new.reads
-    → IsDoneOr (IsTrue (is_reading t.line) × Rose old.reads new.reads) old.state (turn_of old.state stamps t) a new.state new.stamps → AppendsFront old.taken new.taken (reply_text t.client a)
+    → IsDoneOr (IsTrue (is_reading t.line) × Rose old.reads new.reads) old.state (turn_of old.state stamps t) a new.state new.stamps → AppendsPrefix old.taken new.taken (reply_text t.client a)
     → IsCutShort stamps old (t ∷ []) new
 cut_so stamps old new t a counted turn wrote =
     let k = taken_so stamps old t a new.state new.stamps new.reads counted turn in record {
       failed = k.failed ∷ [];
       counted = k.counted;
       count = 1;
-      text = subst (AppendsFront old.taken new.taken) (ap (reply_text t.client) (sym k.done.answer) ∙ sym (append-nil (reply_text t.client (taken k.failed old.state stamps t).answer))) wrote;
+      text = subst (AppendsPrefix old.taken new.taken) (ap (reply_text t.client) (sym k.done.answer) ∙ sym (append-nil (reply_text t.client (turn_taken k.failed old.state stamps t).answer))) wrote;
       read = 1;
+      near = inl refl;
       stamps_left = k.done.stamps;
       list_left = ap (λ (s : State). s.list) (sym k.done.state);
     }
 
 -- a turn was answered, and a front of its reply was written, or nothing of it
 pub cut_reply : (told : Option (List Stamp)) (old new : Moment) (t : Turn) (a : Answer) (text : List ℕ) → old.stamps ≡ told → old.reads ≤ new.reads
-    → IsTurn (Rose old.reads new.reads) told new.stamps old.state t a new.state → text ≡ reply_text t.client a → AppendsFront old.taken new.taken text
+    → IsTurnStep (Rose old.reads new.reads) told new.stamps old.state t a new.state → text ≡ reply_text t.client a → AppendsPrefix old.taken new.taken text
     → IfSome old.stamps (λ stamps. IsCutShort stamps old (t ∷ []) new)
 cut_reply None old new t a text is counted turn says wrote = untold (λ stamps. IsCutShort stamps old (t ∷ []) new) old.stamps is
-cut_reply (Some stamps) old new t a text is counted turn says wrote = told_so (λ s. IsCutShort s old (t ∷ []) new) old.stamps stamps is (cut_so stamps old new t a counted turn (subst (AppendsFront old.taken new.taken) says wrote))
+cut_reply (Some stamps) old new t a text is counted turn says wrote = told_so (λ s. IsCutShort s old (t ∷ []) new) old.stamps stamps is (cut_so stamps old new t a counted turn (subst (AppendsPrefix old.taken new.taken) says wrote))
 
 pub no_reply : (told : Option (List Stamp)) (old new : Moment) (t : Turn) (a : Answer) → old.stamps ≡ told → old.reads ≤ new.reads
-    → IsTurn (Rose old.reads new.reads) told new.stamps old.state t a new.state → new.taken ≡ old.taken
+    → IsTurnStep (Rose old.reads new.reads) told new.stamps old.state t a new.state → new.taken ≡ old.taken
     → IfSome old.stamps (λ stamps. IsCutShort stamps old (t ∷ []) new)
 no_reply told old new t a is counted turn same =
-    cut_reply told old new t a (reply_text t.client a) is counted turn refl (subst (λ (taken : Option (List ℕ)). AppendsFront old.taken taken (reply_text t.client a)) (sym same) (no_front old.taken (reply_text t.client a)))
+    cut_reply told old new t a (reply_text t.client a) is counted turn refl (subst (λ (taken : Option (List ℕ)). AppendsPrefix old.taken turn_taken (reply_text t.client a)) (sym same) (no_front old.taken (reply_text t.client a)))
 
 -- for how many turns the clock was read
 read_for : (stamps : List Stamp) (old : Moment) (t : Turn) (after : Option (List Stamp)) → (after ≡ Some stamps) ⊎ (after ≡ Some (turn_of old.state stamps t).stamps)
@@ -110,8 +111,9 @@ unanswered_so stamps old new t counted ticks same nothing =
       failed = [];
       counted = counted;
       count = 0;
-      text = subst (λ (taken : Option (List ℕ)). AppendsFront old.taken taken []) (sym nothing) (no_front old.taken []);
+      text = subst (λ (taken : Option (List ℕ)). AppendsPrefix old.taken turn_taken []) (sym nothing) (no_front old.taken []);
       read = n.0;
+      near = n.1;
       stamps_left = n.2;
       list_left = same;
     }
@@ -129,7 +131,7 @@ faulted_so stamps old new t counted ticks nothing =
       failed = [];
       counted = counted;
       count = 0;
-      text = subst (λ (taken : Option (List ℕ)). Appends old.taken taken []) (sym nothing) (Appends-nil old.taken);
+      text = subst (λ (taken : Option (List ℕ)). Appends old.taken turn_taken []) (sym nothing) (Appends-nil old.taken);
       read = n.0;
       near = n.1;
       stamps_left = n.2;
@@ -187,6 +189,12 @@ module _ (stamps : List Stamp) (old mid new : Moment) (front : List Turn) (t : T
       one zero = refl
       one (suc n) = refl
 
+  next_to : (read count k l : ℕ) → (read ≡ count) ⊎ (read ≡ count + 1) → k ≡ length front + min count 1 → l ≡ length front + min read 1 → (l ≡ k) ⊎ (l ≡ k + 1)
+  next_to read zero k l (inl same) k_is l_is = inl (l_is ∙ ap (λ (n : ℕ). length front + min n 1) same ∙ sym k_is)
+  next_to read (suc count) k l (inl same) k_is l_is = inl (l_is ∙ ap (λ (n : ℕ). length front + min n 1) same ∙ sym k_is)
+  next_to read zero k l (inr next) k_is l_is = inr (omega (arith, next, k_is, l_is))
+  next_to read (suc count) k l (inr next) k_is l_is = inl (omega (arith, next, k_is, l_is))
+
   cut_short_so : IsCutShort mid_stamps mid (t ∷ []) new → IsCutShort stamps old (front ++ t ∷ rest) new
   cut_short_so x =
       let clock = upto x.failed x.read in
@@ -194,17 +202,12 @@ module _ (stamps : List Stamp) (old mid new : Moment) (front : List Turn) (t : T
         failed = r.failed ++ x.failed;
         counted = counted_join old.reads mid.reads new.reads r.failed x.failed r.counted x.counted;
         count = so_far.0;
-        text = subst (AppendsFront old.taken new.taken) (ap (λ (y : Ran). y.text) (sym so_far.2)) (behind_front old.taken mid.taken new.taken (run_from old.state stamps r.failed front).text (run_from mid.state mid_stamps x.failed (take x.count (t ∷ []))).text r.text x.text);
+        text = subst (AppendsPrefix old.taken new.taken) (ap (λ (y : Ran). y.text) (sym so_far.2)) (behind_front old.taken mid.taken new.taken (run_from old.state stamps r.failed front).text (run_from mid.state mid_stamps x.failed (take x.count (t ∷ []))).text r.text x.text);
         read = clock.0;
+        near = next_to x.read x.count so_far.0 clock.0 x.near so_far.1 clock.1;
         stamps_left = x.stamps_left ∙ ap (λ (y : Ran). Some y.stamps) (sym clock.2);
         list_left = x.list_left ∙ ap (λ (y : Ran). y.state.list) (sym so_far.2);
       }
-
-  next_to : (read count k l : ℕ) → (read ≡ count) ⊎ (read ≡ count + 1) → k ≡ length front + min count 1 → l ≡ length front + min read 1 → (l ≡ k) ⊎ (l ≡ k + 1)
-  next_to read zero k l (inl same) k_is l_is = inl (l_is ∙ ap (λ (n : ℕ). length front + min n 1) same ∙ sym k_is)
-  next_to read (suc count) k l (inl same) k_is l_is = inl (l_is ∙ ap (λ (n : ℕ). length front + min n 1) same ∙ sym k_is)
-  next_to read zero k l (inr next) k_is l_is = inr (omega (arith, next, k_is, l_is))
-  next_to read (suc count) k l (inr next) k_is l_is = inl (omega (arith, next, k_is, l_is))
 
   faulted_on_so : IsFaulted mid_stamps mid (t ∷ []) new → IsFaulted stamps old (front ++ t ∷ rest) new
   faulted_on_so x =

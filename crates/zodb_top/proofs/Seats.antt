@@ -13,8 +13,8 @@ use Rattle.zb_script.specs.declared.line.Line.{Line}
 use Rattle.zodb_top.specs.declared.seat.Seat.{Seat}
 use Rattle.zodb_top.specs.declared.seat.Work.{Work}
 use Rattle.zodb_top.specs.declared.vote.HeldVote.{HeldVote}
-use Rattle.zodb_top.specs.Machine.{Vote, Done, answered, Session, at_session, before_at, after_at, line_in}
-use Rattle.zodb_top.specs.Seen.{AreDistinct, HubSeen, IsSound, IsUpTo, seen_seat, seen_vote, state_with}
+use Rattle.zodb_top.specs.Machine.{Vote, TurnDone, answered, Session, at_session, before_at, after_at, line_in}
+use Rattle.zodb_top.specs.Seen.{AreDistinct, HubSeen, IsSoundHub, HasFrontUpTo, seen_seat, seen_vote, state_with}
 use Rattle.zodb_top.specs.Steps.{IsStep}
 
 -- ---- sessions of seats
@@ -34,7 +34,7 @@ pub put_back : (list list' : List Transaction) (greatest greatest' : ℕ) (seats
     → after_at (state_with list greatest seats voted vote) n (record { answer = a; list = list'; greatest = greatest'; session = seen_seat list y; vote = left; stamps = stamps })
     ≡ record { answer = a; state = record { list = list'; greatest = greatest'; sessions = map (seen_seat list) (set seats n y); vote = left }; stamps = stamps }
 put_back list list' greatest greatest' seats voted vote left n y a stamps =
-    ap (λ (sessions : List Session). let d : Done = record { answer = a; state = record { list = list'; greatest = greatest'; sessions = sessions; vote = left }; stamps = stamps } in d) (sym (map-set (seen_seat list) seats n y))
+    ap (λ (sessions : List Session). let d : TurnDone = record { answer = a; state = record { list = list'; greatest = greatest'; sessions = sessions; vote = left }; stamps = stamps } in d) (sym (map-set (seen_seat list) seats n y))
 
 -- ---- lines that leave the hub as it was
 
@@ -52,7 +52,7 @@ stays list greatest seats voted vote line n x a within is answers = λ stamps.
     at_seat list greatest seats voted vote stamps line n x within is
     ∙ ap (after_at s n) (answers stamps)
     ∙ put_back list list greatest greatest seats voted vote (option_map (seen_vote voted) vote) n x a stamps
-    ∙ ap (λ (ss : List Seat). let d : Done = record { answer = a; state = state_with list greatest ss voted vote; stamps = stamps } in d) (set_same seats n x within is)
+    ∙ ap (λ (ss : List Seat). let d : TurnDone = record { answer = a; state = state_with list greatest ss voted vote; stamps = stamps } in d) (set_same seats n x within is)
 
 -- ---- seats at their places
 
@@ -90,11 +90,11 @@ all_push P [] x all one = (one, tt)
 all_push P (y ∷ seats) x all one = (all.0, all_push P seats x all.1 one)
 
 -- with other seats a hub is sound where each of them is
-pub sound_seats : (told : Type 0) (old now : HubSeen) → IsSound told old
+pub sound_seats : (told : Type 0) (old now : HubSeen) → IsSoundHub told old
     → (told → now.list ≡ old.list) → now.vote ≡ old.vote → now.voted ≡ old.voted → now.broken ≡ false
     → AllByRecursion (λ x. AreDistinct x.work) now.seats
-    → (told → AllByRecursion (λ x. IsUpTo (newest_tid now.list + 1) x.work) now.seats)
-    → IsSound told now
+    → (told → AllByRecursion (λ x. HasFrontUpTo (newest_tid now.list + 1) x.work) now.seats)
+    → IsSoundHub told now
 sound_seats told old now sound list vote voted whole distinct fronts = record {
   whole = whole;
   vote = rw (vote, voted) sound.vote;
@@ -104,8 +104,8 @@ sound_seats told old now sound list vote voted whole distinct fronts = record {
 }
 
 -- and with the seats that it had
-pub sound_same : (told : Type 0) (old now : HubSeen) → IsSound told old
+pub sound_same : (told : Type 0) (old now : HubSeen) → IsSoundHub told old
     → (told → now.list ≡ old.list) → now.vote ≡ old.vote → now.voted ≡ old.voted → now.broken ≡ false → now.seats ≡ old.seats
-    → IsSound told now
+    → IsSoundHub told now
 sound_same told old now sound list vote voted whole seats = sound_seats told old now sound list vote voted whole
     (rw seats sound.distinct) (λ tells. rw (list tells, seats) (sound.fronts tells))

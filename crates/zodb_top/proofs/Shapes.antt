@@ -19,8 +19,8 @@ use Rattle.zb_script.specs.declared.line.Line.{Line}
 use Rattle.zb_script.specs.declared.line.Line.TheVariants as lines
 use Rattle.zb_script.specs.Shape.{is_ending, is_inside, is_new, is_outside, is_vote, may_follow}
 use Rattle.zodb_top.specs.declared.pending.PendingStore.{PendingStore}
-use Rattle.zodb_top.specs.Laws.{is_known, is_known_refusal}
-use Rattle.zodb_top.specs.Machine.{After, Before, Decision, OpenTransaction, Vote, abort_in, answered, begin_in, conflict_of, decision_at, decision_of, decision_on, finish_in, finished, in_transaction, is_holder, line_in, load_in, next_number, read_content, read_revision, new_in, refused, store_in, transaction_of, vote_in, voted_by, with_store}
+use Rattle.zodb_top.specs.Laws.{is_allowed, is_known_refusal}
+use Rattle.zodb_top.specs.Machine.{After, Before, Decision, OpenTransaction, Vote, abort_in, answered, begin_in, conflict_of, decision_at, decision_of, decision_on, finish_in, finished, in_transaction, is_holder, line_in, load_in, next_number, read_content, read_revision, new_in, refused, store_in, transaction_of_stores, vote_in, voted_by, with_store}
 
 -- ---- what a last line says
 
@@ -42,7 +42,7 @@ VoteIs line n (Some h) = (is_vote line ≡ true) × (h.session ≡ n)
 
 -- what a line of a session that is no `new` leaves where its turn is in shape
 pub record LineGoes (b : Before) (line : Line) (a : After) : Type 0 where
-  pub known : is_known a.answer ≡ true
+  pub known : is_allowed a.answer ≡ true
   pub client : a.session.client ≡ b.session.client
   pub place : PlaceIs line (is_some a.session.open_transaction)
   pub vote : VoteIs line b.number a.vote
@@ -53,7 +53,7 @@ pub no_vote : (m : Line) (n : ℕ) (v : Option Vote) → is_vote m ≡ false →
 no_vote m n None other is = refl
 no_vote m n (Some h) other is = let yes : is_vote m ≡ true = is.0 in absurd cc
 
-stays_goes : (b : Before) (line : Line) (a : Answer) → is_known a ≡ true → PlaceIs line (is_some b.session.open_transaction) → VoteIs line b.number b.vote → LineGoes b line (answered b a)
+stays_goes : (b : Before) (line : Line) (a : Answer) → is_allowed a ≡ true → PlaceIs line (is_some b.session.open_transaction) → VoteIs line b.number b.vote → LineGoes b line (answered b a)
 stays_goes b line a known place vote = record { known = known; client = refl; place = place; vote = vote }
 
 free_goes : (line : Line) (n : ℕ) (v : Option Vote) → v ≡ None → VoteIs line n v
@@ -64,11 +64,11 @@ begin_goes : (b : Before) (o : Option OpenTransaction) → is_some o ≡ false �
 begin_goes b None idle free = record { known = refl; client = refl; place = refl; vote = free_goes lines.Begin b.number b.vote free }
 begin_goes b (Some t) idle free = absurd cc
 
-content_known : (oid serial : ℕ) (content : Content) → is_known (read_content oid serial content) ≡ true
+content_known : (oid serial : ℕ) (content : Content) → is_allowed (read_content oid serial content) ≡ true
 content_known oid serial (Held bytes) = refl
 content_known oid serial Absent = refl
 
-read_known : (oid : ℕ) (o : Option ObjectRevision) → is_known (read_revision oid o) ≡ true
+read_known : (oid : ℕ) (o : Option ObjectRevision) → is_allowed (read_revision oid o) ≡ true
 read_known oid None = refl
 read_known oid (Some r) = content_known oid r.serial r.content
 
@@ -113,7 +113,7 @@ KnownVerdict (Err why) = is_known_refusal why ≡ true
 at_known : (tid : ℕ) (stores : List PendingStore) (stamps : List Stamp) → KnownVerdict (decision_at tid stores stamps).verdict
 at_known tid stores stamps = by_test (nat_lt tid (2 ^ 64 - 1))
   where
-    by_test : (test : Bool) → KnownVerdict (cond {A = Decision} test (record { verdict = Ok (Some (transaction_of tid stores)); stamps = stamps }) (record { verdict = Err refusal.TidsSpent; stamps = stamps })).verdict
+    by_test : (test : Bool) → KnownVerdict (cond {A = Decision} test (record { verdict = Ok (Some (transaction_of_stores tid stores)); stamps = stamps }) (record { verdict = Err refusal.TidsSpent; stamps = stamps })).verdict
     by_test true = tt
     by_test false = refl
 
@@ -203,7 +203,7 @@ line_goes b lines.Abort line follows other place vote = idle_goes b line follows
 -- ---- new
 
 -- a `new` is answered a number, or that none is left
-pub new_known : (b : Before) → (is_known (new_in b).answer ≡ true) ⊎ ((2 ^ 64 - 1 ≤ b.greatest) × ((new_in b).answer ≡ answer.Refused refusal.OidsSpent))
+pub new_known : (b : Before) → (is_allowed (new_in b).answer ≡ true) ⊎ ((2 ^ 64 - 1 ≤ b.greatest) × ((new_in b).answer ≡ answer.Refused refusal.OidsSpent))
 new_known b = by_test (nat_lt b.greatest (2 ^ 64 - 1)) refl
   where
     given : After
@@ -217,7 +217,7 @@ new_known b = by_test (nat_lt b.greatest (2 ^ 64 - 1)) refl
     }
 
     by_test : (test : Bool) → nat_lt b.greatest (2 ^ 64 - 1) ≡ test
-        → (is_known (cond test given (refused b refusal.OidsSpent)).answer ≡ true) ⊎ ((2 ^ 64 - 1 ≤ b.greatest) × ((cond test given (refused b refusal.OidsSpent)).answer ≡ answer.Refused refusal.OidsSpent))
+        → (is_allowed (cond test given (refused b refusal.OidsSpent)).answer ≡ true) ⊎ ((2 ^ 64 - 1 ≤ b.greatest) × ((cond test given (refused b refusal.OidsSpent)).answer ≡ answer.Refused refusal.OidsSpent))
     by_test true e = inl refl
     by_test false e = inr (ltb-false _ _ e, refl)
 

@@ -16,9 +16,9 @@ use Rattle.zb_script.specs.declared.line.Line.{Line}
 use Rattle.zb_script.specs.declared.line.Line.TheVariants as lines
 use Rattle.zb_script.specs.declared.line.Turn.{Turn}
 use Rattle.zb_script.specs.Shape.{all_stand, can_stand, has_turn, is_empty, is_ending, is_new, is_open, is_outside, is_step_of, is_turn_of, is_vote, last_line, may_follow}
-use Rattle.zodb_top.specs.Laws.{IsExpected, OnlySixRefusals, Taken, taken_of}
-use Rattle.zodb_top.specs.Machine.{Done, Session, State, Vote, after_at, at_number, at_session, before_at, is_reading, line_in, line_of, new_in, opened, reading_failed, session_of, start, taken, turn_of}
-use Rattle.zodb_top.specs.Output.{first_of, others_of}
+use Rattle.zodb_top.specs.Laws.{IsExpected, OnlySixRefusals, TakenTurn, taken_of}
+use Rattle.zodb_top.specs.Machine.{TurnDone, Session, State, Vote, after_at, at_number, at_session, before_at, is_reading, line_in, line_of, new_in, opened, reading_failed, session_of, start, turn_taken, turn_of}
+use Rattle.zodb_top.specs.Output.{said_first, others_of}
 use Rattle.zodb_top.proofs.Sessions.{Sits, found_name, missing_still, same_name, session_of-set, sits_again, sits_first, sits_on, sits_still}
 use Rattle.zodb_top.proofs.Shapes.{PlaceIs, VoteIs, line_goes, new_known, new_leaves, no_vote}
 
@@ -78,11 +78,11 @@ record Stands (before : List Turn) (s : State) : Type 0 where
   pub vote : VoteAt (last_or None before) s.sessions s.vote
 
 -- a turn that was answered so in this state; `failed` says whether reading failed in it
-abbrev as_taken : State → Turn → Bool → Answer → Taken
+abbrev as_taken : State → Turn → Bool → Answer → TakenTurn
 as_taken s t failed a = record { state = s; turn = t; failed = failed; answer = a }
 
 -- what a turn behind them leaves
-record TurnStands (before : List Turn) (s : State) (t : Turn) (failed : Bool) (d : Done) : Type 0 where
+record TurnStands (before : List Turn) (s : State) (t : Turn) (failed : Bool) (d : TurnDone) : Type 0 where
   pub known : IsExpected (as_taken s t failed d.answer)
   pub stands : Stands (before ++ t ∷ []) d.state
 
@@ -372,7 +372,7 @@ reading_at o lines.Abort client sessions reading follows place = absurd cc
 reading_at o lines.New client sessions reading follows place = absurd cc
 
 -- a turn in which reading failed leaves each client where it was
-failed_stands : (before : List Turn) (s : State) (t : Turn) (d : Done) → Stands before s → is_reading t.line ≡ true → may_follow (last_line t.client before) t.line ≡ true
+failed_stands : (before : List Turn) (s : State) (t : Turn) (d : TurnDone) → Stands before s → is_reading t.line ≡ true → may_follow (last_line t.client before) t.line ≡ true
     → has_turn (last_or None before) t.client ≡ true → TurnStands before s t true (reading_failed s d)
 failed_stands before s t d stands reading follows turn =
     let at = reading_at (last_line t.client before) t.line t.client s.sessions reading follows (stands.places t.client) in
@@ -391,7 +391,7 @@ expected_again s t a expected = elim expected [
 ]
 
 taken_stands : (failed : Bool) (before : List Turn) (s : State) (stamps : List Stamp) (t : Turn) → Stands before s → may_follow (last_line t.client before) t.line ≡ true
-    → has_turn (last_or None before) t.client ≡ true → TurnStands before s t failed (taken failed s stamps t)
+    → has_turn (last_or None before) t.client ≡ true → TurnStands before s t failed (turn_taken failed s stamps t)
 taken_stands false before s stamps t stands follows turn = turn_stands before s stamps t.client t.line (last_line t.client before) stands refl follows turn
 taken_stands true before s stamps t stands follows turn = by_test (is_reading t.line) refl
   where
@@ -410,8 +410,8 @@ run_known before s stamps failed (t ∷ turns) ends stands shape =
     let here = and_parts (can_stand before t (ends && is_empty turns)) (all_stand (before ++ t ∷ []) turns ends) shape in
     let both = and_parts (may_follow (last_line t.client before) t.line && has_turn (last_or None before) t.client) (not (is_vote t.line && (ends && is_empty turns))) here.0 in
     let each = and_parts (may_follow (last_line t.client before) t.line) (has_turn (last_or None before) t.client) both.0 in
-    let d = taken (first_of failed) s stamps t in
-    let behind = taken_stands (first_of failed) before s stamps t stands each.0 each.1 in
+    let d = turn_taken (said_first failed) s stamps t in
+    let behind = taken_stands (said_first failed) before s stamps t stands each.0 each.1 in
     (behind.known, run_known (before ++ t ∷ []) d.state d.stamps (others_of failed) turns ends behind.stands here.1)
 
 -- before the first turn

@@ -19,8 +19,8 @@ use Rattle.zodb_top.specs.declared.seat.Work.{Work}
 use Rattle.zodb_top.specs.declared.vote.HeldVote.{HeldVote}
 use Rattle.std.specs.Global.{Vec}
 use Rattle.zodb_top.specs.declared.pending.PendingStore.{PendingStore}
-use Rattle.zodb_top.specs.Machine.{Vote, Done, Before, answered, load_in, read_content, read_revision, is_holder, store_in, with_store, with_transaction, in_transaction, refused, Session, OpenTransaction, begin_in, before_at, after_at, line_in}
-use Rattle.zodb_top.specs.Seen.{AreDistinct, HubSeen, IsSound, IsStored, IsUpTo, IsWorkOf, is_holder_of, seen_seat, seen_vote, seen_work, state_with, view_at}
+use Rattle.zodb_top.specs.Machine.{Vote, TurnDone, Before, answered, load_in, read_content, read_revision, is_holder, store_in, with_store, with_transaction, in_transaction, refused, Session, OpenTransaction, begin_in, before_at, after_at, line_in}
+use Rattle.zodb_top.specs.Seen.{AreDistinct, HubSeen, IsSoundHub, IsStored, HasFrontUpTo, IsWorkOf, is_holder_of, seen_seat, seen_vote, seen_work, state_with, view_at}
 use Rattle.zodb_top.specs.Found.{answer_of}
 use Rattle.zodb_top.specs.Steps.{IsStep}
 use Rattle.zodb_top.proofs.Adding.{with_store-distinct}
@@ -48,7 +48,7 @@ new_given list greatest seats voted vote n within left = λ stamps.
     at_seat list greatest seats voted vote stamps lines.New n x.0 within x.1
     ∙ ap (after_at s n) leaves
     ∙ put_back list list greatest (greatest + 1) seats voted vote held n x.0 (answer.Oid (greatest + 1)) stamps
-    ∙ ap (λ (ss : List Seat). let d : Done = record { answer = answer.Oid (greatest + 1); state = state_with list (greatest + 1) ss voted vote; stamps = stamps } in d) (set_same seats n x.0 within x.1)
+    ∙ ap (λ (ss : List Seat). let d : TurnDone = record { answer = answer.Oid (greatest + 1); state = state_with list (greatest + 1) ss voted vote; stamps = stamps } in d) (set_same seats n x.0 within x.1)
 
 -- ---- begin
 
@@ -93,12 +93,12 @@ begun_distinct : (stores : Vec PendingStore) → stores.items ≡ [] → IsDisti
 unfolding IsDistinct
 begun_distinct stores empty = rw empty tt
 
-pub begin_sound : (told : Type 0) (old now : HubSeen) (n newest : ℕ) (x : Seat) (stores : Vec PendingStore) → IsSound told old
+pub begin_sound : (told : Type 0) (old now : HubSeen) (n newest : ℕ) (x : Seat) (stores : Vec PendingStore) → IsSoundHub told old
     → now.list ≡ old.list → now.vote ≡ old.vote → now.voted ≡ old.voted → now.broken ≡ false → now.seats ≡ set old.seats n (begun x (newest + 1) stores)
-    → (told → newest ≡ newest_tid old.list) → stores.items ≡ [] → IsSound told now
+    → (told → newest ≡ newest_tid old.list) → stores.items ≡ [] → IsSoundHub told now
 begin_sound told old now n newest x stores sound list vote voted whole seats newest_is empty = sound_seats told old now sound (λ _. list) vote voted whole
     (rw seats (all_set AreDistinct old.seats n (begun x (newest + 1) stores) sound.distinct (begun_distinct stores empty)))
-    (λ tells. rw (list, seats) (all_set (IsUpTo (newest_tid old.list + 1)) old.seats n (begun x (newest + 1) stores) (sound.fronts tells) (omega (arith, newest_is tells))))
+    (λ tells. rw (list, seats) (all_set (HasFrontUpTo (newest_tid old.list + 1)) old.seats n (begun x (newest + 1) stores) (sound.fronts tells) (omega (arith, newest_is tells))))
 
 -- ---- load
 
@@ -193,16 +193,16 @@ stored_distinct None (Some w) p distinct stored = absurd stored
 stored_distinct (Some v) None p distinct stored = absurd stored
 stored_distinct (Some v) (Some w) p distinct stored = rw stored.1 (with_store-distinct v.stores.items p distinct)
 
-stored_up_to : (bound : ℕ) (old new : Option Work) (p : PendingStore) → IsUpTo bound old → IsStored old p new → IsUpTo bound new
+stored_up_to : (bound : ℕ) (old new : Option Work) (p : PendingStore) → HasFrontUpTo bound old → IsStored old p new → HasFrontUpTo bound new
 stored_up_to bound None None p up_to stored = tt
 stored_up_to bound None (Some w) p up_to stored = absurd stored
 stored_up_to bound (Some v) None p up_to stored = absurd stored
 stored_up_to bound (Some v) (Some w) p up_to stored = omega (arith, stored.0)
 
-pub store_sound : (told : Type 0) (old now : HubSeen) (n : ℕ) (x y : Seat) (p : PendingStore) → IsSound told old
+pub store_sound : (told : Type 0) (old now : HubSeen) (n : ℕ) (x y : Seat) (p : PendingStore) → IsSoundHub told old
     → now.list ≡ old.list → now.vote ≡ old.vote → now.voted ≡ old.voted → now.broken ≡ false → now.seats ≡ set old.seats n y
-    → n < length old.seats → x ≡ get_or old.seats n x → IsStored x.work p y.work → IsSound told now
+    → n < length old.seats → x ≡ get_or old.seats n x → IsStored x.work p y.work → IsSoundHub told now
 store_sound told old now n x y p sound list vote voted whole seats within is stored = sound_seats told old now sound (λ _. list) vote voted whole
     (rw seats (all_set AreDistinct old.seats n y sound.distinct (stored_distinct x.work y.work p (all_at AreDistinct old.seats n x sound.distinct within is) stored)))
-    (λ tells. rw (list, seats) (all_set (IsUpTo (newest_tid old.list + 1)) old.seats n y (sound.fronts tells)
-    (stored_up_to (newest_tid old.list + 1) x.work y.work p (all_at (IsUpTo (newest_tid old.list + 1)) old.seats n x (sound.fronts tells) within is) stored)))
+    (λ tells. rw (list, seats) (all_set (HasFrontUpTo (newest_tid old.list + 1)) old.seats n y (sound.fronts tells)
+    (stored_up_to (newest_tid old.list + 1) x.work y.work p (all_at (HasFrontUpTo (newest_tid old.list + 1)) old.seats n x (sound.fronts tells) within is) stored)))

@@ -16,9 +16,9 @@ use Rattle.zb_script.specs.declared.line.Turn.{Turn}
 use Rattle.zb_script.specs.Shape.{is_open}
 use Rattle.zodb_top.specs.declared.seat.Seat.{Seat}
 use Rattle.zodb_top.specs.declared.vote.HeldVote.{HeldVote}
-use Rattle.zodb_top.specs.Machine.{Done, OpenTransaction, Session, State, at_number, at_session, before_at, in_transaction, is_reading, is_session_of, line_of, load_in, session_of, turn_of}
-use Rattle.zodb_top.specs.Seen.{AreDistinct, HubSeen, IsSound, IsUpTo, seen_seat, state_with}
-use Rattle.zodb_top.specs.Steps.{Gave, IsClockStep, IsDone, IsDoneOr, IsOpening, IsReadStep, IsStep, IsTurn, LineTicks, Ticks}
+use Rattle.zodb_top.specs.Machine.{TurnDone, OpenTransaction, Session, State, at_number, at_session, before_at, in_transaction, is_reading, is_session_of, line_of, load_in, session_of, turn_of}
+use Rattle.zodb_top.specs.Seen.{AreDistinct, HubSeen, IsSoundHub, HasFrontUpTo, seen_seat, state_with}
+use Rattle.zodb_top.specs.Steps.{Gave, IsClockStep, IsDone, IsDoneOr, IsOpening, IsReadStep, IsStep, IsTurnStep, LineTicks, Ticks}
 use Rattle.zodb_top.proofs.Seats.{all_push, seat_of, sound_seats, stays}
 
 -- ---- sessions of seats
@@ -45,24 +45,24 @@ pub opening : (list : List Transaction) (greatest : ℕ) (seats : List Seat) (vo
 opening list greatest seats voted vote client n is = λ stamps.
     rw (is, length-map seats (seen_seat list), map-append (seen_seat list) seats ((record { client = client; work = None }) ∷ [])) refl
 
-pub opening_sound : (told : Type 0) (old now : HubSeen) (client : List ℕ) → IsSound told old
+pub opening_sound : (told : Type 0) (old now : HubSeen) (client : List ℕ) → IsSoundHub told old
     → now.list ≡ old.list → now.vote ≡ old.vote → now.voted ≡ old.voted → now.broken ≡ false → now.seats ≡ old.seats ++ (record { client = client; work = None }) ∷ []
-    → IsSound told now
+    → IsSoundHub told now
 opening_sound told old now client sound list vote voted whole seats = sound_seats told old now sound (λ _. list) vote voted whole
     (rw seats (all_push AreDistinct old.seats (record { client = client; work = None }) sound.distinct tt))
-    (λ tells. rw (list, seats) (all_push (IsUpTo (newest_tid old.list + 1)) old.seats (record { client = client; work = None }) (sound.fronts tells) tt))
+    (λ tells. rw (list, seats) (all_push (HasFrontUpTo (newest_tid old.list + 1)) old.seats (record { client = client; work = None }) (sound.fronts tells) tt))
 
 -- ---- a clock that tells
 
-is_done : (d : Done) (a : Answer) (new : State) (stamps : List Stamp) → d ≡ record { answer = a; state = new; stamps = stamps } → IsDone d a new (Some stamps)
-is_done d a new stamps is = record { answer = ap (λ (d : Done). d.answer) is; state = ap (λ (d : Done). d.state) is; stamps = ap (λ (d : Done). Some d.stamps) (sym is) }
+is_done : (d : TurnDone) (a : Answer) (new : State) (stamps : List Stamp) → d ≡ record { answer = a; state = new; stamps = stamps } → IsDone d a new (Some stamps)
+is_done d a new stamps is = record { answer = ap (λ (d : TurnDone). d.answer) is; state = ap (λ (d : TurnDone). d.state) is; stamps = ap (λ (d : TurnDone). Some d.stamps) (sym is) }
 
 -- a line that reads no clock
 pub step_clock : (read_failed : Type 0) (told : Option (List Stamp)) (old new : State) (line : Line) (n : ℕ) (a : Answer) → IsStep old line n a new → IsClockStep read_failed told told old line n a new
 step_clock read_failed None old new line n a step = tt
 step_clock read_failed (Some stamps) old new line n a step = inl (is_done _ a new stamps (step stamps))
 
-pub gave_nothing : (told : Option (List Stamp)) (done : List Stamp → Done) → Gave told told done
+pub gave_nothing : (told : Option (List Stamp)) (done : List Stamp → TurnDone) → Gave told told done
 gave_nothing None done = tt
 gave_nothing (Some stamps) done = inl refl
 
@@ -89,10 +89,10 @@ open_again list greatest seats voted vote n within =
     let x = seat_of seats n within in
     stays list greatest seats voted vote lines.Open n x.0 (answer.Refused refusal.InTransaction) within x.1 (λ stamps. refl)
 
-pub turn_opening : (read_failed : Type 0) (told : Option (List Stamp)) (old new : State) (t : Turn) (a : Answer) → is_open t.line ≡ true → IsOpening old t.client a new → IsTurn read_failed told told old t a new
+pub turn_opening : (read_failed : Type 0) (told : Option (List Stamp)) (old new : State) (t : Turn) (a : Answer) → is_open t.line ≡ true → IsOpening old t.client a new → IsTurnStep read_failed told told old t a new
 turn_opening read_failed told old new t a does step = by_line told t.line does
   where
-    by_line : (told : Option (List Stamp)) (line : Line) → is_open line ≡ true → IsTurn read_failed told told old (record { client = t.client; line = line }) a new
+    by_line : (told : Option (List Stamp)) (line : Line) → is_open line ≡ true → IsTurnStep read_failed told told old (record { client = t.client; line = line }) a new
     by_line None line does = tt
     by_line (Some stamps) lines.Open does = inl (is_done _ a new stamps (step stamps))
     by_line (Some stamps) lines.Begin does = absurd cc
@@ -114,7 +114,7 @@ line_not_open s stamps client lines.Abort other = refl
 line_not_open s stamps client lines.New other = refl
 
 pub turn_missing : (read_failed : Type 0) (told : Option (List Stamp)) (old : State) (t : Turn) → is_open t.line ≡ false → None ≡ session_of t.client old.sessions
-    → IsTurn read_failed told told old t (answer.Refused refusal.NotOpen) old
+    → IsTurnStep read_failed told told old t (answer.Refused refusal.NotOpen) old
 turn_missing read_failed None old t other missing = tt
 turn_missing read_failed (Some stamps) old t other missing =
     inl (is_done _ (answer.Refused refusal.NotOpen) old stamps (line_not_open old stamps t.client t.line other ∙ ap (at_number old stamps t.line) (sym missing)))
@@ -125,13 +125,13 @@ turn_at : (old : State) (stamps : List Stamp) (t : Turn) (n : ℕ) → is_open t
 turn_at old stamps t n other found = line_not_open old stamps t.client t.line other ∙ ap (at_number old stamps t.line) (sym found)
 
 pub turn_line : (read_failed : Type 0) (told after : Option (List Stamp)) (old new : State) (t : Turn) (n : ℕ) (a : Answer) → is_open t.line ≡ false → Some n ≡ session_of t.client old.sessions
-    → IsClockStep read_failed told after old t.line n a new → IsTurn read_failed told after old t a new
+    → IsClockStep read_failed told after old t.line n a new → IsTurnStep read_failed told after old t a new
 turn_line read_failed None after old new t n a other found step = tt
 turn_line read_failed (Some stamps) after old new t n a other found step =
-    subst (λ (d : Done). IsDoneOr (IsTrue (is_reading t.line) × read_failed) old d a new after) (sym (turn_at old stamps t n other found)) step
+    subst (λ (d : TurnDone). IsDoneOr (IsTrue (is_reading t.line) × read_failed) old d a new after) (sym (turn_at old stamps t n other found)) step
 
 pub turn_ticks : (told after : Option (List Stamp)) (old : State) (t : Turn) (n : ℕ) → is_open t.line ≡ false → Some n ≡ session_of t.client old.sessions
     → LineTicks told after old t.line n → Ticks told after old t
 turn_ticks None after old t n other found ticks = tt
 turn_ticks (Some stamps) after old t n other found ticks =
-    subst (λ (d : Done). (after ≡ Some stamps) ⊎ (after ≡ Some d.stamps)) (sym (turn_at old stamps t n other found)) ticks
+    subst (λ (d : TurnDone). (after ≡ Some stamps) ⊎ (after ≡ Some d.stamps)) (sym (turn_at old stamps t n other found)) ticks

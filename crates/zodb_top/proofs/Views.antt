@@ -17,7 +17,7 @@ use Rattle.zb_script.specs.declared.line.Line.TheVariants as lines
 use Rattle.zb_script.specs.declared.line.Turn.{Turn}
 use Rattle.zodb_top.specs.declared.pending.PendingStore.{PendingStore}
 use Rattle.zodb_top.specs.Laws.{IsRead, ReadsStayBelowTheFront}
-use Rattle.zodb_top.specs.Machine.{After, Before, OpenTransaction, Session, State, Vote, abort_in, at_number, at_session, before_at, begin_in, decision_of, finish_in, finished, in_transaction, is_holder, is_reading, line_in, line_of, load_in, new_in, read_content, read_revision, reading_failed, refused, session_of, store_in, taken, turn_of, vote_in, voted_by, with_store}
+use Rattle.zodb_top.specs.Machine.{After, Before, OpenTransaction, Session, State, Vote, abort_in, at_number, at_session, before_at, begin_in, decision_of, finish_in, finished, in_transaction, is_holder, is_reading, line_in, line_of, load_in, new_in, read_content, read_revision, reading_failed, refused, session_of, store_in, turn_taken, turn_of, vote_in, voted_by, with_store}
 
 -- ---- revisions below a front
 
@@ -177,7 +177,7 @@ turn_read s stamps client lines.Finish serial bytes e = number_read s stamps cli
 turn_read s stamps client lines.Abort serial bytes e = number_read s stamps client lines.Abort (session_of client s.sessions) serial bytes refl e
 turn_read s stamps client lines.New serial bytes e = number_read s stamps client lines.New (session_of client s.sessions) serial bytes refl e
 
-taken_read : (failed : Bool) (s : State) (stamps : List Stamp) (t : Turn) (serial : ℕ) (bytes : List ℕ) → (taken failed s stamps t).answer ≡ answer.Data serial bytes → IsRead s t serial bytes
+taken_read : (failed : Bool) (s : State) (stamps : List Stamp) (t : Turn) (serial : ℕ) (bytes : List ℕ) → (turn_taken failed s stamps t).answer ≡ answer.Data serial bytes → IsRead s t serial bytes
 taken_read false s stamps t serial bytes e = turn_read s stamps t.client t.line serial bytes e
 taken_read true s stamps t serial bytes e = by_test (is_reading t.line) e
   where

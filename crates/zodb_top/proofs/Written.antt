@@ -3,7 +3,7 @@ use Rattle.std.proofs.Common.{◌≡◌, ℕ, List, [], ◌∷◌, ◌++◌, Opt
 use Rattle.std.specs.Io.KnownBytes.{Appends}
 use Rattle.std.proofs.KnownBytes.{Appends-nil}
 use Rattle.std.proofs.lemmas.List.{drop_more, drop_all}
-use Rattle.zb_outside.specs.Written.{AppendsBefore, AppendsFront}
+use Rattle.zb_outside.specs.Written.{AppendsBefore, AppendsPrefix}
 use Rattle.zb_outside.specs.WrittenLaws.{all_before, front_more, more_before, none_before}
 use Rattle.zodb_top.specs.Texts.{joined}
 
@@ -26,6 +26,6 @@ all_lines taken taken' lines i past so_far =
     (subst (λ (rest : List (List ℕ)). AppendsBefore taken taken' (joined lines) (joined rest)) (drop_all i lines past) so_far) (Appends-nil taken')
 
 pub front_lines : (taken between taken' : Option (List ℕ)) (lines : List (List ℕ)) (i : ℕ) (l : List ℕ) → i < length lines → l ≡ get_or lines i l
-    → AppendsBefore taken between (joined lines) (joined (drop i lines)) → AppendsFront between taken' l → AppendsFront taken taken' (joined lines)
+    → AppendsBefore taken between (joined lines) (joined (drop i lines)) → AppendsPrefix between taken' l → AppendsPrefix taken taken' (joined lines)
 front_lines taken between taken' lines i l within is so_far wrote =
     front_more taken between taken' (joined lines) l (joined (drop (i + 1) lines)) (joined (drop i lines)) so_far (next_line lines i l within is) wrote

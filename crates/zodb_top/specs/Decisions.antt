@@ -50,5 +50,5 @@ pub record IsNotHeld (read_failed : Type 0) (a : Answer) (old now : HubSeen) : T
   pub vote : now.vote ≡ old.vote
   pub voted : now.voted ≡ None
 
-abbrev pub IsHeld : Type 0 → Type 0 → ℕ → NewTransaction → Answer → HubSeen → HubSeen → Type 0
-IsHeld told read_failed number new a old now = IsHeldAs told number new a old now ⊎ IsNotHeld read_failed a old now
+abbrev pub IsVoteDecided : Type 0 → Type 0 → ℕ → NewTransaction → Answer → HubSeen → HubSeen → Type 0
+IsVoteDecided told read_failed number new a old now = IsHeldAs told number new a old now ⊎ IsNotHeld read_failed a old now

@@ -3,8 +3,8 @@ use Rattle.std.specs.Prelude.{◌≡◌, ◌≢◌, ◌⊎◌, ℕ, List, [], Op
 use Rattle.std.specs.Io.KnownBytes.{Appends}
 use Rattle.fs_records.specs.File.{StandsFor}
 use Rattle.zb_model.specs.declared.data.Transaction.{Transaction}
-use Rattle.zb_outside.specs.Rose.{Rose}
-use Rattle.zb_outside.specs.Written.{AppendsFront}
+use Rattle.zb_base.specs.Counts.{Rose}
+use Rattle.zb_outside.specs.Written.{AppendsPrefix}
 use Rattle.zodb_top.specs.declared.command.Listing.{Listing}
 use Rattle.zodb_top.specs.declared.status.Status.{Status}
 use Rattle.zodb_top.specs.declared.status.Status.TheVariants as status
@@ -30,7 +30,7 @@ FileListOutcome status.Done asked told bytes read_failed write_failed untouched 
     (lines : List (List ℕ)) × (told → IsFileListing bytes asked read_failed lines) × Appends old new (joined lines)
 FileListOutcome status.NoMemory asked told bytes read_failed write_failed untouched old new before now = new ≡ old
 FileListOutcome status.SinkFault asked told bytes read_failed write_failed untouched old new before now =
-    Rose before now × ((lines : List (List ℕ)) × (told → IsFileListing bytes asked read_failed lines) × AppendsFront old new (joined lines))
+    Rose before now × ((lines : List (List ℕ)) × (told → IsFileListing bytes asked read_failed lines) × AppendsPrefix old new (joined lines))
 FileListOutcome status.StoreFault asked told bytes read_failed write_failed untouched old new before now =
     ((read_failed × untouched) ⊎ write_failed) × IsWritten old new before now store_fault_line
 FileListOutcome status.Damaged asked told bytes read_failed write_failed untouched old new before now =

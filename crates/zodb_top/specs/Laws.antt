@@ -11,9 +11,9 @@ use Rattle.zb_script.specs.declared.answer.Answer.TheVariants as answer
 use Rattle.zb_script.specs.declared.line.Line.TheVariants as lines
 use Rattle.zb_script.specs.declared.line.Turn.{Turn}
 use Rattle.zb_script.specs.Shape.{IsInShape, is_turn_of}
-use Rattle.zodb_top.specs.Machine.{OpenTransaction, Session, State, session_of, start, taken}
+use Rattle.zodb_top.specs.Machine.{OpenTransaction, Session, State, session_of, start, turn_taken}
 use Rattle.zb_model.specs.declared.data.Transaction.{Transaction}
-use Rattle.zodb_top.specs.Output.{first_of, others_of, run_from}
+use Rattle.zodb_top.specs.Output.{said_first, others_of, run_from}
 
 -- ---- fronts
 
@@ -26,7 +26,7 @@ front_in _ = []
 abbrev pub fronts_of : List ℕ → State → List Stamp → List Bool → List Turn → List ℕ
 fronts_of client s stamps failed [] = []
 fronts_of client s stamps failed (t ∷ turns) =
-    let d = taken (first_of failed) s stamps t in
+    let d = turn_taken (said_first failed) s stamps t in
     (if is_turn_of client t then front_in d.answer else []) ++ fronts_of client d.state d.stamps (others_of failed) turns
 
 -- in every run from a database, whichever reads fail, each front that a client is given is at least those
@@ -55,7 +55,7 @@ pub record IsRead (s : State) (t : Turn) (serial : ℕ) (bytes : List ℕ) : Typ
 
 -- in every state, whether reading failed or not, a turn that is answered with data is a read in an open transaction, below its front
 abbrev pub ReadsStayBelowTheFront : Type 0
-ReadsStayBelowTheFront = (failed : Bool) (s : State) (stamps : List Stamp) (t : Turn) (serial : ℕ) (bytes : List ℕ) → (taken failed s stamps t).answer ≡ answer.Data serial bytes → IsRead s t serial bytes
+ReadsStayBelowTheFront = (failed : Bool) (s : State) (stamps : List Stamp) (t : Turn) (serial : ℕ) (bytes : List ℕ) → (turn_taken failed s stamps t).answer ≡ answer.Data serial bytes → IsRead s t serial bytes
 
 -- ---- lists
 
@@ -66,18 +66,18 @@ TheListStaysADatabase = (list : List Transaction) (stamps : List Stamp) (failed 
 -- ---- refusals
 
 -- a turn, the state that it finds, whether it is answered that reading failed, and what it is answered
-pub record Taken : Type 0 where
+pub record TakenTurn : Type 0 where
   pub state : State
   pub turn : Turn
   pub failed : Bool
   pub answer : Answer
 
 -- the turns as they are taken, in their order
-abbrev pub taken_of : State → List Stamp → List Bool → List Turn → List Taken
+abbrev pub taken_of : State → List Stamp → List Bool → List Turn → List TakenTurn
 taken_of s stamps failed [] = []
 taken_of s stamps failed (t ∷ turns) =
-    let d = taken (first_of failed) s stamps t in
-    (record { state = s; turn = t; failed = first_of failed; answer = d.answer }) ∷ taken_of d.state d.stamps (others_of failed) turns
+    let d = turn_taken (said_first failed) s stamps t in
+    (record { state = s; turn = t; failed = said_first failed; answer = d.answer }) ∷ taken_of d.state d.stamps (others_of failed) turns
 
 -- whether a refusal is one of the four that the turns of a script in shape get besides OidsSpent and ReadFault
 abbrev pub is_known_refusal : Refusal → Bool
@@ -94,25 +94,25 @@ is_known_refusal refusal.OidsSpent = false
 is_known_refusal refusal.ReadFault = false
 
 -- whether an answer is no refusal, or one of those four
-abbrev pub is_known : Answer → Bool
-is_known (answer.Refused why) = is_known_refusal why
-is_known _ = true
+abbrev pub is_allowed : Answer → Bool
+is_allowed (answer.Refused why) = is_known_refusal why
+is_allowed _ = true
 
 -- the turn asks for the number of a new object where the greatest one leaves none, and is told so
-pub record AsksTooMany (x : Taken) : Type 0 where
+pub record AsksTooMany (x : TakenTurn) : Type 0 where
   pub line : x.turn.line ≡ lines.New
   pub spent : 2 ^ 64 - 1 ≤ x.state.greatest
   pub told : x.answer ≡ answer.Refused refusal.OidsSpent
 
 -- the turn is one in which reading failed, and is told so
-pub record FailedToRead (x : Taken) : Type 0 where
+pub record FailedToRead (x : TakenTurn) : Type 0 where
   pub failed : x.failed ≡ true
   pub told : x.answer ≡ answer.Refused refusal.ReadFault
 
 -- the answer is no refusal, or one of those four, or OidsSpent where no number is left, or ReadFault where
 -- reading failed
-abbrev pub IsExpected : Taken → Type 0
-IsExpected x = IsTrue (is_known x.answer) ⊎ AsksTooMany x ⊎ FailedToRead x
+abbrev pub IsExpected : TakenTurn → Type 0
+IsExpected x = IsTrue (is_allowed x.answer) ⊎ AsksTooMany x ⊎ FailedToRead x
 
 -- a database refuses the turns of a script in shape only for TidsSpent, Conflict, Missing or NotVoted, only those
 -- that ask for a number where none is left for OidsSpent, and only those in which reading failed for ReadFault

@@ -4,15 +4,15 @@ use Rattle.std.specs.Io.KnownBytes.{Appends}
 use Rattle.file_store.specs.Opening.{GaveAtMostOne}
 use Rattle.zb_model.specs.declared.data.Transaction.{Transaction}
 use Rattle.zb_model.specs.Lists.{history_of, undo_log_of}
-use Rattle.zb_outside.specs.Rose.{Rose}
-use Rattle.zb_outside.specs.Written.{AppendsFront}
+use Rattle.zb_base.specs.Counts.{Rose}
+use Rattle.zb_outside.specs.Written.{AppendsPrefix}
 use Rattle.zb_script.specs.Lists.{log_text, revision_text}
 use Rattle.zodb_top.specs.declared.command.Listing.{Listing}
 use Rattle.zodb_top.specs.declared.command.Listing.TheVariants.{UndoLog, History}
 use Rattle.zodb_top.specs.declared.status.Status.{Status}
 use Rattle.zodb_top.specs.declared.status.Status.TheVariants as status
 use Rattle.zodb_top.specs.Outside.{Outside, main_of}
-use Rattle.zodb_top.specs.Program.{IsRefused, IsWritten, Opens}
+use Rattle.zodb_top.specs.Program.{IsRefused, IsWritten, OpensAs}
 use Rattle.zodb_top.specs.Texts.{cut_lines, joined, line, store_fault_line}
 
 -- the lines of a list
@@ -33,7 +33,7 @@ IsSaid list cut asked read_failed lines = (lines ≡ cut_lines cut ++ lines_of a
 pub record IsListing (asked : Listing) (before after : Outside) (lines : List (List ℕ)) : Type 0 where
   pub list : List Transaction
   pub cut : Option ℕ
-  pub opens : Opens (main_of before) before.stamps after.stamps list cut
+  pub opens : OpensAs (main_of before) before.stamps after.stamps list cut
   pub says : IsSaid list cut asked (Rose before.read_faults after.read_faults) lines
 
 -- a call of the volume failed: a read, and then a file that was there was left as it was, or another call
@@ -48,7 +48,7 @@ ListOutcome status.Done asked told before after =
     (lines : List (List ℕ)) × (told → IsListing asked before after lines) × Appends before.taken after.taken (joined lines)
 ListOutcome status.NoMemory asked told before after = (after.taken ≡ before.taken) × GaveAtMostOne before.stamps after.stamps
 ListOutcome status.SinkFault asked told before after =
-    Rose before.sink_faults after.sink_faults × ((lines : List (List ℕ)) × (told → IsListing asked before after lines) × AppendsFront before.taken after.taken (joined lines))
+    Rose before.sink_faults after.sink_faults × ((lines : List (List ℕ)) × (told → IsListing asked before after lines) × AppendsPrefix before.taken after.taken (joined lines))
 ListOutcome status.StoreFault asked told before after = FailedToList told before after
 ListOutcome status.Damaged asked told before after = IsRefused told before after
 ListOutcome _ asked told before after = ⊥

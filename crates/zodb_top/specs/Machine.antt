@@ -152,8 +152,8 @@ abbrev pub change_of : PendingStore → Change
 change_of p = record { oid = p.oid; content = Held p.bytes }
 
 -- the transaction of these stores, in their order
-abbrev pub transaction_of : ℕ → List PendingStore → Transaction
-transaction_of tid stores = record { tid = tid; packed = false; user = []; description = []; extension = []; changes = map change_of stores }
+abbrev pub transaction_of_stores : ℕ → List PendingStore → Transaction
+transaction_of_stores tid stores = record { tid = tid; packed = false; user = []; description = []; extension = []; changes = map change_of stores }
 
 -- the number of the clock's next stamp; a clock that tells always has one
 abbrev pub next_number : List Stamp → ℕ
@@ -168,7 +168,7 @@ pub record Decision : Type 0 where
 
 -- at a tid that was made with the clock's stamp: refused where it isn't below 2^64-1
 abbrev pub decision_at : ℕ → List PendingStore → List Stamp → Decision
-decision_at tid stores stamps = if nat_lt tid (2 ^ 64 - 1) then (record { verdict = Ok (Some (transaction_of tid stores)); stamps = stamps })
+decision_at tid stores stamps = if nat_lt tid (2 ^ 64 - 1) then (record { verdict = Ok (Some (transaction_of_stores tid stores)); stamps = stamps })
     else (record { verdict = Err refusal.TidsSpent; stamps = stamps })
 
 abbrev pub decision_on : Option Refusal → List Transaction → List PendingStore → List Stamp → Decision
@@ -256,19 +256,19 @@ line_in f lines.New = new_in f
 -- ---- turns
 
 -- an answer, the state after it, and the stamps that the clock has still to give
-pub record Done : Type 0 where
+pub record TurnDone : Type 0 where
   pub answer : Answer
   pub state : State
   pub stamps : List Stamp
 
 -- what a line of session n leaves
-abbrev pub after_at : State → ℕ → After → Done
+abbrev pub after_at : State → ℕ → After → TurnDone
 after_at s n l = record { answer = l.answer; state = record { list = l.list; greatest = l.greatest; sessions = slice_set s.sessions n l.session; vote = l.vote }; stamps = l.stamps }
 
 abbrev pub before_at : State → List Stamp → ℕ → Session → Before
 before_at s stamps n x = record { number = n; list = s.list; greatest = s.greatest; session = x; vote = s.vote; stamps = stamps }
 
-abbrev pub not_open : State → List Stamp → Done
+abbrev pub not_open : State → List Stamp → TurnDone
 not_open s stamps = record { answer = answer.Refused refusal.NotOpen; state = s; stamps = stamps }
 
 abbrev pub is_session_of : List ℕ → Session → Bool
@@ -279,32 +279,32 @@ abbrev pub session_of : List ℕ → List Session → Option ℕ
 session_of client sessions = position (is_session_of client) sessions
 
 -- a new session, with the next number
-abbrev pub opened : State → List Stamp → List ℕ → Done
+abbrev pub opened : State → List Stamp → List ℕ → TurnDone
 opened s stamps client = record {
   answer = answer.Opened (length s.sessions);
   state = record { list = s.list; greatest = s.greatest; sessions = s.sessions ++ (record { client = client; open_transaction = None }) ∷ []; vote = s.vote };
   stamps = stamps;
 }
 
-abbrev pub at_session : State → List Stamp → Line → ℕ → Option Session → Done
+abbrev pub at_session : State → List Stamp → Line → ℕ → Option Session → TurnDone
 at_session s stamps line n None = not_open s stamps
 at_session s stamps line n (Some x) = after_at s n (line_in (before_at s stamps n x) line)
 
-abbrev pub at_number : State → List Stamp → Line → Option ℕ → Done
+abbrev pub at_number : State → List Stamp → Line → Option ℕ → TurnDone
 at_number s stamps line None = not_open s stamps
 at_number s stamps line (Some n) = at_session s stamps line n (slice_get s.sessions n)
 
-abbrev pub line_of : State → List Stamp → List ℕ → Line → Done
+abbrev pub line_of : State → List Stamp → List ℕ → Line → TurnDone
 line_of s stamps client lines.Open = opened s stamps client
 line_of s stamps client line = at_number s stamps line (session_of client s.sessions)
 
 -- a turn of a script
-abbrev pub turn_of : State → List Stamp → Turn → Done
+abbrev pub turn_of : State → List Stamp → Turn → TurnDone
 turn_of s stamps t = line_of s stamps t.client t.line
 
 -- in the place of what was done: reading failed. The state is as it was before, and the clock was read as it
 -- would have been.
-abbrev pub reading_failed : State → Done → Done
+abbrev pub reading_failed : State → TurnDone → TurnDone
 reading_failed s d = record { answer = answer.Refused refusal.ReadFault; state = s; stamps = d.stamps }
 
 -- whether a line reads what stands in the list
@@ -315,6 +315,6 @@ is_reading _ = false
 
 -- a turn, where `failed` says whether it is to be answered that reading failed: a line that reads is then
 -- answered so, and any other as ever
-abbrev pub taken : Bool → State → List Stamp → Turn → Done
-taken false s stamps t = turn_of s stamps t
-taken true s stamps t = if is_reading t.line then reading_failed s (turn_of s stamps t) else turn_of s stamps t
+abbrev pub turn_taken : Bool → State → List Stamp → Turn → TurnDone
+turn_taken false s stamps t = turn_of s stamps t
+turn_taken true s stamps t = if is_reading t.line then reading_failed s (turn_of s stamps t) else turn_of s stamps t

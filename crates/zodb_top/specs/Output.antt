@@ -1,10 +1,10 @@
 -- What a script is answered.
 use Rattle.std.specs.Prelude.{ℕ, ◌≤◌, List, [], ◌∷◌, ◌++◌, Bool, false, true}
 use Rattle.zb_ids.specs.declared.stamp.Stamp.{Stamp}
-use Rattle.zb_outside.specs.Rose.{Rose}
+use Rattle.zb_base.specs.Counts.{Rose}
 use Rattle.zb_script.specs.declared.line.Turn.{Turn}
 use Rattle.zb_script.specs.Answers.{reply_text}
-use Rattle.zodb_top.specs.Machine.{State, taken}
+use Rattle.zodb_top.specs.Machine.{State, turn_taken}
 
 -- what turns give: their reply lines, the state behind them, and the stamps that the clock has still to
 -- give
@@ -17,9 +17,9 @@ abbrev pub behind_reply : List ℕ → Ran → Ran
 behind_reply reply r = record { text = reply ++ r.text; state = r.state; stamps = r.stamps }
 
 -- what is said of the first of the turns, and of the others; where nothing is said it is no
-abbrev pub first_of : List Bool → Bool
-first_of [] = false
-first_of (f ∷ failed) = f
+abbrev pub said_first : List Bool → Bool
+said_first [] = false
+said_first (f ∷ failed) = f
 
 abbrev pub others_of : List Bool → List Bool
 others_of [] = []
@@ -30,7 +30,7 @@ others_of (f ∷ failed) = failed
 abbrev pub run_from : State → List Stamp → List Bool → List Turn → Ran
 run_from s stamps failed [] = record { text = []; state = s; stamps = stamps }
 run_from s stamps failed (t ∷ turns) =
-    let d = taken (first_of failed) s stamps t in
+    let d = turn_taken (said_first failed) s stamps t in
     behind_reply (reply_text t.client d.answer) (run_from d.state d.stamps (others_of failed) turns)
 
 -- the reply lines of the turns

@@ -1,15 +1,15 @@
 -- What the program writes, and what its statuses say. Own.
-use Rattle.std.specs.Prelude.{◌≡◌, ◌≢◌, ℕ, ◌+◌, ◌<◌, ◌≤◌, ◌⊎◌, List, [], ◌++◌, Option, Some, Bool, true, false, IfSome, length, take}
+use Rattle.std.specs.Prelude.{◌≡◌, ◌≢◌, ℕ, ◌+◌, ◌<◌, ◌≤◌, ◌⊎◌, List, [], ◌++◌, Option, Some, Bool, true, false, IfSome, length, slice_get, take}
 use Rattle.std.specs.Io.KnownBytes.{Appends}
 use Rattle.std.specs.Option.{option_map}
 use Rattle.file_store.specs.Kept.{StandsForList}
-use Rattle.file_store.specs.Opening.{GaveAtMostOne, IsMade, SomeRose}
+use Rattle.file_store.specs.Opening.{GaveAtMostOne, IsMade, KeepsList, MakesList, SomeRose}
 use Rattle.fs_records.specs.File.{StandsFor}
 use Rattle.zb_ids.specs.declared.stamp.Stamp.{Stamp}
 use Rattle.zb_model.specs.declared.data.Transaction.{Transaction}
-use Rattle.zb_outside.specs.Rose.{Rose}
+use Rattle.zb_base.specs.Counts.{Rose}
 use Rattle.zb_outside.specs.Stamps.{stamps_after}
-use Rattle.zb_outside.specs.Written.{AppendsFront}
+use Rattle.zb_outside.specs.Written.{AppendsPrefix}
 use Rattle.zb_script.specs.declared.line.Turn.{Turn}
 use Rattle.zb_script.specs.Script.{IsBadLine, IsScript}
 use Rattle.zodb_top.specs.declared.status.Status.{Status}
@@ -22,7 +22,7 @@ use Rattle.zodb_top.specs.Texts.{bad_line, cut_lines, joined, limit_line, read_f
 
 -- a text was written: all of it, but where the sink failed, and then some front of it
 pub record IsWritten (old new : Option (List ℕ)) (before now : ℕ) (text : List ℕ) : Type 0 where
-  pub front : AppendsFront old new text
+  pub front : AppendsPrefix old new text
   pub whole : ¬ Rose before now → Appends old new text
 
 -- ---- scripts
@@ -52,9 +52,9 @@ pub record HasBadLine (input : List ℕ) (before after : Outside) : Type 0 where
 -- What opening a file gives: the list that its bytes stand for, and where a tail was cut off; or, where there
 -- are no bytes, the list of a new database, by the clock's first stamp. `stamps` are the clock's, and `stamps'` those
 -- that it has still to give.
-pub data Opens (bytes : List ℕ) (stamps stamps' : Option (List Stamp)) (list : List Transaction) (cut : Option ℕ) : Type 0 where
-  there : bytes ≢ [] → StandsFor bytes list cut → stamps' ≡ stamps → Opens bytes stamps stamps' list cut
-  made : bytes ≡ [] → IsMade stamps list cut → stamps' ≡ option_map stamps_after stamps → Opens bytes stamps stamps' list cut
+pub data OpensAs (bytes : List ℕ) (stamps stamps' : Option (List Stamp)) (list : List Transaction) (cut : Option ℕ) : Type 0 where
+  there : bytes ≢ [] → StandsFor bytes list cut → stamps' ≡ stamps → OpensAs bytes stamps stamps' list cut
+  made : bytes ≡ [] → IsMade stamps list cut → stamps' ≡ option_map stamps_after stamps → OpensAs bytes stamps stamps' list cut
 
 -- ---- turns over a list
 
@@ -70,13 +70,15 @@ pub record AllAnswered (list : List Transaction) (cut : Option ℕ) (stamps : Li
   pub list_left : list' ≡ (run_from (start list) stamps failed turns).state.list
 
 -- The first `count` of the turns were taken: what was written is a front of the line of the tail that was cut off
--- and of their replies, and the list is the one behind them. The clock gave what the first `read` of the turns read.
+-- and of their replies, and the list is the one behind them. The clock gave what the first `read` of the turns read,
+-- which are these, or these and the next.
 pub record SomeAnswered (list : List Transaction) (cut : Option ℕ) (stamps : List Stamp) (turns : List Turn) (reads reads' : ℕ) (taken taken' : Option (List ℕ)) (left : Option (List Stamp)) (list' : List Transaction) : Type 0 where
   pub failed : List Bool
   pub counted : IsCounted reads failed reads'
   pub count : ℕ
-  pub text : AppendsFront taken taken' (joined (cut_lines cut) ++ (run_from (start list) stamps failed (take count turns)).text)
+  pub text : AppendsPrefix taken taken' (joined (cut_lines cut) ++ (run_from (start list) stamps failed (take count turns)).text)
   pub read : ℕ
+  pub near : (read ≡ count) ⊎ (read ≡ count + 1)
   pub stamps_left : left ≡ Some (run_from (start list) stamps failed (take read turns)).stamps
   pub list_left : list' ≡ (run_from (start list) stamps failed (take count turns)).state.list
 
@@ -99,7 +101,7 @@ pub record HasRun (turns : List Turn) (before after : Outside) : Type 0 where
   pub list : List Transaction
   pub cut : Option ℕ
   pub stamps : List Stamp
-  pub opens : Opens (main_of before) before.stamps (Some stamps) list cut
+  pub opens : OpensAs (main_of before) before.stamps (Some stamps) list cut
   pub list' : List Transaction
   pub answers : AllAnswered list cut stamps turns before.read_faults after.read_faults before.taken after.taken after.stamps list'
   pub stands : StandsForList (main_of after) list'
@@ -109,7 +111,7 @@ pub record HasRunInPart (turns : List Turn) (before after : Outside) : Type 0 wh
   pub list : List Transaction
   pub cut : Option ℕ
   pub stamps : List Stamp
-  pub opens : Opens (main_of before) before.stamps (Some stamps) list cut
+  pub opens : OpensAs (main_of before) before.stamps (Some stamps) list cut
   pub list' : List Transaction
   pub answers : SomeAnswered list cut stamps turns before.read_faults after.read_faults before.taken after.taken after.stamps list'
   pub stands : StandsForList (main_of after) list'
@@ -119,7 +121,7 @@ pub record HasRunToFault (turns : List Turn) (before after : Outside) : Type 0 w
   pub list : List Transaction
   pub cut : Option ℕ
   pub stamps : List Stamp
-  pub opens : Opens (main_of before) before.stamps (Some stamps) list cut
+  pub opens : OpensAs (main_of before) before.stamps (Some stamps) list cut
   pub answers : AnsweredToFault list cut stamps turns before.read_faults after.read_faults before.sink_faults after.sink_faults before.taken after.taken after.stamps
 
 -- this holds of the turns of the input, where source and clock tell
@@ -133,12 +135,20 @@ pub record IsUnopened (before after : Outside) : Type 0 where
   pub read_faults : after.read_faults ≡ before.read_faults
   pub write_faults : after.write_faults ≡ before.write_faults
 
--- it couldn't be opened, since a call of the volume failed; the clock was read at most where Main was empty
+-- It couldn't be opened, for a failed call or want of memory. The clock was read at most once, and not where Main had
+-- bytes. Where nothing of Main was pending, all that a crash at any moment leaves of it stands for the list that it
+-- stood for, or, where it was empty, for the empty list or the first transaction alone.
+pub record IsLeftUnopened (told : Type 0) (before after : Outside) : Type 0 where
+  pub stamps : GaveAtMostOne before.stamps after.stamps
+  pub kept : told → main_of before ≢ [] → after.stamps ≡ before.stamps
+  pub keeps : told → KeepsList before.log after.log
+  pub makes : told → IfSome before.stamps (λ stamps. (stamp : Stamp) → slice_get stamps 0 ≡ Some stamp → MakesList stamp before.log after.log)
+
+-- it couldn't be opened, since a call of the volume failed
 pub record FailedToOpen (told : Type 0) (before after : Outside) : Type 0 where
   pub rose : SomeRose before.read_faults after.read_faults before.write_faults after.write_faults
   pub written : IsWritten before.taken after.taken before.sink_faults after.sink_faults store_fault_line
-  pub stamps : GaveAtMostOne before.stamps after.stamps
-  pub kept : told → main_of before ≢ [] → after.stamps ≡ before.stamps
+  pub left : IsLeftUnopened told before after
 
 -- it couldn't be opened, since it is damaged
 pub record IsRefused (told : Type 0) (before after : Outside) : Type 0 where
@@ -153,7 +163,7 @@ pub record IsRefused (told : Type 0) (before after : Outside) : Type 0 where
 abbrev pub RunOutcome : Status → Type 0 → Type 0 → Option (List ℕ) → Outside → Outside → Type 0
 RunOutcome Done told source_failed left before after = told → OfInput left before (λ turns. HasRun turns before after)
 RunOutcome NoMemory told source_failed left before after =
-    ((after.taken ≡ before.taken) × GaveAtMostOne before.stamps after.stamps) ⊎ (told → OfInput left before (λ turns. HasRunInPart turns before after))
+    ((after.taken ≡ before.taken) × (IsUnopened before after ⊎ IsLeftUnopened told before after)) ⊎ (told → OfInput left before (λ turns. HasRunInPart turns before after))
 RunOutcome ReadFault told source_failed left before after =
     source_failed × IsUnopened before after × IsWritten before.taken after.taken before.sink_faults after.sink_faults read_fault_line
 RunOutcome SinkFault told source_failed left before after =

@@ -2,7 +2,7 @@
 use Rattle.std.specs.Prelude.{◌≡◌, ◌⊎◌, ℕ, ◌+◌, List, Bool, Option, Some, IfSome, length, take}
 use Rattle.std.specs.Io.KnownBytes.{Appends}
 use Rattle.zb_ids.specs.declared.stamp.Stamp.{Stamp}
-use Rattle.zb_outside.specs.Written.{AppendsFront}
+use Rattle.zb_outside.specs.Written.{AppendsPrefix}
 use Rattle.zb_script.specs.declared.line.Turn.{Turn}
 use Rattle.zodb_top.specs.declared.run.RunError.{RunError}
 use Rattle.zodb_top.specs.declared.run.RunError.TheVariants as errors
@@ -32,13 +32,14 @@ pub record IsRun (stamps : List Stamp) (old : Moment) (turns : List Turn) (new :
   pub stamps_left : new.stamps ≡ Some (run_from old.state stamps failed turns).stamps
 
 -- The run ended behind the first `count` of the turns: some front of their replies was written, and the list is the
--- one behind them; the clock gave what the first `read` of the turns read.
+-- one behind them; the clock gave what these read, or these and the next.
 pub record IsCutShort (stamps : List Stamp) (old : Moment) (turns : List Turn) (new : Moment) : Type 0 where
   pub failed : List Bool
   pub counted : IsCounted old.reads failed new.reads
   pub count : ℕ
-  pub text : AppendsFront old.taken new.taken (run_from old.state stamps failed (take count turns)).text
+  pub text : AppendsPrefix old.taken new.taken (run_from old.state stamps failed (take count turns)).text
   pub read : ℕ
+  pub near : (read ≡ count) ⊎ (read ≡ count + 1)
   pub stamps_left : new.stamps ≡ Some (run_from old.state stamps failed (take read turns)).stamps
   pub list_left : new.state.list ≡ (run_from old.state stamps failed (take count turns)).state.list
 

@@ -60,9 +60,9 @@ state_of hub = state_with hub.list hub.greatest hub.seats hub.voted hub.vote
 -- ---- what holds of a hub between two calls
 
 -- a transaction's front is at most this
-abbrev pub IsUpTo : ℕ → Option Work → Type 0
-IsUpTo n None = Unit {0}
-IsUpTo n (Some w) = w.front ≤ n
+abbrev pub HasFrontUpTo : ℕ → Option Work → Type 0
+HasFrontUpTo n None = Unit {0}
+HasFrontUpTo n (Some w) = w.front ≤ n
 
 -- no object is stored twice
 abbrev pub AreDistinct : Option Work → Type 0
@@ -89,11 +89,11 @@ IsVoteLater newest None voted = Unit {0}
 IsVoteLater newest (Some h) voted = IsLater newest h.writes voted
 
 -- what `told` says is so where the store tells its list
-pub record IsSound (told : Type 0) (hub : HubSeen) : Type 0 where
+pub record IsSoundHub (told : Type 0) (hub : HubSeen) : Type 0 where
   pub whole : hub.broken ≡ false
   pub vote : IsVoteOf hub.vote hub.voted
   pub distinct : AllByRecursion (λ x. AreDistinct x.work) hub.seats
-  pub fronts : told → AllByRecursion (λ x. IsUpTo (newest_tid hub.list + 1) x.work) hub.seats
+  pub fronts : told → AllByRecursion (λ x. HasFrontUpTo (newest_tid hub.list + 1) x.work) hub.seats
   pub later : told → IsVoteLater (newest_tid hub.list) hub.vote hub.voted
 
 -- ---- parts of a hub

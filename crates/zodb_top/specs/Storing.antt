@@ -1,16 +1,15 @@
 -- What the code of a run says of a store, and of the file in Main.
 use Rattle.std.specs.Prelude.{◌≡◌, ◌⊎◌, ℕ, List, Option, IfSome}
-use Rattle.file_store.specs.Opening.{GaveAtMostOne}
 use Rattle.zb_ids.specs.declared.stamp.Stamp.{Stamp}
 use Rattle.zb_model.specs.declared.data.Transaction.{Transaction}
-use Rattle.zb_outside.specs.Rose.{Rose}
+use Rattle.zb_base.specs.Counts.{Rose}
 use Rattle.zb_script.specs.declared.line.Turn.{Turn}
 use Rattle.zodb_top.specs.declared.run.RunError.{RunError}
 use Rattle.zodb_top.specs.declared.run.RunError.TheVariants as errors
 use Rattle.zodb_top.specs.declared.status.Status.{Status}
 use Rattle.zodb_top.specs.declared.status.Status.TheVariants as status
 use Rattle.zodb_top.specs.Outside.{Outside}
-use Rattle.zodb_top.specs.Program.{AllAnswered, AnsweredToFault, FailedToOpen, HasRun, HasRunInPart, HasRunToFault, IsRefused, IsWritten, SomeAnswered}
+use Rattle.zodb_top.specs.Program.{AllAnswered, AnsweredToFault, FailedToOpen, HasRun, HasRunInPart, HasRunToFault, IsLeftUnopened, IsRefused, IsWritten, SomeAnswered}
 use Rattle.zodb_top.specs.Texts.{store_fault_line}
 
 -- what is said of a run that stopped: the status comes of the error, and where the store failed that was written
@@ -35,7 +34,7 @@ StoreOutcome _ told list cut turns reads reads' faults faults' before now taken 
 abbrev pub FileOutcome : Status → Type 0 → List Turn → Outside → Outside → Type 0
 FileOutcome status.Done told turns before after = told → IfSome before.stamps (λ s. HasRun turns before after)
 FileOutcome status.NoMemory told turns before after =
-    ((after.taken ≡ before.taken) × GaveAtMostOne before.stamps after.stamps) ⊎ (told → IfSome before.stamps (λ s. HasRunInPart turns before after))
+    ((after.taken ≡ before.taken) × IsLeftUnopened told before after) ⊎ (told → IfSome before.stamps (λ s. HasRunInPart turns before after))
 FileOutcome status.SinkFault told turns before after =
     Rose before.sink_faults after.sink_faults × (told → IfSome before.stamps (λ s. HasRunInPart turns before after))
 FileOutcome status.StoreFault told turns before after =

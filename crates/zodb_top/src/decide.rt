@@ -21,8 +21,8 @@ pub(crate) enum VoteError {
 
 /// The refusal of the first store whose base isn't current.
 fn conflict<St: Store>(store: &St, stores: &[PendingStore]) -> Option<Refusal>
-    requires whole { St.broken store.now ≡ false }
-    ensures { St.told → result ≡ conflict_of (St.list store.now) stores.now }
+    requires whole { (St.state store.now).broken ≡ false }
+    ensures { St.told → result ≡ conflict_of (St.state store.now).list stores.now }
 {
     for pending in stores {
         let current = store.serial_of(pending.oid);
@@ -62,12 +62,12 @@ pub(crate) fn decide<St: Store, C: Clock>(
     stores: &[PendingStore],
     clock: &mut C,
 ) -> Result<Option<NewTransaction>, VoteError>
-    requires whole { St.broken store.now ≡ false }
+    requires whole { (St.state store.now).broken ≡ false }
     requires distinct { IsDistinct nat_eq (map (λ p. p.oid) stores.now) }
-    ensures gives { St.told → GivesDecision result (St.list store.now) stores.now (C.stamps clock.old) (C.stamps clock.new) }
-    ensures later { IfOk result (λ new. IfSome new (λ t. St.newest_number store.now < t.tid)) }
+    ensures gives { St.told → GivesDecision result (St.state store.now).list stores.now (C.stamps clock.old) (C.stamps clock.new) }
+    ensures later { IfOk result (λ new. IfSome new (λ t. (St.state store.now).newest < t.tid)) }
     ensures well_formed { IfOk result (λ new. IfSome new IsWellFormed) }
-    ensures votable { St.told → IfOk result (λ new. IfSome new (λ t. IsVotable (St.list store.now) t)) }
+    ensures votable { St.told → IfOk result (λ new. IfSome new (λ t. IsVotable (St.state store.now).list t)) }
     ensures unread { IsErrOf result VoteError.Memory → C.stamps clock.new ≡ C.stamps clock.old }
 {
     if let Some(why) = conflict(store, stores) {

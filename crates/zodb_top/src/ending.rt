@@ -2,9 +2,9 @@
 
 ghost use Rattle.std.specs.Prelude.{◌≡◌, ◌<◌, ◌≤◌, None, false, if◌then◌else◌, IfErr, IfOk, IsErrOf, OnErr, OnOk, length};
 ghost use Rattle.zb_model.specs.Voting.{IsVotable, IsWellFormed};
-ghost use Rattle.zb_outside.specs.Rose.{Rose};
-ghost use Rattle.zodb_top.specs.Decisions.{IsHeld};
-ghost use Rattle.zodb_top.specs.Seen.{IsSound, held_answer, is_holder_of, state_of};
+ghost use Rattle.zb_base.specs.Counts.{Rose};
+ghost use Rattle.zodb_top.specs.Decisions.{IsVoteDecided};
+ghost use Rattle.zodb_top.specs.Seen.{IsSoundHub, held_answer, is_holder_of, state_of};
 ghost use Rattle.zodb_top.specs.Steps.{IsClockStep, IsStep, LineTicks};
 
 use crate::decide::{VoteError, decide};
@@ -43,7 +43,7 @@ fn hold<St: Store>(
     requires later { hub.old.newest < new.now.tid }
     requires well_formed { IsWellFormed new.now }
     requires votable { St.told → IsVotable hub.old.list new.now }
-    ensures held { IfOk result (λ a. IsHeld St.told (Rose hub.old.read_faults hub.new.read_faults) number new.now a hub.old hub.new) }
+    ensures held { IfOk result (λ a. IsVoteDecided St.told (Rose hub.old.read_faults hub.new.read_faults) number new.now a hub.old hub.new) }
     ensures seats { hub.new.seats ≡ hub.old.seats }
     ensures greatest { hub.new.greatest ≡ hub.old.greatest }
     ensures list { St.told → ¬ IsErrOf result TurnError.StoreFault → hub.new.list ≡ hub.old.list }
@@ -76,11 +76,11 @@ pub(crate) fn vote<St: Store, C: Clock>(
     number: u32,
     clock: &mut C,
 ) -> Result<Answer, TurnError>
-    requires sound { IsSound St.told hub.old }
+    requires sound { IsSoundHub St.told hub.old }
     requires open { number < length hub.old.seats }
     ensures step { St.told → IfOk result (λ a. IsClockStep (Rose hub.old.read_faults hub.new.read_faults) (C.stamps clock.old) (C.stamps clock.new) (state_of hub.old) Line.Vote number a (state_of hub.new)) }
     ensures ticks { St.told → OnErr result (LineTicks (C.stamps clock.old) (C.stamps clock.new) (state_of hub.old) Line.Vote number) }
-    ensures sound { OnOk result (IsSound St.told hub.new) }
+    ensures sound { OnOk result (IsSoundHub St.told hub.new) }
     ensures kept { length hub.new.seats ≡ length hub.old.seats }
     ensures list { St.told → IsErrOf result TurnError.Memory → hub.new.list ≡ hub.old.list }
     ensures whole { IsErrOf result TurnError.Memory → hub.new.broken ≡ false }
@@ -122,10 +122,10 @@ fn take_vote(vote: &mut Option<HeldVote>, number: u32) -> Option<HeldVote>
 /// What was voted is put at the end of the list, and the greatest number of an object is at least
 /// those that it changes.
 pub(crate) fn finish<St: Store>(hub: &mut Hub<St>, number: u32) -> Result<Answer, TurnError>
-    requires sound { IsSound St.told hub.old }
+    requires sound { IsSoundHub St.told hub.old }
     requires open { number < length hub.old.seats }
     ensures step { St.told → IfOk result (λ a. IsStep (state_of hub.old) Line.Finish number a (state_of hub.new)) }
-    ensures sound { OnOk result (IsSound St.told hub.new) }
+    ensures sound { OnOk result (IsSoundHub St.told hub.new) }
     ensures kept { length hub.new.seats ≡ length hub.old.seats }
     ensures fault { IfErr result (λ e. e ≡ TurnError.StoreFault) }
     ensures failed { OnErr result (Rose hub.old.faults hub.new.faults) }
@@ -149,10 +149,10 @@ pub(crate) fn finish<St: Store>(hub: &mut Hub<St>, number: u32) -> Result<Answer
 
 /// The stores go, and the vote, where the session holds it.
 pub(crate) fn abort<St: Store>(hub: &mut Hub<St>, number: u32) -> Result<Answer, TurnError>
-    requires sound { IsSound St.told hub.old }
+    requires sound { IsSoundHub St.told hub.old }
     requires open { number < length hub.old.seats }
     ensures step { St.told → IfOk result (λ a. IsStep (state_of hub.old) Line.Abort number a (state_of hub.new)) }
-    ensures sound { OnOk result (IsSound St.told hub.new) }
+    ensures sound { OnOk result (IsSoundHub St.told hub.new) }
     ensures kept { length hub.new.seats ≡ length hub.old.seats }
     ensures fault { IfErr result (λ e. e ≡ TurnError.StoreFault) }
     ensures failed { OnErr result (Rose hub.old.faults hub.new.faults) }

@@ -2,7 +2,7 @@
 
 ghost use Rattle.std.specs.Prelude.{◌≡◌, None, false, length};
 ghost use Rattle.zodb_top.specs.Machine.{start};
-ghost use Rattle.zodb_top.specs.Seen.{IsSound, state_of};
+ghost use Rattle.zodb_top.specs.Seen.{IsSoundHub, state_of};
 
 use crate::seat::Seat;
 use crate::vote::HeldVote;
@@ -31,13 +31,13 @@ impl<St: Store> Model for Hub<St> {
     ghost Value = { HubSeen };
 
     ghost view = { λ hub. record {
-      list = St.list hub.store;
-      newest = St.newest_number hub.store;
-      voted = St.voted hub.store;
-      broken = St.broken hub.store;
-      log = St.log hub.store;
-      read_faults = St.read_faults hub.store;
-      faults = St.faults hub.store;
+      list = (St.state hub.store).list;
+      newest = (St.state hub.store).newest;
+      voted = (St.state hub.store).voted;
+      broken = (St.state hub.store).broken;
+      log = (St.state hub.store).log;
+      read_faults = (St.state hub.store).read_faults;
+      faults = (St.state hub.store).faults;
       greatest = hub.greatest;
       seats = hub.seats.items;
       vote = hub.vote;
@@ -47,14 +47,14 @@ impl<St: Store> Model for Hub<St> {
 impl<St: Store> Hub<St> {
     /// A hub without sessions over this store.
     pub(crate) fn new(alloc: Global, store: St) -> Hub<St>
-        requires whole { St.broken store ≡ false }
-        requires free { St.voted store ≡ None }
-        ensures state { St.told → state_of result ≡ start (St.list store) }
-        ensures sound { IsSound St.told result }
+        requires whole { (St.state store).broken ≡ false }
+        requires free { (St.state store).voted ≡ None }
+        ensures state { St.told → state_of result ≡ start (St.state store).list }
+        ensures sound { IsSoundHub St.told result }
         ensures empty { length result.seats ≡ 0 }
-        ensures log { result.log ≡ St.log store }
-        ensures read_faults { result.read_faults ≡ St.read_faults store }
-        ensures faults { result.faults ≡ St.faults store }
+        ensures log { result.log ≡ (St.state store).log }
+        ensures read_faults { result.read_faults ≡ (St.state store).read_faults }
+        ensures faults { result.faults ≡ (St.state store).faults }
     {
         let greatest = store.greatest_oid();
         Hub {
@@ -67,11 +67,11 @@ impl<St: Store> Hub<St> {
 
     /// The store.
     pub(crate) fn into_store(self) -> St
-        ensures list { St.list result ≡ self.list }
-        ensures broken { St.broken result ≡ self.broken }
-        ensures log { St.log result ≡ self.log }
-        ensures read_faults { St.read_faults result ≡ self.read_faults }
-        ensures faults { St.faults result ≡ self.faults }
+        ensures list { (St.state result).list ≡ self.list }
+        ensures broken { (St.state result).broken ≡ self.broken }
+        ensures log { (St.state result).log ≡ self.log }
+        ensures read_faults { (St.state result).read_faults ≡ self.read_faults }
+        ensures faults { (St.state result).faults ≡ self.faults }
     {
         let Hub {
             store,

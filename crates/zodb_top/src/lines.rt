@@ -2,8 +2,8 @@
 
 ghost use Rattle.std.specs.Prelude.{◌≡◌, ◌<◌, ◌≤◌, false, IfErr, IfOk, OnOk, length};
 ghost use Rattle.std.specs.Option.{option_copied};
-ghost use Rattle.zb_outside.specs.Rose.{Rose};
-ghost use Rattle.zodb_top.specs.Seen.{IsSound, IsStored, IsWorkOf, is_holder_of, state_of};
+ghost use Rattle.zb_base.specs.Counts.{Rose};
+ghost use Rattle.zodb_top.specs.Seen.{IsSoundHub, IsStored, IsWorkOf, is_holder_of, state_of};
 ghost use Rattle.zodb_top.specs.Found.{answer_of};
 ghost use Rattle.zodb_top.specs.Steps.{IsReadStep, IsStep};
 
@@ -39,10 +39,10 @@ pub(crate) fn work_of(seats: &[Seat], number: u32) -> Option<&Work>
 /// A transaction begins.
 #[tactic(auto, using(crate::proofs::Steps::begin_refused, crate::proofs::Steps::begin_new))]
 pub(crate) fn begin<St: Store>(alloc: Global, hub: &mut Hub<St>, number: u32) -> Answer
-    requires sound { IsSound St.told hub.old }
+    requires sound { IsSoundHub St.told hub.old }
     requires open { number < length hub.old.seats }
     ensures step { St.told → IsStep (state_of hub.old) Line.Begin number result (state_of hub.new) }
-    ensures sound { IsSound St.told hub.new }
+    ensures sound { IsSoundHub St.told hub.new }
     ensures kept { length hub.new.seats ≡ length hub.old.seats }
     ensures read_faults { hub.new.read_faults ≡ hub.old.read_faults }
     ensures faults { hub.new.faults ≡ hub.old.faults }
@@ -82,10 +82,10 @@ pub(crate) fn load<St: Store>(
     number: u32,
     oid: Oid,
 ) -> Result<Answer, TurnError>
-    requires sound { IsSound St.told hub.old }
+    requires sound { IsSoundHub St.told hub.old }
     requires open { number < length hub.old.seats }
     ensures step { St.told → IfOk result (λ a. IsReadStep (Rose hub.old.read_faults hub.new.read_faults) (state_of hub.old) (Line.Load oid) number a (state_of hub.new)) }
-    ensures sound { OnOk result (IsSound St.told hub.new) }
+    ensures sound { OnOk result (IsSoundHub St.told hub.new) }
     ensures kept { length hub.new.seats ≡ length hub.old.seats }
     ensures memory { IfErr result (λ e. e ≡ TurnError.Memory) }
     ensures list { St.told → hub.new.list ≡ hub.old.list }
@@ -122,10 +122,10 @@ pub(crate) fn store<St: Store>(
     number: u32,
     new: PendingStore,
 ) -> Result<Answer, AllocError>
-    requires sound { IsSound St.told hub.old }
+    requires sound { IsSoundHub St.told hub.old }
     requires open { number < length hub.old.seats }
     ensures step { St.told → IfOk result (λ a. IsStep (state_of hub.old) (Line.Store new.oid new.base new.bytes) number a (state_of hub.new)) }
-    ensures sound { OnOk result (IsSound St.told hub.new) }
+    ensures sound { OnOk result (IsSoundHub St.told hub.new) }
     ensures kept { length hub.new.seats ≡ length hub.old.seats }
     ensures list { St.told → hub.new.list ≡ hub.old.list }
     ensures whole { hub.new.broken ≡ false }

@@ -8,7 +8,7 @@ ghost use Rattle.fs_records.specs.File.{StandsFor};
 ghost use Rattle.fs_recovery.specs.Opens.{IsNoList, IsOpened};
 ghost use Rattle.fs_records.specs.Places.{IsIndexOf};
 ghost use Rattle.zb_model.specs.declared.data.Transaction.{Transaction};
-ghost use Rattle.zb_outside.specs.Rose.{Rose};
+ghost use Rattle.zb_base.specs.Counts.{Rose};
 ghost use Rattle.zb_script.specs.Lists.{log_text, revision_text};
 ghost use Rattle.zb_volume.specs.declared.areas.Area.TheVariants.{Main};
 ghost use Rattle.zb_volume.specs.Disk.{seen};

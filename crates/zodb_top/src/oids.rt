@@ -2,7 +2,7 @@
 
 ghost use Rattle.std.specs.Prelude.{◌≡◌, ◌<◌, max, map, length};
 ghost use Rattle.zb_model.specs.Queries.{greatest_of};
-ghost use Rattle.zodb_top.specs.Seen.{IsSound, state_of};
+ghost use Rattle.zodb_top.specs.Seen.{IsSoundHub, state_of};
 ghost use Rattle.zodb_top.specs.Steps.{IsStep};
 
 use crate::hub::Hub;
@@ -33,10 +33,10 @@ pub(crate) fn greater(one: Oid, other: Oid) -> Oid
 /// The number after the greatest is handed out, where there is one.
 #[tactic(auto, using(crate::proofs::Steps::new_given, crate::proofs::Steps::new_spent))]
 pub(crate) fn new_oid<St: Store>(hub: &mut Hub<St>, number: u32) -> Answer
-    requires sound { IsSound St.told hub.old }
+    requires sound { IsSoundHub St.told hub.old }
     requires open { number < length hub.old.seats }
     ensures step { St.told → IsStep (state_of hub.old) Line.New number result (state_of hub.new) }
-    ensures sound { IsSound St.told hub.new }
+    ensures sound { IsSoundHub St.told hub.new }
     ensures kept { length hub.new.seats ≡ length hub.old.seats }
     ensures read_faults { hub.new.read_faults ≡ hub.old.read_faults }
     ensures faults { hub.new.faults ≡ hub.old.faults }

@@ -2,8 +2,8 @@
 
 ghost use Rattle.std.specs.Prelude.{◌≡◌, ◌≤◌, IfOk, OnErr, OnOk};
 ghost use Rattle.std.specs.Io.KnownBytes.{Appends};
-ghost use Rattle.zb_outside.specs.Rose.{Rose};
-ghost use Rattle.zb_outside.specs.Written.{AppendsFront};
+ghost use Rattle.zb_base.specs.Counts.{Rose};
+ghost use Rattle.zb_outside.specs.Written.{AppendsPrefix};
 ghost use Rattle.zodb_top.specs.Program.{IsWritten};
 ghost use Rattle.zodb_top.specs.Texts.{cut_lines, damage_line, joined};
 ghost use Rattle.zodb_top.specs.Unopened.{SaysUnopened};
@@ -31,7 +31,7 @@ pub(crate) fn say<K: Sink>(sink: &mut K, text: &[u8], status: Status) -> Status
 /// Writes a line.
 fn write_line<K: Sink>(sink: &mut K, line: &Text8) -> Result<(), Failed>
     ensures ok { OnOk result (Appends (K.taken sink.old) (K.taken sink.new) line.now) }
-    ensures err { OnErr result (AppendsFront (K.taken sink.old) (K.taken sink.new) line.now) }
+    ensures err { OnErr result (AppendsPrefix (K.taken sink.old) (K.taken sink.new) line.now) }
     ensures failed { OnErr result (Rose (K.faults sink.old) (K.faults sink.new)) }
     ensures counted { K.faults sink.old ≤ K.faults sink.new }
 {
@@ -42,7 +42,7 @@ fn write_line<K: Sink>(sink: &mut K, line: &Text8) -> Result<(), Failed>
 #[tactic(auto, using(crate::proofs::Written::start_lines, crate::proofs::Written::one_line, crate::proofs::Written::all_lines, crate::proofs::Written::front_lines))]
 pub(crate) fn write_lines<K: Sink>(sink: &mut K, lines: &[Text8]) -> Result<(), Failed>
     ensures ok { OnOk result (Appends (K.taken sink.old) (K.taken sink.new) (joined lines.now)) }
-    ensures err { OnErr result (AppendsFront (K.taken sink.old) (K.taken sink.new) (joined lines.now)) }
+    ensures err { OnErr result (AppendsPrefix (K.taken sink.old) (K.taken sink.new) (joined lines.now)) }
     ensures failed { OnErr result (Rose (K.faults sink.old) (K.faults sink.new)) }
     ensures counted { K.faults sink.old ≤ K.faults sink.new }
 {

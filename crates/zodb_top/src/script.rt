@@ -5,7 +5,7 @@ ghost use Rattle.std.specs.Io.KnownBytes.{Consumes, IsAtEnd};
 ghost use Rattle.fs_records.specs.File.{StandsFor};
 ghost use Rattle.fs_recovery.specs.Opens.{IsNoList};
 ghost use Rattle.zb_model.specs.declared.data.Transaction.{Transaction};
-ghost use Rattle.zb_outside.specs.Rose.{Rose};
+ghost use Rattle.zb_base.specs.Counts.{Rose};
 ghost use Rattle.zb_script.specs.declared.line.Turn.{Turn};
 ghost use Rattle.zb_script.specs.Script.{IsBadLine, IsScript};
 ghost use Rattle.zb_volume.specs.declared.areas.Area.TheVariants.{Main};

@@ -5,7 +5,7 @@ ghost use Rattle.file_store.specs.Kept.{StandsForList};
 ghost use Rattle.fs_records.specs.File.{StandsFor};
 ghost use Rattle.fs_recovery.specs.Opens.{IsNoList};
 ghost use Rattle.zb_model.specs.declared.data.Transaction.{Transaction};
-ghost use Rattle.zb_outside.specs.Rose.{Rose};
+ghost use Rattle.zb_base.specs.Counts.{Rose};
 ghost use Rattle.zb_volume.specs.declared.areas.Area.TheVariants.{Main};
 ghost use Rattle.zb_volume.specs.Disk.{seen};
 ghost use Rattle.zodb_top.specs.Program.{IsUnlessMemory};
@@ -45,16 +45,16 @@ pub(crate) fn run_store<St: Store, K: Sink, C: Clock>(
     sink: &mut K,
     clock: &mut C,
 ) -> (Status, St)
-    requires whole { St.broken store ≡ false }
-    requires free { St.voted store ≡ None }
+    requires whole { (St.state store).broken ≡ false }
+    requires free { (St.state store).voted ≡ None }
     requires few { length turns.now < 2 ^ 32 }
-    ensures outcome { StoreOutcome result.0 St.told (St.list store) cut turns.now (St.read_faults store) (St.read_faults result.1) (St.faults store) (St.faults result.1)
-        (K.faults sink.old) (K.faults sink.new) (K.taken sink.old) (K.taken sink.new) (C.stamps clock.old) (C.stamps clock.new) (St.list result.1) }
-    ensures whole { (result.0 ≡ Status.StoreFault → ⊥) → St.broken result.1 ≡ false }
-    ensures complete { ¬ Rose (St.faults store) (St.faults result.1) → ¬ Rose (K.faults sink.old) (K.faults sink.new) → IsUnlessMemory result.0 Status.Done }
+    ensures outcome { StoreOutcome result.0 St.told (St.state store).list cut turns.now (St.state store).read_faults (St.state result.1).read_faults (St.state store).faults (St.state result.1).faults
+        (K.faults sink.old) (K.faults sink.new) (K.taken sink.old) (K.taken sink.new) (C.stamps clock.old) (C.stamps clock.new) (St.state result.1).list }
+    ensures whole { (result.0 ≡ Status.StoreFault → ⊥) → (St.state result.1).broken ≡ false }
+    ensures complete { ¬ Rose (St.state store).faults (St.state result.1).faults → ¬ Rose (K.faults sink.old) (K.faults sink.new) → IsUnlessMemory result.0 Status.Done }
     ensures counted { K.faults sink.old ≤ K.faults sink.new }
-    ensures read_faults { St.read_faults store ≤ St.read_faults result.1 }
-    ensures faults { St.faults store ≤ St.faults result.1 }
+    ensures read_faults { (St.state store).read_faults ≤ (St.state result.1).read_faults }
+    ensures faults { (St.state store).faults ≤ (St.state result.1).faults }
 {
     let Ok(lines) = cut_lines(alloc, cut) else {
         return (Status::NoMemory, store);

@@ -6,7 +6,7 @@ ghost use Rattle.file_store.specs.Opening.{IsMade};
 ghost use Rattle.fs_records.specs.File.{StandsFor};
 ghost use Rattle.fs_recovery.specs.Opens.{IsNoList};
 ghost use Rattle.zb_model.specs.declared.data.Transaction.{Transaction};
-ghost use Rattle.zb_outside.specs.Rose.{Rose};
+ghost use Rattle.zb_base.specs.Counts.{Rose};
 ghost use Rattle.zb_script.specs.declared.line.Turn.{Turn};
 ghost use Rattle.zb_script.specs.Script.{IsBadLine};
 ghost use Rattle.zb_volume.specs.declared.areas.Area.TheVariants.{Main};

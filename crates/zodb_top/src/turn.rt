@@ -3,10 +3,10 @@
 ghost use Rattle.std.specs.Prelude.{◌≡◌, ◌<◌, ◌≤◌, ◌+◌, ◌^◌, false, IfOk, IfSome, IsErrOf, OnErr, OnOk, length, position};
 ghost use Rattle.std.specs.Str.{bytes_eq};
 ghost use Rattle.zb_script.specs.Shape.{is_open};
-ghost use Rattle.zb_outside.specs.Rose.{Rose};
+ghost use Rattle.zb_base.specs.Counts.{Rose};
 ghost use Rattle.zodb_top.specs.Machine.{session_of};
-ghost use Rattle.zodb_top.specs.Seen.{IsSound, state_of};
-ghost use Rattle.zodb_top.specs.Steps.{IsClockStep, IsOpening, IsTurn, LineTicks, Ticks};
+ghost use Rattle.zodb_top.specs.Seen.{IsSoundHub, state_of};
+ghost use Rattle.zodb_top.specs.Steps.{IsClockStep, IsOpening, IsTurnStep, LineTicks, Ticks};
 
 use crate::ending::{abort, finish, vote};
 use crate::errors::TurnError;
@@ -56,10 +56,10 @@ fn session_of<St: Store>(hub: &Hub<St>, client: &Name) -> Option<u32>
 /// A session begins, with the next number.
 #[tactic(auto, using(crate::proofs::Turns::opening))]
 fn open_session<St: Store>(hub: &mut Hub<St>, client: Name) -> Result<Answer, AllocError>
-    requires sound { IsSound St.told hub.old }
+    requires sound { IsSoundHub St.told hub.old }
     requires few { length hub.old.seats < 2 ^ 32 }
     ensures opening { IfOk result (λ a. IsOpening (state_of hub.old) client a (state_of hub.new)) }
-    ensures sound { OnOk result (IsSound St.told hub.new) }
+    ensures sound { OnOk result (IsSoundHub St.told hub.new) }
     ensures grows { length hub.new.seats ≤ length hub.old.seats + 1 }
     ensures list { hub.new.list ≡ hub.old.list }
     ensures whole { hub.new.broken ≡ false }
@@ -80,11 +80,11 @@ fn take_line<St: Store, C: Clock>(
     line: &Line,
     clock: &mut C,
 ) -> Result<Answer, TurnError>
-    requires sound { IsSound St.told hub.old }
+    requires sound { IsSoundHub St.told hub.old }
     requires open { number < length hub.old.seats }
     ensures step { St.told → IfOk result (λ a. IsClockStep (Rose hub.old.read_faults hub.new.read_faults) (C.stamps clock.old) (C.stamps clock.new) (state_of hub.old) line.now number a (state_of hub.new)) }
     ensures ticks { St.told → OnErr result (LineTicks (C.stamps clock.old) (C.stamps clock.new) (state_of hub.old) line.now number) }
-    ensures sound { OnOk result (IsSound St.told hub.new) }
+    ensures sound { OnOk result (IsSoundHub St.told hub.new) }
     ensures kept { length hub.new.seats ≡ length hub.old.seats }
     ensures list { St.told → IsErrOf result TurnError.Memory → hub.new.list ≡ hub.old.list }
     ensures whole { IsErrOf result TurnError.Memory → hub.new.broken ≡ false }
@@ -120,11 +120,11 @@ pub(crate) fn take_turn<St: Store, C: Clock>(
     turn: &Turn,
     clock: &mut C,
 ) -> Result<Answer, TurnError>
-    requires sound { IsSound St.told hub.old }
+    requires sound { IsSoundHub St.told hub.old }
     requires few { length hub.old.seats < 2 ^ 32 }
-    ensures turn { St.told → IfOk result (λ a. IsTurn (Rose hub.old.read_faults hub.new.read_faults) (C.stamps clock.old) (C.stamps clock.new) (state_of hub.old) turn.now a (state_of hub.new)) }
+    ensures turn { St.told → IfOk result (λ a. IsTurnStep (Rose hub.old.read_faults hub.new.read_faults) (C.stamps clock.old) (C.stamps clock.new) (state_of hub.old) turn.now a (state_of hub.new)) }
     ensures ticks { St.told → OnErr result (Ticks (C.stamps clock.old) (C.stamps clock.new) (state_of hub.old) turn.now) }
-    ensures sound { OnOk result (IsSound St.told hub.new) }
+    ensures sound { OnOk result (IsSoundHub St.told hub.new) }
     ensures grows { length hub.new.seats ≤ length hub.old.seats + 1 }
     ensures list { St.told → IsErrOf result TurnError.Memory → hub.new.list ≡ hub.old.list }
     ensures whole { IsErrOf result TurnError.Memory → hub.new.broken ≡ false }

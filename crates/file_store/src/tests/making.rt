@@ -121,10 +121,10 @@ pub type Opened = (FileStore<MemoryVolume>, Option<u64>);
 
 /// Opens a volume that is to be opened. Where Main is empty, the list is the first transaction alone.
 pub fn open(alloc: Global, volume: MemoryVolume, clock: &mut ListClock) -> Result<Opened, Fail>
-    ensures whole { IfOk result (λ o. ⟦<FileStore<MemoryVolume> as Store>⟧.broken o.0 ≡ false) }
-    ensures free { IfOk result (λ o. ⟦<FileStore<MemoryVolume> as Store>⟧.voted o.0 ≡ None) }
+    ensures whole { IfOk result (λ o. (⟦<FileStore<MemoryVolume> as Store>⟧.state o.0).broken ≡ false) }
+    ensures free { IfOk result (λ o. (⟦<FileStore<MemoryVolume> as Store>⟧.state o.0).voted ≡ None) }
     ensures made { volume.done ≡ [] → (stamp : Stamp) → slice_get clock.old 0 ≡ Some stamp
-        → IfOk result (λ o. ⟦<FileStore<MemoryVolume> as Store>⟧.list o.0 ≡ first_list stamp) }
+        → IfOk result (λ o. (⟦<FileStore<MemoryVolume> as Store>⟧.state o.0).list ≡ first_list stamp) }
 {
     match FileStore::create_or_open(alloc, volume, clock) {
         Ok(opened) => Ok(opened),
@@ -135,8 +135,8 @@ pub fn open(alloc: Global, volume: MemoryVolume, clock: &mut ListClock) -> Resul
 
 /// The plain store of a list that is made at this moment.
 fn plain_store(alloc: Global, stamp: Stamp) -> Result<MappingStore, Fail>
-    ensures list { IfOk result (λ s. ⟦<MappingStore as Store>⟧.list s ≡ first_list stamp) }
-    ensures free { IfOk result (λ s. ⟦<MappingStore as Store>⟧.voted s ≡ None) }
+    ensures list { IfOk result (λ s. (⟦<MappingStore as Store>⟧.state s).list ≡ first_list stamp) }
+    ensures free { IfOk result (λ s. (⟦<MappingStore as Store>⟧.state s).voted ≡ None) }
 {
     let first = first_transaction(alloc, stamp)?;
     let store = MappingStore::new(alloc, first)?;
@@ -159,9 +159,9 @@ pub fn beside_list(
     store: FileStore<MemoryVolume>,
     stamp: Stamp,
 ) -> Result<OverFile, Fail>
-    requires whole { ⟦<FileStore<MemoryVolume> as Store>⟧.broken store ≡ false }
-    requires free { ⟦<FileStore<MemoryVolume> as Store>⟧.voted store ≡ None }
-    requires made { ⟦<FileStore<MemoryVolume> as Store>⟧.list store ≡ first_list stamp }
+    requires whole { (⟦<FileStore<MemoryVolume> as Store>⟧.state store).broken ≡ false }
+    requires free { (⟦<FileStore<MemoryVolume> as Store>⟧.state store).voted ≡ None }
+    requires made { (⟦<FileStore<MemoryVolume> as Store>⟧.state store).list ≡ first_list stamp }
 {
     let list = plain_store(alloc, stamp)?;
     Ok(Watched::beside(store, list))

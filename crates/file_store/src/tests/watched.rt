@@ -21,8 +21,8 @@ pub struct Watched<S: Store> {
     list: Option<MappingStore>,
     ghost whole: { S.broken store ≡ false },
     ghost free: { S.voted store ≡ None },
-    ghost same: { S.told → ForSome list (λ m. S.list store ≡ ⟦<MappingStore as Store>⟧.list m) },
-    ghost list_free: { ForSome list (λ m. ⟦<MappingStore as Store>⟧.voted m ≡ None) },
+    ghost same: { S.told → ForSome list (λ m. S.list store ≡ (⟦<MappingStore as Store>⟧.state m).list) },
+    ghost list_free: { ForSome list (λ m. (⟦<MappingStore as Store>⟧.state m).voted ≡ None) },
 }
 
 /// The call that failed.
@@ -53,13 +53,13 @@ pub enum Step {
 
 /// Puts a transaction at the end of the plain list.
 fn put_behind(alloc: Global, list: &mut MappingStore, new: &NewTransaction) -> Result<(), Fail>
-    requires free { ⟦<MappingStore as Store>⟧.voted list.old ≡ None }
+    requires free { (⟦<MappingStore as Store>⟧.state list.old).voted ≡ None }
     requires well_formed { IsWellFormed new.now }
-    requires votable { IsVotable (⟦<MappingStore as Store>⟧.list list.old) new.now }
-    ensures free { OnOk result (⟦<MappingStore as Store>⟧.voted list.new ≡ None) }
-    ensures list { OnOk result (⟦<MappingStore as Store>⟧.list list.new
-        ≡ ⟦<MappingStore as Store>⟧.list list.old
-        ++ voted_of (⟦<MappingStore as Store>⟧.list list.old) new.now ∷ []) }
+    requires votable { IsVotable (⟦<MappingStore as Store>⟧.state list.old).list new.now }
+    ensures free { OnOk result ((⟦<MappingStore as Store>⟧.state list.new).voted ≡ None) }
+    ensures list { OnOk result ((⟦<MappingStore as Store>⟧.state list.new).list
+        ≡ (⟦<MappingStore as Store>⟧.state list.old).list
+        ++ voted_of (⟦<MappingStore as Store>⟧.state list.old).list new.now ∷ []) }
 {
     list.vote(alloc, new)?;
     list.finish()?;
@@ -79,8 +79,8 @@ impl<S: Store + Drop> Watched<S> {
     pub fn beside(store: S, list: MappingStore) -> Watched<S>
         requires whole { S.broken store ≡ false }
         requires free { S.voted store ≡ None }
-        requires same { S.told → S.list store ≡ ⟦<MappingStore as Store>⟧.list list }
-        requires list_free { ⟦<MappingStore as Store>⟧.voted list ≡ None }
+        requires same { S.told → S.list store ≡ (⟦<MappingStore as Store>⟧.state list).list }
+        requires list_free { (⟦<MappingStore as Store>⟧.state list).voted ≡ None }
     {
         Watched {
             store,

@@ -17,17 +17,17 @@ fn commit_to<St: Store>(
     store: &mut St,
     new: &NewTransaction,
 ) -> Result<(), StoreError>
-    requires whole { St.broken store.old ≡ false }
-    requires free { St.voted store.old ≡ None }
+    requires whole { (St.state store.old).broken ≡ false }
+    requires free { (St.state store.old).voted ≡ None }
     requires well_formed { IsWellFormed new.now }
-    requires later { St.newest_number store.old < new.now.tid }
-    requires votable { St.told → IsVotable (St.list store.old) new.now }
-    ensures free { OnOk result (St.voted store.new ≡ None) }
+    requires later { (St.state store.old).newest < new.now.tid }
+    requires votable { St.told → IsVotable (St.state store.old).list new.now }
+    ensures free { OnOk result ((St.state store.new).voted ≡ None) }
     ensures list { St.told → OnOk result
-        (St.list store.new ≡ St.list store.old ++ voted_of (St.list store.old) new.now ∷ []) }
+        ((St.state store.new).list ≡ (St.state store.old).list ++ voted_of (St.state store.old).list new.now ∷ []) }
     ensures kept { St.lasts → OnOk result
-        (Leaves Area.Main (λ bytes. St.stands bytes (St.list store.new)) (St.log store.new)) }
-    ensures quiet { St.quiet → St.log store.new ≡ St.log store.old }
+        (Leaves Area.Main (λ bytes. St.stands bytes (St.state store.new).list) (St.state store.new).log) }
+    ensures quiet { St.quiet → (St.state store.new).log ≡ (St.state store.old).log }
 {
     store.vote(alloc, new)?;
     let Ok(()) = store.finish() else {
@@ -38,8 +38,8 @@ fn commit_to<St: Store>(
 
 /// Commits through the bound.
 fn commit_through(alloc: Global, store: &mut MappingStore, row: Row<'_>) -> Result<(), Fail>
-    requires { ⟦<MappingStore as Store>⟧.voted store.old ≡ None }
-    ensures { OnOk result (⟦<MappingStore as Store>⟧.voted store.new ≡ None) }
+    requires { (⟦<MappingStore as Store>⟧.state store.old).voted ≡ None }
+    ensures { OnOk result ((⟦<MappingStore as Store>⟧.state store.new).voted ≡ None) }
 {
     let new = new_transaction(alloc, row)?;
     if !is_votable(store.list(), &new) {
@@ -51,8 +51,8 @@ fn commit_through(alloc: Global, store: &mut MappingStore, row: Row<'_>) -> Resu
 
 /// Votes a transaction and drops it.
 fn vote_and_abort(alloc: Global, store: &mut MappingStore, row: Row<'_>) -> Result<(), Fail>
-    requires { ⟦<MappingStore as Store>⟧.voted store.old ≡ None }
-    ensures { OnOk result (⟦<MappingStore as Store>⟧.voted store.new ≡ None) }
+    requires { (⟦<MappingStore as Store>⟧.state store.old).voted ≡ None }
+    ensures { OnOk result ((⟦<MappingStore as Store>⟧.state store.new).voted ≡ None) }
 {
     let new = new_transaction(alloc, row)?;
     if !is_votable(store.list(), &new) {

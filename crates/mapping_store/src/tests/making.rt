@@ -62,7 +62,7 @@ pub fn new_transaction(alloc: Global, row: Row<'_>) -> Result<NewTransaction, Al
 
 /// A store with the first transaction alone, whose tid is T0.
 pub fn new_store(alloc: Global) -> Result<MappingStore, Fail>
-    ensures { IfOk result (λ store. ⟦<MappingStore as Store>⟧.voted store ≡ None) }
+    ensures { IfOk result (λ store. (⟦<MappingStore as Store>⟧.state store).voted ≡ None) }
 {
     let stamp = Stamp::new(2024, 1, 1, 0, 0, 0)?;
     let first = first_transaction(alloc, stamp)?;
@@ -72,8 +72,8 @@ pub fn new_store(alloc: Global) -> Result<MappingStore, Fail>
 
 /// Votes a transaction and finishes it.
 pub fn commit(alloc: Global, store: &mut MappingStore, new: &NewTransaction) -> Result<(), Fail>
-    requires { ⟦<MappingStore as Store>⟧.voted store.old ≡ None }
-    ensures { OnOk result (⟦<MappingStore as Store>⟧.voted store.new ≡ None) }
+    requires { (⟦<MappingStore as Store>⟧.state store.old).voted ≡ None }
+    ensures { OnOk result ((⟦<MappingStore as Store>⟧.state store.new).voted ≡ None) }
 {
     if !is_votable(store.list(), new) {
         return Err(Fail::new("the transaction may be voted"));
@@ -85,7 +85,7 @@ pub fn commit(alloc: Global, store: &mut MappingStore, new: &NewTransaction) -> 
 
 /// A store with the first transaction, and those of the rows behind it.
 pub fn store_of(alloc: Global, rows: &[Row<'_>]) -> Result<MappingStore, Fail>
-    ensures { IfOk result (λ store. ⟦<MappingStore as Store>⟧.voted store ≡ None) }
+    ensures { IfOk result (λ store. (⟦<MappingStore as Store>⟧.state store).voted ≡ None) }
 {
     let mut store = new_store(alloc)?;
     for row in rows {

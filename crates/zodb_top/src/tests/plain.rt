@@ -12,8 +12,8 @@ use zb_script::read_script;
 
 /// A store of the first transaction of this moment.
 fn plain_store(alloc: Global, stamp: Stamp) -> Result<MappingStore, Fail>
-    ensures whole { IfOk result (λ s. ⟦<MappingStore as Store>⟧.broken s ≡ false) }
-    ensures free { IfOk result (λ s. ⟦<MappingStore as Store>⟧.voted s ≡ None) }
+    ensures whole { IfOk result (λ s. (⟦<MappingStore as Store>⟧.state s).broken ≡ false) }
+    ensures free { IfOk result (λ s. (⟦<MappingStore as Store>⟧.state s).voted ≡ None) }
 {
     let first = first_transaction(alloc, stamp)?;
     let store = MappingStore::new(alloc, first)?;

@@ -1,5 +1,5 @@
 use Rattle.std.proofs.Common.{◌∙◌, List, ℕ, None, refl, sym, subst}
-use Rattle.fs_records.specs.NumberLaws.{IsBytes}
+use Rattle.zb_base.specs.Bytes.{AreBytes}
 use Rattle.fs_records.specs.File.{StandsFor}
 use Rattle.file_store.specs.Opening.{first_list}
 use Rattle.file_store.proofs.Commits.{are_bytes}
@@ -20,7 +20,7 @@ returns-clause-made g c = λ told.
 
 pub returns-clause-fits : goal.returns-clause-fits
 returns-clause-fits g c = λ told.
-    subst (λ (b : List ℕ). IsBytes b) (sym (c.in_ok-create.ensures.content told ∙ c.as_slice.ensures.value)) (are_bytes c.in_ok-file.file c.as_slice.ensures.bytes)
+    subst (λ (b : List ℕ). AreBytes b) (sym (c.in_ok-create.ensures.content told ∙ c.as_slice.ensures.value)) (are_bytes c.in_ok-file.file c.as_slice.ensures.bytes)
 
 pub returns-clause-any_moment : goal.returns-clause-any_moment
 returns-clause-any_moment g c = λ told.

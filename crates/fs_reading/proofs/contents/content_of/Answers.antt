@@ -1,6 +1,6 @@
 use Rattle.std.proofs.Common.{◌≡◌, ℕ, ◌+◌, List, length, take, drop, ap, sym, ◌∙◌, arith}
 use Rattle.zb_model.specs.declared.data.Content.TheVariants.{Held}
-use Rattle.fs_reading.specs.Main.{main}
+use Rattle.zb_volume.specs.Disk.{main_bytes}
 use Rattle.fs_reading.proofs.contents.content_of.Goals as goal
 
 pub returns-in_default-clause-value : goal.returns-in_default-clause-value
@@ -10,8 +10,8 @@ returns-in_default-clause-value g c = λ told content is.
 
 pub bytes_at-requires : goal.bytes_at-requires
 bytes_at-requires g c = λ told.
-    let bytes : List ℕ = main (g.V.Volume.log c.args.volume.now) in
-    let then : main (g.V.Volume.log c.source_of.new.volume) ≡ bytes = ap main c.source_of.ensures.same in
+    let bytes : List ℕ = main_bytes (g.V.Volume.log c.args.volume.now) in
+    let then : main_bytes (g.V.Volume.log c.source_of.new.volume) ≡ bytes = ap main_bytes c.source_of.ensures.same in
     let t = c.requires.some told in
     let source = c.in_ok-source.ensures.value told t.0 t.1 in
     let here = rw c.in-Some.is at source in
@@ -21,8 +21,8 @@ bytes_at-requires g c = λ told.
 
 pub returns-clause-value : goal.returns-clause-value
 returns-clause-value g c = λ told content is.
-    let bytes : List ℕ = main (g.V.Volume.log c.args.volume.now) in
-    let then : main (g.V.Volume.log c.source_of.new.volume) ≡ bytes = ap main c.source_of.ensures.same in
+    let bytes : List ℕ = main_bytes (g.V.Volume.log c.args.volume.now) in
+    let then : main_bytes (g.V.Volume.log c.source_of.new.volume) ≡ bytes = ap main_bytes c.source_of.ensures.same in
     let source = c.in_ok-source.ensures.value told content is in
     let here = rw c.in-Some.is at source in
     let short = c.requires.short told in

@@ -1,7 +1,7 @@
 use Rattle.std.proofs.Common.{◌≡◌, ◌≢◌, ℕ, ◌<◌, List, Some, ap, sym, subst, ◌∙◌, arith}
 use Rattle.zb_model.specs.declared.data.Content.{Content}
 use Rattle.fs_records.specs.declared.header.DataHeader.{DataHeader}
-use Rattle.fs_reading.specs.Main.{main}
+use Rattle.zb_volume.specs.Disk.{main_bytes}
 use Rattle.fs_reading.specs.Sources.{IsSource}
 use Rattle.fs_reading.specs.Standing.{data_head_at, back_at, IsContent}
 use Rattle.fs_reading.proofs.Chains.{when_absent, when_earlier, when_held}
@@ -9,18 +9,18 @@ use Rattle.fs_reading.proofs.contents.source_of.Goals as goal
 
 pub returns-then-back-eq0-clause-value : goal.returns-then-back-eq0-clause-value
 returns-then-back-eq0-clause-value g c = λ told content is.
-    let bytes : List ℕ = main (g.V.Volume.log c.args.volume.now) in
+    let bytes : List ℕ = main_bytes (g.V.Volume.log c.args.volume.now) in
     let place : ℕ = c.loop-length.place in
-    let now : main (g.V.Volume.log c.loop-length.volume) ≡ bytes = ap main c.loop-length.invariant.same in
+    let now : main_bytes (g.V.Volume.log c.loop-length.volume) ≡ bytes = ap main_bytes c.loop-length.invariant.same in
     let back : back_at bytes place ≡ 0 = sym (ap (λ (b : List ℕ). back_at b place) now) ∙ sym (c.in_ok-back.ensures.value told) ∙ c.if-back-eq0.true in
     let none : (data_head_at bytes place).length ≡ 0 = sym (c.loop-length.invariant.length_is told) ∙ c.loop-length-test.true in
     when_absent bytes content place (c.loop-length.invariant.each told content is) none back
 
 pub returns-then-back-place-clause-value : goal.returns-then-back-place-clause-value
 returns-then-back-place-clause-value g c = λ told content is.
-    let bytes : List ℕ = main (g.V.Volume.log c.args.volume.now) in
+    let bytes : List ℕ = main_bytes (g.V.Volume.log c.args.volume.now) in
     let place : ℕ = c.loop-length.place in
-    let now : main (g.V.Volume.log c.loop-length.volume) ≡ bytes = ap main c.loop-length.invariant.same in
+    let now : main_bytes (g.V.Volume.log c.loop-length.volume) ≡ bytes = ap main_bytes c.loop-length.invariant.same in
     let back : back_at bytes place ≡ c.in_ok-back.back = sym (ap (λ (b : List ℕ). back_at b place) now) ∙ sym (c.in_ok-back.ensures.value told) in
     let none : (data_head_at bytes place).length ≡ 0 = sym (c.loop-length.invariant.length_is told) ∙ c.loop-length-test.true in
     let apart : back_at bytes place ≢ 0 = λ zero. c.if-back-eq0.false (sym back ∙ zero) in
@@ -29,11 +29,11 @@ returns-then-back-place-clause-value g c = λ told content is.
 
 pub loop-length-preserved : goal.loop-length-preserved
 loop-length-preserved g c =
-    let bytes : List ℕ = main (g.V.Volume.log c.args.volume.now) in
+    let bytes : List ℕ = main_bytes (g.V.Volume.log c.args.volume.now) in
     let place : ℕ = c.loop-length.place in
     let next : ℕ = c.in_ok-back.back in
-    let now : main (g.V.Volume.log c.loop-length.volume) ≡ bytes = ap main c.loop-length.invariant.same in
-    let then : main (g.V.Volume.log c.back_pointer_at.new.volume) ≡ bytes = ap main c.back_pointer_at.ensures.same ∙ now in
+    let now : main_bytes (g.V.Volume.log c.loop-length.volume) ≡ bytes = ap main_bytes c.loop-length.invariant.same in
+    let then : main_bytes (g.V.Volume.log c.back_pointer_at.new.volume) ≡ bytes = ap main_bytes c.back_pointer_at.ensures.same ∙ now in
     let back : (told : g.V.Volume.told) → back_at bytes place ≡ next = λ told. sym (ap (λ (b : List ℕ). back_at b place) now) ∙ sym (c.in_ok-back.ensures.value told) in
     let none : (told : g.V.Volume.told) → (data_head_at bytes place).length ≡ 0 = λ told. sym (c.loop-length.invariant.length_is told) ∙ c.loop-length-test.true in
     let earlier : (told : g.V.Volume.told) (content : Content) → IsContent bytes content place → IsContent bytes content next = λ told content is.
@@ -49,7 +49,7 @@ loop-length-preserved g c =
 
 pub returns-clause-value : goal.returns-clause-value
 returns-clause-value g c = λ told content is.
-    let bytes : List ℕ = main (g.V.Volume.log c.args.volume.now) in
+    let bytes : List ℕ = main_bytes (g.V.Volume.log c.args.volume.now) in
     let place : ℕ = c.loop-length.place in
     let length_is : (data_head_at bytes place).length ≡ c.loop-length.length = sym (c.loop-length.invariant.length_is told) in
     let h = when_held bytes content place (c.loop-length.invariant.each told content is) (λ zero. c.loop-length-test.false (sym length_is ∙ zero)) in

@@ -1,6 +1,6 @@
 use Rattle.std.proofs.Common.{◌≡◌}
 use Rattle.zb_model.specs.declared.data.Content.{Content}
-use Rattle.fs_reading.specs.Main.{main}
+use Rattle.zb_volume.specs.Disk.{main_bytes}
 use Rattle.fs_reading.specs.Standing.{data_head_at, IsContent}
 use Rattle.fs_reading.proofs.contents.source_of.Given as goal
 
@@ -9,9 +9,9 @@ invariant-loop-length g l = record {
   same : g.V.Volume.log l.volume ≡ g.V.Volume.log l.fn.volume;
   reads : g.V.Volume.read_faults l.volume ≡ g.V.Volume.read_faults l.fn.volume;
   writes : g.V.Volume.write_faults l.volume ≡ g.V.Volume.write_faults l.fn.volume;
-  length_is : g.V.Volume.told → l.length ≡ (data_head_at (main (g.V.Volume.log l.fn.volume)) l.place).length;
-  some : g.V.Volume.told → (content : Content) × IsContent (main (g.V.Volume.log l.fn.volume)) content l.place;
-  each : g.V.Volume.told → (content : Content) → IsContent (main (g.V.Volume.log l.fn.volume)) content l.fn.at → IsContent (main (g.V.Volume.log l.fn.volume)) content l.place;
+  length_is : g.V.Volume.told → l.length ≡ (data_head_at (main_bytes (g.V.Volume.log l.fn.volume)) l.place).length;
+  some : g.V.Volume.told → (content : Content) × IsContent (main_bytes (g.V.Volume.log l.fn.volume)) content l.place;
+  each : g.V.Volume.told → (content : Content) → IsContent (main_bytes (g.V.Volume.log l.fn.volume)) content l.fn.at → IsContent (main_bytes (g.V.Volume.log l.fn.volume)) content l.place;
 }
 
 abbrev pub decreases-loop-length : goal.decreases-loop-length

@@ -6,15 +6,15 @@ use Rattle.zb_model.specs.declared.lists.Revision.{Revision}
 use Rattle.fs_records.specs.declared.place.Place.{Place}
 use Rattle.fs_records.specs.Blocks.{Known}
 use Rattle.fs_records.specs.Places.{place_of}
-use Rattle.fs_reading.specs.Main.{main}
-use Rattle.fs_reading.specs.Standing.{RecordStands, lasts, is_replaced, revision_at}
+use Rattle.zb_volume.specs.Disk.{main_bytes}
+use Rattle.fs_reading.specs.Standing.{RecordStands, lasts, is_replaced, revision_line_of}
 use Rattle.fs_reading.proofs.Lines.{at_index, later_places, one_revision}
 use Rattle.fs_reading.proofs.history.lines_at.Goals as goal
 
 pub line_of_last-requires-clause-stands : goal.line_of_last-requires-clause-stands
 line_of_last-requires-clause-stands g c = λ told.
-    let bytes : List ℕ = main (g.V.Volume.log c.args.volume.now) in
-    let now : main (g.V.Volume.log c.loop-left.volume) ≡ bytes = ap main c.loop-left.invariant.same in
+    let bytes : List ℕ = main_bytes (g.V.Volume.log c.args.volume.now) in
+    let now : main_bytes (g.V.Volume.log c.loop-left.volume) ≡ bytes = ap main_bytes c.loop-left.invariant.same in
     let stand = c.requires.stand told in
     let ks : List Known = stand.0 in
     let place : Place = c.index-places-left.result in
@@ -29,8 +29,8 @@ loop-left-preserved g c = record {
   reads = c.in_ok-line.ensures.uncounted ∙ c.loop-left.invariant.reads;
   writes = c.line_of_last.ensures.write_faults ∙ c.loop-left.invariant.writes;
   lines = λ told ks is all.
-      let bytes : List ℕ = main (g.V.Volume.log c.args.volume.now) in
-      let now : main (g.V.Volume.log c.loop-left.volume) ≡ bytes = ap main c.loop-left.invariant.same in
+      let bytes : List ℕ = main_bytes (g.V.Volume.log c.args.volume.now) in
+      let now : main_bytes (g.V.Volume.log c.loop-left.volume) ≡ bytes = ap main_bytes c.loop-left.invariant.same in
       let i : ℕ = c.loop-left.left - 1 in
       let left_is : c.loop-left.left ≡ i + 1 = omega (arith, c.loop-left-test.true) in
       let place : Place = c.index-places-left.result in
@@ -39,10 +39,10 @@ loop-left-preserved g c = record {
       let rest : List Known = drop (i + 1) ks in
       let later : take (length c.args.places.now - c.loop-left.left) (drop c.loop-left.left c.args.places.now) ≡ map place_of rest = take_rest c.args.places.now c.loop-left.left ∙ ap (λ (n : ℕ). drop n c.args.places.now) left_is ∙ later_places c.args.places.now ks (i + 1) is in
       let line = c.in_ok-line.ensures.value told x.known rest x.is later (subst (λ (b : List ℕ). RecordStands b x.known) (sym now) x.holds) in
-      let line_is : c.in_ok-line.line ≡ cond (is_replaced x.known rest) None (Some (revision_at bytes x.known)) = line ∙ ap (λ (b : List ℕ). cond (is_replaced x.known rest) None (Some (revision_at b x.known))) now in
-      let so_far : c.loop-left.lines ≡ reverse (map (revision_at bytes) (lasts rest)) = c.loop-left.invariant.lines told ks is all ∙ ap (λ (n : ℕ). reverse (map (revision_at bytes) (lasts (drop n ks)))) left_is in
+      let line_is : c.in_ok-line.line ≡ cond (is_replaced x.known rest) None (Some (revision_line_of bytes x.known)) = line ∙ ap (λ (b : List ℕ). cond (is_replaced x.known rest) None (Some (revision_line_of b x.known))) now in
+      let so_far : c.loop-left.lines ≡ reverse (map (revision_line_of bytes) (lasts rest)) = c.loop-left.invariant.lines told ks is all ∙ ap (λ (n : ℕ). reverse (map (revision_line_of bytes) (lasts (drop n ks)))) left_is in
       c.in_ok-keep.ensures.ok
       ∙ ap (λ (l : List Revision). l ++ option_to_list c.in_ok-line.line) so_far
-      ∙ ap (λ o. reverse (map (revision_at bytes) (lasts rest)) ++ option_to_list o) line_is
-      ∙ one_revision (revision_at bytes) ks i x.known x.rest;
+      ∙ ap (λ o. reverse (map (revision_line_of bytes) (lasts rest)) ++ option_to_list o) line_is
+      ∙ one_revision (revision_line_of bytes) ks i x.known x.rest;
 }

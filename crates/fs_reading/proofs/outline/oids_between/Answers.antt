@@ -3,15 +3,15 @@ use Rattle.std.specs.Prelude.{nat_eq}
 use Rattle.indexmap.specs.IndexSet.{insert_key}
 use Rattle.fs_records.specs.declared.header.DataHeader.{DataHeader}
 use Rattle.fs_records.specs.Rules.{payload_size}
-use Rattle.fs_reading.specs.Main.{main}
+use Rattle.zb_volume.specs.Disk.{main_bytes}
 use Rattle.fs_reading.specs.Standing.{data_head_at}
 use Rattle.fs_reading.proofs.Outlines.{OidsFrom, next_oid, oids_ended}
 use Rattle.fs_reading.proofs.outline.oids_between.Goals as goal
 
 pub data_header_at-requires : goal.data_header_at-requires
 data_header_at-requires g c = λ told.
-    let bytes : List ℕ = main (g.V.Volume.log c.args.volume.now) in
-    let now : main (g.V.Volume.log c.loop-place.volume) ≡ bytes = ap main c.loop-place.invariant.same in
+    let bytes : List ℕ = main_bytes (g.V.Volume.log c.args.volume.now) in
+    let now : main_bytes (g.V.Volume.log c.loop-place.volume) ≡ bytes = ap main_bytes c.loop-place.invariant.same in
     let stand = c.requires.stand told in
     let n = next_oid bytes c.loop-place.place c.args.end c.loop-place.oids.keys stand.0 c.loop-place-test.true (c.loop-place.invariant.rest told stand.0 stand.1) in
     let reach = n.reach in
@@ -23,9 +23,9 @@ loop-place-preserved g c = record {
   reads = c.in_ok-header.ensures.uncounted ∙ c.loop-place.invariant.reads;
   writes = c.data_header_at.ensures.write_faults ∙ c.loop-place.invariant.writes;
   rest = λ told ks between.
-      let bytes : List ℕ = main (g.V.Volume.log c.args.volume.now) in
+      let bytes : List ℕ = main_bytes (g.V.Volume.log c.args.volume.now) in
       let place : ℕ = c.loop-place.place in
-      let now : main (g.V.Volume.log c.loop-place.volume) ≡ bytes = ap main c.loop-place.invariant.same in
+      let now : main_bytes (g.V.Volume.log c.loop-place.volume) ≡ bytes = ap main_bytes c.loop-place.invariant.same in
       let n = next_oid bytes place c.args.end c.loop-place.oids.keys ks c.loop-place-test.true (c.loop-place.invariant.rest told ks between) in
       let header_is : c.in_ok-header.header ≡ data_head_at bytes place = c.in_ok-header.ensures.value told ∙ ap (λ (b : List ℕ). data_head_at b place) now in
       let oid_is : c.in_ok-header.header.oid ≡ (data_head_at bytes place).oid = ap (λ (h : DataHeader). h.oid) header_is in
@@ -40,5 +40,5 @@ loop-place-preserved g c = record {
 
 pub returns-clause-value : goal.returns-clause-value
 returns-clause-value g c = λ told ks between.
-    let bytes : List ℕ = main (g.V.Volume.log c.args.volume.now) in
+    let bytes : List ℕ = main_bytes (g.V.Volume.log c.args.volume.now) in
     oids_ended bytes c.loop-place.place c.args.end c.loop-place.oids.keys ks c.loop-place-test.false (c.loop-place.invariant.rest told ks between)

@@ -1,6 +1,6 @@
 use Rattle.std.proofs.Common.{◌≡◌, ◌-◌, List}
 use Rattle.fs_records.specs.Blocks.{Known}
-use Rattle.fs_reading.specs.Main.{main}
+use Rattle.zb_volume.specs.Disk.{main_bytes}
 use Rattle.fs_reading.specs.ChangesStand.{RecordsBetween}
 use Rattle.fs_reading.proofs.Outlines.{OidsFrom}
 use Rattle.fs_reading.proofs.outline.oids_between.Given as goal
@@ -10,8 +10,8 @@ invariant-loop-place g l = record {
   same : g.V.Volume.log l.volume ≡ g.V.Volume.log l.fn.volume;
   reads : g.V.Volume.read_faults l.volume ≡ g.V.Volume.read_faults l.fn.volume;
   writes : g.V.Volume.write_faults l.volume ≡ g.V.Volume.write_faults l.fn.volume;
-  rest : g.V.Volume.told → (ks : List Known) → RecordsBetween (main (g.V.Volume.log l.fn.volume)) l.fn.from l.fn.end ks
-      → OidsFrom (main (g.V.Volume.log l.fn.volume)) l.place l.fn.end l.oids.keys ks;
+  rest : g.V.Volume.told → (ks : List Known) → RecordsBetween (main_bytes (g.V.Volume.log l.fn.volume)) l.fn.from l.fn.end ks
+      → OidsFrom (main_bytes (g.V.Volume.log l.fn.volume)) l.place l.fn.end l.oids.keys ks;
 }
 
 abbrev pub decreases-loop-place : goal.decreases-loop-place

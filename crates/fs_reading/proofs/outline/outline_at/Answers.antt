@@ -1,6 +1,6 @@
 use Rattle.std.proofs.Common.{◌≡◌, ℕ, eqb, List, ap, sym, subst, ◌∙◌, arith}
 use Rattle.fs_records.specs.declared.header.Header.{Header}
-use Rattle.fs_reading.specs.Main.{main}
+use Rattle.zb_volume.specs.Disk.{main_bytes}
 use Rattle.fs_reading.specs.ChangesStand.{RecordsBetween, records_begin, records_end}
 use Rattle.fs_reading.specs.Standing.{head_at}
 use Rattle.fs_reading.proofs.Outlines.{oids_changed}
@@ -8,10 +8,10 @@ use Rattle.fs_reading.proofs.outline.outline_at.Goals as goal
 
 pub returns-clause-value : goal.returns-clause-value
 returns-clause-value g c = λ told t stands changes.
-    let bytes : List ℕ = main (g.V.Volume.log c.args.volume.now) in
+    let bytes : List ℕ = main_bytes (g.V.Volume.log c.args.volume.now) in
     let at : ℕ = c.args.place.at in
     let h : c.in_ok-header.header ≡ head_at bytes at = c.in_ok-header.ensures.value told in
-    let now : main (g.V.Volume.log c.header_at.new.volume) ≡ bytes = ap main c.header_at.ensures.same in
+    let now : main_bytes (g.V.Volume.log c.header_at.new.volume) ≡ bytes = ap main_bytes c.header_at.ensures.same in
     let short = c.requires.short told in
     let texts = stands.texts in
     let hu = ap (λ (x : Header). x.user) h in

@@ -4,7 +4,7 @@ use Rattle.indexmap.specs.IndexMap.{insert_entry}
 use Rattle.zb_model.specs.declared.data.Content.{Content}
 use Rattle.fs_records.specs.declared.header.DataHeader.{DataHeader}
 use Rattle.fs_records.specs.Rules.{payload_size}
-use Rattle.fs_reading.specs.Main.{main}
+use Rattle.zb_volume.specs.Disk.{main_bytes}
 use Rattle.fs_reading.specs.Standing.{data_head_at, IsContent}
 use Rattle.fs_reading.proofs.Chains.{head_within}
 use Rattle.fs_reading.proofs.Between.{StandsFrom, next, ended}
@@ -12,8 +12,8 @@ use Rattle.fs_reading.proofs.transaction.entries_between.Goals as goal
 
 pub data_header_at-requires : goal.data_header_at-requires
 data_header_at-requires g c = λ told.
-    let bytes : List ℕ = main (g.V.Volume.log c.args.volume.now) in
-    let now : main (g.V.Volume.log c.loop-place.volume) ≡ bytes = ap main c.loop-place.invariant.same in
+    let bytes : List ℕ = main_bytes (g.V.Volume.log c.args.volume.now) in
+    let now : main_bytes (g.V.Volume.log c.loop-place.volume) ≡ bytes = ap main_bytes c.loop-place.invariant.same in
     let stand = c.requires.stand told in
     let n = next bytes c.loop-place.place c.args.end c.loop-place.entries.entries stand.0 c.loop-place-test.true (c.loop-place.invariant.rest told stand.0 stand.1) in
     let within = head_within bytes n.content c.loop-place.place n.there in
@@ -21,8 +21,8 @@ data_header_at-requires g c = λ told.
 
 pub content_of-requires-clause-some : goal.content_of-requires-clause-some
 content_of-requires-clause-some g c = λ told.
-    let bytes : List ℕ = main (g.V.Volume.log c.args.volume.now) in
-    let now : main (g.V.Volume.log c.data_header_at.new.volume) ≡ bytes = ap main (c.data_header_at.ensures.same ∙ c.loop-place.invariant.same) in
+    let bytes : List ℕ = main_bytes (g.V.Volume.log c.args.volume.now) in
+    let now : main_bytes (g.V.Volume.log c.data_header_at.new.volume) ≡ bytes = ap main_bytes (c.data_header_at.ensures.same ∙ c.loop-place.invariant.same) in
     let stand = c.requires.stand told in
     let n = next bytes c.loop-place.place c.args.end c.loop-place.entries.entries stand.0 c.loop-place-test.true (c.loop-place.invariant.rest told stand.0 stand.1) in
     (n.content, subst (λ (b : List ℕ). IsContent b n.content c.loop-place.place) (sym now) n.there)
@@ -33,10 +33,10 @@ loop-place-preserved g c = record {
   reads = c.in_ok-content.ensures.uncounted ∙ c.in_ok-header.ensures.uncounted ∙ c.loop-place.invariant.reads;
   writes = c.content_of.ensures.write_faults ∙ c.data_header_at.ensures.write_faults ∙ c.loop-place.invariant.writes;
   rest = λ told ks between.
-      let bytes : List ℕ = main (g.V.Volume.log c.args.volume.now) in
+      let bytes : List ℕ = main_bytes (g.V.Volume.log c.args.volume.now) in
       let place : ℕ = c.loop-place.place in
-      let now : main (g.V.Volume.log c.loop-place.volume) ≡ bytes = ap main c.loop-place.invariant.same in
-      let then : main (g.V.Volume.log c.data_header_at.new.volume) ≡ bytes = ap main c.data_header_at.ensures.same ∙ now in
+      let now : main_bytes (g.V.Volume.log c.loop-place.volume) ≡ bytes = ap main_bytes c.loop-place.invariant.same in
+      let then : main_bytes (g.V.Volume.log c.data_header_at.new.volume) ≡ bytes = ap main_bytes c.data_header_at.ensures.same ∙ now in
       let n = next bytes place c.args.end c.loop-place.entries.entries ks c.loop-place-test.true (c.loop-place.invariant.rest told ks between) in
       let header_is : c.in_ok-header.header ≡ data_head_at bytes place = c.in_ok-header.ensures.value told ∙ ap (λ (b : List ℕ). data_head_at b place) now in
       let content_is : c.in_ok-content.content ≡ n.content = c.in_ok-content.ensures.value told n.content (subst (λ (b : List ℕ). IsContent b n.content place) (sym then) n.there) in
@@ -53,5 +53,5 @@ loop-place-preserved g c = record {
 
 pub returns-clause-value : goal.returns-clause-value
 returns-clause-value g c = λ told ks between.
-    let bytes : List ℕ = main (g.V.Volume.log c.args.volume.now) in
+    let bytes : List ℕ = main_bytes (g.V.Volume.log c.args.volume.now) in
     ended bytes c.loop-place.place c.args.end c.loop-place.entries.entries ks c.loop-place-test.false (c.loop-place.invariant.rest told ks between)

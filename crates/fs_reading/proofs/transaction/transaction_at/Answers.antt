@@ -2,7 +2,7 @@ use Rattle.std.proofs.Common.{◌≡◌, ℕ, ◌+◌, eqb, List, map, take, dro
 use Rattle.zb_model.specs.declared.data.Content.{Content}
 use Rattle.fs_records.specs.declared.header.Header.{Header}
 use Rattle.fs_records.specs.Blocks.{as_change}
-use Rattle.fs_reading.specs.Main.{main}
+use Rattle.zb_volume.specs.Disk.{main_bytes}
 use Rattle.fs_reading.specs.ChangesStand.{RecordsBetween, records_begin, records_end}
 use Rattle.fs_reading.specs.Standing.{head_at, user_at, description_at}
 use Rattle.fs_reading.proofs.Wholes.{transaction_from}
@@ -10,12 +10,12 @@ use Rattle.fs_reading.proofs.transaction.transaction_at.Goals as goal
 
 pub returns-clause-value : goal.returns-clause-value
 returns-clause-value g c = λ told t stands changes.
-    let bytes : List ℕ = main (g.V.Volume.log c.args.volume.now) in
+    let bytes : List ℕ = main_bytes (g.V.Volume.log c.args.volume.now) in
     let at : ℕ = c.args.place.at in
     let h : c.in_ok-header.header ≡ head_at bytes at = c.in_ok-header.ensures.value told in
-    let n1 : main (g.V.Volume.log c.header_at.new.volume) ≡ bytes = ap main c.header_at.ensures.same in
-    let n2 : main (g.V.Volume.log c.user_and_description.new.volume) ≡ bytes = ap main c.user_and_description.ensures.same ∙ n1 in
-    let n3 : main (g.V.Volume.log c.bytes_at.new.volume) ≡ bytes = ap main c.bytes_at.ensures.same ∙ n2 in
+    let n1 : main_bytes (g.V.Volume.log c.header_at.new.volume) ≡ bytes = ap main_bytes c.header_at.ensures.same in
+    let n2 : main_bytes (g.V.Volume.log c.user_and_description.new.volume) ≡ bytes = ap main_bytes c.user_and_description.ensures.same ∙ n1 in
+    let n3 : main_bytes (g.V.Volume.log c.bytes_at.new.volume) ≡ bytes = ap main_bytes c.bytes_at.ensures.same ∙ n2 in
     let short = c.requires.short told in
     let texts = stands.texts in
     let hu = ap (λ (x : Header). x.user) h in

@@ -1,5 +1,5 @@
 use Rattle.std.proofs.Common.{◌≡◌, ◌∙◌, ap, subst, List, ℕ, take}
-use Rattle.fs_recovery.specs.Reading.{main}
+use Rattle.zb_volume.specs.Disk.{main_bytes}
 use Rattle.fs_recovery.specs.Opens.{IsNoList, IsOpened, MomentsOfOpening}
 use Rattle.fs_recovery.proofs.Steps.{no_list_apart, whole_now}
 use Rattle.fs_recovery.proofs.Times.{still_side, still_main, moments, images_stand}
@@ -22,7 +22,7 @@ returns-in_err-opened-clause-any_moment g c = λ told. still_main (g.V.Volume.lo
 kept : (g : _) (c : After-keep_front g) → g.V.Volume.told → MomentsOfOpening (g.V.Volume.log c.args.volume.now) (g.V.Volume.log c.keep_front.new.volume)
 kept g c told =
     let log = g.V.Volume.log c.args.volume.now in
-    let opened = subst (λ (b : List ℕ). IsOpened b c.in_ok-opened.opened) (ap main c.len.ensures.same) (c.in_ok-opened.ensures.opens told) in
+    let opened = subst (λ (b : List ℕ). IsOpened b c.in_ok-opened.opened) (ap main_bytes c.len.ensures.same) (c.in_ok-opened.ensures.opens told) in
     moments log (g.V.Volume.log c.read_main.new.volume) (g.V.Volume.log c.keep_front.new.volume) c.in_ok-opened.opened (c.read_main.ensures.same ∙ c.len.ensures.same) opened (c.keep_front.ensures.any_moment told)
 
 pub returns-in_err-keep_front-clause-any_moment : goal.returns-in_err-keep_front-clause-any_moment
@@ -55,17 +55,17 @@ pub returns-clause-whole : goal.returns-clause-whole
 returns-clause-whole g c = λ told.
     let log = g.V.Volume.log c.args.volume.now in
     let o = c.in_ok-opened.opened in
-    let mid : main (g.V.Volume.log c.read_main.new.volume) ≡ main log = ap main (c.read_main.ensures.same ∙ c.len.ensures.same) in
-    let opened = subst (λ (b : List ℕ). IsOpened b o) (ap main c.len.ensures.same) (c.in_ok-opened.ensures.opens told) in
+    let mid : main_bytes (g.V.Volume.log c.read_main.new.volume) ≡ main_bytes log = ap main_bytes (c.read_main.ensures.same ∙ c.len.ensures.same) in
+    let opened = subst (λ (b : List ℕ). IsOpened b o) (ap main_bytes c.len.ensures.same) (c.in_ok-opened.ensures.opens told) in
     let content = c.in_ok-keep_front.ensures.content told ∙ ap (λ (b : List ℕ). take o.end b) mid in
-    whole_now (main log) (main (g.V.Volume.log c.keep_front.new.volume)) o content opened
+    whole_now (main_bytes log) (main_bytes (g.V.Volume.log c.keep_front.new.volume)) o content opened
 
 -- ---- what is no file or damaged isn't touched
 
-never : (g : _) (c : After-keep_front g) → g.V.Volume.told → IsNoList (main (g.V.Volume.log c.args.volume.now)) → ⊥
+never : (g : _) (c : After-keep_front g) → g.V.Volume.told → IsNoList (main_bytes (g.V.Volume.log c.args.volume.now)) → ⊥
 never g c told =
-    no_list_apart (main (g.V.Volume.log c.args.volume.now)) c.in_ok-opened.opened
-    (subst (λ (b : List ℕ). IsOpened b c.in_ok-opened.opened) (ap main c.len.ensures.same) (c.in_ok-opened.ensures.opens told))
+    no_list_apart (main_bytes (g.V.Volume.log c.args.volume.now)) c.in_ok-opened.opened
+    (subst (λ (b : List ℕ). IsOpened b c.in_ok-opened.opened) (ap main_bytes c.len.ensures.same) (c.in_ok-opened.ensures.opens told))
 
 pub returns-in_err-keep_front-clause-harmed : goal.returns-in_err-keep_front-clause-harmed
 returns-in_err-keep_front-clause-harmed g c = λ told harm. absurd (never g (goal.at.returns-in_err-keep_front-clause-harmed g c).After-keep_front told harm)

@@ -1,5 +1,5 @@
 use Rattle.std.proofs.Common.{refl, sym, arith}
-use Rattle.fs_recovery.specs.Reading.{main}
+use Rattle.zb_volume.specs.Disk.{main_bytes}
 use Rattle.fs_recovery.proofs.Starts.{empty_before, empty_newest, nothing_read}
 use Rattle.fs_recovery.proofs.opening.read_blocks.Goals as goal
 
@@ -15,5 +15,5 @@ scan-init g c = record {
   same = refl;
   counts = refl;
   write_faults = refl;
-  so_far = λ told. nothing_read (main (g.V.Volume.log c.args.volume.now)) c.new-index.result (c.requires.magic told) c.new-index.ensures.objects c.new-index.ensures.transactions;
+  so_far = λ told. nothing_read (main_bytes (g.V.Volume.log c.args.volume.now)) c.new-index.result (c.requires.magic told) c.new-index.ensures.objects c.new-index.ensures.transactions;
 }

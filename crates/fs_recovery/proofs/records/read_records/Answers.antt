@@ -1,26 +1,27 @@
 use Rattle.std.proofs.lemmas.Result.{err_from_is_err_and}
 use Rattle.std.proofs.Common.{◌≡◌, ℕ, ◌-◌, List, drop, Err, Ok, sym, ap, subst, arith, ◌∙◌}
-use Rattle.fs_records.specs.NumberLaws.{IsBytes-drop}
+use Rattle.zb_base.specs.Bytes.{AreBytes-drop}
 use Rattle.fs_records.specs.Rules.{record_at}
 use Rattle.fs_records.specs.Places.{knows}
-use Rattle.fs_records.specs.ScanLaws.{one_more, before_more}
-use Rattle.fs_recovery.specs.Reading.{main, Shows}
-use Rattle.fs_recovery.specs.Records.{Gives}
+use Rattle.fs_records.specs.ScanLaws.{one_record_more, before_more}
+use Rattle.fs_recovery.specs.Reading.{Shows}
+use Rattle.fs_recovery.specs.Records.{RecordGives}
 use Rattle.fs_recovery.proofs.Faults.{read_refused}
 use Rattle.fs_recovery.proofs.records.read_records.Goals as goal
+use Rattle.zb_volume.specs.Disk.{main_bytes}
 
 pub returns-in_err-oid-clause-read : goal.returns-in_err-oid-clause-read
 returns-in_err-oid-clause-read g c = λ told known is.
-    let bytes : List ℕ = main (g.V.Volume.log c.args.volume.now) in
-    let same : main (g.V.Volume.log c.loop-q.volume) ≡ bytes = ap main c.loop-q.invariant.same in
-    let gives = subst (λ (b : List ℕ). Gives (Err c.in_err-oid.field-0.0) c.loop-q.q (record_at (knows c.loop-q.index.entries) c.args.place c.args.tid (c.args.end - c.loop-q.q) (drop c.loop-q.q b))) same (c.in_err-oid.ensures.value told) in
+    let bytes : List ℕ = main_bytes (g.V.Volume.log c.args.volume.now) in
+    let same : main_bytes (g.V.Volume.log c.loop-q.volume) ≡ bytes = ap main_bytes c.loop-q.invariant.same in
+    let gives = subst (λ (b : List ℕ). RecordGives (Err c.in_err-oid.field-0.0) c.loop-q.q (record_at (knows c.loop-q.index.entries) c.args.place c.args.tid (c.args.end - c.loop-q.q) (drop c.loop-q.q b))) same (c.in_err-oid.ensures.value told) in
     let p = err_from_is_err_and c.from_residual.result c.from_residual.ensures.1 in
     rw (p.1, p.2) (read_refused bytes known c.args.place c.args.tid c.args.from c.loop-q.q c.args.end c.loop-q.index.entries c.in_err-oid.field-0.0 c.loop-q-test.true gives (c.loop-q.invariant.read told known is))
 
 pub loop-q-preserved : goal.loop-q-preserved
 loop-q-preserved g c =
-    let bytes : List ℕ = main (g.V.Volume.log c.args.volume.now) in
-    let same : main (g.V.Volume.log c.loop-q.volume) ≡ bytes = ap main c.loop-q.invariant.same in
+    let bytes : List ℕ = main_bytes (g.V.Volume.log c.args.volume.now) in
+    let same : main_bytes (g.V.Volume.log c.loop-q.volume) ≡ bytes = ap main_bytes c.loop-q.invariant.same in
     let w = c.in_ok-oid.ensures.size in
     record {
       order = omega (arith, w.1);
@@ -33,5 +34,5 @@ loop-q-preserved g c =
       write_faults = c.read_record.ensures.write_faults ∙ c.loop-q.invariant.write_faults;
       read = λ told known is.
           let read = subst (λ (b : List ℕ). record_at (knows c.loop-q.index.entries) c.args.place c.args.tid (c.args.end - c.loop-q.q) (drop c.loop-q.q b) ≡ Ok (c.in_ok-oid.oid, c.in_ok-oid.size)) same (c.in_ok-oid.ensures.value told) in
-          one_more bytes known c.args.place c.args.tid c.args.from c.loop-q.q c.args.end c.in_ok-oid.oid c.in_ok-oid.size c.loop-q.index.entries c.add.new.self.entries (IsBytes-drop c.loop-q.q bytes (c.requires.bytes told)) (omega (arith, c.requires.within, c.requires.length told)) c.loop-q.invariant.order (sym read) c.in_ok-add.ensures.ok (c.loop-q.invariant.read told known is);
+          one_record_more bytes known c.args.place c.args.tid c.args.from c.loop-q.q c.args.end c.in_ok-oid.oid c.in_ok-oid.size c.loop-q.index.entries c.add.new.self.entries (AreBytes-drop c.loop-q.q bytes (c.requires.bytes told)) (omega (arith, c.requires.within, c.requires.length told)) c.loop-q.invariant.order (sym read) c.in_ok-add.ensures.ok (c.loop-q.invariant.read told known is);
     }

@@ -2,8 +2,9 @@ use Rattle.std.proofs.Common.{◌≡◌, ◌≤◌, ◌-◌, List}
 use Rattle.fs_records.specs.Blocks.{Known}
 use Rattle.fs_records.specs.Places.{AreBefore, ArePlacesOf}
 use Rattle.fs_records.specs.Scan.{RecordsIndexed}
-use Rattle.fs_recovery.specs.Reading.{main, Shows}
+use Rattle.fs_recovery.specs.Reading.{Shows}
 use Rattle.fs_recovery.proofs.records.read_records.Given as goal
+use Rattle.zb_volume.specs.Disk.{main_bytes}
 
 abbrev pub invariant-loop-q : goal.invariant-loop-q
 invariant-loop-q g l = record {
@@ -11,11 +12,11 @@ invariant-loop-q g l = record {
   before : AreBefore l.index.entries l.tid l.q;
   transactions : l.index.transactions ≡ l.fn.index.transactions;
   length : l.window.length ≡ l.fn.window.length;
-  shows : g.V.Volume.told → Shows l.window.at l.window.count l.window.held (main (g.V.Volume.log l.fn.volume));
+  shows : g.V.Volume.told → Shows l.window.at l.window.count l.window.held (main_bytes (g.V.Volume.log l.fn.volume));
   same : g.V.Volume.log l.volume ≡ g.V.Volume.log l.fn.volume;
   counts : g.V.Volume.read_faults l.volume ≡ g.V.Volume.read_faults l.fn.volume;
   write_faults : g.V.Volume.write_faults l.volume ≡ g.V.Volume.write_faults l.fn.volume;
-  read : g.V.Volume.told → (known : List Known) → ArePlacesOf known l.fn.index.entries → RecordsIndexed (main (g.V.Volume.log l.fn.volume)) known l.place l.tid l.from l.q l.index.entries;
+  read : g.V.Volume.told → (known : List Known) → ArePlacesOf known l.fn.index.entries → RecordsIndexed (main_bytes (g.V.Volume.log l.fn.volume)) known l.place l.tid l.from l.q l.index.entries;
 }
 
 abbrev pub decreases-loop-q : goal.decreases-loop-q

@@ -5,7 +5,7 @@ use Rattle.zb_volume.specs.Images.{CrashLeavesWith}
 use Rattle.zb_volume.specs.Moments.{LeavesOnly, StaysAs}
 use Rattle.zb_volume.specs.Lasting.{cut_leaves, seen-cut}
 use Rattle.zb_volume.specs.Durable.{change_leaves, sync_leaves, one_stays, next_stays}
-use Rattle.fs_recovery.specs.Reading.{main}
+use Rattle.zb_volume.specs.Disk.{main_bytes}
 use Rattle.fs_recovery.proofs.tail.cut_and_sync.Goals as goal
 use Rattle.fs_recovery.proofs.tail.cut_and_sync.Goals.{After-sync}
 
@@ -20,12 +20,12 @@ returns-in_err-cut-clause-side g c told =
 
 -- after the sync, done or not
 second : (g : _) (c : After-sync g) → g.V.Volume.told
-    → LeavesOnly Main (CrashLeavesWith (g.V.Volume.log c.args.volume.now) Main (take c.args.end (main (g.V.Volume.log c.args.volume.now)))) (g.V.Volume.log c.args.volume.now) (g.V.Volume.log c.sync.new.self)
+    → LeavesOnly Main (CrashLeavesWith (g.V.Volume.log c.args.volume.now) Main (take c.args.end (main_bytes (g.V.Volume.log c.args.volume.now)))) (g.V.Volume.log c.args.volume.now) (g.V.Volume.log c.sync.new.self)
 second g c told =
     let log = g.V.Volume.log c.args.volume.now in
     let changed = c.in_ok-cut.ensures.done told in
     sync_leaves c.sync.result log (g.V.Volume.log c.cut.new.self) (g.V.Volume.log c.sync.new.self) Main _ (g.met.V.Volume.seen_is_left c.args.volume.now Main told)
-    (ap (λ l. main l) changed ∙ seen-cut log Main c.args.end)
+    (ap (λ l. main_bytes l) changed ∙ seen-cut log Main c.args.end)
     (change_leaves c.cut.result log (g.V.Volume.log c.cut.new.self) Main _ (CutTo Main c.args.end) (cut_leaves log Main c.args.end) (c.cut.ensures.done told) (c.cut.ensures.failed told)) (c.sync.ensures.done told) (c.sync.ensures.failed told)
 
 second_side : (g : _) (c : After-sync g) → g.V.Volume.told → StaysAs Side (g.V.Volume.log c.args.volume.now) (g.V.Volume.log c.sync.new.self)

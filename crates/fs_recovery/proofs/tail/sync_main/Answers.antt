@@ -1,22 +1,21 @@
 use Rattle.std.proofs.Common.{refl}
 use Rattle.zb_volume.specs.declared.areas.Area.TheVariants.{Main, Side}
 use Rattle.zb_volume.specs.Calls.{SyncOf}
-use Rattle.zb_volume.specs.Disk.{disk}
+use Rattle.zb_volume.specs.Disk.{disk, main_bytes}
 use Rattle.zb_volume.specs.Images.{CrashLeavesWith}
 use Rattle.zb_volume.specs.Moments.{LeavesOnly, StaysAs, here}
 use Rattle.zb_volume.specs.Lasting.{more_left}
 use Rattle.zb_volume.specs.Durable.{sync_leaves, one_stays}
-use Rattle.fs_recovery.specs.Reading.{main}
 use Rattle.fs_recovery.proofs.tail.sync_main.Goals as goal
 use Rattle.fs_recovery.proofs.tail.sync_main.Goals.{After-sync}
 
 -- after the sync, done or not
 first : (g : _) (c : After-sync g) → g.V.Volume.told
-    → LeavesOnly Main (CrashLeavesWith (g.V.Volume.log c.args.volume.now) Main (main (g.V.Volume.log c.args.volume.now))) (g.V.Volume.log c.args.volume.now) (g.V.Volume.log c.sync.new.self)
+    → LeavesOnly Main (CrashLeavesWith (g.V.Volume.log c.args.volume.now) Main (main_bytes (g.V.Volume.log c.args.volume.now))) (g.V.Volume.log c.args.volume.now) (g.V.Volume.log c.sync.new.self)
 first g c told =
     let log = g.V.Volume.log c.args.volume.now in
-    sync_leaves c.sync.result log log (g.V.Volume.log c.sync.new.self) Main (main log) (g.met.V.Volume.seen_is_left c.args.volume.now Main told) refl
-    (here (more_left (disk log Main).pending (main log))) (c.sync.ensures.done told) (c.sync.ensures.failed told)
+    sync_leaves c.sync.result log log (g.V.Volume.log c.sync.new.self) Main (main_bytes log) (g.met.V.Volume.seen_is_left c.args.volume.now Main told) refl
+    (here (more_left (disk log Main).pending (main_bytes log))) (c.sync.ensures.done told) (c.sync.ensures.failed told)
 
 first_side : (g : _) (c : After-sync g) → g.V.Volume.told → StaysAs Side (g.V.Volume.log c.args.volume.now) (g.V.Volume.log c.sync.new.self)
 first_side g c told = one_stays c.sync.result (g.V.Volume.log c.args.volume.now) (g.V.Volume.log c.sync.new.self) (SyncOf Main) Side refl (c.sync.ensures.done told) (c.sync.ensures.failed told)

@@ -1,9 +1,9 @@
 -- Each turn of the loop is a step of the definition, and a refusal of it is one of the definition.
 use Rattle.std.proofs.Common.{◌+◌, ◌-◌, take, drop, sym, ◌∙◌, subst, arith}
 use Rattle.std.proofs.lemmas.Result.{err_from_is_err_and}
-use Rattle.pickle_value.specs.Steps.{Gives}
+use Rattle.pickle_value.specs.Steps.{AnswersAs}
 use Rattle.pickle_value.specs.Reading.{graphs}
-use Rattle.pickle_value.proofs.Longs.{take-bytes, drop-bytes}
+use Rattle.zb_base.specs.Bytes.{AreBytes-take, AreBytes-drop}
 use Rattle.pickle_value.proofs.Places.{read_on, read_refused, read_stop, refused, span_fits}
 use Rattle.pickle_value.proofs.Runs.{read_from-fault}
 use Rattle.pickle_value.proofs.Sound.{SoundAfter, step-sound}
@@ -17,7 +17,7 @@ loop-state-preserved c =
       same = sym (read_on graphs _ _ _ _ _ _ c.in_ok-token.ensures.token w (cc) c.in_ok-state.ensures) ∙ c.loop-state.invariant.same;
       sound = subst SoundAfter c.in_ok-state.ensures
           (step-sound t.op c.loop-state.place t.number (take (t.start + t.length - t.start) (drop t.start c.args.input.now)) c.loop-state.state
-          (take-bytes (t.start + t.length - t.start) (drop t.start c.args.input.now) (drop-bytes t.start c.args.input.now (λ k. omega (arith, c.type_inv.input k))))
+          (AreBytes-take (t.start + t.length - t.start) (drop t.start c.args.input.now) (AreBytes-drop t.start c.args.input.now (λ k. omega (arith, c.type_inv.input k))))
           (span_fits t.op t.number c.args.input.now t.start t.length c.in_ok-token.ensures.fits) c.loop-state.invariant.sound);
       behind = omega (arith, c.loop-state.invariant.behind, w.opcode, w.last);
     }
@@ -35,4 +35,4 @@ returns-in_err-state-clause-graph c =
 
 pub returns-then-ends-clause-graph : goal.returns-then-ends-clause-graph
 returns-then-ends-clause-graph c =
-    subst (Gives c.finish.result) (sym (read_stop graphs _ _ _ _ _ c.in_ok-token.ensures.token c.in_ok-token.ensures.within (cc)) ∙ c.loop-state.invariant.same) c.finish.ensures.graph
+    subst (AnswersAs c.finish.result) (sym (read_stop graphs _ _ _ _ _ c.in_ok-token.ensures.token c.in_ok-token.ensures.within (cc)) ∙ c.loop-state.invariant.same) c.finish.ensures.graph

@@ -1,7 +1,7 @@
 -- Each turn of the loop is a step of the definition, and a refusal of it is one of the definition.
 use Rattle.std.proofs.Common.{sym, ◌∙◌, subst, arith}
 use Rattle.std.proofs.lemmas.Result.{err_from_is_err_and}
-use Rattle.pickle_value.specs.Steps.{Gives}
+use Rattle.pickle_value.specs.Steps.{AnswersAs}
 use Rattle.pickle_value.specs.References.{references}
 use Rattle.pickle_value.proofs.Places.{read_on, read_refused, read_stop, refused}
 use Rattle.pickle_value.proofs.Runs.{read_from-fault}
@@ -28,4 +28,4 @@ returns-in_err-finding-clause-oids c =
 
 pub returns-then-ends-clause-oids : goal.returns-then-ends-clause-oids
 returns-then-ends-clause-oids c =
-    subst (Gives c.finish.result) (sym (read_stop references _ _ _ _ _ c.in_ok-token.ensures.token c.in_ok-token.ensures.within (cc)) ∙ c.loop-finding.invariant.same) c.finish.ensures.oids
+    subst (AnswersAs c.finish.result) (sym (read_stop references _ _ _ _ _ c.in_ok-token.ensures.token c.in_ok-token.ensures.within (cc)) ∙ c.loop-finding.invariant.same) c.finish.ensures.oids

@@ -2,11 +2,11 @@ use Rattle.std.proofs.Common.{◌≡◌, Option, None, length-append, sym, ◌�
 use Rattle.zb_script.specs.declared.errors.ReadError.{ReadError}
 use Rattle.zb_script.specs.declared.errors.ReadError.TheVariants as errors
 use Rattle.zb_script.specs.declared.line.Turn.{Turn}
-use Rattle.zb_script.specs.Reading.{Fails}
+use Rattle.zb_script.specs.Reading.{RefusesToRead}
 use Rattle.zb_script.proofs.Steps.{turn_read, turn_refused, turns_done}
 use Rattle.zb_script.proofs.script.turns_of.Goals as goal
 
-bad_none : (e : ReadError) (read : Option Turn) → e ≡ errors.Bad → Fails e read → read ≡ None
+bad_none : (e : ReadError) (read : Option Turn) → e ≡ errors.Bad → RefusesToRead e read → read ≡ None
 bad_none errors.Bad read is failed = failed
 bad_none errors.Memory read is failed = absurd cc
 

@@ -14,10 +14,10 @@ use Rattle.zb_model.specs.declared.new_transaction.NewChange.{NewChange}
 use Rattle.zb_model.specs.declared.new_transaction.NewTransaction.{NewTransaction}
 use Rattle.zb_model.specs.declared.refusal.Refusal.{Refusal}
 use Rattle.zb_model.specs.Database.{newest_tid}
-use Rattle.zb_model.specs.Voting.{IsFilled, IsSound, IsWellFormed, voted_change, voted_of}
+use Rattle.zb_model.specs.Voting.{IsFilled, NamesRevision, IsWellFormed, voted_change, voted_of}
 use Rattle.zodb_top.specs.declared.pending.PendingStore.{PendingStore}
 use Rattle.zodb_top.specs.Decisions.{GivesDecision, new_change_of}
-use Rattle.zodb_top.specs.Machine.{Decision, change_of, conflict_of, decision_at, decision_of, decision_on, transaction_of}
+use Rattle.zodb_top.specs.Machine.{Decision, change_of, conflict_of, decision_at, decision_of, decision_on, transaction_of_stores}
 use Rattle.zodb_top.proofs.decide.decide.Goals as goal
 
 lt_from_is_lt : (a b : ℕ) → is_lt (nat_cmp a b) ≡ true → a < b
@@ -32,7 +32,7 @@ changes_same : (list : List Transaction) (stores : List PendingStore) → map (v
 changes_same list [] = refl
 changes_same list (p ∷ stores) = ap (λ changes. change_of p ∷ changes) (changes_same list stores)
 
-transaction_same : (list : List Transaction) (tid : ℕ) (stores : List PendingStore) → voted_of list (untitled tid (map new_change_of stores)) ≡ transaction_of tid stores
+transaction_same : (list : List Transaction) (tid : ℕ) (stores : List PendingStore) → voted_of list (untitled tid (map new_change_of stores)) ≡ transaction_of_stores tid stores
 transaction_same list tid stores = ap (λ changes. let t : Transaction = record { tid = tid; packed = false; user = []; description = []; extension = []; changes = changes } in t) (changes_same list stores)
 
 decided_at : (list : List Transaction) (tid : ℕ) (stores : List PendingStore) (stamps : List Stamp) → tid < 2 ^ 64 - 1
@@ -76,14 +76,14 @@ formed tid stores user description extension changes below no_user no_descriptio
   filled = filled;
 }
 
-bytes_sound : (list : List Transaction) (stores : List PendingStore) → All (λ c. IsSound list c.oid c.content) (map new_change_of stores)
+bytes_sound : (list : List Transaction) (stores : List PendingStore) → All (λ c. NamesRevision list c.oid c.content) (map new_change_of stores)
 bytes_sound list [] k d within = absurd (omega arith)
 bytes_sound list (p ∷ stores) zero d within = tt
 bytes_sound list (p ∷ stores) (suc k) d within = bytes_sound list stores k d (omega arith)
 
 pub returns-clause-gives : goal.returns-clause-gives
 returns-clause-gives g c = λ told.
-    gives (g.C.Clock.stamps c.args.clock.now) (g.C.Clock.stamps c.stamp-stamp.new.self) (g.St.Store.list c.args.store.now) c.in-Ok-next_tid.tid c.stamp-stamp.result c.args.stores.now
+    gives (g.C.Clock.stamps c.args.clock.now) (g.C.Clock.stamps c.stamp-stamp.new.self) (g.St.Store.state c.args.store.now).list c.in-Ok-next_tid.tid c.stamp-stamp.result c.args.stores.now
     c.new.result c.new-2.result c.new-3.result c.in-Ok.changes
     (c.in_default.ensures told) (sym c.is_empty.ensures ∙ c.if-is_empty.false) c.stamp-stamp.ensures.first c.stamp-stamp.ensures.left
     (subst (λ (n : ℕ). c.in-Ok-next_tid.tid ≡ tid_after n (stamp_number c.stamp-stamp.result)) (c.newest.ensures.value told) c.in-Ok-next_tid.ensures.value)
@@ -98,5 +98,5 @@ returns-clause-well_formed g c =
 pub returns-clause-votable : goal.returns-clause-votable
 returns-clause-votable g c = λ told. record {
   later = subst (λ (n : ℕ). n < c.in-Ok-next_tid.tid) (c.newest.ensures.value told) c.in-Ok-next_tid.ensures.greater;
-  sound = subst (λ (cs : List NewChange). All (λ change. IsSound (g.St.Store.list c.args.store.now) change.oid change.content) cs) (sym c.in-Ok.ensures.changes) (bytes_sound (g.St.Store.list c.args.store.now) c.args.stores.now);
+  sound = subst (λ (cs : List NewChange). All (λ change. NamesRevision (g.St.Store.state c.args.store.now).list change.oid change.content) cs) (sym c.in-Ok.ensures.changes) (bytes_sound (g.St.Store.state c.args.store.now).list c.args.stores.now);
 }

@@ -12,7 +12,7 @@ use Rattle.zb_model.specs.Database.{newest_tid}
 use Rattle.zb_model.specs.Queries.{greatest_of}
 use Rattle.zb_model.specs.Voting.{IsVotable, voted_of}
 use Rattle.zb_model.specs.VotingLaws.{oids_kept}
-use Rattle.zb_outside.specs.Rose.{Rose}
+use Rattle.zb_base.specs.Counts.{Rose}
 use Rattle.zb_script.specs.declared.answer.Answer.{Answer}
 use Rattle.zb_script.specs.declared.answer.Answer.TheVariants as answer
 use Rattle.zb_script.specs.declared.line.Line.{Line}
@@ -24,9 +24,9 @@ use Rattle.zodb_top.specs.declared.vote.HeldVote.{HeldVote}
 use Rattle.zodb_top.specs.declared.decide.VoteError.TheVariants as vote_error
 use Rattle.zodb_top.specs.declared.errors.TurnError.{TurnError}
 use Rattle.zodb_top.specs.declared.errors.TurnError.TheVariants as turn_error
-use Rattle.zodb_top.specs.Decisions.{GivesDecision, IsHeld}
-use Rattle.zodb_top.specs.Machine.{Before, Done, OpenTransaction, State, answered, at_session, before_at, decision_of, in_transaction, line_in, refused, vote_in, voted_by}
-use Rattle.zodb_top.specs.Seen.{AreDistinct, HubSeen, IsSound, IsUpTo, IsVoteLater, IsVoteOf, IsWorkOf, held_answer, seen_seat, seen_vote, seen_work, state_of, state_with}
+use Rattle.zodb_top.specs.Decisions.{GivesDecision, IsVoteDecided}
+use Rattle.zodb_top.specs.Machine.{Before, TurnDone, OpenTransaction, State, answered, at_session, before_at, decision_of, in_transaction, line_in, refused, vote_in, voted_by}
+use Rattle.zodb_top.specs.Seen.{AreDistinct, HubSeen, IsSoundHub, HasFrontUpTo, IsVoteLater, IsVoteOf, IsWorkOf, held_answer, seen_seat, seen_vote, seen_work, state_of, state_with}
 use Rattle.zodb_top.specs.Steps.{IsClockStep, IsDone, IsStep, LineTicks}
 use Rattle.zodb_top.proofs.Seats.{all_at, seat_at, sound_same, stays}
 use Rattle.zodb_top.proofs.Endings.{done, landed, nothing_open}
@@ -34,11 +34,11 @@ use Rattle.zodb_top.proofs.ending.vote.Goals as goal
 
 -- ---- from steps
 
-is_done : (d : Done) (a : Answer) (new : State) (after : Option (List Stamp)) (stamps : List Stamp) → d ≡ done a new stamps → after ≡ Some stamps → IsDone d a new after
+is_done : (d : TurnDone) (a : Answer) (new : State) (after : Option (List Stamp)) (stamps : List Stamp) → d ≡ done a new stamps → after ≡ Some stamps → IsDone d a new after
 is_done d a new after stamps e left = record {
-  answer = ap (λ (x : Done). x.answer) e;
-  state = ap (λ (x : Done). x.state) e;
-  stamps = left ∙ ap (λ (x : Done). Some x.stamps) (sym e);
+  answer = ap (λ (x : TurnDone). x.answer) e;
+  state = ap (λ (x : TurnDone). x.state) e;
+  stamps = left ∙ ap (λ (x : TurnDone). Some x.stamps) (sym e);
 }
 
 clock_step : (failed : Type 0) (told : Option (List Stamp)) (old new : State) (line : Line) (n : ℕ) (a : Answer) → IsStep old line n a new → IsClockStep failed told told old line n a new
@@ -127,7 +127,7 @@ vote_empty failed (Some stamps) after hub n w e free nothing gives =
 -- what the store was asked to vote, told
 stored : (told : Type 0) (failed : Type 0) (stamps : List Stamp) (after : Option (List Stamp)) (old now : HubSeen) (n : ℕ) (w : Work) (new : NewTransaction) (a : Answer) → told → IsWorkOf old.seats n (Some w) → old.vote ≡ None → old.voted ≡ None
     → GivesDecision (Ok (Some new)) old.list w.stores.items (Some stamps) after → now.list ≡ old.list → now.seats ≡ old.seats → now.greatest ≡ old.greatest
-    → IsHeld told failed n new a old now → IsClockStep failed (Some stamps) after (state_of old) lines.Vote n a (state_of now)
+    → IsVoteDecided told failed n new a old now → IsClockStep failed (Some stamps) after (state_of old) lines.Vote n a (state_of now)
 stored told failed stamps after old now n w new a tells e free nothing gives list seats greatest (inl held) =
     let state : state_of now ≡ with_vote old n (Some (voted_of old.list new)) = state_like now old.list old.greatest old.seats (Some (voted_of old.list new)) _ list greatest seats (held.voted tells) held.vote in
     inl (is_done _ a _ after (decision_of old.list w.stores.items stamps).stamps
@@ -142,13 +142,13 @@ stored told failed stamps after old now n w new a tells e free nothing gives lis
       record {
         answer = sym held.answer;
         state = sym state;
-        stamps = gives.1 ∙ ap (λ (d : Done). Some d.stamps) (sym would);
+        stamps = gives.1 ∙ ap (λ (d : TurnDone). Some d.stamps) (sym would);
       },
     )
 
 vote_stored : (told failed : Type 0) (stamps after : Option (List Stamp)) (old now : HubSeen) (n : ℕ) (w : Work) (new : NewTransaction) (r : Result Answer TurnError) → told → IsWorkOf old.seats n (Some w) → old.vote ≡ None → old.voted ≡ None
     → GivesDecision (Ok (Some new)) old.list w.stores.items stamps after → (¬ IsErrOf r turn_error.StoreFault → now.list ≡ old.list) → now.seats ≡ old.seats → now.greatest ≡ old.greatest
-    → IfOk r (λ a. IsHeld told failed n new a old now) → IfOk r (λ a. IsClockStep failed stamps after (state_of old) lines.Vote n a (state_of now))
+    → IfOk r (λ a. IsVoteDecided told failed n new a old now) → IfOk r (λ a. IsClockStep failed stamps after (state_of old) lines.Vote n a (state_of now))
 vote_stored told failed stamps after old now n w new (Err error) tells e free nothing gives list seats greatest held = tt
 vote_stored told failed None after old now n w new (Ok a) tells e free nothing gives list seats greatest held = tt
 vote_stored told failed (Some stamps) after old now n w new (Ok a) tells e free nothing gives list seats greatest held =
@@ -161,7 +161,7 @@ vote_ticks stamps after old n w new (Ok a) e free gives = tt
 vote_ticks None after old n w new (Err error) e free gives = tt
 vote_ticks (Some stamps) after old n w new (Err error) e free gives =
     let would = accepted old stamps n w (Some (voted_of old.list new)) e free gives.0 in
-    inr (gives.1 ∙ ap (λ (d : Done). Some d.stamps) (sym would))
+    inr (gives.1 ∙ ap (λ (d : TurnDone). Some d.stamps) (sym would))
 
 nothing_voted : (vote : Option HeldVote) (voted : Option Transaction) → IsVoteOf vote voted → vote ≡ None → voted ≡ None
 nothing_voted vote voted sound free = subst (λ (v : Option HeldVote). IsVoteOf v voted) free sound
@@ -170,13 +170,13 @@ later_voted : (list : List Transaction) (n : ℕ) (new : NewTransaction) → new
     → IsVoteLater (newest_tid list) (Some (record { session = n; writes = Some (record { tid = new.tid; greatest = greatest_of (map (λ c. c.oid) new.changes) }) })) (Some (voted_of list new))
 later_voted list n new later = (later, ap greatest_of (sym (oids_kept list new.changes)))
 
-still_fronts : (told : Type 0) (old now : HubSeen) → IsSound told old → now.seats ≡ old.seats → now.list ≡ old.list → told → AllByRecursion (λ x. IsUpTo (newest_tid now.list + 1) x.work) now.seats
+still_fronts : (told : Type 0) (old now : HubSeen) → IsSoundHub told old → now.seats ≡ old.seats → now.list ≡ old.list → told → AllByRecursion (λ x. HasFrontUpTo (newest_tid now.list + 1) x.work) now.seats
 still_fronts told old now sound seats list tells =
-    subst (λ (ss : List Seat). AllByRecursion (λ x. IsUpTo (newest_tid now.list + 1) x.work) ss) (sym seats)
-    (subst (λ (l : List Transaction). AllByRecursion (λ x. IsUpTo (newest_tid l + 1) x.work) old.seats) (sym list) (sound.fronts tells))
+    subst (λ (ss : List Seat). AllByRecursion (λ x. HasFrontUpTo (newest_tid now.list + 1) x.work) ss) (sym seats)
+    (subst (λ (l : List Transaction). AllByRecursion (λ x. HasFrontUpTo (newest_tid l + 1) x.work) old.seats) (sym list) (sound.fronts tells))
 
-held_sound : (told failed : Type 0) (old now : HubSeen) (n : ℕ) (new : NewTransaction) (a : Answer) → IsSound told old → old.vote ≡ None → (told → newest_tid old.list < new.tid)
-    → now.broken ≡ false → (told → now.list ≡ old.list) → now.seats ≡ old.seats → IsHeld told failed n new a old now → IsSound told now
+held_sound : (told failed : Type 0) (old now : HubSeen) (n : ℕ) (new : NewTransaction) (a : Answer) → IsSoundHub told old → old.vote ≡ None → (told → newest_tid old.list < new.tid)
+    → now.broken ≡ false → (told → now.list ≡ old.list) → now.seats ≡ old.seats → IsVoteDecided told failed n new a old now → IsSoundHub told now
 held_sound told failed old now n new a sound free later whole list seats (inl held) = record {
   whole = whole;
   vote = subst (λ (v : Option HeldVote). IsVoteOf v now.voted) (sym held.vote) held.has;
@@ -187,9 +187,9 @@ held_sound told failed old now n new a sound free later whole list seats (inl he
 held_sound told failed old now n new a sound free later whole list seats (inr held) =
     sound_same told old now sound list held.vote (held.voted ∙ sym (nothing_voted old.vote old.voted sound.vote free)) whole seats
 
-vote_sound : (told failed : Type 0) (old now : HubSeen) (n : ℕ) (new : NewTransaction) (r : Result Answer TurnError) → IsSound told old → old.vote ≡ None → (told → newest_tid old.list < new.tid)
+vote_sound : (told failed : Type 0) (old now : HubSeen) (n : ℕ) (new : NewTransaction) (r : Result Answer TurnError) → IsSoundHub told old → old.vote ≡ None → (told → newest_tid old.list < new.tid)
     → (¬ IsErrOf r turn_error.StoreFault → now.broken ≡ false) → (told → ¬ IsErrOf r turn_error.StoreFault → now.list ≡ old.list) → now.seats ≡ old.seats
-    → IfOk r (λ a. IsHeld told failed n new a old now) → OnOk r (IsSound told now)
+    → IfOk r (λ a. IsVoteDecided told failed n new a old now) → OnOk r (IsSoundHub told now)
 vote_sound told failed old now n new (Err error) sound free later whole list seats held = tt
 vote_sound told failed old now n new (Ok a) sound free later whole list seats held =
     held_sound told failed old now n new a sound free later (whole (λ is. absurd cc)) (λ tells. list tells (λ is. absurd cc)) seats held
@@ -213,7 +213,7 @@ distinct_at seats n w all e =
     let x = seat_at seats n (Some w) e in
     subst AreDistinct x.3 (all_at AreDistinct seats n x.0 all x.1 x.2)
 
-seen_distinct : (told : Type 0) (v hub : HubSeen) (seats : List Seat) (n : ℕ) (w : Work) (stores : List PendingStore) → v ≡ hub → IsSound told hub → seats ≡ v.seats → IsWorkOf seats n (Some w) → stores ≡ w.stores.items
+seen_distinct : (told : Type 0) (v hub : HubSeen) (seats : List Seat) (n : ℕ) (w : Work) (stores : List PendingStore) → v ≡ hub → IsSoundHub told hub → seats ≡ v.seats → IsWorkOf seats n (Some w) → stores ≡ w.stores.items
     → IsDistinct nat_eq (map (λ p. p.oid) stores)
 seen_distinct told v hub seats n w stores same sound is e are =
     subst (λ (ps : List PendingStore). IsDistinct nat_eq (map (λ p. p.oid) ps)) (sym are)
@@ -228,7 +228,7 @@ seen_conflict failed told after v hub seats n w stores why shown same is e are f
     (vote_conflict failed told after v n w why (subst (λ (ss : List Seat). IsWorkOf ss n (Some w)) is e) free
     (subst (λ (ps : List PendingStore). GivesDecision (Err (vote_error.Refused why)) v.list ps told after) are gives)))
 
-seen_empty : (tells failed : Type 0) (told after : Option (List Stamp)) (v hub : HubSeen) (seats : List Seat) (n : ℕ) (w : Work) (stores : List PendingStore) → v ≡ hub → IsSound tells hub → seats ≡ v.seats → IsWorkOf seats n (Some w)
+seen_empty : (tells failed : Type 0) (told after : Option (List Stamp)) (v hub : HubSeen) (seats : List Seat) (n : ℕ) (w : Work) (stores : List PendingStore) → v ≡ hub → IsSoundHub tells hub → seats ≡ v.seats → IsWorkOf seats n (Some w)
     → stores ≡ w.stores.items → v.vote ≡ None → GivesDecision (Ok None) v.list stores told after
     → IsClockStep failed told after (state_of hub) lines.Vote n answer.Voted (state_with v.list v.greatest v.seats v.voted (Some (record { session = n; writes = None })))
 seen_empty tells failed told after v hub seats n w stores same sound is e are free gives =
@@ -237,10 +237,10 @@ seen_empty tells failed told after v hub seats n w stores same sound is e are fr
     (nothing_voted v.vote v.voted (subst (λ (h : HubSeen). IsVoteOf h.vote h.voted) (sym same) sound.vote) free)
     (subst (λ (ps : List PendingStore). GivesDecision (Ok None) v.list ps told after) are gives))
 
-seen_empty_sound : (told : Type 0) (v hub now : HubSeen) (n : ℕ) → v ≡ hub → IsSound told hub → v.vote ≡ None → now.list ≡ v.list → now.broken ≡ v.broken → now.voted ≡ v.voted → now.seats ≡ v.seats
-    → now.vote ≡ Some (record { session = n; writes = None }) → IsSound told now
+seen_empty_sound : (told : Type 0) (v hub now : HubSeen) (n : ℕ) → v ≡ hub → IsSoundHub told hub → v.vote ≡ None → now.list ≡ v.list → now.broken ≡ v.broken → now.voted ≡ v.voted → now.seats ≡ v.seats
+    → now.vote ≡ Some (record { session = n; writes = None }) → IsSoundHub told now
 seen_empty_sound told v hub now n same sound free list broken voted seats vote =
-    let sound_v = subst (IsSound told) (sym same) sound in record {
+    let sound_v = subst (IsSoundHub told) (sym same) sound in record {
       whole = broken ∙ sound_v.whole;
       vote = subst (λ (o : Option HeldVote). IsVoteOf o now.voted) (sym vote) (voted ∙ nothing_voted v.vote v.voted sound_v.vote free);
       distinct = subst (λ (ss : List Seat). AllByRecursion (λ x. AreDistinct x.work) ss) (sym seats) sound_v.distinct;
@@ -249,9 +249,9 @@ seen_empty_sound told v hub now n same sound free list broken voted seats vote =
     }
 
 seen_stored : (told : Type 0) (stamps after : Option (List Stamp)) (v hub now : HubSeen) (seats : List Seat) (n : ℕ) (w : Work) (stores : List PendingStore) (new : NewTransaction) (r : Result Answer TurnError)
-    → told → v ≡ hub → IsSound told hub → seats ≡ v.seats → IsWorkOf seats n (Some w) → stores ≡ w.stores.items → v.vote ≡ None
+    → told → v ≡ hub → IsSoundHub told hub → seats ≡ v.seats → IsWorkOf seats n (Some w) → stores ≡ w.stores.items → v.vote ≡ None
     → GivesDecision (Ok (Some new)) v.list stores stamps after → (told → ¬ IsErrOf r turn_error.StoreFault → now.list ≡ hub.list) → now.seats ≡ hub.seats → now.greatest ≡ hub.greatest
-    → IfOk r (λ a. IsHeld told (Rose hub.read_faults now.read_faults) n new a hub now)
+    → IfOk r (λ a. IsVoteDecided told (Rose hub.read_faults now.read_faults) n new a hub now)
     → IfOk r (λ a. IsClockStep (Rose hub.read_faults now.read_faults) stamps after (state_of hub) lines.Vote n a (state_of now))
 seen_stored told stamps after v hub now seats n w stores new r tells same sound is e are free gives list still greatest held =
     let free_hub : hub.vote ≡ None = ap (λ (h : HubSeen). h.vote) (sym same) ∙ free in
@@ -267,9 +267,9 @@ seen_ticks stamps after v hub seats n w stores new r same is e are free gives =
     subst (λ (h : HubSeen). OnErr r (LineTicks stamps after (state_of h) lines.Vote n)) same
     (vote_ticks stamps after v n w new r (subst (λ (ss : List Seat). IsWorkOf ss n (Some w)) is e) free (subst (λ (ps : List PendingStore). GivesDecision (Ok (Some new)) v.list ps stamps after) are gives))
 
-seen_stored_sound : (told : Type 0) (v hub now : HubSeen) (n : ℕ) (new : NewTransaction) (r : Result Answer TurnError) → v ≡ hub → IsSound told hub → v.vote ≡ None → (told → IsVotable v.list new)
+seen_stored_sound : (told : Type 0) (v hub now : HubSeen) (n : ℕ) (new : NewTransaction) (r : Result Answer TurnError) → v ≡ hub → IsSoundHub told hub → v.vote ≡ None → (told → IsVotable v.list new)
     → (¬ IsErrOf r turn_error.StoreFault → now.broken ≡ false) → (told → ¬ IsErrOf r turn_error.StoreFault → now.list ≡ hub.list) → now.seats ≡ hub.seats
-    → IfOk r (λ a. IsHeld told (Rose hub.read_faults now.read_faults) n new a hub now) → OnOk r (IsSound told now)
+    → IfOk r (λ a. IsVoteDecided told (Rose hub.read_faults now.read_faults) n new a hub now) → OnOk r (IsSoundHub told now)
 seen_stored_sound told v hub now n new r same sound free votable whole list seats held =
     vote_sound told (Rose hub.read_faults now.read_faults) hub now n new r sound (ap (λ (h : HubSeen). h.vote) (sym same) ∙ free)
     (λ tells. subst (λ (h : HubSeen). newest_tid h.list < new.tid) same (votable tells).later) whole list seats held

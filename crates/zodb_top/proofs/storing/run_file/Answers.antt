@@ -17,7 +17,13 @@ returns-in-Ok-clause-harmed g c = λ told none. opened_none g.V.Volume.told _ _ 
 
 pub returns-in-Err-clause-outcome : goal.returns-in-Err-clause-outcome
 returns-in-Err-clause-outcome g c =
-    unopened c.say_unopened.result c.in-Err.error g.V.Volume.told c.args.turns.now _ _ c.say_unopened.ensures.said c.in-Err.ensures.harm c.in-Err.ensures.stamps_given c.in-Err.ensures.fault c.in-Err.ensures.untouched c.in-Err.ensures.stamps_kept
+    unopened c.say_unopened.result c.in-Err.error g.V.Volume.told c.args.turns.now _ _ c.say_unopened.ensures.said c.in-Err.ensures.harm c.in-Err.ensures.fault c.in-Err.ensures.untouched
+    (record {
+      stamps = c.in-Err.ensures.stamps_given;
+      kept = c.in-Err.ensures.stamps_kept;
+      keeps = c.in-Err.ensures.keeps_refused;
+      makes = c.in-Err.ensures.makes_refused;
+    })
 
 pub returns-in-Err-clause-complete : goal.returns-in-Err-clause-complete
 returns-in-Err-clause-complete g c = λ told reads writes sinks list cut stands.

@@ -2,7 +2,7 @@ use Rattle.std.proofs.Common.{length, arith}
 use Rattle.zb_volume.specs.declared.areas.Area.TheVariants.{Main}
 use Rattle.zb_volume.specs.Disk.{seen}
 use Rattle.file_store.specs.declared.staged.Staged.{Staged}
-use Rattle.file_store.specs.Kept.{IsVotedIn, HasRoom}
+use Rattle.file_store.specs.Kept.{IsVotedIn, HasRoomForTally}
 use Rattle.file_store.proofs.Commits.{staged_some, none_there, abort_moments, aborted}
 use Rattle.file_store.proofs.store.FileStoreStore.abort.Goals as goal
 
@@ -26,7 +26,7 @@ invariant_of-self-2 g c =
     let s = staged_some self.index.staged _ c.requires.voted in
     let t = c.take_back.ensures in
     record {
-      room = none_there Staged (λ x. HasRoom self.numbers (length x.oids)) c.take_back.new.self.staged t.staged;
+      room = none_there Staged (λ x. HasRoomForTally self.numbers (length x.oids)) c.take_back.new.self.staged t.staged;
       settled = λ told whole. c.in_ok-abort.ensures.settled told;
       kept = λ told whole.
           (aborted (g.V.Volume.log self.volume) self.index self.numbers (self.settled told c.requires.whole) (self.kept told c.requires.whole) (g.V.Volume.log c.abort.new.volume) c.take_back.new.self s.0 c.end.result s.1

@@ -3,7 +3,7 @@ use Rattle.zb_volume.specs.declared.areas.Area.TheVariants.{Main}
 use Rattle.zb_volume.specs.Disk.{seen}
 use Rattle.zb_model.specs.declared.data.Transaction.{Transaction}
 use Rattle.file_store.specs.declared.staged.Staged.{Staged}
-use Rattle.file_store.specs.Kept.{IsVotedIn, HasRoom}
+use Rattle.file_store.specs.Kept.{IsVotedIn, HasRoomForTally}
 use Rattle.file_store.specs.Staging.{StagedKept}
 use Rattle.file_store.proofs.Commits.{staged_some, some_mapped, none_there, finish_moments, finished}
 use Rattle.file_store.proofs.store.FileStoreStore.finish.Goals as goal
@@ -29,7 +29,7 @@ invariant_of-self-2 g c =
     let k = c.keep.ensures s.0 s.1 in
     let none = ap (λ (i : StagedKept). i.staged) k in
     record {
-      room = none_there Staged (λ x. HasRoom c.count_staged.new.numbers (length x.oids)) c.keep.new.self.staged none;
+      room = none_there Staged (λ x. HasRoomForTally c.count_staged.new.numbers (length x.oids)) c.keep.new.self.staged none;
       settled = λ told whole. c.in_ok-finish.ensures.settled told;
       kept = λ told whole.
           finished (g.V.Volume.log self.volume) self.index self.numbers (self.settled told c.requires.whole) (self.kept told c.requires.whole) (g.V.Volume.log c.finish.new.volume) c.keep.new.self c.count_staged.new.numbers s.0 c.end.result s.1

@@ -1,9 +1,9 @@
 use Rattle.std.proofs.Common.{◌∙◌, length}
-use Rattle.fs_recovery.specs.Reading.{main}
+use Rattle.zb_volume.specs.Disk.{main_bytes}
 use Rattle.fs_recovery.proofs.Seen.{shown}
 use Rattle.fs_recovery.proofs.window.Window.peek.Goals as goal
 
 pub returns-then-covers-clause-bytes : goal.returns-then-covers-clause-bytes
 returns-then-covers-clause-bytes g c = λ told.
     c.copy_from_slice.ensures.after ∙ c.piece.ensures.bytes
-    ∙ shown c.args.self.now.at c.args.self.now.count c.args.at (length c.args.out.now) c.args.self.now.held (main (g.V.Volume.log c.args.volume.now)) (c.requires.shows told) (c.covers.ensures c.if-covers.true)
+    ∙ shown c.args.self.now.at c.args.self.now.count c.args.at (length c.args.out.now) c.args.self.now.held (main_bytes (g.V.Volume.log c.args.volume.now)) (c.requires.shows told) (c.covers.ensures c.if-covers.true)

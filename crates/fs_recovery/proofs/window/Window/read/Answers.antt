@@ -1,9 +1,9 @@
 use Rattle.std.proofs.Common.{◌∙◌, length}
-use Rattle.fs_recovery.specs.Reading.{main}
+use Rattle.zb_volume.specs.Disk.{main_bytes}
 use Rattle.fs_recovery.proofs.Seen.{shown}
 use Rattle.fs_recovery.proofs.window.Window.read.Goals as goal
 
 pub returns-clause-bytes : goal.returns-clause-bytes
 returns-clause-bytes g c = λ told.
     c.copy_from_slice.ensures.after ∙ c.piece.ensures.bytes
-    ∙ shown c.fill.new.self.at c.fill.new.self.count c.args.at (length c.args.out.now) c.fill.new.self.held (main (g.V.Volume.log c.args.volume.now)) (c.fill.ensures.shows told) c.in_ok-fill.ensures.covers
+    ∙ shown c.fill.new.self.at c.fill.new.self.count c.args.at (length c.args.out.now) c.fill.new.self.held (main_bytes (g.V.Volume.log c.args.volume.now)) (c.fill.ensures.shows told) c.in_ok-fill.ensures.covers
