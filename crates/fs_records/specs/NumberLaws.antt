@@ -6,7 +6,7 @@ use Rattle.std.proofs.lemmas.Bool.{cases_lt}
 use Rattle.std.proofs.lemmas.List.{length-take, get_or-take, get_or-drop, get_or_past}
 use Rattle.byteorder.specs.Numbers.{big_number-reads_back, big_from-append, big_from-take, big_from-lt, length-bytes_high_first}
 use Rattle.fs_records.specs.Numbers.{number, number_in}
-use Rattle.zb_base.specs.Bytes.{AreBytes}
+use Rattle.zb_base.specs.Bytes.{AreBytes, AreBytes-take}
 
 pub length-number : (n x : ℕ) → length (number n x) ≡ n
 unfolding number
