@@ -1,0 +1,84 @@
+//! A case: what the program is given, run after run over one Main, and what is expected of each run.
+
+use zb_ids::Stamp;
+
+/// What is expected of Main behind a run.
+#[derive(Drop)]
+pub enum After {
+    /// It is as it was before the run.
+    Same,
+    /// It has these bytes.
+    Bytes(Vec<u8>),
+    /// It has so many bytes, and they have this SHA-256.
+    Digest { length: u64, sha256: [u8; 32] },
+}
+
+/// What a stop leaves of Main in one image.
+#[derive(Drop)]
+pub enum Left {
+    /// No byte.
+    Empty,
+    /// Bytes over which `undolog` writes this.
+    Listed(Vec<u8>),
+}
+
+/// What is expected of a run. What is `None` isn't compared.
+#[derive(Drop)]
+pub struct Expectation {
+    pub written: Vec<u8>,
+    pub status: u8,
+    pub after: After,
+    /// How many bytes of the source are left.
+    pub unread: Option<u64>,
+    /// What the clock gives next.
+    pub next: Option<Stamp>,
+    /// The image with all that waits for a sync.
+    pub greatest: Option<Left>,
+    /// The image with none of it.
+    pub least: Option<Left>,
+}
+
+/// One run of the program.
+#[derive(Drop)]
+pub struct Run {
+    pub words: Vec<String>,
+    pub script: Vec<u8>,
+    /// The numbers of the calls of the source that fail, counted from 1.
+    pub failing_reads: Vec<u64>,
+    /// The same of the sink.
+    pub failing_writes: Vec<u64>,
+    /// The first stamp of the clock, and those that it gives behind it.
+    pub first_stamp: Stamp,
+    pub later_stamps: Vec<Stamp>,
+    pub expected: Expectation,
+}
+
+/// What the program calls.
+#[derive(Clone, Copy, Debug, PartialEq, Eq)]
+pub enum Outside {
+    Source,
+    Sink,
+    Volume,
+}
+
+/// Calls that fail one at a time, each in a first run of its own.
+#[derive(Clone, Copy, Debug, PartialEq, Eq)]
+pub struct Each {
+    pub of: Outside,
+    pub first: u64,
+    pub last: u64,
+}
+
+/// A case.
+#[derive(Drop)]
+pub struct Case {
+    pub name: String,
+    /// Main before the first run.
+    pub main: Vec<u8>,
+    /// The numbers of the calls of the volume that fail in the first run, counted from 1.
+    pub failing_calls: Vec<u64>,
+    pub each: Option<Each>,
+    pub runs: Vec<Run>,
+    /// The difference that is to be reported, where the case is a wrong one.
+    pub differs: Option<String>,
+}
