@@ -1,0 +1,4 @@
+pub mod Class
+pub mod Refusals
+pub mod Records
+pub mod Laws

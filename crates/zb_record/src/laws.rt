@@ -1,0 +1,25 @@
+//! Laws of records. A law is the contract of a function that does nothing.
+
+ghost use Rattle.zb_record.specs.Laws.{ReadIsRecord, RecordIsRead, WrittenReadsBack};
+
+use pickle_value::{references_are_those_of_nodes, written_pickles_read_anywhere};
+
+/// What [`read_record`](crate::read_record) reads is two pickles and nothing else, of which the first is a
+/// class and whose references all name something; what [`references`](crate::references) tells are the oids
+/// that they name. All such bytes are read.
+pub fn records_are_two_pickles()
+    ensures record { ReadIsRecord }
+    ensures read { RecordIsRead }
+{
+    references_are_those_of_nodes();
+}
+
+/// What [`write_record`](crate::write_record) writes reads back as a record of the same two graphs, where
+/// each text makes at most [`NODE_LIMIT`](pickle_value::NODE_LIMIT) nodes and the references of both name
+/// something.
+pub fn written_records_read_back()
+    ensures { WrittenReadsBack }
+{
+    written_pickles_read_anywhere();
+    references_are_those_of_nodes();
+}

@@ -1,0 +1,20 @@
+//! Records of objects. A record is two pickles, one behind the other and nothing else: the object's
+//! class and its state.
+#![tactic(auto)]
+
+mod class;
+mod error;
+mod laws;
+mod reading;
+mod record;
+mod writing;
+
+pub use class::is_class;
+pub use error::RecordError;
+pub use laws::{records_are_two_pickles, written_records_read_back};
+pub use reading::{read_record, references};
+pub use record::ObjectRecord;
+pub use writing::write_record;
+
+#[cfg(test)]
+mod tests;
