@@ -12,7 +12,7 @@ use Rattle.zb_record.specs.declared.error.RecordError.TheVariants as errors
 use Rattle.zb_record.specs.declared.reading.Part.{Part}
 use Rattle.zb_record.specs.declared.reading.Parts.{Parts}
 use Rattle.zb_record.specs.Class.{is_class}
-use Rattle.zb_record.specs.Records.{◌>>=◌, joined, part_at, judged, parts_of}
+use Rattle.zb_record.specs.Records.{◌>>=◌, joined_part, part_at, judged, record_parts}
 use Rattle.zb_record.specs.Laws.{IsRecord, ReadIsRecord, RecordIsRead}
 use Rattle.zb_record.proofs.Joined.{part-found}
 
@@ -29,7 +29,7 @@ record Joins (oids : Result (List ℕ × ℕ) PickleError) (graph : Result (Grap
   told : oids ≡ Ok (p.oids, place)
   reads : graph ≡ Ok (p.pickle, p.behind)
 
-joins : (oids : Result (List ℕ × ℕ) PickleError) (graph : Result (Graph × ℕ) PickleError) (p : Part) → joined oids graph ≡ Ok p → Joins oids graph p
+joins : (oids : Result (List ℕ × ℕ) PickleError) (graph : Result (Graph × ℕ) PickleError) (p : Part) → joined_part oids graph ≡ Ok p → Joins oids graph p
 joins (Err e) graph p h = absurd cc
 joins (Ok oids) (Err e) p h = absurd cc
 joins (Ok oids) (Ok graph) p h = let e : part graph.0 oids.0 graph.1 ≡ p = cc in subst (Joins (Ok oids) (Ok graph)) e (record { place = oids.1; told = refl; reads = refl })
@@ -67,8 +67,8 @@ module _ (told : ToldIsNamed) where
       test true e k = inner (eqb-true state.behind (length bytes) e) (is_class class.pickle) refl k
       test false e k = absurd cc
 
-  of_parts : (bytes : List ℕ) (parts : Parts) → parts_of bytes ≡ Ok parts → IsRecord bytes parts.class.pickle parts.state.pickle parts.class.oids parts.state.oids
-  unfolding parts_of
+  of_parts : (bytes : List ℕ) (parts : Parts) → record_parts bytes ≡ Ok parts → IsRecord bytes parts.class.pickle parts.state.pickle parts.class.oids parts.state.oids
+  unfolding record_parts
   of_parts bytes parts h =
       let a = bind_ok (part_at bytes 0) (λ class. part_at bytes class.behind >>= λ state. judged bytes class state) parts h in
       let b = bind_ok (part_at bytes a.0.behind) (λ state. judged bytes a.0 state) parts a.2 in
@@ -80,7 +80,7 @@ module _ (told : ToldIsNamed) where
 
   pub read-is_record : ReadIsRecord
   read-is_record bytes class state h =
-      let a = bind_ok (parts_of bytes) (λ parts. Ok (parts.class.pickle, parts.state.pickle)) (class, state) h in
+      let a = bind_ok (record_parts bytes) (λ parts. Ok (parts.class.pickle, parts.state.pickle)) (class, state) h in
       let both : (a.0.class.pickle, a.0.state.pickle) ≡ (class, state) = cc in
       let c : a.0.class.pickle ≡ class = ap (λ (x : Graph × Graph). x.0) both in
       let s : a.0.state.pickle ≡ state = ap (λ (x : Graph × Graph). x.1) both in
@@ -95,8 +95,8 @@ module _ (named : NamedIsTold) where
   found : (bytes : List ℕ) (at : ℕ) (g : Graph) (oids : List ℕ) (behind : ℕ) → graph_at NODE_LIMIT at (drop at bytes) ≡ Ok (g, behind) → oids_of g ≡ Some oids → part_at bytes at ≡ Ok (part g oids behind)
   found bytes at g oids behind h e = part-found bytes at (oids, behind) (g, behind) (named at (drop at bytes) g behind oids h e) h
 
-  all_parts : (bytes : List ℕ) (class state : Graph) (a b : List ℕ) (i : IsRecord bytes class state a b) → parts_of bytes ≡ Ok (record { class = part class a i.behind; state = part state b (length bytes) })
-  unfolding parts_of
+  all_parts : (bytes : List ℕ) (class state : Graph) (a b : List ℕ) (i : IsRecord bytes class state a b) → record_parts bytes ≡ Ok (record { class = part class a i.behind; state = part state b (length bytes) })
+  unfolding record_parts
   all_parts bytes class state a b i =
       let first : Part = part class a i.behind in
       let second : Part = part state b (length bytes) in

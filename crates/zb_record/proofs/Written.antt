@@ -13,7 +13,7 @@ use Rattle.pickle_value.specs.Laws.{WrittenReadsAnywhere}
 use Rattle.pickle_value.specs.Named.{oids_of, NamedIsTold, CopiesAreNamed}
 use Rattle.zb_record.specs.Class.{is_global, begins_with_global, is_class_node, is_class}
 use Rattle.zb_record.specs.Records.{one_behind}
-use Rattle.zb_record.specs.Laws.{IsRecord, WrittenReadsBack}
+use Rattle.zb_record.specs.Laws.{IsRecord, WrittenRecordReadsBack}
 use Rattle.zb_record.proofs.Read.{record-is_read}
 
 -- ---- a copy of a class is a class
@@ -77,7 +77,7 @@ some-oids (Some oids) h = (oids, refl)
 some-oids None h = absurd cc
 
 module _ (anywhere : WrittenReadsAnywhere) (named : NamedIsTold) (copies : CopiesAreNamed) where
-  pub written-reads_back : WrittenReadsBack
+  pub written-reads_back : WrittenRecordReadsBack
   written-reads_back class state text can spelling =
       let t = texts (pickle_text class) (pickle_text state) text spelling in
       let c = anywhere class t.first can.class_graph t.class_is can.class_room in

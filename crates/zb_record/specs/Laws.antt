@@ -7,7 +7,7 @@ use Rattle.pickle_value.specs.Named.{oids_of}
 use Rattle.pickle_value.specs.Same.{IsSame}
 use Rattle.pickle_value.specs.Spelling.{root_piece}
 use Rattle.zb_record.specs.Class.{is_class}
-use Rattle.zb_record.specs.Records.{record_of, references_of, record_text}
+use Rattle.zb_record.specs.Records.{record_of, references_of, object_text}
 
 -- The bytes are two pickles and nothing else, the references of each name these oids, and the first is a class.
 pub record IsRecord (bytes : List ℕ) (class state : Graph) (class_oids state_oids : List ℕ) : Type 0 where
@@ -19,14 +19,14 @@ pub record IsRecord (bytes : List ℕ) (class state : Graph) (class_oids state_o
   pub class_is : is_class class ≡ true
 
 -- what is read of bytes is what they are, and their references are those of both graphs
-pub record IsRead (bytes : List ℕ) (class state : Graph) : Type 0 where
+pub record IsReadRecord (bytes : List ℕ) (class state : Graph) : Type 0 where
   pub class_oids : List ℕ
   pub state_oids : List ℕ
   pub is : IsRecord bytes class state class_oids state_oids
   pub told : references_of bytes ≡ Ok (class_oids ++ state_oids)
 
 abbrev pub ReadIsRecord : Type 0
-ReadIsRecord = (bytes : List ℕ) (class state : Graph) → record_of bytes ≡ Ok (class, state) → IsRead bytes class state
+ReadIsRecord = (bytes : List ℕ) (class state : Graph) → record_of bytes ≡ Ok (class, state) → IsReadRecord bytes class state
 
 abbrev pub RecordIsRead : Type 0
 RecordIsRead =
@@ -34,7 +34,7 @@ RecordIsRead =
     (record_of bytes ≡ Ok (class, state)) × (references_of bytes ≡ Ok (class_oids ++ state_oids))
 
 -- the text is read as a record of the same two graphs
-pub record ReadsBack (class state : Graph) (text : List ℕ) : Type 0 where
+pub record RecordIsReadBack (class state : Graph) (text : List ℕ) : Type 0 where
   pub class_copy : Graph
   pub state_copy : Graph
   pub reads : record_of text ≡ Ok (class_copy, state_copy)
@@ -51,5 +51,5 @@ pub record CanBeRead (class state : Graph) : Type 0 where
   pub class_room : (root_piece class.nodes class.root).made ≤ NODE_LIMIT
   pub state_room : (root_piece state.nodes state.root).made ≤ NODE_LIMIT
 
-abbrev pub WrittenReadsBack : Type 0
-WrittenReadsBack = (class state : Graph) (text : List ℕ) → CanBeRead class state → record_text class state ≡ Ok text → ReadsBack class state text
+abbrev pub WrittenRecordReadsBack : Type 0
+WrittenRecordReadsBack = (class state : Graph) (text : List ℕ) → CanBeRead class state → object_text class state ≡ Ok text → RecordIsReadBack class state text

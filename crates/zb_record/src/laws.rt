@@ -1,6 +1,6 @@
 //! Laws of records. A law is the contract of a function that does nothing.
 
-ghost use Rattle.zb_record.specs.Laws.{ReadIsRecord, RecordIsRead, WrittenReadsBack};
+ghost use Rattle.zb_record.specs.Laws.{ReadIsRecord, RecordIsRead, WrittenRecordReadsBack};
 
 use pickle_value::{references_are_those_of_nodes, written_pickles_read_anywhere};
 
@@ -18,7 +18,7 @@ pub fn records_are_two_pickles()
 /// each text makes at most [`NODE_LIMIT`](pickle_value::NODE_LIMIT) nodes and the references of both name
 /// something.
 pub fn written_records_read_back()
-    ensures { WrittenReadsBack }
+    ensures { WrittenRecordReadsBack }
 {
     written_pickles_read_anywhere();
     references_are_those_of_nodes();

@@ -3,7 +3,7 @@
 ghost use Rattle.std.specs.Prelude.{◌≡◌, ◌≤◌, true, length, IfOk};
 ghost use Rattle.zb_record.specs.Class.{is_class};
 ghost use Rattle.zb_record.specs.Refusals.{AnswersFor};
-ghost use Rattle.zb_record.specs.Records.{part_at, parts_of, record_of, references_of};
+ghost use Rattle.zb_record.specs.Records.{part_at, record_parts, record_of, references_of};
 
 use crate::class::is_class;
 use crate::error::RecordError;
@@ -42,9 +42,9 @@ fn read_part(alloc: Global, bytes: &[u8], at: usize) -> Result<Part, RecordError
 }
 
 /// The two pickles of a record.
-#[tactic(auto, unfolding(crate::specs::Records::parts_of))]
+#[tactic(auto, unfolding(crate::specs::Records::record_parts))]
 fn read_parts(alloc: Global, bytes: &[u8]) -> Result<Parts, RecordError>
-    ensures parts { AnswersFor (λ parts. parts) result (parts_of bytes.now) }
+    ensures parts { AnswersFor (λ parts. parts) result (record_parts bytes.now) }
     ensures class { IfOk result (λ parts. is_class parts.class.pickle ≡ true) }
 {
     let class = read_part(alloc, bytes, 0)?;

@@ -1,7 +1,7 @@
 //! Writing records.
 
 ghost use Rattle.pickle_value.specs.Spelling.{Writes};
-ghost use Rattle.zb_record.specs.Records.{record_text};
+ghost use Rattle.zb_record.specs.Records.{object_text};
 
 use crate::record::ObjectRecord;
 use pickle_value::{WriteError, write_pickle};
@@ -14,7 +14,7 @@ use zb_ids::Text8;
 ///
 /// `TooDeep` is answered exactly where one of the two is too deep. Want of memory answers `Memory`.
 pub fn write_record(alloc: Global, entry: &ObjectRecord) -> Result<Text8, WriteError>
-    ensures text { Writes result (record_text entry.now.class entry.now.state) }
+    ensures text { Writes result (object_text entry.now.class entry.now.state) }
 {
     let mut text = write_pickle(alloc, &entry.class)?;
     let state = write_pickle(alloc, &entry.state)?;
