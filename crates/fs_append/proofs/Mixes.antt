@@ -1,13 +1,13 @@
 -- What a crash leaves of Main while a transaction is voted, finished or aborted.
 use Rattle.std.proofs.Common.{◌≡◌, ◌⊎◌, inl, inr, ⊎_elim, ℕ, ◌+◌, ◌<◌, ◌≤◌, List, [], ◌∷◌, ◌++◌, length, get_or, set, take, drop, sym, ◌∙◌, ap, subst, arith, add-one}
-use Rattle.std.proofs.lemmas.List.{ext_get_or, get_or-take, get_or-drop, get_or-append-add, get_or_past, get_or-set_other, length-append, length-take, length-set, take_all, drop_all, take_at, take-take, take-append-drop, append-nil, append_assoc, set_split}
+use Rattle.std.proofs.lemmas.List.{ext_get_or, get_or-take, get_or-drop, get_or-append-add, get_or_past, get_or-set_other, length-append, length-take, length-set, take_all, take_at, take-take, take-append-drop, append_assoc, set_split}
 use Rattle.std.proofs.lemmas.Bool.{cases_eq, cases_lt}
 use Rattle.zb_volume.specs.declared.areas.Area.TheVariants.{Main}
 use Rattle.zb_volume.specs.Calls.{Event}
 use Rattle.zb_volume.specs.Disk.{seen, written, IsSettled}
 use Rattle.zb_volume.specs.Images.{IsImage, CrashLeavesWith}
 use Rattle.zb_volume.specs.Moments.{LeavesOnly}
-use Rattle.zb_volume.specs.Lasting.{settled_mix}
+use Rattle.zb_volume.specs.Lasting.{settled_mix, written_end}
 use Rattle.zb_volume.specs.Runs.{leaves_less}
 use Rattle.fs_records.specs.Blocks.{Reached, Begins}
 use Rattle.fs_append.specs.Appending.{IsStillRead, IsVote, IsVoted}
@@ -51,12 +51,6 @@ module _ (s : Reached) (old new c : List ℕ) (begins : Begins old s) (old_long 
       subst (IsStillRead s) parts (rest_stands old s (drop s.end c) begins (subst IsUnfinished (sym (get_or-drop s.end c 16 0)) status))
 
 -- ---- a vote
-
-written_end : (old text : List ℕ) (end : ℕ) → length old ≡ end → written old end text ≡ old ++ text
-written_end old text end is =
-    ap (λ (l : List ℕ). l ++ text ++ drop (end + length text) old) (take_all end old (omega (arith, is)))
-    ∙ ap (λ (l : List ℕ). old ++ text ++ l) (drop_all (end + length text) old (omega (arith, is)))
-    ∙ append-nil (old ++ text)
 
 vote_mix : (s : Reached) (old text : List ℕ) (end : ℕ) → Begins old s → s.end ≡ end → length old ≡ end → get_or text 16 0 ≡ 99 → (c : List ℕ) → IsImage old (written old end text ∷ []) c → IsStillRead s c
 vote_mix s old text end begins end_is whole voted c =

@@ -5,7 +5,7 @@ use Rattle.fs_records.specs.declared.verdict.Verdict.TheVariants.{Ends, Tail}
 use Rattle.fs_records.specs.Headers.{header_of}
 use Rattle.fs_records.specs.Blocks.{Reached, Begins}
 use Rattle.fs_records.specs.Rules.{verdict}
-use Rattle.fs_records.specs.WriteLaws.{behind_read, begins_with, voted_is_tail}
+use Rattle.fs_records.specs.WriteLaws.{behind_read, begins_with, none_ends, voted_is_tail}
 use Rattle.fs_append.specs.Appending.{IsStillRead}
 
 -- The status is that of a vote, or 0, as where its byte was not written yet or where there is none.
@@ -27,12 +27,6 @@ too_few_are_tail newest rest any few =
     let some : eqb (length rest) 0 ≡ false = ne_eqb _ _ (omega arith) in
     let short : ltb (length rest) 23 ≡ true = lt-ltb _ _ (omega arith) in
     rw (some, short) refl
-
-none_ends : (newest : ℕ) (rest : List ℕ) → length rest ≡ 0 → verdict newest rest ≡ Ends
-unfolding verdict
-none_ends newest rest none =
-    let is : eqb (length rest) 0 ≡ true = eq-eqb _ _ none in
-    rw is refl
 
 -- a rest that is not finished is nothing, or a tail
 pub unfinished_verdict : (newest : ℕ) (rest : List ℕ) → IsUnfinished (get_or rest 16 0) → (verdict newest rest ≡ Ends) ⊎ (verdict newest rest ≡ Tail)

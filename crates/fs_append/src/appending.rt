@@ -9,13 +9,8 @@ ghost use Rattle.zb_volume.specs.Moments.{LeavesOnly, StaysAs};
 ghost use Rattle.fs_records.specs.Blocks.{Reached};
 ghost use Rattle.fs_append.specs.Appending.{IsStillRead, IsVote, IsVoted};
 
+use fs_records::{COMMITTED, STATUS_PLACE};
 use zb_volume::{Area, StoreFault, Volume, cut_and_sync, write_and_sync};
-
-// Where the status of a transaction stands: behind its tid and its length.
-const STATUS_AT: u64 = 16;
-
-// The status of a transaction that is finished.
-const COMMITTED: u8 = b' ';
 
 /// Puts the bytes of a transaction into Main at the place `end`, in one write, and syncs it. Where
 /// they have the status of a vote and the file ended there, a crash at any moment leaves bytes that
@@ -61,7 +56,7 @@ pub fn finish<V: Volume>(volume: &mut V, end: u64) -> Result<(), StoreFault>
     ensures cause { HasCause (V.write_faults volume.old) (V.write_faults volume.new) result }
     ensures read_faults { V.read_faults volume.new ≡ V.read_faults volume.old }
 {
-    write_and_sync(volume, Area::Main, end + STATUS_AT, &[COMMITTED])
+    write_and_sync(volume, Area::Main, end + STATUS_PLACE as u64, &[COMMITTED])
 }
 
 /// Cuts Main to its first `end` bytes, behind which a transaction was voted, and syncs it. At every

@@ -1,5 +1,5 @@
 -- Binary search in places that rise.
-use Rattle.std.proofs.Common.{◌≡◌, ℕ, zero, suc, ◌-◌, ◌<◌, ◌≤◌, Bool, true, false, cond, eqb, ltb, List, [], ◌∷◌, length, get_or, take, filter, Option, Some, None, refl, inl, inr, sym, ap, ◌∙◌, arith}
+use Rattle.std.proofs.Common.{◌≡◌, ℕ, zero, suc, ◌-◌, ◌<◌, ◌≤◌, Bool, true, false, cond, eqb, ltb, List, [], ◌∷◌, length, get_or, take, filter, Some, None, refl, inl, inr, sym, ap, ◌∙◌, arith}
 use Rattle.std.specs.Prelude.{◌||◌, not, slice_get}
 use Rattle.std.specs.List.{list_any, last_or}
 use Rattle.std.specs.List.Sorted.{IsPartitionPoint, IsNonDecreasingBy}
@@ -92,4 +92,3 @@ found_at at xs n d h parts rise = by_cases (eqb (get_or xs n d).at at) refl
 
 pub none_found : (at : ℕ) (xs : List Place) (n : ℕ) → length xs ≤ n → PartsAt at xs n → false ≡ list_any (λ p. eqb p.at at) xs
 none_found at xs n h parts = sym (none_at at xs (λ k d l. ne_eqb _ _ (λ e. absurd (omega (arith, ltb-true _ _ (parts.0 k d (omega arith) (omega arith)), e)))))
-

@@ -3,10 +3,7 @@
 ghost use Rattle.std.specs.Prelude.{All, IsTrue};
 ghost use Rattle.fs_records.specs.Places.{IsBefore};
 
-use crate::{
-    Lookup, any_at, count_below, first_from, last_before, last_of, newest_is_the_last_record,
-    stands_where_a_record_was_read,
-};
+use crate::{Lookup, any_at, count_below, first_from, last_before, last_of};
 use fs_records::{Index, Place};
 use std::alloc::{AllocError, Global};
 use std::test::Fail;
@@ -52,39 +49,27 @@ fn index_of_records(alloc: Global) -> Result<Index, AllocError> {
     Ok(index)
 }
 
-#[test]
-fn newest_is_the_last(rt: HostRuntime) -> Result<(), Fail> {
-    let index = index_of_records(rt.alloc())?;
-    assert_eq!(rt; index.newest(Oid(1)), Some(place(9, 400)));
-    assert_eq!(rt; index.newest(Oid(2)), Some(place(7, 243)));
-    assert_eq!(rt; index.newest(Oid(3)), None);
-    assert_eq!(rt; Index::new(rt.alloc()).newest(Oid(1)), None);
-    Ok(())
-}
-
 // Below a front stands the last record of the last earlier transaction, the second of two.
 #[test]
-fn before_is_below_the_front(rt: HostRuntime) -> Result<(), Fail> {
+fn an_index_is_looked_up(rt: HostRuntime) -> Result<(), Fail> {
     let index = index_of_records(rt.alloc())?;
     let rows = [
-        (1, 0, None),
-        (1, 5, None),
-        (1, 6, Some(place(5, 70))),
-        (1, 7, Some(place(5, 70))),
-        (1, 8, Some(place(7, 200))),
-        (1, 9, Some(place(7, 200))),
-        (1, 10, Some(place(9, 400))),
-        (1, u64::MAX, Some(place(9, 400))),
-        (2, 7, None),
-        (2, 8, Some(place(7, 243))),
-        (3, u64::MAX, None),
+        (1, 7, Some(place(5, 70)), Some(place(9, 400))),
+        (1, u64::MAX, Some(place(9, 400)), Some(place(9, 400))),
+        (2, 7, None, Some(place(7, 243))),
+        (3, u64::MAX, None, None),
     ];
-    for (oid, front, want) in rows {
+    for (oid, front, before, newest) in rows {
         assert_eq!(rt;
             index.before(Oid(oid), Tid(front)),
-            want,
-            "object {oid} below {front}"
+            before,
+            "{oid} below {front}"
         );
+        assert_eq!(rt; index.newest(Oid(oid)), newest, "object {oid}");
+    }
+    for at in [26, 27, 28, 243, 400, 401] {
+        let there = [27, 400].contains(&at);
+        assert_eq!(rt; index.stands_at(Oid(1), at), there, "at {at}");
     }
     Ok(())
 }
@@ -95,14 +80,11 @@ fn places_are_parted_at_a_front(rt: HostRuntime) -> Result<(), Fail> {
     let index = index_of_records(rt.alloc())?;
     let places = index.places(Oid(1));
     let rows = [
-        (0, 0, None, Some(place(5, 27))),
         (5, 0, None, Some(place(5, 27))),
         (6, 2, Some(place(5, 70)), Some(place(7, 200))),
         (7, 2, Some(place(5, 70)), Some(place(7, 200))),
         (8, 3, Some(place(7, 200)), Some(place(9, 400))),
-        (9, 3, Some(place(7, 200)), Some(place(9, 400))),
         (10, 4, Some(place(9, 400)), None),
-        (u64::MAX, 4, Some(place(9, 400)), None),
     ];
     for (front, count, before, from) in rows {
         assert_eq!(rt; count_below(places, Tid(front)), count, "below {front}");
@@ -111,28 +93,5 @@ fn places_are_parted_at_a_front(rt: HostRuntime) -> Result<(), Fail> {
     }
     assert_eq!(rt; last_of(places), Some(place(9, 400)));
     assert!(rt; any_at(places, 70));
-    assert!(rt; !any_at(places, 71));
-    assert_eq!(rt; first_from(index.places(Oid(3)), Tid(0)), None);
-    assert_eq!(rt; last_of(index.places(Oid(3))), None);
     Ok(())
-}
-
-// A record that a later one of its transaction replaces is still found at its place.
-#[test]
-fn records_are_found_at_their_places(rt: HostRuntime) -> Result<(), Fail> {
-    let index = index_of_records(rt.alloc())?;
-    for at in 0..500 {
-        let first = index.stands_at(Oid(1), at);
-        let second = index.stands_at(Oid(2), at);
-        assert_eq!(rt; first, [27, 70, 200, 400].contains(&at), "object 1 at {at}");
-        assert_eq!(rt; second, at == 243, "object 2 at {at}");
-        assert!(rt; !index.stands_at(Oid(3), at), "object 3 at {at}");
-    }
-    Ok(())
-}
-
-#[test]
-fn laws_are_called(_rt: HostRuntime) {
-    newest_is_the_last_record();
-    stands_where_a_record_was_read();
 }

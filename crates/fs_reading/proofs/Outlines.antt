@@ -8,6 +8,7 @@ use Rattle.indexmap.specs.IndexSet.{insert_key}
 use Rattle.zb_model.specs.declared.data.Content.{Content}
 use Rattle.zb_model.specs.declared.data.Change.{Change}
 use Rattle.fs_records.specs.Blocks.{Known, as_change}
+use Rattle.fs_records.specs.Databases.{oids_are_keys}
 use Rattle.fs_records.specs.Rules.{payload_size}
 use Rattle.fs_reading.specs.Cases.{by_bool}
 use Rattle.fs_reading.specs.Standing.{data_head_at}
@@ -31,10 +32,6 @@ keys_more (e ∷ es) k c =
 keys_are : (done : List (ℕ × Content)) (ks : List Known) → keys_of (entries_of done ks) ≡ oids_by (keys_of done) ks
 keys_are done [] = refl
 keys_are done (k ∷ ks) = keys_are (insert_entry nat_eq done k.oid k.content) ks ∙ ap (λ (ns : List ℕ). oids_by ns ks) (keys_more done k.oid k.content)
-
-oids_are_keys : (es : List (ℕ × Content)) → map (λ (c : Change). c.oid) (map as_change es) ≡ keys_of es
-oids_are_keys [] = refl
-oids_are_keys (e ∷ es) = ap (λ (ks : List ℕ). e.0 ∷ ks) (oids_are_keys es)
 
 -- the objects of data records are those of the changes by them
 pub oids_changed : (changes : List Change) (ks : List Known) → changes ≡ map as_change (entries_of [] ks) → oids_by [] ks ≡ map (λ (c : Change). c.oid) changes

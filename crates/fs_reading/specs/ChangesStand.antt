@@ -10,11 +10,10 @@ use Rattle.zb_model.specs.declared.data.Change.{Change}
 use Rattle.zb_model.specs.declared.data.Transaction.{Transaction}
 use Rattle.fs_records.specs.declared.header.DataHeader.{DataHeader}
 use Rattle.fs_records.specs.declared.place.Place.{Place}
-use Rattle.fs_records.specs.Headers.{data_header_text}
-use Rattle.fs_records.specs.HeaderLaws.{length-data_header_text}
 use Rattle.fs_records.specs.NumberLaws.{length-number}
-use Rattle.fs_records.specs.Blocks.{Payload, Full, From, Written, Known, payload_text, payload_length, data_header, record_text, records_text, with_record, content_of, changes_of, as_change, IsPayload, AreWritten}
+use Rattle.fs_records.specs.Blocks.{Payload, Full, From, Written, Known, payload_text, payload_length, record_text, records_text, with_record, content_of, changes_of, as_change, IsPayload, AreWritten}
 use Rattle.fs_records.specs.Rules.{texts_length, payload_size}
+use Rattle.fs_records.specs.RecordLaws.{length-record_text}
 use Rattle.fs_reading.specs.Standing.{head_at, data_head_at, RecordStands}
 use Rattle.fs_reading.specs.Merged.{read_of}
 use Rattle.fs_reading.specs.Contents.{record_head}
@@ -67,10 +66,6 @@ size_of_payload : (known : List Known) (oid : ℕ) (p : Payload) → IsPayload k
 size_of_payload known oid (Full bytes) is = ap (λ b. cond b 8 (length bytes)) (ne_eqb (length bytes) 0 (omega (arith, is.0)))
 size_of_payload known oid (From at) is = sym (length-number 8 at)
 
-record_long : (place tid : ℕ) (r : Written) → length (record_text place tid r) ≡ 42 + length (payload_text r.payload)
-unfolding record_text
-record_long place tid r = omega (arith, length-append (data_header_text (data_header place tid r)) (payload_text r.payload), length-data_header_text (data_header place tid r))
-
 pub records_between : (bytes : List ℕ) (place tid end : ℕ) → tid < 2 ^ 64 → place < 2 ^ 64
     → (known : List Known) (q to : ℕ) (rs : List Written) (more : List ℕ) → AreWritten known place tid q rs → drop q bytes ≡ records_text place tid rs ++ more → to ≡ q + length (records_text place tid rs)
     → AllByRecursion (NewStands bytes place tid end) (read_of known place tid q rs) → RecordsBetween bytes q to (read_of known place tid q rs)
@@ -81,7 +76,7 @@ records_between bytes place tid end tid_fits place_fits known q to (r ∷ rs) mo
     let here : drop q bytes ≡ text ++ (others ++ more) = stands ∙ append_assoc text others more in
     let head = record_head bytes known place tid q r (others ++ more) tid_fits place_fits written.0 here in
     let size : payload_size (data_head_at bytes q) ≡ length (payload_text r.payload) = ap (λ (h : DataHeader). payload_size h) head.0 ∙ size_of_payload known r.oid r.payload written.0.payload in
-    let next_is : q + length text ≡ q + 42 + payload_size (data_head_at bytes q) = omega (arith, size, record_long place tid r) in
+    let next_is : q + length text ≡ q + 42 + payload_size (data_head_at bytes q) = omega (arith, size, length-record_text place tid r) in
     let behind : drop (q + length text) bytes ≡ others ++ more = sym (drop-drop (length text) q bytes) ∙ ap (drop (length text)) here ∙ drop_at text (others ++ more) (length text) refl in
     let rest = records_between bytes place tid end tid_fits place_fits (with_record known tid q r) (q + length text) to rs more written.1 behind (omega (arith, to_is, length-append text others)) all.1 in
     (refl, all.0.stands, subst (λ (n : ℕ). RecordsBetween bytes n to (read_of (with_record known tid q r) place tid (q + length text) rs)) next_is rest)

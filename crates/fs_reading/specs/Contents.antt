@@ -11,15 +11,18 @@ use Rattle.fs_records.specs.NumberLaws.{length-number, number_in-number}
 use Rattle.fs_records.specs.Headers.{data_header_of, data_header_text}
 use Rattle.fs_records.specs.HeaderLaws.{IsDataHeader, data_header_again, length-data_header_text}
 use Rattle.fs_records.specs.Blocks.{Payload, Full, From, Written, Known, payload_length, payload_text, data_header, record_text, is_at, is_known, content_at, content_of, known_at, IsPayload, IsWrittenRecord}
+use Rattle.fs_records.specs.RecordLaws.{payload_fits}
 use Rattle.fs_records.specs.Rules.{payload_size}
 use Rattle.fs_reading.specs.Cases.{by_bool}
 use Rattle.fs_reading.specs.Standing.{data_head_at, back_at, HasPayload, IsContent, held, absent, earlier}
 
 -- ---- what is known stands, and before here
 
+-- a known record's content stands at its place
 abbrev pub ContentStands : List ℕ → Known → Type 0
 ContentStands bytes k = IsContent bytes k.content k.place
 
+-- a known record stands before this place
 abbrev pub StandsBefore : ℕ → Known → Type 0
 StandsBefore q k = k.place < q
 
@@ -45,10 +48,6 @@ known_before q (k ∷ ks) oid place all is =
     (λ at h. known_before q ks oid place all.1 h) is
 
 -- ---- a data record that stands there
-
-payload_fits : (known : List Known) (oid : ℕ) (p : Payload) → IsPayload known oid p → payload_length p < 2 ^ 64
-payload_fits known oid (Full bytes) is = is.1
-payload_fits known oid (From at) is = omega arith
 
 -- its header is read again
 pub record_head : (bytes : List ℕ) (known : List Known) (place tid q : ℕ) (r : Written) (more : List ℕ) → tid < 2 ^ 64 → place < 2 ^ 64 → IsWrittenRecord known r → drop q bytes ≡ record_text place tid r ++ more

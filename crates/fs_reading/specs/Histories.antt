@@ -15,6 +15,7 @@ use Rattle.fs_records.specs.NumberLaws.{length-number}
 use Rattle.fs_records.specs.Rules.{texts_length}
 use Rattle.fs_records.specs.Numbers.{number}
 use Rattle.fs_records.specs.Blocks.{Block, Known, is_known, content_at, Reached, file_start, after_block, after_blocks, texts, records_text, records_from, length_of, header_for, block_text, blocks_text, transaction_of, with_records, as_change, IsBlock, AreBlocks, Begins, magic}
+use Rattle.fs_records.specs.BlockLaws.{after-end}
 use Rattle.fs_records.specs.Places.{is_of}
 use Rattle.fs_reading.specs.Cases.{by_bool}
 use Rattle.fs_reading.specs.Standing.{data_head_at, head_at, IsContent, user_at, description_at, RecordStands, TransactionStands, TransactionsStand, is_replaced, lasts, revision_line_of}
@@ -159,10 +160,6 @@ one_block bytes s b more so_far is here =
       histories = λ oid. subst (λ (ks : List Known). map (revision_line_of bytes) (lasts (filter (is_of oid) ks)) ≡ filter_map (history_line oid) (s.list ++ t ∷ [])) known_is (history oid);
     }
 
-after_end : (s : Reached) (b : Block) → (after_block s b).end ≡ s.end + (length_of s.end b + 8)
-unfolding after_block
-after_end s b = refl
-
 all_blocks : (bytes : List ℕ) (s : Reached) (bs : List Block) (more : List ℕ) → HasHistories bytes s → AreBlocks s bs → drop s.end bytes ≡ blocks_text s bs ++ more → HasHistories bytes (after_blocks s bs)
 all_blocks bytes s [] more so_far are here = so_far
 all_blocks bytes s (b ∷ bs) more so_far are here =
@@ -170,7 +167,7 @@ all_blocks bytes s (b ∷ bs) more so_far are here =
     let there : drop s.end bytes ≡ block_text s.end b ++ (others ++ more) = here ∙ append_assoc (block_text s.end b) others more in
     let next = one_block bytes s b (others ++ more) so_far are.0 there in
     let behind = (block_stands bytes s b (others ++ more) are.0 there).behind in
-    all_blocks bytes (after_block s b) bs more next are.1 (ap (λ (n : ℕ). drop n bytes) (after_end s b) ∙ behind)
+    all_blocks bytes (after_block s b) bs more next are.1 (ap (λ (n : ℕ). drop n bytes) (after-end s b) ∙ behind)
 
 -- what was read of a file stands in its bytes
 pub stands : (bytes : List ℕ) (s : Reached) → Begins bytes s → HasHistories bytes s

@@ -1,21 +1,17 @@
 -- The data records of a transaction that was read stand in the bytes.
 use Rattle.std.proofs.Common.{◌≡◌, ℕ, ◌+◌, ◌^◌, ◌<◌, Bool, cond, List, [], ◌∷◌, ◌++◌, length, filter, drop, refl, sym, ap, subst, ◌∙◌, append_assoc, arith}
 use Rattle.std.specs.List.{AllByRecursion}
+use Rattle.zb_base.specs.Lists.{each_more}
 use Rattle.std.proofs.lemmas.List.{length-append, drop-drop, drop_at}
 use Rattle.fs_records.specs.declared.header.DataHeader.{DataHeader}
-use Rattle.fs_records.specs.HeaderLaws.{length-data_header_text}
-use Rattle.fs_records.specs.Headers.{data_header_text}
-use Rattle.fs_records.specs.Blocks.{Written, Known, payload_text, data_header, record_text, records_text, known_at, with_record, AreWritten}
+use Rattle.fs_records.specs.Blocks.{Written, Known, record_text, records_text, known_at, with_record, AreWritten}
+use Rattle.fs_records.specs.RecordLaws.{length-record_text}
 use Rattle.fs_reading.specs.Cases.{by_bool}
 use Rattle.fs_reading.specs.Standing.{data_head_at, head_at, HasTexts, RecordStands}
 use Rattle.fs_reading.specs.Merged.{read_of}
 use Rattle.fs_reading.specs.Contents.{ContentStands, StandsBefore, record_head, record_content}
 
 -- ---- of each in a list
-
-pub each-push : {X : Type 0} (P : X → Type 0) (xs : List X) (x : X) → AllByRecursion P xs → P x → AllByRecursion P (xs ++ x ∷ [])
-each-push P [] x all one = (one, tt)
-each-push P (y ∷ ys) x all one = (all.0, each-push P ys x all.1 one)
 
 pub each-append : {X : Type 0} (P : X → Type 0) (xs ys : List X) → AllByRecursion P xs → AllByRecursion P ys → AllByRecursion P (xs ++ ys)
 each-append P [] ys all more = more
@@ -41,10 +37,6 @@ pub record NewStands (bytes : List ℕ) (place tid to : ℕ) (k : Known) : Type 
   pub tid_is : k.tid ≡ tid
   pub before : k.place < to
 
-record_long : (place tid : ℕ) (r : Written) → 0 < length (record_text place tid r)
-unfolding record_text
-record_long place tid r = omega (arith, length-append (data_header_text (data_header place tid r)) (payload_text r.payload), length-data_header_text (data_header place tid r))
-
 pub records_stand : (bytes : List ℕ) (place tid to : ℕ) → tid < 2 ^ 64 → place < 2 ^ 64 → HasTexts bytes place → (head_at bytes place).tid ≡ tid
     → (known : List Known) (q : ℕ) (rs : List Written) (more : List ℕ) → AreWritten known place tid q rs → drop q bytes ≡ records_text place tid rs ++ more → to ≡ q + length (records_text place tid rs)
     → AllByRecursion (ContentStands bytes) known → AllByRecursion (StandsBefore q) known → AllByRecursion (NewStands bytes place tid to) (read_of known place tid q rs)
@@ -54,7 +46,7 @@ records_stand bytes place tid to tid_fits place_fits texts its_tid known q (r �
     let others : List ℕ = records_text place tid rs in
     let here : drop q bytes ≡ text ++ (others ++ more) = stands ∙ append_assoc text others more in
     let k : Known = known_at known tid q r in
-    let long = record_long place tid r in
+    let long = length-record_text place tid r in
     let len = length-append text others in
     let content = record_content bytes known place tid q r (others ++ more) tid_fits place_fits written.0 here all before in
     let head = record_head bytes known place tid q r (others ++ more) tid_fits place_fits written.0 here in
@@ -73,5 +65,5 @@ records_stand bytes place tid to tid_fits place_fits texts its_tid known q (r �
     } in
     let behind : drop (q + length text) bytes ≡ others ++ more = sym (drop-drop (length text) q bytes) ∙ ap (drop (length text)) here ∙ drop_at text (others ++ more) (length text) refl in
     let later : AllByRecursion (StandsBefore (q + length text)) (known ++ k ∷ []) =
-    each-push (StandsBefore (q + length text)) known k (each_weaker (StandsBefore q) (StandsBefore (q + length text)) (λ x h. omega arith) known before) (omega arith) in
-    (first, records_stand bytes place tid to tid_fits place_fits texts its_tid (with_record known tid q r) (q + length text) rs more written.1 behind (omega arith) (each-push (ContentStands bytes) known k all content) later)
+    each_more (StandsBefore (q + length text)) known k (each_weaker (StandsBefore q) (StandsBefore (q + length text)) (λ x h. omega arith) known before) (omega arith) in
+    (first, records_stand bytes place tid to tid_fits place_fits texts its_tid (with_record known tid q r) (q + length text) rs more written.1 behind (omega arith) (each_more (ContentStands bytes) known k all content) later)

@@ -11,7 +11,7 @@ ghost use Rattle.fs_reading.specs.declared.errors.ReadError.TheVariants.{ReadFau
 
 use crate::errors::ReadError;
 use crate::pieces::{back_pointer_at, bytes_at, data_header_at};
-use fs_records::DataHeader;
+use fs_records::{DATA_HEADER_LENGTH, DataHeader};
 use std::alloc::Global;
 use zb_model::Content;
 use zb_volume::{StoreFault, Volume};
@@ -81,7 +81,7 @@ pub(crate) fn content_of<V: Volume>(
     let Some(source) = source_of(volume, at, header)? else {
         return Ok(Content::Absent);
     };
-    let from = source.at.saturating_add(42);
+    let from = source.at.saturating_add(DATA_HEADER_LENGTH as u64);
     Ok(Content::Held(bytes_at(alloc, volume, from, source.length as usize)?))
 }
 

@@ -14,8 +14,7 @@ ghost use Rattle.zb_volume.specs.Disk.{main_bytes};
 use crate::errors::ReadError;
 use crate::pieces::{data_header_at, header_at};
 use crate::transaction::payload_size;
-use crate::undo_log::PACKED;
-use fs_records::Place;
+use fs_records::{DATA_HEADER_LENGTH, HEADER_LENGTH, PACKED, Place};
 use indexmap::IndexSet;
 use std::alloc::{AllocError, Global};
 use zb_ids::{ListOf, Oid};
@@ -65,7 +64,7 @@ fn oids_between<V: Volume>(
         let header = data_header_at(volume, place)?;
         oids.insert(header.oid)?;
         place = place
-            .saturating_add(42)
+            .saturating_add(DATA_HEADER_LENGTH as u64)
             .saturating_add(payload_size(&header));
     }
     Ok(oids)
@@ -92,7 +91,7 @@ fn outline_at<V: Volume>(alloc: Global, volume: &mut V, place: Place) -> Result<
     let header = header_at(volume, place.at)?;
     let from = place
         .at
-        .saturating_add(23)
+        .saturating_add(HEADER_LENGTH as u64)
         .saturating_add(header.user as u64)
         .saturating_add(header.description as u64)
         .saturating_add(header.extension as u64);

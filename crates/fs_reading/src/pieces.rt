@@ -9,7 +9,9 @@ ghost use Rattle.fs_reading.specs.declared.errors.ReadError.TheVariants.{ReadFau
 
 use crate::errors::ReadError;
 use byteorder::{BigEndian, ByteOrder};
-use fs_records::{DataHeader, Header, read_data_header, read_header};
+use fs_records::{
+    DATA_HEADER_LENGTH, DataHeader, HEADER_LENGTH, Header, read_data_header, read_header,
+};
 use std::alloc::{AllocError, Global};
 use zb_ids::{ListOf, Text8};
 use zb_volume::{Area, StoreFault, Volume};
@@ -23,7 +25,7 @@ pub(crate) fn header_at<V: Volume>(volume: &mut V, at: u64) -> Result<Header, St
     ensures uncounted { OnOk result (V.read_faults volume.new ≡ V.read_faults volume.old) }
     ensures write_faults { V.write_faults volume.new ≡ V.write_faults volume.old }
 {
-    let mut bytes = [0; 23];
+    let mut bytes = [0; HEADER_LENGTH];
     volume.read(Area::Main, at, &mut bytes)?;
     Ok(read_header(&bytes))
 }
@@ -37,7 +39,7 @@ pub(crate) fn data_header_at<V: Volume>(volume: &mut V, at: u64) -> Result<DataH
     ensures uncounted { OnOk result (V.read_faults volume.new ≡ V.read_faults volume.old) }
     ensures write_faults { V.write_faults volume.new ≡ V.write_faults volume.old }
 {
-    let mut bytes = [0; 42];
+    let mut bytes = [0; DATA_HEADER_LENGTH];
     volume.read(Area::Main, at, &mut bytes)?;
     Ok(read_data_header(&bytes))
 }
@@ -54,7 +56,11 @@ pub(crate) fn back_pointer_at<V: Volume>(volume: &mut V, at: u64) -> Result<u64,
     ensures write_faults { V.write_faults volume.new ≡ V.write_faults volume.old }
 {
     let mut bytes = [0; 8];
-    volume.read(Area::Main, at.saturating_add(42), &mut bytes)?;
+    volume.read(
+        Area::Main,
+        at.saturating_add(DATA_HEADER_LENGTH as u64),
+        &mut bytes,
+    )?;
     Ok(BigEndian::read_u64(&bytes))
 }
 
@@ -106,7 +112,7 @@ pub(crate) fn user_and_description<V: Volume>(
     ensures uncounted { OnOk result (V.read_faults volume.new ≡ V.read_faults volume.old) }
     ensures write_faults { V.write_faults volume.new ≡ V.write_faults volume.old }
 {
-    let from = at.saturating_add(23);
+    let from = at.saturating_add(HEADER_LENGTH as u64);
     let user = bytes_at(alloc, volume, from, header.user as usize)?;
     let behind = from.saturating_add(header.user as u64);
     let description = bytes_at(alloc, volume, behind, header.description as usize)?;

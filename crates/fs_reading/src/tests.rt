@@ -1,301 +1,212 @@
-mod file;
-mod lookups;
-mod places;
-mod untold;
+//! Each call over a file of the host, of which nothing is told: a file with data records of every
+//! kind, byte by byte from the tables of the format.
+
+ghost use Rattle.std.specs.Prelude.{IsTrue, All};
+ghost use Rattle.fs_records.specs.Places.{IsBefore};
 
 use super::*;
-use file::{File, Payload, Written, index_record};
-use fs_records::Place;
-use std::alloc::Global;
-use std::process::Abort;
+use fs_records::{Index, Place};
+use std::alloc::{AllocError, Global};
+use std::fs;
+use std::rt::Files;
 use std::test::Fail;
-use zb_ids::{ListOf, Oid, Tid};
-use zb_model::{Change, Content, LogLine, Revision, Transaction};
-
-/// The file of a new database: the object 0, with the record of an empty persistent mapping.
-const FIRST: [u8; 158] = [
-    70, 83, 51, 48, 3, 245, 142, 0, 0, 0, 0, 0, 0, 0, 0, 0, 0, 0, 0, 146, 32, 0, 0, 0, 25, 0, 0,
-    105, 110, 105, 116, 105, 97, 108, 32, 100, 97, 116, 97, 98, 97, 115, 101, 32, 99, 114, 101, 97,
-    116, 105, 111, 110, 0, 0, 0, 0, 0, 0, 0, 0, 3, 245, 142, 0, 0, 0, 0, 0, 0, 0, 0, 0, 0, 0, 0, 0,
-    0, 0, 0, 0, 0, 0, 0, 4, 0, 0, 0, 0, 0, 0, 0, 0, 0, 56, 128, 3, 99, 112, 101, 114, 115, 105,
-    115, 116, 101, 110, 116, 46, 109, 97, 112, 112, 105, 110, 103, 10, 80, 101, 114, 115, 105, 115,
-    116, 101, 110, 116, 77, 97, 112, 112, 105, 110, 103, 10, 46, 128, 3, 125, 88, 4, 0, 0, 0, 100,
-    97, 116, 97, 125, 115, 46, 0, 0, 0, 0, 0, 0, 0, 146,
-];
-
-/// The tid of 2024-01-01 00:00:00.
-const T0: u64 = 0x03f5_8e00_0000_0000;
-
-const T1: u64 = T0 + 1;
-
-/// The file of a new database in which one transaction then made object 1 of three bytes.
-fn first_commit(alloc: Global) -> Result<File, Fail> {
-    let mut file = File::new(alloc)?;
-    file.put(Written {
-        tid: T0,
-        status: b' ',
-        user: b"",
-        description: b"initial database creation",
-        extension: b"",
-        records: &[(0, Payload::Full(&FIRST[94..150]))],
-    })?;
-    file.put(Written {
-        tid: T1,
-        status: b' ',
-        user: b"",
-        description: b"",
-        extension: b"",
-        records: &[(1, Payload::Full(b"abc"))],
-    })?;
-    Ok(file)
-}
-
-fn check_log(rt: &impl Abort, lines: &ListOf<LogLine>, wanted: &[(u64, &[u8], &[u8])]) {
-    assert_eq!(rt; lines.len(), wanted.len());
-    for (line, (tid, user, description)) in lines.as_slice().iter().zip(wanted) {
-        assert_eq!(rt; line.tid, Tid(*tid));
-        assert_eq!(rt; line.user.as_slice(), *user);
-        assert_eq!(rt; line.description.as_slice(), *description);
-    }
-}
-
-/// The undo list of a file.
-fn undo_log(alloc: Global, file: &File) -> Result<ListOf<LogLine>, Fail> {
-    let mut volume = file.on_volume(alloc, Vec::new(alloc))?;
-    Ok(read_undo_log(alloc, &mut volume, &file.index)?)
-}
-
-fn history(alloc: Global, file: &File, oid: u64) -> Result<ListOf<Revision>, Fail> {
-    let mut volume = file.on_volume(alloc, Vec::new(alloc))?;
-    Ok(read_history(alloc, &mut volume, &file.index, Oid(oid))?)
-}
-
-fn check_history(
-    rt: &impl Abort,
-    lines: &ListOf<Revision>,
-    wanted: &[(u64, Option<u64>, &[u8], &[u8])],
-) {
-    assert_eq!(rt; lines.len(), wanted.len());
-    for (line, (tid, size, user, description)) in lines.as_slice().iter().zip(wanted) {
-        assert_eq!(rt; line.tid, Tid(*tid));
-        assert_eq!(rt; line.size, *size);
-        assert_eq!(rt; line.user.as_slice(), *user);
-        assert_eq!(rt; line.description.as_slice(), *description);
-    }
-}
-
-/// The bytes of the content of the data record at a place, none where it is absent.
-fn content(alloc: Global, file: &File, at: u64) -> Result<Vec<u8>, Fail> {
-    let mut volume = file.on_volume(alloc, Vec::new(alloc))?;
-    match read_content(alloc, &mut volume, at)? {
-        Content::Held(bytes) => Ok(bytes.into_vec()),
-        Content::Absent => Ok(Vec::new(alloc)),
-    }
-}
-
-#[test]
-fn first_commit_bytes(rt: HostRuntime) -> Result<(), Fail> {
-    let alloc = rt.alloc();
-    let file = first_commit(alloc)?;
-    assert_eq!(rt; file.bytes.len(), 234);
-    assert!(rt; file.bytes.as_slice().starts_with(FIRST.as_slice()));
-    let created = b"initial database creation".as_slice();
-    check_log(
-        &rt,
-        &undo_log(alloc, &file)?,
-        &[(T1, b"", b""), (T0, b"", created)],
-    );
-    check_history(&rt, &history(alloc, &file, 1)?, &[(T1, Some(3), b"", b"")]);
-    check_history(
-        &rt,
-        &history(alloc, &file, 0)?,
-        &[(T0, Some(56), b"", created)],
-    );
-    check_history(&rt, &history(alloc, &file, 2)?, &[]);
-    assert_eq!(rt; content(alloc, &file, 181)?.as_slice(), b"abc".as_slice());
-    Ok(())
-}
+use zb_ids::{Oid, Tid};
+use zb_model::{Change, Content, Found, LogLine, Revision};
+use zb_volume::{Area, HostVolume, Volume};
 
 /// Object 5 has 5 bytes in transaction 3, which is packed, takes them over in 4 and 5, is set twice
-/// in 6, and is gone in 7. Its records stand at 35, 114, 201, 287, 334 and 460.
-fn every_kind(alloc: Global) -> Result<File, Fail> {
-    let mut file = File::new(alloc)?;
-    let texts: [(u64, u8, &[u8], &[u8], &[u8], &[(u64, Payload<'_>)]); 5] = [
-        (
-            3,
-            b'p',
-            b"ann",
-            b"made",
-            b"x",
-            &[(5, Payload::Full(b"hello"))],
-        ),
-        (4, b' ', b"", b"b", b"", &[(5, Payload::From(35))]),
-        (5, b' ', b"cy", b"", b"more", &[(5, Payload::From(114))]),
-        (
-            6,
-            b' ',
-            b"di",
-            b"two",
-            b"",
-            &[
-                (5, Payload::Full(b"first")),
-                (5, Payload::Full(b"the second")),
-            ],
-        ),
-        (
-            7,
-            b' ',
-            b"",
-            b"",
-            b"",
-            &[(9, Payload::Full(b"9")), (5, Payload::From(0))],
-        ),
-    ];
-    for (tid, status, user, description, extension, records) in texts {
-        file.put(Written {
-            tid,
-            status,
-            user,
-            description,
-            extension,
-            records,
-        })?;
+/// in 6, and is gone in 7, which also makes object 9.
+const FILE: &[u8] = b"FS30\
+    \0\0\0\0\0\0\0\x03\0\0\0\0\0\0\0Np\0\x03\0\x04\0\x01annmadex\
+    \0\0\0\0\0\0\0\x05\0\0\0\0\0\0\0\x03\0\0\0\0\0\0\0\0\0\0\0\0\0\0\0\x04\
+    \0\0\0\0\0\0\0\0\0\x05hello\
+    \0\0\0\0\0\0\0N\
+    \0\0\0\0\0\0\0\x04\0\0\0\0\0\0\0J \0\0\0\x01\0\0b\
+    \0\0\0\0\0\0\0\x05\0\0\0\0\0\0\0\x04\0\0\0\0\0\0\0\0\0\0\0\0\0\0\0Z\
+    \0\0\0\0\0\0\0\0\0\0\0\0\0\0\0\0\0#\
+    \0\0\0\0\0\0\0J\
+    \0\0\0\0\0\0\0\x05\0\0\0\0\0\0\0O \0\x02\0\0\0\x04cymore\
+    \0\0\0\0\0\0\0\x05\0\0\0\0\0\0\0\x05\0\0\0\0\0\0\0\0\0\0\0\0\0\0\0\xac\
+    \0\0\0\0\0\0\0\0\0\0\0\0\0\0\0\0\0r\
+    \0\0\0\0\0\0\0O\
+    \0\0\0\0\0\0\0\x06\0\0\0\0\0\0\0\x7f \0\x02\0\x03\0\0ditwo\
+    \0\0\0\0\0\0\0\x05\0\0\0\0\0\0\0\x06\0\0\0\0\0\0\0\0\0\0\0\0\0\0\x01\x03\
+    \0\0\0\0\0\0\0\0\0\x05first\
+    \0\0\0\0\0\0\0\x05\0\0\0\0\0\0\0\x06\0\0\0\0\0\0\0\0\0\0\0\0\0\0\x01\x03\
+    \0\0\0\0\0\0\0\0\0\x0athe second\
+    \0\0\0\0\0\0\0\x7f\
+    \0\0\0\0\0\0\0\x07\0\0\0\0\0\0\0t \0\0\0\0\0\0\
+    \0\0\0\0\0\0\0\x09\0\0\0\0\0\0\0\x07\0\0\0\0\0\0\0\0\0\0\0\0\0\0\x01\x8a\
+    \0\0\0\0\0\0\0\0\0\x019\
+    \0\0\0\0\0\0\0\x05\0\0\0\0\0\0\0\x07\0\0\0\0\0\0\0\0\0\0\0\0\0\0\x01\x8a\
+    \0\0\0\0\0\0\0\0\0\0\0\0\0\0\0\0\0\0\
+    \0\0\0\0\0\0\0t";
+
+/// The transactions of the file, and where they stand.
+const STARTS: [(u64, u64); 5] = [(3, 4), (4, 90), (5, 172), (6, 259), (7, 394)];
+
+/// Its data records: the object, the transaction, and where they stand.
+const RECORDS: [(u64, u64, u64); 7] = [
+    (5, 3, 35),
+    (5, 4, 114),
+    (5, 5, 201),
+    (5, 6, 287),
+    (5, 6, 334),
+    (9, 7, 417),
+    (5, 7, 460),
+];
+
+fn place(serial: u64, at: u64) -> Place {
+    Place {
+        serial: Tid(serial),
+        at,
     }
-    Ok(file)
 }
 
-#[test]
-fn records_of_every_kind(rt: HostRuntime) -> Result<(), Fail> {
-    let alloc = rt.alloc();
-    let file = every_kind(alloc)?;
-    assert_eq!(rt; file.bytes.len(), 518);
-    check_log(
-        &rt,
-        &undo_log(alloc, &file)?,
-        &[
-            (7, b"", b""),
-            (6, b"di", b"two"),
-            (5, b"cy", b""),
-            (4, b"", b"b"),
-        ],
-    );
-    check_history(
-        &rt,
-        &history(alloc, &file, 5)?,
-        &[
-            (7, None, b"", b""),
-            (6, Some(10), b"di", b"two"),
-            (5, Some(5), b"cy", b""),
-            (4, Some(5), b"", b"b"),
-            (3, Some(5), b"ann", b"made"),
-        ],
-    );
-    check_history(&rt, &history(alloc, &file, 9)?, &[(7, Some(1), b"", b"")]);
-    for (at, wanted) in [
-        (201, b"hello".as_slice()),
-        (334, b"the second".as_slice()),
-        (460, b"".as_slice()),
-    ] {
-        assert_eq!(rt; content(alloc, &file, at)?.as_slice(), wanted, "at {at}");
-    }
-    Ok(())
+/// Whether a place stands behind these.
+fn is_behind(kept: &[Place], place: Place) -> bool
+    ensures { IsTrue result → All (IsBefore place.serial place.at) kept.now }
+{
+    kept.iter()
+        .all(|p| p.serial.0 <= place.serial.0 && p.at < place.at)
 }
 
-/// The transaction of a file with this number in the list, counted from 0.
-fn transaction(alloc: Global, file: &File, number: usize) -> Result<Transaction, Fail> {
-    if number >= file.index.transactions().len() {
-        return Err(Fail::new("no such transaction"));
-    }
-    let mut volume = file.on_volume(alloc, Vec::new(alloc))?;
-    Ok(read_transaction(alloc, &mut volume, &file.index, number)?)
-}
-
-/// Compares changes with these, where no bytes stand for an absent content.
-fn check_changes(rt: &impl Abort, changes: &ListOf<Change>, wanted: &[(u64, &[u8])]) {
-    assert_eq!(rt; changes.len(), wanted.len());
-    for (change, (oid, bytes)) in changes.as_slice().iter().zip(wanted) {
-        assert_eq!(rt; change.oid, Oid(*oid));
-        match &change.content {
-            Content::Held(held) => assert_eq!(rt; held.as_slice(), *bytes),
-            Content::Absent => assert!(rt; bytes.is_empty()),
+/// The index of the file.
+fn index_of_file(alloc: Global) -> Result<Index, AllocError> {
+    let mut index = Index::new(alloc);
+    for (oid, serial, at) in RECORDS {
+        let next = place(serial, at);
+        if is_behind(index.places(Oid(oid)), next) {
+            index.push_record(Oid(oid), next)?;
         }
     }
-}
-
-#[test]
-fn transactions_whole(rt: HostRuntime) -> Result<(), Fail> {
-    let alloc = rt.alloc();
-    let file = every_kind(alloc)?;
-    let first = transaction(alloc, &file, 0)?;
-    assert_eq!(rt; first.tid, Tid(3));
-    assert!(rt; first.packed);
-    assert_eq!(rt; first.user.as_slice(), b"ann".as_slice());
-    assert_eq!(rt; first.description.as_slice(), b"made".as_slice());
-    assert_eq!(rt; first.extension.as_slice(), b"x".as_slice());
-    check_changes(&rt, &first.changes, &[(5, b"hello")]);
-    let third = transaction(alloc, &file, 2)?;
-    assert_eq!(rt; third.tid, Tid(5));
-    assert!(rt; !third.packed);
-    assert_eq!(rt; third.extension.as_slice(), b"more".as_slice());
-    check_changes(&rt, &third.changes, &[(5, b"hello")]);
-    let fourth = transaction(alloc, &file, 3)?;
-    check_changes(&rt, &fourth.changes, &[(5, b"the second")]);
-    let fifth = transaction(alloc, &file, 4)?;
-    check_changes(&rt, &fifth.changes, &[(9, b"9"), (5, b"")]);
-    Ok(())
-}
-
-#[test]
-fn a_failing_read(rt: HostRuntime) -> Result<(), Fail> {
-    let alloc = rt.alloc();
-    let file = first_commit(alloc)?;
-    // Each of the three reads is two calls, behind the one that wrote the file.
-    for call in 2..9u64 {
-        let mut volume = file.on_volume(alloc, vec![in alloc; call]?)?;
-        let failed = read_undo_log(alloc, &mut volume, &file.index).err();
-        let wanted = if call < 8 {
-            Some(ReadError::ReadFault)
-        } else {
-            None
-        };
-        assert_eq!(rt; failed, wanted, "call {call}");
-        assert_eq!(rt; volume.faults() > 0, call < 8, "call {call}");
+    for (serial, at) in STARTS {
+        let next = place(serial, at);
+        if is_behind(index.transactions(), next) {
+            index.push_transaction(next)?;
+        }
     }
-    for call in 2..7u64 {
-        let mut volume = file.on_volume(alloc, vec![in alloc; call]?)?;
-        let failed = read_history(alloc, &mut volume, &file.index, Oid(1)).err();
-        let wanted = if call < 6 {
-            Some(ReadError::ReadFault)
-        } else {
-            None
-        };
-        assert_eq!(rt; failed, wanted, "call {call}");
-        assert_eq!(rt; volume.faults() > 0, call < 6, "call {call}");
+    Ok(index)
+}
+
+/// The file on the host, which has lost its name, so that it goes with the volume.
+fn volume_of_file<R: Files>(alloc: Global, rt: &R) -> Result<HostVolume<&R>, Fail> {
+    let mut volume = HostVolume::new(alloc, rt, "reading.fs")?;
+    volume.write_at(Area::Main, 0, FILE)?;
+    fs::remove_file(rt, "reading.fs")?;
+    Ok(volume)
+}
+
+fn is_line(line: &LogLine, tid: u64, user: &[u8], description: &[u8]) -> bool {
+    line.tid == Tid(tid)
+        && line.user.as_slice() == user
+        && line.description.as_slice() == description
+}
+
+#[test]
+fn transactions_are_listed(rt: HostRuntime) -> Result<(), Fail> {
+    let alloc = rt.alloc();
+    let mut volume = volume_of_file(alloc, &rt)?;
+    let index = index_of_file(alloc)?;
+    let lines = read_undo_log(alloc, &mut volume, &index)?;
+    let wanted: [(u64, &[u8], &[u8]); 4] = [
+        (7, b"", b""),
+        (6, b"di", b"two"),
+        (5, b"cy", b""),
+        (4, b"", b"b"),
+    ];
+    assert_eq!(rt; lines.len(), 4);
+    for (line, (tid, user, description)) in lines.as_slice().iter().zip(wanted) {
+        assert!(rt; is_line(line, tid, user, description), "transaction {tid}");
     }
     Ok(())
 }
 
-/// A record that leads to itself has no content, and a place past the end is a failed read.
+fn is_revision(line: &Revision, tid: u64, size: Option<u64>, user: &[u8]) -> bool {
+    line.tid == Tid(tid) && line.size == size && line.user.as_slice() == user
+}
+
 #[test]
-fn bytes_that_are_no_file(rt: HostRuntime) -> Result<(), Fail> {
+fn the_history_of_an_object(rt: HostRuntime) -> Result<(), Fail> {
     let alloc = rt.alloc();
-    let mut file = File::new(alloc)?;
-    file.put(Written {
-        tid: 1,
-        status: b' ',
-        user: b"",
-        description: b"",
-        extension: b"",
-        records: &[(7, Payload::From(27))],
-    })?;
-    check_history(&rt, &history(alloc, &file, 7)?, &[(1, None, b"", b"")]);
-    let serial = Tid(2);
-    for at in [60, u64::MAX] {
-        index_record(&mut file.index, Oid(8), Place { serial, at })?;
-        let mut volume = file.on_volume(alloc, Vec::new(alloc))?;
-        let failed = read_history(alloc, &mut volume, &file.index, Oid(8)).err();
-        assert_eq!(rt; failed, Some(ReadError::ReadFault), "at {at}");
-        assert_eq!(rt; volume.faults(), 1, "at {at}");
+    let mut volume = volume_of_file(alloc, &rt)?;
+    let index = index_of_file(alloc)?;
+    let lines = read_history(alloc, &mut volume, &index, Oid(5))?;
+    let wanted: [(u64, Option<u64>, &[u8]); 5] = [
+        (7, None, b""),
+        (6, Some(10), b"di"),
+        (5, Some(5), b"cy"),
+        (4, Some(5), b""),
+        (3, Some(5), b"ann"),
+    ];
+    assert_eq!(rt; lines.len(), 5);
+    for (line, (tid, size, user)) in lines.as_slice().iter().zip(wanted) {
+        assert!(rt; is_revision(line, tid, size, user), "transaction {tid}");
     }
+    Ok(())
+}
+
+/// The serial, the bytes and the serial of the next revision of what was found.
+fn parts(found: &Found) -> (u64, &[u8], Option<u64>) {
+    match found {
+        Found::Held { serial, bytes, end } => {
+            (serial.0, bytes.as_slice(), end.map(|next| next.0))
+        }
+        Found::Absent { serial } => (serial.0, b"absent", None),
+        Found::Nothing => (0, b"nothing", None),
+    }
+}
+
+#[test]
+fn revisions_below_fronts(rt: HostRuntime) -> Result<(), Fail> {
+    let alloc = rt.alloc();
+    let mut volume = volume_of_file(alloc, &rt)?;
+    let index = index_of_file(alloc)?;
+    let rows: [(u64, u64, (u64, &[u8], Option<u64>)); 5] = [
+        (5, 3, (0, b"nothing", None)),
+        (5, 6, (5, b"hello", Some(6))),
+        (5, 7, (6, b"the second", Some(7))),
+        (5, 8, (7, b"absent", None)),
+        (9, 8, (7, b"9", None)),
+    ];
+    for (oid, front, wanted) in rows {
+        let found = read_before(alloc, &mut volume, index.places(Oid(oid)), Tid(front))?;
+        assert_eq!(rt; parts(&found), wanted, "{oid} below {front}");
+    }
+    let past_the_end = read_content(alloc, &mut volume, 600).err();
+    assert_eq!(rt; past_the_end, Some(ReadError::ReadFault));
+    Ok(())
+}
+
+fn is_change(change: &Change, oid: u64, bytes: &[u8]) -> bool {
+    match &change.content {
+        Content::Held(held) => change.oid == Oid(oid) && held.as_slice() == bytes,
+        Content::Absent => false,
+    }
+}
+
+#[test]
+fn transactions_are_read_whole(rt: HostRuntime) -> Result<(), Fail> {
+    let alloc = rt.alloc();
+    let mut volume = volume_of_file(alloc, &rt)?;
+    let index = index_of_file(alloc)?;
+    let starts = index.transactions();
+    if starts.is_empty() {
+        return Err(Fail::new("no transactions"));
+    }
+    let first = read_transaction(alloc, &mut volume, &index, 0)?;
+    assert!(rt; first.packed && first.extension.as_slice() == b"x".as_slice());
+    let Some(sixth) = read_transaction_with(alloc, &mut volume, starts, Tid(6))? else {
+        return Err(Fail::new("no transaction 6"));
+    };
+    assert!(rt; !sixth.packed && sixth.description.as_slice() == b"two".as_slice());
+    for change in sixth.changes.as_slice() {
+        assert!(rt; is_change(change, 5, b"the second"));
+    }
+    let last = read_first_after(alloc, &mut volume, starts, Tid(6))?;
+    assert_eq!(rt; last.map(|t| t.changes.len()), Some(2));
+    let outline = read_outline(alloc, &mut volume, place(7, 394))?;
+    assert!(rt; !outline.packed);
+    assert_eq!(rt; outline.oids.as_slice(), [Oid(9), Oid(5)].as_slice());
     Ok(())
 }

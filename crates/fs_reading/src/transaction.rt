@@ -15,8 +15,7 @@ ghost use Rattle.zb_volume.specs.Disk.{main_bytes};
 use crate::contents::content_of;
 use crate::errors::ReadError;
 use crate::pieces::{bytes_at, data_header_at, header_at, user_and_description};
-use crate::undo_log::PACKED;
-use fs_records::{DataHeader, Index, Place};
+use fs_records::{DATA_HEADER_LENGTH, DataHeader, HEADER_LENGTH, Index, PACKED, Place};
 use indexmap::IndexMap;
 use std::alloc::{AllocError, Global};
 use zb_ids::{ListOf, Oid};
@@ -71,7 +70,7 @@ fn entries_between<V: Volume>(
         let content = content_of(alloc, volume, place, &header)?;
         entries.insert(header.oid, content)?;
         place = place
-            .saturating_add(42)
+            .saturating_add(DATA_HEADER_LENGTH as u64)
             .saturating_add(payload_size(&header));
     }
     Ok(entries)
@@ -103,7 +102,7 @@ fn transaction_at<V: Volume>(
     let (user, description) = user_and_description(alloc, volume, place.at, &header)?;
     let behind = place
         .at
-        .saturating_add(23)
+        .saturating_add(HEADER_LENGTH as u64)
         .saturating_add(header.user as u64)
         .saturating_add(header.description as u64);
     let extension = bytes_at(alloc, volume, behind, header.extension as usize)?;

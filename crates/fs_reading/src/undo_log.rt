@@ -13,14 +13,11 @@ ghost use Rattle.zb_volume.specs.Disk.{main_bytes};
 
 use crate::errors::ReadError;
 use crate::pieces::{header_at, keep, user_and_description};
-use fs_records::{Index, Place};
+use fs_records::{Index, PACKED, Place};
 use std::alloc::Global;
 use zb_ids::ListOf;
 use zb_model::LogLine;
 use zb_volume::Volume;
-
-/// The status of a transaction that a pack has gone over.
-pub(crate) const PACKED: u8 = b'p';
 
 /// The line of the transaction at a place, if no pack has gone over it.
 fn line_at<V: Volume>(

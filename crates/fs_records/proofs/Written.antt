@@ -3,14 +3,11 @@ use Rattle.std.proofs.Common.{◌≡◌, ℕ, ◌+◌, ◌<◌, List, [], ◌∷
 use Rattle.std.specs.List.{AllByRecursion}
 use Rattle.std.proofs.lemmas.List.{take_more, map-append, append-nil}
 use Rattle.std.proofs.lemmas.Grind.{flat_map-append}
+use Rattle.zb_base.specs.Lists.{each_more}
 use Rattle.zb_model.specs.declared.new_transaction.NewChange.{NewChange}
 use Rattle.fs_records.specs.declared.place.Place.{Place}
 use Rattle.fs_records.specs.Blocks.{Written, record_text, records_text}
 use Rattle.fs_records.specs.Writing.{written_of, HasRoom}
-
-pub all_more : {X : Type 0} (P : X → Type 0) (xs : List X) (x : X) → AllByRecursion P xs → P x → AllByRecursion P (xs ++ x ∷ [])
-all_more P [] x h one = (one, tt)
-all_more P (y ∷ ys) x h one = (h.0, all_more P ys x h.1 one)
 
 -- the first changes as they are written, and one more
 written_more : (entries : List (ℕ × List Place)) (changes : List NewChange) (i : ℕ) (d : NewChange) → i < length changes
@@ -28,4 +25,4 @@ text_more old new at tid entries changes i d h so_far is =
 pub room_more : (entries : List (ℕ × List Place)) (changes : List NewChange) (i : ℕ) (d : NewChange) → i < length changes
     → AllByRecursion HasRoom (map (written_of entries) (take i changes)) → HasRoom (written_of entries (get_or changes i d)) → AllByRecursion HasRoom (map (written_of entries) (take (i + 1) changes))
 room_more entries changes i d h so_far one =
-    subst (λ (rs : List Written). AllByRecursion HasRoom rs) (sym (written_more entries changes i d h)) (all_more HasRoom (map (written_of entries) (take i changes)) (written_of entries (get_or changes i d)) so_far one)
+    subst (λ (rs : List Written). AllByRecursion HasRoom rs) (sym (written_more entries changes i d h)) (each_more HasRoom (map (written_of entries) (take i changes)) (written_of entries (get_or changes i d)) so_far one)

@@ -13,6 +13,7 @@ use Rattle.fs_records.specs.File.{IsReadAs, IsDamaged, head, data_record, Record
 use Rattle.fs_records.specs.ScanLaws.{stand_more}
 use Rattle.fs_records.specs.BlockLaws.{judged, block_in, block_takes, begins_more, begins_here, after-end}
 
+-- data records stand between two places, or one behind records that stand is at fault
 abbrev pub RecordsOr : List ℕ → List Known → ℕ → ℕ → ℕ → ℕ → Type 0
 RecordsOr bytes known place tid from end = ((rs : List Written) × AreRecordsBetween bytes known place tid from end rs) ⊎ ((at : ℕ) × (field : Field) × RecordFault bytes known place tid from end at field)
 

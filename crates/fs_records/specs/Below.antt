@@ -4,10 +4,10 @@ use Rattle.std.specs.Prelude.{option_map, ◌&&◌}
 use Rattle.std.specs.List.{last_or}
 use Rattle.fs_records.specs.declared.place.Place.{Place}
 use Rattle.fs_records.specs.Blocks.{Known, Reached}
-use Rattle.fs_records.specs.Places.{Kept, place_of, is_of, is_place_below, is_of_below, places_in, last_below, record_below, IsIndexOf}
+use Rattle.fs_records.specs.Places.{Kept, place_of, is_of, is_place_below, is_of_below, places_in, places_of, last_below, record_below, IsIndexOf}
 
 -- the last of the images is the image of the last
-last_map : {A B : Type 0} (f : A → B) (o : Option A) (xs : List A) → last_or (option_map f o) (map f xs) ≡ option_map f (last_or o xs)
+pub last_map : {A B : Type 0} (f : A → B) (o : Option A) (xs : List A) → last_or (option_map f o) (map f xs) ≡ option_map f (last_or o xs)
 last_map f o [] = refl
 last_map f o (x ∷ xs) = last_map f (Some x) xs
 
@@ -26,7 +26,11 @@ places_below oid front (k ∷ ks) = by_cases (eqb oid k.oid) (places_below oid f
     by_cases true e = inside (ltb k.tid front) e
     by_cases false e = e
 
-pub below_is : (s : Reached) (kept : Kept) (oid front : ℕ) → IsIndexOf s kept → last_below front (places_in kept.entries oid) ≡ option_map place_of (record_below oid front s.known)
+-- the last place of an object below a front is that of its last record below it
+pub last_below_is : (oid front : ℕ) (known : List Known) → last_below front (places_of oid known) ≡ option_map place_of (record_below oid front known)
 unfolding last_below
-below_is s kept oid front is =
-    ap (λ (ps : List Place). last_or None (filter (is_place_below front) ps)) (is.records oid) ∙ ap (λ (ps : List Place). last_or None ps) (places_below oid front s.known) ∙ last_map place_of None (filter (is_of_below oid front) s.known)
+last_below_is oid front known = ap (λ (ps : List Place). last_or None ps) (places_below oid front known) ∙ last_map place_of None (filter (is_of_below oid front) known)
+
+-- so an index gives it
+pub below_is : (s : Reached) (kept : Kept) (oid front : ℕ) → IsIndexOf s kept → last_below front (places_in kept.entries oid) ≡ option_map place_of (record_below oid front s.known)
+below_is s kept oid front is = ap (last_below front) (is.records oid) ∙ last_below_is oid front s.known

@@ -64,6 +64,7 @@ block_in rest rs = record {
   records = rs;
 }
 
+-- this block stands at the front of what is left, and may stand there
 pub record BlockTaken (s : Reached) (rest : List ℕ) (b : Block) : Type 0 where
   pub length_is : length_of s.end b ≡ (header_of rest).length
   pub from_is : s.end + (23 + texts_length (header_of rest)) ≡ records_from s.end b

@@ -67,6 +67,7 @@ records_from place b = place + (23 + length (texts b))
 abbrev pub length_of : ℕ → Block → ℕ
 length_of place b = 23 + length (texts b) + length (records_text place b.tid b.records)
 
+-- the header of a block at a place
 abbrev pub header_for : ℕ → Block → Header
 header_for place b = record { tid = b.tid; length = length_of place b; status = b.status; user = length b.user; description = length b.description; extension = length b.extension }
 
@@ -83,6 +84,7 @@ pub record Known : Type 0 where
   pub place : ℕ
   pub content : Content
 
+-- whether a record is of this object and stands at this place
 abbrev pub is_at : ℕ → ℕ → Known → Bool
 is_at oid place k = oid == k.oid && k.place == place
 
@@ -104,6 +106,7 @@ content_of known oid (From place) = if place == 0 then Absent else content_at kn
 abbrev pub known_at : List Known → ℕ → ℕ → Written → Known
 known_at known tid q r = record { oid = r.oid; tid = tid; place = q; content = content_of known r.oid r.payload }
 
+-- what is known with one record more, of the transaction with this tid, at q
 abbrev pub with_record : List Known → ℕ → ℕ → Written → List Known
 with_record known tid q r = known ++ known_at known tid q r ∷ []
 
@@ -117,6 +120,7 @@ abbrev pub changes_of : List (ℕ × Content) → List Known → ℕ → ℕ →
 changes_of done known place tid q [] = done
 changes_of done known place tid q (r ∷ rs) = changes_of (insert_entry nat_eq done r.oid (content_of known r.oid r.payload)) (with_record known tid q r) place tid (q + length (record_text place tid r)) rs
 
+-- an object and its content as a change
 abbrev pub as_change : ℕ × Content → Change
 as_change entry = record { oid = entry.0; content = entry.1 }
 
@@ -196,6 +200,7 @@ abbrev pub blocks_text : Reached → List Block → List ℕ
 blocks_text s [] = []
 blocks_text s (b ∷ bs) = block_text s.end b ++ blocks_text (after_block s b) bs
 
+-- what was read with these blocks more
 abbrev pub after_blocks : Reached → List Block → Reached
 after_blocks s [] = s
 after_blocks s (b ∷ bs) = after_blocks (after_block s b) bs

@@ -39,7 +39,8 @@ distinct_changes done known place tid q [] h = h
 distinct_changes done known place tid q (r ∷ rs) h =
     distinct_changes (insert_entry nat_eq done r.oid (content_of known r.oid r.payload)) (with_record known tid q r) place tid (q + length (record_text place tid r)) rs (distinct_insert done r.oid (content_of known r.oid r.payload) h)
 
-oids_are_keys : (es : List (ℕ × Content)) → map (λ (c : Change). c.oid) (map as_change es) ≡ keys_of es
+-- the objects of changes are the keys of their entries
+pub oids_are_keys : (es : List (ℕ × Content)) → map (λ (c : Change). c.oid) (map as_change es) ≡ keys_of es
 oids_are_keys [] = refl
 oids_are_keys (e ∷ es) = ap (λ (ks : List ℕ). e.0 ∷ ks) (oids_are_keys es)
 

@@ -47,7 +47,7 @@ data_header_back bytes long fits =
     let e = eight 8 16 bytes _ refl (omega arith) fits d in
     eight 0 8 bytes _ refl (omega arith) fits e
 
--- ranges
+-- each number of a transaction's header fits into its field
 pub record IsHeader (h : Header) : Type 0 where
   pub tid : h.tid < 2 ^ 64
   pub length : h.length < 2 ^ 64
@@ -93,6 +93,7 @@ header_again h rest fits =
     let f : number_in 2 (drop 21 all) ≡ h.extension = ap (number_in 2) r21 ∙ number_in-number 2 h.extension rest (omega (arith, fits.extension)) in
     header_from h a b c d e f
 
+-- each number of a data record's header fits into its field
 pub record IsDataHeader (h : DataHeader) : Type 0 where
   pub oid : h.oid < 2 ^ 64
   pub tid : h.tid < 2 ^ 64

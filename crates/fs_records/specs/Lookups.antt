@@ -1,9 +1,9 @@
 -- What an index looks up is what the list says: an object's revision below a front, its last one, and its next one.
 use Rattle.std.proofs.Common.{◌≡◌, ℕ, ◌+◌, ◌<◌, Bool, true, false, cond, eqb, ltb, leb, List, [], ◌∷◌, ◌++◌, length, get_or, map, filter, All, Option, Some, None, IfSome, refl, sym, ap, subst, ◌∙◌, le_refl, arith}
 use Rattle.std.specs.Prelude.{nat_eq, nat_lt, nat_le, option_map, ◌&&◌}
-use Rattle.std.specs.List.{find, last_or, cons_option, IsDistinct}
+use Rattle.std.specs.List.{find, last_or, cons_option}
 use Rattle.std.specs.Option.{option_map_or, option_or}
-use Rattle.std.specs.Map.{lookup, keys_of}
+use Rattle.std.specs.Map.{lookup}
 use Rattle.std.proofs.lemmas.Bool.{eqb-true, eqb-false, ne_eqb, eq-eqb, lt-ltb, and_from, and_right, and_parts, or_left, or_right, cond-true, cond-false}
 use Rattle.std.proofs.lemmas.List.{map-append, length-append}
 use Rattle.std.proofs.lemmas.List.Folds.{find-append}
@@ -15,12 +15,11 @@ use Rattle.zb_model.specs.declared.data.Transaction.{Transaction}
 use Rattle.zb_model.specs.Database.{ObjectRevision, change_in, revision_in, revisions, revision_below, serial_of}
 use Rattle.zb_model.specs.Queries.{is_from, end_of}
 use Rattle.fs_records.specs.declared.place.Place.{Place}
-use Rattle.fs_records.specs.Headers.{data_header_text}
-use Rattle.fs_records.specs.HeaderLaws.{length-data_header_text}
-use Rattle.fs_records.specs.Blocks.{data_header, payload_text, Known, Written, is_at, is_known, content_at, content_of, known_at, with_record, with_records, record_text, records_text, changes_of, Reached, file_start, transaction_of, records_from, length_of, after_block, Block, IsBlock, AreBlocks, after_blocks, Begins}
-use Rattle.fs_records.specs.Places.{Kept, IsIndexOf, IsBefore, AreBefore, place_of, is_of, is_place_below, is_of_below, places_of, last_below, record_below, revision_of}
-use Rattle.fs_records.specs.Databases.{distinct_changes}
-use Rattle.fs_records.specs.Revisions.{change_is, revises_of}
+use Rattle.fs_records.specs.Blocks.{Known, Written, is_at, is_known, content_at, content_of, known_at, with_record, with_records, record_text, records_text, changes_of, Reached, file_start, transaction_of, records_from, length_of, after_block, Block, IsBlock, AreBlocks, after_blocks, Begins}
+use Rattle.fs_records.specs.Places.{Kept, IsIndexOf, IsBefore, AreBefore, place_of, is_of, is_of_below, places_of, last_below, record_below, revision_of}
+use Rattle.fs_records.specs.Below.{last_below_is}
+use Rattle.fs_records.specs.RecordLaws.{length-record_text}
+use Rattle.fs_records.specs.Revisions.{change_is, none_twice, revises_of}
 
 -- ---- what is looked up
 
@@ -43,8 +42,9 @@ NextOnesAreRead = (bytes : List ℕ) (s : Reached) (oid front : ℕ) → Begins 
 
 -- ---- places rise
 
-abbrev StandsBefore : ℕ → ℕ → Known → Type 0
-StandsBefore tid at k = IsBefore tid at (place_of k)
+-- a record is of no later transaction than this, and stands before this place
+abbrev IsKnownBefore : ℕ → ℕ → Known → Type 0
+IsKnownBefore tid at k = IsBefore tid at (place_of k)
 
 -- each record stands behind those before it
 abbrev pub AreApart : List Known → Type 0
@@ -67,18 +67,14 @@ pub record AreBeforeEnd (s : Reached) : Type 0 where
   pub records : ArePlaced s.known s.newest s.end
   pub starts : All (IsBefore s.newest s.end) s.starts
 
-some_text : (place tid : ℕ) (r : Written) → 0 < length (record_text place tid r)
-unfolding record_text
-some_text place tid r = omega (arith, length-append (data_header_text (data_header place tid r)) (payload_text r.payload), length-data_header_text (data_header place tid r))
-
 placed_records : (known : List Known) (place tid q : ℕ) (rs : List Written) → ArePlaced known tid q → ArePlaced (with_records known place tid q rs) tid (q + length (records_text place tid rs))
 placed_records known place tid q [] h = let same : q ≡ q + 0 = omega arith in subst (λ (n : ℕ). ArePlaced known tid n) same h
 placed_records known place tid q (r ∷ rs) h =
     let next : ℕ = q + length (record_text place tid r) in
-    let some = some_text place tid r in
+    let some = length-record_text place tid r in
     let more : ArePlaced (with_record known tid q r) tid next = record {
-      apart = apart_more known (known_at known tid q r) h.apart (All-weaker (StandsBefore tid q) (λ (x : Known). x.place < q) (λ x b. b.1) known h.before);
-      before = All-push (StandsBefore tid next) known (known_at known tid q r) (All-weaker (StandsBefore tid q) (StandsBefore tid next) (λ x b. (b.0, omega arith)) known h.before) (le_refl tid, omega arith);
+      apart = apart_more known (known_at known tid q r) h.apart (All-weaker (IsKnownBefore tid q) (λ (x : Known). x.place < q) (λ x b. b.1) known h.before);
+      before = All-push (IsKnownBefore tid next) known (known_at known tid q r) (All-weaker (IsKnownBefore tid q) (IsKnownBefore tid next) (λ x b. (b.0, omega arith)) known h.before) (le_refl tid, omega arith);
     } in
     let to_is : next + length (records_text place tid rs) ≡ q + length (records_text place tid (r ∷ rs)) = omega (arith, length-append (record_text place tid r) (records_text place tid rs)) in
     subst (λ (n : ℕ). ArePlaced (with_records known place tid q (r ∷ rs)) tid n) to_is (placed_records (with_record known tid q r) place tid next rs more)
@@ -92,13 +88,13 @@ placed_more s b h block =
     let above : s.newest < b.tid = block.above in
     let here : ArePlaced s.known b.tid from = record {
       apart = h.records.apart;
-      before = All-weaker (StandsBefore s.newest s.end) (StandsBefore b.tid from) (λ x w. (omega arith, omega arith)) s.known h.records.before;
+      before = All-weaker (IsKnownBefore s.newest s.end) (IsKnownBefore b.tid from) (λ x w. (omega arith, omega arith)) s.known h.records.before;
     } in
     let there = placed_records s.known s.end b.tid from b.records here in
     record {
       records = record {
         apart = there.apart;
-        before = All-weaker (StandsBefore b.tid to) (StandsBefore b.tid end) (λ x w. (w.0, omega arith)) _ there.before;
+        before = All-weaker (IsKnownBefore b.tid to) (IsKnownBefore b.tid end) (λ x w. (w.0, omega arith)) _ there.before;
       };
       starts = All-push (IsBefore b.tid end) s.starts (record { serial = b.tid; at = s.end }) (All-weaker (IsBefore s.newest s.end) (IsBefore b.tid end) (λ x w. (omega arith, omega arith)) s.starts h.starts) (le_refl b.tid, omega arith);
     }
@@ -110,7 +106,7 @@ placed_all s (b ∷ bs) h are = placed_all (after_block s b) bs (placed_more s b
 -- all records and transactions of what bytes begin as stand in order
 pub are_before_end : (bytes : List ℕ) (s : Reached) → Begins bytes s → AreBeforeEnd s
 are_before_end bytes s begins =
-    let first : AreBeforeEnd file_start = record { records = record { apart = tt; before = All-nil (StandsBefore 0 4) }; starts = All-nil (IsBefore 0 4) } in
+    let first : AreBeforeEnd file_start = record { records = record { apart = tt; before = All-nil (IsKnownBefore 0 4) }; starts = All-nil (IsBefore 0 4) } in
     subst (λ (r : Reached). AreBeforeEnd r) (sym begins.is) (placed_all file_start begins.blocks first begins.are)
 
 -- so do the places that an index keeps
@@ -119,7 +115,7 @@ places_before bytes s begins kept index =
     let all = are_before_end bytes s begins in
     let P : Place → Type 0 = IsBefore s.newest s.end in (
       (λ oid.
-          let of_object : All P (places_of oid s.known) = All-map P place_of (filter (is_of oid) s.known) (All-filter (is_of oid) (StandsBefore s.newest s.end) s.known all.records.before) in
+          let of_object : All P (places_of oid s.known) = All-map P place_of (filter (is_of oid) s.known) (All-filter (is_of oid) (IsKnownBefore s.newest s.end) s.known all.records.before) in
           subst (λ (ps : List Place). All P ps) (sym (index.records oid)) of_object),
       subst (λ (ps : List Place). All P ps) (sym index.transactions) all.starts,
     )
@@ -161,28 +157,6 @@ own_below oid front known k apart is =
     subst (λ (o : ℕ). (is_known known o k.place ≡ true) × (content_at known o k.place ≡ k.content)) same here.0
 
 -- ---- the revision below a front
-
-last_map : {A B : Type 0} (f : A → B) (o : Option A) (xs : List A) → last_or (option_map f o) (map f xs) ≡ option_map f (last_or o xs)
-last_map f o [] = refl
-last_map f o (x ∷ xs) = last_map f (Some x) xs
-
-below_front : (oid front : ℕ) (ks : List Known) → filter (is_place_below front) (places_of oid ks) ≡ map place_of (filter (is_of_below oid front) ks)
-below_front oid front [] = refl
-below_front oid front (k ∷ ks) = by_cases (eqb oid k.oid) (below_front oid front ks)
-  where
-    inside : (b : Bool) → filter (is_place_below front) (places_of oid ks) ≡ map place_of (filter (is_of_below oid front) ks)
-        → cond b (place_of k ∷ filter (is_place_below front) (places_of oid ks)) (filter (is_place_below front) (places_of oid ks)) ≡ map place_of (cond b (k ∷ filter (is_of_below oid front) ks) (filter (is_of_below oid front) ks))
-    inside true rest = ap (λ (ps : List Place). place_of k ∷ ps) rest
-    inside false rest = rest
-
-    by_cases : (a : Bool) → filter (is_place_below front) (places_of oid ks) ≡ map place_of (filter (is_of_below oid front) ks)
-        → filter (is_place_below front) (map place_of (cond a (k ∷ filter (is_of oid) ks) (filter (is_of oid) ks))) ≡ map place_of (cond (a && ltb k.tid front) (k ∷ filter (is_of_below oid front) ks) (filter (is_of_below oid front) ks))
-    by_cases true rest = inside (ltb k.tid front) rest
-    by_cases false rest = rest
-
-last_below_is : (oid front : ℕ) (known : List Known) → last_below front (places_of oid known) ≡ option_map place_of (record_below oid front known)
-unfolding last_below
-last_below_is oid front known = ap (λ (ps : List Place). last_or None ps) (below_front oid front known) ∙ last_map place_of None (filter (is_of_below oid front) known)
 
 read_by : (s : Reached) (oid front : ℕ) (o : Option Known) → record_below oid front s.known ≡ o → option_map revision_of o ≡ revision_below oid front s.list → AreApart s.known → RevisionRead s oid front (option_map place_of o)
 read_by s oid front None is revision apart = sym revision
@@ -346,10 +320,6 @@ end_more oid front list t =
 -- the next serials of the records are those of the list
 abbrev NextOnes : Reached → Type 0
 NextOnes s = (oid front : ℕ) → next_of oid front s.known ≡ end_of oid front s.list
-
-none_twice : (s : Reached) (b : Block) → IsDistinct nat_eq (keys_of (changes_of [] s.known s.end b.tid (records_from s.end b) b.records))
-unfolding IsDistinct
-none_twice s b = distinct_changes [] s.known s.end b.tid (records_from s.end b) b.records tt
 
 serial_for_map : {A B : Type 0} (tid : ℕ) (f : A → B) (o : Option A) → serial_for tid (option_map f o) ≡ serial_for tid o
 serial_for_map tid f None = refl

@@ -1,9 +1,8 @@
 -- What is written is read again, and the other way round.
-use Rattle.std.proofs.Common.{◌≡◌, ℕ, ◌+◌, ◌^◌, ◌<◌, ◌≤◌, List, ◌++◌, length, get_or, take, drop, sym, ◌∙◌, inl, inr, arith}
+use Rattle.std.proofs.Common.{◌≡◌, ℕ, ◌^◌, ◌<◌, ◌≤◌, List, ◌++◌, length, take, sym, ◌∙◌, arith}
 use Rattle.std.specs.Int.{w16, w64, from_be_bytes}
 use Rattle.std.proofs.lemmas.Nat.{be_bytes_2, be_bytes_8}
-use Rattle.std.proofs.lemmas.Bool.{cases_lt}
-use Rattle.std.proofs.lemmas.List.{length-take, get_or-take, get_or-drop, get_or_past}
+use Rattle.std.proofs.lemmas.List.{length-take}
 use Rattle.byteorder.specs.Numbers.{big_number-reads_back, big_from-append, big_from-take, big_from-lt, length-bytes_high_first}
 use Rattle.fs_records.specs.Numbers.{number, number_in}
 use Rattle.zb_base.specs.Bytes.{AreBytes, AreBytes-take}

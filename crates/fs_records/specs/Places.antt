@@ -23,6 +23,7 @@ pub record IsRising (places : List Place) : Type 0 where
   pub serials : IsNonDecreasingBy (λ p. p.serial) places
   pub places_rise : IsNonDecreasingBy (λ p. p.at) places
 
+-- the places of each object rise
 abbrev pub AreRising : List (ℕ × List Place) → Type 0
 AreRising entries = (oid : ℕ) → IsRising (places_in entries oid)
 
@@ -53,6 +54,7 @@ IsTakenBack old oid new = (o : ℕ) → places_in new o ≡ (if o == oid then al
 
 -- ---- what is looked up
 
+-- whether a place has a serial below the front
 abbrev pub is_place_below : ℕ → Place → Bool
 is_place_below front p = nat_lt p.serial front
 
@@ -70,6 +72,7 @@ knows entries oid at = list_any (λ p. p.at == at) (places_in entries oid)
 abbrev pub place_of : Known → Place
 place_of k = record { serial = k.tid; at = k.place }
 
+-- whether a record is of this object
 abbrev pub is_of : ℕ → Known → Bool
 is_of oid k = oid == k.oid
 
@@ -88,6 +91,7 @@ pub record IsIndexOf (s : Reached) (kept : Kept) : Type 0 where
 
 -- ---- the record below a front
 
+-- whether a record is of this object, in a transaction below the front
 abbrev pub is_of_below : ℕ → ℕ → Known → Bool
 is_of_below oid front k = oid == k.oid && nat_lt k.tid front
 

@@ -28,6 +28,11 @@ either true b h = refl
 either false true h = refl
 either false false h = absurd cc
 
+-- a data record is its header of 42 bytes and its payload
+pub length-record_text : (place tid : ℕ) (r : Written) → length (record_text place tid r) ≡ 42 + length (payload_text r.payload)
+unfolding record_text
+length-record_text place tid r = omega (arith, length-append (data_header_text (data_header place tid r)) (payload_text r.payload), length-data_header_text (data_header place tid r))
+
 -- a payload and what stands behind it
 pub record PayloadTaken (known : List Known) (oid len size : ℕ) (tail : List ℕ) (p : Payload) : Type 0 where
   pub parts : tail ≡ payload_text p ++ drop size tail
@@ -140,7 +145,8 @@ payload_again known knows oid (From at) rest more h same is oid_is len_is tail_i
     let n : number_in 8 (number 8 at ++ more) ≡ at = number_in-number 8 at more (omega (arith, is.0)) in
     rw (len_is, tail_is, n, oid_is, same at) (sym (length-number 8 at), leading (eqb at 0) (is_known known oid at) is.1, refl)
 
-payload_fits : (known : List Known) (oid : ℕ) (p : Payload) → IsPayload known oid p → payload_length p < 2 ^ 64
+-- a payload that may stand there has a length that fits into its field
+pub payload_fits : (known : List Known) (oid : ℕ) (p : Payload) → IsPayload known oid p → payload_length p < 2 ^ 64
 payload_fits known oid (Full bytes) is = is.1
 payload_fits known oid (From at) is = omega arith
 

@@ -130,7 +130,7 @@ revision_more oid front list t =
 abbrev pub Revises : Reached → Type 0
 Revises s = (oid front : ℕ) → option_map revision_of (record_below oid front s.known) ≡ revision_below oid front s.list
 
-none_twice : (s : Reached) (b : Block) → IsDistinct nat_eq (keys_of (changes_of [] s.known s.end b.tid (records_from s.end b) b.records))
+pub none_twice : (s : Reached) (b : Block) → IsDistinct nat_eq (keys_of (changes_of [] s.known s.end b.tid (records_from s.end b) b.records))
 unfolding IsDistinct
 none_twice s b = distinct_changes [] s.known s.end b.tid (records_from s.end b) b.records tt
 

@@ -12,6 +12,7 @@ use Rattle.fs_records.specs.Blocks.{Payload, Full, From, Written, Known, AreWrit
 
 -- ---- a transaction, but for its data records: `rest` is what stands from its place on
 
+-- how many bytes the three texts have by a header
 abbrev pub texts_length : Header → ℕ
 texts_length h = h.user + h.description + h.extension
 
@@ -32,6 +33,7 @@ verdict newest rest =
 
 -- ---- a data record: `rest` stands at its place, and so many bytes of it (`room`) are of the transaction with this tid at this place
 
+-- how many bytes stand behind a data record's header
 abbrev pub payload_size : DataHeader → ℕ
 payload_size h = if h.length == 0 then 8 else h.length
 

@@ -9,12 +9,12 @@ use Rattle.fs_records.specs.declared.verdict.Verdict.{Verdict}
 use Rattle.fs_records.specs.declared.verdict.Verdict.TheVariants.{Ends, Tail, Fault, Begun}
 use Rattle.fs_records.specs.Numbers.{number, number_in}
 use Rattle.fs_records.specs.NumberLaws.{length-number, number_in-number}
-use Rattle.fs_records.specs.Headers.{data_header_text, header_text, header_of}
-use Rattle.fs_records.specs.HeaderLaws.{length-data_header_text, IsHeader, header_again, length-header_text}
-use Rattle.fs_records.specs.Blocks.{data_header, payload_text, Written, Known, AreWritten, IsWrittenRecord, with_record, with_records, record_text, records_text, is_known, Block, Reached, file_start, texts, records_from, length_of, header_for, block_text, after_block, IsBlock, AreBlocks, blocks_text, after_blocks, Begins, magic}
+use Rattle.fs_records.specs.Headers.{header_text, header_of}
+use Rattle.fs_records.specs.HeaderLaws.{IsHeader, header_again, length-header_text}
+use Rattle.fs_records.specs.Blocks.{Written, Known, AreWritten, IsWrittenRecord, with_record, with_records, record_text, records_text, is_known, Block, Reached, file_start, texts, records_from, length_of, header_for, block_text, after_block, IsBlock, AreBlocks, blocks_text, after_blocks, Begins, magic}
 use Rattle.fs_records.specs.Rules.{record_at, record_in, texts_length, verdict}
 use Rattle.fs_records.specs.File.{IsReadAs, EndsAt, IsDamaged, IsFault, head, data_record, RecordFault, data_from, data_to}
-use Rattle.fs_records.specs.RecordLaws.{record_again}
+use Rattle.fs_records.specs.RecordLaws.{record_again, length-record_text}
 
 -- ---- fronts of the same length
 
@@ -30,10 +30,6 @@ front_same (a ∷ as_) (b ∷ bs) x y l e =
 
 -- ---- data records
 
-record_long : (place tid : ℕ) (r : Written) → 42 ≤ length (record_text place tid r)
-unfolding record_text
-record_long place tid r = omega (arith, length-append (data_header_text (data_header place tid r)) (payload_text r.payload), length-data_header_text (data_header place tid r))
-
 pub one_record : (known : List Known) (place tid : ℕ) (r s : Written) (x y : List ℕ) → place < 2 ^ 64 → tid < 2 ^ 64 → IsWrittenRecord known r → IsWrittenRecord known s → record_text place tid r ++ x ≡ record_text place tid s ++ y → r ≡ s
 one_record known place tid r s x y p t hr hs e =
     let a = record_again known (is_known known) place tid (length (record_text place tid r)) r x (λ o q. refl) hr t p (omega arith) in
@@ -43,8 +39,8 @@ one_record known place tid r s x y p t hr hs e =
 records_same : (known : List Known) (place tid q : ℕ) (rs ss : List Written) (x y : List ℕ) → place < 2 ^ 64 → tid < 2 ^ 64 → AreWritten known place tid q rs → AreWritten known place tid q ss
     → length (records_text place tid rs) ≡ length (records_text place tid ss) → records_text place tid rs ++ x ≡ records_text place tid ss ++ y → rs ≡ ss
 records_same known place tid q [] [] x y p t hr hs l e = refl
-records_same known place tid q [] (s ∷ ss) x y p t hr hs l e = absurd (omega (arith, record_long place tid s, length-append (record_text place tid s) (records_text place tid ss)))
-records_same known place tid q (r ∷ rs) [] x y p t hr hs l e = absurd (omega (arith, record_long place tid r, length-append (record_text place tid r) (records_text place tid rs)))
+records_same known place tid q [] (s ∷ ss) x y p t hr hs l e = absurd (omega (arith, length-record_text place tid s, length-append (record_text place tid s) (records_text place tid ss)))
+records_same known place tid q (r ∷ rs) [] x y p t hr hs l e = absurd (omega (arith, length-record_text place tid r, length-append (record_text place tid r) (records_text place tid rs)))
 records_same known place tid q (r ∷ rs) (s ∷ ss) x y p t hr hs l e =
     let whole : record_text place tid r ++ (records_text place tid rs ++ x) ≡ record_text place tid s ++ (records_text place tid ss ++ y) = sym (append_assoc (record_text place tid r) (records_text place tid rs) x) ∙ e ∙ append_assoc (record_text place tid s) (records_text place tid ss) y in
     let one : r ≡ s = one_record known place tid r s _ _ p t hr.0 hs.0 whole in
@@ -165,6 +161,7 @@ block_same s a b x y is_a is_b e =
 
 -- ---- where nothing can follow
 
+-- no block that may come next stands here
 pub Stops : Reached → List ℕ → Type 0
 Stops s x = (b : Block) (more : List ℕ) → IsBlock s b → x ≡ block_text s.end b ++ more → ⊥
 

@@ -78,10 +78,12 @@ voted_is_tail newest rest long voted =
     let is : eqb (get_or rest 16 0) 99 ≡ true = eq-eqb _ _ voted in
     rw (some, enough, is) refl
 
--- nothing is the end
-pub nothing_ends : (newest : ℕ) → verdict newest [] ≡ Ends
+-- where no bytes are left a file ends
+pub none_ends : (newest : ℕ) (rest : List ℕ) → length rest ≡ 0 → verdict newest rest ≡ Ends
 unfolding verdict
-nothing_ends newest = refl
+none_ends newest rest none =
+    let is : eqb (length rest) 0 ≡ true = eq-eqb _ _ none in
+    rw is refl
 
 -- a block behind what was read stands for the list with its transaction
 pub block_stands : (bytes : List ℕ) (s : Reached) (b : Block) → Begins bytes s → IsBlock s b → IsReadAs (take s.end bytes ++ block_text s.end b) (after_block s b) None
@@ -93,7 +95,7 @@ block_stands bytes s b begins is =
     ap (λ (k : ℕ). drop k file) (after-end s b) ∙ sym (drop-drop n s.end file) ∙ ap (drop n) behind ∙ drop_at (block_text s.end b) [] n (length-block_text s.end b) in
     record {
       begins = begins_block file s b [] (begins_with bytes s (block_text s.end b) begins) behind is;
-      ends = ap (verdict (after_block s b).newest) over ∙ nothing_ends (after_block s b).newest;
+      ends = ap (verdict (after_block s b).newest) over ∙ none_ends (after_block s b).newest [] refl;
     }
 
 -- and one that was only voted for the list as it was
@@ -109,5 +111,5 @@ without_tail_stands bytes s cut stands =
     let whole = append-nil (take s.end bytes) in
     record {
       begins = subst (λ (x : List ℕ). Begins x s) whole (begins_with bytes s [] stands.begins);
-      ends = ap (λ (x : List ℕ). verdict s.newest (drop s.end x)) (sym whole) ∙ ap (verdict s.newest) (behind_read bytes s [] stands.begins) ∙ nothing_ends s.newest;
+      ends = ap (λ (x : List ℕ). verdict s.newest (drop s.end x)) (sym whole) ∙ ap (verdict s.newest) (behind_read bytes s [] stands.begins) ∙ none_ends s.newest [] refl;
     }

@@ -8,6 +8,24 @@ ghost use Rattle.fs_records.specs.Headers.{header_of, header_text, data_header_o
 use byteorder::{BigEndian, ByteOrder};
 use zb_ids::{Oid, Tid};
 
+/// How many bytes the header of a transaction has.
+pub const HEADER_LENGTH: usize = 23;
+
+/// How many bytes the header of a data record has.
+pub const DATA_HEADER_LENGTH: usize = 42;
+
+/// Where the status stands in the header of a transaction.
+pub const STATUS_PLACE: usize = 16;
+
+/// The status of a transaction that is committed, 20 in hexadecimal.
+pub const COMMITTED: u8 = b' ';
+
+/// The status of a transaction that a pack has gone over, 70 in hexadecimal.
+pub const PACKED: u8 = b'p';
+
+/// The status of a transaction that was only voted, 63 in hexadecimal.
+pub const VOTED: u8 = b'c';
+
 /// The 23 bytes at the head of a transaction. Behind them stand the user, the description, the
 /// extension, the data records, and the length once more, in 8 bytes. All numbers have their
 /// highest byte first. Source: the FileStorage format notes.
@@ -17,8 +35,7 @@ pub struct Header {
     pub tid: Tid,
     /// How many bytes the transaction has without its closing length: bytes 8 to 15.
     pub length: u64,
-    /// 20 in hexadecimal where it is committed, 70 where it is packed, 63 where it is only voted:
-    /// byte 16.
+    /// `COMMITTED`, `PACKED` or `VOTED`, or any other in bytes that are no file: byte 16.
     pub status: u8,
     /// How many bytes the user has: bytes 17 and 18.
     pub user: u16,
@@ -69,14 +86,14 @@ fn u16_at(bytes: &[u8], at: usize) -> u16
 
 /// The header that these bytes are. Any bytes are one.
 #[tactic(auto, unfolding(crate::specs::Headers::header_of))]
-pub fn read_header(bytes: &[u8; 23]) -> Header
+pub fn read_header(bytes: &[u8; HEADER_LENGTH]) -> Header
     ensures value { result ≡ header_of bytes.now }
     ensures text { header_text result ≡ bytes.now }
 {
     Header {
         tid: Tid(u64_at(bytes, 0)),
         length: u64_at(bytes, 8),
-        status: bytes[16],
+        status: bytes[STATUS_PLACE],
         user: u16_at(bytes, 17),
         description: u16_at(bytes, 19),
         extension: u16_at(bytes, 21),
@@ -95,7 +112,7 @@ fn is_data_header(header: DataHeader)
 
 /// The bytes of a header.
 #[tactic(auto, unfolding(crate::specs::Headers::header_text, crate::specs::Numbers::number))]
-pub fn write_header(header: &Header) -> [u8; 23]
+pub fn write_header(header: &Header) -> [u8; HEADER_LENGTH]
     ensures text { result ≡ header_text header.now }
     ensures value { header_of result ≡ header.now }
 {
@@ -134,7 +151,7 @@ pub fn write_header(header: &Header) -> [u8; 23]
 
 /// The header of a data record that these bytes are. Any bytes are one.
 #[tactic(auto, unfolding(crate::specs::Headers::data_header_of))]
-pub fn read_data_header(bytes: &[u8; 42]) -> DataHeader
+pub fn read_data_header(bytes: &[u8; DATA_HEADER_LENGTH]) -> DataHeader
     ensures value { result ≡ data_header_of bytes.now }
     ensures text { data_header_text result ≡ bytes.now }
 {
@@ -150,12 +167,12 @@ pub fn read_data_header(bytes: &[u8; 42]) -> DataHeader
 
 /// The bytes of a data record's header.
 #[tactic(auto, unfolding(crate::specs::Headers::data_header_text, crate::specs::Numbers::number))]
-pub fn write_data_header(header: &DataHeader) -> [u8; 42]
+pub fn write_data_header(header: &DataHeader) -> [u8; DATA_HEADER_LENGTH]
     ensures text { result ≡ data_header_text header.now }
     ensures value { data_header_of result ≡ header.now }
 {
     is_data_header(*header);
-    let mut out = [0; 42];
+    let mut out = [0; DATA_HEADER_LENGTH];
     BigEndian::write_u64(&mut out[0..8], header.oid.0);
     BigEndian::write_u64(&mut out[8..16], header.tid.0);
     BigEndian::write_u64(&mut out[16..24], header.previous);

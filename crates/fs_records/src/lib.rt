@@ -12,7 +12,8 @@ mod writing;
 
 pub use field::Field;
 pub use header::{
-    DataHeader, Header, read_data_header, read_header, write_data_header, write_header,
+    COMMITTED, DATA_HEADER_LENGTH, DataHeader, HEADER_LENGTH, Header, PACKED, STATUS_PLACE, VOTED,
+    read_data_header, read_header, write_data_header, write_header,
 };
 pub use index::Index;
 pub use laws::{

@@ -99,62 +99,6 @@ const TWO_TRANSACTIONS: &[u8] = b"FS30\
     \x00\x00\x00\x00\x00\x00\x00\x03abc\
     \x00\x00\x00\x00\x00\x00\x00\x44";
 
-/// A transaction of one record, as it stands at a place.
-fn write_one(
-    file: &mut Vec<u8>,
-    tid: u64,
-    oid: u64,
-    description: &[u8],
-    content: &[u8],
-) -> Result<(), AllocError>
-    requires description { length description.now ≤ 65535 }
-    requires content { length content.now ≤ 65535 }
-{
-    let length = 23 + description.len() as u64 + 42 + content.len() as u64;
-    let place = file.len() as u64;
-    let header = Header {
-        tid: Tid(tid),
-        length,
-        status: b' ',
-        user: 0,
-        description: description.len() as u16,
-        extension: 0,
-    };
-    let of_data = DataHeader {
-        oid: Oid(oid),
-        tid: Tid(tid),
-        previous: 0,
-        transaction: place,
-        version: 0,
-        length: content.len() as u64,
-    };
-    file.extend_from_slice(&write_header(&header))?;
-    file.extend_from_slice(description)?;
-    file.extend_from_slice(&write_data_header(&of_data))?;
-    file.extend_from_slice(content)?;
-    file.extend_from_slice(&length.to_be_bytes())
-}
-
-#[test]
-fn first_commit_bytes(rt: HostRuntime) -> Result<(), Fail> {
-    let alloc = rt.alloc();
-    let root =
-        b"\x80\x03cpersistent.mapping\nPersistentMapping\n.\x80\x03}X\x04\x00\x00\x00data}s.";
-    let mut file = Vec::from_slice(alloc, b"FS30")?;
-    write_one(
-        &mut file,
-        0x03f5_8e00_0000_0000,
-        0,
-        b"initial database creation",
-        root,
-    )?;
-    assert_eq!(rt; file.len(), 158);
-    write_one(&mut file, 0x03f5_8e00_0000_0001, 1, b"", b"abc")?;
-    assert_eq!(rt; file.len(), 234);
-    assert_eq!(rt; file.as_slice(), TWO_TRANSACTIONS);
-    Ok(())
-}
-
 #[test]
 fn fields_have_names(rt: HostRuntime) -> Result<(), Fail> {
     let alloc = rt.alloc();
@@ -202,60 +146,36 @@ fn keep_all(index: &mut Index, records: &[(u64, Place)]) -> Result<bool, AllocEr
     Ok(true)
 }
 
-/// The same of a transaction.
-fn keep_transaction(index: &mut Index, place: &Place) -> Result<bool, AllocError> {
-    if !is_behind(index.transactions(), *place) {
-        return Ok(false);
-    }
-    index.push_transaction(*place)?;
-    Ok(true)
-}
-
 #[test]
-fn an_index_keeps_places_in_order(rt: HostRuntime) -> Result<(), Fail> {
+fn an_index_keeps_places_and_takes_them_back(rt: HostRuntime) -> Result<(), Fail> {
     let mut index = Index::new(rt.alloc());
-    assert!(rt; keep_all(&mut index, &[(5, place(1, 27)), (5, place(1, 80))])?);
-    assert!(rt; keep_transaction(&mut index, &place(1, 4))?);
-    assert!(rt; keep_all(&mut index, &[(0, place(7, 160)), (5, place(7, 210))])?);
-    assert!(rt; keep_transaction(&mut index, &place(7, 137))?);
-    assert_eq!(rt;
-        index.places(Oid(5)),
-        [place(1, 27), place(1, 80), place(7, 210)].as_slice()
-    );
-    assert_eq!(rt; index.places(Oid(0)), [place(7, 160)].as_slice());
+    let records = [
+        (5, place(1, 27)),
+        (5, place(1, 80)),
+        (0, place(7, 160)),
+        (5, place(7, 210)),
+    ];
+    assert!(rt; keep_all(&mut index, &records)?);
+    let start = place(1, 4);
+    assert!(rt; is_behind(index.transactions(), start));
+    index.push_transaction(start)?;
+    let of_5 = [place(1, 27), place(1, 80), place(7, 210)];
+    assert_eq!(rt; index.places(Oid(5)), of_5.as_slice());
     assert_eq!(rt; index.places(Oid(1)).len(), 0);
-    assert_eq!(rt;
-        index.transactions(),
-        [place(1, 4), place(7, 137)].as_slice()
-    );
-    let nothing = Index::new(rt.alloc());
-    assert_eq!(rt; nothing.places(Oid(5)).len(), 0);
-    assert_eq!(rt; nothing.transactions().len(), 0);
-    Ok(())
-}
-
-#[test]
-fn an_index_takes_places_back(rt: HostRuntime) -> Result<(), Fail> {
-    let mut index = Index::new(rt.alloc());
-    assert_eq!(rt; index.pop_record(Oid(5)), None);
-    assert_eq!(rt; index.pop_transaction(), None);
-    assert!(rt; keep_all(&mut index, &[(5, place(1, 27)), (5, place(1, 80))])?);
-    assert!(rt; keep_transaction(&mut index, &place(1, 4))?);
-    assert!(rt; keep_all(&mut index, &[(0, place(7, 160)), (5, place(7, 210))])?);
-    assert!(rt; keep_transaction(&mut index, &place(7, 137))?);
-    assert_eq!(rt; index.pop_record(Oid(5)), Some(place(7, 210)));
-    assert_eq!(rt; index.pop_record(Oid(0)), Some(place(7, 160)));
-    assert_eq!(rt; index.pop_record(Oid(0)), None);
-    assert_eq!(rt; index.pop_record(Oid(1)), None);
-    assert_eq!(rt; index.pop_transaction(), Some(place(7, 137)));
+    assert_eq!(rt; index.transactions(), [place(1, 4)].as_slice());
+    for (oid, taken) in [
+        (5, Some(place(7, 210))),
+        (0, Some(place(7, 160))),
+        (0, None),
+        (1, None),
+    ] {
+        assert_eq!(rt; index.pop_record(Oid(oid)), taken);
+    }
     assert_eq!(rt;
         index.places(Oid(5)),
         [place(1, 27), place(1, 80)].as_slice()
     );
-    assert_eq!(rt; index.places(Oid(0)).len(), 0);
-    assert_eq!(rt; index.transactions(), [place(1, 4)].as_slice());
-    assert!(rt; keep_all(&mut index, &[(0, place(9, 160)), (5, place(9, 210))])?);
-    assert_eq!(rt; index.places(Oid(0)), [place(9, 160)].as_slice());
-    assert_eq!(rt; index.pop_record(Oid(5)), Some(place(9, 210)));
+    assert_eq!(rt; index.pop_transaction(), Some(place(1, 4)));
+    assert_eq!(rt; index.pop_transaction(), None);
     Ok(())
 }

@@ -10,7 +10,7 @@ ghost use Rattle.fs_records.specs.Blocks.{Reached, Begins, record_text, records_
 ghost use Rattle.fs_records.specs.Places.{IsRising, IsIndexOf, last_below};
 ghost use Rattle.fs_records.specs.Writing.{at_or_0, written_of, block_of, IsNext, HasRoom, StatusIsSet};
 
-use crate::header::{DataHeader, Header, write_data_header, write_header};
+use crate::header::{DataHeader, HEADER_LENGTH, Header, VOTED, write_data_header, write_header};
 use crate::index::Index;
 use crate::place::Place;
 use std::alloc::{AllocError, Global};
@@ -160,8 +160,8 @@ pub fn write_transaction(
     let texts = new.user.len() + new.description.len() + new.extension.len();
     let header = Header {
         tid: new.tid,
-        length: 23 + texts as u64 + records.len() as u64,
-        status: b'c',
+        length: HEADER_LENGTH as u64 + texts as u64 + records.len() as u64,
+        status: VOTED,
         user: new.user.len() as u16,
         description: new.description.len() as u16,
         extension: new.extension.len() as u16,

@@ -13,6 +13,7 @@ use Rattle.fs_records.specs.HeaderLaws.{header_of-take}
 use Rattle.fs_records.specs.Rules.{verdict, texts_length}
 use Rattle.fs_records.specs.Blocks.{Reached, file_start, blocks_text, magic, Begins}
 use Rattle.fs_records.specs.File.{IsReadAs, IsTail}
+use Rattle.fs_records.specs.WriteLaws.{none_ends}
 
 -- ---- the rules, of so many bytes with this header and this closing length
 
@@ -122,9 +123,6 @@ ends_empty newest rest e = by_cases (eqb (length rest) 0) refl (sym (verdict_is 
     by_cases true is h = eqb-true _ _ is
     by_cases false is h = absurd (not_ends (ltb (length rest) 23) (eqb (header_of rest).status 99) (eqb (header_of rest).status 0) (not (eqb (header_of rest).status 32 || eqb (header_of rest).status 112)) (ltb (length rest) ((header_of rest).length + 8)) _ (no_ends _ _ _ _) (past_none (eqb (length rest) 0) _ is h))
 
-pub empty_ends : (newest : ℕ) (rest : List ℕ) → length rest ≡ 0 → verdict newest rest ≡ Ends
-empty_ends newest rest is = verdict_is newest rest ∙ nothing (eqb (length rest) 0) _ (rw is refl)
-
 -- ---- the blocks
 
 pub begins_shorter : (bytes : List ℕ) (s : Reached) (n : ℕ) → s.end ≤ n → s.end ≤ length bytes → Begins bytes s → Begins (take n bytes) s
@@ -150,7 +148,7 @@ pub stands_shorter : (bytes : List ℕ) (s : Reached) (cut : Option ℕ) (n : �
 stands_shorter bytes s None n enough within stands =
     let rest = rest_shorter bytes s n enough in
     let none = ends_empty s.newest (drop s.end bytes) stands.ends in
-    (None, record { begins = begins_shorter bytes s n enough within stands.begins; ends = ap (verdict s.newest) rest ∙ empty_ends s.newest (take (n - s.end) (drop s.end bytes)) (omega (arith, length-take (n - s.end) (drop s.end bytes), none)) })
+    (None, record { begins = begins_shorter bytes s n enough within stands.begins; ends = ap (verdict s.newest) rest ∙ none_ends s.newest (take (n - s.end) (drop s.end bytes)) (omega (arith, length-take (n - s.end) (drop s.end bytes), none)) })
 stands_shorter bytes s (Some at) n enough within stands =
     let rest = rest_shorter bytes s n enough in
     let begins = begins_shorter bytes s n enough within stands.begins in

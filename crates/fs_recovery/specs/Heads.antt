@@ -26,6 +26,7 @@ pub record HeaderFits (h : Header) (newest room : ℕ) : Type 0 where
   pub above : newest < h.tid
   pub below : h.tid < 2 ^ 64 - 1
 
+-- a header that was judged fits into the room that is left
 abbrev pub IsFit : Head → ℕ → ℕ → Type 0
 IsFit heads.Ends newest room = Unit {0}
 IsFit heads.Tail newest room = Unit {0}

@@ -1,12 +1,9 @@
 -- Reading Main, in pieces. Source: own.
 use Rattle.std.specs.Prelude.{◌≡◌, ◌⊎◌, ℕ, ◌+◌, ◌≤◌, List, take, drop, Result, Ok, Err}
-use Rattle.zb_volume.specs.declared.areas.Area.TheVariants.{Main}
 use Rattle.zb_volume.specs.Calls.{Event}
-use Rattle.zb_volume.specs.Disk.{seen}
 use Rattle.zb_base.specs.Counts.{Rose}
 use Rattle.fs_recovery.specs.declared.errors.OpenError.{OpenError}
 use Rattle.fs_recovery.specs.declared.errors.OpenError.TheVariants.{StoreFault, BadRecord, NotFileStorage, Memory}
-use Rattle.zb_volume.specs.Disk.{main_bytes}
 
 -- the first `count` bytes that are held are those of the text from a place on
 abbrev pub Shows : ℕ → ℕ → List ℕ → List ℕ → Type 0

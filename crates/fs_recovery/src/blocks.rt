@@ -9,7 +9,7 @@ ghost use Rattle.zb_volume.specs.Disk.{main_bytes};
 use crate::head::Head;
 use crate::pieces::{header_at, number_behind};
 use crate::window::Window;
-use fs_records::Field;
+use fs_records::{COMMITTED, Field, HEADER_LENGTH, PACKED, VOTED};
 use zb_ids::Tid;
 use zb_volume::{StoreFault, Volume};
 
@@ -41,24 +41,24 @@ pub fn judge<V: Volume, const N: usize>(
     if room == 0 {
         return Ok(Head::Ends);
     }
-    if room < 23 {
+    if room < HEADER_LENGTH as u64 {
         return Ok(Head::Tail);
     }
     let header = header_at(volume, window, p)?;
-    if header.status == b'c' {
+    if header.status == VOTED {
         return Ok(Head::Tail);
     }
     if header.status == 0 {
         return Ok(Head::Tail);
     }
-    if !(header.status == b' ' || header.status == b'p') {
+    if !(header.status == COMMITTED || header.status == PACKED) {
         return Ok(Head::Fault(Field::Status));
     }
     if room - 8 < header.length {
         return Ok(Head::Tail);
     }
     let texts = header.user as u64 + header.description as u64 + header.extension as u64;
-    if header.length < 23 + texts {
+    if header.length < HEADER_LENGTH as u64 + texts {
         return Ok(Head::Fault(Field::Length));
     }
     let closing = number_behind(volume, window, p, header.length)?;

@@ -21,7 +21,7 @@ use crate::head::Head;
 use crate::records::read_records;
 use crate::tail::keep_front;
 use crate::window::Window;
-use fs_records::{Header, Index, Place};
+use fs_records::{HEADER_LENGTH, Header, Index, Place};
 use std::alloc::Global;
 use zb_ids::Tid;
 use zb_volume::{Area, StoreFault, Volume};
@@ -74,7 +74,7 @@ fn keep_block<V: Volume, const N: usize>(
     ensures write_faults { V.write_faults volume.new ≡ V.write_faults volume.old }
 {
     let texts = header.user as u64 + header.description as u64 + header.extension as u64;
-    let from = p + (23 + texts);
+    let from = p + (HEADER_LENGTH as u64 + texts);
     read_records(
         volume,
         window,

@@ -9,7 +9,9 @@ ghost use Rattle.zb_volume.specs.Disk.{main_bytes};
 
 use crate::window::Window;
 use byteorder::{BigEndian, ByteOrder};
-use fs_records::{DataHeader, Header, read_data_header, read_header};
+use fs_records::{
+    DATA_HEADER_LENGTH, DataHeader, HEADER_LENGTH, Header, read_data_header, read_header,
+};
 use zb_volume::{StoreFault, Volume};
 
 /// The header of a transaction at a place.
@@ -32,7 +34,7 @@ pub fn header_at<V: Volume, const N: usize>(
     ensures uncounted { OnOk result (V.read_faults volume.new ≡ V.read_faults volume.old) }
     ensures write_faults { V.write_faults volume.new ≡ V.write_faults volume.old }
 {
-    let mut buffer = [0; 23];
+    let mut buffer = [0; HEADER_LENGTH];
     window.read(volume, at, &mut buffer)?;
     Ok(read_header(&buffer))
 }
@@ -58,7 +60,7 @@ pub fn data_header_at<V: Volume, const N: usize>(
     ensures uncounted { OnOk result (V.read_faults volume.new ≡ V.read_faults volume.old) }
     ensures write_faults { V.write_faults volume.new ≡ V.write_faults volume.old }
 {
-    let mut buffer = [0; 42];
+    let mut buffer = [0; DATA_HEADER_LENGTH];
     window.read(volume, at, &mut buffer)?;
     Ok(read_data_header(&buffer))
 }

@@ -14,7 +14,7 @@ use crate::errors::OpenError;
 use crate::pieces::{data_header_at, number_behind};
 use crate::window::Window;
 use fs_index::Lookup;
-use fs_records::{DataHeader, Field, Index, Place};
+use fs_records::{DATA_HEADER_LENGTH, DataHeader, Field, Index, Place};
 use zb_ids::{Oid, Tid};
 use zb_volume::{StoreFault, Volume};
 
@@ -48,7 +48,7 @@ fn is_astray<V: Volume, const N: usize>(
     if header.length != 0 {
         return Ok(false);
     }
-    let back = number_behind(volume, window, q, 42)?;
+    let back = number_behind(volume, window, q, DATA_HEADER_LENGTH as u64)?;
     if back == 0 {
         return Ok(false);
     }
@@ -92,7 +92,7 @@ fn read_record<V: Volume, const N: usize>(
     ensures write_faults { V.write_faults volume.new ≡ V.write_faults volume.old }
 {
     let room = end - q;
-    if room < 42 {
+    if room < DATA_HEADER_LENGTH as u64 {
         return bad(q, Field::Size);
     }
     let header = data_header_at(volume, window, q)?;
@@ -106,13 +106,13 @@ fn read_record<V: Volume, const N: usize>(
         return bad(q, Field::Version);
     }
     let size = payload_size(&header);
-    if room - 42 < size {
+    if room - (DATA_HEADER_LENGTH as u64) < size {
         return bad(q, Field::Size);
     }
     if is_astray(volume, window, q, &header, index)? {
         return bad(q, Field::Back);
     }
-    Ok((header.oid, 42 + size))
+    Ok((header.oid, DATA_HEADER_LENGTH as u64 + size))
 }
 
 /// Puts the data records from `from` to `end`, of the transaction with this number at this place,

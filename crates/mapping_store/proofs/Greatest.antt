@@ -1,13 +1,10 @@
 -- The greatest of numbers in two parts.
-use Rattle.std.proofs.Common.{◌≡◌, ℕ, ◌+◌, ◌<◌, max, List, [], ◌∷◌, ◌++◌, length, get_or, drop, drop-cons, arith}
+use Rattle.std.proofs.Common.{◌≡◌, ℕ, ◌+◌, ◌<◌, max, List, ◌∷◌, ◌++◌, length, get_or, drop, drop-cons, arith}
 use Rattle.std.proofs.lemmas.Grind.{common_steps}
 use Rattle.std.specs.List.{flat_map}
 use Rattle.zb_model.specs.declared.data.Transaction.{Transaction}
 use Rattle.zb_model.specs.Queries.{greatest_of, greatest_oid, oids_of}
-
-pub greatest-append : (ms ns : List ℕ) → greatest_of (ms ++ ns) ≡ max (greatest_of ms) (greatest_of ns)
-greatest-append [] ns = omega arith
-greatest-append (m ∷ ms) ns = rw (greatest-append ms ns) (omega arith)
+use Rattle.zb_model.specs.QueryLaws.{greatest-append}
 
 pub greatest_append : (n : ℕ) (ms ns : List ℕ) → max n (greatest_of (ms ++ ns)) ≡ max (max n (greatest_of ms)) (greatest_of ns)
 greatest_append n ms ns = rw (greatest-append ms ns) (omega arith)

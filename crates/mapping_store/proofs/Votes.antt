@@ -2,7 +2,7 @@
 use Rattle.std.proofs.Common.{◌≡◌, List, [], ◌∷◌, ◌++◌, Some, arith}
 use Rattle.zb_model.specs.declared.data.Transaction.{Transaction}
 use Rattle.zb_model.specs.declared.new_transaction.NewTransaction.{NewTransaction}
-use Rattle.zb_model.specs.Database.{IsDatabase, newest_tid}
+use Rattle.zb_model.specs.Database.{IsDatabase}
 use Rattle.zb_model.specs.Voting.{IsWellFormed, IsVotable, voted_of}
 use Rattle.zb_model.specs.VotingLaws.{newest-push, voted_database}
 
@@ -11,6 +11,5 @@ made_database list now new made voted same is some database formed votable =
     let v : voted ≡ voted_of list new = grind (arith, some, is) in
     rw same (rw v (voted_database list new database formed votable))
 
--- what is put behind a list is its newest
-pub newest_pushed : (list : List Transaction) (t : Transaction) → newest_tid (list ++ t ∷ []) ≡ t.tid
-newest_pushed = newest-push
+-- the newest with what is put behind the list
+pub ruleset pushed = (newest-push)

@@ -142,7 +142,7 @@ impl Store for MappingStore {
         Ok(())
     }
 
-    #[tactic(auto, using(crate::proofs::Votes::newest_pushed))]
+    #[tactic(auto, using(crate::proofs::Votes::pushed))]
     fn finish(&mut self) -> Result<(), StoreFault> {
         if let Some(voted) = self.voted.take() {
             self.count += voted.changes.len() as u64;

@@ -1,7 +1,7 @@
--- Lemmas on lists: the last item, and the items in front that a test passes. Own.
+-- Lemmas on lists: the last item, the items in front that a test passes, and one item more. Own.
 use Rattle.std.proofs.Common.{◌≡◌, ℕ, zero, suc, ◌-◌, ◌<◌, ◌≤◌, Bool, true, false, List, [], ◌∷◌, ◌++◌, length, get_or, take, filter, Option, Some, None, refl, sym, ap, ◌∙◌, arith}
 use Rattle.std.specs.Prelude.{slice_get}
-use Rattle.std.specs.List.{last_or}
+use Rattle.std.specs.List.{last_or, AllByRecursion}
 
 last_or-more : {X : Type 0} (o : Option X) (x : X) (xs : List X) → last_or o (x ∷ xs) ≡ slice_get (x ∷ xs) (length xs)
 last_or-more o x [] = refl
@@ -23,6 +23,10 @@ pub last_or_append : {X : Type 0} (o : Option X) (xs ys : List X) → last_or o 
 last_or_append o [] ys = refl
 last_or_append o (x ∷ xs) ys = last_or_append (Some x) xs ys
 
+-- the last item is the one that was put at the end
+pub last_or_push : {X : Type 0} (o : Option X) (xs : List X) (x : X) → last_or o (xs ++ x ∷ []) ≡ Some x
+last_or_push o xs x = last_or_append o xs (x ∷ [])
+
 -- the last of the first items
 pub last_or_take : {X : Type 0} (o : Option X) (xs : List X) (n : ℕ) (d : X) → n < length xs → last_or o (take (suc n) xs) ≡ Some (get_or xs n d)
 last_or_take o [] n d h = absurd (omega arith)
@@ -39,3 +43,8 @@ filter_take p (x ∷ xs) zero front behind h =
 filter_take p (x ∷ xs) (suc n) front behind h =
     let passes : p x ≡ true = front 0 x (omega arith) in
     rw passes (ap (λ ys. x ∷ ys) (filter_take p xs n (λ k d l. front (suc k) d (omega arith)) (λ k d m l. behind (suc k) d (omega arith) (omega arith)) (omega arith)))
+
+-- what holds of each item, and of one more behind them
+pub each_more : {X : Type 0} (P : X → Type 0) (xs : List X) (x : X) → AllByRecursion P xs → P x → AllByRecursion P (xs ++ x ∷ [])
+each_more P [] x all one = (one, tt)
+each_more P (y ∷ ys) x all one = (all.0, each_more P ys x all.1 one)

@@ -1,6 +1,5 @@
 -- The last of a list, as a loop finds it.
-use Rattle.std.proofs.Common.{◌≡◌, ℕ, ◌-◌, List, [], ◌∷◌, Option, Some, None, length, refl, arith}
-use Rattle.std.specs.Prelude.{slice_get}
+use Rattle.std.proofs.Common.{◌≡◌, ℕ, List, [], ◌∷◌, Some, None, refl}
 use Rattle.std.specs.List.{last_or}
 use Rattle.std.specs.Option.{option_map_or}
 use Rattle.zb_model.specs.Database.{ObjectRevision}
@@ -18,4 +17,3 @@ last_serial-some r (x ∷ rs) = last_serial-some x rs
 pub last_serial-is : (rs : List ObjectRevision) → last_serial 0 rs ≡ option_map_or (λ (x : ObjectRevision). x.serial) (last_or None rs) 0
 last_serial-is [] = refl
 last_serial-is (r ∷ rs) = last_serial-some r rs
-

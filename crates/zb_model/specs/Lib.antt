@@ -3,6 +3,7 @@ pub mod Database
 pub mod DatabaseLaws
 pub mod Lists
 pub mod Queries
+pub mod QueryLaws
 pub mod Seen
 pub mod Stores
 pub mod Voting

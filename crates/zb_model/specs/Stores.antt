@@ -6,17 +6,24 @@ use Rattle.zb_model.specs.declared.data.Transaction.{Transaction}
 use Rattle.zb_model.specs.declared.store_error.StoreError.{StoreError}
 use Rattle.zb_model.specs.declared.store_error.StoreError.TheVariants.{StoreFault, ReadFault, Memory}
 
--- What contracts see of a store: its transactions, the oldest first, and the one that is voted; the number that `newest`
--- answers, also where the list isn't told; whether a call has answered a store fault; the calls that changed its volume,
--- the newest first; how often a call that changes the store has failed, and how often reading has.
+-- What contracts see of a store. A call leaves each part as it was that its frame doesn't name, also one that comes later, as a begun pack.
 pub record StoreState : Type 0 where
+  -- its transactions, the oldest first
   pub list : List Transaction
+  -- the one that is voted, if one is
   pub voted : Option Transaction
+  -- the number that `newest` answers, also where the list isn't told
   pub newest : ℕ
+  -- whether a call has answered a store fault
   pub broken : Bool
+  -- the calls that changed its volume, the newest first
   pub log : List Event
+  -- how often a call that changes the store has failed
   pub faults : ℕ
+  -- how often reading has failed
   pub read_faults : ℕ
+
+-- ---- refusals and their causes
 
 -- a fact, unless the call answered a store fault
 abbrev pub UnlessFault : {T : Type 0} → Result T StoreError → Type 0 → Type 0
@@ -25,47 +32,53 @@ UnlessFault (Err StoreFault) P = Unit {0}
 UnlessFault (Err ReadFault) P = P
 UnlessFault (Err Memory) P = P
 
--- a call that only reads is refused for a read fault, where that count rose, or for want of memory
-abbrev pub MayRefuseReading : ℕ → ℕ → StoreError → Type 0
-MayRefuseReading before now StoreFault = ⊥
-MayRefuseReading before now ReadFault = Rose before now
-MayRefuseReading before now Memory = Unit {0}
-
--- the count of read faults has not fallen, and each refusal of a call that only reads has its cause
-pub record HasReadCause {T : Type 0} (before now : ℕ) (result : Result T StoreError) : Type 0 where
-  pub later : before ≤ now
-  pub refused : IfErr result (MayRefuseReading before now)
-
--- a call that only reads leaves all but the count of read faults, which has not fallen, and each of its refusals has its cause
-pub record IsRead {T : Type 0} (old new : StoreState) (result : Result T StoreError) : Type 0 where
-  pub same : new ≡ record old { read_faults = new.read_faults }
-  pub cause : HasReadCause old.read_faults new.read_faults result
-
--- a store fault comes only where that count rose, and the others as in a call that only reads
-abbrev pub MayRefuse : ℕ → ℕ → ℕ → ℕ → StoreError → Type 0
-MayRefuse reads reads_now faults faults_now StoreFault = Rose faults faults_now
-MayRefuse reads reads_now faults faults_now ReadFault = Rose reads reads_now
-MayRefuse reads reads_now faults faults_now Memory = Unit {0}
+-- a store fault comes only where the count of faults rose, a read fault where that of read faults did; want of memory is free
+abbrev pub MayRefuse : StoreState → StoreState → StoreError → Type 0
+MayRefuse old new StoreFault = Rose old.faults new.faults
+MayRefuse old new ReadFault = Rose old.read_faults new.read_faults
+MayRefuse old new Memory = Unit {0}
 
 -- neither count of faults has fallen, and each refusal has its cause
-pub record HasStoreCause {T : Type 0} (reads reads_now faults faults_now : ℕ) (result : Result T StoreError) : Type 0 where
-  pub reads_later : reads ≤ reads_now
-  pub faults_later : faults ≤ faults_now
-  pub refused : IfErr result (MayRefuse reads reads_now faults faults_now)
+pub record HasStoreCause {T : Type 0} (old new : StoreState) (result : Result T StoreError) : Type 0 where
+  pub reads_later : old.read_faults ≤ new.read_faults
+  pub faults_later : old.faults ≤ new.faults
+  pub refused : IfErr result (MayRefuse old new)
 
--- ---- what the calls that change a store leave as it was
+-- a call that only reads is refused for a read fault, where that count rose, or for want of memory
+abbrev pub MayRefuseReading : StoreState → StoreState → StoreError → Type 0
+MayRefuseReading old new StoreFault = ⊥
+MayRefuseReading old new ReadFault = Rose old.read_faults new.read_faults
+MayRefuseReading old new Memory = Unit {0}
 
--- a vote leaves the number of the newest
-abbrev pub VoteKeeps : StoreState → StoreState → Type 0
-VoteKeeps old new = new ≡ record old { list = new.list; voted = new.voted; broken = new.broken; log = new.log; faults = new.faults; read_faults = new.read_faults }
+-- ---- frames: what a call leaves as it was
+
+-- no part has changed but the count of read faults
+abbrev pub ReadKeepsRest : StoreState → StoreState → Type 0
+ReadKeepsRest old new = new ≡ record old { read_faults = new.read_faults }
+
+-- a refused call that would write has changed no other part either, unless a call of the volume failed
+abbrev pub RefusalKeepsRest : StoreState → StoreState → StoreError → Type 0
+RefusalKeepsRest old new StoreFault = Unit {0}
+RefusalKeepsRest old new ReadFault = ReadKeepsRest old new
+RefusalKeepsRest old new Memory = ReadKeepsRest old new
+
+-- a store was only read: the rest is as it was, the count of read faults has not fallen, and each refusal has its cause
+pub record IsOnlyRead {T : Type 0} (old new : StoreState) (result : Result T StoreError) : Type 0 where
+  pub same : ReadKeepsRest old new
+  pub later : old.read_faults ≤ new.read_faults
+  pub refused : IfErr result (MayRefuseReading old new)
+
+-- a vote may change any of these, and leaves the rest: the number of the newest
+abbrev pub VoteKeepsRest : StoreState → StoreState → Type 0
+VoteKeepsRest old new = new ≡ record old { list = new.list; voted = new.voted; broken = new.broken; log = new.log; faults = new.faults; read_faults = new.read_faults }
 
 -- a finish leaves the count of read faults
-abbrev pub FinishKeeps : StoreState → StoreState → Type 0
-FinishKeeps old new = new ≡ record old { list = new.list; voted = new.voted; newest = new.newest; broken = new.broken; log = new.log; faults = new.faults }
+abbrev pub FinishKeepsRest : StoreState → StoreState → Type 0
+FinishKeepsRest old new = new ≡ record old { list = new.list; voted = new.voted; newest = new.newest; broken = new.broken; log = new.log; faults = new.faults }
 
 -- an abort leaves both
-abbrev pub AbortKeeps : StoreState → StoreState → Type 0
-AbortKeeps old new = new ≡ record old { list = new.list; voted = new.voted; broken = new.broken; log = new.log; faults = new.faults }
+abbrev pub AbortKeepsRest : StoreState → StoreState → Type 0
+AbortKeepsRest old new = new ≡ record old { list = new.list; voted = new.voted; broken = new.broken; log = new.log; faults = new.faults }
 
 -- bytes stand for a list, or for it with one transaction more
 abbrev pub StandsForOneOf : (List ℕ → List Transaction → Type 0) → List Transaction → Transaction → List ℕ → Type 0

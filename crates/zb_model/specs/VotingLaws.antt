@@ -7,6 +7,7 @@ use Rattle.std.specs.List.Sorted.{IsStrictlyIncreasing}
 use Rattle.std.specs.Option.{option_map_or}
 use Rattle.std.proofs.lemmas.Grind.{common_steps}
 use Rattle.std.proofs.lemmas.List.Elements.{All-push}
+use Rattle.zb_base.specs.Lists.{last_or_push}
 use Rattle.zb_model.specs.declared.data.Transaction.{Transaction}
 use Rattle.zb_model.specs.declared.new_transaction.NewChange.{NewChange}
 use Rattle.zb_model.specs.declared.new_transaction.NewTransaction.{NewTransaction}
@@ -17,14 +18,9 @@ use Rattle.zb_model.specs.Voting.{IsWellFormed, IsVotable, voted_change, voted_o
 abbrev pub tid_of : Transaction → ℕ
 tid_of t = t.tid
 
--- the last item is the one that was put at the end
-pub last_or-push : {A : Type 0} (o : Option A) (xs : List A) (x : A) → last_or o (xs ++ x ∷ []) ≡ Some x
-last_or-push o [] x = refl
-last_or-push o (y ∷ xs) x = last_or-push (Some y) xs x
-
 -- the newest of a list is the last one behind it
 pub newest-push : (list : List Transaction) (t : Transaction) → newest_tid (list ++ t ∷ []) ≡ t.tid
-newest-push list t = ap (λ (o : Option Transaction). option_map_or tid_of o 0) (last_or-push None list t)
+newest-push list t = ap (λ (o : Option Transaction). option_map_or tid_of o 0) (last_or_push None list t)
 
 newest-some : (t : Transaction) (list : List Transaction) → option_map_or tid_of (last_or (Some t) list) 0 ≡ get_or (t.tid ∷ map tid_of list) (length list) 0
 newest-some t [] = refl

@@ -3,14 +3,14 @@
 use zb_ids::{Oid, Tid};
 
 /// Why two changes of one object can't be merged. More reasons come with rules of merging.
-#[derive(Clone, Copy, Debug, PartialEq, Eq)]
+#[derive(Debug, Drop)]
 pub enum Why {
     /// The stored bytes are of no class that has a rule of merging.
     NoRule,
 }
 
 /// Why a turn is refused. A refused turn changes nothing of the database and its sessions.
-#[derive(Clone, Copy, Debug, PartialEq, Eq)]
+#[derive(Debug, Drop)]
 pub enum Refusal {
     /// `next_tid` gives no tid below 2^64-1 for a vote that would write.
     TidsSpent,

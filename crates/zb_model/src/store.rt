@@ -1,6 +1,6 @@
 //! What a store promises, however it keeps its list, and what a crash leaves of it.
 
-ghost use Rattle.std.specs.Prelude.{◌≡◌, ℕ, ◌<◌, ◌-◌, ◌^◌, ◌++◌, ◌∷◌, [], None, Some, IsSome, IfOk, IsErrOf, OnOk, OnErr, false, true};
+ghost use Rattle.std.specs.Prelude.{◌≡◌, ℕ, ◌<◌, ◌-◌, ◌^◌, ◌++◌, ◌∷◌, [], None, Some, IsSome, IfErr, IfOk, IsErrOf, OnOk, OnErr, false, true};
 ghost use Rattle.std.specs.Option.{ForSome};
 ghost use Rattle.zb_volume.specs.declared.areas.Area.{Area};
 ghost use Rattle.zb_base.specs.Counts.{HasCause};
@@ -8,7 +8,7 @@ ghost use Rattle.zb_volume.specs.Moments.{LeavesOnly};
 ghost use Rattle.zb_model.specs.Database.{newest_tid, serial_of};
 ghost use Rattle.zb_model.specs.Lists.{history_of, undo_log_of};
 ghost use Rattle.zb_model.specs.Queries.{changes_up_to, found_below, first_after, greatest_oid, pack_point, transaction_at};
-ghost use Rattle.zb_model.specs.Stores.{AbortKeeps, FinishKeeps, HasStoreCause, IsRead, StandsForOneOf, UnlessFault, VoteKeeps};
+ghost use Rattle.zb_model.specs.Stores.{AbortKeepsRest, FinishKeepsRest, HasStoreCause, IsOnlyRead, RefusalKeepsRest, StandsForOneOf, UnlessFault, VoteKeepsRest};
 ghost use Rattle.zb_model.specs.Voting.{IsVotable, IsWellFormed, voted_of};
 
 use crate::data::Transaction;
@@ -50,7 +50,7 @@ pub trait Store {
     /// Whether no call of theirs changes a volume.
     ghost quiet: { Type 0 };
 
-    /// What contracts see of it.
+    /// What contracts see of a store.
     ghost state: { Self → StoreState };
 
     /// The bytes of Main stand for a list.
@@ -87,34 +87,34 @@ pub trait Store {
     fn load_before(&mut self, alloc: Global, oid: Oid, front: Tid) -> Result<Found, StoreError>
         requires { (state self.old).broken ≡ false }
         ensures found { told → IfOk result (λ found. found ≡ found_below oid front (state self.old).list) }
-        ensures read { IsRead (state self.old) (state self.new) result };
+        ensures read { IsOnlyRead (state self.old) (state self.new) result };
 
     /// The transaction with this tid, if there is one.
     fn transaction(&mut self, alloc: Global, tid: Tid) -> Result<Option<Transaction>, StoreError>
         requires { (state self.old).broken ≡ false }
         ensures found { told → IfOk result (λ found. found ≡ transaction_at tid (state self.old).list) }
-        ensures read { IsRead (state self.old) (state self.new) result };
+        ensures read { IsOnlyRead (state self.old) (state self.new) result };
 
     /// The first transaction above this tid, if there is one.
     fn after(&mut self, alloc: Global, tid: Tid) -> Result<Option<Transaction>, StoreError>
         requires { (state self.old).broken ≡ false }
         ensures found { told → IfOk result (λ found. found ≡ first_after tid (state self.old).list) }
-        ensures read { IsRead (state self.old) (state self.new) result };
+        ensures read { IsOnlyRead (state self.old) (state self.new) result };
 
     /// Every change of an object, the newest first.
     fn history(&mut self, alloc: Global, oid: Oid) -> Result<ListOf<Revision>, StoreError>
         requires { (state self.old).broken ≡ false }
         ensures lines { told → IfOk result (λ lines. lines ≡ history_of oid (state self.old).list) }
-        ensures read { IsRead (state self.old) (state self.new) result };
+        ensures read { IsOnlyRead (state self.old) (state self.new) result };
 
     /// Every transaction that no pack has gone over, the newest first.
     fn undo_log(&mut self, alloc: Global) -> Result<ListOf<LogLine>, StoreError>
         requires { (state self.old).broken ≡ false }
         ensures lines { told → IfOk result (λ lines. lines ≡ undo_log_of (state self.old).list) }
-        ensures read { IsRead (state self.old) (state self.new) result };
+        ensures read { IsOnlyRead (state self.old) (state self.new) result };
 
     /// Votes a transaction: it stands beside the list, with all the room that `finish` needs. With an
-    /// error nothing is voted.
+    /// error nothing is voted. A read fault and want of memory are answered before anything is written.
     fn vote(&mut self, alloc: Global, new: &NewTransaction) -> Result<(), StoreError>
         requires whole { (state self.old).broken ≡ false }
         requires free { (state self.old).voted ≡ None }
@@ -127,13 +127,13 @@ pub trait Store {
         ensures voted { told → OnOk result ((state self.new).voted ≡ Some (voted_of (state self.old).list new.now)) }
         ensures tid { OnOk result (ForSome (state self.new).voted (λ t. t.tid ≡ new.now.tid)) }
         ensures none { OnErr result ((state self.new).voted ≡ None) }
-        ensures keeps { VoteKeeps (state self.old) (state self.new) }
+        ensures keeps { VoteKeepsRest (state self.old) (state self.new) }
+        ensures refused { IfErr result (RefusalKeepsRest (state self.old) (state self.new)) }
         ensures list { told → UnlessFault result ((state self.new).list ≡ (state self.old).list) }
         ensures any_moment { lasts → LeavesOnly Area.Main (λ bytes. stands bytes (state self.old).list)
             (state self.old).log (state self.new).log }
         ensures quiet { quiet → (state self.new).log ≡ (state self.old).log }
-        ensures cause { HasStoreCause (state self.old).read_faults (state self.new).read_faults
-            (state self.old).faults (state self.new).faults result };
+        ensures cause { HasStoreCause (state self.old) (state self.new) result };
 
     /// Puts the voted transaction at the end of the list. It takes no memory.
     fn finish(&mut self) -> Result<(), StoreFault>
@@ -150,7 +150,7 @@ pub trait Store {
             (StandsForOneOf stands (state self.old).list t) (state self.old).log (state self.new).log) }
         ensures quiet { quiet → (state self.new).log ≡ (state self.old).log }
         ensures cause { HasCause (state self.old).faults (state self.new).faults result }
-        ensures keeps { FinishKeeps (state self.old) (state self.new) };
+        ensures keeps { FinishKeepsRest (state self.old) (state self.new) };
 
     /// Drops the voted transaction. It takes no memory.
     fn abort(&mut self) -> Result<(), StoreFault>
@@ -164,7 +164,7 @@ pub trait Store {
             (state self.old).log (state self.new).log }
         ensures quiet { quiet → (state self.new).log ≡ (state self.old).log }
         ensures cause { HasCause (state self.old).faults (state self.new).faults result }
-        ensures keeps { AbortKeeps (state self.old) (state self.new) };
+        ensures keeps { AbortKeepsRest (state self.old) (state self.new) };
 
     /// Between calls the list is a database.
     ghost database: { (store : Self) → told → (state store).broken ≡ false → IsDatabase (state store).list };

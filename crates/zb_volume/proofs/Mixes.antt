@@ -4,13 +4,8 @@ use Rattle.std.proofs.lemmas.List.{ext_get_or, get_or-take, get_or_append_left, 
 use Rattle.std.proofs.lemmas.Bool.{cases_eq, cases_lt}
 use Rattle.zb_volume.specs.Disk.{written}
 use Rattle.zb_volume.specs.Images.{IsImage}
+use Rattle.zb_volume.specs.Lasting.{written_end}
 use Rattle.zb_volume.specs.Journal.{counting, IsOldOrNew}
-
-written_end : (text bytes : List ℕ) (end : ℕ) → end ≡ length text → written text end bytes ≡ text ++ bytes
-written_end text bytes end is =
-    ap (λ (l : List ℕ). l ++ bytes ++ drop (end + length bytes) text) (take_all end text (omega (arith, is)))
-    ∙ ap (λ (l : List ℕ). text ++ bytes ++ l) (drop_all (end + length bytes) text (omega (arith, is)))
-    ∙ append-nil (text ++ bytes)
 
 written_byte : (text : List ℕ) (at v : ℕ) → at < length text → written text at (v ∷ []) ≡ set text at v
 written_byte text at v h = append_assoc (take at text) (v ∷ []) (drop (at + 1) text) ∙ ap (λ (n : ℕ). take at text ++ (v ∷ drop n text)) (add-one at) ∙ sym (set_split text at v h)
@@ -52,7 +47,7 @@ module _ (text entry c : List ℕ) (blank : get_or entry 0 0 ≡ 0) (image : IsI
 
 -- the record is added with a blank mark
 pub blank_mix : (text entry : List ℕ) (end : ℕ) → end ≡ length text → get_or entry 0 0 ≡ 0 → (c : List ℕ) → IsImage text (written text end entry ∷ []) c → IsOldOrNew text entry c
-blank_mix text entry end is blank c image = inl (old_counts text entry c blank (subst (λ (w : List ℕ). IsImage text (w ∷ []) c) (written_end text entry end is) image))
+blank_mix text entry end is blank c image = inl (old_counts text entry c blank (subst (λ (w : List ℕ). IsImage text (w ∷ []) c) (written_end text entry end (sym is)) image))
 
 -- where one byte changes, a mix is the old bytes or the new ones
 one_byte : (text : List ℕ) (at v : ℕ) (c : List ℕ) → at < length text → IsImage text (set text at v ∷ []) c → (c ≡ text) ⊎ (c ≡ set text at v)
@@ -77,7 +72,7 @@ set_behind text entry v = set-append_right text entry (length text) (length text
 pub mark_mix : (text entry mid : List ℕ) (end : ℕ) → mid ≡ written text end entry → end ≡ length text → 0 < length entry → get_or entry 0 0 ≡ 0
     → (c : List ℕ) → IsImage mid (written mid end (1 ∷ []) ∷ []) c → IsOldOrNew text entry c
 mark_mix text entry mid end was is some blank c image =
-    let whole : mid ≡ text ++ entry = was ∙ written_end text entry end is in
+    let whole : mid ≡ text ++ entry = was ∙ written_end text entry end (sym is) in
     let long : end < length mid = omega (arith, ap length whole, length-append text entry, is, some) in
     let new : set mid end 1 ≡ text ++ set entry 0 1 = ap (λ (l : List ℕ). set l end 1) whole ∙ ap (λ (n : ℕ). set (text ++ entry) n 1) is ∙ set_behind text entry 1 in
     ⊎_elim

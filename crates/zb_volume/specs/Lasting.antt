@@ -1,6 +1,6 @@
 -- What a crash leaves of an area while it is written, cut or replaced, for the proofs of those who make the calls.
-use Rattle.std.proofs.Common.{◌≡◌, inl, inr, ⊎_elim, ℕ, true, List, [], ◌∷◌, take, length, get_or, refl, sym, subst, arith}
-use Rattle.std.proofs.lemmas.List.{ext_get_or}
+use Rattle.std.proofs.Common.{◌≡◌, inl, inr, ⊎_elim, ℕ, ◌+◌, true, List, [], ◌∷◌, ◌++◌, take, drop, length, get_or, refl, sym, ap, subst, ◌∙◌, arith}
+use Rattle.std.proofs.lemmas.List.{ext_get_or, take_all, drop_all, append-nil}
 use Rattle.zb_volume.specs.declared.areas.Area.{Area}
 use Rattle.zb_volume.specs.declared.areas.Area.TheVariants.{Main, Side}
 use Rattle.zb_volume.specs.Calls.{Event, Wrote, Cut, Synced, same_area}
@@ -66,6 +66,13 @@ cut_leaves log Side n c left = left
 pub synced_leaves : (log : List Event) (a : Area) (Q : List ℕ → Type 0) → Q (seen log a) → Leaves a Q (Synced a ∷ log)
 synced_leaves log Main Q q = settled_only (seen log Main) Q q
 synced_leaves log Side Q q = settled_only (seen log Side) Q q
+
+-- what is written at the end stands behind
+pub written_end : (old text : List ℕ) (end : ℕ) → length old ≡ end → written old end text ≡ old ++ text
+written_end old text end is =
+    ap (λ (xs : List ℕ). xs ++ text ++ drop (end + length text) old) (take_all end old (omega (arith, is)))
+    ∙ ap (λ (xs : List ℕ). old ++ text ++ xs) (drop_all (end + length text) old (omega (arith, is)))
+    ∙ append-nil (old ++ text)
 
 pub seen-wrote : (log : List Event) (a : Area) (at : ℕ) (bytes : List ℕ) → seen (Wrote a at bytes ∷ log) a ≡ written (seen log a) at bytes
 seen-wrote log Main at bytes = refl

@@ -7,14 +7,6 @@ use std::alloc::Global;
 use zb_ids::{ListOf, Text8};
 use zb_model::{NewChange, NewContent, NewTransaction, is_well_formed};
 
-/// Object 1 with three bytes in a transaction at 158, of 68 bytes in front of its closing length.
-const ONE_OBJECT: &[u8] =
-    b"\x03\xf5\x8e\x00\x00\x00\x00\x01\x00\x00\x00\x00\x00\x00\x00\x44\x63\x00\x00\x00\x00\x00\x00\
-    \x00\x00\x00\x00\x00\x00\x00\x01\x03\xf5\x8e\x00\x00\x00\x00\x01\
-    \x00\x00\x00\x00\x00\x00\x00\x00\x00\x00\x00\x00\x00\x00\x00\x9e\x00\x00\
-    \x00\x00\x00\x00\x00\x00\x00\x03abc\
-    \x00\x00\x00\x00\x00\x00\x00\x44";
-
 /// A content of each kind in a transaction at 300: object 0 as of the record at 27, where its newest
 /// one is at 110; object 5, of which there is one at 160, isn't there; object 6 is new.
 const EACH_CONTENT: &[u8] =
@@ -32,15 +24,6 @@ const EACH_CONTENT: &[u8] =
     \x00\x00\x00\x00\x00\x00\x00\x00\x00\x00\x00\x00\x00\x00\x01\x2c\x00\x00\
     \x00\x00\x00\x00\x00\x00\x00\x02hi\
     \x00\x00\x00\x00\x00\x00\x00\xaf";
-
-/// Object 0 with the content of its newest record, which is at 110, in a transaction at 300.
-const NEWEST_CONTENT: &[u8] =
-    b"\x00\x00\x00\x00\x00\x00\x00\x07\x00\x00\x00\x00\x00\x00\x00\x49\x63\x00\x00\x00\x00\x00\x00\
-    \x00\x00\x00\x00\x00\x00\x00\x00\x00\x00\x00\x00\x00\x00\x00\x07\
-    \x00\x00\x00\x00\x00\x00\x00\x6e\x00\x00\x00\x00\x00\x00\x01\x2c\x00\x00\
-    \x00\x00\x00\x00\x00\x00\x00\x00\
-    \x00\x00\x00\x00\x00\x00\x00\x6e\
-    \x00\x00\x00\x00\x00\x00\x00\x49";
 
 /// The first object of a database, 56 bytes.
 const ROOT: &[u8] =
@@ -84,8 +67,8 @@ fn bytes(alloc: Global, content: &[u8]) -> Result<NewContent, AllocError> {
 /// The text of a transaction that is committed, where this is its text when it is voted.
 fn finished(text: Text8) -> Vec<u8> {
     let mut text = text.into_vec();
-    if text.len() > 16 {
-        text[16] = b' ';
+    if text.len() > STATUS_PLACE {
+        text[STATUS_PLACE] = COMMITTED;
     }
     text
 }
@@ -118,15 +101,6 @@ fn one_object(alloc: Global, index: &Index) -> Result<Text8, AllocError> {
     let new = transaction(alloc, 0x03f5_8e00_0000_0001, b"", b"", b"")?;
     let new = with_change(new, 1, bytes(alloc, b"abc")?)?;
     write_at(alloc, &new, 158, index)
-}
-
-#[test]
-fn one_object_is_written(rt: HostRuntime) -> Result<(), Fail> {
-    let alloc = rt.alloc();
-    let text = one_object(alloc, &Index::new(alloc))?;
-    assert_eq!(rt; text.len(), 76);
-    assert_eq!(rt; text.as_slice(), ONE_OBJECT);
-    Ok(())
 }
 
 /// A file of its first transaction and one more, each written and finished.
@@ -164,31 +138,10 @@ fn each_content(alloc: Global, index: &Index) -> Result<Text8, AllocError> {
     write_at(alloc, &new, 300, index)
 }
 
-/// One at 300 that gives object 0 the content of a transaction again.
-fn content_as_of(alloc: Global, index: &Index, serial: u64) -> Result<Text8, AllocError> {
-    let new = transaction(alloc, 7, b"", b"", b"")?;
-    let new = with_change(new, 0, NewContent::AsOf(Tid(serial)))?;
-    write_at(alloc, &new, 300, index)
-}
-
 #[test]
 fn each_content_is_written(rt: HostRuntime) -> Result<(), Fail> {
     let alloc = rt.alloc();
     let text = each_content(alloc, &three_records(alloc)?)?;
     assert_eq!(rt; text.as_slice(), EACH_CONTENT);
-    Ok(())
-}
-
-/// Where the newest record is of the named transaction, or of one before it, it is the one that is
-/// led to.
-#[test]
-fn the_newest_content_is_taken_over(rt: HostRuntime) -> Result<(), Fail> {
-    let alloc = rt.alloc();
-    let index = three_records(alloc)?;
-    for serial in [3, 4, u64::MAX] {
-        let text = content_as_of(alloc, &index, serial)?;
-        assert_eq!(rt; text.as_slice(), NEWEST_CONTENT);
-    }
-    finishing_sets_the_status();
     Ok(())
 }

@@ -1,12 +1,12 @@
 // What a store answers of a list with contents that come, go and come back.
-use crate::tests::making::{Put, Row, T0, brief, store_of};
+use crate::tests::making::{Put, Row, T0, store_of};
 use std::test::Fail;
 use zb_ids::{Oid, Tid};
 use zb_model::{Content, Found, Store, Transaction};
 
 /// Object 1 is `a`, then `b` beside object 5, then both are undone, then both are done again, and then
 /// object 1 is as when it was undone.
-const ROWS: &[Row<'static>] = &[
+const ROWS: &[Row] = &[
     Row {
         place: 1,
         description: b"one",
@@ -39,12 +39,12 @@ const ROWS: &[Row<'static>] = &[
 fn seen(found: Found) -> (u64, usize, u8, u64) {
     match found {
         Found::Held { serial, bytes, end } => {
-            let (length, first) = brief(&bytes);
+            let first = bytes.as_slice().first().copied().unwrap_or(0);
             let next = match end {
                 Some(end) => end.0.saturating_sub(T0),
                 None => 99,
             };
-            (serial.0.saturating_sub(T0), length, first, next)
+            (serial.0.saturating_sub(T0), bytes.len(), first, next)
         }
         Found::Absent { serial } => (serial.0.saturating_sub(T0), 0, 0, 99),
         Found::Nothing => (99, 0, 0, 99),
@@ -77,43 +77,28 @@ fn revisions_below_a_front(rt: HostRuntime) -> Result<(), Fail> {
 }
 
 #[test]
-fn a_history_is_newest_first(rt: HostRuntime) -> Result<(), Fail> {
+fn lists_are_newest_first(rt: HostRuntime) -> Result<(), Fail> {
     let alloc = rt.alloc();
     let mut store = store_of(alloc, ROWS)?;
-    let lines = store.history(alloc, Oid(5))?;
-    assert_eq!(rt; lines.len(), 3);
+    let revisions = store.history(alloc, Oid(5))?;
+    assert_eq!(rt; revisions.len(), 3);
     let want = [
         (4_u8, Some(2), b"redo".as_slice()),
-        (3, None, b"undo".as_slice()),
-        (2, Some(2), b"two".as_slice()),
+        (3, None, b"undo"),
+        (2, Some(2), b"two"),
     ];
-    for (line, (place, size, description)) in lines.iter().zip(want.iter()) {
+    for (line, (place, size, description)) in revisions.as_slice().iter().zip(want.iter()) {
         assert_eq!(rt; line.tid, Tid(T0 + *place as u64));
         assert_eq!(rt; line.size, *size);
         assert_eq!(rt; line.description.as_slice(), *description);
-        assert!(rt; line.user.is_empty());
     }
     assert!(rt; store.history(alloc, Oid(7))?.is_empty());
-    Ok(())
-}
-
-#[test]
-fn an_undo_log_is_newest_first(rt: HostRuntime) -> Result<(), Fail> {
-    let alloc = rt.alloc();
-    let mut store = store_of(alloc, ROWS)?;
     let lines = store.undo_log(alloc)?;
     assert_eq!(rt; lines.len(), 6);
-    let want = [
-        (5_u8, b"again".as_slice()),
-        (4, b"redo".as_slice()),
-        (3, b"undo".as_slice()),
-        (2, b"two".as_slice()),
-        (1, b"one".as_slice()),
-        (0, b"initial database creation".as_slice()),
-    ];
-    for (line, (place, description)) in lines.iter().zip(want.iter()) {
-        assert_eq!(rt; line.tid, Tid(T0 + *place as u64));
-        assert_eq!(rt; line.description.as_slice(), *description);
+    let rows = ROWS.iter().rev();
+    for (line, row) in lines.as_slice().iter().zip(rows) {
+        assert_eq!(rt; line.tid, Tid(T0 + row.place as u64));
+        assert_eq!(rt; line.description.as_slice(), row.description);
         assert!(rt; line.user.is_empty());
     }
     Ok(())

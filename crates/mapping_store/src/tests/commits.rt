@@ -36,8 +36,8 @@ fn commit_to<St: Store>(
     Ok(())
 }
 
-/// Commits through the bound.
-fn commit_through(alloc: Global, store: &mut MappingStore, row: Row<'_>) -> Result<(), Fail>
+/// Votes a transaction, and finishes it or drops it.
+fn vote(alloc: Global, store: &mut MappingStore, row: Row, finishes: bool) -> Result<(), Fail>
     requires { (⟦<MappingStore as Store>⟧.state store.old).voted ≡ None }
     ensures { OnOk result ((⟦<MappingStore as Store>⟧.state store.new).voted ≡ None) }
 {
@@ -45,78 +45,64 @@ fn commit_through(alloc: Global, store: &mut MappingStore, row: Row<'_>) -> Resu
     if !is_votable(store.list(), &new) {
         return Err(Fail::new("the transaction may be voted"));
     }
-    commit_to(alloc, store, &new)?;
-    Ok(())
-}
-
-/// Votes a transaction and drops it.
-fn vote_and_abort(alloc: Global, store: &mut MappingStore, row: Row<'_>) -> Result<(), Fail>
-    requires { (⟦<MappingStore as Store>⟧.state store.old).voted ≡ None }
-    ensures { OnOk result ((⟦<MappingStore as Store>⟧.state store.new).voted ≡ None) }
-{
-    let new = new_transaction(alloc, row)?;
-    if !is_votable(store.list(), &new) {
-        return Err(Fail::new("the transaction may be voted"));
+    if finishes {
+        commit_to(alloc, store, &new)?;
+        return Ok(());
     }
     store.vote(alloc, &new)?;
     store.abort()?;
     Ok(())
 }
 
-/// How far the newest tid is behind T0, the greatest oid, the pack point, the number of changes and
-/// that of transactions.
-fn numbers(store: &MappingStore) -> (u64, u64, u64, u64, usize) {
+/// Transactions, whether each is finished, and then how far the newest tid is behind T0, the greatest
+/// oid, and how many changes and transactions there are. A vote that is dropped leaves the list, and
+/// its number may be voted again.
+const VOTES: &[(Row, bool, (u64, u64, u64, usize))] = &[
     (
-        store.newest().0.saturating_sub(T0),
-        store.greatest_oid().0,
-        store.pack_point().0,
-        store.changes_to(Tid(u64::MAX)),
-        store.list().len(),
-    )
-}
+        Row {
+            place: 1,
+            description: b"",
+            changes: &[(9, Put::Bytes(b"x"))],
+        },
+        false,
+        (0, 0, 1, 1),
+    ),
+    (
+        Row {
+            place: 1,
+            description: b"",
+            changes: &[(1, Put::Bytes(b"abc"))],
+        },
+        true,
+        (1, 1, 2, 2),
+    ),
+    (
+        Row {
+            place: 2,
+            description: b"",
+            changes: &[(2, Put::Bytes(b"y")), (1, Put::Absent)],
+        },
+        true,
+        (2, 2, 4, 3),
+    ),
+];
 
-/// The list of the first commit: the root at T0, and object 1 at the next tid.
 #[test]
-fn the_first_commit_counts(rt: HostRuntime) -> Result<(), Fail> {
+fn numbers_behind_each_vote(rt: HostRuntime) -> Result<(), Fail> {
     let alloc = rt.alloc();
     let mut store = new_store(alloc)?;
-    assert_eq!(rt; numbers(&store), (0, 0, 0, 1, 1));
-    let row = Row {
-        place: 1,
-        description: b"",
-        changes: &[(1, Put::Bytes(b"abc"))],
-    };
-    commit_through(alloc, &mut store, row)?;
-    assert_eq!(rt; numbers(&store), (1, 1, 0, 2, 2));
-    for (tid, count) in [(T0 - 1, 0), (T0, 1), (T0 + 1, 2), (u64::MAX, 2)] {
+    for (row, finishes, want) in VOTES {
+        vote(alloc, &mut store, *row, *finishes)?;
+        let newest = store.newest().0.saturating_sub(T0);
+        let changes = store.changes_to(Tid(u64::MAX));
+        let numbers = (newest, store.greatest_oid().0, changes, store.list().len());
+        assert_eq!(rt; numbers, *want, "behind {}", row.place);
+        assert_eq!(rt; store.pack_point(), Tid(0), "behind {}", row.place);
+    }
+    for (tid, count) in [(T0 - 1, 0), (T0, 1), (T0 + 1, 2), (u64::MAX, 4)] {
         assert_eq!(rt; store.changes_to(Tid(tid)), count, "up to {tid}");
     }
-    for (oid, serial) in [(0, T0), (1, T0 + 1), (2, 0)] {
-        assert_eq!(rt; store.serial_of(Oid(oid)), Tid(serial), "of {oid}");
-    }
-    Ok(())
-}
-
-/// A vote that is dropped leaves the list, and its number may be voted again.
-#[test]
-fn an_aborted_vote_leaves_nothing(rt: HostRuntime) -> Result<(), Fail> {
-    let alloc = rt.alloc();
-    let mut store = new_store(alloc)?;
-    let dropped = Row {
-        place: 1,
-        description: b"",
-        changes: &[(9, Put::Bytes(b"x"))],
-    };
-    vote_and_abort(alloc, &mut store, dropped)?;
-    assert_eq!(rt; numbers(&store), (0, 0, 0, 1, 1));
-    let row = Row {
-        place: 1,
-        description: b"",
-        changes: &[(2, Put::Bytes(b"y")), (1, Put::Absent)],
-    };
-    commit_through(alloc, &mut store, row)?;
-    assert_eq!(rt; numbers(&store), (1, 2, 0, 3, 2));
-    for (oid, serial) in [(1, T0 + 1), (9, 0)] {
+    for (oid, serial) in [(0, T0), (1, T0 + 2), (2, T0 + 2), (9, 0)] {
         assert_eq!(rt; store.serial_of(Oid(oid)), Tid(serial), "of {oid}");
     }
     Ok(())

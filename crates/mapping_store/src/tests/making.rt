@@ -12,8 +12,8 @@ pub const T0: u64 = 0x03f5_8e00_0000_0000;
 
 /// What a test makes of an object.
 #[derive(Clone, Copy)]
-pub enum Put<'a> {
-    Bytes(&'a [u8]),
+pub enum Put {
+    Bytes(&'static [u8]),
     Absent,
     /// As it was so far behind T0.
     AsOf(u8),
@@ -21,13 +21,13 @@ pub enum Put<'a> {
 
 /// A transaction of a test: how far behind T0 its tid is, what it is for, and its changes.
 #[derive(Clone, Copy)]
-pub struct Row<'a> {
+pub struct Row {
     pub place: u8,
-    pub description: &'a [u8],
-    pub changes: &'a [(u64, Put<'a>)],
+    pub description: &'static [u8],
+    pub changes: &'static [(u64, Put)],
 }
 
-fn new_content(alloc: Global, put: Put<'_>) -> Result<NewContent, AllocError> {
+fn new_content(alloc: Global, put: Put) -> Result<NewContent, AllocError> {
     match put {
         Put::Bytes(bytes) => Ok(NewContent::Bytes(Text8::from_slice(alloc, bytes)?)),
         Put::Absent => Ok(NewContent::Absent),
@@ -35,7 +35,7 @@ fn new_content(alloc: Global, put: Put<'_>) -> Result<NewContent, AllocError> {
     }
 }
 
-fn new_changes(alloc: Global, changes: &[(u64, Put<'_>)]) -> Result<ListOf<NewChange>, AllocError> {
+fn new_changes(alloc: Global, changes: &[(u64, Put)]) -> Result<ListOf<NewChange>, AllocError> {
     let mut list = ListOf::new(alloc);
     for (oid, put) in changes {
         let content = new_content(alloc, *put)?;
@@ -48,7 +48,7 @@ fn new_changes(alloc: Global, changes: &[(u64, Put<'_>)]) -> Result<ListOf<NewCh
 }
 
 /// The new transaction of a row, without a user.
-pub fn new_transaction(alloc: Global, row: Row<'_>) -> Result<NewTransaction, AllocError> {
+pub fn new_transaction(alloc: Global, row: Row) -> Result<NewTransaction, AllocError> {
     let description = Text8::from_slice(alloc, row.description)?;
     let changes = new_changes(alloc, row.changes)?;
     Ok(NewTransaction {
@@ -84,7 +84,7 @@ pub fn commit(alloc: Global, store: &mut MappingStore, new: &NewTransaction) -> 
 }
 
 /// A store with the first transaction, and those of the rows behind it.
-pub fn store_of(alloc: Global, rows: &[Row<'_>]) -> Result<MappingStore, Fail>
+pub fn store_of(alloc: Global, rows: &[Row]) -> Result<MappingStore, Fail>
     ensures { IfOk result (λ store. (⟦<MappingStore as Store>⟧.state store).voted ≡ None) }
 {
     let mut store = new_store(alloc)?;
@@ -93,9 +93,4 @@ pub fn store_of(alloc: Global, rows: &[Row<'_>]) -> Result<MappingStore, Fail>
         commit(alloc, &mut store, &new)?;
     }
     Ok(store)
-}
-
-/// The number of bytes and the first one, or 0.
-pub fn brief(bytes: &Text8) -> (usize, u8) {
-    (bytes.len(), bytes.as_slice().first().copied().unwrap_or(0))
 }
