@@ -98,19 +98,92 @@ fn read_source_counts_errors(rt: HostRuntime) {
     assert_eq!(rt; source.faults(), 1);
 }
 
+// Is interrupted before every byte, which it then reads or takes.
+#[derive(Drop)]
+struct Interrupted {
+    bytes: Vec<u8>,
+    interrupts: u64,
+    at_byte: bool,
+}
+
+impl Interrupted {
+    fn new(bytes: Vec<u8>) -> Interrupted {
+        Interrupted {
+            bytes,
+            interrupts: 0,
+            at_byte: false,
+        }
+    }
+
+    // Answers each first call with an error.
+    fn turn(&mut self) -> io::Result<()> {
+        self.at_byte = !self.at_byte;
+        if self.at_byte {
+            self.interrupts = self.interrupts.saturating_add(1);
+            return Err(ErrorKind::Interrupted.into());
+        }
+        Ok(())
+    }
+}
+
+impl Read for Interrupted {
+    fn read(&mut self, buf: &mut [u8]) -> io::Result<usize> {
+        self.turn()?;
+        if buf.is_empty() {
+            return Ok(0);
+        }
+        match self.bytes.pop() {
+            Some(byte) => {
+                buf[0] = byte;
+                Ok(1)
+            }
+            None => Ok(0),
+        }
+    }
+}
+
+impl Write for Interrupted {
+    fn write(&mut self, buf: &[u8]) -> io::Result<usize> {
+        self.turn()?;
+        let count = buf.len().min(1);
+        self.bytes.extend_from_slice(&buf[..count])?;
+        Ok(count)
+    }
+
+    fn flush(&mut self) -> io::Result<()> {
+        Ok(())
+    }
+}
+
 #[test]
-fn read_source_reads_the_host(rt: HostRuntime) -> Result<(), Fail> {
-    let mut source = ReadSource::new(fs::open(&rt, "/dev/zero")?);
-    assert_eq!(rt; read_four(&mut source), (Ok(4), [0; 4]));
+fn interrupted_calls_are_made_again(rt: HostRuntime) -> Result<(), Fail> {
+    let mut reader = Interrupted::new(b"cba".to_vec(rt.alloc())?);
+    let mut source = ReadSource::new(&mut reader);
+    let all = read_all(rt.alloc(), &mut source, 3)?;
+    assert_eq!(rt; all.as_slice(), b"abc".as_slice());
     assert_eq!(rt; source.faults(), 0);
+    assert_eq!(rt; reader.interrupts, 4);
+    let mut writer = Interrupted::new(Vec::new(rt.alloc()));
+    let mut sink = WriteSink::new(&mut writer);
+    assert_eq!(rt; write_all(&mut sink, b"abc"), Ok(()));
+    assert_eq!(rt; sink.faults(), 0);
+    assert_eq!(rt; writer.interrupts, 3);
+    assert_eq!(rt; writer.bytes.as_slice(), b"abc".as_slice());
     Ok(())
 }
 
 #[test]
-fn write_sink_writes_to_the_host(rt: HostRuntime) -> Result<(), Fail> {
+fn adapters_ask_the_host(rt: HostRuntime) -> Result<(), Fail> {
+    let mut source = ReadSource::new(fs::open(&rt, "/dev/zero")?);
+    assert_eq!(rt; read_four(&mut source), (Ok(4), [0; 4]));
+    assert_eq!(rt; source.faults(), 0);
     let mut sink = WriteSink::new(fs::create(&rt, "/dev/null")?);
     assert_eq!(rt; sink.write(b"abc"), Ok(3));
     assert_eq!(rt; sink.faults(), 0);
+    let mut clock = HostClock::new(&rt);
+    let first = clock.stamp();
+    assert!(rt; first > Stamp::new(2024, 1, 1, 0, 0, 0)?);
+    assert!(rt; clock.stamp() >= first);
     Ok(())
 }
 
@@ -248,14 +321,5 @@ fn host_clock_gives_the_stamp_of_the_moment(rt: HostRuntime) -> Result<(), Fail>
         let since = moment.map(|(seconds, nanos)| Duration::new(seconds, nanos));
         assert_eq!(rt; HostClock::new(FixedHost(since)).stamp(), want);
     }
-    Ok(())
-}
-
-#[test]
-fn host_clock_reads_the_host(rt: HostRuntime) -> Result<(), Fail> {
-    let mut clock = HostClock::new(&rt);
-    let first = clock.stamp();
-    assert!(rt; first > Stamp::new(2024, 1, 1, 0, 0, 0)?);
-    assert!(rt; clock.stamp() >= first);
     Ok(())
 }

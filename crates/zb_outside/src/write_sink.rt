@@ -1,14 +1,16 @@
 //! A sink over std's writers.
 
-ghost use Rattle.std.specs.Prelude.{◌≡◌};
+ghost use Rattle.std.specs.Prelude.{◌≡◌, ◌≤◌, length, IfOk};
+ghost use Rattle.std.specs.Io.KnownBytes.{WriteAppends};
 
 use crate::failed::Failed;
 use crate::sink::Sink;
-use std::io::Write;
+use std::io;
+use std::io::{ErrorKind, Write};
 
 /// A sink that writes to a writer of std, as a file, a socket or the standard output. It tells of
-/// the bytes what the writer tells. Each error of the writer is counted as a fault, and so is a
-/// write of some bytes that takes none.
+/// the bytes what the writer tells. A write that a signal interrupted is tried again, and each other
+/// error of the writer is counted as a fault, and so is a write of some bytes that takes none.
 #[derive(Debug, Drop)]
 pub struct WriteSink<W: Write> {
     writer: W,
@@ -32,13 +34,31 @@ impl<W: Write> WriteSink<W> {
     }
 }
 
+// A write that is tried again where a signal interrupted it.
+fn write_again<W: Write>(writer: &mut W, bytes: &[u8]) -> io::Result<usize>
+    ensures fits { IfOk result (λ count. count ≤ length bytes.now) }
+    ensures bytes { WriteAppends (W.contents writer.old) (W.contents writer.new) result bytes.now }
+{
+    for _ in 0..u64::MAX {
+        match writer.write(bytes) {
+            Ok(count) => return Ok(count),
+            Err(error) => {
+                if error.kind() != ErrorKind::Interrupted {
+                    return Err(error);
+                }
+            }
+        }
+    }
+    Err(io::Error::from(ErrorKind::Interrupted))
+}
+
 impl<W: Write> Sink for WriteSink<W> {
     ghost taken = { λ sink. W.contents sink.writer };
 
     ghost faults = { λ sink. sink.faults };
 
     fn write(&mut self, bytes: &[u8]) -> Result<usize, Failed> {
-        match self.writer.write(bytes) {
+        match write_again(&mut self.writer, bytes) {
             Ok(count) if count > 0 || bytes.is_empty() => Ok(count),
             _ => {
                 self.faults = self.faults.saturating_add(1);

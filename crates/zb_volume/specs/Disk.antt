@@ -66,4 +66,3 @@ area_length log a = length (seen log a)
 -- nothing is pending
 abbrev pub IsSettled : List Event → Area → Type 0
 IsSettled log a = disk log a ≡ settled (seen log a)
-

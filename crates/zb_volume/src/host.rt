@@ -2,16 +2,27 @@
 
 ghost use Rattle.std.specs.Prelude.{◌≡◌, [], IfOk};
 
-use crate::host_files::AreaFiles;
+use crate::host_files::{AreaFiles, LockFile};
 use crate::{Area, StoreFault, Volume};
 use std::alloc::{AllocError, Global};
 use std::rt::Files;
 
 /// A volume whose areas are two files of one folder: Main is PATH, and Side is PATH followed by
-/// `.side`. It tells nothing of them; what it takes the host to do is this.
+/// `.side`. Where PATH is a link, its file is meant, and the folder is that file's. It tells nothing of
+/// them; what it takes the host to do is this.
 ///
-/// The files are opened at the first call. One that isn't there is made empty, and then the folder is
-/// synced (`fsync`), so that a crash doesn't take the file away again.
+/// The files are opened at the first call, Main ahead of Side. Either has to be a regular file or not
+/// to be there: anything else, a link in Side's place too, is a fault. One that isn't there is made
+/// empty. Then the folder is synced (`fsync`), so that a crash doesn't take a new file away again.
+/// Side's file gets the mode of Main's.
+///
+/// Each file is locked when it is opened (`flock`, exclusive, not waited for), until the volume is
+/// dropped or the process ends, however it ends. Where another open of Main's file has locked it, the
+/// call is a fault and nothing is done to either file. A file that takes Main's place is locked before
+/// it does.
+///
+/// No file has a descriptor below 3 (`fcntl` with `F_DUPFD_CLOEXEC`), so that what is written to a
+/// standard stream that was closed doesn't come into it.
 ///
 /// - A read gives what was written: `lseek` with `read`, and `lseek` with `write`.
 /// - Between two syncs each byte of a file is after a crash as at the last one or as some write since
@@ -25,8 +36,8 @@ use std::rt::Files;
 ///   next call makes one.
 ///
 /// A read or a write of any size is one call of the host and one to find the place, as long as the
-/// host takes it whole. Any error of the host is a fault of that call. No other process may touch the
-/// files.
+/// host takes it whole. Any error of the host is a fault of that call. A process that doesn't ask for
+/// the lock may not touch the files.
 #[derive(Drop)]
 pub struct HostVolume<R: Files> {
     files: AreaFiles<R>,
@@ -34,7 +45,10 @@ pub struct HostVolume<R: Files> {
     write_faults: u64,
 }
 
-impl<R: Files + Drop> HostVolume<R> {
+impl<R: Files + Drop> HostVolume<R>
+where
+    R::File: LockFile,
+{
     /// A volume over the files PATH and PATH.side. Nothing is opened yet.
     pub fn new(alloc: Global, runtime: R, path: &str) -> Result<HostVolume<R>, AllocError>
         ensures read_faults { IfOk result (λ v. ⟦<HostVolume<R> as Volume>⟧.read_faults v ≡ 0) }
@@ -48,7 +62,10 @@ impl<R: Files + Drop> HostVolume<R> {
     }
 }
 
-impl<R: Files + Drop> Volume for HostVolume<R> {
+impl<R: Files + Drop> Volume for HostVolume<R>
+where
+    R::File: LockFile,
+{
     ghost told = { ⊥ };
 
     ghost log = { λ _. [] };

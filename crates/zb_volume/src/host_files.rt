@@ -4,14 +4,28 @@ ghost use Rattle.std.specs.Prelude.{◌+◌, ◌<◌, ◌^◌, length, IfOk, OnO
 
 use crate::Area;
 use std::alloc::{AllocError, Global};
-use std::fs::{OpenFile, OpenOptions};
+use std::fs::{File, OpenFile, OpenOptions, Permissions};
 use std::io::{ErrorKind, Read, Seek, SeekFrom, Write};
+use std::os::unix::fs::MetadataExt;
 use std::path::Path;
 use std::rt::Files;
 use std::{fs, io};
 
 // The greatest length of a file in bytes.
 const MAX_LENGTH: u64 = (1 << 63) - 1;
+
+/// An open file that can be locked for the one that opened it.
+pub trait LockFile {
+    /// Locks the whole file until it is closed, or answers an error at once where another open of the
+    /// same file has locked it.
+    fn lock_alone(&self) -> io::Result<()>;
+}
+
+impl LockFile for File {
+    fn lock_alone(&self) -> io::Result<()> {
+        Ok(self.try_lock()?)
+    }
+}
 
 // The file of an area, once it is open.
 #[derive(Drop)]
@@ -24,29 +38,54 @@ fn invalid() -> io::Error {
     io::Error::from(ErrorKind::InvalidInput)
 }
 
-// Opens a file to read and write it, and tells whether it was made.
-fn open_or_make<R: Files>(runtime: &R, path: &str) -> io::Result<(R::File, bool)> {
-    let mut options = OpenOptions::new();
-    options.read(true).write(true);
-    match options.open(runtime, path) {
-        Ok(file) => Ok((file, false)),
-        Err(error) if error.kind() == ErrorKind::NotFound => {
-            options.create_new(true);
-            Ok((options.open(runtime, path)?, true))
-        }
+// Whether a regular file stands at a path, or nothing. Anything else, a link too, is an error.
+fn has_file<R: Files>(runtime: &R, path: &str) -> io::Result<bool> {
+    match fs::symlink_metadata(runtime, path) {
+        Ok(found) if found.is_file() => Ok(true),
+        Ok(_) => Err(invalid()),
+        Err(error) if error.kind() == ErrorKind::NotFound => Ok(false),
         Err(error) => Err(error),
     }
 }
 
+// Whether an open file is a regular one, and still the one at its path.
+fn is_at<R: Files>(runtime: &R, path: &str, file: &R::File) -> io::Result<bool> {
+    let opened = file.metadata()?;
+    let named = fs::symlink_metadata(runtime, path)?;
+    Ok(
+        opened.is_file()
+            && named.is_file()
+            && opened.dev() == named.dev()
+            && opened.ino() == named.ino(),
+    )
+}
+
+// Opens a regular file to read and write it, or makes one where nothing stands at the path, and locks
+// it.
+fn open_or_make<R: Files>(runtime: &R, path: &str) -> io::Result<R::File>
+where
+    R::File: LockFile,
+{
+    let there = has_file(runtime, path)?;
+    let mut options = OpenOptions::new();
+    options.read(true).write(true).create_new(!there);
+    let opened = options.open(runtime, path)?;
+    // The descriptor of a clone is above 2: where the standard output was closed, what is opened
+    // first gets its number, and would be written over.
+    let file = opened.try_clone()?;
+    file.lock_alone()?;
+    if !is_at(runtime, path, &file)? {
+        return Err(invalid());
+    }
+    Ok(file)
+}
+
 impl<R: Files> AreaFile<R> {
-    // Opens the file where it isn't open yet, and tells whether it was made.
-    fn open(&mut self, runtime: &R) -> io::Result<bool> {
-        if self.file.is_some() {
-            return Ok(false);
-        }
-        let (file, made) = open_or_make(runtime, self.path.as_str())?;
-        self.file = Some(file);
-        Ok(made)
+    fn permissions(&self) -> io::Result<Permissions> {
+        let Some(file) = &self.file else {
+            return Err(invalid());
+        };
+        Ok(file.metadata()?.permissions())
     }
 
     fn len(&self) -> io::Result<u64>
@@ -105,8 +144,8 @@ pub struct AreaFiles<R: Files> {
     folder: String,
     main: AreaFile<R>,
     side: AreaFile<R>,
-    // A file was made since the folder was synced.
-    made: bool,
+    // A file was opened or made since the folder was synced.
+    folder_pending: bool,
     // A sync answered an error.
     sync_failed: bool,
 }
@@ -123,15 +162,27 @@ fn folder_of(alloc: Global, path: &str) -> Result<String, AllocError> {
     Ok(folder)
 }
 
-impl<R: Files + Drop> AreaFiles<R> {
-    /// The files PATH and PATH.side, not opened yet.
+// The path of the file that a path leads to, links followed. One that leads to none stays as it is.
+fn without_links<R: Files>(alloc: Global, runtime: &R, path: &str) -> Result<String, AllocError> {
+    match runtime.canonicalize(alloc, path) {
+        Ok(found) => Ok(found.into_string()),
+        Err(error) if error.kind() == ErrorKind::OutOfMemory => Err(AllocError),
+        Err(_) => String::from_str(alloc, path),
+    }
+}
+
+impl<R: Files + Drop> AreaFiles<R>
+where
+    R::File: LockFile,
+{
+    /// The files PATH and PATH.side, not opened yet. Where PATH is a link, its file is meant.
     pub fn new(alloc: Global, runtime: R, path: &str) -> Result<AreaFiles<R>, AllocError> {
-        let main = String::from_str(alloc, path)?;
-        let mut side = String::from_str(alloc, path)?;
+        let main = without_links(alloc, &runtime, path)?;
+        let mut side = String::from_str(alloc, main.as_str())?;
         side.push_str(".side")?;
         Ok(AreaFiles {
             runtime,
-            folder: folder_of(alloc, path)?,
+            folder: folder_of(alloc, main.as_str())?,
             main: AreaFile {
                 path: main,
                 file: None,
@@ -140,7 +191,7 @@ impl<R: Files + Drop> AreaFiles<R> {
                 path: side,
                 file: None,
             },
-            made: false,
+            folder_pending: false,
             sync_failed: false,
         })
     }
@@ -152,17 +203,41 @@ impl<R: Files + Drop> AreaFiles<R> {
         synced
     }
 
-    // Opens the files that aren't open. Where one was made, the folder is synced.
+    // Opens Main's file. Where something else than a file stands in Side's place, it isn't made either.
+    fn open_main(&mut self) -> io::Result<()> {
+        if self.main.file.is_some() {
+            return Ok(());
+        }
+        has_file(&self.runtime, self.side.path.as_str())?;
+        self.main.file = Some(open_or_make(&self.runtime, self.main.path.as_str())?);
+        self.folder_pending = true;
+        Ok(())
+    }
+
+    // Opens Side's file, once Main's is locked, and gives it the mode of Main's. It is locked too,
+    // since it is to become Main's.
+    fn open_side(&mut self) -> io::Result<()> {
+        if self.side.file.is_some() {
+            return Ok(());
+        }
+        let wanted = self.main.permissions()?;
+        let file = open_or_make(&self.runtime, self.side.path.as_str())?;
+        if file.metadata()?.permissions() != wanted {
+            file.set_permissions(wanted)?;
+        }
+        self.side.file = Some(file);
+        self.folder_pending = true;
+        Ok(())
+    }
+
+    // Opens the files that aren't open, and then syncs the folder: a file may just have been made, or
+    // put in Main's place by a process that was stopped ahead of its sync.
     fn open(&mut self) -> io::Result<()> {
-        if self.main.open(&self.runtime)? {
-            self.made = true;
-        }
-        if self.side.open(&self.runtime)? {
-            self.made = true;
-        }
-        if self.made {
+        self.open_main()?;
+        self.open_side()?;
+        if self.folder_pending {
             self.sync_folder()?;
-            self.made = false;
+            self.folder_pending = false;
         }
         Ok(())
     }

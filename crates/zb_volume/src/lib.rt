@@ -16,6 +16,7 @@ mod volumes;
 pub use areas::{Area, StoreFault};
 pub use durable::{cut_and_sync, sync_and_replace, write_and_sync};
 pub use host::HostVolume;
+pub use host_files::LockFile;
 pub use journal::append_record;
 pub use laws::{
     bytes_mix_one_by_one, calls_have_no_moments_of_their_own, earlier_moments_leave_more,

@@ -3,16 +3,24 @@
 #![tactic(auto)]
 
 use std::env;
+use std::io::ErrorKind;
 use std::process::ExitCode;
 use zb_outside::{HostClock, ReadSource, WriteSink};
 use zb_volume::HostVolume;
 use zodb_top::{Status, zodb_main};
 
-/// The words behind the program's name.
+/// The words behind the program's name. Where one isn't UTF-8 there are none, so that they are no
+/// command.
 fn words_of(rt: &HostRuntime) -> Option<Vec<String>> {
     let mut words = Vec::new(rt.alloc());
-    for word in env::args(rt).ok()?.skip(1) {
-        words.push(word).ok()?;
+    match env::args(rt) {
+        Ok(all) => {
+            for word in all.skip(1) {
+                words.push(word).ok()?;
+            }
+        }
+        Err(error) if error.kind() == ErrorKind::OutOfMemory => return None,
+        Err(_) => {}
     }
     Some(words)
 }

@@ -1,7 +1,8 @@
 // The host's files, with a log of the calls that matter for what a crash leaves.
+use crate::LockFile;
 use std::alloc::{Allocator, Global};
 use std::cell::{Cell, RefCell};
-use std::fs::{File, Metadata, OpenFile, OpenOptions};
+use std::fs::{File, Metadata, OpenFile, OpenOptions, Permissions};
 use std::io::{Read, Seek, SeekFrom, Write};
 use std::rt::Files;
 use std::test::Fail;
@@ -14,6 +15,9 @@ pub enum HostCall {
     Write,
     SetLength,
     Length,
+    Duplicate,
+    Lock,
+    SetMode,
     SyncFile,
     SyncFolder,
     Rename,
@@ -110,6 +114,27 @@ impl<'a> OpenFile for Recorded<'a> {
 
     fn sync_data(&self) -> io::Result<()> {
         self.file.sync_data()
+    }
+
+    fn set_permissions(&self, permissions: Permissions) -> io::Result<()> {
+        self.log.add(HostCall::SetMode)?;
+        self.file.set_permissions(permissions)
+    }
+
+    fn try_clone(&self) -> io::Result<Recorded<'a>> {
+        self.log.add(HostCall::Duplicate)?;
+        Ok(Recorded {
+            file: self.file.try_clone()?,
+            is_folder: self.is_folder,
+            log: self.log,
+        })
+    }
+}
+
+impl<'a> LockFile for Recorded<'a> {
+    fn lock_alone(&self) -> io::Result<()> {
+        self.log.add(HostCall::Lock)?;
+        self.file.lock_alone()
     }
 }
 
