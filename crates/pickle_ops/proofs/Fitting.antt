@@ -1,6 +1,6 @@
 -- What is spelled behind an opcode fits it.
-use Rattle.std.proofs.Common.{◌≡◌, ℕ, ℤ, zero, suc, pos, ◌^◌, ◌<◌, ◌≤◌, Bool, true, false, List, [], ◌∷◌, ◌++◌, length, take, drop, Some, refl, sym, ◌∙◌, ap, subst, cond, ltb, eqb, arith}
-use Rattle.std.specs.Prelude.{slice_index, ◌-ℤ◌}
+use Rattle.std.proofs.Common.{◌≡◌, ℕ, ℤ, zero, suc, pos, ◌^◌, ◌<◌, ◌≤◌, Bool, true, false, List, [], ◌∷◌, ◌++◌, length, Some, refl, sym, ◌∙◌, ap, subst, cond, ltb, eqb, arith}
+use Rattle.std.specs.Prelude.{◌-ℤ◌}
 use Rattle.std.specs.Str.{is_utf8}
 use Rattle.std.proofs.lemmas.Bool.{ltb-true, ltb-false}
 use Rattle.std.proofs.lemmas.Int.{ints}
@@ -12,7 +12,7 @@ use Rattle.pickle_ops.specs.declared.table.Op.{Op}
 use Rattle.pickle_ops.specs.Rows.{row_in}
 use Rattle.pickle_ops.specs.Grammar.{SpellsNumber, SpellsCounted, SpellsLines, IsArgument, IsToken, unsigned_value, signed_value}
 use Rattle.pickle_ops.specs.Fits.{IsBelow, IsSigned32, IsNothing, IsShortText, Fits}
-use Rattle.zb_base.specs.Bytes.{AreBytes, AreBytes-take, AreBytes-drop}
+use Rattle.zb_base.specs.Bytes.{AreBytes}
 
 front-bytes : (front rest : List ℕ) → AreBytes (front ++ rest) → AreBytes front
 front-bytes [] rest h k = omega arith

@@ -49,6 +49,7 @@ abbrev pub signed_span : ℤ → List ℕ → Found
 signed_span (pos count) rest = span 4 count rest
 signed_span (negsuc n) rest = Err BadText
 
+-- a length of four bytes in two's complement, and the bytes that it counts
 abbrev pub signed_counted : List ℕ → Found
 signed_counted rest =
     if nat_lt (length rest) 4 then Err Missing else signed_span (twos_complement 4 (little_number 4 rest)) rest
@@ -58,9 +59,11 @@ abbrev pub checked : List ℕ → Found → Found
 checked rest (Err fault) = Err fault
 checked rest (Ok a) = if is_utf8 (held_in rest a) then Ok a else Err BadText
 
+-- a length of four bytes, and so many bytes of UTF-8
 abbrev pub text : List ℕ → Found
 text rest = checked rest (counted_bytes 4 rest)
 
+-- the byte ends a line
 abbrev pub is_newline : ℕ → Bool
 is_newline byte = byte == 10
 
@@ -71,10 +74,12 @@ second_line rest i (Some j) =
     if is_utf8 (take i rest) then if is_utf8 (take j (drop (i + 1) rest)) then Ok (record { number = pos 0; before = 0; length = i + 1 + j + 1 })
     else Err BadText else Err BadText
 
+-- two lines, of which the first ends at the place given
 abbrev pub lines_from : List ℕ → Option ℕ → Found
 lines_from rest None = Err Missing
 lines_from rest (Some i) = second_line rest i (position is_newline (drop (i + 1) rest))
 
+-- two lines of UTF-8, each with its newline
 abbrev pub two_lines : List ℕ → Found
 two_lines rest = lines_from rest (position is_newline rest)
 

@@ -29,6 +29,7 @@ abbrev pub is_one_line : List ℕ → Bool
 is_one_line [] = true
 is_one_line (byte ∷ bytes) = if byte == 10 then false else is_one_line bytes
 
+-- UTF-8 without a newline
 pub record IsGlobalLine (line : List ℕ) : Type 0 where
   pub one : is_one_line line ≡ true
   pub utf8 : is_utf8 line ≡ true
@@ -47,6 +48,7 @@ pub record SpellsLines (text : List ℕ) (number : ℤ) (held : List ℕ) : Type
 abbrev pub unsigned_value : ℕ → List ℕ → ℤ
 unsigned_value size bytes = pos (little_number size bytes)
 
+-- the number in two's complement that so many bytes stand for, the lowest first
 abbrev pub signed_value : ℕ → List ℕ → ℤ
 signed_value size bytes = twos_complement size (little_number size bytes)
 

@@ -27,6 +27,7 @@ token_placed at op (Err fault) = Err (refusal at fault)
 token_placed at op (Ok a) =
     Ok (record { op = op; number = a.number; start = at + 1 + a.before; length = a.length }, at + 1 + a.before + a.length)
 
+-- the token of a row of the table, if its byte has one
 abbrev pub row_token : ℕ → ℕ → List ℕ → Option Row → Read
 row_token at byte rest None = Err (UnknownOp at byte)
 row_token at byte rest (Some row) = token_placed at row.op (argument_in row.kind rest)

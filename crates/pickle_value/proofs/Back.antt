@@ -1,5 +1,6 @@
 -- What is written reads back.
-use Rattle.std.proofs.Common.{◌≡◌, ℕ, zero, suc, ◌+◌, ◌<◌, ◌≤◌, pos, Bool, true, false, cond, List, [], ◌∷◌, ◌++◌, length, Option, Some, Ok, Err, refl, arith, sym, ◌∙◌, ap, subst, length-append, inl, inr}
+use Rattle.std.proofs.Common.{◌≡◌, ℕ, zero, suc, ◌+◌, ◌<◌, ◌≤◌, pos, Bool, true, false, cond, List, [], ◌∷◌, ◌++◌, length, Option, Some, Ok, Err, refl, arith, sym, ◌∙◌, ap, subst, length-append, append_assoc, inl, inr}
+use Rattle.std.proofs.lemmas.List.{append-nil}
 use Rattle.std.specs.Prelude.{slice_get}
 use Rattle.pickle_ops.specs.declared.table.Op.TheVariants as ops
 use Rattle.pickle_ops.specs.declared.table.Kind.TheVariants as args
@@ -15,15 +16,16 @@ use Rattle.pickle_value.specs.declared.reading.TheConstants.{NODE_LIMIT}
 use Rattle.pickle_value.specs.declared.parts.Part.{Part}
 use Rattle.pickle_value.specs.declared.parts.Part.TheVariants.{Byte}
 use Rattle.pickle_value.specs.declared.state.State.{State}
+use Rattle.pickle_value.specs.declared.state.Item.{Item}
 use Rattle.pickle_value.specs.declared.state.Item.TheVariants.{Value}
 use Rattle.pickle_value.specs.Graph.{Graph, AreNodes, IsNode, AllBelow, PairsBelow, ActsBelow, is_tuple}
-use Rattle.pickle_value.specs.Reading.{graphs, read_from, empty_state}
+use Rattle.pickle_value.specs.Reading.{graphs, read_from, root_of, graph_at, empty_state}
 use Rattle.pickle_value.specs.Parts.{item_parts, pair_parts, act_parts, tuple_parts, list_parts, dict_parts, object_parts, parts_of, items_in}
 use Rattle.pickle_value.specs.Walks.{has_walk}
 use Rattle.pickle_value.specs.Shared.{is_shared}
 use Rattle.pickle_value.specs.Spelling.{Piece, piece_of, node_piece, root_piece, pickled, Spelled}
 use Rattle.pickle_value.specs.Same.{has}
-use Rattle.pickle_value.specs.Laws.{ReadsSame, ReadsTooLarge, WrittenReadsBack}
+use Rattle.pickle_value.specs.Laws.{ReadsSame, ReadsAnywhere, ReadsTooLarge, WrittenReadsBack, WrittenReadsAnywhere}
 use Rattle.pickle_value.proofs.Walks.{clash, not_true, has-head, has-append, walk-item}
 use Rattle.pickle_value.proofs.Runs.{read_from-stop}
 use Rattle.pickle_value.proofs.Going.{Goes, goes_token, stops_right}
@@ -154,21 +156,35 @@ module _ (sr : SpelledIsRead) where
   nothing_stands : (g : Graph) → Stands g.nodes [] (empty_state NODE_LIMIT) []
   nothing_stands g = record { count = refl; tuples = λ i m e t. absurd cc; memo = λ m k e. absurd cc; few = omega arith; limit = omega arith }
 
-  reads-same : (g : Graph) (text : List ℕ) → text ≡ 0x80 ∷ 3 ∷ ((root_piece g.nodes g.root).text ++ 0x2e ∷ []) → has_walk (suc WALK_LIMIT) g.nodes g.root ≡ false →
-      Shown g.nodes g.root (root_piece g.nodes g.root) [] (visits (suc WALK_LIMIT) g.nodes (is_shared g.nodes g.root) g.root []) → (root_piece g.nodes g.root).made ≤ NODE_LIMIT → ReadsSame g text
-  reads-same g text whole short a room =
+  -- STOP, whatever follows
+  stop-read : (s : State) (v : ℕ) (below : List Item) (at : ℕ) (tail : List ℕ) → s.stack ≡ Value v ∷ below → read_from graphs 0 s at (0x2e ∷ tail) ≡ Ok (record { nodes = s.nodes; root = v }, at + 1)
+  stop-read s v below at tail e =
+      read_from-stop graphs s at (0x2e ∷ tail) (spelled_token at (0x2e ∷ []) ops.Stop (pos 0) []).0 (at + 1) (sr at (0x2e ∷ []) tail ops.Stop (pos 0) [] stop_token) refl (omega arith) (omega arith)
+      ∙ ap (root_of at (at + 1) s) e
+
+  reads-anywhere : (g : Graph) (text : List ℕ) → text ≡ 0x80 ∷ 3 ∷ ((root_piece g.nodes g.root).text ++ 0x2e ∷ []) → has_walk (suc WALK_LIMIT) g.nodes g.root ≡ false →
+      Shown g.nodes g.root (root_piece g.nodes g.root) [] (visits (suc WALK_LIMIT) g.nodes (is_shared g.nodes g.root) g.root []) → (root_piece g.nodes g.root).made ≤ NODE_LIMIT → ReadsAnywhere g text
+  reads-anywhere g text whole short a room =
       let p : Piece = root_piece g.nodes g.root in
       let x = a.built (empty_state NODE_LIMIT) [] (nothing_stands g) (omega (arith, room)) in
       let last : State = at_end (empty_state NODE_LIMIT) x.nodes (Value x.number ∷ []) x.memo in
       let copy : Graph = record { nodes = x.nodes; root = x.number } in
-      let at : ℕ = 2 + length p.text in
-      let stop : read_from graphs 0 last at (0x2e ∷ []) ≡ Ok (copy, at + 1) = read_from-stop graphs last at (0x2e ∷ []) (spelled_token at (0x2e ∷ []) ops.Stop (pos 0) []).0 (at + 1) (sr at (0x2e ∷ []) [] ops.Stop (pos 0) [] stop_token) refl (omega arith) (omega arith) in
-      let end : at + 1 ≡ length text = let e = ap length whole in omega (arith, e, length-append p.text (0x2e ∷ [])) in
       record {
         copy = copy;
-        reads = ap (read_from graphs 0 (empty_state NODE_LIMIT) 0) whole ∙ proto_goes (empty_state NODE_LIMIT) 0 (p.text ++ 0x2e ∷ []) ∙ x.goes 2 (0x2e ∷ []) ∙ stop ∙ ap (λ (k : ℕ). Ok (copy, k)) end;
+        reads = λ at tail.
+            let split : text ++ tail ≡ 0x80 ∷ 3 ∷ (p.text ++ 0x2e ∷ tail) = ap (λ (l : List ℕ). l ++ tail) whole ∙ ap (λ (l : List ℕ). 0x80 ∷ 3 ∷ l) (append_assoc p.text (0x2e ∷ []) tail) in
+            let end : at + 2 + length p.text + 1 ≡ at + length text = let e = ap length whole in omega (arith, e, length-append p.text (0x2e ∷ [])) in
+            ap (read_from graphs 0 (empty_state NODE_LIMIT) at) split ∙ proto_goes (empty_state NODE_LIMIT) at (p.text ++ 0x2e ∷ tail) ∙ x.goes (at + 2) (0x2e ∷ tail)
+            ∙ stop-read last x.number [] (at + 2 + length p.text) tail refl ∙ ap (λ (k : ℕ). Ok (copy, k)) end;
         same = record { origin = a.origins; each = x.copies; root = x.found; once = apart-times g.nodes a.origins (λ k held. let e = a.same k in let f = visits-once g.nodes g.root short k held in omega (arith, e, f)) };
       }
+
+  reads-same : (g : Graph) (text : List ℕ) → ReadsAnywhere g text → ReadsSame g text
+  reads-same g text r = record {
+    copy = r.copy;
+    reads = ap (graph_at NODE_LIMIT 0) (sym (append-nil text)) ∙ r.reads 0 [] ∙ ap (λ (k : ℕ). Ok (r.copy, k)) (omega arith);
+    same = r.same;
+  }
 
   reads-large : (g : Graph) (text : List ℕ) → text ≡ 0x80 ∷ 3 ∷ ((root_piece g.nodes g.root).text ++ 0x2e ∷ []) →
       Shown g.nodes g.root (root_piece g.nodes g.root) [] (visits (suc WALK_LIMIT) g.nodes (is_shared g.nodes g.root) g.root []) → NODE_LIMIT < (root_piece g.nodes g.root).made → ReadsTooLarge text
@@ -183,4 +199,9 @@ module _ (sr : SpelledIsRead) where
   read_back g text graph e =
       let w = written g text (has_walk (WALK_LIMIT + 1) g.nodes g.root) e in
       let a = piece-shown sr g.nodes graph.each (is_shared g.nodes g.root) (suc WALK_LIMIT) g.root [] w.0 graph.rooted in
-      record { within = reads-same g text w.1 w.0 a; beyond = reads-large g text w.1 a }
+      record { within = λ room. reads-same g text (reads-anywhere g text w.1 w.0 a room); beyond = reads-large g text w.1 a }
+
+  pub read_anywhere : WrittenReadsAnywhere
+  read_anywhere g text graph e room =
+      let w = written g text (has_walk (WALK_LIMIT + 1) g.nodes g.root) e in
+      reads-anywhere g text w.1 w.0 (piece-shown sr g.nodes graph.each (is_shared g.nodes g.root) (suc WALK_LIMIT) g.root [] w.0 graph.rooted) room

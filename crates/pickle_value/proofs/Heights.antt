@@ -251,17 +251,11 @@ byte_measured ns levels old mid parts i d byte h less e a =
     let more : items_in (take (i + 1) parts) ≡ items_in (take i parts) = items_more parts i d less ∙ ap (λ (p : Part). items_in (take i parts) ++ items_in (p ∷ [])) e ∙ append-nil (items_in (take i parts)) in
     subst (λ (l : List ℕ). MeasuresAll ns levels old l mid h) (sym more) a
 
-pub item_higher : (ns : List Node) (levels : ℕ) (old mid new : List (ℕ × ℕ)) (parts : List Part) (i : ℕ) (d : Part) (c h hc : ℕ) → i < length parts → get_or parts i d ≡ Item c → 0 < levels →
-    MeasuresAll ns levels old (items_in (take i parts)) mid h → Measures ns (levels - 1) mid c new hc → h ≤ hc → MeasuresAll ns levels old (items_in (take (i + 1) parts)) new (hc + 1)
-item_higher ns levels old mid new parts i d c h hc less e some a b le =
+pub item_measured : (ns : List Node) (levels : ℕ) (old new : List (ℕ × ℕ)) (parts : List Part) (i : ℕ) (d : Part) (c h : ℕ) → i < length parts → get_or parts i d ≡ Item c →
+    MeasuresAll ns levels old (items_in (take i parts) ++ c ∷ []) new h → MeasuresAll ns levels old (items_in (take (i + 1) parts)) new h
+item_measured ns levels old new parts i d c h less e a =
     let more : items_in (take (i + 1) parts) ≡ items_in (take i parts) ++ c ∷ [] = items_more parts i d less ∙ ap (λ (p : Part). items_in (take i parts) ++ items_in (p ∷ [])) e in
-    subst (λ (l : List ℕ). MeasuresAll ns levels old l new (hc + 1)) (sym more) (all_higher ns levels old mid new (items_in (take i parts)) c h hc some a b le)
-
-pub item_same : (ns : List Node) (levels : ℕ) (old mid new : List (ℕ × ℕ)) (parts : List Part) (i : ℕ) (d : Part) (c h hc : ℕ) → i < length parts → get_or parts i d ≡ Item c → 0 < levels →
-    MeasuresAll ns levels old (items_in (take i parts)) mid h → Measures ns (levels - 1) mid c new hc → hc < h → MeasuresAll ns levels old (items_in (take (i + 1) parts)) new h
-item_same ns levels old mid new parts i d c h hc less e some a b lt =
-    let more : items_in (take (i + 1) parts) ≡ items_in (take i parts) ++ c ∷ [] = items_more parts i d less ∙ ap (λ (p : Part). items_in (take i parts) ++ items_in (p ∷ [])) e in
-    subst (λ (l : List ℕ). MeasuresAll ns levels old l new h) (sym more) (all_same ns levels old mid new (items_in (take i parts)) c h hc some a b lt)
+    subst (λ (l : List ℕ). MeasuresAll ns levels old l new h) (sym more) a
 
 pub node_built : (ns : List Node) (levels : ℕ) (old mid new : List (ℕ × ℕ)) (m h : ℕ) (items : List ℕ) → number_of m old ≡ None → items ≡ items_at ns m → new ≡ (m, h) ∷ mid → MeasuresAll ns levels old items mid h → Measures ns levels old m new h
 node_built ns levels old mid new m h items none is more a =

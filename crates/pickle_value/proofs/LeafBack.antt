@@ -19,6 +19,7 @@ use Rattle.pickle_value.specs.Graph.{IsNode, IsSigned128}
 use Rattle.pickle_value.specs.Leaves.{long_number, long_of, leaf_of, first_line, behind_line}
 use Rattle.pickle_value.specs.Parts.{is_held}
 use Rattle.pickle_value.specs.Spelling.{fewest, magnitude_of, long_size, long_text, number_text, counted_text, leaf_text}
+use Rattle.pickle_value.proofs.Lines.{first-line, behind-line}
 use Rattle.pickle_value.proofs.Going.{Spells}
 use Rattle.pickle_value.proofs.Walks.{cases_bool}
 
@@ -411,28 +412,6 @@ float_leaf bytes eight = record {
 }
 
 -- ---- lines
-
-first-line : (line rest : List ℕ) → is_one_line line ≡ true → first_line (line ++ 10 ∷ rest) ≡ line
-first-line [] rest h = refl
-first-line (byte ∷ line) rest h = elim (cases_bool (eqb byte 10)) [
-  | inl e ↦ absurd (stop (eqb byte 10) e h)
-  | inr e ↦ let k : is_one_line line ≡ true = ap (λ (b : Bool). cond b false (is_one_line line)) (sym e) ∙ h in rw e (ap (λ (l : List ℕ). byte ∷ l) (first-line line rest k))
-]
-  where
-    stop : (b : Bool) → b ≡ true → cond b false (is_one_line line) ≡ true → ⊥
-    stop true e h = cc
-    stop false e h = absurd cc
-
-behind-line : (line rest : List ℕ) → is_one_line line ≡ true → behind_line (line ++ 10 ∷ rest) ≡ rest
-behind-line [] rest h = refl
-behind-line (byte ∷ line) rest h = elim (cases_bool (eqb byte 10)) [
-  | inl e ↦ absurd (stop (eqb byte 10) e h)
-  | inr e ↦ let k : is_one_line line ≡ true = ap (λ (b : Bool). cond b false (is_one_line line)) (sym e) ∙ h in rw e (behind-line line rest k)
-]
-  where
-    stop : (b : Bool) → b ≡ true → cond b false (is_one_line line) ≡ true → ⊥
-    stop true e h = cc
-    stop false e h = absurd cc
 
 global_leaf : (first second : List ℕ) → IsGlobalLine first → IsGlobalLine second → MakesLeaf (kinds.Global first second) (0x63 ∷ (first ++ 10 ∷ (second ++ 10 ∷ [])))
 global_leaf first second f g =

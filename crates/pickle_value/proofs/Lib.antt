@@ -20,3 +20,9 @@ pub mod NodeTexts
 pub mod ObjectTexts
 pub mod Once
 pub mod Back
+pub mod Cores
+pub mod Grown
+pub mod Told
+pub mod Inside
+pub mod Lost
+pub mod Alike

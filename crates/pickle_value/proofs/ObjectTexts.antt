@@ -43,7 +43,7 @@ record Half (callee arguments : ℕ) (by_new : Bool) (done : List Act) (o : List
   acts : List Act
   is : x ≡ kinds.Object c a by_new acts
   called : HasOrigin o c callee
-  values_taken : HasOrigin o a arguments
+  taken : HasOrigin o a arguments
   did : ActsStandFor o acts done
 
 half_keeps : (g : List Node) (m callee arguments : ℕ) (by_new : Bool) (done : List Act) → is_tuple (slice_get g m) ≡ false → Keeps g m (Half callee arguments by_new done)

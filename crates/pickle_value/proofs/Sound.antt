@@ -31,6 +31,7 @@ use Rattle.pickle_value.specs.Leaves.{long_number, long_of, first_line, behind_l
 use Rattle.pickle_value.specs.Additions.{with_pair, pairs_of, append_acts, set_acts, acts_with, added}
 use Rattle.pickle_value.specs.Steps.{Outcome, make, popped, unmarked, doubled, tuple_of, changed, add_to, append_to, set_pairs, set_in, build_of, object_of, reference_of, put_of, get_of, act_of, leaf_or, step}
 use Rattle.pickle_value.specs.Sound.{StackBelow, MemoBelow, IsSoundState}
+use Rattle.pickle_value.proofs.Lines.{first-line, behind-line}
 use Rattle.pickle_value.proofs.Longs.{long-signed, signed32-wider, below-wider}
 use Rattle.zb_base.specs.Bytes.{AreBytes}
 
@@ -49,7 +50,7 @@ record Grows (ns ms : List Node) : Type 0 where
   longer : length ns ≤ length ms
   tuples : (i : ℕ) → is_tuple (slice_get ns i) ≡ true → is_tuple (slice_get ms i) ≡ true
 
-all-more : (n m : ℕ) (xs : List ℕ) → n ≤ m → AllBelow n xs → AllBelow m xs
+pub all-more : (n m : ℕ) (xs : List ℕ) → n ≤ m → AllBelow n xs → AllBelow m xs
 all-more n m [] le h = tt
 all-more n m (x ∷ xs) le h = (omega (arith, h.0), all-more n m xs le h.1)
 
@@ -139,17 +140,17 @@ grows-set ns i node f = record {
   tuples = λ j h. tuple-set ns i node j f h;
 }
 
-stack-more : (n m : ℕ) (xs : List Item) → n ≤ m → StackBelow n xs → StackBelow m xs
+pub stack-more : (n m : ℕ) (xs : List Item) → n ≤ m → StackBelow n xs → StackBelow m xs
 stack-more n m [] le h = tt
 stack-more n m (Value v ∷ xs) le h = (omega (arith, h.0), stack-more n m xs le h.1)
 stack-more n m (Mark ∷ xs) le h = stack-more n m xs le h
 
-memo-more : (n m : ℕ) (xs : List (ℕ × ℕ)) → n ≤ m → MemoBelow n xs → MemoBelow m xs
+pub memo-more : (n m : ℕ) (xs : List (ℕ × ℕ)) → n ≤ m → MemoBelow n xs → MemoBelow m xs
 memo-more n m [] le h = tt
 memo-more n m (x ∷ xs) le h = (omega (arith, h.0), memo-more n m xs le h.1)
 
 -- values that were taken, and what lies below them
-abbrev TakenBelow : ℕ → TakenValues → Type 0
+abbrev pub TakenBelow : ℕ → TakenValues → Type 0
 TakenBelow n None = Unit {0}
 TakenBelow n (Some found) = AllBelow n found.0 × StackBelow n found.1
 
@@ -163,7 +164,7 @@ top-below n zero xs values h k = (k, h)
 top-below n (suc count) (Value v ∷ xs) values h k = top-below n count xs (v ∷ values) h.1 (h.0, k)
 top-below n (suc count) _ values h k = tt
 
-taken-below : (n : ℕ) (extent : Extent) (xs : List Item) → StackBelow n xs → TakenBelow n (values_taken extent xs)
+pub taken-below : (n : ℕ) (extent : Extent) (xs : List Item) → StackBelow n xs → TakenBelow n (values_taken extent xs)
 taken-below n Marked xs h = above-below n xs [] h tt
 taken-below n (Top count) xs h = top-below n count xs [] h tt
 
@@ -310,7 +311,7 @@ by_order n Less a b c h k l = h
 by_order n Equal a b c h k l = k
 by_order n Greater a b c h k l = l
 
-put_at-below : (n : ℕ) (memo : List (ℕ × ℕ)) (number v : ℕ) → MemoBelow n memo → v < n → MemoBelow n (put_at memo number v)
+pub put_at-below : (n : ℕ) (memo : List (ℕ × ℕ)) (number v : ℕ) → MemoBelow n memo → v < n → MemoBelow n (put_at memo number v)
 put_at-below n [] number v h k = (k, tt)
 put_at-below n (e ∷ es) number v h k =
     by_order n (nat_cmp number e.0) ((number, v) ∷ e ∷ es) ((e.0, v) ∷ es) (e ∷ insert_entry nat_cmp es number v) (k, (h.0, h.1)) (k, h.1) (h.0, put_at-below n es number v h.1 k)
@@ -320,7 +321,7 @@ put_of-sound at number s (Value v ∷ below) h k = record { nodes = h.nodes; val
 put_of-sound at number s _ h k = tt
 
 -- a number of a node, if there is one
-abbrev ValueBelow : ℕ → Option ℕ → Type 0
+abbrev pub ValueBelow : ℕ → Option ℕ → Type 0
 ValueBelow n None = Unit {0}
 ValueBelow n (Some v) = v < n
 
@@ -328,7 +329,7 @@ pick : (n v : ℕ) (b : Bool) (rest : Option ℕ) → v < n → ValueBelow n res
 pick n v true rest h k = h
 pick n v false rest h k = k
 
-node_at-below : (n : ℕ) (memo : List (ℕ × ℕ)) (number : ℕ) → MemoBelow n memo → ValueBelow n (node_at memo number)
+pub node_at-below : (n : ℕ) (memo : List (ℕ × ℕ)) (number : ℕ) → MemoBelow n memo → ValueBelow n (node_at memo number)
 node_at-below n [] number h = tt
 node_at-below n (e ∷ es) number h = pick n e.1 (is_at (nat_cmp number) e.0) (lookup (is_at (nat_cmp number)) es) h.0 (node_at-below n es number h.1)
 
@@ -366,22 +367,6 @@ long_of-sound ns bytes are short = test (ltb 16 (length bytes)) refl
     test : (b : Bool) → ltb 16 (length bytes) ≡ b → IsNode ns (cond b (kinds.Wide bytes) (kinds.Number (long_number bytes)))
     test true e = record { long = ltb-true _ _ e; short = short }
     test false e = long-signed bytes are (ltb-false _ _ e)
-
-first-line : (line rest : List ℕ) → is_one_line line ≡ true → first_line (line ++ 10 ∷ rest) ≡ line
-first-line [] rest h = refl
-first-line (byte ∷ line) rest h = test (first-line line rest) (eqb byte 10) refl h
-  where
-    test : (is_one_line line ≡ true → first_line (line ++ 10 ∷ rest) ≡ line) → (b : Bool) → eqb byte 10 ≡ b → cond b false (is_one_line line) ≡ true → cond (eqb byte 10) [] (byte ∷ first_line (line ++ 10 ∷ rest)) ≡ byte ∷ line
-    test later true e k = absurd (false≢true k)
-    test later false e k = rw e (ap (λ l. byte ∷ l) (later k))
-
-behind-line : (line rest : List ℕ) → is_one_line line ≡ true → behind_line (line ++ 10 ∷ rest) ≡ rest
-behind-line [] rest h = refl
-behind-line (byte ∷ line) rest h = test (behind-line line rest) (eqb byte 10) refl h
-  where
-    test : (is_one_line line ≡ true → behind_line (line ++ 10 ∷ rest) ≡ rest) → (b : Bool) → eqb byte 10 ≡ b → cond b false (is_one_line line) ≡ true → cond (eqb byte 10) (line ++ 10 ∷ rest) (behind_line (line ++ 10 ∷ rest)) ≡ rest
-    test later true e k = absurd (false≢true k)
-    test later false e k = rw e (later k)
 
 global_of-sound : (ns : List Node) (number : ℤ) (bytes : List ℕ) → SpellsLines bytes number bytes → IsNode ns (global_of bytes)
 global_of-sound ns number bytes h =

@@ -7,20 +7,23 @@ use Rattle.pickle_value.specs.declared.node.Node.TheVariants as kinds
 use Rattle.pickle_value.specs.declared.additions.Addition.{Addition}
 use Rattle.pickle_value.specs.declared.additions.Addition.TheVariants as additions
 
--- keys and values that stand one after the other, of which none may be left over
+-- a pair before the others, if there are any that go in pairs
 abbrev pub with_pair : ℕ × ℕ → Option (List (ℕ × ℕ)) → Option (List (ℕ × ℕ))
 with_pair pair None = None
 with_pair pair (Some pairs) = Some (pair ∷ pairs)
 
+-- the values as keys and values, one after the other; none may be left over
 abbrev pub pairs_of : List ℕ → Option (List (ℕ × ℕ))
 pairs_of [] = Some []
 pairs_of (key ∷ []) = None
 pairs_of (key ∷ value ∷ rest) = with_pair (key, value) (pairs_of rest)
 
+-- each value is appended
 abbrev pub append_acts : List ℕ → List Act
 append_acts [] = []
 append_acts (value ∷ values) = Append value ∷ append_acts values
 
+-- each key is set to its value
 abbrev pub set_acts : List (ℕ × ℕ) → List Act
 set_acts [] = []
 set_acts (pair ∷ pairs) = Set pair.0 pair.1 ∷ set_acts pairs

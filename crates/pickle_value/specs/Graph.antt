@@ -7,6 +7,7 @@ use Rattle.pickle_value.specs.declared.node.Act.TheVariants.{Append, Set, Build}
 use Rattle.pickle_value.specs.declared.node.Node.{Node}
 use Rattle.pickle_value.specs.declared.node.Node.TheVariants as kinds
 
+-- nodes, and the number of the one that stands for the whole
 pub record Graph : Type 0 where
   pub nodes : List Node
   pub root : ℕ
@@ -16,19 +17,23 @@ abbrev pub AllBelow : ℕ → List ℕ → Type 0
 AllBelow n [] = Unit {0}
 AllBelow n (x ∷ xs) = (x < n) × AllBelow n xs
 
+-- keys and values are numbers of nodes
 abbrev pub PairsBelow : ℕ → List (ℕ × ℕ) → Type 0
 PairsBelow n [] = Unit {0}
 PairsBelow n (pair ∷ pairs) = (pair.0 < n) × (pair.1 < n) × PairsBelow n pairs
 
+-- what an act names are numbers of nodes
 abbrev pub ActBelow : ℕ → Act → Type 0
 ActBelow n (Append value) = value < n
 ActBelow n (Set key value) = (key < n) × (value < n)
 ActBelow n (Build state) = state < n
 
+-- what these acts name are numbers of nodes
 abbrev pub ActsBelow : ℕ → List Act → Type 0
 ActsBelow n [] = Unit {0}
 ActsBelow n (act ∷ acts) = ActBelow n act × ActsBelow n acts
 
+-- there is a node, and it is a tuple
 abbrev pub is_tuple : Option Node → Bool
 is_tuple (Some (kinds.Tuple items)) = true
 is_tuple _ = false
@@ -43,6 +48,7 @@ pub record IsWide (bytes : List ℕ) : Type 0 where
   pub long : 16 < length bytes
   pub short : length bytes < 2 ^ 31
 
+-- a module and a name, each of one line
 pub record IsGlobal (module_line name_line : List ℕ) : Type 0 where
   pub first : IsGlobalLine module_line
   pub second : IsGlobalLine name_line
@@ -75,6 +81,7 @@ abbrev pub AreNodes : List Node → List Node → Type 0
 AreNodes ns [] = Unit {0}
 AreNodes ns (node ∷ rest) = IsNode ns node × AreNodes ns rest
 
+-- each node holds what its kind says, and the root is one of them
 pub record IsGraph (ns : List Node) (root : ℕ) : Type 0 where
   pub each : AreNodes ns ns
   pub rooted : root < length ns

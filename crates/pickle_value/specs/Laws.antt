@@ -1,5 +1,5 @@
 -- Laws of writing.
-use Rattle.std.specs.Prelude.{ℕ, ◌+◌, ◌≤◌, ◌<◌, ◌≡◌, true, List, length, Ok, Err}
+use Rattle.std.specs.Prelude.{ℕ, ◌+◌, ◌++◌, ◌≤◌, ◌<◌, ◌≡◌, true, List, length, Ok, Err}
 use Rattle.pickle_value.specs.declared.error.PickleError.TheVariants.{TooLarge}
 use Rattle.pickle_value.specs.declared.depth.TheConstants.{WALK_LIMIT}
 use Rattle.pickle_value.specs.declared.reading.TheConstants.{NODE_LIMIT}
@@ -26,8 +26,19 @@ pub record ReadsBack (g : Graph) (text : List ℕ) : Type 0 where
   pub within : (root_piece g.nodes g.root).made ≤ NODE_LIMIT → ReadsSame g text
   pub beyond : NODE_LIMIT < (root_piece g.nodes g.root).made → ReadsTooLarge text
 
+-- each graph that is written reads back
 abbrev pub WrittenReadsBack : Type 0
 WrittenReadsBack = (g : Graph) (text : List ℕ) → IsGraph g.nodes g.root → pickle_text g ≡ Ok text → ReadsBack g text
+
+-- the text reads as the same graph at each place, whatever follows
+pub record ReadsAnywhere (g : Graph) (text : List ℕ) : Type 0 where
+  pub copy : Graph
+  pub reads : (at : ℕ) (tail : List ℕ) → graph_at NODE_LIMIT at (text ++ tail) ≡ Ok (copy, at + length text)
+  pub same : IsSame g copy
+
+abbrev pub WrittenReadsAnywhere : Type 0
+WrittenReadsAnywhere =
+    (g : Graph) (text : List ℕ) → IsGraph g.nodes g.root → pickle_text g ≡ Ok text → (root_piece g.nodes g.root).made ≤ NODE_LIMIT → ReadsAnywhere g text
 
 -- in a cyclic graph a walk of more edges than the limit starts at the root
 abbrev pub CyclicIsTooDeep : Type 0

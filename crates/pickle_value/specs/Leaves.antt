@@ -21,6 +21,7 @@ abbrev pub first_line : List ℕ → List ℕ
 first_line [] = []
 first_line (byte ∷ bytes) = if byte == 10 then [] else byte ∷ first_line bytes
 
+-- the bytes behind the first newline
 abbrev pub behind_line : List ℕ → List ℕ
 behind_line [] = []
 behind_line (byte ∷ bytes) = if byte == 10 then bytes else behind_line bytes

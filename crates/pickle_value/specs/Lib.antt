@@ -14,3 +14,4 @@ pub mod Same
 pub mod Numbers
 pub mod Writing
 pub mod Laws
+pub mod Named

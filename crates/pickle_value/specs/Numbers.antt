@@ -11,6 +11,7 @@ abbrev pub number_of : ℕ → List (ℕ × ℕ) → Option ℕ
 number_of m [] = None
 number_of m (pair ∷ pairs) = if pair.0 == m then Some pair.1 else number_of m pairs
 
+-- a number is kept for a node
 abbrev pub has_number : List (ℕ × ℕ) → ℕ → Bool
 has_number pairs m = is_some (number_of m pairs)
 
@@ -36,6 +37,7 @@ pub record IsMeasured (ns : List Node) (heights : List (ℕ × ℕ)) : Type 0 wh
 abbrev pub IsOpen : List Node → List (ℕ × ℕ) → List (ℕ × ℕ) → ℕ → Type 0
 IsOpen ns begun heights m = (b : ℕ) → has_number begun b ≡ true → has_number heights b ≡ false → (j : ℕ) × (has_way (suc j) ns b m ≡ true)
 
+-- each of these is open
 abbrev pub AllOpen : List Node → List (ℕ × ℕ) → List (ℕ × ℕ) → List ℕ → Type 0
 AllOpen ns begun heights items = (c : ℕ) → has c items ≡ true → IsOpen ns begun heights c
 
@@ -62,6 +64,7 @@ abbrev pub leads_in : ℕ → List Node → List ℕ → ℕ → Bool
 leads_in zero ns items k = false
 leads_in (suc n) ns items k = some_item (λ m. leads n ns m k) items
 
+-- the longest walk whose first edge leads to one of these has so many edges
 pub record IsTop (ns : List Node) (items : List ℕ) (h : ℕ) : Type 0 where
   pub walk : walks_in h ns items ≡ true
   pub last : walks_in (suc h) ns items ≡ false
@@ -83,6 +86,7 @@ pub record IsReach (ns : List Node) (root : ℕ) (heights : List (ℕ × ℕ)) :
 
 -- ---- counts
 
+-- the counts with one edge more to a node for which so many were counted
 abbrev pub one_edge_more : ℕ → List (ℕ × ℕ) → Option ℕ → List (ℕ × ℕ)
 one_edge_more m counts None = (m, 1) ∷ counts
 one_edge_more m counts (Some n) = if nat_lt n 2 then (m, 2) ∷ counts else counts
@@ -91,6 +95,7 @@ one_edge_more m counts (Some n) = if nat_lt n 2 then (m, 2) ∷ counts else coun
 abbrev pub with_edge : ℕ → List (ℕ × ℕ) → List (ℕ × ℕ)
 with_edge m counts = one_edge_more m counts (number_of m counts)
 
+-- one more edge leads to each of these nodes
 abbrev pub with_edges : List ℕ → List (ℕ × ℕ) → List (ℕ × ℕ)
 with_edges [] counts = counts
 with_edges (m ∷ ms) counts = with_edges ms (with_edge m counts)
@@ -100,10 +105,12 @@ abbrev pub known_ends : List Node → List (ℕ × ℕ) → List ℕ
 known_ends ns [] = []
 known_ends ns (pair ∷ pairs) = items_at ns pair.0 ++ known_ends ns pairs
 
+-- more than one was counted
 abbrev pub above_one : Option ℕ → Bool
 above_one None = false
 above_one (Some n) = nat_lt 1 n
 
+-- more than one edge to a node was counted
 abbrev pub is_many : List (ℕ × ℕ) → ℕ → Bool
 is_many counts m = above_one (number_of m counts)
 
@@ -114,6 +121,7 @@ abbrev pub numbered : List ℕ → List (ℕ × ℕ)
 numbered [] = []
 numbered (m ∷ puts) = (m, length puts) ∷ numbered puts
 
+-- the nodes for which numbers are kept
 abbrev pub nodes_of : List (ℕ × ℕ) → List ℕ
 nodes_of [] = []
 nodes_of (pair ∷ pairs) = pair.0 ∷ nodes_of pairs

@@ -7,6 +7,7 @@ use Rattle.pickle_value.specs.declared.node.Node.TheVariants as kinds
 use Rattle.pickle_value.specs.declared.parts.Part.{Part}
 use Rattle.pickle_value.specs.declared.parts.Part.TheVariants.{Byte, Item}
 
+-- items, one after the other
 abbrev pub item_parts : List ℕ → List Part
 item_parts [] = []
 item_parts (item ∷ items) = Item item ∷ item_parts items
@@ -85,6 +86,7 @@ abbrev pub parts_in : Option Node → List Part
 parts_in None = []
 parts_in (Some node) = parts_of node
 
+-- the nodes to which edges lead from a node, if there is one
 abbrev pub items_of : Option Node → List ℕ
 items_of node = items_in (parts_in node)
 

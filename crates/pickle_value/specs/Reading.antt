@@ -14,6 +14,7 @@ use Rattle.pickle_value.specs.declared.state.Item.TheVariants.{Value}
 use Rattle.pickle_value.specs.declared.state.State.{State}
 use Rattle.pickle_value.specs.Steps.{step}
 
+-- the opcode ends the pickle
 abbrev pub is_stop : Op → Bool
 is_stop ops.Stop = true
 is_stop _ = false
@@ -52,6 +53,7 @@ abbrev pub root_of : ℕ → ℕ → State → List Item → Result (Pickle × �
 root_of at next s (Value v ∷ below) = Ok (record { nodes = s.nodes; root = v }, next)
 root_of at next s _ = Err (errors.Stack at)
 
+-- the reader of graphs
 abbrev pub graphs : Reader State (Pickle × ℕ)
 graphs = record { turn = step; finish = λ at next s. root_of at next s s.stack }
 

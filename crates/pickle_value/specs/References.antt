@@ -20,6 +20,7 @@ use Rattle.pickle_value.specs.Reading.{Reader, read_from, empty_state}
 abbrev pub oid_in : List ℕ → Named
 oid_in bytes = if length bytes == 8 then Strong (big_number 8 bytes) else Bad
 
+-- the oid that a node is: bytes, or a string of Python 2
 abbrev pub oid_of : Option Node → Named
 oid_of (Some (kinds.Bytes bytes)) = oid_in bytes
 oid_of (Some (kinds.OldText bytes)) = oid_in bytes
@@ -52,6 +53,7 @@ abbrev pub named_by_token : Op → List Node → List Item → Named
 named_by_token ops.BinPersid ns stack = named_on ns stack
 named_by_token _ ns stack = Weak
 
+-- the oids behind a token that was done, or its refusal
 abbrev pub noted_in : ℕ → List ℕ → Named → Result State PickleError → Result Finding PickleError
 noted_in at oids named (Ok s) = noted at s oids named
 noted_in at oids named (Err e) = Err e
@@ -66,6 +68,7 @@ abbrev pub oids_at : ℕ → ℕ → List ℕ → List Item → Result (List ℕ
 oids_at at next oids (Value v ∷ below) = Ok (oids, next)
 oids_at at next oids _ = Err (errors.Stack at)
 
+-- the reader of references
 abbrev pub references : Reader Finding (List ℕ × ℕ)
 references = record { turn = find; finish = λ at next f. oids_at at next f.oids f.state.stack }
 

@@ -11,22 +11,26 @@ use Rattle.pickle_value.specs.Parts.{is_held}
 abbrev pub HasOrigin : List ℕ → ℕ → ℕ → Type 0
 HasOrigin origin n m = slice_get origin n ≡ Some m
 
+-- these nodes of the copy stand for those of the graph, one by one
 abbrev pub HaveOrigins : List ℕ → List ℕ → List ℕ → Type 0
 HaveOrigins origin [] [] = Unit {0}
 HaveOrigins origin (n ∷ ns) (m ∷ ms) = HasOrigin origin n m × HaveOrigins origin ns ms
 HaveOrigins origin _ _ = ⊥
 
+-- keys and values stand for keys and values, one by one
 abbrev pub PairsStandFor : List ℕ → List (ℕ × ℕ) → List (ℕ × ℕ) → Type 0
 PairsStandFor origin [] [] = Unit {0}
 PairsStandFor origin (n ∷ ns) (m ∷ ms) = HasOrigin origin n.0 m.0 × HasOrigin origin n.1 m.1 × PairsStandFor origin ns ms
 PairsStandFor origin _ _ = ⊥
 
+-- an act stands for one of its kind, and what it names for what that one names
 abbrev pub ActStandsFor : List ℕ → Act → Act → Type 0
 ActStandsFor origin (Append n) (Append m) = HasOrigin origin n m
 ActStandsFor origin (Set key value) (Set old_key old_value) = HasOrigin origin key old_key × HasOrigin origin value old_value
 ActStandsFor origin (Build n) (Build m) = HasOrigin origin n m
 ActStandsFor origin _ _ = ⊥
 
+-- acts stand for acts, one by one
 abbrev pub ActsStandFor : List ℕ → List Act → List Act → Type 0
 ActsStandFor origin [] [] = Unit {0}
 ActsStandFor origin (n ∷ ns) (m ∷ ms) = ActStandsFor origin n m × ActsStandFor origin ns ms
@@ -64,6 +68,7 @@ AllCopies origin ns [] [] = Unit {0}
 AllCopies origin ns (node ∷ rest) (m ∷ ms) = IsCopy origin node (slice_get ns m) × AllCopies origin ns rest ms
 AllCopies origin ns _ _ = ⊥
 
+-- the number is in the list
 abbrev pub has : ℕ → List ℕ → Bool
 has m [] = false
 has m (x ∷ xs) = if x == m then true else has m xs
@@ -73,6 +78,7 @@ abbrev pub holds_items : Option Node → Bool
 holds_items None = false
 holds_items (Some node) = is_held node
 
+-- the node of a number has items
 abbrev pub is_held_at : List Node → ℕ → Bool
 is_held_at ns m = holds_items (slice_get ns m)
 

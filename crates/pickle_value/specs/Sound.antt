@@ -5,15 +5,18 @@ use Rattle.pickle_value.specs.declared.state.Item.TheVariants.{Value, Mark}
 use Rattle.pickle_value.specs.declared.state.State.{State}
 use Rattle.pickle_value.specs.Graph.{AreNodes}
 
+-- the values of the stack are numbers of nodes
 abbrev pub StackBelow : ℕ → List Item → Type 0
 StackBelow n [] = Unit {0}
 StackBelow n (Value v ∷ below) = (v < n) × StackBelow n below
 StackBelow n (Mark ∷ below) = StackBelow n below
 
+-- the memo keeps numbers of nodes
 abbrev pub MemoBelow : ℕ → List (ℕ × ℕ) → Type 0
 MemoBelow n [] = Unit {0}
 MemoBelow n (pair ∷ pairs) = (pair.1 < n) × MemoBelow n pairs
 
+-- nodes, stack and memo name nodes alone
 pub record IsSoundState (s : State) : Type 0 where
   pub nodes : AreNodes s.nodes s.nodes
   pub values : StackBelow (length s.nodes) s.stack

@@ -69,9 +69,11 @@ leaf_text _ = 0x29 ∷ []
 abbrev pub numbered_text : ℕ → ℕ → ℕ → List ℕ
 numbered_text short long k = if nat_lt k (2 ^ 8) then short ∷ k ∷ [] else long ∷ little_bytes 4 k
 
+-- BINPUT or LONG_BINPUT
 abbrev pub put_text : ℕ → List ℕ
 put_text k = numbered_text 0x71 0x72 k
 
+-- BINGET or LONG_BINGET
 abbrev pub get_text : ℕ → List ℕ
 get_text k = numbered_text 0x68 0x6a k
 
@@ -91,6 +93,7 @@ put_number m (x ∷ puts) = if x == m then Some (length puts) else put_number m 
 abbrev pub no_piece : List ℕ → Piece
 no_piece puts = record { text = []; puts = puts; made = 0 }
 
+-- a piece, and another behind it
 abbrev pub followed : Piece → Piece → Piece
 followed one next = record { text = one.text ++ next.text; puts = next.puts; made = one.made + next.made }
 
@@ -111,6 +114,7 @@ abbrev pub held_piece : Bool → Option ℕ → ℕ → List ℕ → Piece → P
 held_piece shared (Some k) m puts whole = record { text = get_text k; puts = puts; made = 0 }
 held_piece shared None m puts whole = put_behind shared m (record whole { made = whole.made + 1 })
 
+-- the piece of a node: of one with items as it is held, of a leaf its text
 abbrev pub node_piece : (ℕ → Bool) → (ℕ → List ℕ → Piece) → ℕ → List ℕ → Option Node → Piece
 node_piece shared piece m puts None = no_piece puts
 node_piece shared piece m puts (Some node) =
@@ -128,6 +132,7 @@ root_piece ns root = piece_of (WALK_LIMIT + 1) ns (is_shared ns root) root []
 
 -- ---- whole texts
 
+-- a text, or why there is none
 abbrev pub Spelled : Type 0
 Spelled = Result (List ℕ) WriteError
 
@@ -140,6 +145,7 @@ abbrev pub pickled : Spelled → Spelled
 pickled (Ok text) = Ok (0x80 ∷ 3 ∷ (text ++ 0x2e ∷ []))
 pickled (Err e) = Err e
 
+-- the text of a graph
 abbrev pub pickle_text : Graph → Spelled
 pickle_text g = pickled (spelling_of g.nodes g.root)
 

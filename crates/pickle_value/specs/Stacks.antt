@@ -8,6 +8,7 @@ use Rattle.pickle_value.specs.declared.state.Item.TheVariants.{Value, Mark}
 use Rattle.pickle_value.specs.declared.state.Extent.{Extent}
 use Rattle.pickle_value.specs.declared.state.Extent.TheVariants.{Marked, Top}
 
+-- the top of the stack
 abbrev pub top_of : List Item → Option Item
 top_of [] = None
 top_of (item ∷ below) = Some item

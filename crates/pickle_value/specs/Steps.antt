@@ -44,6 +44,7 @@ make at node s =
     Ok (record s { nodes = s.nodes ++ node ∷ []; stack = Value (length s.nodes) ∷ s.stack })
     else Err (errors.TooLarge at)
 
+-- an item more on the top
 abbrev pub push : Item → State → Outcome
 push item s = Ok (record s { stack = item ∷ s.stack })
 
@@ -72,6 +73,7 @@ abbrev pub changed : ℕ → State → ℕ → List Item → Option Node → Out
 changed at s n below None = Err (errors.Stack at)
 changed at s n below (Some node) = Ok (record s { nodes = slice_set s.nodes n node; stack = Value n ∷ below })
 
+-- an addition to the node on the top
 abbrev pub add_to : ℕ → State → Addition → List Item → Outcome
 add_to at s addition (Value n ∷ below) = changed at s n below (added addition (slice_get s.nodes n))
 add_to at s addition _ = Err (errors.Stack at)
@@ -86,6 +88,7 @@ abbrev pub set_pairs : ℕ → State → Option (List (ℕ × ℕ)) → List Ite
 set_pairs at s None stack = Err (errors.Stack at)
 set_pairs at s (Some pairs) stack = add_to at s (Pairs pairs) stack
 
+-- the values taken are set as pairs in the node below them
 abbrev pub set_in : ℕ → State → TakenValues → Outcome
 set_in at s None = Err (errors.Stack at)
 set_in at s (Some found) = set_pairs at s (pairs_of found.0) found.1
@@ -142,6 +145,7 @@ act_of ops.BinGet at number s = get_of at s (node_at s.memo (unsigned_abs number
 act_of ops.LongBinGet at number s = get_of at s (node_at s.memo (unsigned_abs number))
 act_of _ at number s = Err (errors.Stack at)
 
+-- a leaf is made, if the token has one; else what its opcode does
 abbrev pub leaf_or : ℕ → State → Option Node → Outcome → Outcome
 leaf_or at s (Some node) outcome = make at node s
 leaf_or at s None outcome = outcome

@@ -3,6 +3,7 @@ use Rattle.std.specs.Prelude.{ℕ, zero, suc, Bool, true, false, List, [], ◌�
 use Rattle.pickle_value.specs.declared.node.Node.{Node}
 use Rattle.pickle_value.specs.Parts.{items_at}
 
+-- the test passes one of these
 abbrev pub some_item : (ℕ → Bool) → List ℕ → Bool
 some_item test [] = false
 some_item test (m ∷ ms) = if test m then true else some_item test ms

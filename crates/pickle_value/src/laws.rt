@@ -1,6 +1,7 @@
 //! Laws of writing. A law is the contract of a function that does nothing.
 
-ghost use Rattle.pickle_value.specs.Laws.{WrittenReadsBack, CyclicIsTooDeep};
+ghost use Rattle.pickle_value.specs.Laws.{WrittenReadsBack, WrittenReadsAnywhere, CyclicIsTooDeep};
+ghost use Rattle.pickle_value.specs.Named.{CopiesAreNamed, NamedIsTold, ToldIsNamed};
 
 use pickle_ops::spelled_tokens_are_read;
 
@@ -15,6 +16,24 @@ pub fn cyclic_graphs_are_too_deep()
 /// apart in it. Else it reads as `TooLarge`, since a shared leaf is written once for each edge to it.
 pub fn written_pickles_read_back()
     ensures { WrittenReadsBack }
+{
+    spelled_tokens_are_read();
+}
+
+/// Where the references of a pickle are told, its graph is read, to the same place, and they are the oids
+/// that the references among its nodes name, in the order of their numbers; and where a graph is read and
+/// its references all name something, they are told. Those of a graph that is the same then name something,
+/// too.
+pub fn references_are_those_of_nodes()
+    ensures told { ToldIsNamed }
+    ensures named { NamedIsTold }
+    ensures copies { CopiesAreNamed }
+{}
+
+/// Where its text makes at most [`NODE_LIMIT`](crate::NODE_LIMIT) nodes, what is written reads as the same
+/// graph at each place, whatever follows.
+pub fn written_pickles_read_anywhere()
+    ensures { WrittenReadsAnywhere }
 {
     spelled_tokens_are_read();
 }

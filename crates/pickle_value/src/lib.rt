@@ -21,7 +21,10 @@ mod writing;
 
 pub use depth::WALK_LIMIT;
 pub use error::{PickleError, WriteError};
-pub use laws::{cyclic_graphs_are_too_deep, written_pickles_read_back};
+pub use laws::{
+    cyclic_graphs_are_too_deep, references_are_those_of_nodes, written_pickles_read_anywhere,
+    written_pickles_read_back,
+};
 pub use node::{Act, Node};
 pub use pickle::Pickle;
 pub use reading::{NODE_LIMIT, read_pickle};

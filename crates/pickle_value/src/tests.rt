@@ -1,310 +1,312 @@
-//! Graphs against those of Python's own loader, and the refusals.
+//! Graphs against those of Python's own loader, their texts, references and the refusals.
 
 use super::*;
 use crate::reading::read_within;
 use crate::references::references_within;
 use pickle_ops::TokenError;
 use std::alloc::Global;
-use std::fmt;
 use std::test::*;
-use zb_ids::Oid;
+use zb_ids::{Oid, Text8};
 
-mod by_hand;
-mod containers;
-mod leaves;
-mod objects;
-mod persistent;
-mod refusals;
-mod writing;
+mod shown;
+mod tables;
 
-/// A graph as a text: a word for each node in order, then `@` and the number of the root.
-#[derive(Drop)]
-struct Shown<'a> {
-    pickle: &'a Pickle,
-}
+use shown::Shown;
+use tables::*;
 
-fn show_bytes<W: fmt::Write>(f: &mut fmt::Formatter<W>, bytes: &[u8]) -> fmt::Result {
-    for byte in bytes {
-        write!(f, "{byte:02x}")?;
-    }
-    Ok(())
-}
-
-fn show_items<W: fmt::Write>(f: &mut fmt::Formatter<W>, items: &[u32]) -> fmt::Result {
-    let mut comma = "";
-    for item in items {
-        write!(f, "{comma}{item}")?;
-        comma = ",";
-    }
-    Ok(())
-}
-
-fn show_pairs<W: fmt::Write>(f: &mut fmt::Formatter<W>, pairs: &[(u32, u32)]) -> fmt::Result {
-    let mut comma = "";
-    for pair in pairs {
-        write!(f, "{comma}{}:{}", pair.0, pair.1)?;
-        comma = ",";
-    }
-    Ok(())
-}
-
-fn show_acts<W: fmt::Write>(f: &mut fmt::Formatter<W>, acts: &[Act]) -> fmt::Result {
-    for act in acts {
-        match act {
-            Act::Append(value) => write!(f, "+{value}")?,
-            Act::Set(key, value) => write!(f, "={key}:{value}")?,
-            Act::Build(state) => write!(f, "!{state}")?,
-        }
-    }
-    Ok(())
-}
-
-fn show_held<W: fmt::Write>(f: &mut fmt::Formatter<W>, letter: &str, bytes: &[u8]) -> fmt::Result {
-    write!(f, "{letter}")?;
-    show_bytes(f, bytes)
-}
-
-fn show_node<W: fmt::Write>(f: &mut fmt::Formatter<W>, node: &Node) -> fmt::Result {
-    match node {
-        Node::None => write!(f, "N"),
-        Node::Bool(true) => write!(f, "T"),
-        Node::Bool(false) => write!(f, "F"),
-        Node::Number(number) => write!(f, "i{number}"),
-        Node::Wide(bytes) => show_held(f, "w", bytes.as_slice()),
-        Node::Float(bytes) => show_held(f, "f", bytes.as_slice()),
-        Node::Bytes(bytes) => show_held(f, "b", bytes.as_slice()),
-        Node::OldText(bytes) => show_held(f, "o", bytes.as_slice()),
-        Node::Text(bytes) => show_held(f, "t", bytes.as_slice()),
-        Node::Tuple(items) => {
-            write!(f, "(")?;
-            show_items(f, items.as_slice())?;
-            write!(f, ")")
-        }
-        Node::List(items) => {
-            write!(f, "[")?;
-            show_items(f, items.as_slice())?;
-            write!(f, "]")
-        }
-        Node::Dict(pairs) => {
-            write!(f, "{{")?;
-            show_pairs(f, pairs.as_slice())?;
-            write!(f, "}}")
-        }
-        Node::Global { module, name } => {
-            show_held(f, "g", module.as_slice())?;
-            show_held(f, ".", name.as_slice())
-        }
-        Node::Reference(id) => write!(f, "r{id}"),
-        Node::Object {
-            callee,
-            arguments,
-            by_new,
-            acts,
-        } => {
-            let letter = if *by_new { "n" } else { "c" };
-            write!(f, "{letter}{callee},{arguments}")?;
-            show_acts(f, acts.as_slice())
-        }
-    }
-}
-
-impl fmt::Display for Shown<'_> {
-    fn fmt<W: fmt::Write>(&self, f: &mut fmt::Formatter<W>) -> fmt::Result {
-        for node in self.pickle.nodes().as_slice() {
-            show_node(f, node)?;
-            write!(f, " ")?;
-        }
-        write!(f, "@{}", self.pickle.root())
-    }
-}
-
-/// Whether the input is one pickle, whole, of the graph that the text shows, and that graph is written
-/// so; no bytes stand for a graph that is too deep.
-fn agrees(alloc: Global, input: &[u8], wanted: &str, written: &[u8]) -> bool {
+/// Whether the input is one pickle, whole, and its graph is written so; no bytes stand for a graph that
+/// is too deep.
+fn rewrites(alloc: Global, input: &[u8], written: &[u8]) -> bool {
     let Ok((pickle, next)) = read_pickle(alloc, input, 0) else {
         return false;
     };
-    let Ok(shown) = format!(in alloc; "{}", Shown { pickle: &pickle }) else {
-        return false;
-    };
-    next == input.len() && shown.as_str() == wanted && writes(alloc, &pickle, written)
-}
-
-/// Whether the graph is written so, and its root is spelled so without the first two bytes and the last;
-/// no bytes stand for a graph that is too deep.
-fn writes(alloc: Global, pickle: &Pickle, written: &[u8]) -> bool {
-    match write_pickle(alloc, pickle) {
-        Ok(text) => {
-            let Ok(spelled) = spelling(alloc, pickle, pickle.root()) else {
-                return false;
-            };
-            text.as_slice() == written && spelled.as_slice() == &written[2..written.len() - 1]
-        }
+    match write_pickle(alloc, &pickle) {
+        Ok(text) => next == input.len() && text.as_slice() == written,
         Err(refusal) => refusal == WriteError::TooDeep && written.is_empty(),
     }
 }
 
-/// The refusal of the input, read from a place on.
-fn refusal(alloc: Global, input: &[u8], at: usize) -> Option<PickleError> {
-    match read_pickle(alloc, input, at) {
+/// Whether the root is spelled so without the first two bytes and the last.
+fn spells(alloc: Global, input: &[u8], written: &[u8]) -> bool {
+    let Ok((pickle, _)) = read_pickle(alloc, input, 0) else {
+        return false;
+    };
+    match spelling(alloc, &pickle, pickle.root()) {
+        Ok(text) => written.len() >= 3 && text.as_slice() == &written[2..written.len() - 1],
+        Err(refusal) => refusal == WriteError::TooDeep && written.is_empty(),
+    }
+}
+
+/// Whether the graph of the input is the one that the text shows.
+fn shows(alloc: Global, input: &[u8], wanted: &str) -> bool {
+    let Ok((pickle, _)) = read_pickle(alloc, input, 0) else {
+        return false;
+    };
+    match format!(in alloc; "{}", Shown { pickle: &pickle }) {
+        Ok(shown) => shown.as_str() == wanted,
+        Err(_) => false,
+    }
+}
+
+/// The graph of the first row with a pickle of another graph, or of one that is written otherwise.
+fn first_wrong(alloc: Global, rows: &[Row]) -> Option<&'static str> {
+    for (inputs, wanted, written) in rows {
+        for input in *inputs {
+            let same = shows(alloc, input, wanted)
+                && rewrites(alloc, input, written)
+                && spells(alloc, input, written);
+            if !same {
+                return Some(*wanted);
+            }
+        }
+    }
+    None
+}
+
+#[test]
+fn by_hand(rt: HostRuntime) {
+    assert_eq!(rt; first_wrong(rt.alloc(), &BY_HAND), None);
+}
+
+#[test]
+fn leaves(rt: HostRuntime) {
+    assert_eq!(rt; first_wrong(rt.alloc(), &LEAVES), None);
+}
+
+#[test]
+fn containers(rt: HostRuntime) {
+    assert_eq!(rt; first_wrong(rt.alloc(), &CONTAINERS), None);
+}
+
+#[test]
+fn objects(rt: HostRuntime) {
+    assert_eq!(rt; first_wrong(rt.alloc(), &OBJECTS), None);
+}
+
+#[test]
+fn more_objects(rt: HostRuntime) {
+    assert_eq!(rt; first_wrong(rt.alloc(), &MORE_OBJECTS), None);
+}
+
+#[test]
+fn persistent(rt: HostRuntime) {
+    assert_eq!(rt; first_wrong(rt.alloc(), &PERSISTENT), None);
+}
+
+#[test]
+fn rewritten(rt: HostRuntime) {
+    for (input, written) in &REWRITTEN {
+        assert!(rt; rewrites(rt.alloc(), input, written), "{input:?}");
+    }
+}
+
+/// How many nodes the pickle at a place has, which of them is the root, and the place behind it.
+fn outline(
+    alloc: Global,
+    input: &[u8],
+    at: usize,
+    limit: u32,
+) -> Result<(usize, u32, usize), PickleError> {
+    let (pickle, behind) = read_within(alloc, input, at, limit)?;
+    Ok((pickle.nodes().len(), pickle.root(), behind))
+}
+
+#[test]
+fn places(rt: HostRuntime) {
+    let input = b"\x00N.\x80\x03]q\x00h\x00a.\xff";
+    let unknown = TokenError::UnknownOp { at: 12, byte: 255 };
+    let cases = [
+        (1, Ok((1, 0, 3))),
+        (3, Ok((1, 0, 12))),
+        (12, Err(PickleError::Token(unknown))),
+        (13, Err(PickleError::Token(TokenError::Cut { at: 13 }))),
+    ];
+    for (at, wanted) in cases {
+        assert_eq!(rt; outline(rt.alloc(), input, at, NODE_LIMIT), wanted, "{at}");
+    }
+    assert_eq!(rt; NODE_LIMIT, 4_194_304);
+}
+
+/// The refusal of the pickle at the front of the input, of at most so many nodes.
+fn refusal(alloc: Global, input: &[u8], limit: u32) -> Option<PickleError> {
+    match outline(alloc, input, 0, limit) {
         Ok(_) => None,
         Err(refusal) => Some(refusal),
     }
 }
 
 #[test]
-fn places(rt: HostRuntime) -> Result<(), Fail> {
-    let input = b"\x00N.\x80\x03]q\x00h\x00a.\xff";
-    let (first, behind) = read_pickle(rt.alloc(), input, 1)?;
-    assert_eq!(rt; behind, 3);
-    assert_eq!(rt; first.nodes().len(), 1);
-    let (second, behind) = read_pickle(rt.alloc(), input, 3)?;
-    assert_eq!(rt; behind, 12);
-    assert_eq!(rt; second.root(), 0);
-    let unknown = PickleError::Token(TokenError::UnknownOp { at: 12, byte: 255 });
-    assert_eq!(rt; refusal(rt.alloc(), input, 12), Some(unknown));
-    let cut = PickleError::Token(TokenError::Cut { at: 13 });
-    assert_eq!(rt; refusal(rt.alloc(), input, 13), Some(cut));
-    Ok(())
-}
-
-#[test]
-fn one_node_too_many(rt: HostRuntime) {
-    let cases: [(&[u8], u32, Option<PickleError>); 9] = [
-        (b"NN\x86.", 3, None),
-        (b"NN\x86.", 2, Some(PickleError::TooLarge { at: 2 })),
-        (b"N\x86.", 1, Some(PickleError::Stack { at: 1 })),
-        (b"N2\x86.", 1, Some(PickleError::TooLarge { at: 2 })),
-        (b"(((N1N.", 1, Some(PickleError::TooLarge { at: 5 })),
-        (b"(((N1(00.", 1, Some(PickleError::Stack { at: 8 })),
-        (b"NN.", 0, Some(PickleError::TooLarge { at: 0 })),
-        (b"N)R.", 2, Some(PickleError::TooLarge { at: 2 })),
-        (b"NQ.", 1, Some(PickleError::TooLarge { at: 1 })),
-    ];
-    for (input, limit, wanted) in cases {
-        let found = match read_within(rt.alloc(), input, 0, limit) {
-            Ok(_) => None,
-            Err(refusal) => Some(refusal),
-        };
-        assert_eq!(rt; found, wanted, "{input:?}");
+fn refusals(rt: HostRuntime) {
+    for (input, at) in &STACK {
+        let found = refusal(rt.alloc(), input, NODE_LIMIT);
+        assert_eq!(rt; found, Some(PickleError::Stack { at: *at }), "{input:?}");
     }
-    assert_eq!(rt; NODE_LIMIT, 4_194_304);
-}
-
-#[test]
-fn many_marks(rt: HostRuntime) -> Result<(), Fail> {
-    let mut marks: Vec<u8> = Vec::new(rt.alloc());
-    for _ in 0..100_000 {
-        marks.push(b'(')?;
+    for (input, at) in &MEMO {
+        let found = refusal(rt.alloc(), input, NODE_LIMIT);
+        assert_eq!(rt; found, Some(PickleError::Memo { at: *at }), "{input:?}");
     }
-    let cut = PickleError::Token(TokenError::Cut { at: 100_000 });
-    assert_eq!(rt; refusal(rt.alloc(), marks.as_slice(), 0), Some(cut));
-    marks.push(b'.')?;
-    let stack = PickleError::Stack { at: 100_000 };
-    assert_eq!(rt; refusal(rt.alloc(), marks.as_slice(), 0), Some(stack));
-    Ok(())
+    for (input, error) in &TOKENS {
+        let found = refusal(rt.alloc(), input, NODE_LIMIT);
+        assert_eq!(rt; found, Some(PickleError::Token(*error)), "{input:?}");
+    }
+    for (input, limit, wanted) in &LIMITED {
+        assert_eq!(rt; refusal(rt.alloc(), input, *limit), *wanted, "{input:?}");
+    }
 }
 
+/// The last of the places that is not behind `end`.
+fn last_up_to(places: &[usize], end: usize) -> usize {
+    places
+        .iter()
+        .copied()
+        .filter(|place| *place <= end)
+        .last()
+        .unwrap_or(0)
+}
+
+/// Each front is cut within or before a token.
 #[test]
-fn references(rt: HostRuntime) -> Result<(), Fail> {
-    let nothing: &[u64] = &[];
-    let cases: [(&[u8], &[u64]); 8] = [
-        (b"N.", nothing),
-        (b"C\x08\x00\x00\x00\x00\x00\x00\x00\x05Q.", &[5]),
-        (
-            b"U\x08\x01\x02\x03\x04\x05\x06\x07\x08Q.",
-            &[0x0102_0304_0506_0708],
-        ),
-        (
-            b"C\x08\xff\xff\xff\xff\xff\xff\xff\xffN\x86Q.",
-            &[0xffff_ffff_ffff_ffff],
-        ),
-        (
-            b"T\x08\x00\x00\x00\x00\x00\x00\x00\x00\x00\x00\x09\x85Q.",
-            &[9],
-        ),
-        (b"]C\x08\x00\x00\x00\x00\x00\x00\x00\x05aQ.", nothing),
-        (
-            b"C\x08\x00\x00\x00\x00\x00\x00\x00\x02q\x00Q0C\x08\x00\x00\x00\x00\x00\x00\x00\x01Qh\x00Q0]QN.",
-            &[2, 1, 2],
-        ),
-        (b"(N1]Qcm\nC\n)R.\x00", nothing),
-    ];
-    for (input, wanted) in cases {
-        let (oids, behind) = references_of(rt.alloc(), input, 0)?;
-        assert_eq!(rt; oids.len(), wanted.len(), "{input:?}");
-        for (oid, number) in oids.as_slice().iter().zip(wanted) {
-            assert_eq!(rt; *oid, Oid(*number), "{input:?}");
+fn fronts(rt: HostRuntime) {
+    for (input, places) in &FRONTS {
+        for end in 0..input.len() {
+            let at = last_up_to(places, end);
+            let cut = PickleError::Token(TokenError::Cut { at });
+            assert_eq!(rt;
+                refusal(rt.alloc(), &input[..end], NODE_LIMIT),
+                Some(cut),
+                "{input:?}"
+            );
         }
-        let (_, same) = read_pickle(rt.alloc(), input, 0)?;
-        assert_eq!(rt; behind, same);
+        assert_eq!(rt; refusal(rt.alloc(), input, NODE_LIMIT), None, "{input:?}");
     }
-    Ok(())
+}
+
+/// Whether the pickle refers to the oids of these numbers, and ends where reading its graph ends.
+fn refers_to(alloc: Global, input: &[u8], wanted: &[u64]) -> bool {
+    let Ok((oids, behind)) = references_of(alloc, input, 0) else {
+        return false;
+    };
+    for (oid, number) in oids.as_slice().iter().zip(wanted) {
+        if *oid != Oid(*number) {
+            return false;
+        }
+    }
+    match read_pickle(alloc, input, 0) {
+        Ok((_, end)) => oids.len() == wanted.len() && behind == end,
+        Err(_) => false,
+    }
 }
 
 #[test]
-fn bad_references(rt: HostRuntime) {
-    let cases: [(&[u8], u32, PickleError); 12] = [
-        (b"NQ.", 9, PickleError::BadReference { at: 1 }),
-        (b")Q.", 9, PickleError::BadReference { at: 1 }),
-        (b"}Q.", 9, PickleError::BadReference { at: 1 }),
-        (
-            b"X\x08\x00\x00\x0012345678Q.",
-            9,
-            PickleError::BadReference { at: 13 },
-        ),
-        (b"C\x071234567Q.", 9, PickleError::BadReference { at: 9 }),
-        (b"C\x09123456789Q.", 9, PickleError::BadReference { at: 11 }),
-        (
-            b"NC\x0812345678\x86Q.",
-            9,
-            PickleError::BadReference { at: 12 },
-        ),
-        (b"]\x85Q.", 9, PickleError::BadReference { at: 2 }),
-        (b"NQ0a", 9, PickleError::BadReference { at: 1 }),
-        (b"Q.", 9, PickleError::Stack { at: 0 }),
-        (b"NaNQ.", 9, PickleError::Stack { at: 1 }),
-        (b"NQ.", 1, PickleError::TooLarge { at: 1 }),
-    ];
-    for (input, limit, wanted) in cases {
-        let found = match references_within(rt.alloc(), input, 0, limit) {
+fn references(rt: HostRuntime) {
+    for (input, wanted) in &REFERENCES {
+        assert!(rt; refers_to(rt.alloc(), input, wanted), "{input:?}");
+    }
+    for (input, limit, wanted) in &BAD_REFERENCES {
+        let found = match references_within(rt.alloc(), input, 0, *limit) {
             Ok(_) => None,
             Err(refusal) => Some(refusal),
         };
-        assert_eq!(rt; found, Some(wanted), "{input:?}");
+        assert_eq!(rt; found, Some(*wanted), "{input:?}");
     }
-    let open = references_of(rt.alloc(), b"C\x0812345678Q(.", 0);
-    assert!(rt; matches!(open, Err(PickleError::Stack { at: 12 })));
 }
 
 #[test]
 fn refusals_print(rt: HostRuntime) -> Result<(), Fail> {
-    let cases: [(PickleError, &str); 6] = [
-        (
-            PickleError::Token(TokenError::Cut { at: 3 }),
-            "the token at 3 is cut",
-        ),
-        (
-            PickleError::Stack { at: 4 },
-            "the opcode at 4 takes what the stack does not hold",
-        ),
-        (
-            PickleError::Memo { at: 5 },
-            "the opcode at 5 gets what was not put",
-        ),
-        (
-            PickleError::TooLarge { at: 6 },
-            "the opcode at 6 makes one node too many",
-        ),
-        (
-            PickleError::BadReference { at: 7 },
-            "the reference at 7 has a bad id",
-        ),
-        (PickleError::Memory, "no memory is left"),
-    ];
-    for (refusal, wanted) in cases {
+    for (refusal, wanted) in &PRINTED {
         let shown = format!(in rt.alloc(); "{refusal}")?;
-        assert_eq!(rt; shown.as_str(), wanted);
+        assert_eq!(rt; shown.as_str(), *wanted);
     }
+    let shown = format!(in rt.alloc(); "{}; {}", WriteError::TooDeep, WriteError::Memory)?;
+    let wanted = "a walk of more than 200 edges starts at the root; no memory is left";
+    assert_eq!(rt; shown.as_str(), wanted);
+    Ok(())
+}
+
+/// The text of a front, a middle so many times, and an end.
+fn repeated(alloc: Global, parts: &Repeated) -> Result<Text8, Fail> {
+    let (front, middle, count, end) = *parts;
+    let mut text = Text8::from_slice(alloc, front)?;
+    for _ in 0..count {
+        text.extend_from_slice(middle)?;
+    }
+    text.extend_from_slice(end)?;
+    Ok(text)
+}
+
+/// Whether each pickle is written as the text beside it; no bytes stand for what is too deep.
+fn all_rewritten(alloc: Global, rows: &[(Repeated, Repeated)]) -> Result<bool, Fail> {
+    for (parts, written) in rows {
+        let input = repeated(alloc, parts)?;
+        let wanted = repeated(alloc, written)?;
+        if !rewrites(alloc, input.as_slice(), wanted.as_slice()) {
+            return Ok(false);
+        }
+    }
+    Ok(true)
+}
+
+#[test]
+fn a_large_list(rt: HostRuntime) -> Result<(), Fail> {
+    assert!(rt; all_rewritten(rt.alloc(), &LARGE_LIST)?);
+    Ok(())
+}
+
+#[test]
+fn many_lists(rt: HostRuntime) -> Result<(), Fail> {
+    assert!(rt; all_rewritten(rt.alloc(), &MANY_LISTS)?);
+    Ok(())
+}
+
+#[test]
+fn deep_pickles(rt: HostRuntime) -> Result<(), Fail> {
+    assert_eq!(rt; WALK_LIMIT, 200);
+    assert!(rt; all_rewritten(rt.alloc(), &DEEP)?);
+    for (parts, wanted) in &MARKS {
+        let input = repeated(rt.alloc(), parts)?;
+        let found = refusal(rt.alloc(), input.as_slice(), NODE_LIMIT);
+        assert_eq!(rt; found, Some(*wanted));
+    }
+    Ok(())
+}
+
+/// Each of 100 tuples holds the one before twice, and all but the last are put; 300 tuples hold one list
+/// twice each, and numbers above 255 are put in four bytes.
+#[test]
+fn many_puts(rt: HostRuntime) -> Result<(), Fail> {
+    let input = repeated(rt.alloc(), &(b"N", b"2\x86", 100, b"."))?;
+    let mut wanted = Text8::from_slice(rt.alloc(), b"\x80\x03NN\x86")?;
+    for put in 0..99u8 {
+        wanted.extend_from_slice(&[0x71, put, 0x68, put, 0x86])?;
+    }
+    wanted.push(0x2e)?;
+    assert!(rt; rewrites(rt.alloc(), input.as_slice(), wanted.as_slice()));
+    let input = repeated(rt.alloc(), &(b"](", b"]2\x86", 300, b"e."))?;
+    let mut wanted = Text8::from_slice(rt.alloc(), b"\x80\x03](")?;
+    for number in 0..300u16 {
+        let [low, high] = number.to_le_bytes();
+        if high == 0 {
+            wanted.extend_from_slice(&[0x5d, 0x71, low, 0x68, low, 0x86])?;
+        } else {
+            wanted.extend_from_slice(&[0x5d, 0x72, low, high, 0, 0, 0x6a, low, high, 0, 0, 0x86])?;
+        }
+    }
+    wanted.extend_from_slice(b"e.")?;
+    assert!(rt; rewrites(rt.alloc(), input.as_slice(), wanted.as_slice()));
+    assert!(rt; rewrites(rt.alloc(), wanted.as_slice(), wanted.as_slice()));
+    Ok(())
+}
+
+/// In 201 tuples, one in the other, the one below the root is not too deep.
+#[test]
+fn spelled_below_the_root(rt: HostRuntime) -> Result<(), Fail> {
+    let deep = repeated(rt.alloc(), &(b"N", b"\x85", 201, b"."))?;
+    let (pickle, _) = read_pickle(rt.alloc(), deep.as_slice(), 0)?;
+    if pickle.nodes().len() <= 200 {
+        return Err(Fail::from("the graph has 202 nodes"));
+    }
+    let inner = spelling(rt.alloc(), &pickle, 200)?;
+    let wanted = repeated(rt.alloc(), &(b"N", b"\x85", 200, b""))?;
+    assert_eq!(rt; inner.as_slice(), wanted.as_slice());
     Ok(())
 }

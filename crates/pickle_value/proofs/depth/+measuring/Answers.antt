@@ -1,6 +1,6 @@
 use Rattle.std.proofs.Common.{sym, ◌∙◌, ap, arith}
 use Rattle.pickle_value.specs.Parts.{items_in}
-use Rattle.pickle_value.proofs.Heights.{byte_measured, item_higher, item_same, node_built, settled_more, open_later, open_parts, round_deep, item_has}
+use Rattle.pickle_value.proofs.Heights.{byte_measured, all_higher, all_same, item_measured, node_built, settled_more, open_later, open_parts, round_deep, item_has}
 use Rattle.pickle_value.proofs.depth.+measuring.Goals as goal
 use Rattle.pickle_value.proofs.depth.+measuring.Goals.{measure_items-in-Byte, measure_items-in-Item+else-levels-eq0+in_ok-measured-in-Item+then-measured-height, measure_items-in-Item+else-levels-eq0+in_ok-measured-in-Item+else-measured-height}
 
@@ -11,12 +11,12 @@ measure_items-loop-part-preserved t c =
       | measure_items-in-Byte w ↦ rw (w.heights-is, w.height-is, w.begun-is) (record { all = byte_measured _ _ _ _ _ _ _ _ _ c.loop-part-test.true w.in-Byte.is i.all; settled = i.settled })
       | measure_items-in-Item+else-levels-eq0+in_ok-measured-in-Item+then-measured-height w ↦
           rw (w.heights-is, w.height-is, w.begun-is) (record {
-            all = item_higher _ _ _ _ _ _ _ _ _ _ _ c.loop-part-test.true w.in-Item.is (let none = w.if-levels-eq0.false in omega (arith, none)) i.all w.in_ok-measured-in-Item.ensures.ok w.if-measured-height.true;
+            all = item_measured _ _ _ _ _ _ _ _ _ c.loop-part-test.true w.in-Item.is (all_higher _ _ _ _ _ _ _ _ _ (let none = w.if-levels-eq0.false in omega (arith, none)) i.all w.in_ok-measured-in-Item.ensures.ok w.if-measured-height.true);
             settled = settled_more _ _ _ _ _ i.settled w.in_ok-measured-in-Item.ensures.settled w.in_ok-measured-in-Item.ensures.ok.kept;
           })
       | measure_items-in-Item+else-levels-eq0+in_ok-measured-in-Item+else-measured-height w ↦
           rw (w.heights-is, w.height-is, w.begun-is) (record {
-            all = item_same _ _ _ _ _ _ _ _ _ _ _ c.loop-part-test.true w.in-Item.is (let none = w.if-levels-eq0.false in omega (arith, none)) i.all w.in_ok-measured-in-Item.ensures.ok w.if-measured-height.false;
+            all = item_measured _ _ _ _ _ _ _ _ _ c.loop-part-test.true w.in-Item.is (all_same _ _ _ _ _ _ _ _ _ (let none = w.if-levels-eq0.false in omega (arith, none)) i.all w.in_ok-measured-in-Item.ensures.ok w.if-measured-height.false);
             settled = settled_more _ _ _ _ _ i.settled w.in_ok-measured-in-Item.ensures.settled w.in_ok-measured-in-Item.ensures.ok.kept;
           })
     ]

@@ -1,0 +1,14 @@
+-- References are told by the steps that read the graph.
+use Rattle.pickle_value.proofs.Told.{told-named}
+use Rattle.pickle_value.proofs.Lost.{named-told}
+use Rattle.pickle_value.proofs.Alike.{copies-named}
+use Rattle.pickle_value.proofs.laws.references_are_those_of_nodes.Goals as goal
+
+pub returns-clause-told : goal.returns-clause-told
+returns-clause-told c = told-named
+
+pub returns-clause-named : goal.returns-clause-named
+returns-clause-named c = named-told
+
+pub returns-clause-copies : goal.returns-clause-copies
+returns-clause-copies c = copies-named
