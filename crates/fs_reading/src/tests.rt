@@ -190,21 +190,28 @@ fn transactions_are_read_whole(rt: HostRuntime) -> Result<(), Fail> {
     let alloc = rt.alloc();
     let mut volume = volume_of_file(alloc, &rt)?;
     let index = index_of_file(alloc)?;
-    let starts = index.transactions();
-    if starts.is_empty() {
+    if index.transactions().is_empty() {
         return Err(Fail::new("no transactions"));
     }
     let first = read_transaction(alloc, &mut volume, &index, 0)?;
-    assert!(rt; first.packed && first.extension.as_slice() == b"x".as_slice());
-    let Some(sixth) = read_transaction_with(alloc, &mut volume, starts, Tid(6))? else {
-        return Err(Fail::new("no transaction 6"));
-    };
-    assert!(rt; !sixth.packed && sixth.description.as_slice() == b"two".as_slice());
-    for change in sixth.changes.as_slice() {
-        assert!(rt; is_change(change, 5, b"the second"));
+    assert!(rt; first.packed);
+    assert_eq!(rt; first.extension.as_slice(), b"x".as_slice());
+    for change in first.changes.as_slice() {
+        assert!(rt; is_change(change, 5, b"hello"));
     }
-    let last = read_first_after(alloc, &mut volume, starts, Tid(6))?;
-    assert_eq!(rt; last.map(|t| t.changes.len()), Some(2));
+    Ok(())
+}
+
+#[test]
+fn transactions_are_found(rt: HostRuntime) -> Result<(), Fail> {
+    let alloc = rt.alloc();
+    let mut volume = volume_of_file(alloc, &rt)?;
+    let index = index_of_file(alloc)?;
+    let starts = index.transactions();
+    let with = read_transaction_with(alloc, &mut volume, starts, Tid(6))?;
+    assert_eq!(rt; with.map(|t| t.changes.len()), Some(1));
+    let after = read_first_after(alloc, &mut volume, starts, Tid(6))?;
+    assert_eq!(rt; after.map(|t| t.changes.len()), Some(2));
     let outline = read_outline(alloc, &mut volume, place(7, 394))?;
     assert!(rt; !outline.packed);
     assert_eq!(rt; outline.oids.as_slice(), [Oid(9), Oid(5)].as_slice());

@@ -1,6 +1,6 @@
 -- What a crash leaves of a text while a record is added to it.
 use Rattle.std.proofs.Common.{◌≡◌, ◌⊎◌, inl, inr, ⊎_elim, ℕ, ◌+◌, ◌<◌, ◌≤◌, ◌==◌, if◌then◌else◌, List, [], ◌∷◌, ◌++◌, length, get_or, set, take, drop, refl, sym, ◌∙◌, ap, subst, arith, add-one}
-use Rattle.std.proofs.lemmas.List.{ext_get_or, get_or-take, get_or_append_left, get_or-append-add, get_or_past, get_or-set_same, get_or-set_other, set-append_right, length-append, length-take, length-set, take_all, drop_all, take_at, append-nil, append_assoc, set_split}
+use Rattle.std.proofs.lemmas.List.{ext_get_or, get_or-take, get_or_append_left, get_or-append-add, get_or_past, get_or-set_same, get_or-set_other, set-append_right, length-append, length-take, length-set, take_at, append_assoc, set_split}
 use Rattle.std.proofs.lemmas.Bool.{cases_eq, cases_lt}
 use Rattle.zb_volume.specs.Disk.{written}
 use Rattle.zb_volume.specs.Images.{IsImage}
