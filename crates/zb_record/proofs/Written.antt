@@ -38,7 +38,7 @@ global-copy origin x _ h e = absurd cc
 class-copy : (origin : List ℕ) (g copy : List Node) (x : Node) (old : Option Node) → AllCopies origin g copy origin → IsCopy origin x old → is_class_node g old ≡ true → is_class_node copy (Some x) ≡ true
 class-copy origin g copy (kinds.Tuple []) (Some (kinds.Tuple ms)) all h e = absurd (none ms h e)
   where
-    none : (ms : List ℕ) → Rattle.pickle_value.specs.Same.AllStandFor origin [] ms → begins_with_global g ms ≡ true → ⊥
+    none : (ms : List ℕ) → Rattle.pickle_value.specs.Same.HaveOrigins origin [] ms → begins_with_global g ms ≡ true → ⊥
     none [] k f = cc
     none (m ∷ ms) k f = k
 class-copy origin g copy (kinds.Tuple (n ∷ ns)) (Some (kinds.Tuple [])) all h e = absurd h
