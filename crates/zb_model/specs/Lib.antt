@@ -2,8 +2,10 @@ pub mod Creation
 pub mod Database
 pub mod DatabaseLaws
 pub mod Lists
+pub mod Merged
 pub mod Queries
 pub mod QueryLaws
+pub mod Rules
 pub mod Seen
 pub mod Stores
 pub mod Voting
