@@ -27,7 +27,8 @@ use Rattle.file_store.specs.KeptLaws.{kept_stands, kept_for, kept_leaves, list_r
 use Rattle.file_store.specs.Numbers.{NumbersKept, AreNumbersOf}
 use Rattle.file_store.specs.Preparing.{IsPrepared}
 use Rattle.file_store.specs.Staging.{StagedKept, shown_places, shown_starts}
-use Rattle.file_store.proofs.Writes.{Voted, staged_for, voted_kept, finished_kept, aborted_kept, written_end}
+use Rattle.zb_volume.specs.Lasting.{written_end}
+use Rattle.file_store.proofs.Writes.{Voted, staged_for, voted_kept, finished_kept, aborted_kept}
 
 -- each byte of a slice is one
 pub are_bytes : (xs : List ℕ) → All (λ byte. byte < 256) xs → AreBytes xs

@@ -1,23 +1,37 @@
 -- What is read through what is kept is the list's.
 use Rattle.std.proofs.Common.{◌≡◌, ℕ, List, Option, None, sym, ap, subst, ◌∙◌, arith}
 use Rattle.std.specs.List.{last_or}
-use Rattle.std.specs.Option.{option_map_or}
+use Rattle.std.specs.Option.{ForSome, option_map_or}
+use Rattle.zb_volume.specs.declared.areas.Area.TheVariants.{Main}
 use Rattle.zb_volume.specs.Calls.{Event}
+use Rattle.zb_volume.specs.Disk.{seen, IsSettled}
+use Rattle.zb_model.specs.declared.data.Transaction.{Transaction}
 use Rattle.zb_model.specs.Database.{newest_tid, serial_of}
 use Rattle.fs_records.specs.declared.place.Place.{Place}
-use Rattle.fs_records.specs.Blocks.{Begins}
+use Rattle.fs_records.specs.Blocks.{Begins, Reached}
 use Rattle.fs_records.specs.Databases.{reading_of}
 use Rattle.fs_records.specs.Listed.{listed, reached_in}
 use Rattle.fs_records.specs.Lookups.{serial_read}
+use Rattle.fs_records.specs.Places.{places_of}
 use Rattle.fs_reading.specs.Main.{ArePlaces, AreStarts}
-use Rattle.file_store.specs.Kept.{IsKept, cut_of}
+use Rattle.file_store.specs.Kept.{IsKept, IsVotedIn, cut_of}
 use Rattle.file_store.specs.KeptLaws.{kept_stands, list_read}
 use Rattle.file_store.specs.Numbers.{NumbersKept}
 use Rattle.file_store.specs.Staging.{StagedKept, shown_places, shown_starts}
 
--- what holds of a log holds of one that is the same
-pub still : (T B : Type 0) (P : List Event → Type 0) (old new : List Event) → new ≡ old → (T → B → P old) → T → B → P new
-still T B P old new is h told whole = subst P (sym is) (h told whole)
+-- ---- a call that only reads leaves what is kept
+
+-- what a store keeps of a log, unless it is broken
+pub record KeepsLog (T B : Type 0) (log : List Event) (index : StagedKept) (numbers : NumbersKept) : Type 0 where
+  pub settled : T → B → IsSettled log Main
+  pub kept : T → B → IsKept (seen log Main) index numbers
+  pub voted : T → B → ForSome index.staged (λ s. IsVotedIn (seen log Main) s index)
+
+-- is kept of a log that is the same
+pub still : (T B : Type 0) (old new : List Event) (index : StagedKept) (numbers : NumbersKept) → new ≡ old → KeepsLog T B old index numbers → KeepsLog T B new index numbers
+still T B old new index numbers same k = subst (λ (log : List Event). KeepsLog T B log index numbers) (sym same) k
+
+-- ---- what is read is the list's
 
 module _ (main : List ℕ) (index : StagedKept) (numbers : NumbersKept) (kept : IsKept main index numbers) where
   pub begun : Begins main (reached_in main)
@@ -34,6 +48,16 @@ module _ (main : List ℕ) (index : StagedKept) (numbers : NumbersKept) (kept : 
 
   pub starts_are : (places : List Place) → places ≡ shown_starts index → AreStarts main places
   starts_are places is = record { reached = reached_in main; begins = begun; are = is ∙ kept.starts; short = omega (arith, kept.short) }
+
+  -- what is read by the places of an object, for any answer that a list gives
+  pub by_places : {A : Type 0} (answer : ℕ → List Transaction → A) (x : A) (oid : ℕ) (places : List Place) → places ≡ shown_places index oid
+      → ((reached : Reached) (o : ℕ) → Begins main reached → places ≡ places_of o reached.known → x ≡ answer o reached.list) → x ≡ answer oid (listed main)
+  by_places answer x oid places is read = read (reached_in main) oid begun (is ∙ kept.records oid) ∙ ap (answer oid) (sym list_is)
+
+  -- and by the places of the transactions
+  pub by_starts : {A : Type 0} (answer : List Transaction → A) (x : A) (places : List Place) → places ≡ shown_starts index
+      → ((reached : Reached) → Begins main reached → places ≡ reached.starts → x ≡ answer reached.list) → x ≡ answer (listed main)
+  by_starts answer x places is read = read (reached_in main) begun (is ∙ kept.starts) ∙ ap answer (sym list_is)
 
   pub serial_is : (oid : ℕ) (places : List Place) (last : Option Place) → places ≡ shown_places index oid → last ≡ last_or None places → option_map_or (λ p. p.serial) last 0 ≡ serial_of oid (listed main)
   serial_is oid places last is last_is =

@@ -14,6 +14,7 @@ use Rattle.zb_model.specs.declared.data.Transaction.{Transaction}
 use Rattle.zb_model.specs.Database.{IsDatabase}
 use Rattle.zb_model.specs.Queries as queries
 use Rattle.zb_model.specs.Queries.{greatest_of, greatest_oid, oids_of, pack_point, changes_up_to, is_packed}
+use Rattle.zb_model.specs.QueryLaws.{greatest-append}
 use Rattle.file_store.specs.declared.tally.Tally.{Tally}
 use Rattle.file_store.specs.Numbers.{tallies_from, total_of, is_tally_up_to, NumbersKept, AreNumbersOf}
 use Rattle.zb_base.specs.Lists.{last_or_append, last_or_get}
@@ -98,10 +99,6 @@ tallies-push n (u ∷ us) t = ap (λ (xs : List Tally). record { tid = u.tid; ch
         ≡ xs ++ record { tid = t.tid; changes = changes_of (last_or (Some (record { tid = u.tid; changes = n + length u.changes })) xs) + length t.changes } ∷ []
     same [] = refl
     same (x ∷ xs) = refl
-
-greatest-append : (ms ns : List ℕ) → greatest_of (ms ++ ns) ≡ max (greatest_of ms) (greatest_of ns)
-greatest-append [] ns = omega arith
-greatest-append (m ∷ ms) ns = rw (greatest-append ms ns) (omega arith)
 
 flat-push : (list : List Transaction) (t : Transaction) → greatest_oid (list ++ t ∷ []) ≡ max (greatest_oid list) (greatest_of (map (λ c. c.oid) t.changes))
 flat-push [] t = rw (greatest-append (oids_of t) []) (omega arith)

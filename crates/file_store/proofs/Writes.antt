@@ -1,15 +1,15 @@
 -- What a vote, a finish and an abort make of what is kept.
-use Rattle.std.proofs.Common.{◌≡◌, ℕ, zero, suc, ◌+◌, ◌^◌, ◌<◌, ◌≤◌, false, List, [], ◌∷◌, ◌++◌, length, get_or, map, take, drop, Option, Some, None, refl, sym, ap, subst, ◌∙◌, arith}
+use Rattle.std.proofs.Common.{◌≡◌, ℕ, zero, suc, ◌+◌, ◌^◌, ◌<◌, ◌≤◌, false, List, [], ◌∷◌, ◌++◌, length, get_or, map, take, Option, Some, None, refl, sym, ap, subst, ◌∙◌, arith}
 use Rattle.std.proofs.Math.ListN.{set, length-set}
 use Rattle.std.specs.Prelude.{unwrap_or, option_map}
 use Rattle.std.specs.List.{last_or}
-use Rattle.std.proofs.lemmas.List.{length-append, length-take, take_all, drop_all, append-nil, set-append_right, get_or-append-add}
-use Rattle.zb_volume.specs.Disk.{written}
+use Rattle.std.proofs.lemmas.List.{length-append, length-take, take_all, set-append_right, get_or-append-add}
 use Rattle.zb_model.specs.declared.data.Transaction.{Transaction}
 use Rattle.zb_model.specs.declared.new_transaction.NewTransaction.{NewTransaction}
 use Rattle.zb_model.specs.Voting.{IsVotable, voted_of}
-use Rattle.zb_model.specs.VotingLaws.{last_or-push, oids_kept}
+use Rattle.zb_model.specs.VotingLaws.{oids_kept}
 use Rattle.fs_records.specs.declared.place.Place.{Place}
+use Rattle.zb_base.specs.Lists.{last_or_push}
 use Rattle.zb_base.specs.Bytes.{AreBytes, AreBytes-take}
 use Rattle.fs_records.specs.Blocks.{Known, Reached, Block, block_text, records_from, length_of, with_records, after_block, transaction_of, Begins}
 use Rattle.fs_records.specs.File.{IsReadAs}
@@ -39,13 +39,6 @@ set_bytes (x ∷ xs) zero v small h zero = small
 set_bytes (x ∷ xs) zero v small h (suc k) = h (suc k)
 set_bytes (x ∷ xs) (suc i) v small h zero = h 0
 set_bytes (x ∷ xs) (suc i) v small h (suc k) = set_bytes xs i v small (λ j. h (suc j)) k
-
--- what is written at the end stands behind
-pub written_end : (old text : List ℕ) (end : ℕ) → length old ≡ end → written old end text ≡ old ++ text
-written_end old text end is =
-    ap (λ (xs : List ℕ). xs ++ text ++ drop (end + length text) old) (take_all end old (omega arith))
-    ∙ ap (λ (xs : List ℕ). old ++ text ++ xs) (drop_all (end + length text) old (omega arith))
-    ∙ append-nil (old ++ text)
 
 -- ---- a vote
 
@@ -163,7 +156,7 @@ module _ (main text : List ℕ) (old now : StagedKept) (was are : NumbersKept) (
   grown_list = list_read (main ++ text) (reached_in main) (Some old.end) (reading_is (main ++ text) (reached_in main) (Some old.end) grown_fits (omega (arith, grown_short)) grown_stands) ∙ sym list_is
 
   voted_is : voted_in new.tid now.end (main ++ text) ≡ voted_of (listed main) new
-  voted_is = ap (λ (l : List Transaction). record (unwrap_or (last_or None l) nothing) { tid = new.tid }) finished_list ∙ ap (λ (o : Option Transaction). record (unwrap_or o nothing) { tid = new.tid }) (last_or-push None (listed main) (voted_of (listed main) new))
+  voted_is = ap (λ (l : List Transaction). record (unwrap_or (last_or None l) nothing) { tid = new.tid }) finished_list ∙ ap (λ (o : Option Transaction). record (unwrap_or o nothing) { tid = new.tid }) (last_or_push None (listed main) (voted_of (listed main) new))
 
   staged_end : (after_block (reached_in main) (block_of 32 old.kept.entries new)).end ≡ old.end + length text
   staged_end =

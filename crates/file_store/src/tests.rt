@@ -1,10 +1,6 @@
 //! A store over a volume in memory.
-mod answers;
 mod bytes;
-mod creating;
-mod damage;
-mod faults;
 mod making;
+mod moments;
+mod pair;
 mod steps;
-mod table;
-mod watched;

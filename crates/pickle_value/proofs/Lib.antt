@@ -26,3 +26,4 @@ pub mod Told
 pub mod Inside
 pub mod Lost
 pub mod Alike
+pub mod Putting

@@ -13,5 +13,6 @@ pub mod Spelling
 pub mod Same
 pub mod Numbers
 pub mod Writing
+pub mod Putting
 pub mod Laws
 pub mod Named

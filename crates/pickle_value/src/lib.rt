@@ -29,7 +29,7 @@ pub use node::{Act, Node};
 pub use pickle::Pickle;
 pub use reading::{NODE_LIMIT, read_pickle};
 pub use references::references_of;
-pub use writing::{spelling, write_pickle};
+pub use writing::{PutNumbers, put_numbers, spelling, write_pickle};
 
 #[cfg(test)]
 mod tests;

@@ -5,6 +5,8 @@ ghost use Rattle.pickle_value.specs.Numbers.{is_many};
 ghost use Rattle.pickle_value.specs.Spelling.{get_text, put_number, parts_piece, piece_of, spelling_of, pickle_text, Writes};
 ghost use Rattle.pickle_value.specs.Writing.{with_piece, after_put, held_at};
 
+mod putting;
+
 use crate::depth::{WALK_LIMIT, measure_from};
 use crate::error::WriteError;
 use crate::leaf_text::{write_leaf, write_numbered};
@@ -13,6 +15,7 @@ use crate::node_map::NodeMap;
 use crate::parts::{Part, is_held, parts_at};
 use crate::pickle::Pickle;
 use crate::shared::{count_edges, is_many};
+pub use putting::{PutNumbers, put_numbers};
 use std::alloc::{AllocError, Global};
 use std::marker::Model;
 use zb_ids::{ListOf, Text8};

@@ -1,110 +1,62 @@
-//! One table of steps over either store.
+//! A file answers as its list does, which `mapping_store` compares with answers by hand.
 
-use crate::tests::answers::{
-    are_counts, are_found, are_histories, are_missing, are_numbers, are_serials, are_transactions,
-    is_listed, is_undo_log,
-};
-use crate::tests::making::{T0, created, opened_again, plain};
-use crate::tests::table::{CREATION, LAST, LISTED, STATES, STEPS, State, T4, T7};
-use crate::tests::watched::{Stepped, Watched};
-use std::alloc::Global;
-use std::process::Abort;
+use crate::tests::making::{Put, Puts};
+use crate::tests::pair::Pair;
 use std::test::Fail;
-use zb_model::Store;
 
-/// The tids that no transaction has.
-const MISSING: &[u64] = &[0, T0 - 1, T4, T7, LAST];
+/// How far a tid is behind T0, the changes, whether they are finished, and then the newest tid, the
+/// greatest object and the number of changes. Three objects; a vote that is dropped; two changes, that
+/// are undone; two changes and a new object; and the content that was undone comes again.
+const STEPS: &[(u8, Puts, bool, (u64, u64, u64))] = &[
+    (
+        1,
+        &[
+            (1, Put::Bytes(b"abc")),
+            (2, Put::Bytes(b"de")),
+            (3, Put::Bytes(b"f")),
+        ],
+        true,
+        (1, 3, 4),
+    ),
+    (
+        2,
+        &[(9, Put::Bytes(b"zz")), (1, Put::Bytes(b"x"))],
+        false,
+        (1, 3, 4),
+    ),
+    (
+        2,
+        &[(2, Put::Absent), (1, Put::Bytes(b"abcd"))],
+        true,
+        (2, 3, 6),
+    ),
+    (3, &[(1, Put::AsOf(1)), (2, Put::AsOf(1))], true, (3, 3, 8)),
+    (
+        5,
+        &[
+            (1, Put::Bytes(b"abcde")),
+            (5, Put::Bytes(b"g")),
+            (3, Put::Absent),
+        ],
+        true,
+        (5, 5, 11),
+    ),
+    (6, &[(1, Put::AsOf(3))], true, (6, 5, 12)),
+];
 
-/// The store answers all that is to be answered of a list.
-fn assert_answers<S: Store + Drop>(
-    rt: &impl Abort,
-    alloc: Global,
-    store: &mut Watched<S>,
-    want: &State,
-) -> Result<(), Fail> {
-    let list = LISTED.get(..want.count).unwrap_or(&[]);
-    assert!(rt; are_numbers(store, want), "numbers at {}", want.count);
-    assert!(rt; are_counts(store, want.changes), "counts at {}", want.count);
-    assert!(rt;
-        are_serials(store, want.serials),
-        "serials at {}",
-        want.count
-    );
-    assert!(rt;
-        are_found(alloc, store, want.found)?,
-        "found at {}",
-        want.count
-    );
-    assert!(rt; is_listed(alloc, store, list)?, "list at {}", want.count);
-    assert!(rt;
-        are_transactions(alloc, store, list)?,
-        "transactions at {}",
-        want.count
-    );
-    assert!(rt;
-        are_missing(alloc, store, MISSING)?,
-        "missing at {}",
-        want.count
-    );
-    assert!(rt;
-        are_histories(alloc, store, want.histories, list)?,
-        "histories at {}",
-        want.count
-    );
-    assert!(rt;
-        is_undo_log(alloc, store, list)?,
-        "undo log at {}",
-        want.count
-    );
-    Ok(())
-}
-
-/// Goes through the table, and asks all after each step.
-fn assert_steps<S: Store + Drop>(
-    rt: &impl Abort,
-    alloc: Global,
-    store: Watched<S>,
-) -> Result<(), Fail> {
-    let mut store = store;
-    assert_answers(rt, alloc, &mut store, &CREATION)?;
-    for (step, state) in STEPS.iter().zip(STATES.iter()) {
-        let Stepped::Done(next) = store.step(alloc, *step)? else {
-            return Err(Fail::new("no call fails"));
+#[test]
+fn a_file_answers_as_its_list(rt: HostRuntime) -> Result<(), Fail> {
+    let alloc = rt.alloc();
+    let mut pair = Pair::new(alloc)?;
+    assert!(rt; pair.is_alike(alloc)?);
+    for (place, puts, finishes, numbers) in STEPS {
+        pair = if *finishes {
+            pair.commit(alloc, *place, *puts)?
+        } else {
+            pair.drop_vote(alloc, *place, *puts)?
         };
-        store = next;
-        assert_answers(rt, alloc, &mut store, state)?;
-    }
-    Ok(())
-}
-
-#[test]
-fn the_table_over_a_plain_list(rt: HostRuntime) -> Result<(), Fail> {
-    let alloc = rt.alloc();
-    assert_eq!(rt; STEPS.len(), STATES.len());
-    assert_steps(&rt, alloc, plain(alloc)?)
-}
-
-#[test]
-fn the_table_over_a_file(rt: HostRuntime) -> Result<(), Fail> {
-    let alloc = rt.alloc();
-    assert_eq!(rt; STEPS.len(), STATES.len());
-    assert_steps(&rt, alloc, created(alloc)?)
-}
-
-/// The file behind the first steps, opened again: all is answered as before.
-#[test]
-fn opened_again_after_each_step(rt: HostRuntime) -> Result<(), Fail> {
-    let alloc = rt.alloc();
-    for (place, state) in STATES.iter().enumerate() {
-        let mut store = created(alloc)?;
-        for step in STEPS.iter().take(place.saturating_add(1)) {
-            let Stepped::Done(next) = store.step(alloc, *step)? else {
-                return Err(Fail::new("no call fails"));
-            };
-            store = next;
-        }
-        let mut again = opened_again(alloc, store.into_store().into_volume())?;
-        assert_answers(&rt, alloc, &mut again, state)?;
+        assert_eq!(rt; pair.numbers(), *numbers, "at {place}");
+        assert!(rt; pair.is_alike(alloc)?, "at {place}");
     }
     Ok(())
 }

@@ -1,13 +1,7 @@
-use Rattle.std.proofs.Common.{List, sym, ap, ◌∙◌}
-use Rattle.std.specs.Option.{ForSome}
 use Rattle.zb_volume.specs.declared.areas.Area.TheVariants.{Main}
-use Rattle.zb_volume.specs.Calls.{Event}
-use Rattle.zb_volume.specs.Disk.{seen, IsSettled}
-use Rattle.zb_model.specs.declared.data.Transaction.{Transaction}
+use Rattle.zb_volume.specs.Disk.{seen}
 use Rattle.zb_model.specs.Queries.{transaction_at}
-use Rattle.fs_records.specs.Listed.{reached_in}
-use Rattle.file_store.specs.Kept.{IsKept, IsVotedIn}
-use Rattle.file_store.proofs.Shown.{still, begun, list_is, starts_are}
+use Rattle.file_store.proofs.Shown.{by_starts, starts_are, still}
 use Rattle.file_store.proofs.store.FileStoreStore.transaction.Goals as goal
 
 pub read_transaction_with-requires-clause-starts : goal.read_transaction_with-requires-clause-starts
@@ -16,18 +10,10 @@ read_transaction_with-requires-clause-starts g c = λ told. let self = c.args.se
 pub invariant_of-self : goal.invariant_of-self
 invariant_of-self g c =
     let self = c.args.self.now in
-    let same = c.read_transaction_with.ensures.same in
-    record {
-      room = self.room;
-      settled = still _ _ (λ (log : List Event). IsSettled log Main) _ _ same self.settled;
-      kept = still _ _ (λ (log : List Event). IsKept (seen log Main) self.index self.numbers) _ _ same self.kept;
-      voted = still _ _ (λ (log : List Event). ForSome self.index.staged (λ s. IsVotedIn (seen log Main) s self.index)) _ _ same self.voted;
-    }
+    let k = still _ _ _ _ self.index self.numbers c.read_transaction_with.ensures.same (record { settled = self.settled; kept = self.kept; voted = self.voted }) in
+    record { room = self.room; settled = k.settled; kept = k.kept; voted = k.voted }
 
 pub returns-clause-found : goal.returns-clause-found
 returns-clause-found g c = λ told.
     let self = c.args.self.now in
-    let main : List _ = seen (g.V.Volume.log self.volume) Main in
-    let k = self.kept told c.requires in
-    c.in_ok-found.ensures.found told (reached_in main) (begun main self.index self.numbers k) (c.starts.ensures.value ∙ k.starts)
-    ∙ ap (λ (list : List Transaction). transaction_at c.args.tid list) (sym (list_is main self.index self.numbers k))
+    by_starts (seen (g.V.Volume.log self.volume) Main) self.index self.numbers (self.kept told c.requires) (transaction_at c.args.tid) _ c.starts.result.now c.starts.ensures.value (c.in_ok-found.ensures.found told)

@@ -1,0 +1,58 @@
+//! The numbers under which nodes are put.
+
+ghost use Rattle.std.specs.Prelude.{◌≡◌, ◌<◌, length};
+ghost use Rattle.pickle_value.specs.Spelling.{put_number, Writes};
+ghost use Rattle.pickle_value.specs.Putting.{puts_of};
+
+use super::{Puts, Writing, write_node};
+use crate::depth::{WALK_LIMIT, measure_from};
+use crate::error::WriteError;
+use crate::pickle::Pickle;
+use crate::shared::count_edges;
+use std::alloc::Global;
+use std::marker::Model;
+use zb_ids::Text8;
+
+/// The nodes that a text puts in the memo, each with its number. Contracts see the nodes, the newest
+/// first.
+#[derive(Drop)]
+pub struct PutNumbers {
+    puts: Puts,
+}
+
+impl Model for PutNumbers {
+    ghost use Rattle.std.specs.Prelude.{List, ℕ};
+
+    ghost Value = { List ℕ };
+
+    ghost view = { λ numbers. numbers.puts };
+}
+
+impl PutNumbers {
+    /// The number under which a node is put, counted from 0 in the order of the puts, or `None` where it
+    /// is not put.
+    pub fn number(&self, node: u32) -> Option<u64>
+        ensures { result ≡ put_number node self.now }
+    {
+        self.puts.number(node)
+    }
+}
+
+/// The numbers of the nodes that [`spelling`](crate::spelling) of a node puts in the memo. It is `TooDeep`
+/// where that is.
+#[tactic(auto, using(crate::proofs::Putting::puts_ok, crate::proofs::Putting::puts_deep))]
+pub fn put_numbers(alloc: Global, pickle: &Pickle, node: u32) -> Result<PutNumbers, WriteError>
+    requires { node < length pickle.now.nodes }
+    ensures { Writes result (puts_of pickle.now.nodes node) }
+{
+    let nodes = pickle.nodes();
+    let reached = measure_from(alloc, nodes, node)?;
+    let counts = count_edges(alloc, nodes, &reached, node)?;
+    let empty = Writing {
+        text: Text8::new(alloc),
+        puts: Puts::new(alloc),
+    };
+    let writing = write_node(alloc, empty, nodes, &counts, node, WALK_LIMIT + 1)?;
+    let Writing { text: _, puts } = writing;
+    Ok(PutNumbers { puts })
+}
