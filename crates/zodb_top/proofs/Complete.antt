@@ -29,7 +29,7 @@ list_done status.SinkFault asked told before after o here reads writes sinks lis
 list_done status.StoreFault asked told before after o here reads writes sinks list cut stands = absurd (elim o.rose [ inl e ↦ reads e.0 | inr e ↦ writes e ])
 list_done status.Damaged asked told before after o here reads writes sinks list cut stands = absurd (not_named told (main_of before) o.text list cut here stands o.names)
 list_done status.Usage asked told before after o here reads writes sinks list cut stands = absurd o
-list_done status.ReadFault asked told before after o here reads writes sinks list cut stands = absurd o
+list_done status.SourceFault asked told before after o here reads writes sinks list cut stands = absurd o
 list_done status.BadLine asked told before after o here reads writes sinks list cut stands = absurd o
 list_done status.Limit asked told before after o here reads writes sinks list cut stands = absurd o
 
@@ -46,6 +46,6 @@ list_damaged status.SinkFault asked told before after (rose, (lines, is, wrote))
 list_damaged status.StoreFault asked told before after o here reads writes harm = absurd (elim o.rose [ inl e ↦ reads e.0 | inr e ↦ writes e ])
 list_damaged status.Damaged asked told before after o here reads writes harm = inl refl
 list_damaged status.Usage asked told before after o here reads writes harm = absurd o
-list_damaged status.ReadFault asked told before after o here reads writes harm = absurd o
+list_damaged status.SourceFault asked told before after o here reads writes harm = absurd o
 list_damaged status.BadLine asked told before after o here reads writes harm = absurd o
 list_damaged status.Limit asked told before after o here reads writes harm = absurd o

@@ -20,7 +20,7 @@ use Rattle.zodb_top.specs.declared.seat.Seat.{Seat}
 use Rattle.zodb_top.specs.declared.seat.Work.{Work}
 use Rattle.zodb_top.specs.declared.vote.HeldVote.{HeldVote}
 use Rattle.zodb_top.specs.declared.vote.Writes.{Writes}
-use Rattle.zodb_top.specs.Machine.{After, Before, TurnDone, OpenTransaction, Session, State, Vote, abort_in, after_at, at_session, before_at, finish_in, finished, in_transaction, is_holder, line_in, raised, refused, with_transaction}
+use Rattle.zodb_top.specs.Machine.{AfterLine, BeforeLine, TurnDone, OpenTransaction, Session, State, Vote, abort_in, after_at, at_session, before_at, finish_in, finished, in_transaction, is_holder, line_in, raised, refused, with_transaction}
 use Rattle.zodb_top.specs.Seen.{AreDistinct, HasVoted, HubSeen, IsLater, IsSoundHub, HasFrontUpTo, IsVoteLater, IsVoteOf, IsWorkOf, is_before, is_holder_of, seen_seat, seen_vote, seen_work, state_of, state_with, view_at}
 use Rattle.zodb_top.specs.Steps.{IsStep}
 use Rattle.zodb_top.proofs.Seats.{all_set, at_seat, put_back, seat_at, set_same, stays}
@@ -43,8 +43,8 @@ landed hub left stamps stamps' line n x a within is leaves =
     ∙ put_back hub.list hub.list hub.greatest hub.greatest hub.seats hub.voted hub.vote left n x a stamps'
     ∙ ap (λ (ss : List Seat). done a (record { list = hub.list; greatest = hub.greatest; sessions = map (seen_seat hub.list) ss; vote = left }) stamps') (set_same hub.seats n x within is)
 
-pub nothing_open : (hub : HubSeen) (n : ℕ) (line : Line) (rest : Before → OpenTransaction → After) → IsWorkOf hub.seats n None
-    → ((b : Before) → line_in b line ≡ in_transaction b b.session.open_transaction (rest b))
+pub nothing_open : (hub : HubSeen) (n : ℕ) (line : Line) (rest : BeforeLine → OpenTransaction → AfterLine) → IsWorkOf hub.seats n None
+    → ((b : BeforeLine) → line_in b line ≡ in_transaction b b.session.open_transaction (rest b))
     → IsStep (state_of hub) line n (answer.Refused refusal.NoTransaction) (state_of hub)
 nothing_open hub n line rest e by =
     let x = seat_at hub.seats n None e in
@@ -81,8 +81,8 @@ some_taken n (Some k) h e = by_test (k.session == n) e
     by_test false e = absurd cc
 
 -- a line of a session that has a transaction open
-opened_line : (hub : HubSeen) (n : ℕ) (w : Option Work) (stamps : List Stamp) (line : Line) (rest : Before → OpenTransaction → After) → IsWorkOf hub.seats n w → is_some w ≡ true
-    → ((b : Before) → line_in b line ≡ in_transaction b b.session.open_transaction (rest b))
+opened_line : (hub : HubSeen) (n : ℕ) (w : Option Work) (stamps : List Stamp) (line : Line) (rest : BeforeLine → OpenTransaction → AfterLine) → IsWorkOf hub.seats n w → is_some w ≡ true
+    → ((b : BeforeLine) → line_in b line ≡ in_transaction b b.session.open_transaction (rest b))
     → (x : Seat) × (n < length hub.seats) × (x ≡ get_or hub.seats n x) × (t : OpenTransaction)
     × (line_in (before_at (state_of hub) stamps n (seen_seat hub.list x)) line ≡ rest (before_at (state_of hub) stamps n (seen_seat hub.list x)) t)
 opened_line hub n None stamps line rest e some by = absurd cc
@@ -106,25 +106,20 @@ ended_line hub list greatest left n x y stamps line a within is_x is_y leaves =
     ∙ ap (λ (z : Seat). done a (record { list = list; greatest = greatest; sessions = map (seen_seat hub.list) (set hub.seats n (ended z)); vote = left }) stamps) same
 
 -- what a session that doesn't hold the vote finishes
-not_held : (b : Before) (voted : Option Transaction) (vote : Option HeldVote) → is_holder_of b.number vote ≡ false → finish_in b (option_map (seen_vote voted) vote) ≡ refused b refusal.NotVoted
+not_held : (b : BeforeLine) (voted : Option Transaction) (vote : Option HeldVote) → is_holder_of b.number vote ≡ false → finish_in b (option_map (seen_vote voted) vote) ≡ refused b refusal.NotVoted
 not_held b voted None other = refl
 not_held b voted (Some h) other = ap (λ (test : Bool). cond test (finished b voted) (refused b refusal.NotVoted)) other
 
-held : (b : Before) (voted : Option Transaction) (vote : Option HeldVote) (h : HeldVote) → vote ≡ Some h → is_holder_of b.number vote ≡ true → finish_in b (option_map (seen_vote voted) vote) ≡ finished b voted
+held : (b : BeforeLine) (voted : Option Transaction) (vote : Option HeldVote) (h : HeldVote) → vote ≡ Some h → is_holder_of b.number vote ≡ true → finish_in b (option_map (seen_vote voted) vote) ≡ finished b voted
 held b voted None h is holds = absurd cc
 held b voted (Some k) h is holds = ap (λ (test : Bool). cond test (finished b voted) (refused b refusal.NotVoted)) holds
 
-pub finish_refused : (v hub : HubSeen) (seats : List Seat) (n : ℕ) (w : Option Work) → v ≡ hub → seats ≡ v.seats → IsWorkOf seats n w → is_some w ≡ false
-    → IsStep (state_of hub) lines.Finish n (answer.Refused refusal.NoTransaction) (state_of hub)
-finish_refused v hub seats n (Some w) same is e none = absurd cc
-finish_refused v hub seats n None same is e none =
-    nothing_open hub n lines.Finish (λ b t. finish_in b b.vote) (subst (λ (ss : List Seat). IsWorkOf ss n None) (is ∙ ap (λ (h : HubSeen). h.seats) same) e) (λ b. refl)
-
-pub abort_refused : (v hub : HubSeen) (seats : List Seat) (n : ℕ) (w : Option Work) → v ≡ hub → seats ≡ v.seats → IsWorkOf seats n w → is_some w ≡ false
-    → IsStep (state_of hub) lines.Abort n (answer.Refused refusal.NoTransaction) (state_of hub)
-abort_refused v hub seats n (Some w) same is e none = absurd cc
-abort_refused v hub seats n None same is e none =
-    nothing_open hub n lines.Abort (λ b t. abort_in b) (subst (λ (ss : List Seat). IsWorkOf ss n None) (is ∙ ap (λ (h : HubSeen). h.seats) same) e) (λ b. refl)
+-- a line of a session that has none open
+pub line_refused : (line : Line) (rest : BeforeLine → OpenTransaction → AfterLine) (v hub : HubSeen) (seats : List Seat) (n : ℕ) (w : Option Work) → ((b : BeforeLine) → line_in b line ≡ in_transaction b b.session.open_transaction (rest b))
+    → v ≡ hub → seats ≡ v.seats → IsWorkOf seats n w → is_some w ≡ false → IsStep (state_of hub) line n (answer.Refused refusal.NoTransaction) (state_of hub)
+line_refused line rest v hub seats n (Some w) by same is e none = absurd cc
+line_refused line rest v hub seats n None by same is e none =
+    nothing_open hub n line rest (subst (λ (ss : List Seat). IsWorkOf ss n None) (is ∙ ap (λ (h : HubSeen). h.seats) same) e) by
 
 kept_vote : (n : ℕ) (vote : Option HeldVote) → is_holder_of n vote ≡ false → left_vote n vote ≡ vote
 kept_vote n vote other = ap (λ (test : Bool). cond test None vote) other
@@ -150,7 +145,7 @@ finish_not_voted v hub seats left n w same is e some none leaves =
 -- what was voted is what is finished
 finished_line : (v : HubSeen) (list : List Transaction) (greatest : ℕ) (seats : List Seat) (n : ℕ) (w : Option Work) (h : HeldVote) (writes : Option Transaction) (x : Seat) (a : Answer) → seats ≡ v.seats → IsWorkOf seats n w → is_some w ≡ true
     → Some h ≡ taken_vote n v.vote → v.voted ≡ writes → x ≡ get_or v.seats n x
-    → ((b : Before) → b.list ≡ v.list → b.greatest ≡ v.greatest → finished b writes ≡ record { answer = a; list = list; greatest = greatest; session = with_transaction b.session None; vote = None; stamps = b.stamps })
+    → ((b : BeforeLine) → b.list ≡ v.list → b.greatest ≡ v.greatest → finished b writes ≡ record { answer = a; list = list; greatest = greatest; session = with_transaction b.session None; vote = None; stamps = b.stamps })
     → (stamps : List Stamp) → at_session (state_of v) stamps lines.Finish n (slice_get (map (seen_seat v.list) v.seats) n)
     ≡ done a (record { list = list; greatest = greatest; sessions = map (seen_seat v.list) (set v.seats n (ended x)); vote = None }) stamps
 finished_line v list greatest seats n w h writes x a is e some taken voted here leaves stamps =
@@ -186,8 +181,8 @@ finish_empty told v hub seats left n w h x same sound is e some taken empty here
     subst (λ (o : HubSeen). IsStep (state_of o) lines.Finish n answer.Empty (state_with v.list v.greatest (set v.seats n (ended x)) v.voted left)) same
     (subst (λ (o : Option HeldVote). IsStep (state_of v) lines.Finish n answer.Empty (state_with v.list v.greatest (set v.seats n (ended x)) v.voted o)) (sym (leaves ∙ gone_vote n v.vote holds.1))
     (finished_line v v.list v.greatest seats n w h None x answer.Empty is e some taken nothing here
-    (λ b list_is greatest_is. ap (λ (l : List Transaction). let r : After = record { answer = answer.Empty; list = l; greatest = b.greatest; session = with_transaction b.session None; vote = None; stamps = b.stamps } in r) list_is
-    ∙ ap (λ (k : ℕ). let r : After = record { answer = answer.Empty; list = v.list; greatest = k; session = with_transaction b.session None; vote = None; stamps = b.stamps } in r) greatest_is)))
+    (λ b list_is greatest_is. ap (λ (l : List Transaction). let r : AfterLine = record { answer = answer.Empty; list = l; greatest = b.greatest; session = with_transaction b.session None; vote = None; stamps = b.stamps } in r) list_is
+    ∙ ap (λ (k : ℕ). let r : AfterLine = record { answer = answer.Empty; list = v.list; greatest = k; session = with_transaction b.session None; vote = None; stamps = b.stamps } in r) greatest_is)))
 
 -- ---- a list that grows keeps each view
 
@@ -228,8 +223,8 @@ finish_committed told v hub list greatest seats voted' left n w h wr shown x tel
     let grown = seen_grown v.list t (set v.seats n (ended x)) later.0 (all_set (HasFrontUpTo (newest_tid v.list + 1)) v.seats n (ended x) (sound_v.fronts tells) tt) in
     subst (λ (o : HubSeen). IsStep (state_of o) lines.Finish n (answer.Committed shown) (state_with list greatest (set v.seats n (ended x)) voted' left)) same (λ stamps.
     finished_line v (v.list ++ t ∷ []) (raised v.greatest t) seats n w h (Some t) x (answer.Committed t.tid) is e some taken voted.1 here
-    (λ b list_is greatest_is. ap (λ (l : List Transaction). let r : After = record { answer = answer.Committed t.tid; list = l ++ t ∷ []; greatest = raised b.greatest t; session = with_transaction b.session None; vote = None; stamps = b.stamps } in r) list_is
-    ∙ ap (λ (k : ℕ). let r : After = record { answer = answer.Committed t.tid; list = v.list ++ t ∷ []; greatest = raised k t; session = with_transaction b.session None; vote = None; stamps = b.stamps } in r) greatest_is) stamps
+    (λ b list_is greatest_is. ap (λ (l : List Transaction). let r : AfterLine = record { answer = answer.Committed t.tid; list = l ++ t ∷ []; greatest = raised b.greatest t; session = with_transaction b.session None; vote = None; stamps = b.stamps } in r) list_is
+    ∙ ap (λ (k : ℕ). let r : AfterLine = record { answer = answer.Committed t.tid; list = v.list ++ t ∷ []; greatest = raised k t; session = with_transaction b.session None; vote = None; stamps = b.stamps } in r) greatest_is) stamps
     ∙ ap (λ (ss : List Session). done (answer.Committed t.tid) (record { list = v.list ++ t ∷ []; greatest = raised v.greatest t; sessions = ss; vote = None }) stamps) grown
     ∙ ap (λ (k : ℕ). done (answer.Committed k) (state_with (v.list ++ t ∷ []) (raised v.greatest t) (set v.seats n (ended x)) voted' None) stamps) (voted.2 ∙ sym shows)
     ∙ ap (λ (l : List Transaction). done (answer.Committed shown) (state_with l (raised v.greatest t) (set v.seats n (ended x)) voted' None) stamps) (sym (grows t voted.1))

@@ -5,7 +5,6 @@ use Rattle.std.specs.Option.{option_map}
 use Rattle.file_store.specs.Kept.{StandsForList}
 use Rattle.file_store.specs.Opening.{Harm, IsMade, SomeRose}
 use Rattle.fs_records.specs.File.{StandsFor, no_bytes}
-use Rattle.fs_records.specs.Lists.{not_damaged, not_no_file}
 use Rattle.fs_recovery.specs.Opens.{IsNoList}
 use Rattle.fs_recovery.specs.declared.errors.OpenError.{OpenError}
 use Rattle.fs_recovery.specs.declared.errors.OpenError.TheVariants as error
@@ -18,22 +17,19 @@ use Rattle.zodb_top.specs.declared.status.Status.{Status}
 use Rattle.zodb_top.specs.declared.status.Status.TheVariants as status
 use Rattle.zodb_top.specs.Damage.{NamesDamage, magic, rule}
 use Rattle.zodb_top.specs.Outside.{Outside, main_of}
-use Rattle.zodb_top.specs.Program.{AllAnswered, AnsweredToFault, HasRun, HasRunInPart, HasRunToFault, IsUnlessMemory, OpensAs, SomeAnswered, made, there}
+use Rattle.zodb_top.specs.Program.{AllAnswered, AnsweredToFault, HasRun, HasRunInPart, HasRunToFault, IsLeftUnopened, IsUnlessMemory, OpensAs, SomeAnswered, made, there}
 use Rattle.zodb_top.specs.Storing.{FileOutcome, StoreOutcome}
 use Rattle.zodb_top.specs.Unopened.{NamesError, SaysUnopened}
+use Rattle.zodb_top.proofs.Listed.{never_no_list}
 
 -- ---- no list
 
-no_list : (bytes : List ℕ) (list : List Transaction) (cut : Option ℕ) → StandsFor bytes list cut → IsNoList bytes → ⊥
-no_list bytes list cut stands (inl other) = not_no_file bytes list cut stands other
-no_list bytes list cut stands (inr (at, field, harm)) = not_damaged bytes list cut at field stands harm
-
 pub no_list_some : (bytes : List ℕ) → IsNoList bytes → bytes ≢ []
-no_list_some bytes none empty = no_list bytes [] None (no_bytes empty refl refl) none
+no_list_some bytes none empty = never_no_list bytes [] None (no_bytes empty refl refl) none
 
 -- where the file was opened, it was no damaged one
 pub opened_none : (T P : Type 0) (bytes : List ℕ) (list : List Transaction) (cut : Option ℕ) → (T → bytes ≢ [] → StandsFor bytes list cut) → T → IsNoList bytes → P
-opened_none T P bytes list cut opened told none = absurd (no_list bytes list cut (opened told (no_list_some bytes none)) none)
+opened_none T P bytes list cut opened told none = absurd (never_no_list bytes list cut (opened told (no_list_some bytes none)) none)
 
 harm_none : (bytes : List ℕ) (e : OpenError) (text : List ℕ) → NamesError e text → Harm bytes e → IsNoList bytes
 harm_none bytes error.NotFileStorage text names harm = inl harm
@@ -65,7 +61,7 @@ unopened status.Damaged e told turns before after (text, names, wrote) harm rose
 unopened status.NoMemory e told turns before after said harm rose same left = inl (said.1, left)
 unopened status.Done e told turns before after said harm rose same left = absurd said
 unopened status.Usage e told turns before after said harm rose same left = absurd said
-unopened status.ReadFault e told turns before after said harm rose same left = absurd said
+unopened status.SourceFault e told turns before after said harm rose same left = absurd said
 unopened status.SinkFault e told turns before after said harm rose same left = absurd said
 unopened status.BadLine e told turns before after said harm rose same left = absurd said
 unopened status.Limit e told turns before after said harm rose same left = absurd said
@@ -74,11 +70,11 @@ unopened status.Limit e told turns before after said harm rose same left = absur
 pub unopened_done : (s : Status) (e : OpenError) (bytes : List ℕ) (list : List Transaction) (cut : Option ℕ) (reads reads' writes writes' before now : ℕ) (old new : Option (List ℕ)) → SaysUnopened s e old new before now → Harm bytes e
     → (e ≡ error.StoreFault → SomeRose reads reads' writes writes') → ¬ Rose reads reads' → ¬ Rose writes writes' → StandsFor bytes list cut → IsUnlessMemory s status.Done
 unopened_done status.StoreFault e bytes list cut reads reads' writes writes' before now old new said harm rose calm still stands = absurd (elim (rose said.0) [ inl r ↦ calm r | inr r ↦ still r ])
-unopened_done status.Damaged e bytes list cut reads reads' writes writes' before now old new (text, names, wrote) harm rose calm still stands = absurd (no_list bytes list cut stands (harm_none bytes e text names harm))
+unopened_done status.Damaged e bytes list cut reads reads' writes writes' before now old new (text, names, wrote) harm rose calm still stands = absurd (never_no_list bytes list cut stands (harm_none bytes e text names harm))
 unopened_done status.NoMemory e bytes list cut reads reads' writes writes' before now old new said harm rose calm still stands = inr refl
 unopened_done status.Done e bytes list cut reads reads' writes writes' before now old new said harm rose calm still stands = absurd said
 unopened_done status.Usage e bytes list cut reads reads' writes writes' before now old new said harm rose calm still stands = absurd said
-unopened_done status.ReadFault e bytes list cut reads reads' writes writes' before now old new said harm rose calm still stands = absurd said
+unopened_done status.SourceFault e bytes list cut reads reads' writes writes' before now old new said harm rose calm still stands = absurd said
 unopened_done status.SinkFault e bytes list cut reads reads' writes writes' before now old new said harm rose calm still stands = absurd said
 unopened_done status.BadLine e bytes list cut reads reads' writes writes' before now old new said harm rose calm still stands = absurd said
 unopened_done status.Limit e bytes list cut reads reads' writes writes' before now old new said harm rose calm still stands = absurd said
@@ -91,7 +87,7 @@ unopened_damaged status.Damaged e reads reads' writes writes' before now old new
 unopened_damaged status.NoMemory e reads reads' writes writes' before now old new said rose calm still = inr refl
 unopened_damaged status.Done e reads reads' writes writes' before now old new said rose calm still = absurd said
 unopened_damaged status.Usage e reads reads' writes writes' before now old new said rose calm still = absurd said
-unopened_damaged status.ReadFault e reads reads' writes writes' before now old new said rose calm still = absurd said
+unopened_damaged status.SourceFault e reads reads' writes writes' before now old new said rose calm still = absurd said
 unopened_damaged status.SinkFault e reads reads' writes writes' before now old new said rose calm still = absurd said
 unopened_damaged status.BadLine e reads reads' writes writes' before now old new said rose calm still = absurd said
 unopened_damaged status.Limit e reads reads' writes writes' before now old new said rose calm still = absurd said
@@ -157,7 +153,7 @@ over_file status.StoreFault told turns before after left list cut list' faults o
     inr (rose_after before.write_faults faults after.write_faults le o.0, λ here. ran_to_fault turns before after left list cut list' (opens here) before.stamps refl (o.1 here))
 over_file status.Damaged told turns before after left list cut list' faults opens o le stands = absurd o
 over_file status.Usage told turns before after left list cut list' faults opens o le stands = absurd o
-over_file status.ReadFault told turns before after left list cut list' faults opens o le stands = absurd o
+over_file status.SourceFault told turns before after left list cut list' faults opens o le stands = absurd o
 over_file status.BadLine told turns before after left list cut list' faults opens o le stands = absurd o
 over_file status.Limit told turns before after left list cut list' faults opens o le stands = absurd o
 

@@ -32,7 +32,7 @@ run_of_input status.StoreFault told unread left all turns before after is within
 run_of_input status.StoreFault told unread left all turns before after is within script (inr (rose, o)) = inr (rose, λ here. spread before.stamps left all turns (λ ts. HasRunToFault ts before after) is within script (o here))
 run_of_input status.Damaged told unread left all turns before after is within script o = o
 run_of_input status.Usage told unread left all turns before after is within script o = absurd o
-run_of_input status.ReadFault told unread left all turns before after is within script o = absurd o
+run_of_input status.SourceFault told unread left all turns before after is within script o = absurd o
 run_of_input status.BadLine told unread left all turns before after is within script o = absurd o
 run_of_input status.Limit told unread left all turns before after is within script o = absurd o
 

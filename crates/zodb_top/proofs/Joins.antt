@@ -49,7 +49,7 @@ run_past s stamps (x ∷ f) g (t ∷ a) each =
     let d = turn_taken x s stamps t in
     ap (behind_reply (reply_text t.client d.answer)) (run_past d.state d.stamps f g a (omega (arith, each)))
 
--- the front of turns that goes so far into others behind them
+-- the first turns, which go so far into others behind them
 pub take_over : (a b : List Turn) (n : ℕ) → take (length a + n) (a ++ b) ≡ a ++ take n b
 take_over [] b n =
     let none : length {A = Turn} [] + n ≡ n = omega arith in

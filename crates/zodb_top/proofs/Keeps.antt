@@ -20,7 +20,7 @@ use Rattle.zb_script.specs.declared.line.Line.TheVariants as lines
 use Rattle.zb_script.specs.declared.line.Turn.{Turn}
 use Rattle.zb_script.specs.Shape.{is_turn_of}
 use Rattle.zodb_top.specs.declared.pending.PendingStore.{PendingStore}
-use Rattle.zodb_top.specs.Machine.{After, Before, Decision, TurnDone, OpenTransaction, Session, State, Vote, abort_in, answered, at_number, at_session, before_at, begin_in, change_of, conflict_of, decision_at, decision_of, decision_on, finish_in, finished, in_transaction, is_holder, is_reading, line_in, line_of, load_in, new_in, next_number, read_content, read_revision, reading_failed, refused, session_of, start, store_in, turn_taken, transaction_of_stores, turn_of, vote_in, voted_by, with_store}
+use Rattle.zodb_top.specs.Machine.{AfterLine, BeforeLine, Decision, TurnDone, OpenTransaction, Session, State, Vote, abort_in, answered, at_number, at_session, before_at, begin_in, change_of, conflict_of, decision_at, decision_of, decision_on, finish_in, finished, in_transaction, is_holder, is_reading, line_in, line_of, load_in, new_in, next_number, read_content, read_revision, reading_failed, refused, session_of, start, store_in, turn_taken, transaction_of_stores, turn_of, vote_in, voted_by, with_store}
 use Rattle.zodb_top.specs.Output.{said_first, others_of, run_from}
 use Rattle.zodb_top.specs.Laws.{FrontsNeverFall, TheListStaysADatabase, front_in, fronts_of}
 
@@ -144,7 +144,7 @@ decided-on None list (p ∷ stores) stamps distinct =
 -- ---- lines
 
 -- what a line leaves
-pub record LineFits (b : Before) (a : After) : Type 0 where
+pub record LineFits (b : BeforeLine) (a : AfterLine) : Type 0 where
   pub list : IsDatabase a.list
   pub grown : newest_tid b.list ≤ newest_tid a.list
   pub session : SessionFits a.session
@@ -152,15 +152,15 @@ pub record LineFits (b : Before) (a : After) : Type 0 where
   pub front : FrontIs (newest_tid b.list + 1) a.answer
 
 -- what a line finds
-pub record IsFitBefore (b : Before) : Type 0 where
+pub record IsFitBefore (b : BeforeLine) : Type 0 where
   pub list : IsDatabase b.list
   pub session : SessionFits b.session
   pub vote : VoteFits b.list b.vote
 
-stays : (b : Before) (a : Answer) → IsFitBefore b → FrontIs (newest_tid b.list + 1) a → LineFits b (answered b a)
+stays : (b : BeforeLine) (a : Answer) → IsFitBefore b → FrontIs (newest_tid b.list + 1) a → LineFits b (answered b a)
 stays b a fit front = record { list = fit.list; grown = omega arith; session = fit.session; vote = fit.vote; front = front }
 
-begin_fits : (b : Before) (o : Option OpenTransaction) → IsFitBefore b → LineFits b (begin_in b o)
+begin_fits : (b : BeforeLine) (o : Option OpenTransaction) → IsFitBefore b → LineFits b (begin_in b o)
 unfolding IsDistinct
 begin_fits b (Some t) fit = stays b (answer.Refused refusal.InTransaction) fit tt
 begin_fits b None fit = record { list = fit.list; grown = omega arith; session = tt; vote = fit.vote; front = refl }
@@ -173,11 +173,11 @@ read_front : (n oid : ℕ) (o : Option ObjectRevision) → FrontIs n (read_revis
 read_front n oid None = tt
 read_front n oid (Some r) = content_front n oid r.serial r.content
 
-load_fits : (b : Before) (oid : ℕ) (o : Option OpenTransaction) → IsFitBefore b → LineFits b (in_transaction b o (load_in b oid))
+load_fits : (b : BeforeLine) (oid : ℕ) (o : Option OpenTransaction) → IsFitBefore b → LineFits b (in_transaction b o (load_in b oid))
 load_fits b oid None fit = stays b (answer.Refused refusal.NoTransaction) fit tt
 load_fits b oid (Some t) fit = stays b (read_revision oid (revision_below oid t.front t.list)) fit (read_front (newest_tid b.list + 1) oid (revision_below oid t.front t.list))
 
-store_fits : (b : Before) (p : PendingStore) (o : Option OpenTransaction) → IsFitBefore b → StoresFit o → LineFits b (in_transaction b o (store_in b p))
+store_fits : (b : BeforeLine) (p : PendingStore) (o : Option OpenTransaction) → IsFitBefore b → StoresFit o → LineFits b (in_transaction b o (store_in b p))
 store_fits b p None fit stores = stays b (answer.Refused refusal.NoTransaction) fit tt
 store_fits b p (Some t) fit stores = by_test (is_holder b.number b.vote)
   where
@@ -192,11 +192,11 @@ store_fits b p (Some t) fit stores = by_test (is_holder b.number b.vote)
     by_test true = stays b (answer.Refused refusal.Voted) fit tt
     by_test false = record { list = fit.list; grown = omega arith; session = distinct-stored t.stores p stores; vote = fit.vote; front = tt }
 
-voted_fits : (b : Before) (verdict : Result (Option Transaction) Refusal) (stamps : List Stamp) → IsFitBefore b → VerdictFits b.list verdict → LineFits b (voted_by b verdict stamps)
+voted_fits : (b : BeforeLine) (verdict : Result (Option Transaction) Refusal) (stamps : List Stamp) → IsFitBefore b → VerdictFits b.list verdict → LineFits b (voted_by b verdict stamps)
 voted_fits b (Err why) stamps fit verdict = record { list = fit.list; grown = omega arith; session = fit.session; vote = fit.vote; front = tt }
 voted_fits b (Ok writes) stamps fit verdict = record { list = fit.list; grown = omega arith; session = fit.session; vote = verdict; front = tt }
 
-vote_fits : (b : Before) (v : Option Vote) (o : Option OpenTransaction) → IsFitBefore b → StoresFit o → LineFits b (in_transaction b o (vote_in b v))
+vote_fits : (b : BeforeLine) (v : Option Vote) (o : Option OpenTransaction) → IsFitBefore b → StoresFit o → LineFits b (in_transaction b o (vote_in b v))
 vote_fits b v None fit stores = stays b (answer.Refused refusal.NoTransaction) fit tt
 vote_fits b None (Some t) fit stores =
     let d = decision_of b.list t.stores b.stamps in
@@ -207,7 +207,7 @@ vote_fits b (Some h) (Some t) fit stores = by_test (h.session == b.number)
     by_test true = stays b (answer.Refused refusal.Voted) fit tt
     by_test false = stays b (answer.Refused (refusal.Busy h.session)) fit tt
 
-finished_fits : (b : Before) (writes : Option Transaction) → IsFitBefore b → WritesFit b.list writes → LineFits b (finished b writes)
+finished_fits : (b : BeforeLine) (writes : Option Transaction) → IsFitBefore b → WritesFit b.list writes → LineFits b (finished b writes)
 finished_fits b None fit next = record { list = fit.list; grown = omega arith; session = tt; vote = tt; front = tt }
 finished_fits b (Some t) fit next = record {
   list = database-push b.list t fit.list next.above next.bounded next.distinct;
@@ -217,7 +217,7 @@ finished_fits b (Some t) fit next = record {
   front = tt;
 }
 
-finish_fits : (b : Before) (v : Option Vote) (o : Option OpenTransaction) → IsFitBefore b → VoteFits b.list v → LineFits b (in_transaction b o (λ t. finish_in b v))
+finish_fits : (b : BeforeLine) (v : Option Vote) (o : Option OpenTransaction) → IsFitBefore b → VoteFits b.list v → LineFits b (in_transaction b o (λ t. finish_in b v))
 finish_fits b v None fit held = stays b (answer.Refused refusal.NoTransaction) fit tt
 finish_fits b None (Some t) fit held = stays b (answer.Refused refusal.NotVoted) fit tt
 finish_fits b (Some h) (Some t) fit held = by_test (h.session == b.number)
@@ -230,11 +230,11 @@ left_fits : (list : List Transaction) (v : Option Vote) (test : Bool) → VoteFi
 left_fits list v true held = tt
 left_fits list v false held = held
 
-abort_fits : (b : Before) (o : Option OpenTransaction) → IsFitBefore b → LineFits b (in_transaction b o (λ t. abort_in b))
+abort_fits : (b : BeforeLine) (o : Option OpenTransaction) → IsFitBefore b → LineFits b (in_transaction b o (λ t. abort_in b))
 abort_fits b None fit = stays b (answer.Refused refusal.NoTransaction) fit tt
 abort_fits b (Some t) fit = record { list = fit.list; grown = omega arith; session = tt; vote = left_fits b.list b.vote (is_holder b.number b.vote) fit.vote; front = tt }
 
-new_fits : (b : Before) → IsFitBefore b → LineFits b (new_in b)
+new_fits : (b : BeforeLine) → IsFitBefore b → LineFits b (new_in b)
 new_fits b fit = by_test (nat_lt b.greatest (2 ^ 64 - 1))
   where
     by_test : (test : Bool) → LineFits b (cond test (record {
@@ -248,7 +248,7 @@ new_fits b fit = by_test (nat_lt b.greatest (2 ^ 64 - 1))
     by_test true = record { list = fit.list; grown = omega arith; session = fit.session; vote = fit.vote; front = tt }
     by_test false = stays b (answer.Refused refusal.OidsSpent) fit tt
 
-pub line_fits : (b : Before) (line : Line) → IsFitBefore b → LineFits b (line_in b line)
+pub line_fits : (b : BeforeLine) (line : Line) → IsFitBefore b → LineFits b (line_in b line)
 line_fits b lines.Open fit = stays b (answer.Refused refusal.InTransaction) fit tt
 line_fits b lines.Begin fit = begin_fits b b.session.open_transaction fit
 line_fits b (lines.Load oid) fit = load_fits b oid b.session.open_transaction fit

@@ -7,7 +7,7 @@ pub mod Said
 pub mod Seats
 pub mod Steps
 pub mod Files
-pub mod Fronting
+pub mod Prefixes
 pub mod Fronts
 pub mod Outputs
 pub mod Turns

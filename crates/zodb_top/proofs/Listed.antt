@@ -31,7 +31,7 @@ use Rattle.zodb_top.specs.Damage.{NamesDamage, magic as no_magic, rule}
 use Rattle.zodb_top.specs.FileLists.{FileListOutcome, IsFileListing}
 use Rattle.zodb_top.specs.Listings.{IsListing, IsSaid, ListOutcome, without_tail}
 use Rattle.zodb_top.specs.Outside.{Outside}
-use Rattle.zodb_top.specs.Program.{Opens as OpensList, made as opens_made, there as opens_there}
+use Rattle.zodb_top.specs.Program.{OpensAs as OpensList, made as opens_made, there as opens_there}
 use Rattle.zodb_top.specs.Texts.{joined}
 use Rattle.zodb_top.specs.Unopened.{NamesError, SaysUnopened}
 
@@ -64,11 +64,11 @@ pub listed : (asked : Listing) (told unread unwritten untouched : Type 0) (bytes
     → Appends old new (joined lines) → FileListOutcome status.Done asked told bytes unread unwritten untouched old new before now
 listed asked told unread unwritten untouched bytes main o old new before now lines is says wrote = (lines, said_of told unread bytes main o asked lines is says, wrote)
 
-pub listed_front : (asked : Listing) (told unread unwritten untouched : Type 0) (bytes main : List ℕ) (o : Opened) (old new : Option (List ℕ)) (before now : ℕ) (lines : List (List ℕ))
+pub listed_prefix : (asked : Listing) (told unread unwritten untouched : Type 0) (bytes main : List ℕ) (o : Opened) (old new : Option (List ℕ)) (before now : ℕ) (lines : List (List ℕ))
     → (told → IsOpened bytes o × (main ≡ take o.end bytes))
     → (told → (s : Reached) → Begins main s → IsIndexOf s o.index → IsSaid s.list o.cut asked unread lines)
     → Rose before now → AppendsPrefix old new (joined lines) → FileListOutcome status.SinkFault asked told bytes unread unwritten untouched old new before now
-listed_front asked told unread unwritten untouched bytes main o old new before now lines is says rose wrote = (rose, (lines, said_of told unread bytes main o asked lines is says, wrote))
+listed_prefix asked told unread unwritten untouched bytes main o old new before now lines is says rose wrote = (rose, (lines, said_of told unread bytes main o asked lines is says, wrote))
 
 -- ---- a file that wasn't opened
 
@@ -95,7 +95,7 @@ unopened asked told bytes status.SinkFault e log log' reads reads' writes writes
 unopened asked told bytes status.StoreFault e log log' reads reads' writes writes' old new before now opens counts said = (unread_or_unwritten log log' reads reads' writes writes' e said.0 counts, said.1)
 unopened asked told bytes status.Damaged e log log' reads reads' writes writes' old new before now opens counts (text, names, wrote) = (text, named told bytes e text opens names, wrote)
 unopened asked told bytes status.Usage e log log' reads reads' writes writes' old new before now opens counts said = absurd said
-unopened asked told bytes status.ReadFault e log log' reads reads' writes writes' old new before now opens counts said = absurd said
+unopened asked told bytes status.SourceFault e log log' reads reads' writes writes' old new before now opens counts said = absurd said
 unopened asked told bytes status.BadLine e log log' reads reads' writes writes' old new before now opens counts said = absurd said
 unopened asked told bytes status.Limit e log log' reads reads' writes writes' old new before now opens counts said = absurd said
 
@@ -114,7 +114,7 @@ more_rose asked told unread unread' unwritten' untouched' bytes old new before n
 more_rose asked told unread unread' unwritten' untouched' bytes old new before now status.StoreFault more o = (elim o.0 [ inl e ↦ absurd e.1 | inr e ↦ absurd e ], o.1)
 more_rose asked told unread unread' unwritten' untouched' bytes old new before now status.Damaged more o = o
 more_rose asked told unread unread' unwritten' untouched' bytes old new before now status.Usage more o = absurd o
-more_rose asked told unread unread' unwritten' untouched' bytes old new before now status.ReadFault more o = absurd o
+more_rose asked told unread unread' unwritten' untouched' bytes old new before now status.SourceFault more o = absurd o
 more_rose asked told unread unread' unwritten' untouched' bytes old new before now status.BadLine more o = absurd o
 more_rose asked told unread unread' unwritten' untouched' bytes old new before now status.Limit more o = absurd o
 
@@ -129,11 +129,11 @@ take_none zero xs e = refl
 take_none (suc n) [] e = refl
 take_none (suc n) (x ∷ xs) e = absurd cc
 
-pub kept_front : (bytes main : List ℕ) (o : Opened) (list : List Transaction) (cut : Option ℕ) → IsOpened bytes o → main ≡ take o.end bytes
+pub kept_prefix : (bytes main : List ℕ) (o : Opened) (list : List Transaction) (cut : Option ℕ) → IsOpened bytes o → main ≡ take o.end bytes
     → StandsFor bytes list cut → main ≡ without_tail cut bytes
-kept_front bytes main o list cut is left (no_bytes none no_list no_cut) =
+kept_prefix bytes main o list cut is left (no_bytes none no_list no_cut) =
     left ∙ take_none o.end bytes none ∙ sym (ap (without_tail cut) none ∙ ap (λ (c : Option ℕ). without_tail c []) no_cut)
-kept_front bytes main o list cut is left (a_file s stands of) =
+kept_prefix bytes main o list cut is left (a_file s stands of) =
     let same = one_list bytes s is.reached cut o.cut stands is.stands in
     let place : s.end ≡ o.end = ap (λ (x : Reached). x.end) same.0 ∙ is.end_is in
     left ∙ ap (λ (n : ℕ). take n bytes) (sym place) ∙ cut_there bytes s cut stands
@@ -166,7 +166,7 @@ refused status.Damaged Memory old new before now other said = tt
 refused status.Done e old new before now other said = absurd said
 refused status.SinkFault e old new before now other said = absurd said
 refused status.Usage e old new before now other said = absurd said
-refused status.ReadFault e old new before now other said = absurd said
+refused status.SourceFault e old new before now other said = absurd said
 refused status.BadLine e old new before now other said = absurd said
 refused status.Limit e old new before now other said = absurd said
 
@@ -243,7 +243,7 @@ list_begun status.Damaged asked told before after mid reads writes begun gave re
       harmed here harm ∙ (was_there before.log mid before.stamps after.stamps (begun here) harm).0;
 }
 list_begun status.Usage asked told before after mid reads writes begun gave reads_same writes_later same harmed o = absurd o
-list_begun status.ReadFault asked told before after mid reads writes begun gave reads_same writes_later same harmed o = absurd o
+list_begun status.SourceFault asked told before after mid reads writes begun gave reads_same writes_later same harmed o = absurd o
 list_begun status.BadLine asked told before after mid reads writes begun gave reads_same writes_later same harmed o = absurd o
 list_begun status.Limit asked told before after mid reads writes begun gave reads_same writes_later same harmed o = absurd o
 
@@ -272,7 +272,7 @@ list_unbegun status.Damaged asked told before after e harm rose same gave (text,
 list_unbegun status.Done asked told before after e harm rose same gave said = absurd said
 list_unbegun status.SinkFault asked told before after e harm rose same gave said = absurd said
 list_unbegun status.Usage asked told before after e harm rose same gave said = absurd said
-list_unbegun status.ReadFault asked told before after e harm rose same gave said = absurd said
+list_unbegun status.SourceFault asked told before after e harm rose same gave said = absurd said
 list_unbegun status.BadLine asked told before after e harm rose same gave said = absurd said
 list_unbegun status.Limit asked told before after e harm rose same gave said = absurd said
 

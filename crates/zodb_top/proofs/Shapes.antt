@@ -20,7 +20,7 @@ use Rattle.zb_script.specs.declared.line.Line.TheVariants as lines
 use Rattle.zb_script.specs.Shape.{is_ending, is_inside, is_new, is_outside, is_vote, may_follow}
 use Rattle.zodb_top.specs.declared.pending.PendingStore.{PendingStore}
 use Rattle.zodb_top.specs.Laws.{is_allowed, is_known_refusal}
-use Rattle.zodb_top.specs.Machine.{After, Before, Decision, OpenTransaction, Vote, abort_in, answered, begin_in, conflict_of, decision_at, decision_of, decision_on, finish_in, finished, in_transaction, is_holder, line_in, load_in, next_number, read_content, read_revision, new_in, refused, store_in, transaction_of_stores, vote_in, voted_by, with_store}
+use Rattle.zodb_top.specs.Machine.{AfterLine, BeforeLine, Decision, OpenTransaction, Vote, abort_in, answered, begin_in, conflict_of, decision_at, decision_of, decision_on, finish_in, finished, in_transaction, is_holder, line_in, load_in, next_number, read_content, read_revision, new_in, refused, store_in, transaction_of_stores, vote_in, voted_by, with_store}
 
 -- ---- what a last line says
 
@@ -41,7 +41,7 @@ VoteIs line n None = Unit {0}
 VoteIs line n (Some h) = (is_vote line ≡ true) × (h.session ≡ n)
 
 -- what a line of a session that is no `new` leaves where its turn is in shape
-pub record LineGoes (b : Before) (line : Line) (a : After) : Type 0 where
+pub record LineGoes (b : BeforeLine) (line : Line) (a : AfterLine) : Type 0 where
   pub known : is_allowed a.answer ≡ true
   pub client : a.session.client ≡ b.session.client
   pub place : PlaceIs line (is_some a.session.open_transaction)
@@ -53,14 +53,14 @@ pub no_vote : (m : Line) (n : ℕ) (v : Option Vote) → is_vote m ≡ false →
 no_vote m n None other is = refl
 no_vote m n (Some h) other is = let yes : is_vote m ≡ true = is.0 in absurd cc
 
-stays_goes : (b : Before) (line : Line) (a : Answer) → is_allowed a ≡ true → PlaceIs line (is_some b.session.open_transaction) → VoteIs line b.number b.vote → LineGoes b line (answered b a)
+stays_goes : (b : BeforeLine) (line : Line) (a : Answer) → is_allowed a ≡ true → PlaceIs line (is_some b.session.open_transaction) → VoteIs line b.number b.vote → LineGoes b line (answered b a)
 stays_goes b line a known place vote = record { known = known; client = refl; place = place; vote = vote }
 
 free_goes : (line : Line) (n : ℕ) (v : Option Vote) → v ≡ None → VoteIs line n v
 free_goes line n None e = tt
 free_goes line n (Some h) e = absurd cc
 
-begin_goes : (b : Before) (o : Option OpenTransaction) → is_some o ≡ false → b.vote ≡ None → LineGoes b lines.Begin (begin_in b o)
+begin_goes : (b : BeforeLine) (o : Option OpenTransaction) → is_some o ≡ false → b.vote ≡ None → LineGoes b lines.Begin (begin_in b o)
 begin_goes b None idle free = record { known = refl; client = refl; place = refl; vote = free_goes lines.Begin b.number b.vote free }
 begin_goes b (Some t) idle free = absurd cc
 
@@ -72,12 +72,12 @@ read_known : (oid : ℕ) (o : Option ObjectRevision) → is_allowed (read_revisi
 read_known oid None = refl
 read_known oid (Some r) = content_known oid r.serial r.content
 
-load_goes : (b : Before) (oid : ℕ) (o : Option OpenTransaction) → is_some o ≡ true → is_some b.session.open_transaction ≡ true → b.vote ≡ None → LineGoes b (lines.Load oid) (in_transaction b o (load_in b oid))
+load_goes : (b : BeforeLine) (oid : ℕ) (o : Option OpenTransaction) → is_some o ≡ true → is_some b.session.open_transaction ≡ true → b.vote ≡ None → LineGoes b (lines.Load oid) (in_transaction b o (load_in b oid))
 load_goes b oid None works place free = absurd cc
 load_goes b oid (Some t) works place free =
     stays_goes b (lines.Load oid) (read_revision oid (revision_below oid t.front t.list)) (read_known oid (revision_below oid t.front t.list)) place (free_goes (lines.Load oid) b.number b.vote free)
 
-store_goes : (b : Before) (p : PendingStore) (o : Option OpenTransaction) → is_some o ≡ true → b.vote ≡ None → LineGoes b (lines.Store p.oid p.base p.bytes) (in_transaction b o (store_in b p))
+store_goes : (b : BeforeLine) (p : PendingStore) (o : Option OpenTransaction) → is_some o ≡ true → b.vote ≡ None → LineGoes b (lines.Store p.oid p.base p.bytes) (in_transaction b o (store_in b p))
 store_goes b p None works free = absurd cc
 store_goes b p (Some t) works free = by_test (is_holder b.number b.vote) (ap (is_holder b.number) free)
   where
@@ -122,12 +122,12 @@ on_known (Some why) list stores stamps known = known
 on_known None list [] stamps known = tt
 on_known None list (p ∷ stores) stamps known = at_known (tid_after (newest_tid list) (next_number stamps)) (p ∷ stores) (stamps_after stamps)
 
-voted_goes : (b : Before) (verdict : Result (Option Transaction) Refusal) (stamps : List Stamp) → KnownVerdict verdict → is_some b.session.open_transaction ≡ true → b.vote ≡ None
+voted_goes : (b : BeforeLine) (verdict : Result (Option Transaction) Refusal) (stamps : List Stamp) → KnownVerdict verdict → is_some b.session.open_transaction ≡ true → b.vote ≡ None
     → LineGoes b lines.Vote (voted_by b verdict stamps)
 voted_goes b (Err why) stamps known place free = record { known = known; client = refl; place = place; vote = free_goes lines.Vote b.number b.vote free }
 voted_goes b (Ok writes) stamps known place free = record { known = refl; client = refl; place = place; vote = (refl, refl) }
 
-vote_goes : (b : Before) (v : Option Vote) (o : Option OpenTransaction) → v ≡ None → is_some o ≡ true → is_some b.session.open_transaction ≡ true → b.vote ≡ None
+vote_goes : (b : BeforeLine) (v : Option Vote) (o : Option OpenTransaction) → v ≡ None → is_some o ≡ true → is_some b.session.open_transaction ≡ true → b.vote ≡ None
     → LineGoes b lines.Vote (in_transaction b o (vote_in b v))
 vote_goes b v None none works place free = absurd cc
 vote_goes b (Some h) (Some t) none works place free = absurd cc
@@ -135,11 +135,11 @@ vote_goes b None (Some t) none works place free =
     let d = decision_of b.list t.stores b.stamps in
     voted_goes b d.verdict d.stamps (on_known (conflict_of b.list t.stores) b.list t.stores b.stamps (conflict_known b.list t.stores)) place free
 
-finished_goes : (b : Before) (writes : Option Transaction) → LineGoes b lines.Finish (finished b writes)
+finished_goes : (b : BeforeLine) (writes : Option Transaction) → LineGoes b lines.Finish (finished b writes)
 finished_goes b None = record { known = refl; client = refl; place = tt; vote = tt }
 finished_goes b (Some t) = record { known = refl; client = refl; place = tt; vote = tt }
 
-finish_goes : (b : Before) (v : Option Vote) (o : Option OpenTransaction) → b.vote ≡ v → VoteIs lines.Vote b.number v → is_some o ≡ true
+finish_goes : (b : BeforeLine) (v : Option Vote) (o : Option OpenTransaction) → b.vote ≡ v → VoteIs lines.Vote b.number v → is_some o ≡ true
     → LineGoes b lines.Finish (in_transaction b o (λ t. finish_in b v))
 finish_goes b v None is held works = absurd cc
 finish_goes b None (Some t) is held works = stays_goes b lines.Finish (answer.Refused refusal.NotVoted) refl tt (free_goes lines.Finish b.number b.vote is)
@@ -153,12 +153,12 @@ left_goes : (n : ℕ) (v : Option Vote) → VoteIs lines.Vote n v → VoteIs lin
 left_goes n None held = tt
 left_goes n (Some h) held = rw (eq-eqb h.session n held.1) tt
 
-abort_goes : (b : Before) (o : Option OpenTransaction) → VoteIs lines.Vote b.number b.vote → is_some o ≡ true → LineGoes b lines.Abort (in_transaction b o (λ t. abort_in b))
+abort_goes : (b : BeforeLine) (o : Option OpenTransaction) → VoteIs lines.Vote b.number b.vote → is_some o ≡ true → LineGoes b lines.Abort (in_transaction b o (λ t. abort_in b))
 abort_goes b None held works = absurd cc
 abort_goes b (Some t) held works = record { known = refl; client = refl; place = refl; vote = left_goes b.number b.vote held }
 
 -- behind an open or an abort
-idle_goes : (b : Before) (line : Line) → is_outside line ≡ true → is_new line ≡ false → is_some b.session.open_transaction ≡ false → b.vote ≡ None → LineGoes b line (line_in b line)
+idle_goes : (b : BeforeLine) (line : Line) → is_outside line ≡ true → is_new line ≡ false → is_some b.session.open_transaction ≡ false → b.vote ≡ None → LineGoes b line (line_in b line)
 idle_goes b lines.Open follows other idle free = absurd cc
 idle_goes b lines.Begin follows other idle free = begin_goes b b.session.open_transaction idle free
 idle_goes b (lines.Load oid) follows other idle free = absurd cc
@@ -169,7 +169,7 @@ idle_goes b lines.Abort follows other idle free = absurd cc
 idle_goes b lines.New follows other idle free = absurd cc
 
 -- in an open transaction that isn't voted
-inside_goes : (b : Before) (line : Line) → is_inside line ≡ true → is_new line ≡ false → is_some b.session.open_transaction ≡ true → b.vote ≡ None → LineGoes b line (line_in b line)
+inside_goes : (b : BeforeLine) (line : Line) → is_inside line ≡ true → is_new line ≡ false → is_some b.session.open_transaction ≡ true → b.vote ≡ None → LineGoes b line (line_in b line)
 inside_goes b lines.Open follows other works free = absurd cc
 inside_goes b lines.Begin follows other works free = absurd cc
 inside_goes b (lines.Load oid) follows other works free = load_goes b oid b.session.open_transaction works works free
@@ -180,7 +180,7 @@ inside_goes b lines.Abort follows other works free = abort_goes b b.session.open
 inside_goes b lines.New follows other works free = absurd cc
 
 -- behind a vote
-ending_goes : (b : Before) (line : Line) → is_ending line ≡ true → is_some b.session.open_transaction ≡ true → VoteIs lines.Vote b.number b.vote → LineGoes b line (line_in b line)
+ending_goes : (b : BeforeLine) (line : Line) → is_ending line ≡ true → is_some b.session.open_transaction ≡ true → VoteIs lines.Vote b.number b.vote → LineGoes b line (line_in b line)
 ending_goes b lines.Open follows works held = absurd cc
 ending_goes b lines.Begin follows works held = absurd cc
 ending_goes b (lines.Load oid) follows works held = absurd cc
@@ -190,7 +190,7 @@ ending_goes b lines.Finish follows works held = finish_goes b b.vote b.session.o
 ending_goes b lines.Abort follows works held = abort_goes b b.session.open_transaction held works
 ending_goes b lines.New follows works held = absurd cc
 
-pub line_goes : (b : Before) (m line : Line) → may_follow (Some m) line ≡ true → is_new line ≡ false → PlaceIs m (is_some b.session.open_transaction) → VoteIs m b.number b.vote → LineGoes b line (line_in b line)
+pub line_goes : (b : BeforeLine) (m line : Line) → may_follow (Some m) line ≡ true → is_new line ≡ false → PlaceIs m (is_some b.session.open_transaction) → VoteIs m b.number b.vote → LineGoes b line (line_in b line)
 line_goes b lines.Open line follows other place vote = idle_goes b line follows other place (no_vote lines.Open b.number b.vote refl vote)
 line_goes b lines.Begin line follows other place vote = inside_goes b line follows other place (no_vote lines.Begin b.number b.vote refl vote)
 line_goes b (lines.Load oid) line follows other place vote = inside_goes b line follows other place (no_vote (lines.Load oid) b.number b.vote refl vote)
@@ -203,10 +203,10 @@ line_goes b lines.Abort line follows other place vote = idle_goes b line follows
 -- ---- new
 
 -- a `new` is answered a number, or that none is left
-pub new_known : (b : Before) → (is_allowed (new_in b).answer ≡ true) ⊎ ((2 ^ 64 - 1 ≤ b.greatest) × ((new_in b).answer ≡ answer.Refused refusal.OidsSpent))
+pub new_known : (b : BeforeLine) → (is_allowed (new_in b).answer ≡ true) ⊎ ((2 ^ 64 - 1 ≤ b.greatest) × ((new_in b).answer ≡ answer.Refused refusal.OidsSpent))
 new_known b = by_test (nat_lt b.greatest (2 ^ 64 - 1)) refl
   where
-    given : After
+    given : AfterLine
     given = record {
       answer = answer.Oid (b.greatest + 1);
       list = b.list;
@@ -222,10 +222,10 @@ new_known b = by_test (nat_lt b.greatest (2 ^ 64 - 1)) refl
     by_test false e = inr (ltb-false _ _ e, refl)
 
 -- it leaves the session and the vote as they were
-pub new_leaves : (b : Before) → ((new_in b).session ≡ b.session) × ((new_in b).vote ≡ b.vote)
+pub new_leaves : (b : BeforeLine) → ((new_in b).session ≡ b.session) × ((new_in b).vote ≡ b.vote)
 new_leaves b = by_test (nat_lt b.greatest (2 ^ 64 - 1))
   where
-    given : After
+    given : AfterLine
     given = record {
       answer = answer.Oid (b.greatest + 1);
       list = b.list;

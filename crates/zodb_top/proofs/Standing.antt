@@ -10,13 +10,13 @@ use Rattle.std.proofs.lemmas.Option.{none-some, same_Some}
 use Rattle.std.proofs.lemmas.List.{append-nil}
 use Rattle.zb_ids.specs.declared.stamp.Stamp.{Stamp}
 use Rattle.zb_model.specs.declared.data.Transaction.{Transaction}
-use Rattle.zb_model.specs.VotingLaws.{last_or-push}
+use Rattle.zb_base.specs.Lists.{last_or_push}
 use Rattle.zb_script.specs.declared.answer.Answer.{Answer}
 use Rattle.zb_script.specs.declared.line.Line.{Line}
 use Rattle.zb_script.specs.declared.line.Line.TheVariants as lines
 use Rattle.zb_script.specs.declared.line.Turn.{Turn}
 use Rattle.zb_script.specs.Shape.{all_stand, can_stand, has_turn, is_empty, is_ending, is_new, is_open, is_outside, is_step_of, is_turn_of, is_vote, last_line, may_follow}
-use Rattle.zodb_top.specs.Laws.{IsExpected, OnlySixRefusals, TakenTurn, taken_of}
+use Rattle.zodb_top.specs.Laws.{IsExpected, OnlySixRefusals, TakenTurn, turns_taken}
 use Rattle.zodb_top.specs.Machine.{TurnDone, Session, State, Vote, after_at, at_number, at_session, before_at, is_reading, line_in, line_of, new_in, opened, reading_failed, session_of, start, turn_taken, turn_of}
 use Rattle.zodb_top.specs.Output.{said_first, others_of}
 use Rattle.zodb_top.proofs.Sessions.{Sits, found_name, missing_still, same_name, session_of-set, sits_again, sits_first, sits_on, sits_still}
@@ -40,7 +40,7 @@ last_kept : {A : Type 0} (p : A → Bool) (xs : List A) (y : A) → last_or None
 last_kept p xs y last passes = kept_from p xs None None y last passes (λ e. e)
 
 line_over : (test : Bool) (xs : List Turn) (t : Turn) → option_map (λ (u : Turn). u.line) (last_or None (xs ++ cond test (t ∷ []) [])) ≡ cond test (Some t.line) (option_map (λ (u : Turn). u.line) (last_or None xs))
-line_over true xs t = ap (option_map (λ (u : Turn). u.line)) (last_or-push None xs t)
+line_over true xs t = ap (option_map (λ (u : Turn). u.line)) (last_or_push None xs t)
 line_over false xs t = rw append-nil refl
 
 -- a client's last line among the turns up to this one
@@ -205,7 +205,7 @@ stand_again : (before : List Turn) (t : Turn) (old new : State) → Stands befor
     → Stands (before ++ t ∷ []) new
 stand_again before t old new stands own vote others = record {
   places = λ client. subst (λ (o : Option Line). AtPlace o client new.sessions) (sym (last_line-push client before t)) (by_test client (is_step_of client t) refl);
-  vote = subst (λ (o : Option Turn). VoteAt o new.sessions new.vote) (sym (last_or-push None before t)) vote;
+  vote = subst (λ (o : Option Turn). VoteAt o new.sessions new.vote) (sym (last_or_push None before t)) vote;
 }
   where
     by_test : (client : List ℕ) (test : Bool) → is_step_of client t ≡ test → AtPlace (cond test (Some t.line) (last_line client before)) client new.sessions
@@ -404,7 +404,7 @@ taken_stands true before s stamps t stands follows turn = by_test (is_reading t.
 -- ---- runs
 
 run_known : (before : List Turn) (s : State) (stamps : List Stamp) (failed : List Bool) (turns : List Turn) (ends : Bool) → Stands before s → all_stand before turns ends ≡ true
-    → AllByRecursion IsExpected (taken_of s stamps failed turns)
+    → AllByRecursion IsExpected (turns_taken s stamps failed turns)
 run_known before s stamps failed [] ends stands shape = tt
 run_known before s stamps failed (t ∷ turns) ends stands shape =
     let here = and_parts (can_stand before t (ends && is_empty turns)) (all_stand (before ++ t ∷ []) turns ends) shape in
@@ -420,4 +420,4 @@ start_stands list = record { places = λ client. refl; vote = tt }
 
 pub six_refusals : OnlySixRefusals
 six_refusals = λ list stamps failed turns is shape.
-    All-from_recursion IsExpected (taken_of (start list) stamps failed turns) (run_known [] (start list) stamps failed turns true (start_stands list) shape)
+    All-from_recursion IsExpected (turns_taken (start list) stamps failed turns) (run_known [] (start list) stamps failed turns true (start_stands list) shape)

@@ -19,7 +19,7 @@ use Rattle.zodb_top.specs.declared.seat.Work.{Work}
 use Rattle.zodb_top.specs.declared.vote.HeldVote.{HeldVote}
 use Rattle.std.specs.Global.{Vec}
 use Rattle.zodb_top.specs.declared.pending.PendingStore.{PendingStore}
-use Rattle.zodb_top.specs.Machine.{Vote, TurnDone, Before, answered, load_in, read_content, read_revision, is_holder, store_in, with_store, with_transaction, in_transaction, refused, Session, OpenTransaction, begin_in, before_at, after_at, line_in}
+use Rattle.zodb_top.specs.Machine.{Vote, TurnDone, BeforeLine, answered, load_in, read_content, read_revision, is_holder, store_in, with_store, with_transaction, in_transaction, refused, Session, OpenTransaction, begin_in, before_at, after_at, line_in}
 use Rattle.zodb_top.specs.Seen.{AreDistinct, HubSeen, IsSoundHub, IsStored, HasFrontUpTo, IsWorkOf, is_holder_of, seen_seat, seen_vote, seen_work, state_with, view_at}
 use Rattle.zodb_top.specs.Found.{answer_of}
 use Rattle.zodb_top.specs.Steps.{IsStep}
@@ -52,11 +52,11 @@ new_given list greatest seats voted vote n within left = λ stamps.
 
 -- ---- begin
 
-begin_in-open : (b : Before) (o : Option OpenTransaction) → is_some o ≡ true → begin_in b o ≡ refused b refusal.InTransaction
+begin_in-open : (b : BeforeLine) (o : Option OpenTransaction) → is_some o ≡ true → begin_in b o ≡ refused b refusal.InTransaction
 begin_in-open b None e = absurd cc
 begin_in-open b (Some t) e = refl
 
-begin_in-none : (b : Before) (o : Option OpenTransaction) → is_some o ≡ false → begin_in b o ≡ begin_in b None
+begin_in-none : (b : BeforeLine) (o : Option OpenTransaction) → is_some o ≡ false → begin_in b o ≡ begin_in b None
 begin_in-none b None e = refl
 begin_in-none b (Some t) e = absurd cc
 

@@ -18,7 +18,7 @@ use Rattle.zodb_top.specs.declared.seat.Seat.{Seat}
 use Rattle.zodb_top.specs.declared.vote.HeldVote.{HeldVote}
 use Rattle.zodb_top.specs.Machine.{TurnDone, OpenTransaction, Session, State, at_number, at_session, before_at, in_transaction, is_reading, is_session_of, line_of, load_in, session_of, turn_of}
 use Rattle.zodb_top.specs.Seen.{AreDistinct, HubSeen, IsSoundHub, HasFrontUpTo, seen_seat, state_with}
-use Rattle.zodb_top.specs.Steps.{Gave, IsClockStep, IsDone, IsDoneOr, IsOpening, IsReadStep, IsStep, IsTurnStep, LineTicks, Ticks}
+use Rattle.zodb_top.specs.Steps.{ClockGave, IsClockStep, IsDone, IsDoneOr, IsOpening, IsReadStep, IsStep, IsTurnStep, LineTicks, Ticks}
 use Rattle.zodb_top.proofs.Seats.{all_push, seat_of, sound_seats, stays}
 
 -- ---- sessions of seats
@@ -62,7 +62,7 @@ pub step_clock : (read_failed : Type 0) (told : Option (List Stamp)) (old new : 
 step_clock read_failed None old new line n a step = tt
 step_clock read_failed (Some stamps) old new line n a step = inl (is_done _ a new stamps (step stamps))
 
-pub gave_nothing : (told : Option (List Stamp)) (done : List Stamp → TurnDone) → Gave told told done
+pub gave_nothing : (told : Option (List Stamp)) (done : List Stamp → TurnDone) → ClockGave told told done
 gave_nothing None done = tt
 gave_nothing (Some stamps) done = inl refl
 

@@ -17,7 +17,7 @@ use Rattle.zb_script.specs.declared.line.Line.TheVariants as lines
 use Rattle.zb_script.specs.declared.line.Turn.{Turn}
 use Rattle.zodb_top.specs.declared.pending.PendingStore.{PendingStore}
 use Rattle.zodb_top.specs.Laws.{IsRead, ReadsStayBelowTheFront}
-use Rattle.zodb_top.specs.Machine.{After, Before, OpenTransaction, Session, State, Vote, abort_in, at_number, at_session, before_at, begin_in, decision_of, finish_in, finished, in_transaction, is_holder, is_reading, line_in, line_of, load_in, new_in, read_content, read_revision, reading_failed, refused, session_of, store_in, turn_taken, turn_of, vote_in, voted_by, with_store}
+use Rattle.zodb_top.specs.Machine.{AfterLine, BeforeLine, OpenTransaction, Session, State, Vote, abort_in, at_number, at_session, before_at, begin_in, decision_of, finish_in, finished, in_transaction, is_holder, is_reading, line_in, line_of, load_in, new_in, read_content, read_revision, reading_failed, refused, session_of, store_in, turn_taken, turn_of, vote_in, voted_by, with_store}
 
 -- ---- revisions below a front
 
@@ -61,21 +61,21 @@ revision_read : (oid : ℕ) (o : Option ObjectRevision) (serial : ℕ) (bytes : 
 revision_read oid None serial bytes e = absurd cc
 revision_read oid (Some r) serial bytes e = ap (λ (x : ObjectRevision). Some x) (content_read oid r.serial r.content serial bytes e)
 
-load_read : (b : Before) (oid : ℕ) (o : Option OpenTransaction) (serial : ℕ) (bytes : List ℕ) → (in_transaction b o (load_in b oid)).answer ≡ answer.Data serial bytes
+load_read : (b : BeforeLine) (oid : ℕ) (o : Option OpenTransaction) (serial : ℕ) (bytes : List ℕ) → (in_transaction b o (load_in b oid)).answer ≡ answer.Data serial bytes
     → LineRead o (lines.Load oid) serial bytes
 load_read b oid None serial bytes e = absurd cc
 load_read b oid (Some t) serial bytes e =
     record { oid = oid; transaction = t; line_is = refl; has = refl; reads = revision_read oid (revision_below oid t.front t.list) serial bytes e }
 
-begin_read : (b : Before) (o : Option OpenTransaction) (serial : ℕ) (bytes : List ℕ) → (begin_in b o).answer ≡ answer.Data serial bytes → ⊥
+begin_read : (b : BeforeLine) (o : Option OpenTransaction) (serial : ℕ) (bytes : List ℕ) → (begin_in b o).answer ≡ answer.Data serial bytes → ⊥
 begin_read b None serial bytes e = cc
 begin_read b (Some t) serial bytes e = cc
 
-store_read : (b : Before) (p : PendingStore) (o : Option OpenTransaction) (serial : ℕ) (bytes : List ℕ) → (in_transaction b o (store_in b p)).answer ≡ answer.Data serial bytes → ⊥
+store_read : (b : BeforeLine) (p : PendingStore) (o : Option OpenTransaction) (serial : ℕ) (bytes : List ℕ) → (in_transaction b o (store_in b p)).answer ≡ answer.Data serial bytes → ⊥
 store_read b p None serial bytes e = cc
 store_read b p (Some t) serial bytes e = by_test (is_holder b.number b.vote) e
   where
-    by_test : (test : Bool) → (cond {A = After} test (refused b refusal.Voted) (record {
+    by_test : (test : Bool) → (cond {A = AfterLine} test (refused b refusal.Voted) (record {
       answer = answer.Stored;
       list = b.list;
       greatest = b.greatest;
@@ -86,42 +86,42 @@ store_read b p (Some t) serial bytes e = by_test (is_holder b.number b.vote) e
     by_test true e = cc
     by_test false e = cc
 
-voted_read : (b : Before) (verdict : Result (Option Transaction) Refusal) (stamps : List Stamp) (serial : ℕ) (bytes : List ℕ) → (voted_by b verdict stamps).answer ≡ answer.Data serial bytes → ⊥
+voted_read : (b : BeforeLine) (verdict : Result (Option Transaction) Refusal) (stamps : List Stamp) (serial : ℕ) (bytes : List ℕ) → (voted_by b verdict stamps).answer ≡ answer.Data serial bytes → ⊥
 voted_read b (Err why) stamps serial bytes e = cc
 voted_read b (Ok writes) stamps serial bytes e = cc
 
-vote_read : (b : Before) (v : Option Vote) (o : Option OpenTransaction) (serial : ℕ) (bytes : List ℕ) → (in_transaction b o (vote_in b v)).answer ≡ answer.Data serial bytes → ⊥
+vote_read : (b : BeforeLine) (v : Option Vote) (o : Option OpenTransaction) (serial : ℕ) (bytes : List ℕ) → (in_transaction b o (vote_in b v)).answer ≡ answer.Data serial bytes → ⊥
 vote_read b v None serial bytes e = cc
 vote_read b None (Some t) serial bytes e =
     let d = decision_of b.list t.stores b.stamps in
     voted_read b d.verdict d.stamps serial bytes e
 vote_read b (Some h) (Some t) serial bytes e = by_test (h.session == b.number) e
   where
-    by_test : (test : Bool) → (cond {A = After} test (refused b refusal.Voted) (refused b (refusal.Busy h.session))).answer ≡ answer.Data serial bytes → ⊥
+    by_test : (test : Bool) → (cond {A = AfterLine} test (refused b refusal.Voted) (refused b (refusal.Busy h.session))).answer ≡ answer.Data serial bytes → ⊥
     by_test true e = cc
     by_test false e = cc
 
-finished_read : (b : Before) (writes : Option Transaction) (serial : ℕ) (bytes : List ℕ) → (finished b writes).answer ≡ answer.Data serial bytes → ⊥
+finished_read : (b : BeforeLine) (writes : Option Transaction) (serial : ℕ) (bytes : List ℕ) → (finished b writes).answer ≡ answer.Data serial bytes → ⊥
 finished_read b None serial bytes e = cc
 finished_read b (Some t) serial bytes e = cc
 
-finish_read : (b : Before) (v : Option Vote) (o : Option OpenTransaction) (serial : ℕ) (bytes : List ℕ) → (in_transaction b o (λ t. finish_in b v)).answer ≡ answer.Data serial bytes → ⊥
+finish_read : (b : BeforeLine) (v : Option Vote) (o : Option OpenTransaction) (serial : ℕ) (bytes : List ℕ) → (in_transaction b o (λ t. finish_in b v)).answer ≡ answer.Data serial bytes → ⊥
 finish_read b v None serial bytes e = cc
 finish_read b None (Some t) serial bytes e = cc
 finish_read b (Some h) (Some t) serial bytes e = by_test (h.session == b.number) e
   where
-    by_test : (test : Bool) → (cond {A = After} test (finished b h.writes) (refused b refusal.NotVoted)).answer ≡ answer.Data serial bytes → ⊥
+    by_test : (test : Bool) → (cond {A = AfterLine} test (finished b h.writes) (refused b refusal.NotVoted)).answer ≡ answer.Data serial bytes → ⊥
     by_test true e = finished_read b h.writes serial bytes e
     by_test false e = cc
 
-abort_read : (b : Before) (o : Option OpenTransaction) (serial : ℕ) (bytes : List ℕ) → (in_transaction b o (λ t. abort_in b)).answer ≡ answer.Data serial bytes → ⊥
+abort_read : (b : BeforeLine) (o : Option OpenTransaction) (serial : ℕ) (bytes : List ℕ) → (in_transaction b o (λ t. abort_in b)).answer ≡ answer.Data serial bytes → ⊥
 abort_read b None serial bytes e = cc
 abort_read b (Some t) serial bytes e = cc
 
-new_read : (b : Before) (serial : ℕ) (bytes : List ℕ) → (new_in b).answer ≡ answer.Data serial bytes → ⊥
+new_read : (b : BeforeLine) (serial : ℕ) (bytes : List ℕ) → (new_in b).answer ≡ answer.Data serial bytes → ⊥
 new_read b serial bytes e = by_test (nat_lt b.greatest (2 ^ 64 - 1)) e
   where
-    by_test : (test : Bool) → (cond {A = After} test (record {
+    by_test : (test : Bool) → (cond {A = AfterLine} test (record {
       answer = answer.Oid (b.greatest + 1);
       list = b.list;
       greatest = b.greatest + 1;
@@ -133,7 +133,7 @@ new_read b serial bytes e = by_test (nat_lt b.greatest (2 ^ 64 - 1)) e
     by_test false e = cc
 
 -- only a load is answered with data
-line_read : (b : Before) (line : Line) (serial : ℕ) (bytes : List ℕ) → (line_in b line).answer ≡ answer.Data serial bytes → LineRead b.session.open_transaction line serial bytes
+line_read : (b : BeforeLine) (line : Line) (serial : ℕ) (bytes : List ℕ) → (line_in b line).answer ≡ answer.Data serial bytes → LineRead b.session.open_transaction line serial bytes
 line_read b lines.Open serial bytes e = absurd cc
 line_read b lines.Begin serial bytes e = absurd (begin_read b b.session.open_transaction serial bytes e)
 line_read b (lines.Load oid) serial bytes e = load_read b oid b.session.open_transaction serial bytes e

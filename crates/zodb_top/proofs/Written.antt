@@ -25,7 +25,7 @@ all_lines taken taken' lines i past so_far =
     all_before taken taken' taken' (joined lines) []
     (subst (λ (rest : List (List ℕ)). AppendsBefore taken taken' (joined lines) (joined rest)) (drop_all i lines past) so_far) (Appends-nil taken')
 
-pub front_lines : (taken between taken' : Option (List ℕ)) (lines : List (List ℕ)) (i : ℕ) (l : List ℕ) → i < length lines → l ≡ get_or lines i l
+pub prefix_lines : (taken between taken' : Option (List ℕ)) (lines : List (List ℕ)) (i : ℕ) (l : List ℕ) → i < length lines → l ≡ get_or lines i l
     → AppendsBefore taken between (joined lines) (joined (drop i lines)) → AppendsPrefix between taken' l → AppendsPrefix taken taken' (joined lines)
-front_lines taken between taken' lines i l within is so_far wrote =
+prefix_lines taken between taken' lines i l within is so_far wrote =
     front_more taken between taken' (joined lines) l (joined (drop (i + 1) lines)) (joined (drop i lines)) so_far (next_line lines i l within is) wrote

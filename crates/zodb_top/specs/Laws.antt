@@ -73,11 +73,11 @@ pub record TakenTurn : Type 0 where
   pub answer : Answer
 
 -- the turns as they are taken, in their order
-abbrev pub taken_of : State → List Stamp → List Bool → List Turn → List TakenTurn
-taken_of s stamps failed [] = []
-taken_of s stamps failed (t ∷ turns) =
+abbrev pub turns_taken : State → List Stamp → List Bool → List Turn → List TakenTurn
+turns_taken s stamps failed [] = []
+turns_taken s stamps failed (t ∷ turns) =
     let d = turn_taken (said_first failed) s stamps t in
-    (record { state = s; turn = t; failed = said_first failed; answer = d.answer }) ∷ taken_of d.state d.stamps (others_of failed) turns
+    (record { state = s; turn = t; failed = said_first failed; answer = d.answer }) ∷ turns_taken d.state d.stamps (others_of failed) turns
 
 -- whether a refusal is one of the four that the turns of a script in shape get besides OidsSpent and ReadFault
 abbrev pub is_known_refusal : Refusal → Bool
@@ -85,13 +85,7 @@ is_known_refusal refusal.TidsSpent = true
 is_known_refusal (refusal.Conflict oid base current why) = true
 is_known_refusal (refusal.Missing oid packed) = true
 is_known_refusal refusal.NotVoted = true
-is_known_refusal refusal.NoTransaction = false
-is_known_refusal refusal.InTransaction = false
-is_known_refusal refusal.Voted = false
-is_known_refusal (refusal.Busy holder) = false
-is_known_refusal refusal.NotOpen = false
-is_known_refusal refusal.OidsSpent = false
-is_known_refusal refusal.ReadFault = false
+is_known_refusal _ = false
 
 -- whether an answer is no refusal, or one of those four
 abbrev pub is_allowed : Answer → Bool
@@ -117,4 +111,4 @@ IsExpected x = IsTrue (is_allowed x.answer) ⊎ AsksTooMany x ⊎ FailedToRead x
 -- a database refuses the turns of a script in shape only for TidsSpent, Conflict, Missing or NotVoted, only those
 -- that ask for a number where none is left for OidsSpent, and only those in which reading failed for ReadFault
 abbrev pub OnlySixRefusals : Type 0
-OnlySixRefusals = (list : List Transaction) (stamps : List Stamp) (failed : List Bool) (turns : List Turn) → IsDatabase list → IsInShape turns → All IsExpected (taken_of (start list) stamps failed turns)
+OnlySixRefusals = (list : List Transaction) (stamps : List Stamp) (failed : List Bool) (turns : List Turn) → IsDatabase list → IsInShape turns → All IsExpected (turns_taken (start list) stamps failed turns)

@@ -59,7 +59,7 @@ start list = record { list = list; greatest = greatest_oid list; sessions = []; 
 
 -- what a line finds: the number of the client's session, the list, the greatest number of an object, the
 -- session, the vote, and the stamps that the clock has still to give
-pub record Before : Type 0 where
+pub record BeforeLine : Type 0 where
   pub number : ℕ
   pub list : List Transaction
   pub greatest : ℕ
@@ -69,7 +69,7 @@ pub record Before : Type 0 where
 
 -- the answer, and what the line leaves of the list, the greatest number of an object, the session, the
 -- vote and the stamps
-pub record After : Type 0 where
+pub record AfterLine : Type 0 where
   pub answer : Answer
   pub list : List Transaction
   pub greatest : ℕ
@@ -78,10 +78,10 @@ pub record After : Type 0 where
   pub stamps : List Stamp
 
 -- an answer, where nothing changes
-abbrev pub answered : Before → Answer → After
+abbrev pub answered : BeforeLine → Answer → AfterLine
 answered f a = record { answer = a; list = f.list; greatest = f.greatest; session = f.session; vote = f.vote; stamps = f.stamps }
 
-abbrev pub refused : Before → Refusal → After
+abbrev pub refused : BeforeLine → Refusal → AfterLine
 refused f why = answered f (answer.Refused why)
 
 -- the same session with another transaction, or none
@@ -89,12 +89,12 @@ abbrev pub with_transaction : Session → Option OpenTransaction → Session
 with_transaction s t = record { client = s.client; open_transaction = t }
 
 -- the rest, for the session's open transaction
-abbrev pub in_transaction : Before → Option OpenTransaction → (OpenTransaction → After) → After
+abbrev pub in_transaction : BeforeLine → Option OpenTransaction → (OpenTransaction → AfterLine) → AfterLine
 in_transaction f None rest = refused f refusal.NoTransaction
 in_transaction f (Some t) rest = rest t
 
 -- begin: the front is the tid after the newest, and the view is the list as it stands
-abbrev pub begin_in : Before → Option OpenTransaction → After
+abbrev pub begin_in : BeforeLine → Option OpenTransaction → AfterLine
 begin_in f (Some t) = refused f refusal.InTransaction
 begin_in f None =
     let front = newest_tid f.list + 1 in
@@ -116,7 +116,7 @@ abbrev pub read_revision : ℕ → Option ObjectRevision → Answer
 read_revision oid None = answer.Refused (refusal.Missing oid false)
 read_revision oid (Some r) = read_content oid r.serial r.content
 
-abbrev pub load_in : Before → ℕ → OpenTransaction → After
+abbrev pub load_in : BeforeLine → ℕ → OpenTransaction → AfterLine
 load_in f oid t = answered f (read_revision oid (revision_below oid t.front t.list))
 
 -- whether this session holds the vote
@@ -130,7 +130,7 @@ with_store [] p = p ∷ []
 with_store (q ∷ stores) p = if q.oid == p.oid then (record { oid = q.oid; base = q.base; bytes = p.bytes }) ∷ stores else q ∷ with_store stores p
 
 -- store
-abbrev pub store_in : Before → PendingStore → OpenTransaction → After
+abbrev pub store_in : BeforeLine → PendingStore → OpenTransaction → AfterLine
 store_in f p t = if is_holder f.number f.vote then refused f refusal.Voted else record {
   answer = answer.Stored;
   list = f.list;
@@ -181,7 +181,7 @@ decision_on None list (p ∷ stores) stamps = decision_at (tid_after (newest_tid
 abbrev pub decision_of : List Transaction → List PendingStore → List Stamp → Decision
 decision_of list stores stamps = decision_on (conflict_of list stores) list stores stamps
 
-abbrev pub voted_by : Before → Result (Option Transaction) Refusal → List Stamp → After
+abbrev pub voted_by : BeforeLine → Result (Option Transaction) Refusal → List Stamp → AfterLine
 voted_by f (Err why) stamps = record { answer = answer.Refused why; list = f.list; greatest = f.greatest; session = f.session; vote = f.vote; stamps = stamps }
 voted_by f (Ok writes) stamps = record {
   answer = answer.Voted;
@@ -192,11 +192,11 @@ voted_by f (Ok writes) stamps = record {
   stamps = stamps;
 }
 
-abbrev pub voted : Before → Decision → After
+abbrev pub voted : BeforeLine → Decision → AfterLine
 voted f d = voted_by f d.verdict d.stamps
 
 -- vote
-abbrev pub vote_in : Before → Option Vote → OpenTransaction → After
+abbrev pub vote_in : BeforeLine → Option Vote → OpenTransaction → AfterLine
 vote_in f None t = voted f (decision_of f.list t.stores f.stamps)
 vote_in f (Some h) t = if h.session == f.number then refused f refusal.Voted else refused f (refusal.Busy h.session)
 
@@ -205,7 +205,7 @@ abbrev pub raised : ℕ → Transaction → ℕ
 raised greatest t = max greatest (greatest_of (oids_of t))
 
 -- finish: what was voted is appended, and the greatest number is at least those of its objects
-abbrev pub finished : Before → Option Transaction → After
+abbrev pub finished : BeforeLine → Option Transaction → AfterLine
 finished f None = record { answer = answer.Empty; list = f.list; greatest = f.greatest; session = with_transaction f.session None; vote = None; stamps = f.stamps }
 finished f (Some t) = record {
   answer = answer.Committed t.tid;
@@ -216,12 +216,12 @@ finished f (Some t) = record {
   stamps = f.stamps;
 }
 
-abbrev pub finish_in : Before → Option Vote → After
+abbrev pub finish_in : BeforeLine → Option Vote → AfterLine
 finish_in f None = refused f refusal.NotVoted
 finish_in f (Some h) = if h.session == f.number then finished f h.writes else refused f refusal.NotVoted
 
 -- abort: the stores go, and the vote, where this session holds it
-abbrev pub abort_in : Before → After
+abbrev pub abort_in : BeforeLine → AfterLine
 abort_in f = record {
   answer = answer.Aborted;
   list = f.list;
@@ -232,7 +232,7 @@ abort_in f = record {
 }
 
 -- new: the number after the greatest is handed out, where it has 64 bits
-abbrev pub new_in : Before → After
+abbrev pub new_in : BeforeLine → AfterLine
 new_in f = if nat_lt f.greatest (2 ^ 64 - 1) then (record {
   answer = answer.Oid (f.greatest + 1);
   list = f.list;
@@ -243,7 +243,7 @@ new_in f = if nat_lt f.greatest (2 ^ 64 - 1) then (record {
 }) else refused f refusal.OidsSpent
 
 -- a line of a session that is open; `open` never comes here
-abbrev pub line_in : Before → Line → After
+abbrev pub line_in : BeforeLine → Line → AfterLine
 line_in f lines.Open = refused f refusal.InTransaction
 line_in f lines.Begin = begin_in f f.session.open_transaction
 line_in f (lines.Load oid) = in_transaction f f.session.open_transaction (load_in f oid)
@@ -262,10 +262,10 @@ pub record TurnDone : Type 0 where
   pub stamps : List Stamp
 
 -- what a line of session n leaves
-abbrev pub after_at : State → ℕ → After → TurnDone
+abbrev pub after_at : State → ℕ → AfterLine → TurnDone
 after_at s n l = record { answer = l.answer; state = record { list = l.list; greatest = l.greatest; sessions = slice_set s.sessions n l.session; vote = l.vote }; stamps = l.stamps }
 
-abbrev pub before_at : State → List Stamp → ℕ → Session → Before
+abbrev pub before_at : State → List Stamp → ℕ → Session → BeforeLine
 before_at s stamps n x = record { number = n; list = s.list; greatest = s.greatest; session = x; vote = s.vote; stamps = stamps }
 
 abbrev pub not_open : State → List Stamp → TurnDone

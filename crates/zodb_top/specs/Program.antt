@@ -13,16 +13,16 @@ use Rattle.zb_outside.specs.Written.{AppendsPrefix}
 use Rattle.zb_script.specs.declared.line.Turn.{Turn}
 use Rattle.zb_script.specs.Script.{IsBadLine, IsScript}
 use Rattle.zodb_top.specs.declared.status.Status.{Status}
-use Rattle.zodb_top.specs.declared.status.Status.TheVariants.{Done, NoMemory, ReadFault, SinkFault, StoreFault, Damaged, BadLine, Limit}
+use Rattle.zodb_top.specs.declared.status.Status.TheVariants.{Done, NoMemory, SourceFault, SinkFault, StoreFault, Damaged, BadLine, Limit}
 use Rattle.zodb_top.specs.Damage.{NamesDamage}
 use Rattle.zodb_top.specs.Machine.{start}
 use Rattle.zodb_top.specs.Output.{IsCounted, run_from}
 use Rattle.zodb_top.specs.Outside.{Outside, main_of}
 use Rattle.zodb_top.specs.Texts.{bad_line, cut_lines, joined, limit_line, read_fault_line, store_fault_line}
 
--- a text was written: all of it, but where the sink failed, and then some front of it
+-- a text was written: all of it, but where the sink failed, and then some prefix of it
 pub record IsWritten (old new : Option (List ℕ)) (before now : ℕ) (text : List ℕ) : Type 0 where
-  pub front : AppendsPrefix old new text
+  pub prefix : AppendsPrefix old new text
   pub whole : ¬ Rose before now → Appends old new text
 
 -- ---- scripts
@@ -69,7 +69,7 @@ pub record AllAnswered (list : List Transaction) (cut : Option ℕ) (stamps : Li
   pub stamps_left : left ≡ Some (run_from (start list) stamps failed turns).stamps
   pub list_left : list' ≡ (run_from (start list) stamps failed turns).state.list
 
--- The first `count` of the turns were taken: what was written is a front of the line of the tail that was cut off
+-- The first `count` of the turns were taken: what was written is a prefix of the line of the tail that was cut off
 -- and of their replies, and the list is the one behind them. The clock gave what the first `read` of the turns read,
 -- which are these, or these and the next.
 pub record SomeAnswered (list : List Transaction) (cut : Option ℕ) (stamps : List Stamp) (turns : List Turn) (reads reads' : ℕ) (taken taken' : Option (List ℕ)) (left : Option (List Stamp)) (list' : List Transaction) : Type 0 where
@@ -164,7 +164,7 @@ abbrev pub RunOutcome : Status → Type 0 → Type 0 → Option (List ℕ) → O
 RunOutcome Done told source_failed left before after = told → OfInput left before (λ turns. HasRun turns before after)
 RunOutcome NoMemory told source_failed left before after =
     ((after.taken ≡ before.taken) × (IsUnopened before after ⊎ IsLeftUnopened told before after)) ⊎ (told → OfInput left before (λ turns. HasRunInPart turns before after))
-RunOutcome ReadFault told source_failed left before after =
+RunOutcome SourceFault told source_failed left before after =
     source_failed × IsUnopened before after × IsWritten before.taken after.taken before.sink_faults after.sink_faults read_fault_line
 RunOutcome SinkFault told source_failed left before after =
     Rose before.sink_faults after.sink_faults × (told → OfInput left before (λ turns. HasRunInPart turns before after))

@@ -31,7 +31,7 @@ pub record IsRun (stamps : List Stamp) (old : Moment) (turns : List Turn) (new :
   pub state_left : (run_from old.state stamps failed turns).state ≡ new.state
   pub stamps_left : new.stamps ≡ Some (run_from old.state stamps failed turns).stamps
 
--- The run ended behind the first `count` of the turns: some front of their replies was written, and the list is the
+-- The run ended behind the first `count` of the turns: a prefix of their replies was written, and the list is the
 -- one behind them; the clock gave what these read, or these and the next.
 pub record IsCutShort (stamps : List Stamp) (old : Moment) (turns : List Turn) (new : Moment) : Type 0 where
   pub failed : List Bool
@@ -55,11 +55,11 @@ pub record IsFaulted (stamps : List Stamp) (old : Moment) (turns : List Turn) (n
   pub stamps_left : new.stamps ≡ Some (run_from old.state stamps failed (take read turns)).stamps
 
 -- by a clock that tells
-abbrev pub Runs : Moment → List Turn → Moment → Type 0
-Runs old turns new = IfSome old.stamps (λ stamps. IsRun stamps old turns new)
+abbrev pub AreAnswered : Moment → List Turn → Moment → Type 0
+AreAnswered old turns new = IfSome old.stamps (λ stamps. IsRun stamps old turns new)
 
 -- and what each error says
-abbrev pub Stops : RunError → Moment → List Turn → Moment → Type 0
-Stops errors.Memory old turns new = IfSome old.stamps (λ stamps. IsCutShort stamps old turns new)
-Stops errors.SinkFault old turns new = IfSome old.stamps (λ stamps. IsCutShort stamps old turns new)
-Stops errors.StoreFault old turns new = IfSome old.stamps (λ stamps. IsFaulted stamps old turns new)
+abbrev pub IsStopped : RunError → Moment → List Turn → Moment → Type 0
+IsStopped errors.Memory old turns new = IfSome old.stamps (λ stamps. IsCutShort stamps old turns new)
+IsStopped errors.SinkFault old turns new = IfSome old.stamps (λ stamps. IsCutShort stamps old turns new)
+IsStopped errors.StoreFault old turns new = IfSome old.stamps (λ stamps. IsFaulted stamps old turns new)

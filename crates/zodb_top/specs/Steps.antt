@@ -40,11 +40,11 @@ abbrev pub IsOpening : State → List ℕ → Answer → State → Type 0
 IsOpening old client a new = (stamps : List Stamp) → opened old stamps client ≡ record { answer = a; state = new; stamps = stamps }
 
 -- a line of session n, or a turn, that was begun and not answered: the clock gave what it reads, or nothing
-abbrev pub Gave : Option (List Stamp) → Option (List Stamp) → (List Stamp → TurnDone) → Type 0
-Gave told after done = IfSome told (λ stamps. (after ≡ Some stamps) ⊎ (after ≡ Some (done stamps).stamps))
+abbrev pub ClockGave : Option (List Stamp) → Option (List Stamp) → (List Stamp → TurnDone) → Type 0
+ClockGave told after done = IfSome told (λ stamps. (after ≡ Some stamps) ⊎ (after ≡ Some (done stamps).stamps))
 
 abbrev pub LineTicks : Option (List Stamp) → Option (List Stamp) → State → Line → ℕ → Type 0
-LineTicks told after old line n = Gave told after (λ stamps. at_session old stamps line n (slice_get old.sessions n))
+LineTicks told after old line n = ClockGave told after (λ stamps. at_session old stamps line n (slice_get old.sessions n))
 
 abbrev pub Ticks : Option (List Stamp) → Option (List Stamp) → State → Turn → Type 0
-Ticks told after old t = Gave told after (λ stamps. turn_of old stamps t)
+Ticks told after old t = ClockGave told after (λ stamps. turn_of old stamps t)

@@ -108,7 +108,7 @@ fn listing_lines<V: Volume>(
 }
 
 /// Writes the lines of a file that is open.
-#[tactic(auto, using(crate::proofs::Listed::listed, crate::proofs::Listed::listed_front))]
+#[tactic(auto, using(crate::proofs::Listed::listed, crate::proofs::Listed::listed_prefix))]
 fn write_listing<K: Sink, V: Volume>(
     alloc: Global,
     asked: Listing,

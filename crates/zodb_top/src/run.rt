@@ -2,7 +2,7 @@
 
 ghost use Rattle.std.specs.Prelude.{◌≡◌, ◌<◌, ◌≤◌, ◌+◌, ◌^◌, ◌∷◌, [], false, OnOk, IfErr, IsErrOf, length};
 ghost use Rattle.zb_base.specs.Counts.{Rose};
-ghost use Rattle.zodb_top.specs.Runs.{Runs, Stops, at_moment};
+ghost use Rattle.zodb_top.specs.Runs.{AreAnswered, IsStopped, at_moment};
 ghost use Rattle.zodb_top.specs.Seen.{IsSoundHub};
 
 use crate::errors::TurnError;
@@ -34,8 +34,8 @@ fn reply<St: Store, K: Sink, C: Clock>(
 ) -> Result<(), RunError>
     requires sound { IsSoundHub St.told hub.old }
     requires few { length hub.old.seats < 2 ^ 32 }
-    ensures ok { St.told → OnOk result (Runs (at_moment (K.taken sink.old) (C.stamps clock.old) hub.old) (turn.now ∷ []) (at_moment (K.taken sink.new) (C.stamps clock.new) hub.new)) }
-    ensures err { St.told → IfErr result (λ e. Stops e (at_moment (K.taken sink.old) (C.stamps clock.old) hub.old) (turn.now ∷ []) (at_moment (K.taken sink.new) (C.stamps clock.new) hub.new)) }
+    ensures ok { St.told → OnOk result (AreAnswered (at_moment (K.taken sink.old) (C.stamps clock.old) hub.old) (turn.now ∷ []) (at_moment (K.taken sink.new) (C.stamps clock.new) hub.new)) }
+    ensures err { St.told → IfErr result (λ e. IsStopped e (at_moment (K.taken sink.old) (C.stamps clock.old) hub.old) (turn.now ∷ []) (at_moment (K.taken sink.new) (C.stamps clock.new) hub.new)) }
     ensures sound { OnOk result (IsSoundHub St.told hub.new) }
     ensures grows { OnOk result (length hub.new.seats ≤ length hub.old.seats + 1) }
     ensures whole { ¬ IsErrOf result RunError.StoreFault → hub.new.broken ≡ false }
@@ -70,8 +70,8 @@ pub(crate) fn run<St: Store, K: Sink, C: Clock>(
 ) -> Result<(), RunError>
     requires sound { IsSoundHub St.told hub.old }
     requires few { length hub.old.seats + length turns.now < 2 ^ 32 }
-    ensures ok { St.told → OnOk result (Runs (at_moment (K.taken sink.old) (C.stamps clock.old) hub.old) turns.now (at_moment (K.taken sink.new) (C.stamps clock.new) hub.new)) }
-    ensures err { St.told → IfErr result (λ e. Stops e (at_moment (K.taken sink.old) (C.stamps clock.old) hub.old) turns.now (at_moment (K.taken sink.new) (C.stamps clock.new) hub.new)) }
+    ensures ok { St.told → OnOk result (AreAnswered (at_moment (K.taken sink.old) (C.stamps clock.old) hub.old) turns.now (at_moment (K.taken sink.new) (C.stamps clock.new) hub.new)) }
+    ensures err { St.told → IfErr result (λ e. IsStopped e (at_moment (K.taken sink.old) (C.stamps clock.old) hub.old) turns.now (at_moment (K.taken sink.new) (C.stamps clock.new) hub.new)) }
     ensures whole { ¬ IsErrOf result RunError.StoreFault → hub.new.broken ≡ false }
     ensures sink_failed { IsErrOf result RunError.SinkFault → Rose (K.faults sink.old) (K.faults sink.new) }
     ensures store_failed { IsErrOf result RunError.StoreFault → Rose hub.old.faults hub.new.faults }

@@ -17,7 +17,7 @@ use zb_ids::{ListOf, Text8};
 use zb_outside::{Failed, Sink, write_all};
 
 /// Writes the line that tells of an ending, and answers its status. A sink that fails then has some
-/// front of the line, and changes nothing of the status.
+/// prefix of the line, and changes nothing of the status.
 #[tactic(auto, using(zb_outside::specs::WrittenLaws::all_front))]
 pub(crate) fn say<K: Sink>(sink: &mut K, text: &[u8], status: Status) -> Status
     ensures status { result ≡ status }
@@ -39,7 +39,7 @@ fn write_line<K: Sink>(sink: &mut K, line: &Text8) -> Result<(), Failed>
 }
 
 /// Writes lines in their order, each by a write of its own.
-#[tactic(auto, using(crate::proofs::Written::start_lines, crate::proofs::Written::one_line, crate::proofs::Written::all_lines, crate::proofs::Written::front_lines))]
+#[tactic(auto, using(crate::proofs::Written::start_lines, crate::proofs::Written::one_line, crate::proofs::Written::all_lines, crate::proofs::Written::prefix_lines))]
 pub(crate) fn write_lines<K: Sink>(sink: &mut K, lines: &[Text8]) -> Result<(), Failed>
     ensures ok { OnOk result (Appends (K.taken sink.old) (K.taken sink.new) (joined lines.now)) }
     ensures err { OnErr result (AppendsPrefix (K.taken sink.old) (K.taken sink.new) (joined lines.now)) }

@@ -95,7 +95,7 @@ pub(crate) fn run_source<S: Source, K: Sink, V: Volume + Drop, C: Clock>(
         Ok(input) => input,
         Err(ReadAllError::Memory) => return (Status::NoMemory, volume),
         Err(ReadAllError::Fault) => {
-            let status = say(sink, b"read fault\n", Status::ReadFault);
+            let status = say(sink, b"read fault\n", Status::SourceFault);
             return (status, volume);
         }
         Err(ReadAllError::TooLong) => {

@@ -10,7 +10,7 @@ pub enum Status {
     /// The words are no command.
     Usage = 2,
     /// The script could not be read: the source's count of faults rose.
-    ReadFault = 3,
+    SourceFault = 3,
     /// A line could not be written: the sink's count of faults rose.
     SinkFault = 4,
     /// A call of the volume failed, while the file was opened or in a turn: a count of its faults rose.

@@ -1,10 +1,12 @@
 use Rattle.std.proofs.Common.{refl, ◌∙◌}
-use Rattle.zodb_top.proofs.Endings.{abort_refused, abort_step, aborted_sound, aborted_step, empty_sound, free_sound, none_of}
+use Rattle.zb_script.specs.declared.line.Line.TheVariants as lines
+use Rattle.zodb_top.specs.Machine.{abort_in}
+use Rattle.zodb_top.proofs.Endings.{abort_step, aborted_sound, aborted_step, empty_sound, free_sound, line_refused, none_of}
 use Rattle.zodb_top.proofs.Seats.{is_some-map}
 use Rattle.zodb_top.proofs.ending.abort.Goals as goal
 
 pub returns-then-is_none-clause-step : goal.returns-then-is_none-clause-step
-returns-then-is_none-clause-step g c = λ told. abort_refused _ _ _ _ _ c.hub.view_is c.as_slice.ensures.value c.work_of.ensures.value (is_some-map _ c.work_of.result ∙ c.if-is_none.ensures)
+returns-then-is_none-clause-step g c = λ told. line_refused lines.Abort (λ b t. abort_in b) _ _ _ _ _ (λ b. refl) c.hub.view_is c.as_slice.ensures.value c.work_of.ensures.value (is_some-map _ c.work_of.result ∙ c.if-is_none.ensures)
 
 pub returns-in_default-clause-step : goal.returns-in_default-clause-step
 returns-in_default-clause-step g c = λ told.

@@ -1,11 +1,13 @@
 use Rattle.std.proofs.Common.{ap, max, refl, ◌∙◌}
+use Rattle.zb_script.specs.declared.line.Line.TheVariants as lines
 use Rattle.zodb_top.specs.declared.vote.Writes.{Writes}
-use Rattle.zodb_top.proofs.Endings.{committed_sound, empty_sound, finish_committed, finish_empty, finish_not_voted, finish_refused}
+use Rattle.zodb_top.specs.Machine.{finish_in}
+use Rattle.zodb_top.proofs.Endings.{committed_sound, empty_sound, finish_committed, finish_empty, finish_not_voted, line_refused}
 use Rattle.zodb_top.proofs.Seats.{is_some-map}
 use Rattle.zodb_top.proofs.ending.finish.Goals as goal
 
 pub returns-then-is_none-clause-step : goal.returns-then-is_none-clause-step
-returns-then-is_none-clause-step g c = λ told. finish_refused _ _ _ _ _ c.hub.view_is c.as_slice.ensures.value c.work_of.ensures.value (is_some-map _ c.work_of.result ∙ c.if-is_none.ensures)
+returns-then-is_none-clause-step g c = λ told. line_refused lines.Finish (λ b t. finish_in b b.vote) _ _ _ _ _ (λ b. refl) c.hub.view_is c.as_slice.ensures.value c.work_of.ensures.value (is_some-map _ c.work_of.result ∙ c.if-is_none.ensures)
 
 pub returns-in_default-clause-step : goal.returns-in_default-clause-step
 returns-in_default-clause-step g c = λ told.

@@ -25,7 +25,7 @@ use Rattle.zodb_top.specs.declared.decide.VoteError.TheVariants as vote_error
 use Rattle.zodb_top.specs.declared.errors.TurnError.{TurnError}
 use Rattle.zodb_top.specs.declared.errors.TurnError.TheVariants as turn_error
 use Rattle.zodb_top.specs.Decisions.{GivesDecision, IsVoteDecided}
-use Rattle.zodb_top.specs.Machine.{Before, TurnDone, OpenTransaction, State, answered, at_session, before_at, decision_of, in_transaction, line_in, refused, vote_in, voted_by}
+use Rattle.zodb_top.specs.Machine.{BeforeLine, TurnDone, OpenTransaction, State, answered, at_session, before_at, decision_of, in_transaction, line_in, refused, vote_in, voted_by}
 use Rattle.zodb_top.specs.Seen.{AreDistinct, HubSeen, IsSoundHub, HasFrontUpTo, IsVoteLater, IsVoteOf, IsWorkOf, held_answer, seen_seat, seen_vote, seen_work, state_of, state_with}
 use Rattle.zodb_top.specs.Steps.{IsClockStep, IsDone, IsStep, LineTicks}
 use Rattle.zodb_top.proofs.Seats.{all_at, seat_at, sound_same, stays}
@@ -62,7 +62,7 @@ vote_refused : (failed : Type 0) (told : Option (List Stamp)) (hub : HubSeen) (n
 vote_refused failed told hub n e =
     clock_step failed told _ _ lines.Vote n _ (nothing_open hub n lines.Vote (λ b. vote_in b b.vote) e (λ b. refl))
 
-held_in : (b : Before) (voted : Option Transaction) (h : HeldVote) (t : OpenTransaction) → vote_in b (Some (seen_vote voted h)) t ≡ answered b (held_answer b.number h)
+held_in : (b : BeforeLine) (voted : Option Transaction) (h : HeldVote) (t : OpenTransaction) → vote_in b (Some (seen_vote voted h)) t ≡ answered b (held_answer b.number h)
 held_in b voted h t = by_test (h.session == b.number)
   where
     by_test : (test : Bool) → cond test (refused b refusal.Voted) (refused b (refusal.Busy h.session)) ≡ answered b (cond test (answer.Refused refusal.Voted) (answer.Refused (refusal.Busy h.session)))

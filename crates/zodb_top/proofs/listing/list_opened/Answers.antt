@@ -1,7 +1,7 @@
 use Rattle.std.proofs.Common.{inl, inr}
 use Rattle.zb_volume.specs.declared.areas.Area.TheVariants.{Main}
 use Rattle.zb_volume.specs.Disk.{seen}
-use Rattle.zodb_top.proofs.Listed.{indexed, kept_front, left_unopened, unopened}
+use Rattle.zodb_top.proofs.Listed.{indexed, kept_prefix, left_unopened, unopened}
 use Rattle.zodb_top.proofs.listing.list_opened.Goals as goal
 
 pub write_listing-requires : goal.write_listing-requires
@@ -10,11 +10,11 @@ write_listing-requires g c = λ told.
 
 pub returns-in-Ok-clause-kept : goal.returns-in-Ok-clause-kept
 returns-in-Ok-clause-kept g c = λ told done list cut stands.
-    rw c.write_listing.ensures.same (kept_front _ _ c.in-Ok.opened list cut (c.in-Ok.ensures.opens told) (c.in-Ok.ensures.content told) stands)
+    rw c.write_listing.ensures.same (kept_prefix _ _ c.in-Ok.opened list cut (c.in-Ok.ensures.opens told) (c.in-Ok.ensures.content told) stands)
 
 pub returns-in-Ok-clause-left : goal.returns-in-Ok-clause-left
 returns-in-Ok-clause-left g c = λ told fault list cut stands.
-    inr (rw c.write_listing.ensures.same (kept_front _ _ c.in-Ok.opened list cut (c.in-Ok.ensures.opens told) (c.in-Ok.ensures.content told) stands))
+    inr (rw c.write_listing.ensures.same (kept_prefix _ _ c.in-Ok.opened list cut (c.in-Ok.ensures.opens told) (c.in-Ok.ensures.content told) stands))
 
 pub returns-in-Err-clause-outcome : goal.returns-in-Err-clause-outcome
 returns-in-Err-clause-outcome g c =

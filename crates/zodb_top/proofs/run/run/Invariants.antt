@@ -1,5 +1,5 @@
 use Rattle.std.proofs.Common.{◌+◌, ◌-◌, ◌^◌, ◌<◌, ◌≤◌, length, take}
-use Rattle.zodb_top.specs.Runs.{Runs, at_moment}
+use Rattle.zodb_top.specs.Runs.{AreAnswered, at_moment}
 use Rattle.zodb_top.specs.Seen.{IsSoundHub}
 use Rattle.zodb_top.proofs.run.run.Given as goal
 
@@ -11,7 +11,7 @@ invariant-loop-turn g l =
     record {
       sound : IsSoundHub St.told l.hub;
       few : length l.hub.seats + (length l.turns - l.turn-index) < 2 ^ 32;
-      so_far : St.told → Runs (at_moment (K.taken l.fn.sink) (C.stamps l.fn.clock) l.fn.hub) (take l.turn-index l.turns) (at_moment (K.taken l.sink) (C.stamps l.clock) l.hub);
+      so_far : St.told → AreAnswered (at_moment (K.taken l.fn.sink) (C.stamps l.fn.clock) l.fn.hub) (take l.turn-index l.turns) (at_moment (K.taken l.sink) (C.stamps l.clock) l.hub);
       counted : K.faults l.fn.sink ≤ K.faults l.sink;
       read_faults : l.fn.hub.read_faults ≤ l.hub.read_faults;
       faults : l.fn.hub.faults ≤ l.hub.faults;

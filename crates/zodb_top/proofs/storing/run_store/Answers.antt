@@ -1,7 +1,7 @@
 use Rattle.std.proofs.Common.{◌∙◌, Err, ap, arith, refl, sym}
 use Rattle.zb_base.specs.Counts.{rose_after}
-use Rattle.zodb_top.specs.Runs.{Stops, at_moment}
-use Rattle.zodb_top.proofs.Outputs.{all_answered, begins_so, cut_front, error_said, nothing_answered, stopped_outcome}
+use Rattle.zodb_top.specs.Runs.{IsStopped, at_moment}
+use Rattle.zodb_top.proofs.Outputs.{all_answered, begins_so, cut_prefix, error_said, nothing_answered, stopped_outcome}
 use Rattle.zodb_top.proofs.storing.run_store.Goals as goal
 
 pub returns-in_default-clause-outcome : goal.returns-in_default-clause-outcome
@@ -12,7 +12,7 @@ pub returns-in-Err-clause-outcome : goal.returns-in-Err-clause-outcome
 returns-in-Err-clause-outcome g c = (
   c.in-Err.ensures.failed,
   λ told.
-      cut_front (g.C.Clock.stamps c.args.clock.now) (g.St.Store.state c.args.store).list c.args.cut c.args.turns.now (g.St.Store.state c.args.store).read_faults (g.K.Sink.taken c.args.sink.now) (g.K.Sink.taken c.write_lines.new.sink) c.as_slice.result.now
+      cut_prefix (g.C.Clock.stamps c.args.clock.now) (g.St.Store.state c.args.store).list c.args.cut c.args.turns.now (g.St.Store.state c.args.store).read_faults (g.K.Sink.taken c.args.sink.now) (g.K.Sink.taken c.write_lines.new.sink) c.as_slice.result.now
       (c.as_slice.ensures ∙ c.in-Ok.ensures) c.in-Err.ensures.err,
 )
 
@@ -32,7 +32,7 @@ returns-clause-outcome g c =
     (λ is. rw (sym c.new-hub.ensures.faults) (c.run-ran.ensures.store_failed (c.in-Err-ran.is ∙ ap Err is)))
     (λ told. begins_so (C.stamps c.args.clock.now) (St.state c.args.store).list c.args.cut (St.state c.args.store).read_faults (K.taken c.args.sink.now) old c.as_slice.result.now refl
     (c.new-hub.ensures.state told) c.new-hub.ensures.read_faults (c.as_slice.ensures ∙ c.in-Ok.ensures) c.in-Ok-write_lines.ensures.ok)
-    (λ told. error_said c.run-ran.result e (λ x. Stops x old c.args.turns.now new) c.in-Err-ran.is (c.run-ran.ensures.err told)))
+    (λ told. error_said c.run-ran.result e (λ x. IsStopped x old c.args.turns.now new) c.in-Err-ran.is (c.run-ran.ensures.err told)))
 
 pub returns-in-Ok-ran-clause-outcome : goal.returns-in-Ok-ran-clause-outcome
 returns-in-Ok-ran-clause-outcome g c = λ told.
