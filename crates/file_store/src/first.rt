@@ -7,15 +7,12 @@ ghost use Rattle.fs_records.specs.Blocks.{magic};
 ghost use Rattle.fs_records.specs.File.{StandsFor};
 ghost use Rattle.file_store.specs.First.{as_new, change_as_new, content_as_new, file_with};
 
-use fs_records::{Index, write_transaction};
+use fs_records::{COMMITTED, Index, STATUS_PLACE, write_transaction};
 use std::alloc::{AllocError, Global};
 use zb_ids::{ListOf, Stamp, Text8};
 use zb_model::{
     Change, Content, NewChange, NewContent, NewTransaction, Transaction, first_transaction,
 };
-
-/// The status of a transaction that is committed, a blank.
-const COMMITTED: u8 = 32;
 
 /// A content as a new one.
 fn content_as_new(content: Content) -> NewContent
@@ -78,7 +75,7 @@ fn committed(alloc: Global, vote: Text8) -> Result<Text8, AllocError>
     ensures { IfOk result (λ file. file ≡ magic ++ slice_set vote 16 32) }
 {
     let mut block = vote.into_vec();
-    block[16] = COMMITTED;
+    block[STATUS_PLACE] = COMMITTED;
     let mut file = Text8::from_slice(alloc, b"FS30")?;
     file.extend_from_slice(&block)?;
     Ok(file)

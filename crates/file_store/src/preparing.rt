@@ -14,7 +14,7 @@ ghost use Rattle.file_store.specs.Staging.{shown_places, shown_starts};
 
 use crate::numbers::Numbers;
 use crate::staging::StagedIndex;
-use fs_records::write_transaction;
+use fs_records::{HEADER_LENGTH, write_transaction};
 use std::alloc::{AllocError, Global};
 use zb_ids::Text8;
 use zb_model::NewTransaction;
@@ -60,7 +60,7 @@ pub(crate) fn prepare(
     index.stage(
         alloc,
         new.tid,
-        end + (23 + texts),
+        end + (HEADER_LENGTH as u64 + texts),
         behind,
         new.changes.as_slice(),
     )?;

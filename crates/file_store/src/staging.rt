@@ -9,7 +9,7 @@ ghost use Rattle.file_store.specs.Staging.{IsAllBefore, PlacedRecord, placed_end
 
 use crate::staged::Staged;
 use fs_index::count_below;
-use fs_records::{Index, Place};
+use fs_records::{DATA_HEADER_LENGTH, Index, Place};
 use std::alloc::{AllocError, Global};
 use std::marker::Model;
 use zb_ids::{ListOf, Oid, Tid};
@@ -43,9 +43,9 @@ fn size_of_record(content: &NewContent) -> u64
     ensures { result ≡ record_size content.now }
 {
     match content {
-        NewContent::Bytes(bytes) => 42 + bytes.len() as u64,
-        NewContent::Absent => 50,
-        NewContent::AsOf(_) => 50,
+        NewContent::Bytes(bytes) => DATA_HEADER_LENGTH as u64 + bytes.len() as u64,
+        NewContent::Absent => DATA_HEADER_LENGTH as u64 + 8,
+        NewContent::AsOf(_) => DATA_HEADER_LENGTH as u64 + 8,
     }
 }
 
