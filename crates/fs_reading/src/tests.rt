@@ -8,7 +8,6 @@ use super::*;
 use fs_records::{Index, Place};
 use std::alloc::{AllocError, Global};
 use std::fs;
-use std::rt::Files;
 use std::test::Fail;
 use zb_ids::{Oid, Tid};
 use zb_model::{Change, Content, Found, LogLine, Revision};
@@ -90,7 +89,7 @@ fn index_of_file(alloc: Global) -> Result<Index, AllocError> {
 }
 
 /// The file on the host, which has lost its name, so that it goes with the volume.
-fn volume_of_file<R: Files>(alloc: Global, rt: &R) -> Result<HostVolume<&R>, Fail> {
+fn volume_of_file(alloc: Global, rt: &HostRuntime) -> Result<HostVolume<&HostRuntime>, Fail> {
     let mut volume = HostVolume::new(alloc, rt, "reading.fs")?;
     volume.write_at(Area::Main, 0, FILE)?;
     fs::remove_file(rt, "reading.fs")?;

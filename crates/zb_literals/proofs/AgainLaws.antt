@@ -12,9 +12,9 @@ use Rattle.pickle_value.specs.declared.node.Node.{Node}
 use Rattle.pickle_value.specs.declared.node.Node.TheVariants as kinds
 use Rattle.zb_literals.specs.declared.form.Form.{Form}
 use Rattle.zb_literals.specs.Texts.{leaf_literal, global_text, name_byte_text}
-use Rattle.zb_literals.specs.Values.{Value, leaf, tuple, list, dict, reference, Values, no_values, value, Pairs, no_pairs, pair, oid_of, global_of, short_of, leaf_oid, leaf_global, digits_of, with_global, reference_text, literal_text, more_text, more_pairs, IsLeaf, IsValue, AreValues, ArePairs, AreBytes}
+use Rattle.zb_literals.specs.Values.{Value, leaf, tuple, list, dict, reference, Values, no_values, value, Pairs, no_pairs, pair, oid_of_value, global_of_value, short_of, leaf_oid, leaf_global, digits_of, with_global, reference_text, literal_text, more_text, more_pairs, IsLeaf, IsValue, AreValues, ArePairs, AreAllSmall}
 use Rattle.zb_literals.specs.Graphs.{last_of, with_value, with_values, with_pairs, named_values, named_pairs}
-use Rattle.zb_literals.specs.Reading.{behind, begins_number, is_float_size, plain_form, leaf_found, item_at, pair_at, items_at, pairs_at, many_at, tuple_rest_at, tuple_at, list_at, dict_at, reference_at, address_at, shape_at, value_at, literal_at}
+use Rattle.zb_literals.specs.Reading.{rest_behind, begins_number, is_float_size, plain_form, leaf_found, item_at, pair_at, values_at, pairs_at, many_at, tuple_rest_at, tuple_at, list_at, dict_at, reference_at, address_at, shape_at, value_at, literal_at}
 use Rattle.zb_literals.proofs.Steps.{behind_again}
 use Rattle.zb_literals.proofs.NumberLaws.{Closed, is_closing, counted_again, counted_before, number_begins}
 use Rattle.zb_literals.proofs.LeafLaws.{leaf_again, global_again}
@@ -33,8 +33,8 @@ ends_closed : (rest : List ℕ) → Ends rest → Closed rest
 ends_closed [] h = tt
 ends_closed (b ∷ rest) h = h.0
 
-no_comma : (rest : List ℕ) → Ends rest → behind (codes ",") rest ≡ None
-unfolding behind
+no_comma : (rest : List ℕ) → Ends rest → rest_behind (codes ",") rest ≡ None
+unfolding rest_behind
 no_comma [] h = refl
 no_comma (b ∷ rest) h = rw (ne_eqb b 44 h.1) refl
 
@@ -65,7 +65,7 @@ more_again : (levels : ℕ) (v : Value) (vs : Values) → Again levels v → Mor
 more_again levels v vs again later zero nodes items rest h k = absurd (omega (arith, k))
 more_again levels v vs again later (suc n) nodes items rest h k =
     let whole = append_assoc (literal_text v) (more_text vs) rest in
-    let comma : behind (codes ",") (44 ∷ (literal_text v ++ (more_text vs ++ rest))) ≡ Some (literal_text v ++ (more_text vs ++ rest)) = behind_again (codes ",") (literal_text v ++ (more_text vs ++ rest)) in
+    let comma : rest_behind (codes ",") (44 ∷ (literal_text v ++ (more_text vs ++ rest))) ≡ Some (literal_text v ++ (more_text vs ++ rest)) = behind_again (codes ",") (literal_text v ++ (more_text vs ++ rest)) in
     let item = one_item levels v again nodes items (more_text vs ++ rest) (more_closed vs rest h) in
     let short : length (more_text vs ++ rest) < n = omega (arith, k, ap length whole, length-append (literal_text v) (more_text vs ++ rest)) in
     let read = later n (with_value nodes v) (items ++ last_of (with_value nodes v) ∷ []) rest h short in
@@ -73,8 +73,8 @@ more_again levels v vs again later (suc n) nodes items rest h k =
     ∙ rw (comma, item) (read ∙ ap (λ (xs : List ℕ). Some (with_values (with_value nodes v) vs, xs, rest)) (append_assoc items (last_of (with_value nodes v) ∷ []) (named_values (with_value nodes v) vs)))
 
 items_again : (levels : ℕ) (vs : Values) → MoreAgain levels vs → (nodes : List Node) (items rest : List ℕ) → Ends rest
-    → items_at (value_at levels) nodes items (more_text vs ++ rest) ≡ Some (with_values nodes vs, items ++ named_values nodes vs, rest)
-unfolding items_at
+    → values_at (value_at levels) nodes items (more_text vs ++ rest) ≡ Some (with_values nodes vs, items ++ named_values nodes vs, rest)
+unfolding values_at
 items_again levels vs again nodes items rest h = again (suc (length (more_text vs ++ rest))) nodes items rest h (omega arith)
 
 -- ---- further keys and values
@@ -92,7 +92,7 @@ one_pair : (levels : ℕ) (key v : Value) → Again levels key → Again levels 
     ≡ Some (with_value (with_value nodes key) v, items ++ (last_of (with_value nodes key), last_of (with_value (with_value nodes key) v)) ∷ [], rest)
 unfolding pair_at
 one_pair levels key v again_key again_value nodes items rest h =
-    let colon : behind (codes ":") (58 ∷ (literal_text v ++ rest)) ≡ Some (literal_text v ++ rest) = behind_again (codes ":") (literal_text v ++ rest) in
+    let colon : rest_behind (codes ":") (58 ∷ (literal_text v ++ rest)) ≡ Some (literal_text v ++ rest) = behind_again (codes ":") (literal_text v ++ rest) in
     rw (again_key nodes (58 ∷ (literal_text v ++ rest)) refl, colon, again_value (with_value nodes key) rest h) refl
 
 pair_regroup : (k v ps rest : List ℕ) → (k ++ 58 ∷ (v ++ ps)) ++ rest ≡ k ++ 58 ∷ (v ++ (ps ++ rest))
@@ -102,7 +102,7 @@ more_pairs_again : (levels : ℕ) (key v : Value) (ps : Pairs) → Again levels 
 more_pairs_again levels key v ps again_key again_value later zero nodes items rest h k = absurd (omega (arith, k))
 more_pairs_again levels key v ps again_key again_value later (suc n) nodes items rest h k =
     let whole = pair_regroup (literal_text key) (literal_text v) (more_pairs ps) rest in
-    let comma : behind (codes ",") (44 ∷ (literal_text key ++ 58 ∷ (literal_text v ++ (more_pairs ps ++ rest)))) ≡ Some (literal_text key ++ 58 ∷ (literal_text v ++ (more_pairs ps ++ rest))) =
+    let comma : rest_behind (codes ",") (44 ∷ (literal_text key ++ 58 ∷ (literal_text v ++ (more_pairs ps ++ rest)))) ≡ Some (literal_text key ++ 58 ∷ (literal_text v ++ (more_pairs ps ++ rest))) =
     behind_again (codes ",") (literal_text key ++ 58 ∷ (literal_text v ++ (more_pairs ps ++ rest))) in
     let item = one_pair levels key v again_key again_value nodes items (more_pairs ps ++ rest) (more_pairs_closed ps rest h) in
     let short : length (more_pairs ps ++ rest) < n =
@@ -121,12 +121,12 @@ pairs_again levels ps again nodes items rest h = again (suc (length (more_pairs 
 
 -- no literal begins with a bracket that closes
 pub record Opens (text : List ℕ) : Type 0 where
-  pub paren : (rest : List ℕ) → behind (codes ")") (text ++ rest) ≡ None
-  pub square : (rest : List ℕ) → behind (codes "]") (text ++ rest) ≡ None
-  pub brace : (rest : List ℕ) → behind (codes "}") (text ++ rest) ≡ None
+  pub paren : (rest : List ℕ) → rest_behind (codes ")") (text ++ rest) ≡ None
+  pub square : (rest : List ℕ) → rest_behind (codes "]") (text ++ rest) ≡ None
+  pub brace : (rest : List ℕ) → rest_behind (codes "}") (text ++ rest) ≡ None
 
 digit_opens : (b : ℕ) (text : List ℕ) → begins_number (b ∷ text) ≡ true → Opens (b ∷ text)
-unfolding behind
+unfolding rest_behind
 digit_opens b text e =
     let p : eqb b 41 ≡ false = grind (arith, nat_tests) in
     let s : eqb b 93 ≡ false = grind (arith, nat_tests) in
@@ -138,7 +138,7 @@ number_opens [] e = absurd cc
 number_opens (b ∷ text) e = digit_opens b text e
 
 leaf_opens : (node : Node) → IsLeaf node → Opens (leaf_literal node)
-unfolding behind
+unfolding rest_behind
 leaf_opens kinds.None h = record { paren = λ rest. refl; square = λ rest. refl; brace = λ rest. refl }
 leaf_opens (kinds.Bool true) h = record { paren = λ rest. refl; square = λ rest. refl; brace = λ rest. refl }
 leaf_opens (kinds.Bool false) h = record { paren = λ rest. refl; square = λ rest. refl; brace = λ rest. refl }
@@ -156,7 +156,7 @@ leaf_opens (kinds.Reference id) h = absurd h
 leaf_opens (kinds.Object a b c d) h = absurd h
 
 value_opens : (levels : ℕ) (v : Value) → IsValue levels v → Opens (literal_text v)
-unfolding behind
+unfolding rest_behind
 value_opens zero v h = absurd h
 value_opens (suc levels) (leaf node) h = leaf_opens node h
 value_opens (suc levels) (tuple no_values) h = record { paren = λ rest. refl; square = λ rest. refl; brace = λ rest. refl }
@@ -179,7 +179,7 @@ unfolding leaf_found
 leaf_is node h nodes rest closed = rw (leaf_again node rest h closed) (ap (λ (f : Form). Some (nodes ++ node ∷ [], f, rest)) (leaf_forms node))
 
 leaf_value : (levels : ℕ) (node : Node) → IsLeaf node → Again (suc levels) (leaf node)
-unfolding value_at shape_at behind
+unfolding value_at shape_at rest_behind
 leaf_value levels kinds.None h nodes rest closed = leaf_is kinds.None h nodes rest closed
 leaf_value levels (kinds.Bool true) h nodes rest closed = leaf_is (kinds.Bool true) h nodes rest closed
 leaf_value levels (kinds.Bool false) h nodes rest closed = leaf_is (kinds.Bool false) h nodes rest closed
@@ -197,7 +197,7 @@ leaf_value levels (kinds.Reference id) h nodes rest closed = absurd h
 leaf_value levels (kinds.Object a b c d) h nodes rest closed = absurd h
 
 tuple_none : (levels : ℕ) → Again (suc levels) (tuple no_values)
-unfolding value_at shape_at behind tuple_at
+unfolding value_at shape_at rest_behind tuple_at
 tuple_none levels nodes rest closed = refl
 
 tuple_one_text : (a rest : List ℕ) → (40 ∷ (a ++ 44 ∷ 41 ∷ [])) ++ rest ≡ 40 ∷ (a ++ 44 ∷ 41 ∷ rest)
@@ -207,8 +207,8 @@ tuple_one_at : (levels : ℕ) (v : Value) → IsValue levels v → Again levels 
     → tuple_at (value_at levels) nodes (literal_text v ++ 44 ∷ 41 ∷ rest) ≡ Some (with_value nodes (tuple (value v no_values)), form_of (tuple (value v no_values)), rest)
 unfolding tuple_at tuple_rest_at
 tuple_one_at levels v is again nodes rest =
-    let comma : behind (codes ",") (44 ∷ 41 ∷ rest) ≡ Some (41 ∷ rest) = behind_again (codes ",") (41 ∷ rest) in
-    let end : behind (codes ")") (41 ∷ rest) ≡ Some rest = behind_again (codes ")") rest in
+    let comma : rest_behind (codes ",") (44 ∷ 41 ∷ rest) ≡ Some (41 ∷ rest) = behind_again (codes ",") (41 ∷ rest) in
+    let end : rest_behind (codes ")") (41 ∷ rest) ≡ Some rest = behind_again (codes ")") rest in
     rw ((value_opens levels v is).paren (44 ∷ 41 ∷ rest), again nodes (44 ∷ 41 ∷ rest) refl, comma, end) refl
 
 tuple_rest_again : (levels : ℕ) (v w : Value) (vs : Values) → IsValue levels w → Again levels w → MoreAgain levels vs → (nodes : List Node) (rest : List ℕ)
@@ -216,7 +216,7 @@ tuple_rest_again : (levels : ℕ) (v w : Value) (vs : Values) → IsValue levels
     ≡ Some (with_value nodes (tuple (value v (value w vs))), form_of (tuple (value v (value w vs))), rest)
 unfolding tuple_rest_at
 tuple_rest_again levels v w vs is again later nodes rest =
-    let end : behind (codes ")") (41 ∷ rest) ≡ Some rest = behind_again (codes ")") rest in
+    let end : rest_behind (codes ")") (41 ∷ rest) ≡ Some rest = behind_again (codes ")") rest in
     let items = items_again levels vs later (with_value (with_value nodes v) w) (last_of (with_value nodes v) ∷ last_of (with_value (with_value nodes v) w) ∷ []) (41 ∷ rest) (refl, λ e. absurd (omega (arith, e))) in
     rw ((value_opens levels w is).paren (more_text vs ++ 41 ∷ rest), again (with_value nodes v) (more_text vs ++ 41 ∷ rest) (more_closed vs (41 ∷ rest) (refl, λ e. absurd (omega (arith, e)))), items, end)
     (ap (λ (f : Form). Some (with_value nodes (tuple (value v (value w vs))), f, rest))
@@ -228,28 +228,28 @@ tuple_many_at : (levels : ℕ) (v w : Value) (vs : Values) → IsValue levels v 
 unfolding tuple_at
 tuple_many_at levels v w vs is_v is_w again_v again_w later nodes rest =
     let text : List ℕ = literal_text w ++ (more_text vs ++ 41 ∷ rest) in
-    let comma : behind (codes ",") (44 ∷ text) ≡ Some text = behind_again (codes ",") text in
+    let comma : rest_behind (codes ",") (44 ∷ text) ≡ Some text = behind_again (codes ",") text in
     rw ((value_opens levels v is_v).paren (44 ∷ text), again_v nodes (44 ∷ text) refl, comma) (tuple_rest_again levels v w vs is_w again_w later nodes rest)
 
 -- by the bracket, what stands first decides
 at_paren : (levels : ℕ) (nodes : List Node) (bytes : List ℕ) → value_at (suc levels) nodes (40 ∷ bytes) ≡ tuple_at (value_at levels) nodes bytes
-unfolding value_at shape_at behind
+unfolding value_at shape_at rest_behind
 at_paren levels nodes bytes = refl
 
 at_square : (levels : ℕ) (nodes : List Node) (bytes : List ℕ) → value_at (suc levels) nodes (91 ∷ bytes) ≡ list_at (value_at levels) nodes bytes
-unfolding value_at shape_at behind
+unfolding value_at shape_at rest_behind
 at_square levels nodes bytes = refl
 
 at_brace : (levels : ℕ) (nodes : List Node) (bytes : List ℕ) → value_at (suc levels) nodes (123 ∷ bytes) ≡ dict_at (value_at levels) nodes bytes
-unfolding value_at shape_at behind
+unfolding value_at shape_at rest_behind
 at_brace levels nodes bytes = refl
 
 at_ref : (levels : ℕ) (nodes : List Node) (bytes : List ℕ) → value_at (suc levels) nodes (codes "ref(" ++ bytes) ≡ reference_at (value_at levels) nodes bytes
-unfolding value_at shape_at behind
+unfolding value_at shape_at rest_behind
 at_ref levels nodes bytes = refl
 
 at_address : (levels : ℕ) (nodes : List Node) (bytes : List ℕ) → value_at (suc levels) nodes (64 ∷ bytes) ≡ address_at levels nodes bytes
-unfolding value_at shape_at behind
+unfolding value_at shape_at rest_behind
 at_address levels nodes bytes = refl
 
 tuple_one : (levels : ℕ) (v : Value) → IsValue levels v → Again levels v → Again (suc levels) (tuple (value v no_values))
@@ -263,14 +263,14 @@ tuple_many levels v w vs is_v is_w again_v again_w later nodes rest closed =
     ∙ tuple_many_at levels v w vs is_v is_w again_v again_w later nodes rest
 
 list_none : (levels : ℕ) → Again (suc levels) (list no_values)
-unfolding value_at shape_at behind list_at
+unfolding value_at shape_at rest_behind list_at
 list_none levels nodes rest closed = refl
 
 list_many_at : (levels : ℕ) (v : Value) (vs : Values) → IsValue levels v → Again levels v → MoreAgain levels vs → (nodes : List Node) (rest : List ℕ)
     → list_at (value_at levels) nodes (literal_text v ++ (more_text vs ++ 93 ∷ rest)) ≡ Some (with_value nodes (list (value v vs)), form_of (list (value v vs)), rest)
 unfolding list_at
 list_many_at levels v vs is again later nodes rest =
-    let end : behind (codes "]") (93 ∷ rest) ≡ Some rest = behind_again (codes "]") rest in
+    let end : rest_behind (codes "]") (93 ∷ rest) ≡ Some rest = behind_again (codes "]") rest in
     let ends : Ends (93 ∷ rest) = (refl, λ e. absurd (omega (arith, e))) in
     rw (
       (value_opens levels v is).square (more_text vs ++ 93 ∷ rest),
@@ -285,14 +285,14 @@ list_many levels v vs is again later nodes rest closed =
     ∙ list_many_at levels v vs is again later nodes rest
 
 dict_none : (levels : ℕ) → Again (suc levels) (dict no_pairs)
-unfolding value_at shape_at behind dict_at
+unfolding value_at shape_at rest_behind dict_at
 dict_none levels nodes rest closed = refl
 
 dict_many_at : (levels : ℕ) (k v : Value) (ps : Pairs) → IsValue levels k → Again levels k → Again levels v → PairsAgain levels ps → (nodes : List Node) (rest : List ℕ)
     → dict_at (value_at levels) nodes (literal_text k ++ 58 ∷ (literal_text v ++ (more_pairs ps ++ 125 ∷ rest))) ≡ Some (with_value nodes (dict (pair k v ps)), form_of (dict (pair k v ps)), rest)
 unfolding dict_at
 dict_many_at levels k v ps is again_k again_v later nodes rest =
-    let end : behind (codes "}") (125 ∷ rest) ≡ Some rest = behind_again (codes "}") rest in
+    let end : rest_behind (codes "}") (125 ∷ rest) ≡ Some rest = behind_again (codes "}") rest in
     let ends : Ends (125 ∷ rest) = (refl, λ e. absurd (omega (arith, e))) in
     let named : ℕ × ℕ = (last_of (with_value nodes k), last_of (with_value (with_value nodes k) v)) in
     rw (
@@ -313,7 +313,7 @@ long_at : (levels : ℕ) (v : Value) → Again levels v → is_some (short_of v)
     → reference_at (value_at levels) nodes (literal_text v ++ 41 ∷ rest) ≡ Some (with_value nodes (reference v), plain_form, rest)
 unfolding reference_at
 long_at levels v again long nodes rest =
-    let end : behind (codes ")") (41 ∷ rest) ≡ Some rest = behind_again (codes ")") rest in
+    let end : rest_behind (codes ")") (41 ∷ rest) ≡ Some rest = behind_again (codes ")") rest in
     rw (again nodes (41 ∷ rest) refl, end, long) refl
 
 long_again : (levels : ℕ) (v : Value) → Again levels v → is_some (short_of v) ≡ false → Again (suc levels) (reference v)
@@ -322,8 +322,8 @@ long_again levels v again long nodes rest closed =
     ∙ ap (λ (t : List ℕ). value_at (suc levels) nodes (codes "ref(" ++ t)) (append_assoc (literal_text v) (41 ∷ []) rest)
     ∙ at_ref levels nodes (literal_text v ++ 41 ∷ rest) ∙ long_at levels v again long nodes rest
 
-not_angle : (rest : List ℕ) → Closed rest → behind (codes "<") rest ≡ None
-unfolding behind
+not_angle : (rest : List ℕ) → Closed rest → rest_behind (codes "<") rest ≡ None
+unfolding rest_behind
 not_angle [] h = refl
 not_angle (b ∷ rest) h =
     let apart : eqb b 60 ≡ false = grind (arith, nat_tests) in
@@ -333,13 +333,13 @@ deep_one : (levels : ℕ) (v : Value) → IsValue levels v → ltb levels 1 ≡ 
 deep_one zero v h = absurd h
 deep_one (suc levels) v h = le-ltb (suc levels) 1 (omega arith)
 
-address_again : (levels : ℕ) (oid : List ℕ) → IsValue levels (leaf (kinds.Bytes oid)) → AreBytes oid → eqb (length oid) 8 ≡ true → (nodes : List Node) (rest : List ℕ) → Closed rest
+address_again : (levels : ℕ) (oid : List ℕ) → IsValue levels (leaf (kinds.Bytes oid)) → AreAllSmall oid → eqb (length oid) 8 ≡ true → (nodes : List Node) (rest : List ℕ) → Closed rest
     → address_at levels nodes (hex_text oid ++ rest) ≡ Some (with_value nodes (reference (leaf (kinds.Bytes oid))), plain_form, rest)
 unfolding address_at
 address_again levels oid is are size nodes rest closed =
     rw (counted_again is_float_size oid rest are size closed, not_angle rest closed, deep_one levels (leaf (kinds.Bytes oid)) is) refl
 
-short_leaf : (levels : ℕ) (oid : List ℕ) → IsValue levels (leaf (kinds.Bytes oid)) → AreBytes oid → eqb (length oid) 8 ≡ true → Again (suc levels) (reference (leaf (kinds.Bytes oid)))
+short_leaf : (levels : ℕ) (oid : List ℕ) → IsValue levels (leaf (kinds.Bytes oid)) → AreAllSmall oid → eqb (length oid) 8 ≡ true → Again (suc levels) (reference (leaf (kinds.Bytes oid)))
 short_leaf levels oid is are size nodes rest closed =
     ap (λ (t : List ℕ). value_at (suc levels) nodes (t ++ rest)) (address_text oid size) ∙ at_address levels nodes (hex_text oid ++ rest)
     ∙ address_again levels oid is are size nodes rest closed
@@ -349,17 +349,17 @@ deep_two zero v vs h = absurd h
 deep_two (suc zero) v vs h = absurd h.0
 deep_two (suc (suc levels)) v vs h = le-ltb (suc (suc levels)) 2 (omega arith)
 
-class_at : (levels : ℕ) (oid first second : List ℕ) → ltb levels 2 ≡ false → AreBytes oid → eqb (length oid) 8 ≡ true → IsLeaf (kinds.Global first second) → (nodes : List Node) (rest : List ℕ)
+class_at : (levels : ℕ) (oid first second : List ℕ) → ltb levels 2 ≡ false → AreAllSmall oid → eqb (length oid) 8 ≡ true → IsLeaf (kinds.Global first second) → (nodes : List Node) (rest : List ℕ)
     → address_at levels nodes (hex_text oid ++ (global_text first second ++ rest))
     ≡ Some (with_value nodes (reference (tuple (value (leaf (kinds.Bytes oid)) (value (leaf (kinds.Global first second)) no_values)))), plain_form, rest)
 unfolding address_at
 class_at levels oid first second deep are size is nodes rest =
     let body : List ℕ = (flat_map name_byte_text first ++ 58 ∷ (flat_map name_byte_text second ++ 62 ∷ [])) ++ rest in
-    let angle : behind (codes "<") (60 ∷ body) ≡ Some body = behind_again (codes "<") body in
+    let angle : rest_behind (codes "<") (60 ∷ body) ≡ Some body = behind_again (codes "<") body in
     rw (counted_before is_float_size oid body are size, angle, deep, global_again first second rest is) refl
 
 short_class : (levels : ℕ) (oid first second : List ℕ) → IsValue levels (tuple (value (leaf (kinds.Bytes oid)) (value (leaf (kinds.Global first second)) no_values)))
-    → AreBytes oid → eqb (length oid) 8 ≡ true → IsLeaf (kinds.Global first second) → Again (suc levels) (reference (tuple (value (leaf (kinds.Bytes oid)) (value (leaf (kinds.Global first second)) no_values))))
+    → AreAllSmall oid → eqb (length oid) 8 ≡ true → IsLeaf (kinds.Global first second) → Again (suc levels) (reference (tuple (value (leaf (kinds.Bytes oid)) (value (leaf (kinds.Global first second)) no_values))))
 short_class levels oid first second deep are size is nodes rest closed =
     ap (λ (t : List ℕ). value_at (suc levels) nodes (t ++ rest)) (class_text oid first second size)
     ∙ ap (λ (t : List ℕ). value_at (suc levels) nodes (64 ∷ t)) (append_assoc (hex_text oid) (global_text first second) rest)
@@ -391,7 +391,7 @@ oid_node (kinds.Global a b) oid e = absurd cc
 oid_node (kinds.Reference id) oid e = absurd cc
 oid_node (kinds.Object a b c d) oid e = absurd cc
 
-oid_value : (v : Value) (oid : List ℕ) → oid_of v ≡ Some oid → IsOid v oid
+oid_value : (v : Value) (oid : List ℕ) → oid_of_value v ≡ Some oid → IsOid v oid
 oid_value (leaf node) oid e = oid_node node oid e
 oid_value (tuple vs) oid e = absurd cc
 oid_value (list vs) oid e = absurd cc
@@ -419,7 +419,7 @@ class_node (kinds.Dict items) text e = absurd cc
 class_node (kinds.Reference id) text e = absurd cc
 class_node (kinds.Object a b c d) text e = absurd cc
 
-class_value : (v : Value) (text : List ℕ) → global_of v ≡ Some text → IsClass v
+class_value : (v : Value) (text : List ℕ) → global_of_value v ≡ Some text → IsClass v
 class_value (leaf node) text e = class_node node text e
 class_value (tuple vs) text e = absurd cc
 class_value (list vs) text e = absurd cc
@@ -442,19 +442,19 @@ leaf_reference levels node is again = by_short (leaf_oid node) refl
 
 pair_reference : (levels : ℕ) (a b : Value) → IsValue levels (tuple (value a (value b no_values))) → Again levels (tuple (value a (value b no_values)))
     → Again (suc levels) (reference (tuple (value a (value b no_values))))
-pair_reference levels a b is again = by_parts (oid_of a) (global_of b) refl refl
+pair_reference levels a b is again = by_parts (oid_of_value a) (global_of_value b) refl refl
   where
-    long : with_global (oid_of a) (global_of b) ≡ None → Again (suc levels) (reference (tuple (value a (value b no_values))))
+    long : with_global (oid_of_value a) (global_of_value b) ≡ None → Again (suc levels) (reference (tuple (value a (value b no_values))))
     long e = long_again levels (tuple (value a (value b no_values))) again (ap (λ (o : Option (List ℕ)). is_some o) e)
 
     inner : (n : ℕ) (x y : Value) → IsValue n (tuple (value x (value y no_values))) → (oid first second : List ℕ) → x ≡ leaf (kinds.Bytes oid) → y ≡ leaf (kinds.Global first second)
-        → AreBytes oid × IsLeaf (kinds.Global first second)
+        → AreAllSmall oid × IsLeaf (kinds.Global first second)
     inner zero x y h oid first second e f = absurd h
     inner (suc n) x y h oid first second e f = ((leaf_in n (kinds.Bytes oid) (subst (IsValue n) e h.0)).0, leaf_in n (kinds.Global first second) (subst (IsValue n) f h.1.0))
 
-    by_parts : (o g : Option (List ℕ)) → oid_of a ≡ o → global_of b ≡ g → Again (suc levels) (reference (tuple (value a (value b no_values))))
-    by_parts None g e f = long (ap (λ (o : Option (List ℕ)). with_global o (global_of b)) e)
-    by_parts (Some oid) None e f = long (ap (λ (o : Option (List ℕ)). with_global o (global_of b)) e ∙ ap (with_global (Some oid)) f)
+    by_parts : (o g : Option (List ℕ)) → oid_of_value a ≡ o → global_of_value b ≡ g → Again (suc levels) (reference (tuple (value a (value b no_values))))
+    by_parts None g e f = long (ap (λ (o : Option (List ℕ)). with_global o (global_of_value b)) e)
+    by_parts (Some oid) None e f = long (ap (λ (o : Option (List ℕ)). with_global o (global_of_value b)) e ∙ ap (with_global (Some oid)) f)
     by_parts (Some oid) (Some text) e f =
         let t = oid_value a oid e in
         let c = class_value b text f in

@@ -10,7 +10,7 @@ use Rattle.std.proofs.lemmas.List.{length-append}
 use Rattle.zb_ids.specs.Hex.{◌>>=◌, digit_of, digit_value, pair_value, pair_of, bytes_at}
 use Rattle.zb_ids.specs.HexLaws.{from_bind, bytes_take, bytes_again}
 use Rattle.zb_literals.specs.Texts.{is_plain, is_quoted, character_text, is_name_byte, name_byte_text}
-use Rattle.zb_literals.specs.Reading.{behind, one_at, code_at, escape_at, quoted_at, plain_at, character_at, byte_pair_at, name_byte_plain, name_byte_at}
+use Rattle.zb_literals.specs.Reading.{rest_behind, one_at, code_at, escape_at, quoted_at, plain_at, character_at, byte_pair_at, name_byte_plain, name_byte_at}
 use Rattle.zb_literals.proofs.Steps.{from_if, cond_true, cond_false, behind_takes, behind_again, one_takes}
 
 -- ---- one character
@@ -52,7 +52,7 @@ escape_takes bytes digits read e =
     from_bind (code_at 0 digits) _ read e (λ code at e1.
     let p = cond_true (scalar code && not (is_plain code)) _ read e1 in
     let tests = and_parts (scalar code) (not (is_plain code)) p.0 in
-    from_bind (behind (escape_unicode code) bytes) (λ rest. Some (code, rest)) read p.1 (λ rest at_rest is.
+    from_bind (rest_behind (escape_unicode code) bytes) (λ rest. Some (code, rest)) read p.1 (λ rest at_rest is.
     subst (TakesOne character_text IsScalarCode bytes) (same_Some (code, rest) read is)
     (record { text = behind_takes (escape_unicode code) bytes rest at_rest ∙ ap (λ (t : List ℕ). t ++ rest) (sym (escaped_text code (not_true _ tests.1))); is = tests.0 })))
 
@@ -76,8 +76,8 @@ plain_takes bytes read e =
 pub character_takes : (bytes : List ℕ) (read : ℕ × List ℕ) → character_at bytes ≡ Some read → TakesOne character_text IsScalarCode bytes read
 unfolding character_at
 character_takes bytes read e =
-    from_if (behind (codes "\\u{") bytes) (escape_at bytes) _ read e (λ digits at e1. escape_takes bytes digits read e1) (λ e1.
-    from_if (behind (codes "\\") bytes) quoted_at (plain_at bytes) read e1
+    from_if (rest_behind (codes "\\u{") bytes) (escape_at bytes) _ read e (λ digits at e1. escape_takes bytes digits read e1) (λ e1.
+    from_if (rest_behind (codes "\\") bytes) quoted_at (plain_at bytes) read e1
     (λ rest at e2. rw (behind_takes (codes "\\") bytes rest at) (quoted_takes rest read e2)) (λ e2. plain_takes bytes read e2))
 
 -- ---- and again
@@ -163,11 +163,11 @@ pub escape_again : (c : ℕ) (rest : List ℕ) → scalar c ≡ true → is_plai
 unfolding character_at escape_at
 escape_again c rest s p =
     let e = escape_code c rest (scalar_below c s) in
-    let front : behind (codes "\\u{") (escape_unicode c ++ rest) ≡ Some e.digits = rw (e.whole) (behind_again (codes "\\u{") e.digits) in
+    let front : rest_behind (codes "\\u{") (escape_unicode c ++ rest) ≡ Some e.digits = rw (e.whole) (behind_again (codes "\\u{") e.digits) in
     rw (front, e.read, s, p, behind_again (escape_unicode c) rest) refl
 
 pub character_again : (c : ℕ) (rest : List ℕ) → scalar c ≡ true → character_at (character_text c ++ rest) ≡ Some (c, rest)
-unfolding character_at behind quoted_at plain_at
+unfolding character_at rest_behind quoted_at plain_at
 character_again c rest s = by_quoted (is_quoted c) refl
   where
     unplain : is_quoted c ≡ false → (t : Bool) → is_plain c ≡ t → character_at (cond t (c ∷ []) (escape_unicode c) ++ rest) ≡ Some (c, rest)
@@ -239,11 +239,11 @@ byte_pair_takes bytes read e =
 pub name_byte_takes : (bytes : List ℕ) (read : ℕ × List ℕ) → name_byte_at bytes ≡ Some read → TakesOne name_byte_text IsNameCode bytes read
 unfolding name_byte_at
 name_byte_takes bytes read e =
-    from_if (behind (codes "\\x") bytes) byte_pair_at (name_byte_plain bytes) read e
+    from_if (rest_behind (codes "\\x") bytes) byte_pair_at (name_byte_plain bytes) read e
     (λ rest at e1. rw (behind_takes (codes "\\x") bytes rest at) (byte_pair_takes rest read e1)) (λ e1. name_plain_takes bytes read e1)
 
 pub name_byte_again : (b : ℕ) (rest : List ℕ) → IsNameCode b → name_byte_at (name_byte_text b ++ rest) ≡ Some (b, rest)
-unfolding name_byte_at behind byte_pair_at name_byte_plain
+unfolding name_byte_at rest_behind byte_pair_at name_byte_plain
 name_byte_again b rest h = by_test (is_name_byte b) refl
   where
     by_test : (t : Bool) → is_name_byte b ≡ t → name_byte_at (cond t (b ∷ []) (92 ∷ 120 ∷ pair_of b) ++ rest) ≡ Some (b, rest)
@@ -256,22 +256,22 @@ name_byte_again b rest h = by_test (is_name_byte b) refl
 
 -- ---- where they stop
 
-pub character_stops : (c : ℕ) (rest : List ℕ) → scalar c ≡ true → behind (34 ∷ []) (character_text c ++ rest) ≡ None
-unfolding behind
+pub character_stops : (c : ℕ) (rest : List ℕ) → scalar c ≡ true → rest_behind (34 ∷ []) (character_text c ++ rest) ≡ None
+unfolding rest_behind
 character_stops c rest s = by_quoted (is_quoted c) refl
   where
-    unplain : is_quoted c ≡ false → (t : Bool) → is_plain c ≡ t → behind (34 ∷ []) (cond t (c ∷ []) (escape_unicode c) ++ rest) ≡ None
+    unplain : is_quoted c ≡ false → (t : Bool) → is_plain c ≡ t → rest_behind (34 ∷ []) (cond t (c ∷ []) (escape_unicode c) ++ rest) ≡ None
     unplain q true p =
         let apart : eqb c 34 ≡ false = grind (arith, nat_tests) in
         rw apart refl
     unplain q false p = rw ((escape_code c rest (scalar_below c s)).whole) refl
 
-    by_quoted : (t : Bool) → is_quoted c ≡ t → behind (34 ∷ []) (cond t (92 ∷ c ∷ []) (cond (is_plain c) (c ∷ []) (escape_unicode c)) ++ rest) ≡ None
+    by_quoted : (t : Bool) → is_quoted c ≡ t → rest_behind (34 ∷ []) (cond t (92 ∷ c ∷ []) (cond (is_plain c) (c ∷ []) (escape_unicode c)) ++ rest) ≡ None
     by_quoted true q = refl
     by_quoted false q = unplain q (is_plain c) refl
 
 nothing_at : (c : ℕ) → character_at ([] ++ []) ≡ Some (c, []) → ⊥
-unfolding character_at behind plain_at
+unfolding character_at rest_behind plain_at
 nothing_at c e = cc
 
 pub character_some : (c : ℕ) → scalar c ≡ true → 0 < length (character_text c)
@@ -281,11 +281,11 @@ character_some c s = by_length (character_text c) refl
     by_length [] e = absurd (nothing_at c (ap (λ (t : List ℕ). character_at (t ++ [])) (sym e) ∙ character_again c [] s))
     by_length (x ∷ text) e = omega arith
 
-pub name_stops : (stop b : ℕ) (rest : List ℕ) → is_name_byte stop ≡ false → stop ≢ 92 → behind (stop ∷ []) (name_byte_text b ++ rest) ≡ None
-unfolding behind
+pub name_stops : (stop b : ℕ) (rest : List ℕ) → is_name_byte stop ≡ false → stop ≢ 92 → rest_behind (stop ∷ []) (name_byte_text b ++ rest) ≡ None
+unfolding rest_behind
 name_stops stop b rest h k = by_test (is_name_byte b) refl
   where
-    by_test : (t : Bool) → is_name_byte b ≡ t → behind (stop ∷ []) (cond t (b ∷ []) (92 ∷ 120 ∷ pair_of b) ++ rest) ≡ None
+    by_test : (t : Bool) → is_name_byte b ≡ t → rest_behind (stop ∷ []) (cond t (b ∷ []) (92 ∷ 120 ∷ pair_of b) ++ rest) ≡ None
     by_test true e =
         let apart : eqb b stop ≡ false = ne_eqb b stop (λ is. let same : is_name_byte stop ≡ true = rw (← is) e in absurd cc) in
         rw apart refl

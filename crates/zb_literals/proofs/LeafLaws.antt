@@ -16,8 +16,8 @@ use Rattle.pickle_ops.specs.Fits.{IsShortText}
 use Rattle.pickle_value.specs.declared.node.Node.{Node}
 use Rattle.pickle_value.specs.declared.node.Node.TheVariants as kinds
 use Rattle.zb_literals.specs.Texts.{leaf_literal, global_text, character_text, is_name_byte, name_byte_text}
-use Rattle.zb_literals.specs.Values.{IsLeaf, AreBytes}
-use Rattle.zb_literals.specs.Reading.{if_some, behind, until_at, character_at, name_byte_at, characters_at, name_at, line_at, text_at, global_at, counted_at, held_as, is_wide_size, is_float_size, is_bytes_size, is_old_size, constant_at, bytes_kind_at, number_at, begins_number, leaf_at}
+use Rattle.zb_literals.specs.Values.{IsLeaf, AreAllSmall}
+use Rattle.zb_literals.specs.Reading.{if_some, rest_behind, until_at, character_at, name_byte_at, characters_at, name_bytes_at, name_line_at, text_at, global_at, counted_at, held_as, is_wide_size, is_float_size, is_bytes_size, is_old_size, constant_at, bytes_kind_at, number_leaf_at, begins_number, leaf_at}
 use Rattle.zb_literals.proofs.Steps.{from_if, behind_takes, behind_again}
 use Rattle.zb_literals.proofs.CharacterLaws.{TakesOne, IsScalarCode, character_takes, character_again, IsNameCode, name_byte_takes, name_byte_again, character_stops, character_some, name_stops, name_some}
 use Rattle.zb_literals.proofs.NumberLaws.{Closed, counted_takes, counted_again, number_takes, number_again, number_begins}
@@ -46,7 +46,7 @@ until_takes : (spelled held : ℕ → List ℕ) (Is : ℕ → Type 0) (stop : �
     → (n : ℕ) (front bytes : List ℕ) (read : List ℕ × List ℕ) → until_at stop held one n front bytes ≡ Some read → TakesUntil spelled held Is stop front bytes read
 until_takes spelled held Is stop one takes zero front bytes read e = absurd cc
 until_takes spelled held Is stop one takes (suc n) front bytes read e =
-    from_if (behind (stop ∷ []) bytes) (λ rest. Some (front, rest)) (one bytes >>= λ c. until_at stop held one n (front ++ held c.0) c.1) read e
+    from_if (rest_behind (stop ∷ []) bytes) (λ rest. Some (front, rest)) (one bytes >>= λ c. until_at stop held one n (front ++ held c.0) c.1) read e
     (λ rest at is. subst (TakesUntil spelled held Is stop front bytes) (same_Some (front, rest) read is)
     (record { each = []; are = tt; text = behind_takes (stop ∷ []) bytes rest at; held_is = sym (append-nil front) }))
     (λ e1. from_bind (one bytes) (λ c. until_at stop held one n (front ++ held c.0) c.1) read e1 (λ c at e2.
@@ -55,7 +55,7 @@ until_takes spelled held Is stop one takes (suc n) front bytes read e =
 -- a character is read again, and is none at which they stop
 pub record OneAgain (spelled : ℕ → List ℕ) (one : List ℕ → Option (ℕ × List ℕ)) (stop c : ℕ) : Type 0 where
   pub again : (rest : List ℕ) → one (spelled c ++ rest) ≡ Some (c, rest)
-  pub apart : (rest : List ℕ) → behind (stop ∷ []) (spelled c ++ rest) ≡ None
+  pub apart : (rest : List ℕ) → rest_behind (stop ∷ []) (spelled c ++ rest) ≡ None
   pub some : 0 < length (spelled c)
 
 until_again : (spelled held : ℕ → List ℕ) (stop : ℕ) (one : List ℕ → Option (ℕ × List ℕ)) (cs : List ℕ) → AllByRecursion (OneAgain spelled one stop) cs
@@ -132,17 +132,17 @@ one_line : (bs : List ℕ) → AllByRecursion IsNameCode bs → is_one_line bs �
 one_line [] h = refl
 one_line (b ∷ bs) h = rw (ne_eqb b 10 h.0.1, one_line bs h.1) refl
 
-name_bytes : (bs : List ℕ) → AllByRecursion IsNameCode bs → AreBytes bs
+name_bytes : (bs : List ℕ) → AllByRecursion IsNameCode bs → AreAllSmall bs
 name_bytes [] h = tt
 name_bytes (b ∷ bs) h = (h.0.0, name_bytes bs h.1)
 
 pub record TakesLine (stop : ℕ) (bytes : List ℕ) (read : List ℕ × List ℕ) : Type 0 where
-  pub are : AreBytes read.0
+  pub are : AreAllSmall read.0
   pub line : IsGlobalLine read.0
   pub text : bytes ≡ flat_map name_byte_text read.0 ++ stop ∷ read.1
 
-line_takes : (stop : ℕ) (bytes : List ℕ) (read : List ℕ × List ℕ) → line_at stop bytes ≡ Some read → TakesLine stop bytes read
-unfolding line_at name_at
+line_takes : (stop : ℕ) (bytes : List ℕ) (read : List ℕ × List ℕ) → name_line_at stop bytes ≡ Some read → TakesLine stop bytes read
+unfolding name_line_at name_bytes_at
 line_takes stop bytes read e =
     from_bind (until_at stop (λ b. b ∷ []) name_byte_at (suc (length bytes)) [] bytes) _ read e (λ held at e1.
     let p = cond_some (is_utf8 held.0) held read e1 in
@@ -150,12 +150,12 @@ line_takes stop bytes read e =
     let line_is : held.0 ≡ t.each = t.held_is ∙ held_same t.each in
     subst (TakesLine stop bytes) p.1
     (record {
-      are = subst AreBytes (sym line_is) (name_bytes t.each t.are);
+      are = subst AreAllSmall (sym line_is) (name_bytes t.each t.are);
       line = record { one = ap is_one_line line_is ∙ one_line t.each t.are; utf8 = p.0 };
       text = t.text ∙ ap (λ (x : List ℕ). flat_map name_byte_text x ++ stop ∷ held.1) (sym line_is);
     }))
 
-each_name : (stop : ℕ) (bs : List ℕ) → is_name_byte stop ≡ false → stop ≢ 92 → AreBytes bs → is_one_line bs ≡ true → AllByRecursion (OneAgain name_byte_text name_byte_at stop) bs
+each_name : (stop : ℕ) (bs : List ℕ) → is_name_byte stop ≡ false → stop ≢ 92 → AreAllSmall bs → is_one_line bs ≡ true → AllByRecursion (OneAgain name_byte_text name_byte_at stop) bs
 each_name stop [] h k are one = tt
 each_name stop (b ∷ bs) h k are one =
     let p = cond_line (eqb b 10) (is_one_line bs) one in
@@ -165,8 +165,8 @@ each_name stop (b ∷ bs) h k are one =
     cond_line true r e = absurd cc
     cond_line false r e = (refl, e)
 
-line_again : (stop : ℕ) (line rest : List ℕ) → is_name_byte stop ≡ false → stop ≢ 92 → AreBytes line → IsGlobalLine line → line_at stop (flat_map name_byte_text line ++ stop ∷ rest) ≡ Some (line, rest)
-unfolding line_at name_at
+line_again : (stop : ℕ) (line rest : List ℕ) → is_name_byte stop ≡ false → stop ≢ 92 → AreAllSmall line → IsGlobalLine line → name_line_at stop (flat_map name_byte_text line ++ stop ∷ rest) ≡ Some (line, rest)
+unfolding name_line_at name_bytes_at
 line_again stop line rest h k are is =
     let read = until_again name_byte_text (λ b. b ∷ []) stop name_byte_at line (each_name stop line h k are is.one)
     (suc (length (flat_map name_byte_text line ++ stop ∷ rest))) [] rest (omega arith) in
@@ -187,8 +187,8 @@ global_regroup a b rest = append_assoc (flat_map name_byte_text a) (58 ∷ (flat
 pub global_takes : (bytes : List ℕ) (read : Node × List ℕ) → global_at bytes ≡ Some read → TakesGlobal bytes read
 unfolding global_at
 global_takes bytes read e =
-    from_bind (line_at 58 bytes) _ read e (λ one at_one e1.
-    from_bind (line_at 62 one.1) _ read e1 (λ other at_other is.
+    from_bind (name_line_at 58 bytes) _ read e (λ one at_one e1.
+    from_bind (name_line_at 62 one.1) _ read e1 (λ other at_other is.
     let a = line_takes 58 bytes one at_one in
     let b = line_takes 62 one.1 other at_other in
     let whole : bytes ≡ flat_map name_byte_text one.0 ++ 58 ∷ (flat_map name_byte_text other.0 ++ 62 ∷ other.1) = a.text ∙ ap (λ (x : List ℕ). flat_map name_byte_text one.0 ++ 58 ∷ x) b.text in
@@ -221,37 +221,37 @@ wide_size n e = let p = and_parts (ltb 16 n) (ltb n (2 ^ 31)) e in (ltb-true _ _
 constant_takes : (bytes : List ℕ) (read : Node × List ℕ) → constant_at bytes ≡ Some read → TakesLeaf bytes read
 unfolding constant_at
 constant_takes bytes read e =
-    from_if (behind (codes "None") bytes) (λ rest. Some (kinds.None, rest)) _ read e
+    from_if (rest_behind (codes "None") bytes) (λ rest. Some (kinds.None, rest)) _ read e
     (λ rest at is. subst (TakesLeaf bytes) (same_Some (kinds.None, rest) read is) (record { is = tt; text = behind_takes (codes "None") bytes rest at })) (λ e1.
-    from_if (behind (codes "True") bytes) (λ rest. Some (kinds.Bool true, rest)) _ read e1
+    from_if (rest_behind (codes "True") bytes) (λ rest. Some (kinds.Bool true, rest)) _ read e1
     (λ rest at is. subst (TakesLeaf bytes) (same_Some (kinds.Bool true, rest) read is) (record { is = tt; text = behind_takes (codes "True") bytes rest at })) (λ e2.
-    from_if (behind (codes "False") bytes) (λ rest. Some (kinds.Bool false, rest)) None read e2
+    from_if (rest_behind (codes "False") bytes) (λ rest. Some (kinds.Bool false, rest)) None read e2
     (λ rest at is. subst (TakesLeaf bytes) (same_Some (kinds.Bool false, rest) read is) (record { is = tt; text = behind_takes (codes "False") bytes rest at })) (λ e3. absurd cc)))
 
 bytes_kind_takes : (bytes : List ℕ) (read : Node × List ℕ) → bytes_kind_at bytes ≡ Some read → TakesLeaf bytes read
 unfolding bytes_kind_at
 bytes_kind_takes bytes read e =
-    from_if (behind (codes "n:") bytes) (λ rest. held_as kinds.Wide (counted_at is_wide_size rest)) _ read e
+    from_if (rest_behind (codes "n:") bytes) (λ rest. held_as kinds.Wide (counted_at is_wide_size rest)) _ read e
     (λ rest at e1. from_held kinds.Wide (counted_at is_wide_size rest) read e1 (λ held at_held is.
     let t = counted_takes is_wide_size rest held at_held in
     let size = wide_size (length held.0) t.size in
     subst (TakesLeaf bytes) is (record { is = (t.are, record { long = size.0; short = size.1 }); text = behind_takes (codes "n:") bytes rest at ∙ ap (λ (x : List ℕ). codes "n:" ++ x) t.text }))) (λ e1.
-    from_if (behind (codes "f:") bytes) (λ rest. held_as kinds.Float (counted_at is_float_size rest)) _ read e1
+    from_if (rest_behind (codes "f:") bytes) (λ rest. held_as kinds.Float (counted_at is_float_size rest)) _ read e1
     (λ rest at e2. from_held kinds.Float (counted_at is_float_size rest) read e2 (λ held at_held is.
     let t = counted_takes is_float_size rest held at_held in
     subst (TakesLeaf bytes) is (record { is = (t.are, eqb-true _ _ t.size); text = behind_takes (codes "f:") bytes rest at ∙ ap (λ (x : List ℕ). codes "f:" ++ x) t.text }))) (λ e2.
-    from_if (behind (codes "b:") bytes) (λ rest. held_as kinds.Bytes (counted_at is_bytes_size rest)) _ read e2
+    from_if (rest_behind (codes "b:") bytes) (λ rest. held_as kinds.Bytes (counted_at is_bytes_size rest)) _ read e2
     (λ rest at e3. from_held kinds.Bytes (counted_at is_bytes_size rest) read e3 (λ held at_held is.
     let t = counted_takes is_bytes_size rest held at_held in
     subst (TakesLeaf bytes) is (record { is = (t.are, ltb-true _ _ t.size); text = behind_takes (codes "b:") bytes rest at ∙ ap (λ (x : List ℕ). codes "b:" ++ x) t.text }))) (λ e3.
-    from_if (behind (codes "s:") bytes) (λ rest. held_as kinds.OldText (counted_at is_old_size rest)) (constant_at bytes) read e3
+    from_if (rest_behind (codes "s:") bytes) (λ rest. held_as kinds.OldText (counted_at is_old_size rest)) (constant_at bytes) read e3
     (λ rest at e4. from_held kinds.OldText (counted_at is_old_size rest) read e4 (λ held at_held is.
     let t = counted_takes is_old_size rest held at_held in
     subst (TakesLeaf bytes) is (record { is = (t.are, ltb-true _ _ t.size); text = behind_takes (codes "s:") bytes rest at ∙ ap (λ (x : List ℕ). codes "s:" ++ x) t.text }))) (λ e4. constant_takes bytes read e4))))
 
 -- ---- leaves
 
-number_leaf : (bytes : List ℕ) (read : Node × List ℕ) → number_at bytes ≡ Some read → TakesLeaf bytes read
+number_leaf : (bytes : List ℕ) (read : Node × List ℕ) → number_leaf_at bytes ≡ Some read → TakesLeaf bytes read
 number_leaf bytes read e =
     let t = number_takes bytes read e in
     record { is = rw (t.node) t.is; text = rw (t.node) t.text }
@@ -260,20 +260,20 @@ pub leaf_takes : (bytes : List ℕ) (read : Node × List ℕ) → leaf_at bytes 
 unfolding leaf_at
 leaf_takes bytes read e = by_begin (begins_number bytes) e
   where
-    other : if_some (behind (codes "\"") bytes) text_at (if_some (behind (codes "<") bytes) global_at (bytes_kind_at bytes)) ≡ Some read → TakesLeaf bytes read
+    other : if_some (rest_behind (codes "\"") bytes) text_at (if_some (rest_behind (codes "<") bytes) global_at (bytes_kind_at bytes)) ≡ Some read → TakesLeaf bytes read
     other e1 =
-        from_if (behind (codes "\"") bytes) text_at _ read e1 (λ rest at e2. rw (behind_takes (codes "\"") bytes rest at) (text_takes rest read e2)) (λ e2.
-        from_if (behind (codes "<") bytes) global_at (bytes_kind_at bytes) read e2
+        from_if (rest_behind (codes "\"") bytes) text_at _ read e1 (λ rest at e2. rw (behind_takes (codes "\"") bytes rest at) (text_takes rest read e2)) (λ e2.
+        from_if (rest_behind (codes "<") bytes) global_at (bytes_kind_at bytes) read e2
         (λ rest at e3.
         let t = global_takes rest read e3 in
         rw (behind_takes (codes "<") bytes rest at) (record { is = rw (t.node) t.is; text = rw (t.node) t.text })) (λ e3. bytes_kind_takes bytes read e3))
 
-    by_begin : (t : Bool) → cond t (number_at bytes) (if_some (behind (codes "\"") bytes) text_at (if_some (behind (codes "<") bytes) global_at (bytes_kind_at bytes))) ≡ Some read → TakesLeaf bytes read
+    by_begin : (t : Bool) → cond t (number_leaf_at bytes) (if_some (rest_behind (codes "\"") bytes) text_at (if_some (rest_behind (codes "<") bytes) global_at (bytes_kind_at bytes))) ≡ Some read → TakesLeaf bytes read
     by_begin true e1 = number_leaf bytes read e1
     by_begin false e1 = other e1
 
 pub leaf_again : (node : Node) (rest : List ℕ) → IsLeaf node → Closed rest → leaf_at (leaf_literal node ++ rest) ≡ Some (node, rest)
-unfolding leaf_at bytes_kind_at constant_at behind
+unfolding leaf_at bytes_kind_at constant_at rest_behind
 leaf_again kinds.None rest h closed = refl
 leaf_again (kinds.Bool true) rest h closed = refl
 leaf_again (kinds.Bool false) rest h closed = refl

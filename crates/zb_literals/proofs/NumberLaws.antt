@@ -20,8 +20,8 @@ use Rattle.pickle_value.specs.declared.node.Node.{Node}
 use Rattle.pickle_value.specs.declared.node.Node.TheVariants as kinds
 use Rattle.pickle_value.specs.Graph.{IsSigned128}
 use Rattle.pickle_value.specs.Spelling.{magnitude_of}
-use Rattle.zb_literals.specs.Values.{AreBytes}
-use Rattle.zb_literals.specs.Reading.{is_word_byte, word_of, behind_word, number_in, number_at, counted_at, begins_number}
+use Rattle.zb_literals.specs.Values.{AreAllSmall}
+use Rattle.zb_literals.specs.Reading.{is_word_byte, word_of, rest_of_word, number_of_word, number_leaf_at, counted_at, begins_number}
 
 -- ---- words
 
@@ -40,15 +40,15 @@ Closed (b ∷ bytes) = is_closing b ≡ true
 closing_ends : (b : ℕ) → is_closing b ≡ true → is_word_byte b ≡ false
 closing_ends b e = grind (arith, nat_tests)
 
-pub word_parts : (bytes : List ℕ) → bytes ≡ word_of bytes ++ behind_word bytes
+pub word_parts : (bytes : List ℕ) → bytes ≡ word_of bytes ++ rest_of_word bytes
 word_parts [] = refl
 word_parts (b ∷ bytes) = by_test (is_word_byte b) (word_parts bytes)
   where
-    by_test : (t : Bool) → bytes ≡ word_of bytes ++ behind_word bytes → b ∷ bytes ≡ cond t (b ∷ word_of bytes) [] ++ cond t (behind_word bytes) (b ∷ bytes)
+    by_test : (t : Bool) → bytes ≡ word_of bytes ++ rest_of_word bytes → b ∷ bytes ≡ cond t (b ∷ word_of bytes) [] ++ cond t (rest_of_word bytes) (b ∷ bytes)
     by_test true e = ap (λ (x : List ℕ). b ∷ x) e
     by_test false e = refl
 
-pub word_again : (word rest : List ℕ) → IsWord word → Closed rest → (word_of (word ++ rest) ≡ word) × (behind_word (word ++ rest) ≡ rest)
+pub word_again : (word rest : List ℕ) → IsWord word → Closed rest → (word_of (word ++ rest) ≡ word) × (rest_of_word (word ++ rest) ≡ rest)
 word_again [] [] h c = (refl, refl)
 word_again [] (b ∷ rest) h c = let ends = closing_ends b c in rw ends (refl, refl)
 word_again (b ∷ word) rest h c =
@@ -57,14 +57,14 @@ word_again (b ∷ word) rest h c =
     rw is (ap (λ (x : List ℕ). b ∷ x) later.0, later.1)
 
 -- the same where an opening bracket follows
-pub word_before : (word rest : List ℕ) → IsWord word → (word_of (word ++ 60 ∷ rest) ≡ word) × (behind_word (word ++ 60 ∷ rest) ≡ 60 ∷ rest)
+pub word_before : (word rest : List ℕ) → IsWord word → (word_of (word ++ 60 ∷ rest) ≡ word) × (rest_of_word (word ++ 60 ∷ rest) ≡ 60 ∷ rest)
 word_before [] rest h = (refl, refl)
 word_before (b ∷ word) rest h =
     let later = word_before word rest h.1 in
     let is : is_word_byte b ≡ true = h.0 in
     rw is (ap (λ (x : List ℕ). b ∷ x) later.0, later.1)
 
-pub hex_word : (bytes : List ℕ) → AreBytes bytes → IsWord (hex_text bytes)
+pub hex_word : (bytes : List ℕ) → AreAllSmall bytes → IsWord (hex_text bytes)
 hex_word [] h = tt
 hex_word (b ∷ bytes) h = (one (b / 16) (omega (arith, h.0)), (one (b % 16) (omega arith), hex_word bytes h.1))
   where
@@ -75,25 +75,25 @@ hex_word (b ∷ bytes) h = (one (b / 16) (omega (arith, h.0)), (one (b % 16) (om
 
 pub record TakesBytes (fits : ℕ → Bool) (bytes : List ℕ) (read : List ℕ × List ℕ) : Type 0 where
   pub text : bytes ≡ hex_text read.0 ++ read.1
-  pub are : AreBytes read.0
+  pub are : AreAllSmall read.0
   pub size : fits (length read.0) ≡ true
 
 pub counted_takes : (fits : ℕ → Bool) (bytes : List ℕ) (read : List ℕ × List ℕ) → counted_at fits bytes ≡ Some read → TakesBytes fits bytes read
 unfolding counted_at
 counted_takes fits bytes read e =
     from_bind (bytes_at (word_of bytes)) _ read e (λ held at e1.
-    let p = cond_some (fits (length held)) (held, behind_word bytes) read e1 in
+    let p = cond_some (fits (length held)) (held, rest_of_word bytes) read e1 in
     let t = bytes_take (word_of bytes) held at in
     subst (TakesBytes fits bytes) p.1
-    (record { text = word_parts bytes ∙ ap (λ (w : List ℕ). w ++ behind_word bytes) t.0; are = t.1; size = p.0 }))
+    (record { text = word_parts bytes ∙ ap (λ (w : List ℕ). w ++ rest_of_word bytes) t.0; are = t.1; size = p.0 }))
 
-pub counted_again : (fits : ℕ → Bool) (held rest : List ℕ) → AreBytes held → fits (length held) ≡ true → Closed rest → counted_at fits (hex_text held ++ rest) ≡ Some (held, rest)
+pub counted_again : (fits : ℕ → Bool) (held rest : List ℕ) → AreAllSmall held → fits (length held) ≡ true → Closed rest → counted_at fits (hex_text held ++ rest) ≡ Some (held, rest)
 unfolding counted_at
 counted_again fits held rest are size closed =
     let word = word_again (hex_text held) rest (hex_word held are) closed in
     rw (word.0, word.1, bytes_again held are, size) refl
 
-pub counted_before : (fits : ℕ → Bool) (held rest : List ℕ) → AreBytes held → fits (length held) ≡ true → counted_at fits (hex_text held ++ 60 ∷ rest) ≡ Some (held, 60 ∷ rest)
+pub counted_before : (fits : ℕ → Bool) (held rest : List ℕ) → AreAllSmall held → fits (length held) ≡ true → counted_at fits (hex_text held ++ 60 ∷ rest) ≡ Some (held, 60 ∷ rest)
 unfolding counted_at
 counted_before fits held rest are size =
     let word = word_before (hex_text held) rest (hex_word held are) in
@@ -163,24 +163,24 @@ number_digits (negsuc n) h =
     let d = decimal_is_IsNumeral_wide (suc n) (omega (arith, h)) in
     record { word = (refl, digits_word (decimal (suc n)) d.0.1); value = ap (λ (x : ℕ). neg_ℤ (pos x)) d.1; numeral = d.0; begins = λ rest. refl }
 
-pub some_number : (word : List ℕ) (z : ℤ) → magnitude_of z < 2 ^ 127 → word ≡ signed_decimal z → number_in word ≡ Some z
-unfolding number_in
+pub some_number : (word : List ℕ) (z : ℤ) → magnitude_of z < 2 ^ 127 → word ≡ signed_decimal z → number_of_word word ≡ Some z
+unfolding number_of_word
 some_number word z h e =
     let d = number_digits z h in
     let same : bytes_eq (signed_decimal z) (signed_decimal z) ≡ true = (bytes_eq-Decides (signed_decimal z) (signed_decimal z)).1 refl in
     rw (e, d.value, lt-ltb (magnitude_of z) (2 ^ 127) h, same) refl
 
-pub number_is : (word : List ℕ) (z : ℤ) → number_in word ≡ Some z → (magnitude_of z < 2 ^ 127) × (word ≡ signed_decimal z)
-unfolding number_in
+pub number_is : (word : List ℕ) (z : ℤ) → number_of_word word ≡ Some z → (magnitude_of z < 2 ^ 127) × (word ≡ signed_decimal z)
+unfolding number_of_word
 number_is word z e =
     let p = cond_some (ltb (magnitude_of (signed_digits_value 10 word)) (2 ^ 127) && bytes_eq word (signed_decimal (signed_digits_value 10 word))) (signed_digits_value 10 word) z e in
     let tests = and_parts (ltb (magnitude_of (signed_digits_value 10 word)) (2 ^ 127)) (bytes_eq word (signed_decimal (signed_digits_value 10 word))) p.0 in
     subst (λ (x : ℤ). (magnitude_of x < 2 ^ 127) × (word ≡ signed_decimal x)) p.1 (ltb-true _ _ tests.0, (bytes_eq-Decides _ _).0 tests.1)
 
-pub no_number : (word : List ℕ) → ((z : ℤ) → magnitude_of z < 2 ^ 127 → word ≡ signed_decimal z → ⊥) → number_in word ≡ None
-no_number word never = by_cases (number_in word) refl
+pub no_number : (word : List ℕ) → ((z : ℤ) → magnitude_of z < 2 ^ 127 → word ≡ signed_decimal z → ⊥) → number_of_word word ≡ None
+no_number word never = by_cases (number_of_word word) refl
   where
-    by_cases : (o : Option ℤ) → number_in word ≡ o → o ≡ None
+    by_cases : (o : Option ℤ) → number_of_word word ≡ o → o ≡ None
     by_cases None e = refl
     by_cases (Some z) e = let is = number_is word z e in absurd (never z is.0 is.1)
 
@@ -190,16 +190,16 @@ pub record TakesNumber (bytes : List ℕ) (read : Node × List ℕ) : Type 0 whe
   pub is : IsSigned128 number
   pub text : bytes ≡ signed_decimal number ++ read.1
 
-pub number_takes : (bytes : List ℕ) (read : Node × List ℕ) → number_at bytes ≡ Some read → TakesNumber bytes read
-unfolding number_at
+pub number_takes : (bytes : List ℕ) (read : Node × List ℕ) → number_leaf_at bytes ≡ Some read → TakesNumber bytes read
+unfolding number_leaf_at
 number_takes bytes read e =
-    from_bind (number_in (word_of bytes)) _ read e (λ number at is.
+    from_bind (number_of_word (word_of bytes)) _ read e (λ number at is.
     let t = number_is (word_of bytes) number at in
-    subst (TakesNumber bytes) (same_Some (kinds.Number number, behind_word bytes) read is)
-    (record { number = number; node = refl; is = signed_small number t.0; text = word_parts bytes ∙ ap (λ (w : List ℕ). w ++ behind_word bytes) t.1 }))
+    subst (TakesNumber bytes) (same_Some (kinds.Number number, rest_of_word bytes) read is)
+    (record { number = number; node = refl; is = signed_small number t.0; text = word_parts bytes ∙ ap (λ (w : List ℕ). w ++ rest_of_word bytes) t.1 }))
 
-pub number_again : (z : ℤ) (rest : List ℕ) → IsSigned128 z → Closed rest → number_at (signed_decimal z ++ rest) ≡ Some (kinds.Number z, rest)
-unfolding number_at
+pub number_again : (z : ℤ) (rest : List ℕ) → IsSigned128 z → Closed rest → number_leaf_at (signed_decimal z ++ rest) ≡ Some (kinds.Number z, rest)
+unfolding number_leaf_at
 number_again z rest h closed =
     let small = small_signed z h in
     let d = number_digits z small in
@@ -225,11 +225,11 @@ pub signed_fits : (z : ℤ) → SFits w128 z → magnitude_of z < 2 ^ 127
 signed_fits (pos n) h = h.sfits
 signed_fits (negsuc n) h = h.sfits
 
-pub none_utf8 : (word : List ℕ) → (IsUtf8 word → ⊥) → number_in word ≡ None
+pub none_utf8 : (word : List ℕ) → (IsUtf8 word → ⊥) → number_of_word word ≡ None
 none_utf8 word never = no_number word (λ z h e. never (subst IsUtf8 (sym e) (number_utf8 z h)))
 
 -- what is refused as a number of 128 bits is no literal
-pub none_parsed : (word text : List ℕ) → text ≡ word → (IsNumeral 10 (without_leading_sign text) × SFits w128 (signed_digits_value 10 text) → ⊥) → number_in word ≡ None
+pub none_parsed : (word text : List ℕ) → text ≡ word → (IsNumeral 10 (without_leading_sign text) × SFits w128 (signed_digits_value 10 text) → ⊥) → number_of_word word ≡ None
 none_parsed word text is never = no_number word (λ z h e.
     let d = number_digits z h in
     let same : text ≡ signed_decimal z = is ∙ e in
@@ -239,7 +239,7 @@ none_parsed word text is never = no_number word (λ z h e.
     ))
 
 -- what is read and written otherwise is no literal
-pub none_other : (word text : List ℕ) (number : ℤ) → text ≡ word → number ≡ signed_digits_value 10 text → bytes_eq word (signed_decimal number) ≡ false → number_in word ≡ None
+pub none_other : (word text : List ℕ) (number : ℤ) → text ≡ word → number ≡ signed_digits_value 10 text → bytes_eq word (signed_decimal number) ≡ false → number_of_word word ≡ None
 none_other word text number is read other = no_number word (λ z h e.
     let d = number_digits z h in
     let same : number ≡ z = read ∙ ap (signed_digits_value 10) (is ∙ e) ∙ d.value in
@@ -249,6 +249,6 @@ none_other word text number is read other = no_number word (λ z h e.
     differ : false ≡ true → ⊥
     differ e = cc
 
-pub some_parsed : (word text : List ℕ) (number : ℤ) → text ≡ word → number ≡ signed_digits_value 10 text → SFits w128 (signed_digits_value 10 text) → bytes_eq word (signed_decimal number) ≡ true → number_in word ≡ Some number
+pub some_parsed : (word text : List ℕ) (number : ℤ) → text ≡ word → number ≡ signed_digits_value 10 text → SFits w128 (signed_digits_value 10 text) → bytes_eq word (signed_decimal number) ≡ true → number_of_word word ≡ Some number
 some_parsed word text number is read fits equal =
     some_number word number (signed_fits number (subst (SFits w128) (sym read) fits)) ((bytes_eq-Decides _ _).0 equal)

@@ -13,9 +13,9 @@ use Rattle.pickle_value.specs.Graph.{Graph, AreNodes, IsNode}
 use Rattle.zb_literals.specs.declared.parts.Part.{Part}
 use Rattle.zb_literals.specs.declared.parts.Part.TheVariants.{Byte, Item}
 use Rattle.zb_literals.specs.Texts.{leaf_literal, text_literal, quoted_text, global_text}
-use Rattle.zb_literals.specs.Values.{Value, leaf, tuple, list, dict, reference, Values, no_values, value, Pairs, no_pairs, pair, leaf_oid, oid_of, global_of, digits_of, with_global, values_short, short_of, reference_text, literal_text, more_text, more_pairs, IsLeaf, IsValue, AreValues, ArePairs}
-use Rattle.zb_literals.specs.Printing.{Printed, only, followed, bytes_parts, more_parts, more_pair_parts, tuple_parts, list_parts, dict_parts, reference_parts, parts_print, node_print, print_of, oid_at, class_at, joined, pair_short, id_short}
-use Rattle.zb_literals.specs.Plain.{values_of, pairs_of, node_tree, tree_of, HoldsBytes, IsPlain, IsScriptLiteral}
+use Rattle.zb_literals.specs.Values.{Value, leaf, tuple, list, dict, reference, Values, no_values, value, Pairs, no_pairs, pair, leaf_oid, oid_of_value, global_of_value, digits_of, with_global, values_short, short_of, reference_text, literal_text, more_text, more_pairs, IsLeaf, IsValue, AreValues, ArePairs}
+use Rattle.zb_literals.specs.Printing.{Printed, only, printed_behind, bytes_parts, more_parts, more_pair_parts, tuple_marks, list_marks, dict_marks, reference_parts, parts_print, node_print, print_of, oid_at, class_at, both_texts, pair_short, id_short}
+use Rattle.zb_literals.specs.Plain.{values_of, pairs_in_tree, node_tree, tree_of, HoldsBytes, IsPlain, IsScriptLiteral}
 
 -- ---- parts, where nothing stood before
 
@@ -23,7 +23,7 @@ use Rattle.zb_literals.specs.Plain.{values_of, pairs_of, node_tree, tree_of, Hol
 bytes_print : (piece : ℕ → List (ℕ × ℕ) → Printed) (bytes : List ℕ) (parts : List Part) (text : List ℕ) → parts_print piece parts [] ≡ only text []
     → parts_print piece (bytes_parts bytes ++ parts) [] ≡ only (bytes ++ text) []
 bytes_print piece [] parts text h = h
-bytes_print piece (b ∷ bytes) parts text h = ap (λ (p : Printed). followed (only (b ∷ []) []) p) (bytes_print piece bytes parts text h)
+bytes_print piece (b ∷ bytes) parts text h = ap (λ (p : Printed). printed_behind (only (b ∷ []) []) p) (bytes_print piece bytes parts text h)
 
 -- an item is printed, and then what follows
 item_print : (piece : ℕ → List (ℕ × ℕ) → Printed) (m : ℕ) (parts : List Part) (one text : List ℕ) → piece m [] ≡ only one [] → parts_print piece parts [] ≡ only text []
@@ -50,12 +50,12 @@ more_print tree piece prints (x ∷ items) vs end text e h =
     ∙ ap (λ (t : List ℕ). only (44 ∷ t) []) (sym (append_assoc (literal_text v) (more_text rest) text)))))
 
 more_pair_print : (tree : ℕ → Option Value) (piece : ℕ → List (ℕ × ℕ) → Printed) → Prints tree piece → (items : List (ℕ × ℕ)) (ps : Pairs) (end : List Part) (text : List ℕ)
-    → pairs_of tree items ≡ Some ps → parts_print piece end [] ≡ only text [] → parts_print piece (more_pair_parts items ++ end) [] ≡ only (more_pairs ps ++ text) []
+    → pairs_in_tree tree items ≡ Some ps → parts_print piece end [] ≡ only text [] → parts_print piece (more_pair_parts items ++ end) [] ≡ only (more_pairs ps ++ text) []
 more_pair_print tree piece prints [] ps end text e h = subst (λ (x : Pairs). parts_print piece end [] ≡ only (more_pairs x ++ text) []) (same_Some no_pairs ps e) h
 more_pair_print tree piece prints (x ∷ items) ps end text e h =
     from_bind (tree x.0) _ ps e (λ k at_key e1.
     from_bind (tree x.1) _ ps e1 (λ v at e2.
-    from_bind (pairs_of tree items) _ ps e2 (λ rest at_rest is.
+    from_bind (pairs_in_tree tree items) _ ps e2 (λ rest at_rest is.
     subst (λ (y : Pairs). parts_print piece (more_pair_parts (x ∷ items) ++ end) [] ≡ only (more_pairs y ++ text) []) (same_Some (pair k v rest) ps is)
     (byte_print piece 44 (Item x.0 ∷ Byte 58 ∷ Item x.1 ∷ (more_pair_parts items ++ end)) (literal_text k ++ 58 ∷ (literal_text v ++ (more_pairs rest ++ text)))
     (item_print piece x.0 (Byte 58 ∷ Item x.1 ∷ (more_pair_parts items ++ end)) (literal_text k) (58 ∷ (literal_text v ++ (more_pairs rest ++ text))) (prints x.0 k at_key)
@@ -68,11 +68,11 @@ end_print : (piece : ℕ → List (ℕ × ℕ) → Printed) (b : ℕ) → parts_
 end_print piece b = refl
 
 tuple_print : (tree : ℕ → Option Value) (piece : ℕ → List (ℕ × ℕ) → Printed) → Prints tree piece → (items : List ℕ) (vs : Values) → values_of tree items ≡ Some vs
-    → parts_print piece (tuple_parts items) [] ≡ only (literal_text (tuple vs)) []
+    → parts_print piece (tuple_marks items) [] ≡ only (literal_text (tuple vs)) []
 tuple_print tree piece prints [] vs e = subst (λ (x : Values). only (codes "()") [] ≡ only (literal_text (tuple x)) []) (same_Some no_values vs e) refl
 tuple_print tree piece prints (a ∷ []) vs e =
     from_bind (tree a) _ vs e (λ v at is.
-    subst (λ (x : Values). parts_print piece (tuple_parts (a ∷ [])) [] ≡ only (literal_text (tuple x)) []) (same_Some (value v no_values) vs is)
+    subst (λ (x : Values). parts_print piece (tuple_marks (a ∷ [])) [] ≡ only (literal_text (tuple x)) []) (same_Some (value v no_values) vs is)
     (byte_print piece 40 (Item a ∷ Byte 44 ∷ Byte 41 ∷ []) (literal_text v ++ 44 ∷ 41 ∷ []) (item_print piece a (Byte 44 ∷ Byte 41 ∷ []) (literal_text v) (44 ∷ 41 ∷ []) (prints a v at) refl)))
 tuple_print tree piece prints (a ∷ b ∷ items) vs e =
     from_bind (tree a) _ vs e (λ v at e1.
@@ -82,29 +82,29 @@ tuple_print tree piece prints (a ∷ b ∷ items) vs e =
     let rest_is : value w ws ≡ rest = same_Some (value w ws) rest is_rest in
     let whole : value v (value w ws) ≡ vs = ap (λ (x : Values). value v x) rest_is ∙ same_Some (value v rest) vs is in
     let more = more_print tree piece prints (b ∷ items) (value w ws) (Byte 41 ∷ []) (41 ∷ []) (at_rest ∙ ap (λ (x : Values). Some x) (sym rest_is)) refl in
-    subst (λ (x : Values). parts_print piece (tuple_parts (a ∷ b ∷ items)) [] ≡ only (literal_text (tuple x)) []) whole
+    subst (λ (x : Values). parts_print piece (tuple_marks (a ∷ b ∷ items)) [] ≡ only (literal_text (tuple x)) []) whole
     (byte_print piece 40 (Item a ∷ (more_parts (b ∷ items) ++ Byte 41 ∷ [])) (literal_text v ++ ((44 ∷ (literal_text w ++ more_text ws)) ++ 41 ∷ []))
     (item_print piece a (more_parts (b ∷ items) ++ Byte 41 ∷ []) (literal_text v) ((44 ∷ (literal_text w ++ more_text ws)) ++ 41 ∷ []) (prints a v at) more)
     ∙ ap (λ (t : List ℕ). only (40 ∷ (literal_text v ++ 44 ∷ t)) []) (append_assoc (literal_text w) (more_text ws) (41 ∷ [])))))))
 
 list_print : (tree : ℕ → Option Value) (piece : ℕ → List (ℕ × ℕ) → Printed) → Prints tree piece → (items : List ℕ) (vs : Values) → values_of tree items ≡ Some vs
-    → parts_print piece (list_parts items) [] ≡ only (literal_text (list vs)) []
+    → parts_print piece (list_marks items) [] ≡ only (literal_text (list vs)) []
 list_print tree piece prints [] vs e = subst (λ (x : Values). only (codes "[]") [] ≡ only (literal_text (list x)) []) (same_Some no_values vs e) refl
 list_print tree piece prints (a ∷ items) vs e =
     from_bind (tree a) _ vs e (λ v at e1.
     from_bind (values_of tree items) _ vs e1 (λ rest at_rest is.
-    subst (λ (x : Values). parts_print piece (list_parts (a ∷ items)) [] ≡ only (literal_text (list x)) []) (same_Some (value v rest) vs is)
+    subst (λ (x : Values). parts_print piece (list_marks (a ∷ items)) [] ≡ only (literal_text (list x)) []) (same_Some (value v rest) vs is)
     (byte_print piece 91 (Item a ∷ (more_parts items ++ Byte 93 ∷ [])) (literal_text v ++ (more_text rest ++ 93 ∷ []))
     (item_print piece a (more_parts items ++ Byte 93 ∷ []) (literal_text v) (more_text rest ++ 93 ∷ []) (prints a v at) (more_print tree piece prints items rest (Byte 93 ∷ []) (93 ∷ []) at_rest refl)))))
 
-dict_print : (tree : ℕ → Option Value) (piece : ℕ → List (ℕ × ℕ) → Printed) → Prints tree piece → (items : List (ℕ × ℕ)) (ps : Pairs) → pairs_of tree items ≡ Some ps
-    → parts_print piece (dict_parts items) [] ≡ only (literal_text (dict ps)) []
+dict_print : (tree : ℕ → Option Value) (piece : ℕ → List (ℕ × ℕ) → Printed) → Prints tree piece → (items : List (ℕ × ℕ)) (ps : Pairs) → pairs_in_tree tree items ≡ Some ps
+    → parts_print piece (dict_marks items) [] ≡ only (literal_text (dict ps)) []
 dict_print tree piece prints [] ps e = subst (λ (x : Pairs). only (codes "{}") [] ≡ only (literal_text (dict x)) []) (same_Some no_pairs ps e) refl
 dict_print tree piece prints (a ∷ items) ps e =
     from_bind (tree a.0) _ ps e (λ k at_key e1.
     from_bind (tree a.1) _ ps e1 (λ v at e2.
-    from_bind (pairs_of tree items) _ ps e2 (λ rest at_rest is.
-    subst (λ (x : Pairs). parts_print piece (dict_parts (a ∷ items)) [] ≡ only (literal_text (dict x)) []) (same_Some (pair k v rest) ps is)
+    from_bind (pairs_in_tree tree items) _ ps e2 (λ rest at_rest is.
+    subst (λ (x : Pairs). parts_print piece (dict_marks (a ∷ items)) [] ≡ only (literal_text (dict x)) []) (same_Some (pair k v rest) ps is)
     (byte_print piece 123 (Item a.0 ∷ Byte 58 ∷ Item a.1 ∷ (more_pair_parts items ++ Byte 125 ∷ [])) (literal_text k ++ 58 ∷ (literal_text v ++ (more_pairs rest ++ 125 ∷ [])))
     (item_print piece a.0 (Byte 58 ∷ Item a.1 ∷ (more_pair_parts items ++ Byte 125 ∷ [])) (literal_text k) (58 ∷ (literal_text v ++ (more_pairs rest ++ 125 ∷ []))) (prints a.0 k at_key)
     (byte_print piece 58 (Item a.1 ∷ (more_pair_parts items ++ Byte 125 ∷ [])) (literal_text v ++ (more_pairs rest ++ 125 ∷ []))
@@ -112,51 +112,51 @@ dict_print tree piece prints (a ∷ items) ps e =
 
 -- ---- references
 
-oid_tree : (piece : ℕ → Option Value) (o : Option Node) (w : Value) → node_tree piece o ≡ Some w → oid_at o ≡ oid_of w
+oid_tree : (piece : ℕ → Option Value) (o : Option Node) (w : Value) → node_tree piece o ≡ Some w → oid_at o ≡ oid_of_value w
 oid_tree piece None w e = absurd cc
-oid_tree piece (Some (kinds.Tuple items)) w e = from_bind (values_of piece items) _ w e (λ vs at is. subst (λ (x : Value). None ≡ oid_of x) (same_Some (tuple vs) w is) refl)
-oid_tree piece (Some (kinds.List items)) w e = from_bind (values_of piece items) _ w e (λ vs at is. subst (λ (x : Value). None ≡ oid_of x) (same_Some (list vs) w is) refl)
-oid_tree piece (Some (kinds.Dict items)) w e = from_bind (pairs_of piece items) _ w e (λ vs at is. subst (λ (x : Value). None ≡ oid_of x) (same_Some (dict vs) w is) refl)
-oid_tree piece (Some (kinds.Reference id)) w e = from_bind (piece id) _ w e (λ v at is. subst (λ (x : Value). None ≡ oid_of x) (same_Some (reference v) w is) refl)
+oid_tree piece (Some (kinds.Tuple items)) w e = from_bind (values_of piece items) _ w e (λ vs at is. subst (λ (x : Value). None ≡ oid_of_value x) (same_Some (tuple vs) w is) refl)
+oid_tree piece (Some (kinds.List items)) w e = from_bind (values_of piece items) _ w e (λ vs at is. subst (λ (x : Value). None ≡ oid_of_value x) (same_Some (list vs) w is) refl)
+oid_tree piece (Some (kinds.Dict items)) w e = from_bind (pairs_in_tree piece items) _ w e (λ vs at is. subst (λ (x : Value). None ≡ oid_of_value x) (same_Some (dict vs) w is) refl)
+oid_tree piece (Some (kinds.Reference id)) w e = from_bind (piece id) _ w e (λ v at is. subst (λ (x : Value). None ≡ oid_of_value x) (same_Some (reference v) w is) refl)
 oid_tree piece (Some (kinds.Object a b c d)) w e = absurd cc
-oid_tree piece (Some kinds.None) w e = subst (λ (x : Value). None ≡ oid_of x) (same_Some (leaf kinds.None) w e) refl
-oid_tree piece (Some (kinds.Bool b)) w e = subst (λ (x : Value). None ≡ oid_of x) (same_Some (leaf (kinds.Bool b)) w e) refl
-oid_tree piece (Some (kinds.Number n)) w e = subst (λ (x : Value). None ≡ oid_of x) (same_Some (leaf (kinds.Number n)) w e) refl
-oid_tree piece (Some (kinds.Wide b)) w e = subst (λ (x : Value). None ≡ oid_of x) (same_Some (leaf (kinds.Wide b)) w e) refl
-oid_tree piece (Some (kinds.Float b)) w e = subst (λ (x : Value). None ≡ oid_of x) (same_Some (leaf (kinds.Float b)) w e) refl
-oid_tree piece (Some (kinds.Bytes b)) w e = subst (λ (x : Value). leaf_oid (kinds.Bytes b) ≡ oid_of x) (same_Some (leaf (kinds.Bytes b)) w e) refl
-oid_tree piece (Some (kinds.OldText b)) w e = subst (λ (x : Value). None ≡ oid_of x) (same_Some (leaf (kinds.OldText b)) w e) refl
-oid_tree piece (Some (kinds.Text b)) w e = subst (λ (x : Value). None ≡ oid_of x) (same_Some (leaf (kinds.Text b)) w e) refl
-oid_tree piece (Some (kinds.Global a b)) w e = subst (λ (x : Value). None ≡ oid_of x) (same_Some (leaf (kinds.Global a b)) w e) refl
+oid_tree piece (Some kinds.None) w e = subst (λ (x : Value). None ≡ oid_of_value x) (same_Some (leaf kinds.None) w e) refl
+oid_tree piece (Some (kinds.Bool b)) w e = subst (λ (x : Value). None ≡ oid_of_value x) (same_Some (leaf (kinds.Bool b)) w e) refl
+oid_tree piece (Some (kinds.Number n)) w e = subst (λ (x : Value). None ≡ oid_of_value x) (same_Some (leaf (kinds.Number n)) w e) refl
+oid_tree piece (Some (kinds.Wide b)) w e = subst (λ (x : Value). None ≡ oid_of_value x) (same_Some (leaf (kinds.Wide b)) w e) refl
+oid_tree piece (Some (kinds.Float b)) w e = subst (λ (x : Value). None ≡ oid_of_value x) (same_Some (leaf (kinds.Float b)) w e) refl
+oid_tree piece (Some (kinds.Bytes b)) w e = subst (λ (x : Value). leaf_oid (kinds.Bytes b) ≡ oid_of_value x) (same_Some (leaf (kinds.Bytes b)) w e) refl
+oid_tree piece (Some (kinds.OldText b)) w e = subst (λ (x : Value). None ≡ oid_of_value x) (same_Some (leaf (kinds.OldText b)) w e) refl
+oid_tree piece (Some (kinds.Text b)) w e = subst (λ (x : Value). None ≡ oid_of_value x) (same_Some (leaf (kinds.Text b)) w e) refl
+oid_tree piece (Some (kinds.Global a b)) w e = subst (λ (x : Value). None ≡ oid_of_value x) (same_Some (leaf (kinds.Global a b)) w e) refl
 
-class_tree : (piece : ℕ → Option Value) (o : Option Node) (w : Value) → node_tree piece o ≡ Some w → class_at o ≡ global_of w
+class_tree : (piece : ℕ → Option Value) (o : Option Node) (w : Value) → node_tree piece o ≡ Some w → class_at o ≡ global_of_value w
 class_tree piece None w e = absurd cc
-class_tree piece (Some (kinds.Tuple items)) w e = from_bind (values_of piece items) _ w e (λ vs at is. subst (λ (x : Value). None ≡ global_of x) (same_Some (tuple vs) w is) refl)
-class_tree piece (Some (kinds.List items)) w e = from_bind (values_of piece items) _ w e (λ vs at is. subst (λ (x : Value). None ≡ global_of x) (same_Some (list vs) w is) refl)
-class_tree piece (Some (kinds.Dict items)) w e = from_bind (pairs_of piece items) _ w e (λ vs at is. subst (λ (x : Value). None ≡ global_of x) (same_Some (dict vs) w is) refl)
-class_tree piece (Some (kinds.Reference id)) w e = from_bind (piece id) _ w e (λ v at is. subst (λ (x : Value). None ≡ global_of x) (same_Some (reference v) w is) refl)
+class_tree piece (Some (kinds.Tuple items)) w e = from_bind (values_of piece items) _ w e (λ vs at is. subst (λ (x : Value). None ≡ global_of_value x) (same_Some (tuple vs) w is) refl)
+class_tree piece (Some (kinds.List items)) w e = from_bind (values_of piece items) _ w e (λ vs at is. subst (λ (x : Value). None ≡ global_of_value x) (same_Some (list vs) w is) refl)
+class_tree piece (Some (kinds.Dict items)) w e = from_bind (pairs_in_tree piece items) _ w e (λ vs at is. subst (λ (x : Value). None ≡ global_of_value x) (same_Some (dict vs) w is) refl)
+class_tree piece (Some (kinds.Reference id)) w e = from_bind (piece id) _ w e (λ v at is. subst (λ (x : Value). None ≡ global_of_value x) (same_Some (reference v) w is) refl)
 class_tree piece (Some (kinds.Object a b c d)) w e = absurd cc
-class_tree piece (Some kinds.None) w e = subst (λ (x : Value). None ≡ global_of x) (same_Some (leaf kinds.None) w e) refl
-class_tree piece (Some (kinds.Bool b)) w e = subst (λ (x : Value). None ≡ global_of x) (same_Some (leaf (kinds.Bool b)) w e) refl
-class_tree piece (Some (kinds.Number n)) w e = subst (λ (x : Value). None ≡ global_of x) (same_Some (leaf (kinds.Number n)) w e) refl
-class_tree piece (Some (kinds.Wide b)) w e = subst (λ (x : Value). None ≡ global_of x) (same_Some (leaf (kinds.Wide b)) w e) refl
-class_tree piece (Some (kinds.Float b)) w e = subst (λ (x : Value). None ≡ global_of x) (same_Some (leaf (kinds.Float b)) w e) refl
-class_tree piece (Some (kinds.Bytes b)) w e = subst (λ (x : Value). None ≡ global_of x) (same_Some (leaf (kinds.Bytes b)) w e) refl
-class_tree piece (Some (kinds.OldText b)) w e = subst (λ (x : Value). None ≡ global_of x) (same_Some (leaf (kinds.OldText b)) w e) refl
-class_tree piece (Some (kinds.Text b)) w e = subst (λ (x : Value). None ≡ global_of x) (same_Some (leaf (kinds.Text b)) w e) refl
-class_tree piece (Some (kinds.Global a b)) w e = subst (λ (x : Value). Some (global_text a b) ≡ global_of x) (same_Some (leaf (kinds.Global a b)) w e) refl
+class_tree piece (Some kinds.None) w e = subst (λ (x : Value). None ≡ global_of_value x) (same_Some (leaf kinds.None) w e) refl
+class_tree piece (Some (kinds.Bool b)) w e = subst (λ (x : Value). None ≡ global_of_value x) (same_Some (leaf (kinds.Bool b)) w e) refl
+class_tree piece (Some (kinds.Number n)) w e = subst (λ (x : Value). None ≡ global_of_value x) (same_Some (leaf (kinds.Number n)) w e) refl
+class_tree piece (Some (kinds.Wide b)) w e = subst (λ (x : Value). None ≡ global_of_value x) (same_Some (leaf (kinds.Wide b)) w e) refl
+class_tree piece (Some (kinds.Float b)) w e = subst (λ (x : Value). None ≡ global_of_value x) (same_Some (leaf (kinds.Float b)) w e) refl
+class_tree piece (Some (kinds.Bytes b)) w e = subst (λ (x : Value). None ≡ global_of_value x) (same_Some (leaf (kinds.Bytes b)) w e) refl
+class_tree piece (Some (kinds.OldText b)) w e = subst (λ (x : Value). None ≡ global_of_value x) (same_Some (leaf (kinds.OldText b)) w e) refl
+class_tree piece (Some (kinds.Text b)) w e = subst (λ (x : Value). None ≡ global_of_value x) (same_Some (leaf (kinds.Text b)) w e) refl
+class_tree piece (Some (kinds.Global a b)) w e = subst (λ (x : Value). Some (global_text a b) ≡ global_of_value x) (same_Some (leaf (kinds.Global a b)) w e) refl
 
-oid_of_tree : (levels : ℕ) (ns : List Node) (m : ℕ) (w : Value) → tree_of levels ns m ≡ Some w → oid_at (slice_get ns m) ≡ oid_of w
+oid_of_tree : (levels : ℕ) (ns : List Node) (m : ℕ) (w : Value) → tree_of levels ns m ≡ Some w → oid_at (slice_get ns m) ≡ oid_of_value w
 unfolding tree_of
 oid_of_tree zero ns m w e = absurd cc
 oid_of_tree (suc levels) ns m w e = oid_tree (tree_of levels ns) (slice_get ns m) w e
 
-class_of_tree : (levels : ℕ) (ns : List Node) (m : ℕ) (w : Value) → tree_of levels ns m ≡ Some w → class_at (slice_get ns m) ≡ global_of w
+class_of_tree : (levels : ℕ) (ns : List Node) (m : ℕ) (w : Value) → tree_of levels ns m ≡ Some w → class_at (slice_get ns m) ≡ global_of_value w
 unfolding tree_of
 class_of_tree zero ns m w e = absurd cc
 class_of_tree (suc levels) ns m w e = class_tree (tree_of levels ns) (slice_get ns m) w e
 
-joined_is : (oid class : Option (List ℕ)) → joined (digits_of oid) class ≡ with_global oid class
+joined_is : (oid class : Option (List ℕ)) → both_texts (digits_of oid) class ≡ with_global oid class
 joined_is None None = refl
 joined_is None (Some b) = refl
 joined_is (Some a) None = refl
@@ -171,8 +171,8 @@ pair_is levels ns (a ∷ b ∷ []) vs e =
     from_bind (tree_of levels ns b) _ rest at_rest (λ w at_w is_rest.
     let whole : value v (value w no_values) ≡ vs = ap (λ (x : Values). value v x) (same_Some (value w no_values) rest is_rest) ∙ same_Some (value v rest) vs is in
     subst (λ (x : Values). pair_short ns None (a ∷ b ∷ []) ≡ values_short x) whole
-    (ap (λ (o : Option (List ℕ)). joined (digits_of o) (class_at (slice_get ns b))) (oid_of_tree levels ns a v at)
-    ∙ ap (joined (digits_of (oid_of v))) (class_of_tree levels ns b w at_w) ∙ joined_is (oid_of v) (global_of w)))))
+    (ap (λ (o : Option (List ℕ)). both_texts (digits_of o) (class_at (slice_get ns b))) (oid_of_tree levels ns a v at)
+    ∙ ap (both_texts (digits_of (oid_of_value v))) (class_of_tree levels ns b w at_w) ∙ joined_is (oid_of_value v) (global_of_value w)))))
 pair_is levels ns (a ∷ b ∷ c ∷ items) vs e =
     from_bind (tree_of levels ns a) _ vs e (λ v at e1.
     from_bind (values_of (tree_of levels ns) (b ∷ c ∷ items)) _ vs e1 (λ rest at_rest is.
@@ -189,7 +189,7 @@ short_tree levels ns None w e = absurd cc
 short_tree levels ns (Some (kinds.Tuple items)) w e =
     from_bind (values_of (tree_of levels ns) items) _ w e (λ vs at is. subst (λ (x : Value). pair_short ns None items ≡ short_of x) (same_Some (tuple vs) w is) (pair_is levels ns items vs at))
 short_tree levels ns (Some (kinds.List items)) w e = from_bind (values_of (tree_of levels ns) items) _ w e (λ vs at is. subst (λ (x : Value). None ≡ short_of x) (same_Some (list vs) w is) refl)
-short_tree levels ns (Some (kinds.Dict items)) w e = from_bind (pairs_of (tree_of levels ns) items) _ w e (λ vs at is. subst (λ (x : Value). None ≡ short_of x) (same_Some (dict vs) w is) refl)
+short_tree levels ns (Some (kinds.Dict items)) w e = from_bind (pairs_in_tree (tree_of levels ns) items) _ w e (λ vs at is. subst (λ (x : Value). None ≡ short_of x) (same_Some (dict vs) w is) refl)
 short_tree levels ns (Some (kinds.Reference id)) w e = from_bind (tree_of levels ns id) _ w e (λ v at is. subst (λ (x : Value). None ≡ short_of x) (same_Some (reference v) w is) refl)
 short_tree levels ns (Some (kinds.Object a b c d)) w e = absurd cc
 short_tree levels ns (Some kinds.None) w e = subst (λ (x : Value). None ≡ short_of x) (same_Some (leaf kinds.None) w e) refl
@@ -222,12 +222,12 @@ values_are levels tree are (x ∷ items) vs e =
     from_bind (tree x) _ vs e (λ v at e1.
     from_bind (values_of tree items) _ vs e1 (λ rest at_rest is. subst (AreValues levels) (same_Some (value v rest) vs is) (are x v at, values_are levels tree are items rest at_rest)))
 
-pairs_are : (levels : ℕ) (tree : ℕ → Option Value) → ((m : ℕ) (v : Value) → tree m ≡ Some v → IsValue levels v) → (items : List (ℕ × ℕ)) (ps : Pairs) → pairs_of tree items ≡ Some ps → ArePairs levels ps
+pairs_are : (levels : ℕ) (tree : ℕ → Option Value) → ((m : ℕ) (v : Value) → tree m ≡ Some v → IsValue levels v) → (items : List (ℕ × ℕ)) (ps : Pairs) → pairs_in_tree tree items ≡ Some ps → ArePairs levels ps
 pairs_are levels tree are [] ps e = subst (ArePairs levels) (same_Some no_pairs ps e) tt
 pairs_are levels tree are (x ∷ items) ps e =
     from_bind (tree x.0) _ ps e (λ k at_key e1.
     from_bind (tree x.1) _ ps e1 (λ v at e2.
-    from_bind (pairs_of tree items) _ ps e2 (λ rest at_rest is. subst (ArePairs levels) (same_Some (pair k v rest) ps is) (are x.0 k at_key, are x.1 v at, pairs_are levels tree are items rest at_rest))))
+    from_bind (pairs_in_tree tree items) _ ps e2 (λ rest at_rest is. subst (ArePairs levels) (same_Some (pair k v rest) ps is) (are x.0 k at_key, are x.1 v at, pairs_are levels tree are items rest at_rest))))
 
 node_in : (ns xs : List Node) (m : ℕ) (x : Node) → AreNodes ns xs → slice_get xs m ≡ Some x → IsNode ns x
 node_in ns [] m x h e = absurd cc
@@ -276,7 +276,7 @@ one_node levels ns m all (kinds.List items) v h k e =
     subst (λ (y : Value). PrintsNode (suc levels) y (node_print ns [] (print_of levels ns []) m [] (Some (kinds.List items)))) (same_Some (list vs) v is)
     (record { text = list_print (tree_of levels ns) (print_of levels ns []) (λ n w at_w. (all n w at_w).text) items vs at; is = values_are levels (tree_of levels ns) (λ n w at_w. (all n w at_w).is) items vs at }))
 one_node levels ns m all (kinds.Dict items) v h k e =
-    from_bind (pairs_of (tree_of levels ns) items) _ v e (λ vs at is.
+    from_bind (pairs_in_tree (tree_of levels ns) items) _ v e (λ vs at is.
     subst (λ (y : Value). PrintsNode (suc levels) y (node_print ns [] (print_of levels ns []) m [] (Some (kinds.Dict items)))) (same_Some (dict vs) v is)
     (record { text = dict_print (tree_of levels ns) (print_of levels ns []) (λ n w at_w. (all n w at_w).text) items vs at; is = pairs_are levels (tree_of levels ns) (λ n w at_w. (all n w at_w).is) items vs at }))
 one_node levels ns m all (kinds.Reference id) v h k e =

@@ -6,9 +6,9 @@ use Rattle.pickle_value.specs.Numbers.{number_of}
 use Rattle.pickle_value.specs.Spelling.{put_number}
 use Rattle.pickle_value.specs.declared.node.Act.{Act}
 use Rattle.pickle_value.specs.declared.node.Act.TheVariants.{Append, Set, Build}
-use Rattle.zb_literals.specs.Printing.{act_parts, leaf_print, literal_parts, parts_print, marked_print, print_of}
+use Rattle.zb_literals.specs.Printing.{act_marks, leaf_print, literal_parts, parts_print, marked_print, print_of}
 
-pub acts_step : (act : Act) (acts : List Act) → act_parts (act ∷ acts) ≡ act_parts (act ∷ []) ++ act_parts acts
+pub acts_step : (act : Act) (acts : List Act) → act_marks (act ∷ acts) ≡ act_marks (act ∷ []) ++ act_marks acts
 acts_step (Append v) acts = refl
 acts_step (Set k v) acts = refl
 acts_step (Build v) acts = refl

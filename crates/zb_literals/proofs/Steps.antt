@@ -4,7 +4,7 @@ use Rattle.std.specs.Str.{bytes_eq}
 use Rattle.std.proofs.lemmas.Option.{cond_some, some_pair_parts}
 use Rattle.std.proofs.lemmas.List.{take-append-drop, take_at, drop_at}
 use Rattle.std.proofs.lemmas.Slice.Eq.{bytes_eq-Decides}
-use Rattle.zb_literals.specs.Reading.{if_some, behind, one_at}
+use Rattle.zb_literals.specs.Reading.{if_some, rest_behind, one_at}
 
 -- one of two ways was taken
 pub from_if : {A B P : Type 0} (o : Option A) (f : A → Option B) (other : Option B) (y : B) → if_some o f other ≡ Some y
@@ -22,15 +22,15 @@ pub cond_false : {A : Type 0} (b : Bool) (r : Option A) (y : A) → cond b None 
 cond_false true r y e = absurd cc
 cond_false false r y e = (refl, e)
 
-pub behind_takes : (word bytes rest : List ℕ) → behind word bytes ≡ Some rest → bytes ≡ word ++ rest
-unfolding behind
+pub behind_takes : (word bytes rest : List ℕ) → rest_behind word bytes ≡ Some rest → bytes ≡ word ++ rest
+unfolding rest_behind
 behind_takes word bytes rest e =
     let p = cond_some (bytes_eq (take (length word) bytes) word) (drop (length word) bytes) rest e in
     let front : take (length word) bytes ≡ word = (bytes_eq-Decides _ _).0 p.0 in
     sym (take-append-drop (length word) bytes) ∙ cc (front, p.1)
 
-pub behind_again : (word rest : List ℕ) → behind word (word ++ rest) ≡ Some rest
-unfolding behind
+pub behind_again : (word rest : List ℕ) → rest_behind word (word ++ rest) ≡ Some rest
+unfolding rest_behind
 behind_again word rest =
     let front = take_at word rest (length word) refl in
     let back = drop_at word rest (length word) refl in

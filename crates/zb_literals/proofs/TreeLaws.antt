@@ -10,16 +10,16 @@ use Rattle.pickle_value.specs.declared.node.Node.{Node}
 use Rattle.pickle_value.specs.declared.node.Node.TheVariants as kinds
 use Rattle.zb_literals.specs.declared.form.Form.{Form}
 use Rattle.zb_literals.specs.Texts.{global_text}
-use Rattle.zb_literals.specs.Values.{Value, leaf, tuple, list, dict, reference, Values, no_values, value, Pairs, no_pairs, pair, oid_of, global_of, short_of, leaf_oid, digits_of, with_global, reference_text, literal_text, more_text, more_pairs, IsLeaf, IsValue, AreValues, ArePairs, AreBytes}
+use Rattle.zb_literals.specs.Values.{Value, leaf, tuple, list, dict, reference, Values, no_values, value, Pairs, no_pairs, pair, oid_of_value, global_of_value, short_of, leaf_oid, digits_of, with_global, reference_text, literal_text, more_text, more_pairs, IsLeaf, IsValue, AreValues, ArePairs, AreAllSmall}
 use Rattle.zb_literals.specs.Graphs.{last_of, with_value, with_values, with_pairs, named_values, named_pairs}
-use Rattle.zb_literals.specs.Reading.{behind, begins_number, counted_at, is_float_size, leaf_at, leaf_form, plain_form, pair_form, leaf_found, item_at, pair_at, items_at, pairs_at, many_at, tuple_rest_at, tuple_at, list_at, dict_at, reference_at, address_at, shape_at, value_at, global_at, Piece}
+use Rattle.zb_literals.specs.Reading.{rest_behind, begins_number, counted_at, is_float_size, leaf_at, leaf_form, plain_form, pair_form, leaf_found, item_at, pair_at, values_at, pairs_at, many_at, tuple_rest_at, tuple_at, list_at, dict_at, reference_at, address_at, shape_at, value_at, global_at, ReadPiece}
 use Rattle.zb_literals.proofs.Steps.{from_if, behind_takes, cond_false}
 use Rattle.zb_literals.proofs.NumberLaws.{counted_takes}
 use Rattle.zb_literals.proofs.LeafLaws.{leaf_takes, global_takes}
 
 -- what a value can be in a reference
 abbrev pub form_of : Value → Form
-form_of v = record { oid = is_some (oid_of v); global = is_some (global_of v); short = is_some (short_of v) }
+form_of v = record { oid = is_some (oid_of_value v); global = is_some (global_of_value v); short = is_some (short_of v) }
 
 abbrev pub form : Bool → Bool → Bool → Form
 form oid global short = record { oid = oid; global = global; short = short }
@@ -32,7 +32,7 @@ pub record Takes (levels : ℕ) (nodes : List Node) (bytes : List ℕ) (read : L
   pub nodes_are : read.0 ≡ with_value nodes tree
   pub form_is : read.1 ≡ form_of tree
 
-abbrev pub PieceTakes : ℕ → Piece → Type 0
+abbrev pub PieceTakes : ℕ → ReadPiece → Type 0
 PieceTakes levels piece = (nodes : List Node) (bytes : List ℕ) (read : List Node × Form × List ℕ) → piece nodes bytes ≡ Some read → Takes levels nodes bytes read
 
 pub leaf_forms : (node : Node) → leaf_form node ≡ form_of (leaf node)
@@ -80,7 +80,7 @@ pub record TakesItem (levels : ℕ) (nodes : List Node) (items : List ℕ) (byte
   pub nodes_are : read.0 ≡ with_value nodes tree
   pub named : read.1 ≡ items ++ last_of (with_value nodes tree) ∷ []
 
-item_takes : (levels : ℕ) (piece : Piece) → PieceTakes levels piece → (nodes : List Node) (items bytes : List ℕ) (read : List Node × List ℕ × List ℕ)
+item_takes : (levels : ℕ) (piece : ReadPiece) → PieceTakes levels piece → (nodes : List Node) (items bytes : List ℕ) (read : List Node × List ℕ × List ℕ)
     → item_at piece nodes items bytes ≡ Some read → TakesItem levels nodes items bytes read
 unfolding item_at
 item_takes levels piece takes nodes items bytes read e =
@@ -102,20 +102,20 @@ then_more levels nodes items bytes rest one read comma t m = record {
       ∙ ap (λ (ns : List Node). items ++ last_of (with_value nodes t.tree) ∷ named_values ns m.trees) t.nodes_are;
 }
 
-many_takes : (levels : ℕ) (piece : Piece) → PieceTakes levels piece → (n : ℕ) (nodes : List Node) (items bytes : List ℕ) (read : List Node × List ℕ × List ℕ)
+many_takes : (levels : ℕ) (piece : ReadPiece) → PieceTakes levels piece → (n : ℕ) (nodes : List Node) (items bytes : List ℕ) (read : List Node × List ℕ × List ℕ)
     → many_at (item_at piece) n nodes items bytes ≡ Some read → TakesItems levels nodes items more_text bytes read
 many_takes levels piece takes zero nodes items bytes read e = absurd cc
 many_takes levels piece takes (suc n) nodes items bytes read e =
-    from_if (behind (codes ",") bytes) (λ rest. item_at piece nodes items rest >>= λ more. many_at (item_at piece) n more.0 more.1 more.2) (Some (nodes, items, bytes)) read e
+    from_if (rest_behind (codes ",") bytes) (λ rest. item_at piece nodes items rest >>= λ more. many_at (item_at piece) n more.0 more.1 more.2) (Some (nodes, items, bytes)) read e
     (λ rest at_rest e1.
     from_bind (item_at piece nodes items rest) (λ more. many_at (item_at piece) n more.0 more.1 more.2) read e1 (λ one at e2.
     then_more levels nodes items bytes rest one read (behind_takes (codes ",") bytes rest at_rest) (item_takes levels piece takes nodes items rest one at) (many_takes levels piece takes n one.0 one.1 one.2 read e2)))
     (λ is. subst (TakesItems levels nodes items more_text bytes) (same_Some (nodes, items, bytes) read is)
     (record { trees = no_values; are = tt; text = refl; nodes_are = refl; named = sym (append-nil items) }))
 
-pub items_take : (levels : ℕ) (piece : Piece) → PieceTakes levels piece → (nodes : List Node) (items bytes : List ℕ) (read : List Node × List ℕ × List ℕ)
-    → items_at piece nodes items bytes ≡ Some read → TakesItems levels nodes items more_text bytes read
-unfolding items_at
+pub items_take : (levels : ℕ) (piece : ReadPiece) → PieceTakes levels piece → (nodes : List Node) (items bytes : List ℕ) (read : List Node × List ℕ × List ℕ)
+    → values_at piece nodes items bytes ≡ Some read → TakesItems levels nodes items more_text bytes read
+unfolding values_at
 items_take levels piece takes nodes items bytes read e = many_takes levels piece takes (suc (length bytes)) nodes items bytes read e
 
 -- ---- keys and values
@@ -136,12 +136,12 @@ pub record TakesPair (levels : ℕ) (nodes : List Node) (items : List (ℕ × �
   pub nodes_are : read.0 ≡ with_value (with_value nodes key) held
   pub named : read.1 ≡ items ++ (last_of (with_value nodes key), last_of (with_value (with_value nodes key) held)) ∷ []
 
-pair_takes : (levels : ℕ) (piece : Piece) → PieceTakes levels piece → (nodes : List Node) (items : List (ℕ × ℕ)) (bytes : List ℕ) (read : List Node × List (ℕ × ℕ) × List ℕ)
+pair_takes : (levels : ℕ) (piece : ReadPiece) → PieceTakes levels piece → (nodes : List Node) (items : List (ℕ × ℕ)) (bytes : List ℕ) (read : List Node × List (ℕ × ℕ) × List ℕ)
     → pair_at piece nodes items bytes ≡ Some read → TakesPair levels nodes items bytes read
 unfolding pair_at
 pair_takes levels piece takes nodes items bytes read e =
     from_bind (piece nodes bytes) _ read e (λ key at_key e1.
-    from_bind (behind (codes ":") key.2) _ read e1 (λ rest at_rest e2.
+    from_bind (rest_behind (codes ":") key.2) _ read e1 (λ rest at_rest e2.
     from_bind (piece key.0 rest) _ read e2 (λ one at_one is.
     let k = takes nodes bytes key at_key in
     let v = takes key.0 rest one at_one in
@@ -171,18 +171,18 @@ pairs_then_more levels nodes items bytes rest one read comma t m = record {
       ∙ ap (λ (ns : List Node). items ++ (last_of (with_value nodes t.key), last_of (with_value (with_value nodes t.key) t.held)) ∷ named_pairs ns m.trees) t.nodes_are;
 }
 
-many_pairs_take : (levels : ℕ) (piece : Piece) → PieceTakes levels piece → (n : ℕ) (nodes : List Node) (items : List (ℕ × ℕ)) (bytes : List ℕ) (read : List Node × List (ℕ × ℕ) × List ℕ)
+many_pairs_take : (levels : ℕ) (piece : ReadPiece) → PieceTakes levels piece → (n : ℕ) (nodes : List Node) (items : List (ℕ × ℕ)) (bytes : List ℕ) (read : List Node × List (ℕ × ℕ) × List ℕ)
     → many_at (pair_at piece) n nodes items bytes ≡ Some read → TakesPairs levels nodes items bytes read
 many_pairs_take levels piece takes zero nodes items bytes read e = absurd cc
 many_pairs_take levels piece takes (suc n) nodes items bytes read e =
-    from_if (behind (codes ",") bytes) (λ rest. pair_at piece nodes items rest >>= λ more. many_at (pair_at piece) n more.0 more.1 more.2) (Some (nodes, items, bytes)) read e
+    from_if (rest_behind (codes ",") bytes) (λ rest. pair_at piece nodes items rest >>= λ more. many_at (pair_at piece) n more.0 more.1 more.2) (Some (nodes, items, bytes)) read e
     (λ rest at_rest e1.
     from_bind (pair_at piece nodes items rest) (λ more. many_at (pair_at piece) n more.0 more.1 more.2) read e1 (λ one at e2.
     pairs_then_more levels nodes items bytes rest one read (behind_takes (codes ",") bytes rest at_rest) (pair_takes levels piece takes nodes items rest one at) (many_pairs_take levels piece takes n one.0 one.1 one.2 read e2)))
     (λ is. subst (TakesPairs levels nodes items bytes) (same_Some (nodes, items, bytes) read is)
     (record { trees = no_pairs; are = tt; text = refl; nodes_are = refl; named = sym (append-nil items) }))
 
-pub pairs_take : (levels : ℕ) (piece : Piece) → PieceTakes levels piece → (nodes : List Node) (items : List (ℕ × ℕ)) (bytes : List ℕ) (read : List Node × List (ℕ × ℕ) × List ℕ)
+pub pairs_take : (levels : ℕ) (piece : ReadPiece) → PieceTakes levels piece → (nodes : List Node) (items : List (ℕ × ℕ)) (bytes : List ℕ) (read : List Node × List (ℕ × ℕ) × List ℕ)
     → pairs_at piece nodes items bytes ≡ Some read → TakesPairs levels nodes items bytes read
 unfolding pairs_at
 pairs_take levels piece takes nodes items bytes read e = many_pairs_take levels piece takes (suc (length bytes)) nodes items bytes read e
@@ -193,7 +193,7 @@ abbrev pub two_form : ℕ → Form → Form
 two_form count form = cond (eqb count 2) form plain_form
 
 pair_short_form : (v w : Value) → pair_form (form_of v) (form_of w) ≡ form_of (tuple (value v (value w no_values)))
-pair_short_form v w = by_parts (oid_of v) (global_of w)
+pair_short_form v w = by_parts (oid_of_value v) (global_of_value w)
   where
     by_parts : (oid class : Option (List ℕ)) → form false false (is_some oid && is_some class) ≡ form false false (is_some (with_global oid class))
     by_parts (Some a) (Some b) = refl
@@ -226,13 +226,13 @@ pub tuple_form : (nodes : List Node) (v w : Value) (vs : Values) (a b : ℕ)
 tuple_form nodes v w no_values a b = pair_short_form v w
 tuple_form nodes v w (value x vs) a b = rw (length_named nodes (value x vs) a b) refl
 
-tuple_rest_takes : (levels : ℕ) (piece : Piece) → PieceTakes levels piece → (start : List Node) (first : Value) → IsValue levels first
+tuple_rest_takes : (levels : ℕ) (piece : ReadPiece) → PieceTakes levels piece → (start : List Node) (first : Value) → IsValue levels first
     → (nodes : List Node) (form : Form) (bytes : List ℕ) (read : List Node × Form × List ℕ)
     → nodes ≡ with_value start first → form ≡ form_of first → tuple_rest_at piece nodes form bytes ≡ Some read
     → Takes (suc levels) start (40 ∷ (literal_text first ++ 44 ∷ bytes)) read
 unfolding tuple_rest_at
 tuple_rest_takes levels piece takes start first is nodes form bytes read nodes_are form_is e =
-    from_if (behind (codes ")") bytes) (λ rest. Some (nodes ++ kinds.Tuple (last_of nodes ∷ []) ∷ [], plain_form, rest)) _ read e
+    from_if (rest_behind (codes ")") bytes) (λ rest. Some (nodes ++ kinds.Tuple (last_of nodes ∷ []) ∷ [], plain_form, rest)) _ read e
     (λ rest at e1.
     subst (Takes (suc levels) start (40 ∷ (literal_text first ++ 44 ∷ bytes))) (same_Some (nodes ++ kinds.Tuple (last_of nodes ∷ []) ∷ [], plain_form, rest) read e1)
     (record {
@@ -244,8 +244,8 @@ tuple_rest_takes levels piece takes start first is nodes form bytes read nodes_a
     }))
     (λ e1.
     from_bind (piece nodes bytes) _ read e1 (λ second at_second e2.
-    from_bind (items_at piece second.0 (last_of nodes ∷ last_of second.0 ∷ []) second.2) _ read e2 (λ more at_more e3.
-    from_bind (behind (codes ")") more.2) _ read e3 (λ rest at_rest e4.
+    from_bind (values_at piece second.0 (last_of nodes ∷ last_of second.0 ∷ []) second.2) _ read e2 (λ more at_more e3.
+    from_bind (rest_behind (codes ")") more.2) _ read e3 (λ rest at_rest e4.
     let w = takes nodes bytes second at_second in
     let m = items_take levels piece takes second.0 (last_of nodes ∷ last_of second.0 ∷ []) second.2 more at_more in
     let second_nodes : second.0 ≡ with_value (with_value start first) w.tree = w.nodes_are ∙ ap (λ (ns : List Node). with_value ns w.tree) nodes_are in
@@ -270,33 +270,33 @@ tuple_rest_takes levels piece takes start first is nodes form bytes read nodes_a
       form_is = form_then;
     })))))
 
-tuple_takes : (levels : ℕ) (piece : Piece) → PieceTakes levels piece → (nodes : List Node) (bytes : List ℕ) (read : List Node × Form × List ℕ)
+tuple_takes : (levels : ℕ) (piece : ReadPiece) → PieceTakes levels piece → (nodes : List Node) (bytes : List ℕ) (read : List Node × Form × List ℕ)
     → tuple_at piece nodes bytes ≡ Some read → Takes (suc levels) nodes (40 ∷ bytes) read
 unfolding tuple_at
 tuple_takes levels piece takes nodes bytes read e =
-    from_if (behind (codes ")") bytes) (λ rest. Some (nodes ++ kinds.Tuple [] ∷ [], plain_form, rest)) _ read e
+    from_if (rest_behind (codes ")") bytes) (λ rest. Some (nodes ++ kinds.Tuple [] ∷ [], plain_form, rest)) _ read e
     (λ rest at e1.
     subst (Takes (suc levels) nodes (40 ∷ bytes)) (same_Some (nodes ++ kinds.Tuple [] ∷ [], plain_form, rest) read e1)
     (record { tree = tuple no_values; is = tt; text = ap (λ (x : List ℕ). 40 ∷ x) (behind_takes (codes ")") bytes rest at); nodes_are = refl; form_is = refl }))
     (λ e1.
     from_bind (piece nodes bytes) _ read e1 (λ first at_first e2.
-    from_bind (behind (codes ",") first.2) _ read e2 (λ rest at_rest e3.
+    from_bind (rest_behind (codes ",") first.2) _ read e2 (λ rest at_rest e3.
     let v = takes nodes bytes first at_first in
     let whole : bytes ≡ literal_text v.tree ++ 44 ∷ rest = v.text ∙ ap (λ (x : List ℕ). literal_text v.tree ++ x) (behind_takes (codes ",") first.2 rest at_rest) in
     subst (λ (x : List ℕ). Takes (suc levels) nodes (40 ∷ x) read) (sym whole) (tuple_rest_takes levels piece takes nodes v.tree v.is first.0 first.1 rest read v.nodes_are v.form_is e3))))
 
-list_takes : (levels : ℕ) (piece : Piece) → PieceTakes levels piece → (nodes : List Node) (bytes : List ℕ) (read : List Node × Form × List ℕ)
+list_takes : (levels : ℕ) (piece : ReadPiece) → PieceTakes levels piece → (nodes : List Node) (bytes : List ℕ) (read : List Node × Form × List ℕ)
     → list_at piece nodes bytes ≡ Some read → Takes (suc levels) nodes (91 ∷ bytes) read
 unfolding list_at
 list_takes levels piece takes nodes bytes read e =
-    from_if (behind (codes "]") bytes) (λ rest. Some (nodes ++ kinds.List [] ∷ [], plain_form, rest)) _ read e
+    from_if (rest_behind (codes "]") bytes) (λ rest. Some (nodes ++ kinds.List [] ∷ [], plain_form, rest)) _ read e
     (λ rest at e1.
     subst (Takes (suc levels) nodes (91 ∷ bytes)) (same_Some (nodes ++ kinds.List [] ∷ [], plain_form, rest) read e1)
     (record { tree = list no_values; is = tt; text = ap (λ (x : List ℕ). 91 ∷ x) (behind_takes (codes "]") bytes rest at); nodes_are = refl; form_is = refl }))
     (λ e1.
     from_bind (item_at piece nodes [] bytes) _ read e1 (λ first at_first e2.
-    from_bind (items_at piece first.0 first.1 first.2) _ read e2 (λ more at_more e3.
-    from_bind (behind (codes "]") more.2) _ read e3 (λ rest at_rest e4.
+    from_bind (values_at piece first.0 first.1 first.2) _ read e2 (λ more at_more e3.
+    from_bind (rest_behind (codes "]") more.2) _ read e3 (λ rest at_rest e4.
     let v = item_takes levels piece takes nodes [] bytes first at_first in
     let m = items_take levels piece takes first.0 first.1 first.2 more at_more in
     let items_are : more.1 ≡ named_values nodes (value v.tree m.trees) =
@@ -312,18 +312,18 @@ list_takes levels piece takes nodes bytes read e =
       form_is = refl;
     })))))
 
-dict_takes : (levels : ℕ) (piece : Piece) → PieceTakes levels piece → (nodes : List Node) (bytes : List ℕ) (read : List Node × Form × List ℕ)
+dict_takes : (levels : ℕ) (piece : ReadPiece) → PieceTakes levels piece → (nodes : List Node) (bytes : List ℕ) (read : List Node × Form × List ℕ)
     → dict_at piece nodes bytes ≡ Some read → Takes (suc levels) nodes (123 ∷ bytes) read
 unfolding dict_at
 dict_takes levels piece takes nodes bytes read e =
-    from_if (behind (codes "}") bytes) (λ rest. Some (nodes ++ kinds.Dict [] ∷ [], plain_form, rest)) _ read e
+    from_if (rest_behind (codes "}") bytes) (λ rest. Some (nodes ++ kinds.Dict [] ∷ [], plain_form, rest)) _ read e
     (λ rest at e1.
     subst (Takes (suc levels) nodes (123 ∷ bytes)) (same_Some (nodes ++ kinds.Dict [] ∷ [], plain_form, rest) read e1)
     (record { tree = dict no_pairs; is = tt; text = ap (λ (x : List ℕ). 123 ∷ x) (behind_takes (codes "}") bytes rest at); nodes_are = refl; form_is = refl }))
     (λ e1.
     from_bind (pair_at piece nodes [] bytes) _ read e1 (λ first at_first e2.
     from_bind (pairs_at piece first.0 first.1 first.2) _ read e2 (λ more at_more e3.
-    from_bind (behind (codes "}") more.2) _ read e3 (λ rest at_rest e4.
+    from_bind (rest_behind (codes "}") more.2) _ read e3 (λ rest at_rest e4.
     let v = pair_takes levels piece takes nodes [] bytes first at_first in
     let m = pairs_take levels piece takes first.0 first.1 first.2 more at_more in
     let items_are : more.1 ≡ named_pairs nodes (pair v.key v.held m.trees) =
@@ -344,12 +344,12 @@ pub long_reference : (short : Option (List ℕ)) (literal : List ℕ) → is_som
 long_reference (Some s) literal e = absurd cc
 long_reference None literal e = refl
 
-reference_takes : (levels : ℕ) (piece : Piece) → PieceTakes levels piece → (nodes : List Node) (bytes : List ℕ) (read : List Node × Form × List ℕ)
+reference_takes : (levels : ℕ) (piece : ReadPiece) → PieceTakes levels piece → (nodes : List Node) (bytes : List ℕ) (read : List Node × Form × List ℕ)
     → reference_at piece nodes bytes ≡ Some read → Takes (suc levels) nodes (codes "ref(" ++ bytes) read
 unfolding reference_at
 reference_takes levels piece takes nodes bytes read e =
     from_bind (piece nodes bytes) _ read e (λ id at_id e1.
-    from_bind (behind (codes ")") id.2) _ read e1 (λ rest at_rest e2.
+    from_bind (rest_behind (codes ")") id.2) _ read e1 (λ rest at_rest e2.
     let p = cond_false id.1.short _ read e2 in
     let v = takes nodes bytes id at_id in
     let long : is_some (short_of v.tree) ≡ false = sym (ap (λ (x : Form). x.short) v.form_is) ∙ p.0 in
@@ -368,7 +368,7 @@ reference_takes levels piece takes nodes bytes read e =
 oid_node : (oid : List ℕ) → eqb (length oid) 8 ≡ true → leaf_oid (kinds.Bytes oid) ≡ Some oid
 oid_node oid e = rw e refl
 
-pub oid_leaf : (oid : List ℕ) → AreBytes oid → eqb (length oid) 8 ≡ true → IsLeaf (kinds.Bytes oid)
+pub oid_leaf : (oid : List ℕ) → AreAllSmall oid → eqb (length oid) 8 ≡ true → IsLeaf (kinds.Bytes oid)
 oid_leaf oid are e = (are, omega (arith, eqb-true (length oid) 8 e))
 
 pub address_text : (oid : List ℕ) → eqb (length oid) 8 ≡ true → literal_text (reference (leaf (kinds.Bytes oid))) ≡ 64 ∷ hex_text oid
@@ -395,7 +395,7 @@ address_takes levels nodes bytes read e =
     from_bind (counted_at is_float_size bytes) _ read e (λ oid at_oid e1.
     let t = counted_takes is_float_size bytes oid at_oid in
     let is_oid = oid_leaf oid.0 t.are t.size in
-    from_if (behind (codes "<") oid.1) _ _ read e1
+    from_if (rest_behind (codes "<") oid.1) _ _ read e1
     (λ rest at_rest e2.
     let p = cond_false (ltb levels 2) _ read e2 in
     from_bind (global_at rest) _ read p.1 (λ class at_class e3.
@@ -421,20 +421,20 @@ address_takes levels nodes bytes read e =
       form_is = refl;
     })))
 
-shape_takes : (levels : ℕ) (piece : Piece) → PieceTakes levels piece → (nodes : List Node) (bytes : List ℕ) (read : List Node × Form × List ℕ)
+shape_takes : (levels : ℕ) (piece : ReadPiece) → PieceTakes levels piece → (nodes : List Node) (bytes : List ℕ) (read : List Node × Form × List ℕ)
     → shape_at levels piece nodes bytes ≡ Some read → Takes (suc levels) nodes bytes read
 unfolding shape_at
 shape_takes levels piece takes nodes bytes read e =
     let goal : List ℕ → Type 0 = λ x. Takes (suc levels) nodes x read in
-    from_if (behind (codes "(") bytes) (tuple_at piece nodes) _ read e
+    from_if (rest_behind (codes "(") bytes) (tuple_at piece nodes) _ read e
     (λ rest at e1. subst goal (sym (behind_takes (codes "(") bytes rest at)) (tuple_takes levels piece takes nodes rest read e1)) (λ e1.
-    from_if (behind (codes "[") bytes) (list_at piece nodes) _ read e1
+    from_if (rest_behind (codes "[") bytes) (list_at piece nodes) _ read e1
     (λ rest at e2. subst goal (sym (behind_takes (codes "[") bytes rest at)) (list_takes levels piece takes nodes rest read e2)) (λ e2.
-    from_if (behind (codes "{") bytes) (dict_at piece nodes) _ read e2
+    from_if (rest_behind (codes "{") bytes) (dict_at piece nodes) _ read e2
     (λ rest at e3. subst goal (sym (behind_takes (codes "{") bytes rest at)) (dict_takes levels piece takes nodes rest read e3)) (λ e3.
-    from_if (behind (codes "ref(") bytes) (reference_at piece nodes) _ read e3
+    from_if (rest_behind (codes "ref(") bytes) (reference_at piece nodes) _ read e3
     (λ rest at e4. subst goal (sym (behind_takes (codes "ref(") bytes rest at)) (reference_takes levels piece takes nodes rest read e4)) (λ e4.
-    from_if (behind (codes "@") bytes) (address_at levels nodes) (leaf_found nodes bytes) read e4
+    from_if (rest_behind (codes "@") bytes) (address_at levels nodes) (leaf_found nodes bytes) read e4
     (λ rest at e5. subst goal (sym (behind_takes (codes "@") bytes rest at)) (address_takes levels nodes rest read e5)) (λ e5.
     found_takes levels nodes bytes read e5)))))
 

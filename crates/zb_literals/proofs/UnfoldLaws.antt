@@ -6,7 +6,7 @@ use Rattle.pickle_value.specs.declared.node.Node.{Node}
 use Rattle.pickle_value.specs.declared.node.Node.TheVariants as kinds
 use Rattle.zb_literals.specs.Values.{Value, leaf, tuple, list, dict, reference, Values, no_values, value, Pairs, no_pairs, pair, IsLeaf, IsValue, AreValues, ArePairs}
 use Rattle.zb_literals.specs.Graphs.{last_of, with_value, with_values, with_pairs, named_values, named_pairs}
-use Rattle.zb_literals.specs.Plain.{values_of, pairs_of, node_tree, tree_of}
+use Rattle.zb_literals.specs.Plain.{values_of, pairs_in_tree, node_tree, tree_of}
 use Rattle.zb_literals.proofs.GraphLaws.{Grows, value_grows, values_grow, pairs_grow, grows_all, node_at}
 
 at_node : (levels : ℕ) (ns : List Node) (m : ℕ) (o : Option Node) (v : Value) → slice_get ns m ≡ o → node_tree (tree_of levels ns) o ≡ Some v → tree_of (suc levels) ns m ≡ Some v
@@ -39,7 +39,7 @@ in_grown levels xs all more m v g h = ap (λ (ns : List Node). tree_of levels ns
 values_more : (piece : ℕ → Option Value) (m : ℕ) (items : List ℕ) (v : Value) (vs : Values) → piece m ≡ Some v → values_of piece items ≡ Some vs → values_of piece (m ∷ items) ≡ Some (value v vs)
 values_more piece m items v vs e h = rw (e, h) refl
 
-pairs_more : (piece : ℕ → Option Value) (m n : ℕ) (items : List (ℕ × ℕ)) (k v : Value) (ps : Pairs) → piece m ≡ Some k → piece n ≡ Some v → pairs_of piece items ≡ Some ps → pairs_of piece ((m, n) ∷ items) ≡ Some (pair k v ps)
+pairs_more : (piece : ℕ → Option Value) (m n : ℕ) (items : List (ℕ × ℕ)) (k v : Value) (ps : Pairs) → piece m ≡ Some k → piece n ≡ Some v → pairs_in_tree piece items ≡ Some ps → pairs_in_tree piece ((m, n) ∷ items) ≡ Some (pair k v ps)
 pairs_more piece m n items k v ps e f h = rw (e, f, h) refl
 
 mutual
@@ -57,7 +57,7 @@ mutual
   value_unfolds (dict ps) (suc levels) nodes more is =
       let x : Node = kinds.Dict (named_pairs nodes ps) in
       at_node levels _ _ (Some x) (dict ps) (node_at (with_pairs nodes ps) more x)
-      (ap (λ (o : Option Pairs). o >>= λ ws. Some (dict ws)) (regroup (λ ns. pairs_of (tree_of levels ns) (named_pairs nodes ps)) (with_pairs nodes ps) more x (Some ps) (pairs_unfold ps levels nodes (x ∷ more) is)))
+      (ap (λ (o : Option Pairs). o >>= λ ws. Some (dict ws)) (regroup (λ ns. pairs_in_tree (tree_of levels ns) (named_pairs nodes ps)) (with_pairs nodes ps) more x (Some ps) (pairs_unfold ps levels nodes (x ∷ more) is)))
   value_unfolds (reference v) (suc levels) nodes more is =
       let x : Node = kinds.Reference (last_of (with_value nodes v)) in
       at_node levels _ _ (Some x) (reference v) (node_at (with_value nodes v) more x)
@@ -71,7 +71,7 @@ mutual
       (in_grown levels (with_value nodes v) (with_values (with_value nodes v) vs) more (last_of (with_value nodes v)) v g (value_unfolds v levels nodes (g.more ++ more) are.0))
       (values_unfold vs levels (with_value nodes v) more are.1)
 
-  pairs_unfold : (ps : Pairs) (levels : ℕ) (nodes more : List Node) → ArePairs levels ps → pairs_of (tree_of levels (with_pairs nodes ps ++ more)) (named_pairs nodes ps) ≡ Some ps
+  pairs_unfold : (ps : Pairs) (levels : ℕ) (nodes more : List Node) → ArePairs levels ps → pairs_in_tree (tree_of levels (with_pairs nodes ps ++ more)) (named_pairs nodes ps) ≡ Some ps
   pairs_unfold no_pairs levels nodes more are = refl
   pairs_unfold (pair k v ps) levels nodes more are =
       let held = with_value (with_value nodes k) v in

@@ -7,7 +7,7 @@ use Rattle.pickle_value.specs.declared.node.Node.TheVariants as kinds
 use Rattle.pickle_value.specs.declared.depth.TheConstants.{WALK_LIMIT}
 use Rattle.pickle_value.specs.Graph.{Graph, AreNodes}
 use Rattle.pickle_value.specs.Putting.{puts_of}
-use Rattle.zb_literals.specs.Values.{Value, leaf, tuple, list, dict, reference, Values, no_values, value, Pairs, no_pairs, pair, AreBytes, IsValue, literal_text}
+use Rattle.zb_literals.specs.Values.{Value, leaf, tuple, list, dict, reference, Values, no_values, value, Pairs, no_pairs, pair, AreAllSmall, IsValue, literal_text}
 use Rattle.zb_literals.specs.Graphs.{graph_of}
 use Rattle.zb_literals.specs.Printing.{literal_of}
 
@@ -15,15 +15,15 @@ abbrev pub values_of : (ℕ → Option Value) → List ℕ → Option Values
 values_of piece [] = Some no_values
 values_of piece (x ∷ xs) = piece x >>= λ v. values_of piece xs >>= λ vs. Some (value v vs)
 
-abbrev pub pairs_of : (ℕ → Option Value) → List (ℕ × ℕ) → Option Pairs
-pairs_of piece [] = Some no_pairs
-pairs_of piece (x ∷ xs) = piece x.0 >>= λ k. piece x.1 >>= λ v. pairs_of piece xs >>= λ ps. Some (pair k v ps)
+abbrev pub pairs_in_tree : (ℕ → Option Value) → List (ℕ × ℕ) → Option Pairs
+pairs_in_tree piece [] = Some no_pairs
+pairs_in_tree piece (x ∷ xs) = piece x.0 >>= λ k. piece x.1 >>= λ v. pairs_in_tree piece xs >>= λ ps. Some (pair k v ps)
 
 abbrev pub node_tree : (ℕ → Option Value) → Option Node → Option Value
 node_tree piece None = None
 node_tree piece (Some (kinds.Tuple items)) = values_of piece items >>= λ vs. Some (tuple vs)
 node_tree piece (Some (kinds.List items)) = values_of piece items >>= λ vs. Some (list vs)
-node_tree piece (Some (kinds.Dict items)) = pairs_of piece items >>= λ ps. Some (dict ps)
+node_tree piece (Some (kinds.Dict items)) = pairs_in_tree piece items >>= λ ps. Some (dict ps)
 node_tree piece (Some (kinds.Reference id)) = piece id >>= λ v. Some (reference v)
 node_tree piece (Some (kinds.Object callee arguments by_new acts)) = None
 node_tree piece (Some x) = Some (leaf x)
@@ -35,11 +35,11 @@ tree_of (suc levels) ns m = node_tree (tree_of levels ns) (slice_get ns m)
 
 -- The bytes that nodes hold are bytes, as they are in every graph that a program holds.
 abbrev pub HoldsBytes : Node → Type 0
-HoldsBytes (kinds.Wide bytes) = AreBytes bytes
-HoldsBytes (kinds.Float bytes) = AreBytes bytes
-HoldsBytes (kinds.Bytes bytes) = AreBytes bytes
-HoldsBytes (kinds.OldText bytes) = AreBytes bytes
-HoldsBytes (kinds.Global module_line name_line) = AreBytes module_line × AreBytes name_line
+HoldsBytes (kinds.Wide bytes) = AreAllSmall bytes
+HoldsBytes (kinds.Float bytes) = AreAllSmall bytes
+HoldsBytes (kinds.Bytes bytes) = AreAllSmall bytes
+HoldsBytes (kinds.OldText bytes) = AreAllSmall bytes
+HoldsBytes (kinds.Global module_line name_line) = AreAllSmall module_line × AreAllSmall name_line
 HoldsBytes _ = Unit {0}
 
 -- a graph that unfolds into a tree and in which the writer puts nothing

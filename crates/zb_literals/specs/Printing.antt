@@ -47,33 +47,33 @@ abbrev pub more_pair_parts : List (ℕ × ℕ) → List Part
 more_pair_parts [] = []
 more_pair_parts (x ∷ pairs) = Byte 44 ∷ Item x.0 ∷ Byte 58 ∷ Item x.1 ∷ more_pair_parts pairs
 
-abbrev pub tuple_parts : List ℕ → List Part
-tuple_parts [] = Byte 40 ∷ Byte 41 ∷ []
-tuple_parts (a ∷ []) = Byte 40 ∷ Item a ∷ Byte 44 ∷ Byte 41 ∷ []
-tuple_parts (a ∷ b ∷ items) = Byte 40 ∷ Item a ∷ (more_parts (b ∷ items) ++ Byte 41 ∷ [])
+abbrev pub tuple_marks : List ℕ → List Part
+tuple_marks [] = Byte 40 ∷ Byte 41 ∷ []
+tuple_marks (a ∷ []) = Byte 40 ∷ Item a ∷ Byte 44 ∷ Byte 41 ∷ []
+tuple_marks (a ∷ b ∷ items) = Byte 40 ∷ Item a ∷ (more_parts (b ∷ items) ++ Byte 41 ∷ [])
 
-abbrev pub list_parts : List ℕ → List Part
-list_parts [] = Byte 91 ∷ Byte 93 ∷ []
-list_parts (a ∷ items) = Byte 91 ∷ Item a ∷ (more_parts items ++ Byte 93 ∷ [])
+abbrev pub list_marks : List ℕ → List Part
+list_marks [] = Byte 91 ∷ Byte 93 ∷ []
+list_marks (a ∷ items) = Byte 91 ∷ Item a ∷ (more_parts items ++ Byte 93 ∷ [])
 
-abbrev pub dict_parts : List (ℕ × ℕ) → List Part
-dict_parts [] = Byte 123 ∷ Byte 125 ∷ []
-dict_parts (x ∷ pairs) = Byte 123 ∷ Item x.0 ∷ Byte 58 ∷ Item x.1 ∷ (more_pair_parts pairs ++ Byte 125 ∷ [])
+abbrev pub dict_marks : List (ℕ × ℕ) → List Part
+dict_marks [] = Byte 123 ∷ Byte 125 ∷ []
+dict_marks (x ∷ pairs) = Byte 123 ∷ Item x.0 ∷ Byte 58 ∷ Item x.1 ∷ (more_pair_parts pairs ++ Byte 125 ∷ [])
 
 -- `+v`, `+{k:v}` or `+build(v)`
-abbrev pub act_parts : List Act → List Part
-act_parts [] = []
-act_parts (Append v ∷ acts) = Byte 43 ∷ Item v ∷ act_parts acts
-act_parts (Set k v ∷ acts) = Byte 43 ∷ Byte 123 ∷ Item k ∷ Byte 58 ∷ Item v ∷ Byte 125 ∷ act_parts acts
-act_parts (Build v ∷ acts) = bytes_parts (codes "+build(") ++ (Item v ∷ Byte 41 ∷ act_parts acts)
+abbrev pub act_marks : List Act → List Part
+act_marks [] = []
+act_marks (Append v ∷ acts) = Byte 43 ∷ Item v ∷ act_marks acts
+act_marks (Set k v ∷ acts) = Byte 43 ∷ Byte 123 ∷ Item k ∷ Byte 58 ∷ Item v ∷ Byte 125 ∷ act_marks acts
+act_marks (Build v ∷ acts) = bytes_parts (codes "+build(") ++ (Item v ∷ Byte 41 ∷ act_marks acts)
 
 abbrev pub made_text : Bool → List ℕ
 made_text by_new = if by_new then codes "[[new(" else codes "[[call("
 
 -- `[[call(f,args)` or `[[new(f,args)`, the acts, and `]]`
-abbrev pub object_parts : ℕ → ℕ → Bool → List Act → List Part
-object_parts callee arguments by_new acts =
-    bytes_parts (made_text by_new) ++ (Item callee ∷ Byte 44 ∷ Item arguments ∷ Byte 41 ∷ (act_parts acts ++ Byte 93 ∷ Byte 93 ∷ []))
+abbrev pub object_marks : ℕ → ℕ → Bool → List Act → List Part
+object_marks callee arguments by_new acts =
+    bytes_parts (made_text by_new) ++ (Item callee ∷ Byte 44 ∷ Item arguments ∷ Byte 41 ∷ (act_marks acts ++ Byte 93 ∷ Byte 93 ∷ []))
 
 abbrev pub oid_at : Option Node → Option (List ℕ)
 oid_at None = None
@@ -83,13 +83,13 @@ abbrev pub class_at : Option Node → Option (List ℕ)
 class_at None = None
 class_at (Some x) = leaf_global x
 
-abbrev pub joined : Option (List ℕ) → Option (List ℕ) → Option (List ℕ)
-joined (Some one) (Some other) = Some (one ++ other)
-joined _ _ = None
+abbrev pub both_texts : Option (List ℕ) → Option (List ℕ) → Option (List ℕ)
+both_texts (Some one) (Some other) = Some (one ++ other)
+both_texts _ _ = None
 
 -- what stands behind `@` for an id: an oid's digits; and a global behind them for a tuple of both that isn't put
 abbrev pub pair_short : List Node → Option ℕ → List ℕ → Option (List ℕ)
-pair_short ns None (a ∷ b ∷ []) = joined (digits_of (oid_at (slice_get ns a))) (class_at (slice_get ns b))
+pair_short ns None (a ∷ b ∷ []) = both_texts (digits_of (oid_at (slice_get ns a))) (class_at (slice_get ns b))
 pair_short ns _ _ = None
 
 abbrev pub id_short : List Node → Option ℕ → Option Node → Option (List ℕ)
@@ -103,11 +103,11 @@ reference_parts None id = bytes_parts (codes "ref(") ++ (Item id ∷ Byte 41 ∷
 
 -- the parts of a node with items; the puts are the nodes that the writer puts, the newest first
 abbrev pub literal_parts : List Node → List ℕ → Node → List Part
-literal_parts ns puts (kinds.Tuple items) = tuple_parts items
-literal_parts ns puts (kinds.List items) = list_parts items
-literal_parts ns puts (kinds.Dict pairs) = dict_parts pairs
+literal_parts ns puts (kinds.Tuple items) = tuple_marks items
+literal_parts ns puts (kinds.List items) = list_marks items
+literal_parts ns puts (kinds.Dict pairs) = dict_marks pairs
 literal_parts ns puts (kinds.Reference id) = reference_parts (id_short ns (put_number id puts) (slice_get ns id)) id
-literal_parts ns puts (kinds.Object callee arguments by_new acts) = object_parts callee arguments by_new acts
+literal_parts ns puts (kinds.Object callee arguments by_new acts) = object_marks callee arguments by_new acts
 literal_parts ns puts _ = []
 
 -- ---- nodes
@@ -117,35 +117,35 @@ pub record Printed : Type 0 where
   pub text : List ℕ
   pub stood : List (ℕ × ℕ)
 
-abbrev pub followed : Printed → Printed → Printed
-followed one next = record { text = one.text ++ next.text; stood = next.stood }
+abbrev pub printed_behind : Printed → Printed → Printed
+printed_behind one next = record { text = one.text ++ next.text; stood = next.stood }
 
 abbrev pub only : List ℕ → List (ℕ × ℕ) → Printed
 only text stood = record { text = text; stood = stood }
 
 abbrev pub parts_print : (ℕ → List (ℕ × ℕ) → Printed) → List Part → List (ℕ × ℕ) → Printed
 parts_print piece [] stood = only [] stood
-parts_print piece (Byte b ∷ parts) stood = followed (only (b ∷ []) stood) (parts_print piece parts stood)
-parts_print piece (Item m ∷ parts) stood = followed (piece m stood) (parts_print piece parts (piece m stood).stood)
+parts_print piece (Byte b ∷ parts) stood = printed_behind (only (b ∷ []) stood) (parts_print piece parts stood)
+parts_print piece (Item m ∷ parts) stood = printed_behind (piece m stood) (parts_print piece parts (piece m stood).stood)
 
 -- a node that isn't put stands by its parts; one that is has a mark before them at its first place
 abbrev pub first_print : Option ℕ → ℕ → List (ℕ × ℕ) → (List (ℕ × ℕ) → Printed) → Printed
 first_print None m stood whole = whole stood
-first_print (Some k) m stood whole = followed (only (38 ∷ (decimal k ++ 61 ∷ [])) stood) (whole ((m, k) ∷ stood))
+first_print (Some k) m stood whole = printed_behind (only (38 ∷ (decimal k ++ 61 ∷ [])) stood) (whole ((m, k) ∷ stood))
 
 -- and its number alone later
 abbrev pub marked_print : Option ℕ → Option ℕ → ℕ → List (ℕ × ℕ) → (List (ℕ × ℕ) → Printed) → Printed
 marked_print (Some k) put m stood whole = only (42 ∷ decimal k) stood
 marked_print None put m stood whole = first_print put m stood whole
 
-abbrev pub leaf_or : Option (List ℕ) → List (ℕ × ℕ) → Printed → Printed
-leaf_or (Some text) stood other = only text stood
-leaf_or None stood other = other
+abbrev pub leaf_or_item : Option (List ℕ) → List (ℕ × ℕ) → Printed → Printed
+leaf_or_item (Some text) stood other = only text stood
+leaf_or_item None stood other = other
 
 abbrev pub node_print : List Node → List ℕ → (ℕ → List (ℕ × ℕ) → Printed) → ℕ → List (ℕ × ℕ) → Option Node → Printed
 node_print ns puts piece m stood None = only [] stood
 node_print ns puts piece m stood (Some x) =
-    leaf_or (leaf_print x) stood (marked_print (number_of m stood) (put_number m puts) m stood (parts_print piece (literal_parts ns puts x)))
+    leaf_or_item (leaf_print x) stood (marked_print (number_of m stood) (put_number m puts) m stood (parts_print piece (literal_parts ns puts x)))
 
 -- the literal of a node from which each walk has fewer edges than there are levels
 unfoldable pub print_of : ℕ → List Node → List ℕ → ℕ → List (ℕ × ℕ) → Printed

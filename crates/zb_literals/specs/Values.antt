@@ -32,17 +32,17 @@ abbrev pub leaf_oid : Node → Option (List ℕ)
 leaf_oid (kinds.Bytes bytes) = if length bytes == 8 then Some bytes else None
 leaf_oid _ = None
 
-abbrev pub oid_of : Value → Option (List ℕ)
-oid_of (leaf node) = leaf_oid node
-oid_of _ = None
+abbrev pub oid_of_value : Value → Option (List ℕ)
+oid_of_value (leaf node) = leaf_oid node
+oid_of_value _ = None
 
 abbrev pub leaf_global : Node → Option (List ℕ)
 leaf_global (kinds.Global module_line name_line) = Some (global_text module_line name_line)
 leaf_global _ = None
 
-abbrev pub global_of : Value → Option (List ℕ)
-global_of (leaf node) = leaf_global node
-global_of _ = None
+abbrev pub global_of_value : Value → Option (List ℕ)
+global_of_value (leaf node) = leaf_global node
+global_of_value _ = None
 
 -- an oid's digits, and the text of a global
 abbrev pub with_global : Option (List ℕ) → Option (List ℕ) → Option (List ℕ)
@@ -54,7 +54,7 @@ digits_of (Some oid) = Some (hex_text oid)
 digits_of None = None
 
 abbrev pub values_short : Values → Option (List ℕ)
-values_short (value oid (value class no_values)) = with_global (oid_of oid) (global_of class)
+values_short (value oid (value class no_values)) = with_global (oid_of_value oid) (global_of_value class)
 values_short _ = None
 
 -- what stands behind `@` for an oid, and for a tuple of an oid and a global; other ids have no such form
@@ -94,20 +94,20 @@ abbrev mutual
 
 -- ---- which values there are
 
-abbrev pub AreBytes : List ℕ → Type 0
-AreBytes bytes = AllByRecursion (λ b. b < 256) bytes
+abbrev pub AreAllSmall : List ℕ → Type 0
+AreAllSmall bytes = AllByRecursion (λ b. b < 256) bytes
 
 -- a node without items holds what its kind says
 abbrev pub IsLeaf : Node → Type 0
 IsLeaf kinds.None = Unit {0}
 IsLeaf (kinds.Bool b) = Unit {0}
 IsLeaf (kinds.Number number) = IsSigned128 number
-IsLeaf (kinds.Wide bytes) = AreBytes bytes × IsWide bytes
-IsLeaf (kinds.Float bytes) = AreBytes bytes × (length bytes ≡ 8)
-IsLeaf (kinds.Bytes bytes) = AreBytes bytes × (length bytes < 2 ^ 32)
-IsLeaf (kinds.OldText bytes) = AreBytes bytes × (length bytes < 2 ^ 31)
+IsLeaf (kinds.Wide bytes) = AreAllSmall bytes × IsWide bytes
+IsLeaf (kinds.Float bytes) = AreAllSmall bytes × (length bytes ≡ 8)
+IsLeaf (kinds.Bytes bytes) = AreAllSmall bytes × (length bytes < 2 ^ 32)
+IsLeaf (kinds.OldText bytes) = AreAllSmall bytes × (length bytes < 2 ^ 31)
 IsLeaf (kinds.Text bytes) = IsShortText bytes
-IsLeaf (kinds.Global module_line name_line) = AreBytes module_line × AreBytes name_line × IsGlobal module_line name_line
+IsLeaf (kinds.Global module_line name_line) = AreAllSmall module_line × AreAllSmall name_line × IsGlobal module_line name_line
 IsLeaf _ = ⊥
 
 -- a value from which each walk has fewer edges than there are levels, and whose leaves hold what their kinds say

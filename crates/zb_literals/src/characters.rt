@@ -5,7 +5,7 @@ ghost use Rattle.zb_ids.specs.Hex.{digit_value};
 ghost use Rattle.std.specs.Char.{encode_utf8};
 ghost use Rattle.std.specs.Char.Escape.{escape_unicode};
 ghost use Rattle.zb_literals.specs.Texts;
-ghost use Rattle.zb_literals.specs.Reading.{Gives, byte_pair_at, character_at, characters_at, code_at, escape_at, name_at, name_byte_at, name_byte_plain, plain_at, quoted_at, line_at};
+ghost use Rattle.zb_literals.specs.Reading.{ReadsLiteral, byte_pair_at, character_at, characters_at, code_at, escape_at, name_bytes_at, name_byte_at, name_byte_plain, plain_at, quoted_at, name_line_at};
 
 use crate::error::LiteralError;
 use crate::texts::{is_plain, is_quoted, push_escape};
@@ -15,7 +15,7 @@ use zb_ids::{Text8, read_hex_pair};
 
 /// The value of a hexadecimal digit.
 fn digit_of(digit: u8) -> Result<u32, LiteralError>
-    ensures value { Gives (λ value. value) result (digit_value digit) }
+    ensures value { ReadsLiteral (λ value. value) result (digit_value digit) }
     ensures small { IfOk result (λ value. value < 16) }
 {
     match digit {
@@ -27,7 +27,7 @@ fn digit_of(digit: u8) -> Result<u32, LiteralError>
 
 /// The number that digits spell, up to `}`.
 fn code_of(bytes: &[u8]) -> Result<u32, LiteralError>
-    ensures { Gives (λ code. code) result (code_at 0 bytes.now) }
+    ensures { ReadsLiteral (λ code. code) result (code_at 0 bytes.now) }
 {
     let mut code = 0;
     for byte in bytes {
@@ -59,7 +59,7 @@ fn escape_of<'a>(
     bytes: &'a [u8],
     digits: &[u8],
 ) -> Result<(char, &'a [u8]), LiteralError>
-    ensures { Gives (λ x. (x.0, x.1.now)) result (escape_at bytes.now digits.now) }
+    ensures { ReadsLiteral (λ x. (x.0, x.1.now)) result (escape_at bytes.now digits.now) }
 {
     let code = code_of(digits)?;
     let Some(c) = char::from_u32(code) else {
@@ -76,7 +76,7 @@ fn escape_of<'a>(
 /// A quote or a backslash.
 #[tactic(auto, unfolding(crate::specs::Reading::quoted_at))]
 fn quoted_of(bytes: &[u8]) -> Result<(char, &[u8]), LiteralError>
-    ensures { Gives (λ x. (x.0, x.1.now)) result (quoted_at bytes.now) }
+    ensures { ReadsLiteral (λ x. (x.0, x.1.now)) result (quoted_at bytes.now) }
 {
     let (byte, rest) = one_of(bytes)?;
     let c = byte as char;
@@ -89,7 +89,7 @@ fn quoted_of(bytes: &[u8]) -> Result<(char, &[u8]), LiteralError>
 /// A character that stands for itself.
 #[tactic(auto, unfolding(crate::specs::Reading::plain_at))]
 fn plain_of(bytes: &[u8]) -> Result<(char, &[u8]), LiteralError>
-    ensures { Gives (λ x. (x.0, x.1.now)) result (plain_at bytes.now) }
+    ensures { ReadsLiteral (λ x. (x.0, x.1.now)) result (plain_at bytes.now) }
 {
     let (byte, rest) = one_of(bytes)?;
     let c = byte as char;
@@ -100,9 +100,9 @@ fn plain_of(bytes: &[u8]) -> Result<(char, &[u8]), LiteralError>
 }
 
 /// A character within quotes.
-#[tactic(auto, unfolding(crate::specs::Reading::character_at, crate::specs::Reading::behind))]
+#[tactic(auto, unfolding(crate::specs::Reading::character_at, crate::specs::Reading::rest_behind))]
 fn character_of(alloc: Global, bytes: &[u8]) -> Result<(char, &[u8]), LiteralError>
-    ensures { Gives (λ x. (x.0, x.1.now)) result (character_at bytes.now) }
+    ensures { ReadsLiteral (λ x. (x.0, x.1.now)) result (character_at bytes.now) }
 {
     if let Some(digits) = bytes.strip_prefix(b"\\u{") {
         return escape_of(alloc, bytes, digits);
@@ -126,7 +126,7 @@ pub(crate) fn is_name_byte(byte: u8) -> bool
 /// A byte that doesn't stand for itself, by its two digits.
 #[tactic(auto, unfolding(crate::specs::Reading::byte_pair_at))]
 fn byte_pair_of(bytes: &[u8]) -> Result<(u8, &[u8]), LiteralError>
-    ensures { Gives (λ x. (x.0, x.1.now)) result (byte_pair_at bytes.now) }
+    ensures { ReadsLiteral (λ x. (x.0, x.1.now)) result (byte_pair_at bytes.now) }
 {
     let (high, rest) = one_of(bytes)?;
     let (low, rest) = one_of(rest)?;
@@ -142,7 +142,7 @@ fn byte_pair_of(bytes: &[u8]) -> Result<(u8, &[u8]), LiteralError>
 /// A byte that stands for itself.
 #[tactic(auto, unfolding(crate::specs::Reading::name_byte_plain))]
 fn byte_plain_of(bytes: &[u8]) -> Result<(u8, &[u8]), LiteralError>
-    ensures { Gives (λ x. (x.0, x.1.now)) result (name_byte_plain bytes.now) }
+    ensures { ReadsLiteral (λ x. (x.0, x.1.now)) result (name_byte_plain bytes.now) }
 {
     let (byte, rest) = one_of(bytes)?;
     if !is_name_byte(byte) {
@@ -152,9 +152,9 @@ fn byte_plain_of(bytes: &[u8]) -> Result<(u8, &[u8]), LiteralError>
 }
 
 /// A byte of a module or a name.
-#[tactic(auto, unfolding(crate::specs::Reading::name_byte_at, crate::specs::Reading::behind))]
+#[tactic(auto, unfolding(crate::specs::Reading::name_byte_at, crate::specs::Reading::rest_behind))]
 fn name_byte_of(bytes: &[u8]) -> Result<(u8, &[u8]), LiteralError>
-    ensures { Gives (λ x. (x.0, x.1.now)) result (name_byte_at bytes.now) }
+    ensures { ReadsLiteral (λ x. (x.0, x.1.now)) result (name_byte_at bytes.now) }
 {
     if let Some(digits) = bytes.strip_prefix(b"\\x") {
         return byte_pair_of(digits);
@@ -174,7 +174,7 @@ fn push_char(mut text: Text8, c: char) -> Result<Text8, AllocError>
 
 /// The characters up to the closing quote, in UTF-8, and what stands behind it.
 pub(crate) fn characters_of(alloc: Global, bytes: &[u8]) -> Result<(Text8, &[u8]), LiteralError>
-    ensures { Gives (λ x. (x.0, x.1.now)) result (characters_at [] bytes.now) }
+    ensures { ReadsLiteral (λ x. (x.0, x.1.now)) result (characters_at [] bytes.now) }
 {
     let mut text = Text8::new(alloc);
     let mut rest = bytes;
@@ -190,7 +190,7 @@ pub(crate) fn characters_of(alloc: Global, bytes: &[u8]) -> Result<(Text8, &[u8]
 
 /// The bytes of a module or a name up to the one at which they stop, and what stands behind it.
 fn name_of(alloc: Global, stop: u8, bytes: &[u8]) -> Result<(Text8, &[u8]), LiteralError>
-    ensures { Gives (λ x. (x.0, x.1.now)) result (name_at stop [] bytes.now) }
+    ensures { ReadsLiteral (λ x. (x.0, x.1.now)) result (name_bytes_at stop [] bytes.now) }
 {
     let mut text = Text8::new(alloc);
     let mut rest = bytes;
@@ -205,9 +205,9 @@ fn name_of(alloc: Global, stop: u8, bytes: &[u8]) -> Result<(Text8, &[u8]), Lite
 }
 
 /// A module or a name up to the byte at which it stops, and what stands behind it.
-#[tactic(auto, unfolding(crate::specs::Reading::line_at))]
+#[tactic(auto, unfolding(crate::specs::Reading::name_line_at))]
 pub(crate) fn line_of(alloc: Global, stop: u8, bytes: &[u8]) -> Result<(Text8, &[u8]), LiteralError>
-    ensures { Gives (λ x. (x.0, x.1.now)) result (line_at stop bytes.now) }
+    ensures { ReadsLiteral (λ x. (x.0, x.1.now)) result (name_line_at stop bytes.now) }
 {
     let (line, rest) = name_of(alloc, stop, bytes)?;
     if !is_text(line.as_slice()) {

@@ -3,7 +3,7 @@
 ghost use Rattle.std.specs.Prelude.{◌≡◌, ℕ, Bool};
 ghost use Rattle.pickle_value.specs.declared.node.Node.TheVariants as kinds;
 ghost use Rattle.zb_literals.specs.Reading;
-ghost use Rattle.zb_literals.specs.Reading.{Gives, counted_at, held_as, text_at, global_at, constant_at, bytes_kind_at, leaf_at, is_wide_size, is_float_size, is_bytes_size, is_old_size, leaf_form};
+ghost use Rattle.zb_literals.specs.Reading.{ReadsLiteral, counted_at, held_as, text_at, global_at, constant_at, bytes_kind_at, leaf_at, is_wide_size, is_float_size, is_bytes_size, is_old_size, leaf_form};
 
 use crate::characters::{characters_of, line_of};
 use crate::error::LiteralError;
@@ -18,7 +18,7 @@ use zb_ids::Text8;
 /// many bytes there are.
 #[tactic(auto, unfolding(crate::specs::Reading::counted_at))]
 fn wide_of(alloc: Global, bytes: &[u8]) -> Result<(Text8, &[u8]), LiteralError>
-    ensures { Gives (λ x. (x.0, x.1.now)) result (counted_at is_wide_size bytes.now) }
+    ensures { ReadsLiteral (λ x. (x.0, x.1.now)) result (counted_at is_wide_size bytes.now) }
 {
     let (word, rest) = split_word(bytes);
     let held = bytes_of(alloc, word)?;
@@ -31,7 +31,7 @@ fn wide_of(alloc: Global, bytes: &[u8]) -> Result<(Text8, &[u8]), LiteralError>
 /// Eight bytes.
 #[tactic(auto, unfolding(crate::specs::Reading::counted_at))]
 pub(crate) fn eight_of(alloc: Global, bytes: &[u8]) -> Result<(Text8, &[u8]), LiteralError>
-    ensures { Gives (λ x. (x.0, x.1.now)) result (counted_at is_float_size bytes.now) }
+    ensures { ReadsLiteral (λ x. (x.0, x.1.now)) result (counted_at is_float_size bytes.now) }
 {
     let (word, rest) = split_word(bytes);
     let held = bytes_of(alloc, word)?;
@@ -44,7 +44,7 @@ pub(crate) fn eight_of(alloc: Global, bytes: &[u8]) -> Result<(Text8, &[u8]), Li
 /// Fewer than 2^32 bytes.
 #[tactic(auto, unfolding(crate::specs::Reading::counted_at))]
 fn many_of(alloc: Global, bytes: &[u8]) -> Result<(Text8, &[u8]), LiteralError>
-    ensures { Gives (λ x. (x.0, x.1.now)) result (counted_at is_bytes_size bytes.now) }
+    ensures { ReadsLiteral (λ x. (x.0, x.1.now)) result (counted_at is_bytes_size bytes.now) }
 {
     let (word, rest) = split_word(bytes);
     let held = bytes_of(alloc, word)?;
@@ -57,7 +57,7 @@ fn many_of(alloc: Global, bytes: &[u8]) -> Result<(Text8, &[u8]), LiteralError>
 /// Fewer than 2^31 bytes.
 #[tactic(auto, unfolding(crate::specs::Reading::counted_at))]
 fn old_of(alloc: Global, bytes: &[u8]) -> Result<(Text8, &[u8]), LiteralError>
-    ensures { Gives (λ x. (x.0, x.1.now)) result (counted_at is_old_size bytes.now) }
+    ensures { ReadsLiteral (λ x. (x.0, x.1.now)) result (counted_at is_old_size bytes.now) }
 {
     let (word, rest) = split_word(bytes);
     let held = bytes_of(alloc, word)?;
@@ -70,7 +70,7 @@ fn old_of(alloc: Global, bytes: &[u8]) -> Result<(Text8, &[u8]), LiteralError>
 /// A text, behind its first quote.
 #[tactic(auto, unfolding(crate::specs::Reading::text_at))]
 fn text_of(alloc: Global, bytes: &[u8]) -> Result<(Node, &[u8]), LiteralError>
-    ensures { Gives (λ x. (x.0, x.1.now)) result (text_at bytes.now) }
+    ensures { ReadsLiteral (λ x. (x.0, x.1.now)) result (text_at bytes.now) }
 {
     let (text, rest) = characters_of(alloc, bytes)?;
     if text.len() >= 0x1_0000_0000 {
@@ -82,7 +82,7 @@ fn text_of(alloc: Global, bytes: &[u8]) -> Result<(Node, &[u8]), LiteralError>
 /// A global, behind its `<`.
 #[tactic(auto, unfolding(crate::specs::Reading::global_at))]
 pub(crate) fn global_of(alloc: Global, bytes: &[u8]) -> Result<(Node, &[u8]), LiteralError>
-    ensures { Gives (λ x. (x.0, x.1.now)) result (global_at bytes.now) }
+    ensures { ReadsLiteral (λ x. (x.0, x.1.now)) result (global_at bytes.now) }
 {
     let (module, rest) = line_of(alloc, b':', bytes)?;
     let (name, rest) = line_of(alloc, b'>', rest)?;
@@ -90,9 +90,9 @@ pub(crate) fn global_of(alloc: Global, bytes: &[u8]) -> Result<(Node, &[u8]), Li
 }
 
 /// None, True or False.
-#[tactic(auto, unfolding(crate::specs::Reading::constant_at, crate::specs::Reading::behind))]
+#[tactic(auto, unfolding(crate::specs::Reading::constant_at, crate::specs::Reading::rest_behind))]
 fn constant_of(bytes: &[u8]) -> Result<(Node, &[u8]), LiteralError>
-    ensures { Gives (λ x. (x.0, x.1.now)) result (constant_at bytes.now) }
+    ensures { ReadsLiteral (λ x. (x.0, x.1.now)) result (constant_at bytes.now) }
 {
     if let Some(rest) = bytes.strip_prefix(b"None") {
         return Ok((Node::None, rest));
@@ -107,37 +107,37 @@ fn constant_of(bytes: &[u8]) -> Result<(Node, &[u8]), LiteralError>
 }
 
 fn wide_node(alloc: Global, bytes: &[u8]) -> Result<(Node, &[u8]), LiteralError>
-    ensures { Gives (λ x. (x.0, x.1.now)) result (held_as kinds.Wide (counted_at is_wide_size bytes.now)) }
+    ensures { ReadsLiteral (λ x. (x.0, x.1.now)) result (held_as kinds.Wide (counted_at is_wide_size bytes.now)) }
 {
     let (held, rest) = wide_of(alloc, bytes)?;
     Ok((Node::Wide(held), rest))
 }
 
 fn float_node(alloc: Global, bytes: &[u8]) -> Result<(Node, &[u8]), LiteralError>
-    ensures { Gives (λ x. (x.0, x.1.now)) result (held_as kinds.Float (counted_at is_float_size bytes.now)) }
+    ensures { ReadsLiteral (λ x. (x.0, x.1.now)) result (held_as kinds.Float (counted_at is_float_size bytes.now)) }
 {
     let (held, rest) = eight_of(alloc, bytes)?;
     Ok((Node::Float(held), rest))
 }
 
 fn bytes_node(alloc: Global, bytes: &[u8]) -> Result<(Node, &[u8]), LiteralError>
-    ensures { Gives (λ x. (x.0, x.1.now)) result (held_as kinds.Bytes (counted_at is_bytes_size bytes.now)) }
+    ensures { ReadsLiteral (λ x. (x.0, x.1.now)) result (held_as kinds.Bytes (counted_at is_bytes_size bytes.now)) }
 {
     let (held, rest) = many_of(alloc, bytes)?;
     Ok((Node::Bytes(held), rest))
 }
 
 fn old_text_node(alloc: Global, bytes: &[u8]) -> Result<(Node, &[u8]), LiteralError>
-    ensures { Gives (λ x. (x.0, x.1.now)) result (held_as kinds.OldText (counted_at is_old_size bytes.now)) }
+    ensures { ReadsLiteral (λ x. (x.0, x.1.now)) result (held_as kinds.OldText (counted_at is_old_size bytes.now)) }
 {
     let (held, rest) = old_of(alloc, bytes)?;
     Ok((Node::OldText(held), rest))
 }
 
 /// Bytes of one of the four kinds, or a constant.
-#[tactic(auto, unfolding(crate::specs::Reading::bytes_kind_at, crate::specs::Reading::behind))]
+#[tactic(auto, unfolding(crate::specs::Reading::bytes_kind_at, crate::specs::Reading::rest_behind))]
 fn bytes_kind_of(alloc: Global, bytes: &[u8]) -> Result<(Node, &[u8]), LiteralError>
-    ensures { Gives (λ x. (x.0, x.1.now)) result (bytes_kind_at bytes.now) }
+    ensures { ReadsLiteral (λ x. (x.0, x.1.now)) result (bytes_kind_at bytes.now) }
 {
     if let Some(rest) = bytes.strip_prefix(b"n:") {
         wide_node(alloc, rest)
@@ -166,9 +166,9 @@ pub(crate) fn begins_number(bytes: &[u8]) -> bool
 }
 
 /// The value without items that stands first, and what stands behind it.
-#[tactic(auto, unfolding(crate::specs::Reading::leaf_at, crate::specs::Reading::behind))]
+#[tactic(auto, unfolding(crate::specs::Reading::leaf_at, crate::specs::Reading::rest_behind))]
 pub(crate) fn leaf_of(alloc: Global, bytes: &[u8]) -> Result<(Node, &[u8]), LiteralError>
-    ensures { Gives (λ x. (x.0, x.1.now)) result (leaf_at bytes.now) }
+    ensures { ReadsLiteral (λ x. (x.0, x.1.now)) result (leaf_at bytes.now) }
 {
     if begins_number(bytes) {
         return number_node(bytes);

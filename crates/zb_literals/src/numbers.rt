@@ -3,7 +3,7 @@
 ghost use Rattle.std.specs.Prelude.{◌≡◌, IfOk, IsTrue};
 ghost use Rattle.std.specs.Fmt.{signed_decimal};
 ghost use Rattle.std.specs.Str.{bytes_eq};
-ghost use Rattle.zb_literals.specs.Reading.{Gives, number_in, number_at};
+ghost use Rattle.zb_literals.specs.Reading.{ReadsLiteral, number_of_word, number_leaf_at};
 
 use crate::error::LiteralError;
 use crate::words::split_word;
@@ -21,7 +21,7 @@ fn is_literal_of(number: i128, word: &[u8]) -> bool
 
 /// The number that a word is the literal of.
 fn number_of(word: &[u8]) -> Result<i128, LiteralError>
-    ensures { Gives (λ number. number) result (number_in word.now) }
+    ensures { ReadsLiteral (λ number. number) result (number_of_word word.now) }
 {
     let Ok(text) = str::from_utf8(word) else {
         return Err(LiteralError::NotLiteral);
@@ -36,9 +36,9 @@ fn number_of(word: &[u8]) -> Result<i128, LiteralError>
 }
 
 /// The number that stands first, and what stands behind it.
-#[tactic(auto, unfolding(crate::specs::Reading::number_at))]
+#[tactic(auto, unfolding(crate::specs::Reading::number_leaf_at))]
 pub(crate) fn number_node(bytes: &[u8]) -> Result<(Node, &[u8]), LiteralError>
-    ensures { Gives (λ x. (x.0, x.1.now)) result (number_at bytes.now) }
+    ensures { ReadsLiteral (λ x. (x.0, x.1.now)) result (number_leaf_at bytes.now) }
 {
     let (word, rest) = split_word(bytes);
     let number = number_of(word)?;

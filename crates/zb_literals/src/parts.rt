@@ -2,7 +2,7 @@
 
 ghost use Rattle.std.specs.Prelude.{◌≡◌, [], ◌∷◌, ◌++◌, IfOk, slice_get};
 ghost use Rattle.zb_literals.specs.Values.{leaf_oid, leaf_global, digits_of};
-ghost use Rattle.zb_literals.specs.Printing.{bytes_parts, more_parts, more_pair_parts, tuple_parts, list_parts, dict_parts, act_parts, object_parts, made_text, oid_at, class_at, joined, pair_short, id_short, reference_parts, literal_parts};
+ghost use Rattle.zb_literals.specs.Printing.{bytes_parts, more_parts, more_pair_parts, tuple_marks, list_marks, dict_marks, act_marks, object_marks, made_text, oid_at, class_at, both_texts, pair_short, id_short, reference_parts, literal_parts};
 
 use crate::texts::{push_digits, push_global};
 use pickle_value::{Act, Node, PutNumbers};
@@ -54,7 +54,7 @@ fn with_pairs(mut parts: Vec<Part>, pairs: &[(u32, u32)]) -> Result<Vec<Part>, A
 
 /// The parts, and behind them an act.
 fn with_act(mut parts: Vec<Part>, act: Act) -> Result<Vec<Part>, AllocError>
-    ensures { IfOk result (λ all. all.items ≡ parts.items ++ act_parts (act ∷ [])) }
+    ensures { IfOk result (λ all. all.items ≡ parts.items ++ act_marks (act ∷ [])) }
 {
     match act {
         Act::Append(value) => {
@@ -83,7 +83,7 @@ fn with_act(mut parts: Vec<Part>, act: Act) -> Result<Vec<Part>, AllocError>
 /// The parts, and behind them acts.
 #[tactic(auto, using(crate::proofs::PrintLaws::acts_step))]
 fn with_acts(mut parts: Vec<Part>, acts: &[Act]) -> Result<Vec<Part>, AllocError>
-    ensures { IfOk result (λ all. all.items ≡ parts.items ++ act_parts acts.now) }
+    ensures { IfOk result (λ all. all.items ≡ parts.items ++ act_marks acts.now) }
 {
     for act in acts {
         parts = with_act(parts, *act)?;
@@ -93,7 +93,7 @@ fn with_acts(mut parts: Vec<Part>, acts: &[Act]) -> Result<Vec<Part>, AllocError
 
 /// The parts of a tuple.
 fn tuple(alloc: Global, items: &[u32]) -> Result<Vec<Part>, AllocError>
-    ensures { IfOk result (λ parts. parts.items ≡ tuple_parts items.now) }
+    ensures { IfOk result (λ parts. parts.items ≡ tuple_marks items.now) }
 {
     match items {
         [] => Vec::from_slice(alloc, &[Part::Byte(b'('), Part::Byte(b')')]),
@@ -117,7 +117,7 @@ fn tuple(alloc: Global, items: &[u32]) -> Result<Vec<Part>, AllocError>
 
 /// The parts of a list.
 fn list(alloc: Global, items: &[u32]) -> Result<Vec<Part>, AllocError>
-    ensures { IfOk result (λ parts. parts.items ≡ list_parts items.now) }
+    ensures { IfOk result (λ parts. parts.items ≡ list_marks items.now) }
 {
     match items {
         [] => Vec::from_slice(alloc, &[Part::Byte(b'['), Part::Byte(b']')]),
@@ -132,7 +132,7 @@ fn list(alloc: Global, items: &[u32]) -> Result<Vec<Part>, AllocError>
 
 /// The parts of a dictionary.
 fn dict(alloc: Global, pairs: &[(u32, u32)]) -> Result<Vec<Part>, AllocError>
-    ensures { IfOk result (λ parts. parts.items ≡ dict_parts pairs.now) }
+    ensures { IfOk result (λ parts. parts.items ≡ dict_marks pairs.now) }
 {
     match pairs {
         [] => Vec::from_slice(alloc, &[Part::Byte(b'{'), Part::Byte(b'}')]),
@@ -171,7 +171,7 @@ fn object(
     by_new: bool,
     acts: &[Act],
 ) -> Result<Vec<Part>, AllocError>
-    ensures { IfOk result (λ parts. parts.items ≡ object_parts callee arguments by_new acts.now) }
+    ensures { IfOk result (λ parts. parts.items ≡ object_marks callee arguments by_new acts.now) }
 {
     let mut parts = made(alloc, by_new)?;
     parts.push(Part::Item(callee))?;
@@ -241,7 +241,7 @@ fn text_of_class(
 
 /// One text behind the other, if there are both.
 fn join(one: Option<Text8>, other: Option<Text8>) -> Result<Option<Text8>, AllocError>
-    ensures { IfOk result (λ both. both ≡ joined one other) }
+    ensures { IfOk result (λ both. both ≡ both_texts one other) }
 {
     let Some(mut text) = one else {
         return Ok(None);

@@ -6,7 +6,7 @@ ghost use Rattle.zb_literals.specs.declared.error.LiteralError.TheVariants.{Memo
 ghost use Rattle.zb_literals.specs.Graphs;
 ghost use Rattle.zb_literals.specs.Literals.{IsLiteral};
 ghost use Rattle.zb_literals.specs.Values.{Value, IsValue, literal_text};
-ghost use Rattle.zb_literals.specs.Reading.{Gives, plain_form, pair_form, leaf_found, item_at, pair_at, items_at, pairs_at, tuple_rest_at, tuple_at, list_at, dict_at, reference_at, address_at, shape_at, value_at, literal_at};
+ghost use Rattle.zb_literals.specs.Reading.{ReadsLiteral, plain_form, pair_form, leaf_found, item_at, pair_at, values_at, pairs_at, tuple_rest_at, tuple_at, list_at, dict_at, reference_at, address_at, shape_at, value_at, literal_at};
 
 use crate::error::LiteralError;
 use crate::form::Form;
@@ -55,7 +55,7 @@ fn found_leaf<'a>(
     mut nodes: ListOf<Node>,
     bytes: &'a [u8],
 ) -> Result<(ListOf<Node>, Form, &'a [u8]), LiteralError>
-    ensures { Gives (λ x. (x.0, x.1, x.2.now)) result (leaf_found nodes bytes.now) }
+    ensures { ReadsLiteral (λ x. (x.0, x.1, x.2.now)) result (leaf_found nodes bytes.now) }
 {
     let (leaf, rest) = leaf_of(alloc, bytes)?;
     let form = form_of(&leaf);
@@ -73,7 +73,7 @@ fn item_of<'a>(
     bytes: &'a [u8],
     levels: u32,
 ) -> Result<(ListOf<Node>, ListOf<u32>, &'a [u8]), LiteralError>
-    ensures { Gives (λ x. (x.0, x.1, x.2.now)) result (item_at (value_at levels) nodes items bytes.now) }
+    ensures { ReadsLiteral (λ x. (x.0, x.1, x.2.now)) result (item_at (value_at levels) nodes items bytes.now) }
 {
     let (nodes, _, rest) = value_of(alloc, nodes, bytes, levels)?;
     let item = last_of(&nodes)?;
@@ -91,7 +91,7 @@ fn pair_of<'a>(
     bytes: &'a [u8],
     levels: u32,
 ) -> Result<(ListOf<Node>, ListOf<(u32, u32)>, &'a [u8]), LiteralError>
-    ensures { Gives (λ x. (x.0, x.1, x.2.now)) result (pair_at (value_at levels) nodes pairs bytes.now) }
+    ensures { ReadsLiteral (λ x. (x.0, x.1, x.2.now)) result (pair_at (value_at levels) nodes pairs bytes.now) }
 {
     let (nodes, _, rest) = value_of(alloc, nodes, bytes, levels)?;
     let key = last_of(&nodes)?;
@@ -112,7 +112,7 @@ fn items_of<'a>(
     bytes: &'a [u8],
     levels: u32,
 ) -> Result<(ListOf<Node>, ListOf<u32>, &'a [u8]), LiteralError>
-    ensures { Gives (λ x. (x.0, x.1, x.2.now)) result (items_at (value_at levels) nodes items bytes.now) }
+    ensures { ReadsLiteral (λ x. (x.0, x.1, x.2.now)) result (values_at (value_at levels) nodes items bytes.now) }
 {
     let mut rest = bytes;
     'items: loop {
@@ -136,7 +136,7 @@ fn pairs_of<'a>(
     bytes: &'a [u8],
     levels: u32,
 ) -> Result<(ListOf<Node>, ListOf<(u32, u32)>, &'a [u8]), LiteralError>
-    ensures { Gives (λ x. (x.0, x.1, x.2.now)) result (pairs_at (value_at levels) nodes pairs bytes.now) }
+    ensures { ReadsLiteral (λ x. (x.0, x.1, x.2.now)) result (pairs_at (value_at levels) nodes pairs bytes.now) }
 {
     let mut rest = bytes;
     'pairs: loop {
@@ -152,7 +152,7 @@ fn pairs_of<'a>(
 
 /// A tuple, behind its first item and the comma.
 #[cycle(reading)]
-#[tactic(auto, unfolding(crate::specs::Reading::tuple_rest_at, crate::specs::Reading::behind))]
+#[tactic(auto, unfolding(crate::specs::Reading::tuple_rest_at, crate::specs::Reading::rest_behind))]
 fn tuple_rest_of<'a>(
     alloc: Global,
     mut nodes: ListOf<Node>,
@@ -160,7 +160,7 @@ fn tuple_rest_of<'a>(
     bytes: &'a [u8],
     levels: u32,
 ) -> Result<(ListOf<Node>, Form, &'a [u8]), LiteralError>
-    ensures { Gives (λ x. (x.0, x.1, x.2.now)) result (tuple_rest_at (value_at levels) nodes form bytes.now) }
+    ensures { ReadsLiteral (λ x. (x.0, x.1, x.2.now)) result (tuple_rest_at (value_at levels) nodes form bytes.now) }
 {
     let first = last_of(&nodes)?;
     let mut items = ListOf::new(alloc);
@@ -185,14 +185,14 @@ fn tuple_rest_of<'a>(
 
 /// A tuple, behind its `(`.
 #[cycle(reading)]
-#[tactic(auto, unfolding(crate::specs::Reading::tuple_at, crate::specs::Reading::behind))]
+#[tactic(auto, unfolding(crate::specs::Reading::tuple_at, crate::specs::Reading::rest_behind))]
 fn tuple_of<'a>(
     alloc: Global,
     mut nodes: ListOf<Node>,
     bytes: &'a [u8],
     levels: u32,
 ) -> Result<(ListOf<Node>, Form, &'a [u8]), LiteralError>
-    ensures { Gives (λ x. (x.0, x.1, x.2.now)) result (tuple_at (value_at levels) nodes bytes.now) }
+    ensures { ReadsLiteral (λ x. (x.0, x.1, x.2.now)) result (tuple_at (value_at levels) nodes bytes.now) }
 {
     if let Some(rest) = bytes.strip_prefix(b")") {
         nodes.push(Node::Tuple(ListOf::new(alloc)))?;
@@ -205,14 +205,14 @@ fn tuple_of<'a>(
 
 /// A list, behind its `[`.
 #[cycle(reading)]
-#[tactic(auto, unfolding(crate::specs::Reading::list_at, crate::specs::Reading::behind))]
+#[tactic(auto, unfolding(crate::specs::Reading::list_at, crate::specs::Reading::rest_behind))]
 fn list_of<'a>(
     alloc: Global,
     mut nodes: ListOf<Node>,
     bytes: &'a [u8],
     levels: u32,
 ) -> Result<(ListOf<Node>, Form, &'a [u8]), LiteralError>
-    ensures { Gives (λ x. (x.0, x.1, x.2.now)) result (list_at (value_at levels) nodes bytes.now) }
+    ensures { ReadsLiteral (λ x. (x.0, x.1, x.2.now)) result (list_at (value_at levels) nodes bytes.now) }
 {
     if let Some(rest) = bytes.strip_prefix(b"]") {
         nodes.push(Node::List(ListOf::new(alloc)))?;
@@ -227,14 +227,14 @@ fn list_of<'a>(
 
 /// A dictionary, behind its `{`.
 #[cycle(reading)]
-#[tactic(auto, unfolding(crate::specs::Reading::dict_at, crate::specs::Reading::behind))]
+#[tactic(auto, unfolding(crate::specs::Reading::dict_at, crate::specs::Reading::rest_behind))]
 fn dict_of<'a>(
     alloc: Global,
     mut nodes: ListOf<Node>,
     bytes: &'a [u8],
     levels: u32,
 ) -> Result<(ListOf<Node>, Form, &'a [u8]), LiteralError>
-    ensures { Gives (λ x. (x.0, x.1, x.2.now)) result (dict_at (value_at levels) nodes bytes.now) }
+    ensures { ReadsLiteral (λ x. (x.0, x.1, x.2.now)) result (dict_at (value_at levels) nodes bytes.now) }
 {
     if let Some(rest) = bytes.strip_prefix(b"}") {
         nodes.push(Node::Dict(ListOf::new(alloc)))?;
@@ -256,7 +256,7 @@ fn reference_of<'a>(
     bytes: &'a [u8],
     levels: u32,
 ) -> Result<(ListOf<Node>, Form, &'a [u8]), LiteralError>
-    ensures { Gives (λ x. (x.0, x.1, x.2.now)) result (reference_at (value_at levels) nodes bytes.now) }
+    ensures { ReadsLiteral (λ x. (x.0, x.1, x.2.now)) result (reference_at (value_at levels) nodes bytes.now) }
 {
     let (mut nodes, form, rest) = value_of(alloc, nodes, bytes, levels)?;
     let rest = behind(b")", rest)?;
@@ -269,14 +269,14 @@ fn reference_of<'a>(
 }
 
 /// A reference, behind its `@`. So many edges may lead on from it.
-#[tactic(auto, unfolding(crate::specs::Reading::address_at, crate::specs::Reading::behind))]
+#[tactic(auto, unfolding(crate::specs::Reading::address_at, crate::specs::Reading::rest_behind))]
 fn address_of<'a>(
     alloc: Global,
     mut nodes: ListOf<Node>,
     bytes: &'a [u8],
     levels: u32,
 ) -> Result<(ListOf<Node>, Form, &'a [u8]), LiteralError>
-    ensures { Gives (λ x. (x.0, x.1, x.2.now)) result (address_at levels nodes bytes.now) }
+    ensures { ReadsLiteral (λ x. (x.0, x.1, x.2.now)) result (address_at levels nodes bytes.now) }
 {
     let (oid, rest) = eight_of(alloc, bytes)?;
     if let Some(behind_oid) = rest.strip_prefix(b"<") {
@@ -305,14 +305,14 @@ fn address_of<'a>(
 
 /// A value that is no number.
 #[cycle(reading)]
-#[tactic(auto, unfolding(crate::specs::Reading::shape_at, crate::specs::Reading::behind))]
+#[tactic(auto, unfolding(crate::specs::Reading::shape_at, crate::specs::Reading::rest_behind))]
 fn shape_of<'a>(
     alloc: Global,
     nodes: ListOf<Node>,
     bytes: &'a [u8],
     levels: u32,
 ) -> Result<(ListOf<Node>, Form, &'a [u8]), LiteralError>
-    ensures { Gives (λ x. (x.0, x.1, x.2.now)) result (shape_at levels (value_at levels) nodes bytes.now) }
+    ensures { ReadsLiteral (λ x. (x.0, x.1, x.2.now)) result (shape_at levels (value_at levels) nodes bytes.now) }
 {
     if let Some(rest) = bytes.strip_prefix(b"(") {
         tuple_of(alloc, nodes, rest, levels)
@@ -338,7 +338,7 @@ fn value_of<'a>(
     bytes: &'a [u8],
     levels: u32,
 ) -> Result<(ListOf<Node>, Form, &'a [u8]), LiteralError>
-    ensures { Gives (λ x. (x.0, x.1, x.2.now)) result (value_at levels nodes bytes.now) }
+    ensures { ReadsLiteral (λ x. (x.0, x.1, x.2.now)) result (value_at levels nodes bytes.now) }
 {
     if levels == 0 {
         return Err(LiteralError::NotLiteral);
@@ -352,7 +352,7 @@ fn value_of<'a>(
 /// The nodes of the value that all of the bytes spell.
 #[tactic(auto, unfolding(crate::specs::Reading::literal_at))]
 fn nodes_of(alloc: Global, bytes: &[u8]) -> Result<ListOf<Node>, LiteralError>
-    ensures { Gives (λ nodes. nodes) result (literal_at (WALK_LIMIT + 1) bytes.now) }
+    ensures { ReadsLiteral (λ nodes. nodes) result (literal_at (WALK_LIMIT + 1) bytes.now) }
 {
     let (nodes, _, rest) = value_of(alloc, ListOf::new(alloc), bytes, WALK_LIMIT + 1)?;
     if !rest.is_empty() {
@@ -369,7 +369,7 @@ pub fn read_literal(alloc: Global, bytes: &[u8]) -> Result<Pickle, LiteralError>
     ensures found { IfOk result (λ graph. IsLiteral bytes.now graph) }
 
     // What is spelled so is read, unless memory runs out.
-    ensures only { (tree : Value) → IsValue (WALK_LIMIT + 1) tree → bytes.now ≡ literal_text tree → Gives (λ graph. graph) result (Some (Graphs.graph_of tree)) }
+    ensures only { (tree : Value) → IsValue (WALK_LIMIT + 1) tree → bytes.now ≡ literal_text tree → ReadsLiteral (λ graph. graph) result (Some (Graphs.graph_of tree)) }
 
     // What is read can be written.
     ensures shallow { IfOk result (λ graph. has_walk (WALK_LIMIT + 1) graph.nodes graph.root ≡ false) }

@@ -4,7 +4,7 @@ ghost use Rattle.std.specs.Prelude.{◌≡◌, option_map};
 ghost use Rattle.std.specs.Str.{is_utf8};
 ghost use Rattle.zb_ids.specs.Hex.{bytes_at};
 ghost use Rattle.zb_literals.specs.Reading;
-ghost use Rattle.zb_literals.specs.Reading.{Gives, one_at, is_word_byte, word_of, behind_word};
+ghost use Rattle.zb_literals.specs.Reading.{ReadsLiteral, one_at, is_word_byte, word_of, rest_of_word};
 
 use crate::error::LiteralError;
 use std::alloc::Global;
@@ -12,17 +12,17 @@ use std::str;
 use zb_ids::{Text8, read_hex_pair};
 
 /// What stands behind a word, or `None` where another one stands first.
-#[tactic(auto, unfolding(crate::specs::Reading::behind))]
+#[tactic(auto, unfolding(crate::specs::Reading::rest_behind))]
 pub(crate) fn after<'a>(word: &[u8], bytes: &'a [u8]) -> Option<&'a [u8]>
-    ensures { option_map (λ x. x.now) result ≡ Reading.behind word.now bytes.now }
+    ensures { option_map (λ x. x.now) result ≡ Reading.rest_behind word.now bytes.now }
 {
     bytes.strip_prefix(word)
 }
 
 /// What stands behind a word.
-#[tactic(auto, unfolding(crate::specs::Reading::behind))]
+#[tactic(auto, unfolding(crate::specs::Reading::rest_behind))]
 pub(crate) fn behind<'a>(word: &[u8], bytes: &'a [u8]) -> Result<&'a [u8], LiteralError>
-    ensures { Gives (λ x. x.now) result (Reading.behind word.now bytes.now) }
+    ensures { ReadsLiteral (λ x. x.now) result (Reading.rest_behind word.now bytes.now) }
 {
     match bytes.strip_prefix(word) {
         Some(rest) => Ok(rest),
@@ -32,7 +32,7 @@ pub(crate) fn behind<'a>(word: &[u8], bytes: &'a [u8]) -> Result<&'a [u8], Liter
 
 /// The first byte, and those behind it.
 pub(crate) fn one_of(bytes: &[u8]) -> Result<(u8, &[u8]), LiteralError>
-    ensures { Gives (λ x. (x.0, x.1.now)) result (one_at bytes.now) }
+    ensures { ReadsLiteral (λ x. (x.0, x.1.now)) result (one_at bytes.now) }
 {
     match bytes {
         [] => Err(LiteralError::NotLiteral),
@@ -53,7 +53,7 @@ fn is_word(byte: u8) -> bool
 /// The longest word that stands first, and what stands behind it.
 pub(crate) fn split_word(bytes: &[u8]) -> (&[u8], &[u8])
     ensures word { result.0.now ≡ word_of bytes.now }
-    ensures rest { result.1.now ≡ behind_word bytes.now }
+    ensures rest { result.1.now ≡ rest_of_word bytes.now }
 {
     let mut end = 0;
     while end < bytes.len() && is_word(bytes[end]) {
@@ -76,7 +76,7 @@ pub(crate) fn is_text(bytes: &[u8]) -> bool
 /// The bytes that digits spell, two for each.
 #[tactic(auto, using(zb_ids::specs::HexLaws::pair_read, zb_ids::specs::HexLaws::pair_refused, zb_ids::specs::HexLaws::all_read, zb_ids::specs::HexLaws::odd_refused))]
 pub(crate) fn bytes_of(alloc: Global, text: &[u8]) -> Result<Text8, LiteralError>
-    ensures { Gives (λ bytes. bytes) result (bytes_at text.now) }
+    ensures { ReadsLiteral (λ bytes. bytes) result (bytes_at text.now) }
 {
     if text.len() % 2 != 0 {
         return Err(LiteralError::NotLiteral);

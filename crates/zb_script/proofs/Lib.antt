@@ -3,5 +3,3 @@ pub mod LineLaws
 pub mod Pieces
 pub mod ScriptLaws
 pub mod Steps
-pub mod Utf8
-pub mod Digits

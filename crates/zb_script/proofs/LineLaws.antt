@@ -19,7 +19,8 @@ use Rattle.zb_script.specs.declared.line.Turn.{Turn}
 use Rattle.zb_script.specs.Names.{is_letter_or_digit, is_name, IsName}
 use Rattle.zb_script.specs.Payloads.{IsRecordBytes}
 use Rattle.zb_script.specs.Spelling.{line_text, turn_text, IsLine, IsTurn}
-use Rattle.zb_script.specs.Reading.{cut_at, behind_word, field_at, load_at, payload_at, store_at, words_at, if_some, line_at, name_at, turn_at}
+use Rattle.zb_script.specs.Reading.{cut_at, behind_word, field_at, load_at, payload_at, store_at, words_at, line_at, name_at, turn_at}
+use Rattle.zb_literals.specs.Reading.{if_some}
 
 -- no byte below k
 abbrev pub From : ℕ → List ℕ → Type 0

@@ -6,5 +6,4 @@ pub mod Script
 pub mod Reading
 pub mod Answers
 pub mod Turns
-pub mod Literals
 pub mod Lists

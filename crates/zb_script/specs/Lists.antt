@@ -3,7 +3,7 @@ use Rattle.std.specs.Prelude.{ℕ, List, [], ◌∷◌, ◌++◌, Option, Some, 
 use Rattle.zb_ids.specs.Hex.{hex_number}
 use Rattle.zb_model.specs.declared.lists.LogLine.{LogLine}
 use Rattle.zb_model.specs.declared.lists.Revision.{Revision}
-use Rattle.zb_script.specs.Literals.{text_literal}
+use Rattle.zb_literals.specs.Texts.{text_literal}
 
 -- a user and a description, with a blank before each and a newline behind
 abbrev pub texts_text : List ℕ → List ℕ → List ℕ

@@ -3,6 +3,7 @@ use Rattle.std.specs.Prelude.{◌≡◌, ℕ, ◌+◌, List, [], ◌∷◌, ◌+
 use Rattle.std.specs.List.{position, onto_first}
 use Rattle.std.specs.Str.{bytes_eq}
 use Rattle.zb_ids.specs.Hex.{◌>>=◌, number_at, bytes_at}
+use Rattle.zb_literals.specs.Reading.{if_some}
 use Rattle.zb_script.specs.declared.errors.ReadError.{ReadError}
 use Rattle.zb_script.specs.declared.errors.ReadError.TheVariants as errors
 use Rattle.zb_script.specs.declared.line.Line.{Line}
@@ -63,10 +64,6 @@ words_at bytes =
     else if bytes_eq bytes (codes "abort") then Some lines.Abort
     else if bytes_eq bytes (codes "new") then Some lines.New
     else None
-
-abbrev pub if_some : {A B : Type 0} → Option A → (A → Option B) → Option B → Option B
-if_some (Some x) f other = f x
-if_some None f other = other
 
 unfoldable pub line_at : List ℕ → Option Line
 line_at bytes = if_some (behind_word (codes "load ") bytes) load_at (if_some (behind_word (codes "store ") bytes) store_at (words_at bytes))

@@ -6,7 +6,6 @@ mod answer;
 mod errors;
 mod line;
 mod lists;
-mod literals;
 mod name;
 mod payload;
 mod reading;

@@ -3,19 +3,19 @@
 ghost use Rattle.std.specs.Prelude.{◌≡◌, ◌++◌, IfOk, OnOk};
 ghost use Rattle.zb_script.specs.Lists.{log_text, revision_text, size_text, texts_text};
 
-use crate::literals::push_literal;
 use crate::spelling::{push_count, push_number};
 use std::alloc::{AllocError, Global};
 use zb_ids::Text8;
+use zb_literals::push_text;
 use zb_model::{LogLine, Revision};
 
 fn push_texts(out: &mut Vec<u8>, user: &Text8, description: &Text8) -> Result<(), AllocError>
     ensures { OnOk result (out.new.items ≡ out.old.items ++ texts_text user.now description.now) }
 {
     out.push(b' ')?;
-    push_literal(out, user.as_slice())?;
+    push_text(out, user.as_slice())?;
     out.push(b' ')?;
-    push_literal(out, description.as_slice())?;
+    push_text(out, description.as_slice())?;
     out.push(b'\n')?;
     Ok(())
 }

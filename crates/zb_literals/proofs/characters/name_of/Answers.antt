@@ -1,6 +1,6 @@
 use Rattle.std.proofs.Common.{sym, ◌∙◌, ap, List, ℕ}
 use Rattle.std.proofs.lemmas.Result.{err_from_is_err_and}
-use Rattle.zb_literals.specs.Reading.{name_at}
+use Rattle.zb_literals.specs.Reading.{name_bytes_at}
 use Rattle.zb_literals.proofs.Loops.{name_end, name_none, name_more, name_shorter, fails_on}
 use Rattle.zb_literals.proofs.characters.name_of.Goals as goal
 
@@ -17,5 +17,5 @@ pieces-smaller c = name_shorter c.pieces.rest.now c.in_ok-byte.next.now c.in_ok-
 
 pub pieces-preserved : goal.pieces-preserved
 pieces-preserved c =
-    ap (λ (x : List ℕ). name_at c.args.stop x c.in_ok-byte.next.now) c.in_ok-push.ensures.ok
+    ap (λ (x : List ℕ). name_bytes_at c.args.stop x c.in_ok-byte.next.now) c.in_ok-push.ensures.ok
     ∙ name_more c.args.stop c.pieces.text c.pieces.rest.now c.in_ok-byte.next.now c.in_ok-byte.byte (sym c.in_default.ensures) c.in_ok-byte.ensures ∙ c.pieces.invariant

@@ -1,5 +1,5 @@
 use Rattle.std.proofs.Common.{◌≡◌, ◌+◌, ◌*◌, length}
-use Rattle.zb_literals.specs.Reading.{items_at, pairs_at, value_at}
+use Rattle.zb_literals.specs.Reading.{values_at, pairs_at, value_at}
 use Rattle.zb_literals.proofs.reading.+reading.Given as goal
 
 abbrev pub decreases-value_of : goal.decreases-value_of
@@ -36,7 +36,7 @@ abbrev pub decreases-shape_of : goal.decreases-shape_of
 decreases-shape_of l = 8 * l.levels + 5
 
 abbrev pub invariant-items_of-items : goal.invariant-items_of-items
-invariant-items_of-items l = items_at (value_at l.fn.levels) l.nodes l.items l.rest ≡ items_at (value_at l.fn.levels) l.fn.nodes l.fn.items l.fn.bytes
+invariant-items_of-items l = values_at (value_at l.fn.levels) l.nodes l.items l.rest ≡ values_at (value_at l.fn.levels) l.fn.nodes l.fn.items l.fn.bytes
 
 abbrev pub decreases-items_of-items : goal.decreases-items_of-items
 decreases-items_of-items l = length l.rest

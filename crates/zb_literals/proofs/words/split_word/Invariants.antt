@@ -1,12 +1,12 @@
 use Rattle.std.proofs.Common.{◌≡◌, ◌≤◌, ◌-◌, ◌++◌, length, take, drop}
-use Rattle.zb_literals.specs.Reading.{word_of, behind_word}
+use Rattle.zb_literals.specs.Reading.{word_of, rest_of_word}
 use Rattle.zb_literals.proofs.words.split_word.Given as goal
 
 abbrev pub invariant-loop-end : goal.invariant-loop-end
 invariant-loop-end l = record {
   inside : l.end ≤ length l.bytes;
   word : take l.end l.bytes ++ word_of (drop l.end l.bytes) ≡ word_of l.bytes;
-  rest : behind_word (drop l.end l.bytes) ≡ behind_word l.bytes;
+  rest : rest_of_word (drop l.end l.bytes) ≡ rest_of_word l.bytes;
 }
 
 abbrev pub decreases-loop-end : goal.decreases-loop-end

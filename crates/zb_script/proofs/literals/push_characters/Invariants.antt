@@ -1,6 +1,0 @@
-use Rattle.std.proofs.Common.{◌≡◌, ◌++◌, flat_map}
-use Rattle.zb_script.specs.Literals.{character_text}
-use Rattle.zb_script.proofs.literals.push_characters.Given as goal
-
-abbrev pub invariant-loop-c : goal.invariant-loop-c
-invariant-loop-c l = l.out.items ≡ l.fn.out.items ++ flat_map character_text l.yielded
