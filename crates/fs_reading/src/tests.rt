@@ -1,7 +1,7 @@
 //! Each call over a file of the host, of which nothing is told: a file with data records of every
 //! kind, byte by byte from the tables of the format.
 
-ghost use Rattle.std.specs.Prelude.{IsTrue, All};
+ghost use Rattle.std.specs.Prelude.{◌≡◌, IsTrue, All};
 ghost use Rattle.fs_records.specs.Places.{IsBefore};
 
 use super::*;
@@ -55,7 +55,9 @@ const RECORDS: [(u64, u64, u64); 7] = [
     (5, 7, 460),
 ];
 
-fn place(serial: u64, at: u64) -> Place {
+fn place(serial: u64, at: u64) -> Place
+    ensures { result ≡ record { serial = serial; at = at } }
+{
     Place {
         serial: Tid(serial),
         at,
@@ -63,26 +65,23 @@ fn place(serial: u64, at: u64) -> Place {
 }
 
 /// Whether a place stands behind these.
-fn is_behind(kept: &[Place], place: Place) -> bool
-    ensures { IsTrue result → All (IsBefore place.serial place.at) kept.now }
+fn is_behind(kept: &[Place], serial: u64, at: u64) -> bool
+    ensures { IsTrue result → All (IsBefore serial at) kept.now }
 {
-    kept.iter()
-        .all(|p| p.serial.0 <= place.serial.0 && p.at < place.at)
+    kept.iter().all(|p| p.serial.0 <= serial && p.at < at)
 }
 
 /// The index of the file.
 fn index_of_file(alloc: Global) -> Result<Index, AllocError> {
     let mut index = Index::new(alloc);
     for (oid, serial, at) in RECORDS {
-        let next = place(serial, at);
-        if is_behind(index.places(Oid(oid)), next) {
-            index.push_record(Oid(oid), next)?;
+        if is_behind(index.places(Oid(oid)), serial, at) {
+            index.push_record(Oid(oid), place(serial, at))?;
         }
     }
     for (serial, at) in STARTS {
-        let next = place(serial, at);
-        if is_behind(index.transactions(), next) {
-            index.push_transaction(next)?;
+        if is_behind(index.transactions(), serial, at) {
+            index.push_transaction(place(serial, at))?;
         }
     }
     Ok(index)
