@@ -2,3 +2,4 @@ pub mod Class
 pub mod Refusals
 pub mod Records
 pub mod Laws
+pub mod Printed

@@ -5,6 +5,7 @@
 mod class;
 mod error;
 mod laws;
+mod printing;
 mod reading;
 mod record;
 mod writing;
@@ -12,6 +13,7 @@ mod writing;
 pub use class::is_class;
 pub use error::RecordError;
 pub use laws::{records_are_two_pickles, written_records_read_back};
+pub use printing::object_literal;
 pub use reading::{read_record, references};
 pub use record::ObjectRecord;
 pub use writing::write_record;

@@ -184,3 +184,26 @@ fn refusals_print(rt: HostRuntime) -> Result<(), Fail> {
     }
     Ok(())
 }
+
+/// Bytes, and how they are printed.
+const PRINTED: [(&[u8], &[u8]); 4] = [
+    (
+        b"\x80\x03cpersistent.mapping\nPersistentMapping\n.\x80\x03}X\x04\0\0\0data}s.",
+        b"<persistent.mapping:PersistentMapping> {\"data\":{}}",
+    ),
+    (
+        b"\x80\x03cBTrees.Length\nLength\n.\x80\x03K\x0b.",
+        b"<BTrees.Length:Length> 11",
+    ),
+    (b"abc", b"raw 616263"),
+    (b"\x80\x04\x95.", b"raw 8004952e"),
+];
+
+#[test]
+fn objects_are_printed(rt: HostRuntime) -> Result<(), Fail> {
+    for (bytes, want) in PRINTED {
+        let text = object_literal(rt.alloc(), bytes)?;
+        assert_eq!(rt; text.as_slice(), want);
+    }
+    Ok(())
+}
