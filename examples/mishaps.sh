@@ -633,6 +633,17 @@ fi
 
 # ---------------------------------------------------------------- kill
 
+# Runs the script over the file, its answers to REPLIES, and kills the run at random
+# within MILLISECONDS: killed_within MILLISECONDS REPLIES
+killed_within() {
+    "$ZODB" "$F" run <"$WORK/script" >"$2" &
+    runner=$!
+    running[$runner]=1
+    pause $((RANDOM % $1))
+    kill -9 "$runner" 2>/dev/null
+    await "$runner"
+}
+
 echo "kill -9"
 fresh kill
 make "$F" 1
@@ -641,12 +652,7 @@ why=
 for ((n = 1; n <= 40; n++)); do
     commits $((1000 * n)) 100 >"$WORK/script"
     : >"$D/replies.$n"
-    "$ZODB" "$F" run <"$WORK/script" >"$D/replies.$n" &
-    runner=$!
-    running[$runner]=1
-    pause $((RANDOM % 120))
-    kill -9 "$runner" 2>/dev/null
-    await "$runner"
+    killed_within 120 "$D/replies.$n"
     why=$why$(lost "$F" "$D"/replies.*)
     if [ -n "$why" ]; then break; fi
 done
@@ -656,12 +662,7 @@ for ((n = 1; n <= 40; n++)); do
     fresh "kill.$n"
     commits 1 50 >"$WORK/script"
     : >"$D/replies"
-    "$ZODB" "$F" run <"$WORK/script" >"$D/replies" &
-    runner=$!
-    running[$runner]=1
-    pause $((RANDOM % 12))
-    kill -9 "$runner" 2>/dev/null
-    await "$runner"
+    killed_within 12 "$D/replies"
     why=$why$(lost "$F" "$D/replies")
 done
 check "40 runs killed at random while they make the file" "$why"
