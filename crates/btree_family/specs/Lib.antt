@@ -1,0 +1,6 @@
+pub mod Classes
+pub mod Keys
+pub mod KeyLaws
+pub mod Families
+pub mod Rising
+pub mod Buckets

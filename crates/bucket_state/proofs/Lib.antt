@@ -1,0 +1,10 @@
+pub mod Sound
+pub mod Loops
+pub mod Graphs
+pub mod Parts
+pub mod Ways
+pub mod Sums
+pub mod Sharing
+pub mod Spelled
+pub mod Shifts
+pub mod Back

@@ -1,0 +1,60 @@
+-- Laws of spellings and of states.
+use Rattle.std.specs.Prelude.{◌≡◌, ℕ, ◌≤◌, ◌<◌, ◌^◌, Bool, true, false, List, [], ◌∷◌, Option, Some, None, Ok, slice_get}
+use Rattle.pickle_value.specs.declared.node.Node.{Node}
+use Rattle.pickle_value.specs.declared.reading.TheConstants.{NODE_LIMIT}
+use Rattle.pickle_value.specs.Graph.{Graph, IsGraph}
+use Rattle.pickle_value.specs.Same.{IsSame}
+use Rattle.pickle_value.specs.Spelling.{spelling_of, root_piece}
+use Rattle.btree_family.specs.declared.table.KeyKind.{KeyKind}
+use Rattle.btree_family.specs.declared.table.ValueKind.{ValueKind}
+use Rattle.btree_family.specs.declared.table.ClassRow.{ClassRow}
+use Rattle.btree_family.specs.declared.bucket.Item.{Item}
+use Rattle.btree_family.specs.Families.{key_fits}
+use Rattle.btree_family.specs.Buckets.{BucketContents, keys_of}
+use Rattle.bucket_state.specs.States.{value_fits, has_values, stand_in_row, bucket_of}
+use Rattle.bucket_state.specs.Written.{bucket_graph}
+
+-- graphs that are the same are spelled alike
+abbrev pub SameIsSpelledAlike : Type 0
+SameIsSpelledAlike = (g copy : Graph) → IsSame g copy → spelling_of copy.nodes copy.root ≡ spelling_of g.nodes g.root
+
+-- there is a node, and it may be a value of the family
+abbrev pub node_fits : ValueKind → Option Node → Bool
+node_fits kind None = false
+node_fits kind (Some found) = value_fits kind found
+
+-- the spelling of a node that may be a value of the family, which makes no more nodes than a pickle may have
+pub record IsFamilyValue (kind : ValueKind) (text : List ℕ) : Type 0 where
+  pub graph : Graph
+  pub sound : IsGraph graph.nodes graph.root
+  pub spelled : spelling_of graph.nodes graph.root ≡ Ok text
+  pub fits : node_fits kind (slice_get graph.nodes graph.root) ≡ true
+  pub room : (root_piece graph.nodes graph.root).made ≤ NODE_LIMIT
+
+-- a value stands exactly where the class has values, and is one of the family
+abbrev pub ValueStands : Bool → ValueKind → Option (List ℕ) → Type 0
+ValueStands true kind None = ⊥
+ValueStands true kind (Some text) = IsFamilyValue kind text
+ValueStands false kind None = Unit {0}
+ValueStands false kind (Some text) = ⊥
+
+-- keys and values of the family
+abbrev pub ItemsStand : Bool → KeyKind → ValueKind → List Item → Type 0
+ItemsStand values key_kind value_kind [] = Unit {0}
+ItemsStand values key_kind value_kind (item ∷ items) =
+    (key_fits key_kind item.key ≡ true) × ValueStands values value_kind item.value × ItemsStand values key_kind value_kind items
+
+-- the number of an object, if there is one
+abbrev pub IsLink : Option ℕ → Type 0
+IsLink None = Unit {0}
+IsLink (Some oid) = oid < 2 ^ 64
+
+-- a bucket of a class: keys that rise strictly and are of one kind, keys and values of the family, and a link
+pub record BucketStands (row : ClassRow) (bucket : BucketContents) : Type 0 where
+  pub items : ItemsStand (has_values row.kind) row.key row.value bucket.items
+  pub rising : stand_in_row None (keys_of bucket.items) ≡ true
+  pub link : IsLink bucket.next
+
+-- what is written of a bucket reads back as it
+abbrev pub WrittenBucketReadsBack : Type 0
+WrittenBucketReadsBack = (row : ClassRow) (bucket : BucketContents) → BucketStands row bucket → bucket_of row (bucket_graph row bucket) ≡ Some bucket

@@ -1,0 +1,15 @@
+-- What may be written as a key.
+use Rattle.std.specs.Prelude.{List, [], ◌∷◌, length, ◌^◌, ◌<◌}
+use Rattle.pickle_ops.specs.Fits.{IsShortText}
+use Rattle.btree_family.specs.declared.key.Key.{Key}
+use Rattle.btree_family.specs.declared.key.Key.TheVariants.{Text, Bytes, Number}
+
+-- a text is UTF-8, and no text or bytes is too long for a token
+abbrev pub IsWritable : Key → Type 0
+IsWritable (Text text) = IsShortText text
+IsWritable (Bytes bytes) = length bytes < 2 ^ 32
+IsWritable (Number n) = Unit {0}
+
+abbrev pub AreWritable : List Key → Type 0
+AreWritable [] = Unit {0}
+AreWritable (key ∷ keys) = IsWritable key × AreWritable keys

@@ -1,0 +1,128 @@
+//! Writing the states of buckets and sets.
+
+ghost use Rattle.std.specs.Prelude.{◌≡◌, ◌++◌, [], ◌∷◌, IfOk};
+ghost use Rattle.pickle_value.specs.Graph.{IsGlobal};
+ghost use Rattle.btree_family.specs.Buckets.{keys_of};
+ghost use Rattle.bucket_state.specs.Written.{key_graph, value_graph, link_graph, with_value, item_graphs, laid_all, tuple_graph, next_graphs, bucket_graph};
+ghost use Rattle.bucket_state.specs.Writable.{IsWritable, AreWritable};
+
+use crate::laying::Side;
+use btree_family::{Bucket, ClassRow, Item, Key};
+use byteorder::{BigEndian, ByteOrder};
+use pickle_value::{Node, Pickle, read_pickle};
+use std::alloc::{AllocError, Global};
+use zb_ids::{ListOf, Oid, Text8};
+
+/// The node that a key is.
+fn key_pickle(alloc: Global, key: &Key) -> Result<Pickle, AllocError>
+    requires { IsWritable key.now }
+    ensures { IfOk result (λ graph. graph ≡ key_graph key.now) }
+{
+    let node = match key {
+        Key::Text(text) => Node::Text(text.clone()?),
+        Key::Bytes(bytes) => Node::Bytes(bytes.clone()?),
+        Key::Number(number) => Node::Number(*number),
+    };
+    let mut nodes = Vec::new(alloc);
+    nodes.push(node)?;
+    Ok(Pickle::new(ListOf::from_vec(nodes), 0))
+}
+
+/// The graph that a spelling is read as. One of more nodes than a pickle may have is refused as want of memory.
+#[tactic(auto, unfolding(crate::specs::Written::value_graph))]
+fn value_pickle(alloc: Global, text: &Text8) -> Result<Pickle, AllocError>
+    ensures { IfOk result (λ graph. graph ≡ value_graph text.now) }
+{
+    let mut bytes = Text8::from_slice(alloc, &[0x80, 3])?;
+    bytes.extend_from_slice(text.as_slice())?;
+    bytes.push(0x2e)?;
+    match read_pickle(alloc, bytes.as_slice(), 0) {
+        Ok((pickle, _)) => Ok(pickle),
+        Err(_) => Err(AllocError),
+    }
+}
+
+/// A reference to an object: its oid and its class.
+#[tactic(auto, unfolding(crate::specs::Written::link_graph))]
+fn link_pickle(
+    alloc: Global,
+    oid: Oid,
+    module_name: &[u8],
+    class_name: &[u8],
+) -> Result<Pickle, AllocError>
+    requires { IsGlobal module_name.now class_name.now }
+    ensures { IfOk result (λ graph. graph ≡ link_graph oid module_name.now class_name.now) }
+{
+    let mut bytes = [0; 8];
+    BigEndian::write_u64(&mut bytes, oid.0);
+    let mut nodes = Vec::new(alloc);
+    nodes.push(Node::Bytes(Text8::from_slice(alloc, &bytes)?))?;
+    let module = Text8::from_slice(alloc, module_name)?;
+    let name = Text8::from_slice(alloc, class_name)?;
+    nodes.push(Node::Global { module, name })?;
+    let id = Vec::from_slice(alloc, &[0, 1])?;
+    nodes.push(Node::Tuple(ListOf::from_vec(id)))?;
+    nodes.push(Node::Reference(2))?;
+    Ok(Pickle::new(ListOf::from_vec(nodes), 3))
+}
+
+/// The graphs, and an item's key and value behind them.
+fn lay_item(alloc: Global, side: Side, item: &Item) -> Result<Side, AllocError>
+    requires { IsWritable item.now.key }
+    ensures { IfOk result (λ all. all ≡ laid_all side (key_graph item.now.key ∷ with_value item.now.value [])) }
+{
+    let side = side.lay(alloc, &key_pickle(alloc, &item.key)?)?;
+    match &item.value {
+        None => Ok(side),
+        Some(text) => side.lay(alloc, &value_pickle(alloc, text)?),
+    }
+}
+
+/// The tuple of keys and values.
+fn items_pickle(alloc: Global, items: &[Item]) -> Result<Pickle, AllocError>
+    requires { AreWritable (keys_of items.now) }
+    ensures { IfOk result (λ graph. graph ≡ tuple_graph (item_graphs items.now)) }
+{
+    let mut side = Side::new(alloc);
+    for item in items {
+        side = lay_item(alloc, side, item)?;
+    }
+    side.close()
+}
+
+/// The graphs, and behind them a link to the next bucket of a class, if there is one.
+fn lay_next(
+    alloc: Global,
+    side: Side,
+    row: &ClassRow,
+    next: Option<Oid>,
+) -> Result<Side, AllocError>
+    requires { IsGlobal row.now.module.now row.now.name.now }
+    ensures { IfOk result (λ all. all ≡ laid_all side (next_graphs row.now next)) }
+{
+    match next {
+        None => Ok(side),
+        Some(oid) => {
+            let link = link_pickle(alloc, oid, row.module.as_bytes(), row.name.as_bytes())?;
+            let all = side.lay(alloc, &link)?;
+            Ok(all)
+        }
+    }
+}
+
+/// The state of a bucket or a set, of the class that the row is: [`read_bucket`](crate::read_bucket) reads it as
+/// the same bucket.
+///
+/// Each key, each value and the link stand apart in it, so a node that two values shared stands twice, and where
+/// it is written each has its own spelling, with its puts counted on from those before. A reference to the next
+/// bucket names the class of the row. Want of memory is the one error; a value of more nodes than a pickle may
+/// have is refused so, too.
+pub fn write_bucket(alloc: Global, bucket: &Bucket, row: &ClassRow) -> Result<Pickle, AllocError>
+    requires keys { AreWritable (keys_of bucket.now.items) }
+    requires class { IsGlobal row.now.module.now row.now.name.now }
+    ensures state { IfOk result (λ graph. graph ≡ bucket_graph row.now bucket.now) }
+{
+    let items = items_pickle(alloc, bucket.items().as_slice())?;
+    let side = Side::new(alloc).lay(alloc, &items)?;
+    lay_next(alloc, side, row, bucket.next())?.close()
+}

@@ -1,0 +1,73 @@
+-- What the contract of a vote says of its answer. Own.
+use Rattle.std.specs.Prelude.{◌≡◌, ℕ, ◌<◌, ◌≤◌, List, Option, Some, Result, Ok, Err, IfErr, length, map, nat_eq, All}
+use Rattle.std.specs.List.{IsDistinct}
+use Rattle.zb_base.specs.Counts.{Rose}
+use Rattle.zb_model.specs.declared.data.Change.{Change}
+use Rattle.zb_model.specs.declared.data.Transaction.{Transaction}
+use Rattle.zb_model.specs.declared.new_transaction.NewChange.{NewChange}
+use Rattle.zb_model.specs.declared.new_transaction.NewContent.{NewContent}
+use Rattle.zb_model.specs.declared.new_transaction.NewContent.TheVariants as new_content
+use Rattle.zb_model.specs.declared.pending.PendingStore.{PendingStore}
+use Rattle.zb_model.specs.declared.refusal.Refusal.{Refusal}
+use Rattle.zb_model.specs.declared.refusal.Refusal.TheVariants as refusal
+use Rattle.zb_model.specs.Database.{serial_of}
+use Rattle.zb_model.specs.Stores.{StoreState, ReadKeepsRest}
+use Rattle.zb_model.specs.Voting.{IsFilled, NamesRevision, voted_change}
+use Rattle.commit_phases.specs.declared.errors.VoteRefusal.{VoteRefusal}
+use Rattle.commit_phases.specs.declared.errors.VoteRefusal.TheVariants as vote_refusal
+
+-- the refusal is the one that was decided; a failed read and want of memory say nothing of it
+abbrev pub IsVoteRefusal : {T : Type 0} → Result T Refusal → VoteRefusal → Type 0
+IsVoteRefusal decided (vote_refusal.Conflict oid base current why) = decided ≡ Err (refusal.Conflict oid base current why)
+IsVoteRefusal decided (vote_refusal.ReadConflict oid base current) = decided ≡ Err (refusal.ReadConflict oid base current)
+IsVoteRefusal decided (vote_refusal.TooLong n) = decided ≡ Err (refusal.TooLong n)
+IsVoteRefusal decided vote_refusal.ReadFault = Unit {0}
+IsVoteRefusal decided vote_refusal.Memory = Unit {0}
+
+-- the answer is what was decided, each new change seen over the list
+abbrev pub IsDecision : List Transaction → Result (List Change) Refusal → Result (List NewChange) VoteRefusal → Type 0
+IsDecision list decided (Ok changes) = decided ≡ Ok (map (voted_change list) changes)
+IsDecision list decided (Err why) = IsVoteRefusal decided why
+
+-- the same of one change
+abbrev pub IsOneDecision : List Transaction → Result Change Refusal → Result NewChange VoteRefusal → Type 0
+IsOneDecision list decided (Ok change) = decided ≡ Ok (voted_change list change)
+IsOneDecision list decided (Err why) = IsVoteRefusal decided why
+
+-- a read fault is answered only where the count of failed reads rose
+abbrev pub HasVoteCause : ℕ → ℕ → VoteRefusal → Type 0
+HasVoteCause before now (vote_refusal.Conflict oid base current why) = Unit {0}
+HasVoteCause before now (vote_refusal.ReadConflict oid base current) = Unit {0}
+HasVoteCause before now (vote_refusal.TooLong n) = Unit {0}
+HasVoteCause before now vote_refusal.ReadFault = Rose before now
+HasVoteCause before now vote_refusal.Memory = Unit {0}
+
+-- a vote only reads: all of the store but its count of failed reads is as before, that hasn't fallen, and a read fault has its cause
+pub record VoteOnlyReads {T : Type 0} (old new : StoreState) (result : Result T VoteRefusal) : Type 0 where
+  pub same : ReadKeepsRest old new
+  pub counted : old.read_faults ≤ new.read_faults
+  pub cause : IfErr result (HasVoteCause old.read_faults new.read_faults)
+
+-- each store was made from its object's last revision
+abbrev pub AreCurrent : List Transaction → List PendingStore → Type 0
+AreCurrent list stores = All (λ p. p.base ≡ serial_of p.oid list) stores
+
+-- new bytes, which aren't empty
+abbrev pub IsNewBytes : NewContent → Type 0
+IsNewBytes (new_content.Bytes bytes) = 0 < length bytes
+IsNewBytes new_content.Absent = ⊥
+IsNewBytes (new_content.AsOf serial) = ⊥
+
+-- changes that a store may vote over a list: each names its object once, none has empty bytes, and what they take over was there
+pub record MayBeVoted (list : List Transaction) (changes : List NewChange) : Type 0 where
+  pub distinct : IsDistinct nat_eq (map (λ c. c.oid) changes)
+  pub filled : All (λ c. IsFilled c.content) changes
+  pub sound : All (λ c. NamesRevision list c.oid c.content) changes
+
+-- the refusal is that of the first check that fails
+abbrev pub IsFailedCheck : Option Refusal → VoteRefusal → Type 0
+IsFailedCheck failed (vote_refusal.ReadConflict oid base current) = failed ≡ Some (refusal.ReadConflict oid base current)
+IsFailedCheck failed (vote_refusal.Conflict oid base current why) = ⊥
+IsFailedCheck failed (vote_refusal.TooLong n) = ⊥
+IsFailedCheck failed vote_refusal.ReadFault = ⊥
+IsFailedCheck failed vote_refusal.Memory = ⊥

@@ -1,0 +1,203 @@
+//! What a vote decides.
+
+ghost use Rattle.std.specs.Prelude.{◌≡◌, ℕ, ◌<◌, ◌≤◌, ◌^◌, ◌++◌, ◌∷◌, [], None, Ok, false, length, map, All, IfOk, OnOk, IfSome, IfNone};
+ghost use Rattle.zb_model.specs.Database.{serial_of};
+ghost use Rattle.commit_phases.specs.Decision.{change_of_store, changes_of_stores, excess_of, failed_check, goes_in, vote_decision};
+ghost use Rattle.commit_phases.specs.Resolving.{length_of_new, refusal_as, HasCauseIn, IsResolved, ResolvingOnlyReads};
+ghost use Rattle.commit_phases.specs.Voted.{AreCurrent, HasVoteCause, IsDecision, IsFailedCheck, IsNewBytes, IsOneDecision, IsVoteRefusal, MayBeVoted, VoteOnlyReads};
+
+use crate::errors::VoteRefusal;
+use crate::pending::{OBJECT_LIMIT, Pending, TRANSACTION_LIMIT};
+use crate::resolving::{Unresolved, resolve};
+use std::alloc::{AllocError, Global};
+use zb_ids::{ListOf, Oid, Text8, Tid};
+use zb_model::{NewChange, NewContent, PendingCheck, PendingStore, Resolver, Store};
+
+/// The bytes that go in for a store.
+fn settle<St: Store, R: Resolver>(
+    alloc: Global,
+    store: &mut St,
+    resolver: &R,
+    pending: PendingStore,
+) -> Result<Text8, Unresolved>
+    requires whole { (St.state store.old).broken ≡ false }
+    requires filled { 0 < length pending.bytes }
+    ensures settled { St.told
+        → IsResolved (goes_in (R.rules resolver.now) (St.state store.old).list pending) result }
+    ensures some { IfOk result (λ bytes. 0 < length bytes) }
+    ensures read { ResolvingOnlyReads (St.state store.old) (St.state store.new) result }
+    ensures unread { St.told
+        → pending.base ≡ serial_of pending.oid (St.state store.old).list
+        → St.state store.new ≡ St.state store.old }
+{
+    let PendingStore { oid, base, bytes } = pending;
+    if store.serial_of(oid) == base {
+        return Ok(bytes);
+    }
+    resolve(alloc, store, resolver, oid, base, bytes.as_slice())
+}
+
+/// The refusal that an answer without bytes becomes.
+fn refuse<St: Store>(store: &St, oid: Oid, base: Tid, error: Unresolved) -> VoteRefusal
+    requires whole { (St.state store.now).broken ≡ false }
+    ensures refusal { St.told → result ≡ refusal_as (St.state store.now).list oid base error }
+    ensures cause { (before now : ℕ) → HasCauseIn before now error → HasVoteCause before now result }
+{
+    match error {
+        Unresolved::Refused(why) => VoteRefusal::Conflict {
+            oid,
+            base,
+            current: store.serial_of(oid),
+            why,
+        },
+        Unresolved::ReadFault => VoteRefusal::ReadFault,
+        Unresolved::Memory => VoteRefusal::Memory,
+    }
+}
+
+/// The change that a store becomes.
+fn change_of<St: Store, R: Resolver>(
+    alloc: Global,
+    store: &mut St,
+    resolver: &R,
+    pending: PendingStore,
+) -> Result<NewChange, VoteRefusal>
+    requires whole { (St.state store.old).broken ≡ false }
+    requires filled { 0 < length pending.bytes }
+    ensures decided { St.told → IsOneDecision (St.state store.old).list
+        (change_of_store (R.rules resolver.now) (St.state store.old).list pending) result }
+    ensures oid { IfOk result (λ change. change.oid ≡ pending.oid) }
+    ensures filled { IfOk result (λ change. IsNewBytes change.content) }
+    ensures read { VoteOnlyReads (St.state store.old) (St.state store.new) result }
+    ensures unread { St.told
+        → pending.base ≡ serial_of pending.oid (St.state store.old).list
+        → St.state store.new ≡ St.state store.old }
+{
+    let oid = pending.oid;
+    let base = pending.base;
+    match settle(alloc, store, resolver, pending) {
+        Ok(bytes) => Ok(NewChange {
+            oid,
+            content: NewContent::Bytes(bytes),
+        }),
+        Err(error) => Err(refuse(store, oid, base, error)),
+    }
+}
+
+/// Puts a change behind the others.
+fn keep(changes: &mut ListOf<NewChange>, change: NewChange) -> Result<(), AllocError>
+    ensures { OnOk result (changes.new ≡ changes.old ++ change ∷ []) }
+{
+    changes.push(change)?;
+    Ok(())
+}
+
+/// The changes that stores become, in their order. The first one that can't go in refuses them all.
+fn changes_of<St: Store, R: Resolver>(
+    alloc: Global,
+    store: &mut St,
+    resolver: &R,
+    stores: ListOf<PendingStore>,
+) -> Result<ListOf<NewChange>, VoteRefusal>
+    requires whole { (St.state store.old).broken ≡ false }
+    requires filled { All (λ p. 0 < length p.bytes) stores }
+    ensures decided { St.told → IsDecision (St.state store.old).list
+        (changes_of_stores (R.rules resolver.now) (St.state store.old).list stores) result }
+    ensures oids { IfOk result (λ changes. map (λ c. c.oid) changes ≡ map (λ p. p.oid) stores) }
+    ensures filled { IfOk result (λ changes. All (λ c. IsNewBytes c.content) changes) }
+    ensures read { VoteOnlyReads (St.state store.old) (St.state store.new) result }
+    ensures unread { St.told → AreCurrent (St.state store.old).list stores
+        → St.state store.new ≡ St.state store.old }
+{
+    let mut changes = ListOf::new(alloc);
+    for pending in stores.into_vec() {
+        let change = change_of(alloc, store, resolver, pending)?;
+        keep(&mut changes, change)?;
+    }
+    Ok(changes)
+}
+
+/// The refusal of the first check whose serial isn't the object's.
+fn refuse_checks<St: Store>(store: &St, checks: &[PendingCheck]) -> Option<VoteRefusal>
+    requires whole { (St.state store.now).broken ≡ false }
+    ensures none { St.told
+        → IfNone result (failed_check (St.state store.now).list checks.now ≡ None) }
+    ensures some { St.told
+        → IfSome result (IsFailedCheck (failed_check (St.state store.now).list checks.now)) }
+    ensures cause { IfSome result (λ why. (before now : ℕ) → HasVoteCause before now why) }
+{
+    for check in checks {
+        let current = store.serial_of(check.oid);
+        if check.serial != current {
+            return Some(VoteRefusal::ReadConflict {
+                oid: check.oid,
+                base: check.serial,
+                current,
+            });
+        }
+    }
+    None
+}
+
+/// How many bytes a new change has.
+fn length_of(change: &NewChange) -> u64
+    ensures { result ≡ length_of_new change.now.content }
+{
+    match &change.content {
+        NewContent::Bytes(bytes) => bytes.len() as u64,
+        NewContent::Absent => 0,
+        NewContent::AsOf(_) => 0,
+    }
+}
+
+/// The length that passes a limit: that of the first change that passes the limit of an object, else that
+/// of all where they pass the limit of a transaction.
+fn excess(changes: &[NewChange]) -> Option<u64>
+    requires few { length changes.now ≤ 2 ^ 26 }
+    ensures { result ≡ excess_of (map (λ c. length_of_new c.content) changes.now) }
+{
+    let mut sum = 0;
+    for change in changes {
+        let length = length_of(change);
+        if length > OBJECT_LIMIT {
+            return Some(length);
+        }
+        sum += length;
+    }
+    if sum > TRANSACTION_LIMIT {
+        return Some(sum);
+    }
+    None
+}
+
+/// What a vote on pending changes will write over the list of a store, or why it is refused: for the
+/// first store that can't go in, else for the first check that fails, else for the lengths of what would
+/// go in. A store whose base is the object's serial goes in with its bytes; any other is merged by the
+/// resolver's rules, or is a conflict. Contents are read for these alone. The bytes of the pending
+/// changes are moved into the new ones, so a caller that wants them after a refusal copies them first.
+/// With an error nothing is done but that a failed read is counted.
+#[tactic(auto, unfolding(crate::specs::Decision::vote_decision))]
+pub fn decide<St: Store, R: Resolver>(
+    alloc: Global,
+    store: &mut St,
+    resolver: &R,
+    pending: Pending,
+) -> Result<ListOf<NewChange>, VoteRefusal>
+    requires whole { (St.state store.old).broken ≡ false }
+    ensures decided { St.told → IsDecision (St.state store.old).list
+        (vote_decision (R.rules resolver.now) (St.state store.old).list pending) result }
+    ensures votable { IfOk result (MayBeVoted (St.state store.old).list) }
+    ensures read { VoteOnlyReads (St.state store.old) (St.state store.new) result }
+    ensures unread { St.told → AreCurrent (St.state store.old).list pending.stores
+        → St.state store.new ≡ St.state store.old }
+{
+    let (stores, checks) = pending.into_parts()?;
+    let changes = changes_of(alloc, store, resolver, stores)?;
+    match refuse_checks(store, checks.as_slice()) {
+        Some(refusal) => Err(refusal),
+        None => match excess(changes.as_slice()) {
+            Some(length) => Err(VoteRefusal::TooLong { length }),
+            None => Ok(changes),
+        },
+    }
+}

@@ -1,0 +1,15 @@
+//! The first phase of a commit: changes that wait for a vote, and what a vote makes of them over a
+//! list, whatever merges two changes of one object.
+#![tactic(auto)]
+
+mod deciding;
+mod errors;
+mod pending;
+mod resolving;
+
+pub use deciding::decide;
+pub use errors::{PendingError, VoteRefusal};
+pub use pending::{OBJECT_LIMIT, Pending, TRANSACTION_LIMIT};
+
+#[cfg(test)]
+mod tests;

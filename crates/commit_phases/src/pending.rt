@@ -1,0 +1,205 @@
+//! Changes that wait for a vote.
+
+ghost use Rattle.std.specs.Prelude.{◌≡◌, ◌++◌, ◌∷◌, [], ◌<◌, IfOk, OnOk, OnErr, length, nat_eq};
+ghost use Rattle.indexmap.specs.IndexMap.{get, insert_entry, keys};
+ghost use Rattle.std.specs.List.{IsDistinct};
+ghost use Rattle.commit_phases.specs.Pending.{excess_with, size_of_stores, with_pending, AreStores, IsOkUnlessTooLong};
+ghost use Rattle.commit_phases.specs.Kept.{base_or, length_or_none, store_of, stores_of};
+
+use crate::errors::PendingError;
+use indexmap::IndexMap;
+use std::alloc::{AllocError, Global};
+use std::marker::Model;
+use zb_ids::{ListOf, Oid, Text8, Tid};
+use zb_model::{PendingCheck, PendingStore};
+
+/// How many bytes one object may have.
+pub const OBJECT_LIMIT: u64 = 16_777_216;
+
+/// How many bytes the stores of one transaction may have together.
+pub const TRANSACTION_LIMIT: u64 = 67_108_864;
+
+/// The base and the bytes of an object's store.
+#[derive(Debug, Drop)]
+pub(crate) struct Stored {
+    pub(crate) base: Tid,
+    pub(crate) bytes: Text8,
+}
+
+impl Clone for Stored {
+    ghost use Rattle.std.specs.Prelude.{◌≡◌};
+
+    ghost is_clone = { λ stored copy. copy ≡ stored };
+
+    fn clone(&self) -> Result<Stored, AllocError> {
+        Ok(Stored {
+            base: self.base,
+            bytes: self.bytes.clone()?,
+        })
+    }
+}
+
+/// Stores and checks that wait for a vote. Contracts see the stores in the order in which their objects
+/// were first stored, and the checks in their order. No two stores are of one object, none is empty,
+/// and their bytes are within the limits of an object and of a transaction.
+#[derive(Drop)]
+pub struct Pending {
+    alloc: Global,
+    stores: IndexMap<Oid, Stored>,
+    checks: ListOf<PendingCheck>,
+    /// How many bytes the stores have together.
+    size: u64,
+}
+
+impl Model for Pending {
+    ghost use Rattle.std.specs.Prelude.{◌≡◌};
+    ghost use Rattle.commit_phases.specs.Pending.{AreStores, PendingChanges, size_of_stores};
+    ghost use Rattle.commit_phases.specs.Kept.{stores_of};
+
+    ghost Value = { PendingChanges };
+
+    ghost view = { λ a. record { stores = stores_of a.stores.entries; checks = a.checks } };
+
+    ghost invariant = { λ a. AreStores (stores_of a.stores.entries)
+        × (a.size ≡ size_of_stores (stores_of a.stores.entries)) };
+}
+
+/// Puts an object's store into the table, in the place of an earlier one or behind all.
+fn keep(stores: &mut IndexMap<Oid, Stored>, oid: Oid, stored: Stored) -> Result<(), AllocError>
+    ensures ok { OnOk result (stores.new.entries ≡ insert_entry nat_eq stores.old.entries oid stored) }
+    ensures unique { IsDistinct nat_eq (keys stores.new) }
+    ensures err { OnErr result (stores.new.entries ≡ stores.old.entries) }
+{
+    stores.insert(oid, stored)?;
+    Ok(())
+}
+
+/// Puts an object's store into a table whose stores have `size` bytes together, in the place of an
+/// earlier one or behind all, and answers how many bytes they have then.
+fn put(
+    stores: &mut IndexMap<Oid, Stored>,
+    size: u64,
+    store: PendingStore,
+) -> Result<u64, PendingError>
+    requires stores { AreStores (stores_of stores.old.entries) }
+    requires size { size ≡ size_of_stores (stores_of stores.old.entries) }
+    requires filled { 0 < length store.bytes }
+    ensures answer { IsOkUnlessTooLong (excess_with (stores_of stores.old.entries) store) result }
+    ensures ok { OnOk result
+        (stores_of stores.new.entries ≡ with_pending (stores_of stores.old.entries) store) }
+    ensures size { IfOk result (λ size. size ≡ size_of_stores (stores_of stores.new.entries)) }
+    ensures stores { AreStores (stores_of stores.new.entries) }
+    ensures err { OnErr result (stores.new.entries ≡ stores.old.entries) }
+{
+    let PendingStore { oid, base, bytes } = store;
+    let length = bytes.len() as u64;
+    if length > OBJECT_LIMIT {
+        return Err(PendingError::TooLong { length });
+    }
+    let (base, earlier) = earlier_or(stores, oid, base);
+    let size = size - earlier + length;
+    if size > TRANSACTION_LIMIT {
+        return Err(PendingError::TooLong { length: size });
+    }
+    keep(stores, oid, Stored { base, bytes })?;
+    Ok(size)
+}
+
+impl Pending {
+    /// Nothing is pending. It takes no memory until something is stored.
+    pub fn new(alloc: Global) -> Pending
+        ensures stores { result.stores ≡ [] }
+        ensures checks { result.checks ≡ [] }
+    {
+        Pending {
+            alloc,
+            stores: IndexMap::new(alloc),
+            checks: ListOf::new(alloc),
+            size: 0,
+        }
+    }
+
+    /// Puts an object's bytes, made from its revision with the serial `base`, behind the other stores. A
+    /// second store of an object replaces the bytes of the first, and keeps its place and base. With an
+    /// error the pending changes are as before.
+    pub fn store(&mut self, oid: Oid, base: Tid, bytes: Text8) -> Result<(), PendingError>
+        requires filled { 0 < length bytes }
+        ensures answer { IsOkUnlessTooLong
+            (excess_with self.old.stores (record { oid = oid; base = base; bytes = bytes })) result }
+        ensures ok { OnOk result
+            (self.new.stores ≡ with_pending self.old.stores (record { oid = oid; base = base; bytes = bytes })) }
+        ensures err { OnErr result (self.new ≡ self.old) }
+        ensures checks { self.new.checks ≡ self.old.checks }
+    {
+        self.size = put(
+            &mut self.stores,
+            self.size,
+            PendingStore { oid, base, bytes },
+        )?;
+        Ok(())
+    }
+
+    /// Puts a check behind the others: at the vote the object must have this serial, or none where it is
+    /// 0. The one error is want of memory, and then the pending changes are as before.
+    pub fn check(&mut self, oid: Oid, serial: Tid) -> Result<(), AllocError>
+        ensures ok { OnOk result
+            (self.new.checks ≡ self.old.checks ++ (record { oid = oid; serial = serial }) ∷ []) }
+        ensures err { OnErr result (self.new ≡ self.old) }
+        ensures stores { self.new.stores ≡ self.old.stores }
+    {
+        self.checks.push(PendingCheck { oid, serial })?;
+        Ok(())
+    }
+
+    /// The same pending changes once more. The one error is want of memory.
+    pub fn copy(&self) -> Result<Pending, AllocError>
+        ensures { IfOk result (λ copy. copy ≡ self.now) }
+    {
+        Ok(Pending {
+            alloc: self.alloc,
+            stores: self.stores.clone()?,
+            checks: self.checks.clone()?,
+            size: self.size,
+        })
+    }
+
+    /// The stores and the checks, in their orders. The one error is want of memory.
+    pub(crate) fn into_parts(
+        self,
+    ) -> Result<(ListOf<PendingStore>, ListOf<PendingCheck>), AllocError>
+        ensures stores { IfOk result (λ parts. parts.0 ≡ self.stores) }
+        ensures checks { IfOk result (λ parts. parts.1 ≡ self.checks) }
+        ensures are { AreStores self.stores }
+    {
+        let Pending {
+            alloc,
+            stores,
+            checks,
+            size: _,
+        } = self;
+        let stores: Vec<PendingStore> = stores
+            .into_iter()
+            .map(|(oid, stored)| pending_store(oid, stored))
+            .collect(alloc)?;
+        Ok((ListOf::from_vec(stores), checks))
+    }
+}
+
+/// The base that an object's store has, and how many bytes, or else this base and none.
+fn earlier_or(stores: &IndexMap<Oid, Stored>, oid: Oid, base: Tid) -> (Tid, u64)
+    ensures base { result.0 ≡ base_or (get nat_eq stores.now oid) base }
+    ensures length { result.1 ≡ length_or_none (get nat_eq stores.now oid) }
+{
+    match stores.get(&oid) {
+        Some(stored) => (stored.base, stored.bytes.len() as u64),
+        None => (base, 0),
+    }
+}
+
+/// An entry of the table as a store.
+fn pending_store(oid: Oid, stored: Stored) -> PendingStore
+    ensures { result ≡ store_of (oid, stored) }
+{
+    let Stored { base, bytes } = stored;
+    PendingStore { oid, base, bytes }
+}

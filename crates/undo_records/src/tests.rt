@@ -1,0 +1,4 @@
+//! Undo over a list.
+mod making;
+mod plain;
+mod steps;

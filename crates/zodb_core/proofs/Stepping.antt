@@ -1,0 +1,135 @@
+-- How a hub's step is a step of each machine that it stands for.
+use Rattle.std.proofs.Common.{◌≡◌, ℕ, zero, suc, ◌+◌, ◌-◌, ◌^◌, ◌<◌, ◌≤◌, List, [], ◌∷◌, ◌++◌, Option, Some, None, Result, Ok, Err, Bool, true, false, not, nat_lt, if◌then◌else◌, length, map, drop, refl, sym, ap, subst, ◌∙◌, arith, IsTrue}
+use Rattle.std.specs.Prelude.{IfErr, IfOk, filter, slice_set, ◌==◌}
+use Rattle.std.specs.Option.{option_map, option_or}
+use Rattle.zb_base.specs.Counts.{Rose}
+use Rattle.zb_ids.specs.declared.stamp.Stamp.{Stamp}
+use Rattle.zb_model.specs.declared.data.Transaction.{Transaction}
+use Rattle.zb_model.specs.declared.found.Found.{Found}
+use Rattle.zb_model.specs.declared.found.Found.TheVariants as found
+use Rattle.zb_model.specs.declared.lists.LogLine.{LogLine}
+use Rattle.zb_model.specs.declared.lists.Revision.{Revision}
+use Rattle.zb_model.specs.declared.refusal.Refusal.{Refusal}
+use Rattle.zb_model.specs.declared.refusal.Refusal.TheVariants as refusal
+use Rattle.zb_model.specs.declared.store_error.StoreError.{StoreError}
+use Rattle.zb_model.specs.declared.store_error.StoreError.TheVariants as store_error
+use Rattle.zb_model.specs.declared.news.News.{News}
+use Rattle.zb_model.specs.Lists.{history_of, undo_log_of}
+use Rattle.zb_model.specs.Queries.{found_below}
+use Rattle.zb_model.specs.Stores.{IsOnlyRead, MayRefuseReading, ReadKeepsRest, StoreState}
+use Rattle.zodb_core.specs.declared.reply.Reply.{Reply}
+use Rattle.zodb_core.specs.declared.reply.Reply.TheVariants as reply
+use Rattle.zodb_core.specs.declared.request.Request.{Request}
+use Rattle.zodb_core.specs.declared.request.Request.TheVariants as request
+use Rattle.zodb_core.specs.declared.session.Session.{Session}
+use Rattle.zodb_core.specs.HubState.{HubState, MakesStep, StandsForMachine, counts_of, seen_vote, sessions_with}
+use Rattle.zodb_core.specs.Machine.{Machine, Rules, front_of, is_news_for, is_open_in, news_of, switches_of, told_of}
+use Rattle.zodb_core.specs.Outcomes.{Answered, AreLaterCounts, EndsFor, FaultCounts, IsStepMade, MayGoWrong, NoMemory, Outcome, ReadingFailed, StoreFailed, machine_left, outcome_of, outcome_of_refusal, reads_store, takes_memory}
+use Rattle.zodb_core.specs.Replies.{fault_reply, loaded_reply}
+use Rattle.zodb_core.specs.Steps.{Stepped, early_refusal, loaded, refuse_if, replied, request_refusal, request_step, step_of}
+
+-- ---- what a hub that was only read stands for
+
+pub stands_read : {R F : Type 0} (m : Machine) (old new : HubState R F) → StandsForMachine old m → ReadKeepsRest old.store new.store
+    → new.journal ≡ old.journal → new.greatest ≡ old.greatest → new.sessions ≡ old.sessions → new.vote ≡ old.vote → StandsForMachine new m
+stands_read m old new stands same journal greatest sessions vote = record {
+  journal = stands.journal ∙ sym journal;
+  greatest = stands.greatest ∙ sym greatest;
+  sessions = stands.sessions ∙ sym (ap (λ (s : StoreState). sessions_with s.broken new.sessions) same ∙ ap (sessions_with old.store.broken) sessions);
+  pack = stands.pack;
+  failed = stands.failed ∙ sym (ap (λ (s : StoreState). s.broken) same);
+  list = λ whole. stands.list (sym (ap (λ (s : StoreState). s.broken) same) ∙ whole) ∙ sym (ap (λ (s : StoreState). s.list) same);
+  vote = λ whole. stands.vote (sym (ap (λ (s : StoreState). s.broken) same) ∙ whole)
+      ∙ sym (ap (λ (s : StoreState). option_map (seen_vote s.voted) new.vote) same ∙ ap (option_map (seen_vote old.store.voted)) vote);
+}
+
+-- while the store is whole the machine's sessions are the hub's
+pub sessions_whole : {R F : Type 0} (m : Machine) (hub : HubState R F) → StandsForMachine hub m → hub.store.broken ≡ false → m.sessions ≡ hub.sessions
+sessions_whole m hub stands whole = stands.sessions ∙ ap (λ (b : Bool). sessions_with b hub.sessions) whole
+
+-- ---- how a step ends
+
+-- a session that is open is refused what its request is
+pub not_early : (m : Machine) (n : ℕ) (q : Request) (sessions : List Session) → m.sessions ≡ sessions → is_open_in sessions n ≡ true → early_refusal m n q ≡ request_refusal m n q
+not_early m n q sessions same is_open = ap (λ (b : Bool). option_or (refuse_if (not b) refusal.NotOpen) (request_refusal m n q)) (ap (λ (xs : List Session). is_open_in xs n) same ∙ is_open)
+
+pub ends_answered : (rules : Rules) (m : Machine) (n : ℕ) (q : Request) (stamp : ℕ) (made : Stepped) (before now : FaultCounts) (o : Outcome) → o ≡ Answered → made ≡ step_of rules m n q stamp → EndsFor rules m n q stamp made before now o
+ends_answered rules m n q stamp made before now Answered is same = same
+ends_answered rules m n q stamp made before now ReadingFailed is same = absurd cc
+ends_answered rules m n q stamp made before now NoMemory is same = absurd cc
+ends_answered rules m n q stamp made before now StoreFailed is same = absurd cc
+
+-- the machine answers it without the clock
+pub answered : {R F : Type 0} (rules : Rules) (m : Machine) (n : ℕ) (q : Request) (r : Reply) (left : Machine) (old new : HubState R F) (stamps : Option (List Stamp))
+    → AreLaterCounts (counts_of old.store) (counts_of new.store) → outcome_of r ≡ Answered → step_of rules m n q 0 ≡ replied left r → StandsForMachine new left
+    → MakesStep rules m n q r old new stamps stamps
+answered rules m n q r left old new stamps later is gives stands = record {
+  stamp = 0;
+  left = left;
+  ticks = false;
+  made = record {
+    later = later;
+    cause = ends_answered rules m n q 0 (replied left r) (counts_of old.store) (counts_of new.store) (outcome_of r) is (sym gives);
+    left = sym (ap (machine_left rules m n q 0) is ∙ ap (λ (s : Stepped). s.machine) gives);
+    ticks = λ never. absurd cc;
+  };
+  clock = refl;
+  stands = stands;
+}
+
+-- reading failed
+pub reading_failed : {R F : Type 0} (rules : Rules) (m : Machine) (n : ℕ) (q : Request) (old new : HubState R F) (stamps : Option (List Stamp))
+    → AreLaterCounts (counts_of old.store) (counts_of new.store) → MayGoWrong m n q (reads_store q) → Rose old.store.read_faults new.store.read_faults → StandsForMachine new m
+    → MakesStep rules m n q (reply.Refused refusal.ReadFault) old new stamps stamps
+reading_failed rules m n q old new stamps later may rose stands = record {
+  stamp = 0;
+  left = m;
+  ticks = false;
+  clock = refl;
+  stands = stands;
+  made = record { later = later; cause = (may, rose); left = refl; ticks = λ never. absurd cc };
+}
+
+-- there was no memory
+pub starved : {R F : Type 0} (rules : Rules) (m : Machine) (n : ℕ) (q : Request) (old new : HubState R F) (stamps : Option (List Stamp))
+    → AreLaterCounts (counts_of old.store) (counts_of new.store) → MayGoWrong m n q (takes_memory q) → StandsForMachine new m
+    → MakesStep rules m n q (reply.Refused refusal.Memory) old new stamps stamps
+starved rules m n q old new stamps later may stands = record {
+  stamp = 0;
+  left = m;
+  ticks = false;
+  clock = refl;
+  stands = stands;
+  made = record { later = later; cause = may; left = refl; ticks = λ never. absurd cc };
+}
+
+-- an error of a read
+pub read_refused : {R F : Type 0} (rules : Rules) (m : Machine) (n : ℕ) (q : Request) (e : StoreError) (old new : HubState R F) (stamps : Option (List Stamp))
+    → AreLaterCounts (counts_of old.store) (counts_of new.store) → early_refusal m n q ≡ None → reads_store q ≡ true → takes_memory q ≡ true
+    → MayRefuseReading old.store new.store e → StandsForMachine new m
+    → MakesStep rules m n q (fault_reply e) old new stamps stamps
+read_refused rules m n q store_error.StoreFault old new stamps later early reads takes may stands = absurd may
+read_refused rules m n q store_error.ReadFault old new stamps later early reads takes may stands = reading_failed rules m n q old new stamps later (record { allowed = early; one = reads }) may stands
+read_refused rules m n q store_error.Memory old new stamps later early reads takes may stands = starved rules m n q old new stamps later (record { allowed = early; one = takes }) stands
+
+-- ---- a look-up
+
+loaded_same : (m : Machine) (oid : ℕ) (f : Found) (upto switches : ℕ) → upto ≡ front_of m.list → switches ≡ switches_of m.journal → loaded_reply oid f upto switches ≡ loaded m oid f
+loaded_same m oid (found.Held serial bytes end) upto switches front packs = ap (reply.Loaded serial bytes end) front
+loaded_same m oid (found.Absent serial) upto switches front packs = ap (reply.Nothing oid) packs
+loaded_same m oid found.Nothing upto switches front packs = ap (reply.Nothing oid) packs
+
+loaded_answered : (oid : ℕ) (f : Found) (upto switches : ℕ) → outcome_of (loaded_reply oid f upto switches) ≡ Answered
+loaded_answered oid (found.Held serial bytes end) upto switches = refl
+loaded_answered oid (found.Absent serial) upto switches = refl
+loaded_answered oid found.Nothing upto switches = refl
+
+pub load_answered : {R F : Type 0} (rules : Rules) (m : Machine) (n oid front : ℕ) (f : Found) (upto switches : ℕ) (old new : HubState R F) (stamps : Option (List Stamp))
+    → AreLaterCounts (counts_of old.store) (counts_of new.store) → StandsForMachine old m → old.store.broken ≡ false → is_open_in old.sessions n ≡ true → f ≡ found_below oid front m.list
+    → upto ≡ front_of m.list → switches ≡ switches_of m.journal → StandsForMachine new m
+    → MakesStep rules m n (request.LoadBefore oid front) (loaded_reply oid f upto switches) old new stamps stamps
+load_answered rules m n oid front f upto switches old new stamps later stands whole is_open found upto_is packs left =
+    answered rules m n (request.LoadBefore oid front) (loaded_reply oid f upto switches) m old new stamps later (loaded_answered oid f upto switches)
+    (rw (not_early m n (request.LoadBefore oid front) old.sessions (sessions_whole m old stands whole) is_open)
+    (ap (replied m) (sym (loaded_same m oid f upto switches upto_is packs ∙ ap (loaded m oid) found))))
+    left

@@ -1,0 +1,86 @@
+use Rattle.std.proofs.Common.{rules, refl, sym, ap, subst, ◌∙◌, ◌+◌, length, arith}
+use Rattle.zodb_core.specs.HubState.{rules_of}
+use Rattle.zodb_core.proofs.Holding.{hold_full, hold_failed, hold_spent, hold_voted, kept_voted}
+use Rattle.std.specs.Vec.{vec_capacity}
+use Rattle.zodb_core.proofs.Votes.{leaves_now, leaves_same}
+use Rattle.zodb_core.proofs.hub.Hub.hold.Goals as goal
+
+-- ---- what a crash leaves
+
+pub returns-then-is_empty-clause-any_moment : goal.returns-then-is_empty-clause-any_moment
+returns-then-is_empty-clause-any_moment g c = λ lasts told.
+    let s = g.St.Store.state c.self.inside.store in
+    leaves_now g.St.Store.stands c.args.self.now.store s s.log (search rules) (g.met.St.Store.lasting c.self.inside.store lasts (search rules)) (search rules)
+
+pub returns-then-count-gt-JOURNAL_LIMIT-clause-any_moment : goal.returns-then-count-gt-JOURNAL_LIMIT-clause-any_moment
+returns-then-count-gt-JOURNAL_LIMIT-clause-any_moment g c = λ lasts told.
+    let s = g.St.Store.state c.self.inside.store in
+    leaves_now g.St.Store.stands c.args.self.now.store s c.args.self.now.store.log (search rules) (g.met.St.Store.lasting c.self.inside.store lasts (search rules)) refl
+
+pub returns-in_default-clause-any_moment : goal.returns-in_default-clause-any_moment
+returns-in_default-clause-any_moment g c = λ lasts told.
+    let s = g.St.Store.state c.self.inside.store in
+    leaves_now g.St.Store.stands c.args.self.now.store s c.args.self.now.store.log (search rules) (g.met.St.Store.lasting c.self.inside.store lasts (search rules)) refl
+
+pub returns-in_default-reserve-clause-any_moment : goal.returns-in_default-reserve-clause-any_moment
+returns-in_default-reserve-clause-any_moment g c = λ lasts told.
+    let s = g.St.Store.state c.self.inside.store in
+    leaves_now g.St.Store.stands c.args.self.now.store s s.log (search rules) (g.met.St.Store.lasting c.self.inside.store lasts (search rules)) (search rules)
+
+pub returns-in_default-tick-clause-any_moment : goal.returns-in_default-tick-clause-any_moment
+returns-in_default-tick-clause-any_moment g c = λ lasts told.
+    let s = g.St.Store.state c.self.inside.store in
+    leaves_now g.St.Store.stands c.args.self.now.store s s.log (search rules) (g.met.St.Store.lasting c.self.inside.store lasts (search rules)) (search rules)
+
+pub returns-in-Err-clause-any_moment : goal.returns-in-Err-clause-any_moment
+returns-in-Err-clause-any_moment g c = λ lasts told.
+    let s = g.St.Store.state c.self.inside.store in
+    leaves_same g.St.Store.stands c.args.self.now.store s (g.St.Store.state c.vote.new.self).log (search rules) (c.vote.ensures.any_moment lasts)
+
+pub returns-clause-any_moment : goal.returns-clause-any_moment
+returns-clause-any_moment g c = λ lasts told.
+    let s = g.St.Store.state c.self.inside.store in
+    leaves_same g.St.Store.stands c.args.self.now.store s (g.St.Store.state c.vote.new.self).log (search rules) (c.vote.ensures.any_moment lasts)
+
+-- ---- the step
+
+pub returns-then-count-gt-JOURNAL_LIMIT-clause-step : goal.returns-then-count-gt-JOURNAL_LIMIT-clause-step
+returns-then-count-gt-JOURNAL_LIMIT-clause-step g c = λ told m stands q votes.
+    let rules_now = rules_of g.R.Resolver.rules g.F.Refs.named c.args.self.now in
+    let kept = c.self.inside.changes in
+    hold_full rules_now m c.args.session q c.args.texts c.args.changes kept (kept + c.len.result) c.args.self.now c.args.self.now _ _
+    stands votes (λ none. search rules) (search rules) (search rules) (search rules)
+    (record { reads = omega arith; others = omega arith }) stands refl
+
+pub returns-in_default-tick-clause-step : goal.returns-in_default-tick-clause-step
+returns-in_default-tick-clause-step g c = λ told m stands q votes.
+    let rules_now = rules_of g.R.Resolver.rules g.F.Refs.named c.args.self.now in
+    let kept = c.self.inside.changes in
+    hold_spent rules_now m c.args.session q c.args.texts c.args.changes kept c.newest.result c.args.self.now _ _ _
+    stands votes (λ none. search rules) (search rules) (search rules) (search rules) (search rules) (search rules) (search rules)
+
+pub returns-in-Err-clause-step : goal.returns-in-Err-clause-step
+returns-in-Err-clause-step g c = λ told m stands q votes.
+    let rules_now = rules_of g.R.Resolver.rules g.F.Refs.named c.args.self.now in
+    let kept = c.self.inside.changes in
+    rw c.fault_reply.ensures
+    (hold_failed rules_now m c.args.session q c.args.texts c.args.changes kept c.newest.result c.in-Some.tid c.in-Err.error c.args.self.now _ _ _
+    stands (search rules) votes (λ none. search rules) (search rules) (search rules) (search rules) (search rules) (search rules) (search rules) (λ fault. search (fault, rules)) (search rules)
+    (search rules) (search rules) (search rules) (search rules))
+
+pub returns-clause-step : goal.returns-clause-step
+returns-clause-step g c = λ told m stands q votes.
+    let rules_now = rules_of g.R.Resolver.rules g.F.Refs.named c.args.self.now in
+    let kept = c.self.inside.changes in
+    hold_voted rules_now m c.args.session q c.args.texts c.args.changes kept c.newest.result c.in-Some.tid _ c.args.self.now _ _ _
+    stands (search rules) votes (λ none. search rules) (search rules) (search rules) (search rules) (search rules) (search rules) (search rules) (search rules) (search rules)
+    (search rules) (search rules) (search rules) refl
+
+-- ---- what is kept
+
+pub invariant_of-self-2 : goal.invariant_of-self-2
+invariant_of-self-2 g c =
+    kept_voted g.St.Store.told (g.St.Store.state c.self.inside.store) (g.St.Store.state c.vote.new.self) c.self.inside.journal.items c.reserve.new.self.items (vec_capacity c.self.inside.journal) (vec_capacity c.reserve.new.self)
+    c.self.inside.changes c.self.inside.switches c.self.inside.sessions.items c.self.inside.vote c.self.inside.failed c.args.session (record { tid = c.in-Some.tid; oids = c.in-Ok.oids })
+    (record { tid = c.in-Some.tid; user = c.args.texts.user; description = c.args.texts.description; extension = c.args.texts.extension; changes = c.args.changes })
+    c.self.invariant (search rules) (search rules) (search rules) (search rules) (search rules) (search rules) refl (search rules) (λ tells. search (tells, rules))

@@ -1,0 +1,148 @@
+-- What contracts see of a hub, and the machines that it stands for. Own.
+use Rattle.std.specs.Prelude.{◌≡◌, ℕ, ◌<◌, ◌≤◌, ◌+◌, ◌⊎◌, ◌==◌, List, [], ◌∷◌, ◌++◌, Option, Some, None, Bool, true, false, IfSome, length, map, is_some}
+use Rattle.std.specs.Option.{option_map, option_map_or}
+use Rattle.zb_ids.specs.declared.stamp.Stamp.{Stamp}
+use Rattle.zb_ids.specs.Tids.{stamp_number}
+use Rattle.zb_model.specs.declared.data.Transaction.{Transaction}
+use Rattle.zb_model.specs.Queries.{oids_of}
+use Rattle.zb_model.specs.Rules.{MergeRules}
+use Rattle.zb_model.specs.Stores.{StoreState}
+use Rattle.zb_outside.specs.Stamps.{stamps_after}
+use Rattle.zodb_core.specs.declared.errors.SessionRefusal.{SessionRefusal}
+use Rattle.zodb_core.specs.declared.errors.SessionRefusal.TheVariants as session_refusal
+use Rattle.zodb_core.specs.declared.journal.JournalEntry.{JournalEntry}
+use Rattle.zodb_core.specs.declared.reply.Reply.{Reply}
+use Rattle.zodb_core.specs.declared.request.Request.{Request}
+use Rattle.zodb_core.specs.declared.request.Request.TheVariants as request
+use Rattle.zodb_core.specs.declared.session.Session.{Session}
+use Rattle.zodb_core.specs.declared.vote.HubVote.{HubVote}
+use Rattle.zodb_core.specs.declared.vote.VotedEntry.{VotedEntry}
+use Rattle.zodb_core.specs.Machine.{Machine, MachineVote, Rules, session_limit, switches_of}
+use Rattle.zodb_core.specs.Outcomes.{AreLaterCounts, FaultCounts, IsStepMade, Outcome, Answered, ReadingFailed, NoMemory, StoreFailed, closed_session, outcome_of}
+use Rattle.zb_base.specs.Counts.{Rose}
+use Rattle.zodb_core.specs.Steps.{Stepped, changes_in_journal, journal_limit, step_of}
+
+-- what contracts see of a hub: its store, its rules and references, and what it keeps beside the store
+pub record HubState (R F : Type 0) : Type 0 where
+  pub store : StoreState
+  pub resolver : R
+  pub refs : F
+  pub journal : List JournalEntry
+  pub greatest : ℕ
+  pub sessions : List Session
+  pub vote : Option HubVote
+
+-- the vote writes what the store has voted
+abbrev pub seen_vote : Option Transaction → HubVote → MachineVote
+seen_vote voted v = record { session = v.session; writes = voted }
+
+-- no session is open once the store has failed
+abbrev pub sessions_with : Bool → List Session → List Session
+sessions_with false sessions = sessions
+sessions_with true sessions = map closed_session sessions
+
+-- The hub stands for a machine. Once its store has failed, nothing is known of the store's list.
+pub record StandsForMachine {R F : Type 0} (hub : HubState R F) (m : Machine) : Type 0 where
+  pub journal : m.journal ≡ hub.journal
+  pub greatest : m.greatest ≡ hub.greatest
+  pub sessions : m.sessions ≡ sessions_with hub.store.broken hub.sessions
+  pub pack : m.pack ≡ None
+  pub failed : m.failed ≡ hub.store.broken
+  pub list : hub.store.broken ≡ false → m.list ≡ hub.store.list
+  pub vote : hub.store.broken ≡ false → m.vote ≡ option_map (seen_vote hub.store.voted) hub.vote
+
+-- the rules that a hub was given, as functions on bytes
+abbrev pub rules_of : {R F : Type 0} → (R → MergeRules) → (F → List ℕ → Option (List ℕ)) → HubState R F → Rules
+rules_of rules named hub = record { merging = rules hub.resolver; named = named hub.refs }
+
+abbrev pub counts_of : StoreState → FaultCounts
+counts_of s = record { reads = s.read_faults; others = s.faults }
+
+-- a fault comes only where its count rose
+abbrev pub IsCauseOf : FaultCounts → FaultCounts → Outcome → Type 0
+IsCauseOf before now Answered = Unit {0}
+IsCauseOf before now ReadingFailed = Rose before.reads now.reads
+IsCauseOf before now NoMemory = Unit {0}
+IsCauseOf before now StoreFailed = Rose before.others now.others
+
+-- ---- what a request is to keep
+
+-- texts have lengths of 16 bits, and numbers are asked for one to a hundred at once
+abbrev pub IsFitting : Request → Type 0
+IsFitting (request.NewOids count) = (0 < count) × (count ≤ 100)
+IsFitting (request.Vote user description extension pending) = (length user ≤ 65535) × (length description ≤ 65535) × (length extension ≤ 65535)
+IsFitting (request.Undo user description tids) = (length user ≤ 65535) × (length description ≤ 65535)
+IsFitting _ = Unit {0}
+
+-- ---- the opening of a session
+
+-- no session is opened where there were 64; memory is free to run out
+abbrev pub MayRefuseSession : ℕ → SessionRefusal → Type 0
+MayRefuseSession count (session_refusal.TooManySessions n) = (n ≡ session_limit) × (count ≡ session_limit)
+MayRefuseSession count session_refusal.StepsSpent = ⊥
+MayRefuseSession count session_refusal.Memory = Unit {0}
+
+-- ---- a step of a hub
+
+-- a clock that was read gave its first stamp, whose number this is, and one that wasn't is as it was
+abbrev pub IsRead : ℕ → Option (List Stamp) → Option (List Stamp) → Type 0
+IsRead stamp None after = after ≡ None
+IsRead stamp (Some []) after = ⊥
+IsRead stamp (Some (s ∷ stamps)) after = (stamp ≡ stamp_number s) × (after ≡ Some (stamps_after (s ∷ stamps)))
+
+abbrev pub HasTicked : Bool → ℕ → Option (List Stamp) → Option (List Stamp) → Type 0
+HasTicked false stamp before after = after ≡ before
+HasTicked true stamp before after = IsRead stamp before after
+
+-- A hub made a step of this machine with this reply: the clock gave a stamp where it was read, and the hub then stands for the machine that is left.
+pub record MakesStep {R F : Type 0} (rules : Rules) (m : Machine) (n : ℕ) (q : Request) (reply : Reply) (old new : HubState R F) (before after : Option (List Stamp)) : Type 0 where
+  pub stamp : ℕ
+  pub left : Machine
+  pub ticks : Bool
+  pub made : IsStepMade rules m n q stamp (record { reply = reply; machine = left; ticks = ticks }) (counts_of old.store) (counts_of new.store)
+  pub clock : HasTicked ticks stamp before after
+  pub stands : StandsForMachine new left
+
+-- Whatever the store tells: neither count of faults has fallen, a fault is answered only where its count rose, and the hub keeps its rules.
+pub record StepsSafely {R F : Type 0} (reply : Reply) (old new : HubState R F) : Type 0 where
+  pub resolver : new.resolver ≡ old.resolver
+  pub refs : new.refs ≡ old.refs
+  pub sessions : length new.sessions ≡ length old.sessions
+  pub later : AreLaterCounts (counts_of old.store) (counts_of new.store)
+  pub cause : IsCauseOf (counts_of old.store) (counts_of new.store) (outcome_of reply)
+
+-- bytes stand for the list before a step, or for the one behind it
+abbrev pub IsBeforeOrBehind : (List ℕ → List Transaction → Type 0) → Rules → Machine → ℕ → Request → List ℕ → Type 0
+IsBeforeOrBehind stands rules m n q bytes = stands bytes m.list ⊎ ((stamp : ℕ) → stands bytes (step_of rules m n q stamp).machine.list)
+
+-- ---- what holds of a hub between two calls
+
+-- a session holds the vote
+abbrev pub has_vote : ℕ → Option HubVote → Bool
+has_vote n vote = option_map_or (λ v. v.session == n) vote false
+
+-- the store has voted what the vote is to write, and else nothing
+abbrev pub HasVoted : Option HubVote → Option Transaction → Type 0
+HasVoted None voted = voted ≡ None
+HasVoted (Some v) voted = is_some voted ≡ is_some v.writes
+
+abbrev pub writes_of : Option HubVote → Option VotedEntry
+writes_of None = None
+writes_of (Some v) = v.writes
+
+-- what is kept of the voted transaction is its number and its objects
+abbrev pub IsEntryOf : Option VotedEntry → Option Transaction → Type 0
+IsEntryOf (Some e) (Some t) = (e.tid ≡ t.tid) × (e.oids ≡ oids_of t)
+IsEntryOf _ _ = Unit {0}
+
+-- What a hub keeps beside its store: sessions, the journal with the numbers of its changes and of its packs and with room for what is voted, and the vote. `told` says
+-- whether the store tells its list.
+pub record IsKept (told : Type 0) (store : StoreState) (journal : List JournalEntry) (capacity changes switches : ℕ) (sessions : List Session) (vote : Option HubVote) (has_failed : Bool) : Type 0 where
+  pub failed : has_failed ≡ store.broken
+  pub few : length sessions ≤ session_limit
+  pub counted : changes ≡ changes_in_journal journal
+  pub bounded : changes ≤ journal_limit
+  pub switched : switches ≡ switches_of journal
+  pub room : IfSome (writes_of vote) (λ e. (length journal < capacity) × (changes + length e.oids ≤ journal_limit))
+  pub voted : store.broken ≡ false → HasVoted vote store.voted
+  pub entry : told → store.broken ≡ false → IsEntryOf (writes_of vote) store.voted

@@ -1,0 +1,7 @@
+pub mod History
+pub mod Holding
+pub mod HubState
+pub mod Machine
+pub mod Outcomes
+pub mod Replies
+pub mod Steps

@@ -1,0 +1,108 @@
+-- How a step ends: answered, or not made because reading failed, memory ran out or the store failed. Own.
+use Rattle.std.specs.Prelude.{◌≡◌, ℕ, ◌≤◌, List, Option, Some, None, Bool, true, false, IsTrue, if◌then◌else◌, ◌==◌, is_some, map}
+use Rattle.std.specs.Option.{option_map_or}
+use Rattle.zb_base.specs.Counts.{Rose}
+use Rattle.zb_model.specs.declared.refusal.Refusal.{Refusal}
+use Rattle.zb_model.specs.declared.refusal.Refusal.TheVariants as refusal
+use Rattle.zodb_core.specs.declared.reply.Reply.{Reply}
+use Rattle.zodb_core.specs.declared.reply.Reply.TheVariants as reply
+use Rattle.zodb_core.specs.declared.request.Request.{Request}
+use Rattle.zodb_core.specs.declared.request.Request.TheVariants as request
+use Rattle.zodb_core.specs.declared.session.Session.{Session}
+use Rattle.zodb_core.specs.Machine.{Machine, MachineVote, Rules}
+use Rattle.zodb_core.specs.Steps.{Stepped, early_refusal, step_of}
+
+pub data Outcome : Type 0 where
+  Answered : Outcome
+  ReadingFailed : Outcome
+  NoMemory : Outcome
+  StoreFailed : Outcome
+
+-- what a reply says of it
+abbrev pub outcome_of_refusal : Refusal → Outcome
+outcome_of_refusal refusal.ReadFault = ReadingFailed
+outcome_of_refusal refusal.Memory = NoMemory
+outcome_of_refusal refusal.StoreFault = StoreFailed
+outcome_of_refusal _ = Answered
+
+abbrev pub outcome_of : Reply → Outcome
+outcome_of (reply.Refused r) = outcome_of_refusal r
+outcome_of _ = Answered
+
+-- ---- what a step may meet
+
+-- a request for which the store is read
+abbrev pub reads_store : Request → Bool
+reads_store (request.LoadBefore oid front) = true
+reads_store (request.Vote user description extension pending) = true
+reads_store (request.Undo user description tids) = true
+reads_store (request.History oid) = true
+reads_store request.UndoLog = true
+reads_store _ = false
+
+-- a request that takes memory: one for which the store is read, and the news of a front
+abbrev pub takes_memory : Request → Bool
+takes_memory request.Front = true
+takes_memory q = reads_store q
+
+-- a session holds the vote, and something is to be written
+abbrev pub holds_writes : ℕ → Option MachineVote → Bool
+holds_writes n vote = option_map_or (λ v. if v.session == n then is_some v.writes else false) vote false
+
+-- a step that changes the store: one by which something is voted, or by which what was voted is appended or dropped
+abbrev pub changes_store : Machine → ℕ → Request → Stepped → Bool
+changes_store m n (request.Vote user description extension pending) made = holds_writes n made.machine.vote
+changes_store m n (request.Undo user description tids) made = holds_writes n made.machine.vote
+changes_store m n request.Finish made = holds_writes n m.vote
+changes_store m n request.Abort made = holds_writes n m.vote
+changes_store m n request.Close made = holds_writes n m.vote
+changes_store m n _ made = false
+
+-- ---- what is left
+
+-- no session is open
+abbrev pub closed_session : Session → Session
+closed_session x = record x { is_open = false }
+
+-- the store failed: every session is closed, and nothing is voted or being packed
+abbrev pub failed : Machine → Machine
+failed m = record m { sessions = map closed_session m.sessions; vote = None; pack = None; failed = true }
+
+abbrev pub machine_left : Rules → Machine → ℕ → Request → ℕ → Outcome → Machine
+machine_left rules m n q stamp Answered = (step_of rules m n q stamp).machine
+machine_left rules m n q stamp ReadingFailed = m
+machine_left rules m n q stamp NoMemory = m
+machine_left rules m n q stamp StoreFailed = failed m
+
+-- ---- a step that was made
+
+-- the count of failed reads, and that of the failed calls that would have changed something
+pub record FaultCounts : Type 0 where
+  pub reads : ℕ
+  pub others : ℕ
+
+-- neither count has fallen
+pub record AreLaterCounts (before now : FaultCounts) : Type 0 where
+  pub reads : before.reads ≤ now.reads
+  pub others : before.others ≤ now.others
+
+-- a step may go wrong: it is one of these, and nothing refuses it at once
+pub record MayGoWrong (m : Machine) (n : ℕ) (q : Request) (is_one : Bool) : Type 0 where
+  pub allowed : early_refusal m n q ≡ None
+  pub one : is_one ≡ true
+
+-- why it ended so
+abbrev pub EndsFor : Rules → Machine → ℕ → Request → ℕ → Stepped → FaultCounts → FaultCounts → Outcome → Type 0
+EndsFor rules m n q stamp made before now Answered = made ≡ step_of rules m n q stamp
+EndsFor rules m n q stamp made before now ReadingFailed = MayGoWrong m n q (reads_store q) × Rose before.reads now.reads
+EndsFor rules m n q stamp made before now NoMemory = MayGoWrong m n q (takes_memory q)
+EndsFor rules m n q stamp made before now StoreFailed = MayGoWrong m n q (changes_store m n q (step_of rules m n q stamp)) × Rose before.others now.others
+
+-- A step that was made, with the counts of faults before and after it. It is as the machine says but for this: where the store is read, reading may
+-- have failed; where memory is taken, it may have run out; where the store is changed, it may have failed. The clock is then read, or not, where
+-- the machine would have read it.
+pub record IsStepMade (rules : Rules) (m : Machine) (n : ℕ) (q : Request) (stamp : ℕ) (made : Stepped) (before now : FaultCounts) : Type 0 where
+  pub later : AreLaterCounts before now
+  pub cause : EndsFor rules m n q stamp made before now (outcome_of made.reply)
+  pub left : made.machine ≡ machine_left rules m n q stamp (outcome_of made.reply)
+  pub ticks : IsTrue made.ticks → IsTrue (step_of rules m n q stamp).ticks

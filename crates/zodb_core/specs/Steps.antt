@@ -1,0 +1,182 @@
+-- A step of the machine: what a session is answered, and what is left. Source: the storage interfaces of ZODB and ZEO; the order of the refusals is own.
+use Rattle.std.specs.Prelude.{◌≡◌, ℕ, ◌+◌, ◌-◌, ◌^◌, List, [], ◌∷◌, ◌++◌, Option, Some, None, Result, Ok, Err, Bool, true, false, not, ◌==◌, nat_lt, if◌then◌else◌, length, map, max, slice_set}
+use Rattle.std.specs.List.{sum_by}
+use Rattle.std.specs.Option.{option_or, option_map, option_map_or}
+use Rattle.zb_ids.specs.Tids.{tid_after}
+use Rattle.zb_model.specs.declared.data.Change.{Change}
+use Rattle.zb_model.specs.declared.data.Transaction.{Transaction}
+use Rattle.zb_model.specs.declared.found.Found.{Found}
+use Rattle.zb_model.specs.declared.new_transaction.NewChange.{NewChange}
+use Rattle.zb_model.specs.declared.found.Found.TheVariants as found
+use Rattle.zb_model.specs.declared.refusal.Refusal.{Refusal}
+use Rattle.zb_model.specs.declared.refusal.Refusal.TheVariants as refusal
+use Rattle.zb_model.specs.Database.{newest_tid}
+use Rattle.zb_model.specs.Lists.{history_of, undo_log_of}
+use Rattle.zb_model.specs.Queries.{found_below, greatest_of, oids_of}
+use Rattle.zb_model.specs.Voting.{voted_change}
+use Rattle.commit_phases.specs.Decision.{vote_decision}
+use Rattle.undo_records.specs.Undone.{undone_of}
+use Rattle.zodb_core.specs.declared.journal.JournalEntry.{JournalEntry}
+use Rattle.zodb_core.specs.declared.journal.JournalEntry.TheVariants as journal
+use Rattle.zodb_core.specs.declared.reply.Reply.{Reply}
+use Rattle.zodb_core.specs.declared.reply.Reply.TheVariants as reply
+use Rattle.zodb_core.specs.declared.request.Request.{Request}
+use Rattle.zodb_core.specs.declared.request.Request.TheVariants as request
+use Rattle.zodb_core.specs.declared.texts.Texts.{Texts}
+use Rattle.zodb_core.specs.Machine.{Machine, MachineVote, Rules, front_of, has_pack, holds_vote, is_open_in, news_of, switches_of, untold}
+
+-- what a step gives: the reply, the machine that it leaves, and whether it read the clock
+pub record Stepped : Type 0 where
+  pub reply : Reply
+  pub machine : Machine
+  pub ticks : Bool
+
+-- a reply and what is left, without the clock
+abbrev pub replied : Machine → Reply → Stepped
+replied m r = record { reply = r; machine = m; ticks = false }
+
+abbrev pub refused : Machine → Refusal → Stepped
+refused m r = replied m (reply.Refused r)
+
+-- ---- the refusals that need no reading, in their order
+
+abbrev pub refuse_if : Bool → Refusal → Option Refusal
+refuse_if true r = Some r
+refuse_if false r = None
+
+-- another session holds the vote
+abbrev pub busy_for : ℕ → Option MachineVote → Option Refusal
+busy_for n None = None
+busy_for n (Some v) = refuse_if (not (v.session == n)) (refusal.Busy v.session)
+
+-- a session that holds the vote may not vote again, nor any other while it does
+abbrev pub vote_refusal : ℕ → Option MachineVote → Option Refusal
+vote_refusal n vote = option_or (refuse_if (holds_vote n vote) refusal.Voted) (busy_for n vote)
+
+-- what an open session is refused before anything is read
+abbrev pub request_refusal : Machine → ℕ → Request → Option Refusal
+request_refusal m n (request.NewOids count) = refuse_if (nat_lt (2 ^ 64 - 1) (m.greatest + count)) refusal.OidsSpent
+request_refusal m n (request.Vote user description extension pending) = vote_refusal n m.vote
+request_refusal m n (request.Undo user description tids) = vote_refusal n m.vote
+request_refusal m n request.Finish = refuse_if (not (holds_vote n m.vote)) refusal.NotVoted
+request_refusal m n _ = None
+
+abbrev pub early_refusal : Machine → ℕ → Request → Option Refusal
+early_refusal m n q = option_or (refuse_if (not (is_open_in m.sessions n)) refusal.NotOpen) (request_refusal m n q)
+
+-- ---- the requests
+
+-- Front: the news, and from then on the session is told of them
+abbrev pub front_step : Machine → ℕ → Stepped
+front_step m n = replied
+    (record m { sessions = slice_set m.sessions n (record { is_open = true; told = length m.journal }) })
+    (reply.Front (front_of m.list) (news_of (untold m n)) (switches_of m.journal))
+
+-- LoadBefore: the revision below the front
+abbrev pub loaded : Machine → ℕ → Found → Reply
+loaded m oid (found.Held serial bytes end) = reply.Loaded serial bytes end (front_of m.list)
+loaded m oid (found.Absent serial) = reply.Nothing oid (switches_of m.journal)
+loaded m oid found.Nothing = reply.Nothing oid (switches_of m.journal)
+
+-- NewOids: the numbers after the greatest
+abbrev pub oids_step : Machine → ℕ → Stepped
+oids_step m count = replied (record m { greatest = m.greatest + count }) (reply.Oids (m.greatest + 1) count)
+
+-- a transaction with these texts and changes
+abbrev pub transaction_with : ℕ → Texts → List Change → Transaction
+transaction_with tid texts changes = record { tid = tid; packed = false; user = texts.user; description = texts.description; extension = texts.extension; changes = changes }
+
+-- how many changes an entry of the journal counts, and how many the journal may have: 2^23
+abbrev pub changes_in_entry : JournalEntry → ℕ
+changes_in_entry (journal.Commit session tid oids) = length oids
+changes_in_entry (journal.Packed tid) = 0
+
+abbrev pub journal_limit : ℕ
+journal_limit = 8388608
+
+abbrev pub changes_in_journal : List JournalEntry → ℕ
+changes_in_journal entries = sum_by changes_in_entry entries
+
+-- the session holds the vote, and its finish will append this
+abbrev pub with_vote : Machine → ℕ → Option Transaction → Machine
+with_vote m n writes = record m { vote = Some (record { session = n; writes = writes }) }
+
+-- the changes get a tid, unless none is left
+abbrev pub vote_at : Machine → ℕ → Texts → List Change → ℕ → Stepped
+vote_at m n texts changes tid =
+    if nat_lt tid (2 ^ 64 - 1)
+    then (record { reply = reply.Voted; machine = with_vote m n (Some (transaction_with tid texts changes)); ticks = true })
+    else (record { reply = reply.Refused refusal.TidsSpent; machine = m; ticks = true })
+
+-- unless the journal is full, the clock is read
+abbrev pub vote_counted : Machine → ℕ → Texts → List Change → ℕ → ℕ → Stepped
+vote_counted m n texts changes stamp count =
+    if nat_lt journal_limit count then refused m (refusal.JournalFull count)
+    else vote_at m n texts changes (tid_after (newest_tid m.list) stamp)
+
+-- Vote and Undo: what was decided is held; where nothing is to be written the clock isn't read
+abbrev pub vote_step : Machine → ℕ → Texts → ℕ → Result (List Change) Refusal → Stepped
+vote_step m n texts stamp (Err r) = refused m r
+vote_step m n texts stamp (Ok []) = replied (with_vote m n None) reply.Voted
+vote_step m n texts stamp (Ok (c ∷ changes)) = vote_counted m n texts (c ∷ changes) stamp (changes_in_journal m.journal + length (c ∷ changes))
+
+-- Finish: what was voted is appended
+abbrev pub entry_of : ℕ → Transaction → JournalEntry
+entry_of n t = journal.Commit n t.tid (oids_of t)
+
+abbrev pub with_commit : Machine → ℕ → Transaction → Machine
+with_commit m n t = record m {
+  list = m.list ++ t ∷ [];
+  journal = m.journal ++ entry_of n t ∷ [];
+  greatest = max m.greatest (greatest_of (oids_of t));
+  vote = None;
+}
+
+abbrev pub finished : Machine → ℕ → Option Transaction → Stepped
+finished m n None = replied (record m { vote = None }) reply.Empty
+finished m n (Some t) = replied (with_commit m n t) (reply.Committed t.tid)
+
+abbrev pub finish_step : Machine → ℕ → Option MachineVote → Stepped
+finish_step m n None = refused m refusal.NotVoted
+finish_step m n (Some v) = finished m n v.writes
+
+-- Abort: the session's vote is dropped
+abbrev pub without_vote : Machine → ℕ → Machine
+without_vote m n = record m { vote = if holds_vote n m.vote then None else m.vote }
+
+-- Close: and its pack, and the session is closed
+abbrev pub without_session : Machine → ℕ → Machine
+without_session m n = record (without_vote m n) {
+  pack = if has_pack n m.pack then None else m.pack;
+  sessions = slice_set m.sessions n (record { is_open = false; told = length m.journal });
+}
+
+-- ---- a step
+
+-- what undo writes, each new change seen over the list
+abbrev pub changes_undone : List Transaction → Result (List NewChange) Refusal → Result (List Change) Refusal
+changes_undone list (Ok changes) = Ok (map (voted_change list) changes)
+changes_undone list (Err r) = Err r
+
+-- what an open session is answered where nothing refuses it at once
+abbrev pub request_step : Rules → Machine → ℕ → Request → ℕ → Stepped
+request_step rules m n request.Front stamp = front_step m n
+request_step rules m n (request.LoadBefore oid front) stamp = replied m (loaded m oid (found_below oid front m.list))
+request_step rules m n (request.NewOids count) stamp = oids_step m count
+request_step rules m n (request.Vote user description extension pending) stamp =
+    vote_step m n (record { user = user; description = description; extension = extension }) stamp (vote_decision rules.merging m.list pending)
+request_step rules m n (request.Undo user description tids) stamp =
+    vote_step m n (record { user = user; description = description; extension = [] }) stamp (changes_undone m.list (undone_of rules.merging m.list tids))
+request_step rules m n request.Finish stamp = finish_step m n m.vote
+request_step rules m n request.Abort stamp = replied (without_vote m n) reply.Aborted
+request_step rules m n (request.History oid) stamp = replied m (reply.History (history_of oid m.list))
+request_step rules m n request.UndoLog stamp = replied m (reply.UndoLog (undo_log_of m.list))
+request_step rules m n request.Close stamp = replied (without_session m n) reply.Closed
+
+abbrev pub unless_early : Option Refusal → Machine → Stepped → Stepped
+unless_early (Some r) m made = refused m r
+unless_early None m made = made
+
+-- a step of session n, where the clock's next stamp has this number
+abbrev pub step_of : Rules → Machine → ℕ → Request → ℕ → Stepped
+step_of rules m n q stamp = unless_early (early_refusal m n q) m (request_step rules m n q stamp)

@@ -1,0 +1,158 @@
+//! The requests that end a vote or a session.
+
+ghost use Rattle.std.specs.Prelude.{◌≡◌, ◌<◌, ◌++◌, ◌∷◌, [], None, Option, Some, List, OnErr, OnOk, false, true, length, map, vec_capacity};
+ghost use Rattle.zb_base.specs.Counts.{HasCause};
+ghost use Rattle.zb_ids.specs.declared.stamp.Stamp.{Stamp};
+ghost use Rattle.zb_volume.specs.declared.areas.Area.TheVariants.{Main};
+ghost use Rattle.zb_volume.specs.Moments.{LeavesOnly};
+ghost use Rattle.zodb_core.specs.HubState.{IsBeforeOrBehind, MakesStep, StandsForMachine, StepsSafely, has_vote, rules_of, writes_of};
+ghost use Rattle.zodb_core.specs.Machine.{Machine, is_open_in};
+ghost use Rattle.zodb_core.specs.Outcomes.{failed, holds_writes};
+ghost use Rattle.zodb_core.specs.Steps.{without_vote};
+
+use crate::hub::Hub;
+use crate::journal::JournalEntry;
+use crate::oids::greatest_with;
+use crate::reply::Reply;
+use crate::request::Request;
+use crate::session::{Session, set_session};
+use crate::vote::{HubVote, VotedEntry};
+use zb_model::{Refs, Refusal, Resolver, Store};
+use zb_volume::StoreFault;
+
+/// Whether a session holds the vote.
+pub(crate) fn has_vote(vote: &Option<HubVote>, session: u32) -> bool
+    ensures { result ≡ has_vote session vote.now }
+{
+    match vote {
+        Some(held) => held.session == session,
+        None => false,
+    }
+}
+
+/// The vote is dropped, and what it was to write is handed out.
+fn take_writes(vote: &mut Option<HubVote>) -> Option<VotedEntry>
+    ensures writes { result ≡ writes_of vote.old }
+    ensures none { vote.new ≡ None }
+{
+    match vote.take() {
+        Some(vote) => vote.writes,
+        None => None,
+    }
+}
+
+/// Puts an entry behind the others, for which there is room.
+fn push_entry(journal: &mut Vec<JournalEntry>, entry: JournalEntry)
+    requires room { length journal.old.items < vec_capacity journal.old }
+    ensures { journal.new.items ≡ journal.old.items ++ entry ∷ [] }
+{
+    let _ = journal.push(entry);
+}
+
+impl<St: Store, R: Resolver, F: Refs> Hub<St, R, F> {
+    /// What the session has voted is appended to the list. It takes no memory.
+    #[tactic(auto, using(crate::proofs::Votes::finish_empty, crate::proofs::Votes::finish_committed, crate::proofs::Votes::moments_kept, crate::proofs::Votes::moments_finish))]
+    pub(crate) fn finish(&mut self, session: u32) -> Reply
+        requires whole { self.old.store.broken ≡ false }
+        requires is_open { is_open_in self.old.sessions session ≡ true }
+        ensures step { St.told → (m : Machine) → StandsForMachine self.old m → (stamps : Option (List Stamp)) →
+            MakesStep (rules_of R.rules F.named self.old) m session Request.Finish result self.old self.new stamps stamps }
+        ensures safe { StepsSafely result self.old self.new }
+        ensures any_moment { St.lasts → St.told → (m : Machine) → StandsForMachine self.old m →
+            LeavesOnly Main (IsBeforeOrBehind St.stands (rules_of R.rules F.named self.old) m session Request.Finish)
+            self.old.store.log self.new.store.log }
+    {
+        if !has_vote(&self.vote, session) {
+            return Reply::Refused(Refusal::NotVoted);
+        }
+        let Some(entry) = take_writes(&mut self.vote) else {
+            return Reply::Empty;
+        };
+        let Ok(()) = self.store.finish() else {
+            self.failed = true;
+            return Reply::Refused(Refusal::StoreFault);
+        };
+        self.changes += entry.oids.len() as u64;
+        self.greatest = greatest_with(entry.oids.as_slice(), self.greatest);
+        let tid = entry.tid;
+        push_entry(
+            &mut self.journal,
+            JournalEntry::Commit {
+                session,
+                tid,
+                oids: entry.oids,
+            },
+        );
+        Reply::Committed { tid }
+    }
+
+    /// What the session has voted is dropped, if it holds the vote.
+    #[tactic(auto, using(crate::proofs::Votes::dropped_none, crate::proofs::Votes::dropped_writes, crate::proofs::Votes::dropped_failed, crate::proofs::Votes::held_writes))]
+    fn drop_vote(&mut self, session: u32) -> Result<(), StoreFault>
+        requires whole { self.old.store.broken ≡ false }
+        ensures dropped { St.told → (m : Machine) → StandsForMachine self.old m → OnOk result (StandsForMachine self.new (without_vote m session)) }
+        ensures failed { St.told → (m : Machine) → StandsForMachine self.old m → OnErr result (StandsForMachine self.new (failed m)) }
+        ensures writes { St.told → (m : Machine) → StandsForMachine self.old m → OnErr result (holds_writes session m.vote ≡ true) }
+        ensures whole { OnOk result (self.new.store.broken ≡ false) }
+        ensures resolver { self.new.resolver ≡ self.old.resolver }
+        ensures refs { self.new.refs ≡ self.old.refs }
+        ensures sessions { self.new.sessions ≡ self.old.sessions }
+        ensures reads { self.new.store.read_faults ≡ self.old.store.read_faults }
+        ensures cause { HasCause self.old.store.faults self.new.store.faults result }
+        ensures any_moment { St.lasts → St.told →
+            LeavesOnly Main (λ bytes. St.stands bytes self.old.store.list) self.old.store.log self.new.store.log }
+    {
+        if !has_vote(&self.vote, session) {
+            return Ok(());
+        }
+        let Some(_) = take_writes(&mut self.vote) else {
+            return Ok(());
+        };
+        let Ok(()) = self.store.abort() else {
+            self.failed = true;
+            return Err(StoreFault);
+        };
+        Ok(())
+    }
+
+    /// What the session has voted is dropped. It takes no memory.
+    #[tactic(auto, using(crate::proofs::Votes::abort_failed, crate::proofs::Votes::abort_dropped, crate::proofs::Votes::moments_same))]
+    pub(crate) fn abort(&mut self, session: u32) -> Reply
+        requires whole { self.old.store.broken ≡ false }
+        requires is_open { is_open_in self.old.sessions session ≡ true }
+        ensures step { St.told → (m : Machine) → StandsForMachine self.old m → (stamps : Option (List Stamp)) →
+            MakesStep (rules_of R.rules F.named self.old) m session Request.Abort result self.old self.new stamps stamps }
+        ensures safe { StepsSafely result self.old self.new }
+        ensures any_moment { St.lasts → St.told → (m : Machine) → StandsForMachine self.old m →
+            LeavesOnly Main (IsBeforeOrBehind St.stands (rules_of R.rules F.named self.old) m session Request.Abort)
+            self.old.store.log self.new.store.log }
+    {
+        match self.drop_vote(session) {
+            Ok(()) => Reply::Aborted,
+            Err(StoreFault) => Reply::Refused(Refusal::StoreFault),
+        }
+    }
+
+    /// The end of the session: what it has voted is dropped. It takes no memory.
+    #[tactic(auto, using(crate::proofs::Votes::close_failed, crate::proofs::Votes::close_dropped, crate::proofs::Votes::moments_same))]
+    pub(crate) fn close(&mut self, session: u32) -> Reply
+        requires whole { self.old.store.broken ≡ false }
+        requires is_open { is_open_in self.old.sessions session ≡ true }
+        ensures step { St.told → (m : Machine) → StandsForMachine self.old m → (stamps : Option (List Stamp)) →
+            MakesStep (rules_of R.rules F.named self.old) m session Request.Close result self.old self.new stamps stamps }
+        ensures safe { StepsSafely result self.old self.new }
+        ensures any_moment { St.lasts → St.told → (m : Machine) → StandsForMachine self.old m →
+            LeavesOnly Main (IsBeforeOrBehind St.stands (rules_of R.rules F.named self.old) m session Request.Close)
+            self.old.store.log self.new.store.log }
+    {
+        let Ok(()) = self.drop_vote(session) else {
+            return Reply::Refused(Refusal::StoreFault);
+        };
+        let closed = Session {
+            is_open: false,
+            told: self.journal.len() as u64,
+        };
+        set_session(&mut self.sessions, session, closed);
+        Reply::Closed
+    }
+}

@@ -1,0 +1,146 @@
+//! The hub: one store, and the sessions that read its list and add to it.
+
+ghost use Rattle.std.specs.Prelude.{◌≡◌, ◌<◌, [], None, OnErr, IfErr, IfOk, IsErrOf, false, length};
+ghost use Rattle.zb_volume.specs.declared.areas.Area.TheVariants.{Main};
+ghost use Rattle.zb_volume.specs.Moments.{Leaves};
+ghost use Rattle.zodb_core.specs.HubState.{MayRefuseSession, StandsForMachine};
+ghost use Rattle.zodb_core.specs.Machine.{Machine, machine_over, session_limit, with_session};
+
+use crate::errors::SessionRefusal;
+use crate::journal::JournalEntry;
+use crate::session::{Session, push_session};
+use crate::vote::HubVote;
+use std::alloc::Global;
+use std::marker::Model;
+use zb_ids::Oid;
+use zb_model::{Refs, Resolver, Store};
+
+/// How many sessions there can be.
+pub const SESSION_LIMIT: u32 = 64;
+
+/// One plain database with sessions, over a store, rules of merging, and references. Contracts see its
+/// store and what it keeps beside it, and say for which machines it stands.
+#[derive(Drop)]
+pub struct Hub<St: Store, R: Resolver, F: Refs> {
+    /// The list of transactions.
+    pub(crate) store: St,
+    /// How changes of one object are merged.
+    pub(crate) resolver: R,
+    /// Which objects a record names.
+    pub(crate) refs: F,
+    /// What happened to the list since the hub was made.
+    pub(crate) journal: Vec<JournalEntry>,
+    /// How many changes the journal has.
+    pub(crate) changes: u64,
+    /// How often the list was packed.
+    pub(crate) switches: u64,
+    /// The greatest number of an object that stood in the list at any moment or was handed out.
+    pub(crate) greatest: Oid,
+    /// The sessions, by their numbers.
+    pub(crate) sessions: Vec<Session>,
+    /// The vote, where one is held.
+    pub(crate) vote: Option<HubVote>,
+    /// Whether the store failed.
+    pub(crate) failed: bool,
+}
+
+impl<St: Store, R: Resolver, F: Refs> Model for Hub<St, R, F> {
+    ghost use Rattle.std.specs.Prelude.{vec_capacity};
+    ghost use Rattle.zodb_core.specs.HubState.{HubState, IsKept};
+
+    ghost Value = { HubState R F };
+
+    ghost view = { λ hub. record {
+      store = St.state hub.store;
+      resolver = hub.resolver;
+      refs = hub.refs;
+      journal = hub.journal.items;
+      greatest = hub.greatest;
+      sessions = hub.sessions.items;
+      vote = hub.vote;
+    } };
+
+    ghost invariant = { λ hub. IsKept St.told (St.state hub.store) hub.journal.items (vec_capacity hub.journal) hub.changes hub.switches hub.sessions.items hub.vote hub.failed };
+}
+
+impl<St: Store, R: Resolver, F: Refs> Hub<St, R, F> {
+    /// A hub without sessions over a store. It takes no memory.
+    pub fn new(alloc: Global, store: St, resolver: R, refs: F) -> Hub<St, R, F>
+        requires whole { (St.state store).broken ≡ false }
+        requires free { (St.state store).voted ≡ None }
+        ensures stands { St.told → StandsForMachine result (machine_over (St.state store).list) }
+        ensures store { result.store ≡ St.state store }
+        ensures resolver { result.resolver ≡ resolver }
+        ensures refs { result.refs ≡ refs }
+        ensures empty { result.sessions ≡ [] }
+    {
+        let greatest = store.greatest_oid();
+        Hub {
+            store,
+            resolver,
+            refs,
+            journal: Vec::new(alloc),
+            changes: 0,
+            switches: 0,
+            greatest,
+            sessions: Vec::new(alloc),
+            vote: None,
+            failed: false,
+        }
+    }
+
+    /// Whether the store has failed, so that every session is closed. Until then each crash between two
+    /// steps leaves the list as it is, where it lies on a disk.
+    pub fn has_failed(&self) -> bool
+        ensures value { result ≡ self.now.store.broken }
+        ensures lasting { St.lasts → result ≡ false →
+            Leaves Main (λ bytes. St.stands bytes self.now.store.list) self.now.store.log }
+    {
+        self.failed
+    }
+
+    /// Opens a session, and answers its number: they run from 0. `TooManySessions` comes exactly where 64
+    /// sessions were opened. A session that is opened after a store fault is closed from the start.
+    pub fn open_session(&mut self) -> Result<u32, SessionRefusal>
+        ensures number { IfOk result (λ number. number ≡ length self.old.sessions) }
+        ensures stands { (m : Machine) → StandsForMachine self.old m → IfOk result (λ _. StandsForMachine self.new (with_session m)) }
+        ensures refused { IfErr result (MayRefuseSession (length self.old.sessions)) }
+        ensures room { IfOk result (λ number. length self.old.sessions < session_limit) }
+        ensures same { OnErr result (self.new ≡ self.old) }
+        ensures store { self.new.store ≡ self.old.store }
+        ensures resolver { self.new.resolver ≡ self.old.resolver }
+        ensures refs { self.new.refs ≡ self.old.refs }
+    {
+        let count = self.sessions.len() as u32;
+        if count >= SESSION_LIMIT {
+            return Err(SessionRefusal::TooManySessions { count });
+        }
+        let session = Session {
+            is_open: !self.failed,
+            told: self.journal.len() as u64,
+        };
+        push_session(&mut self.sessions, session)?;
+        Ok(count)
+    }
+}
+
+impl<St: Store, R: Resolver + Drop, F: Refs + Drop> Hub<St, R, F> {
+    /// The store. A transaction that is voted stays so.
+    pub fn into_store(self) -> St
+        ensures { St.state result ≡ self.store }
+    {
+        let Hub {
+            store,
+            resolver: _,
+            refs: _,
+            journal: _,
+            changes: _,
+            switches: _,
+            greatest: _,
+            sessions: _,
+            vote: _,
+            failed: _,
+        } = self;
+        store
+    }
+}

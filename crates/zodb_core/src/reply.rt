@@ -1,0 +1,71 @@
+//! What a session is answered.
+
+use zb_ids::{ListOf, Oid, Text8, Tid};
+use zb_model::{LogLine, News, Refusal, Revision};
+
+/// What a step is answered.
+#[derive(Debug, Drop)]
+pub enum Reply {
+    /// Where a view begins.
+    Front {
+        /// The tid after the newest.
+        front: Tid,
+        /// What happened since the session was told last.
+        news: News,
+        /// How often the list was packed since the hub was made.
+        switches: u64,
+    },
+    /// An object's record below a front.
+    Loaded {
+        /// The serial of the revision.
+        serial: Tid,
+        /// The record, which is never empty.
+        bytes: Text8,
+        /// The serial of the object's next revision, or `None` where this is its last one.
+        end: Option<Tid>,
+        /// The tid after the newest: up to there the answer holds where it has no end.
+        upto: Tid,
+    },
+    /// The object has no record below the front.
+    Nothing {
+        /// The object.
+        oid: Oid,
+        /// How often the list was packed since the hub was made.
+        switches: u64,
+    },
+    /// Numbers that were never handed out.
+    Oids {
+        /// The first of them.
+        first: Oid,
+        /// How many follow one another.
+        count: u32,
+    },
+    /// The session holds the vote.
+    Voted,
+    /// What was voted is in the list, and stays there through every crash.
+    Committed {
+        /// The transaction's number.
+        tid: Tid,
+    },
+    /// Nothing was to be written.
+    Empty,
+    /// The session holds no vote.
+    Aborted,
+    /// The object's changes.
+    History {
+        /// The changes, the newest first.
+        list: ListOf<Revision>,
+    },
+    /// The transactions that may be undone.
+    UndoLog {
+        /// The transactions, the newest first.
+        list: ListOf<LogLine>,
+    },
+    /// The session is closed.
+    Closed,
+    /// The step was refused.
+    Refused(
+        /// Why.
+        Refusal,
+    ),
+}

@@ -1,0 +1,56 @@
+//! What a session asks.
+
+use commit_phases::Pending;
+use zb_ids::{ListOf, Oid, Text8, Tid};
+
+/// What a session asks in one step.
+#[derive(Drop)]
+pub enum Request {
+    /// The tid after the newest, and what the session wasn't told yet.
+    Front,
+    /// An object's last revision below a front.
+    LoadBefore {
+        /// The object.
+        oid: Oid,
+        /// The front.
+        front: Tid,
+    },
+    /// The next numbers for new objects.
+    NewOids {
+        /// How many, from 1 to 100.
+        count: u32,
+    },
+    /// A vote on pending changes.
+    Vote {
+        /// Who makes the transaction, at most 65,535 bytes.
+        user: Text8,
+        /// What it is for, at most 65,535 bytes.
+        description: Text8,
+        /// Further notes of the program that makes it, at most 65,535 bytes.
+        extension: Text8,
+        /// The stores and the checks.
+        pending: Pending,
+    },
+    /// A vote on taking transactions back.
+    Undo {
+        /// Who makes the transaction, at most 65,535 bytes.
+        user: Text8,
+        /// What it is for, at most 65,535 bytes.
+        description: Text8,
+        /// The transactions that are taken back, at least one, the newest first.
+        tids: ListOf<Tid>,
+    },
+    /// What the session has voted is appended to the list.
+    Finish,
+    /// What the session has voted is dropped.
+    Abort,
+    /// Every change of an object, the newest first.
+    History {
+        /// The object.
+        oid: Oid,
+    },
+    /// Every transaction that may be undone, the newest first.
+    UndoLog,
+    /// The end of the session; what it has voted is dropped.
+    Close,
+}

@@ -1,0 +1,52 @@
+//! The sessions.
+
+ghost use Rattle.std.specs.Prelude.{◌≡◌, ◌<◌, ◌++◌, ◌∷◌, [], OnErr, OnOk, length, slice_set};
+ghost use Rattle.zodb_core.specs.Machine.{is_open_in, told_of};
+
+use std::alloc::AllocError;
+
+/// A session: whether it is open, and how much of the journal it was told.
+#[derive(Clone, Copy, Debug, PartialEq, Eq)]
+pub struct Session {
+    /// Whether its requests are served.
+    pub is_open: bool,
+    /// How many entries of the journal it was told, or had been made when it was opened.
+    pub told: u64,
+}
+
+/// Whether a session is open.
+pub(crate) fn is_open(sessions: &[Session], number: u32) -> bool
+    ensures { result ≡ is_open_in sessions.now number }
+{
+    match sessions.get(number as usize) {
+        Some(session) => session.is_open,
+        None => false,
+    }
+}
+
+/// How many entries of the journal a session was told.
+pub(crate) fn told_of(sessions: &[Session], number: u32) -> u64
+    ensures { result ≡ told_of number sessions.now }
+{
+    match sessions.get(number as usize) {
+        Some(session) => session.told,
+        None => 0,
+    }
+}
+
+/// Puts a session behind the others. The one error is want of memory.
+pub(crate) fn push_session(sessions: &mut Vec<Session>, session: Session) -> Result<(), AllocError>
+    ensures ok { OnOk result (sessions.new.items ≡ sessions.old.items ++ session ∷ []) }
+    ensures err { OnErr result (sessions.new.items ≡ sessions.old.items) }
+{
+    sessions.push(session)?;
+    Ok(())
+}
+
+/// Puts a session in the place of the one with its number.
+pub(crate) fn set_session(sessions: &mut Vec<Session>, number: u32, session: Session)
+    requires { number < length sessions.old.items }
+    ensures { sessions.new.items ≡ slice_set sessions.old.items number session }
+{
+    sessions[number as usize] = session;
+}

@@ -1,0 +1,86 @@
+//! One step.
+
+ghost use Rattle.std.specs.Prelude.{◌≡◌, Option, List, false};
+ghost use Rattle.zb_volume.specs.declared.areas.Area.TheVariants.{Main};
+ghost use Rattle.zb_volume.specs.Moments.{LeavesOnly};
+ghost use Rattle.zodb_core.specs.HubState.{IsBeforeOrBehind, IsFitting, MakesStep, StandsForMachine, StepsSafely, rules_of};
+ghost use Rattle.zodb_core.specs.Machine.{Machine};
+
+use crate::hub::Hub;
+use crate::reply::Reply;
+use crate::request::Request;
+use crate::session::is_open;
+use crate::texts::Texts;
+use std::alloc::Global;
+use zb_ids::Text8;
+use zb_model::{Refs, Refusal, Resolver, Store};
+use zb_outside::Clock;
+
+impl<St: Store, R: Resolver, F: Refs> Hub<St, R, F> {
+    /// A step of a session: what it asks is done, or refused, and nothing else happens meanwhile. The reply
+    /// and what is left are those of the machine, for each machine that the hub stands for; but reading
+    /// may fail, memory run out or the store fail, and then the step isn't made. After a store fault
+    /// every session is closed, those that are opened later too.
+    ///
+    /// The clock is read once by each vote or undo that has changes to write, and by no other step.
+    /// Where the store's list lies on a disk, each crash in a step leaves the list before it or the one
+    /// behind it.
+    #[tactic(auto, using(crate::proofs::Votes::closed_failed, crate::proofs::Votes::closed_now, crate::proofs::Votes::moments_kept, crate::proofs::Votes::moments_same))]
+    pub fn step<C: Clock>(
+        &mut self,
+        alloc: Global,
+        session: u32,
+        request: Request,
+        clock: &mut C,
+    ) -> Reply
+        requires fitting { IsFitting request }
+        ensures step { St.told → (m : Machine) → StandsForMachine self.old m →
+            MakesStep (rules_of R.rules F.named self.old) m session request result self.old self.new (C.stamps clock.old) (C.stamps clock.new) }
+        ensures safe { StepsSafely result self.old self.new }
+        ensures any_moment { St.lasts → St.told → self.old.store.broken ≡ false → (m : Machine) → StandsForMachine self.old m →
+            LeavesOnly Main (IsBeforeOrBehind St.stands (rules_of R.rules F.named self.old) m session request)
+            self.old.store.log self.new.store.log }
+    {
+        if self.failed {
+            return Reply::Refused(Refusal::NotOpen);
+        }
+        if !is_open(self.sessions.as_slice(), session) {
+            return Reply::Refused(Refusal::NotOpen);
+        }
+        match request {
+            Request::Front => self.front(alloc, session),
+            Request::LoadBefore { oid, front } => self.load_before(alloc, session, oid, front),
+            Request::NewOids { count } => self.new_oids(session, count),
+            Request::Vote {
+                user,
+                description,
+                extension,
+                pending,
+            } => {
+                let texts = Texts {
+                    user,
+                    description,
+                    extension,
+                };
+                self.vote(alloc, session, texts, pending, clock)
+            }
+            Request::Undo {
+                user,
+                description,
+                tids,
+            } => {
+                let texts = Texts {
+                    user,
+                    description,
+                    extension: Text8::new(alloc),
+                };
+                self.undo(alloc, session, texts, tids, clock)
+            }
+            Request::Finish => self.finish(session),
+            Request::Abort => self.abort(session),
+            Request::History { oid } => self.history(alloc, session, oid),
+            Request::UndoLog => self.undo_log(alloc, session),
+            Request::Close => self.close(session),
+        }
+    }
+}
