@@ -32,11 +32,11 @@ use Rattle.zodb_core.specs.declared.session.Session.{Session}
 use Rattle.zodb_core.specs.declared.texts.Texts.{Texts}
 use Rattle.zodb_core.specs.declared.vote.HubVote.{HubVote}
 use Rattle.zodb_core.specs.Holding.{VotesFor, held_refusal}
-use Rattle.zodb_core.specs.HubState.{HubState, MakesStep, StandsForMachine, counts_of, seen_vote}
+use Rattle.zodb_core.specs.HubState.{HubState, MakesStep, StandsForMachine, counts_of, vote_of_hub}
 use Rattle.zodb_core.specs.Machine.{Machine, MachineVote, Rules, is_open_in}
-use Rattle.zodb_core.specs.Outcomes.{Answered, AreLaterCounts, EndsFor, FaultCounts, IsStepMade, NoMemory, Outcome, ReadingFailed, StoreFailed, outcome_of}
+use Rattle.zodb_core.specs.Outcomes.{Answered, AreLaterCounts, EndsFor, FaultCounts, IsStepMade, NoMemory, StepOutcome, ReadingFailed, StoreFailed, outcome_of}
 use Rattle.zodb_core.specs.Replies.{undo_reply, vote_reply}
-use Rattle.zodb_core.specs.Steps.{Stepped, busy_for, changes_undone, early_refusal, refuse_if, refused, request_step, step_of, unless_early, vote_refusal, vote_step}
+use Rattle.zodb_core.specs.Steps.{Stepped, busy_for, changes_undone, early_refusal, refuse_if, replied_refusal, request_step, step_of, unless_early, vote_refusal, vote_step}
 use Rattle.zodb_core.proofs.Stepping.{answered, not_early, reading_failed, sessions_whole, starved}
 
 -- ---- counts that rose earlier
@@ -44,7 +44,7 @@ use Rattle.zodb_core.proofs.Stepping.{answered, not_early, reading_failed, sessi
 later_both : (a b c : FaultCounts) → AreLaterCounts a b → AreLaterCounts b c → AreLaterCounts a c
 later_both a b c one two = record { reads = omega (arith, one.reads, two.reads); others = omega (arith, one.others, two.others) }
 
-ends_later : (rules : Rules) (m : Machine) (n : ℕ) (q : Request) (stamp : ℕ) (made : Stepped) (a b c : FaultCounts) (o : Outcome) → AreLaterCounts a b → EndsFor rules m n q stamp made b c o → EndsFor rules m n q stamp made a c o
+ends_later : (rules : Rules) (m : Machine) (n : ℕ) (q : Request) (stamp : ℕ) (made : Stepped) (a b c : FaultCounts) (o : StepOutcome) → AreLaterCounts a b → EndsFor rules m n q stamp made b c o → EndsFor rules m n q stamp made a c o
 ends_later rules m n q stamp made a b c Answered later ends = ends
 ends_later rules m n q stamp made a b c ReadingFailed later ends = (ends.0, rose_after a.reads b.reads c.reads later.reads ends.1)
 ends_later rules m n q stamp made a b c NoMemory later ends = ends
@@ -73,7 +73,7 @@ by_holder : (b : Bool) (session : ℕ) → option_or (refuse_if b refusal.Voted)
 by_holder true session = refl
 by_holder false session = refl
 
-held_same : (n : ℕ) (vote : Option HubVote) (voted : Option Transaction) → vote_refusal n (option_map (seen_vote voted) vote) ≡ held_refusal n vote
+held_same : (n : ℕ) (vote : Option HubVote) (voted : Option Transaction) → vote_refusal n (option_map (vote_of_hub voted) vote) ≡ held_refusal n vote
 held_same n None voted = refl
 held_same n (Some v) voted = by_holder (v.session == n) v.session
 
@@ -166,13 +166,13 @@ undo_votes_for rules m n texts tids changes hub stands whole is_open free bare u
 -- ---- a request whose vote is refused
 
 decided_refused : {R F : Type 0} (rules : Rules) (m : Machine) (n : ℕ) (q : Request) (texts : Texts) (r : Refusal) (old new : HubState R F) (stamps : Option (List Stamp))
-    → early_refusal m n q ≡ None → request_step rules m n q 0 ≡ refused m r → outcome_of (reply.Refused r) ≡ Answered
+    → early_refusal m n q ≡ None → request_step rules m n q 0 ≡ replied_refusal m r → outcome_of (reply.Refused r) ≡ Answered
     → AreLaterCounts (counts_of old.store) (counts_of new.store) → StandsForMachine new m → MakesStep rules m n q (reply.Refused r) old new stamps stamps
 decided_refused rules m n q texts r old new stamps early gives is later left =
     answered rules m n q (reply.Refused r) m old new stamps later is (ap (λ (o : Option Refusal). unless_early o m (request_step rules m n q 0)) early ∙ gives) left
 
 vote_gives : (rules : Rules) (m : Machine) (n : ℕ) (user description extension : List ℕ) (pending : PendingChanges) (r : Refusal) → vote_decision rules.merging m.list pending ≡ Err r
-    → request_step rules m n (request.Vote user description extension pending) 0 ≡ refused m r
+    → request_step rules m n (request.Vote user description extension pending) 0 ≡ replied_refusal m r
 vote_gives rules m n user description extension pending r is = ap (vote_step m n (record { user = user; description = description; extension = extension }) 0) is
 
 vote_refused_with : {R F : Type 0} (rules : Rules) (m : Machine) (n : ℕ) (user description extension : List ℕ) (pending : PendingChanges) (why : VoteRefusal) (old new : HubState R F) (stamps : Option (List Stamp))
@@ -203,7 +203,7 @@ vote_refused rules m n user description extension pending why old new stamps sta
     (subst (λ (l : List Transaction). IsVoteRefusal (vote_decision rules.merging l pending) why) (sym (stands.list whole)) is) cause later left
 
 undo_gives : (rules : Rules) (m : Machine) (n : ℕ) (user description tids : List ℕ) (r : Refusal) → undone_of rules.merging m.list tids ≡ Err r
-    → request_step rules m n (request.Undo user description tids) 0 ≡ refused m r
+    → request_step rules m n (request.Undo user description tids) 0 ≡ replied_refusal m r
 undo_gives rules m n user description tids r is = ap (λ (d : Result (List NewChange) Refusal). vote_step m n (record { user = user; description = description; extension = [] }) 0 (changes_undone m.list d)) is
 
 undo_refused_with : {R F : Type 0} (rules : Rules) (m : Machine) (n : ℕ) (user description tids : List ℕ) (why : UndoRefusal) (old new : HubState R F) (stamps : Option (List Stamp))

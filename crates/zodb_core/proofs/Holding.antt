@@ -30,11 +30,11 @@ use Rattle.zodb_core.specs.declared.texts.Texts.{Texts}
 use Rattle.zodb_core.specs.declared.vote.HubVote.{HubVote}
 use Rattle.zodb_core.specs.declared.vote.VotedEntry.{VotedEntry}
 use Rattle.zodb_core.specs.Holding.{IsNextTid, VotesFor, tid_if_left}
-use Rattle.zodb_core.specs.HubState.{HubState, IsEntryOf, IsKept, IsRead, MakesStep, StandsForMachine, counts_of, seen_vote, sessions_with}
+use Rattle.zodb_core.specs.HubState.{HubState, IsEntryOf, HubKeeps, IsClockRead, MakesStep, StandsForMachine, counts_of, vote_of_hub, sessions_with}
 use Rattle.zodb_core.specs.Machine.{Machine, MachineVote, Rules, switches_of}
 use Rattle.zodb_core.specs.Outcomes.{Answered, AreLaterCounts, MayGoWrong, failed, holds_writes, machine_left, outcome_of}
 use Rattle.zodb_core.specs.Replies.{fault_reply}
-use Rattle.zodb_core.specs.Steps.{Stepped, changes_in_journal, journal_limit, refused, replied, step_of, transaction_with, vote_at, vote_counted, vote_step, with_vote}
+use Rattle.zodb_core.specs.Steps.{Stepped, changes_in_journal, journal_limit, replied_refusal, replied, step_of, transaction_with, vote_at, vote_counted, vote_step, with_vote}
 use Rattle.zodb_core.proofs.Stepping.{answered, ends_answered, sessions_whole, stands_read}
 use Rattle.zodb_core.proofs.Votes.{dropped_failed}
 
@@ -48,7 +48,7 @@ answered_still rules m n q r left old new before after later is gives same stand
 
 ticked : {R F : Type 0} (rules : Rules) (m : Machine) (n : ℕ) (q : Request) (r : Reply) (left : Machine) (stamp : ℕ) (old new : HubState R F) (before after : Option (List Stamp))
     → AreLaterCounts (counts_of old.store) (counts_of new.store) → outcome_of r ≡ Answered → step_of rules m n q stamp ≡ record { reply = r; machine = left; ticks = true }
-    → IsRead stamp before after → StandsForMachine new left
+    → IsClockRead stamp before after → StandsForMachine new left
     → MakesStep rules m n q r old new before after
 ticked rules m n q r left stamp old new before after later is gives read stands = record {
   stamp = stamp;
@@ -66,7 +66,7 @@ ticked rules m n q r left stamp old new before after later is gives read stands 
 
 -- ---- the clock
 
-is_read : (stamp : Stamp) (before after : Option (List Stamp)) → IfSome before (λ told. slice_get told 0 ≡ Some stamp) → after ≡ option_map stamps_after before → IsRead (stamp_number stamp) before after
+is_read : (stamp : Stamp) (before after : Option (List Stamp)) → IfSome before (λ told. slice_get told 0 ≡ Some stamp) → after ≡ option_map stamps_after before → IsClockRead (stamp_number stamp) before after
 is_read stamp None after first left = left
 is_read stamp (Some []) after first left = absurd cc
 is_read stamp (Some (s ∷ stamps)) after first left = (sym (ap stamp_number (same_Some s stamp first)), left)
@@ -111,18 +111,18 @@ hold_empty rules m n q texts changes old new before after stands whole votes non
       pack = stands.pack;
       failed = stands.failed ∙ sym (ap (λ (s : StoreState). s.broken) store);
       list = λ _. stands.list whole ∙ sym (ap (λ (s : StoreState). s.list) store);
-      vote = λ _. sym (ap (option_map (seen_vote new.store.voted)) vote
+      vote = λ _. sym (ap (option_map (vote_of_hub new.store.voted)) vote
           ∙ ap (λ (w : Option Transaction). let x : MachineVote = record { session = n; writes = w } in Some x) (ap (λ (s : StoreState). s.voted) store ∙ voted));
     })
 
 -- ---- where the journal is full
 
 full_decided : (m : Machine) (n : ℕ) (texts : Texts) (stamp count : ℕ) (changes : List Change) → (changes ≡ [] → ⊥) → changes_in_journal m.journal + length changes ≡ count → journal_limit < count
-    → vote_step m n texts stamp (Ok changes) ≡ refused m (refusal.JournalFull count)
+    → vote_step m n texts stamp (Ok changes) ≡ replied_refusal m (refusal.JournalFull count)
 full_decided m n texts stamp count [] some is above = absurd (some refl)
 full_decided m n texts stamp count (c ∷ changes) some is above =
     ap (vote_counted m n texts (c ∷ changes) stamp) is
-    ∙ ap (λ (b : Bool). if b then refused m (refusal.JournalFull count) else vote_at m n texts (c ∷ changes) (tid_after (newest_tid m.list) stamp)) (lt-ltb journal_limit count above)
+    ∙ ap (λ (b : Bool). if b then replied_refusal m (refusal.JournalFull count) else vote_at m n texts (c ∷ changes) (tid_after (newest_tid m.list) stamp)) (lt-ltb journal_limit count above)
 
 not_nothing : (list : List Transaction) (changes : List NewChange) → (changes ≡ [] → ⊥) → map (voted_change list) changes ≡ [] → ⊥
 not_nothing list [] some is = some refl
@@ -165,7 +165,7 @@ reached : (m : Machine) (n : ℕ) (texts : Texts) (stamp count : ℕ) (changes :
 reached m n texts stamp count [] some is within = absurd (some refl)
 reached m n texts stamp count (c ∷ changes) some is within =
     ap (vote_counted m n texts (c ∷ changes) stamp) is
-    ∙ ap (λ (b : Bool). if b then refused m (refusal.JournalFull count) else vote_at m n texts (c ∷ changes) (tid_after (newest_tid m.list) stamp)) (le-ltb journal_limit count within)
+    ∙ ap (λ (b : Bool). if b then replied_refusal m (refusal.JournalFull count) else vote_at m n texts (c ∷ changes) (tid_after (newest_tid m.list) stamp)) (le-ltb journal_limit count within)
 
 spent_at : (m : Machine) (n : ℕ) (texts : Texts) (changes : List Change) (tid : ℕ) (b : Bool) → nat_lt tid (2 ^ 64 - 1) ≡ b → None ≡ (if b then Some tid else None)
     → vote_at m n texts changes tid ≡ record { reply = reply.Refused refusal.TidsSpent; machine = m; ticks = true }
@@ -221,7 +221,7 @@ hold_voted rules m n q texts changes kept newest tid entry old new before after 
       pack = stands.pack;
       failed = stands.failed ∙ whole ∙ sym still;
       list = λ _. stands.list whole ∙ sym list;
-      vote = λ _. sym (ap (option_map (seen_vote new.store.voted)) vote
+      vote = λ _. sym (ap (option_map (vote_of_hub new.store.voted)) vote
           ∙ ap (λ (w : Option Transaction). let x : MachineVote = record { session = n; writes = w } in Some x)
           (voted ∙ ap (λ (l : List Transaction). Some (transaction_with tid texts (map (voted_change l) changes))) (sym (stands.list whole))));
     })
@@ -301,9 +301,9 @@ entry_same e list new voted is tid oids = subst (IsEntryOf (Some e)) (sym is) (t
 
 -- what a hub keeps, once a transaction is voted
 pub kept_voted : (told : Type 0) (s t : StoreState) (one entries : List JournalEntry) (before capacity changes switches : ℕ) (sessions : List Session) (vote : Option HubVote) (has_failed : Bool) (n : ℕ) (e : VotedEntry) (new : NewTransaction)
-    → IsKept told s one before changes switches sessions vote has_failed → entries ≡ one → s.broken ≡ false → t.broken ≡ false → length entries < capacity → changes + length new.changes ≤ journal_limit
+    → HubKeeps told s one before changes switches sessions vote has_failed → entries ≡ one → s.broken ≡ false → t.broken ≡ false → length entries < capacity → changes + length new.changes ≤ journal_limit
     → is_some t.voted ≡ true → e.tid ≡ new.tid → e.oids ≡ map (λ c. c.oid) new.changes → (told → t.voted ≡ Some (voted_of s.list new))
-    → IsKept told t entries capacity changes switches sessions (Some (record { session = n; writes = Some e })) has_failed
+    → HubKeeps told t entries capacity changes switches sessions (Some (record { session = n; writes = Some e })) has_failed
 kept_voted told s t one entries before capacity changes switches sessions vote has_failed n e new kept same whole still room within some tid oids voted = record {
   failed = kept.failed ∙ whole ∙ sym still;
   few = kept.few;

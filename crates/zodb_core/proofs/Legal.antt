@@ -3,7 +3,7 @@ use Rattle.std.proofs.Common.{◌≡◌, ℕ, List, [], ◌∷◌, ◌++◌, ref
 use Rattle.zodb_core.specs.declared.request.Request.{Request}
 use Rattle.zodb_core.specs.History.{Entry, IsLegal, PrefixesAreLegal, RepliesAreOne, counts_behind, machine_behind}
 use Rattle.zodb_core.specs.Machine.{Machine, Rules}
-use Rattle.zodb_core.specs.Outcomes.{Answered, EndsFor, FaultCounts, IsStepMade, NoMemory, Outcome, ReadingFailed, StoreFailed, outcome_of}
+use Rattle.zodb_core.specs.Outcomes.{Answered, EndsFor, FaultCounts, IsStepMade, NoMemory, StepOutcome, ReadingFailed, StoreFailed, outcome_of}
 use Rattle.zodb_core.specs.Steps.{Stepped, step_of}
 
 legal_prefix : (rules : Rules) (m : Machine) (counts : FaultCounts) (front rest : List Entry) → IsLegal rules m counts (front ++ rest) → IsLegal rules m counts front
@@ -13,7 +13,7 @@ legal_prefix rules m counts (e ∷ front) rest legal = (legal.0, legal_prefix ru
 pub prefixes : PrefixesAreLegal
 prefixes rules m counts front rest legal = legal_prefix rules m counts front rest legal
 
-by_outcome : (rules : Rules) (m : Machine) (n : ℕ) (q : Request) (stamp : ℕ) (made : Stepped) (a b : FaultCounts) (o : Outcome) → o ≡ Answered → EndsFor rules m n q stamp made a b o → made ≡ step_of rules m n q stamp
+by_outcome : (rules : Rules) (m : Machine) (n : ℕ) (q : Request) (stamp : ℕ) (made : Stepped) (a b : FaultCounts) (o : StepOutcome) → o ≡ Answered → EndsFor rules m n q stamp made a b o → made ≡ step_of rules m n q stamp
 by_outcome rules m n q stamp made a b Answered is ends = ends
 by_outcome rules m n q stamp made a b ReadingFailed is ends = absurd cc
 by_outcome rules m n q stamp made a b NoMemory is ends = absurd cc

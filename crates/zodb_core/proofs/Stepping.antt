@@ -22,9 +22,9 @@ use Rattle.zodb_core.specs.declared.reply.Reply.TheVariants as reply
 use Rattle.zodb_core.specs.declared.request.Request.{Request}
 use Rattle.zodb_core.specs.declared.request.Request.TheVariants as request
 use Rattle.zodb_core.specs.declared.session.Session.{Session}
-use Rattle.zodb_core.specs.HubState.{HubState, MakesStep, StandsForMachine, counts_of, seen_vote, sessions_with}
+use Rattle.zodb_core.specs.HubState.{HubState, MakesStep, StandsForMachine, counts_of, vote_of_hub, sessions_with}
 use Rattle.zodb_core.specs.Machine.{Machine, Rules, front_of, is_news_for, is_open_in, news_of, switches_of, told_of}
-use Rattle.zodb_core.specs.Outcomes.{Answered, AreLaterCounts, EndsFor, FaultCounts, IsStepMade, MayGoWrong, NoMemory, Outcome, ReadingFailed, StoreFailed, machine_left, outcome_of, outcome_of_refusal, reads_store, takes_memory}
+use Rattle.zodb_core.specs.Outcomes.{Answered, AreLaterCounts, EndsFor, FaultCounts, IsStepMade, MayGoWrong, NoMemory, StepOutcome, ReadingFailed, StoreFailed, machine_left, outcome_of, outcome_of_refusal, reads_store, takes_memory}
 use Rattle.zodb_core.specs.Replies.{fault_reply, loaded_reply}
 use Rattle.zodb_core.specs.Steps.{Stepped, early_refusal, loaded, refuse_if, replied, request_refusal, request_step, step_of}
 
@@ -40,7 +40,7 @@ stands_read m old new stands same journal greatest sessions vote = record {
   failed = stands.failed ∙ sym (ap (λ (s : StoreState). s.broken) same);
   list = λ whole. stands.list (sym (ap (λ (s : StoreState). s.broken) same) ∙ whole) ∙ sym (ap (λ (s : StoreState). s.list) same);
   vote = λ whole. stands.vote (sym (ap (λ (s : StoreState). s.broken) same) ∙ whole)
-      ∙ sym (ap (λ (s : StoreState). option_map (seen_vote s.voted) new.vote) same ∙ ap (option_map (seen_vote old.store.voted)) vote);
+      ∙ sym (ap (λ (s : StoreState). option_map (vote_of_hub s.voted) new.vote) same ∙ ap (option_map (vote_of_hub old.store.voted)) vote);
 }
 
 -- while the store is whole the machine's sessions are the hub's
@@ -53,7 +53,7 @@ sessions_whole m hub stands whole = stands.sessions ∙ ap (λ (b : Bool). sessi
 pub not_early : (m : Machine) (n : ℕ) (q : Request) (sessions : List Session) → m.sessions ≡ sessions → is_open_in sessions n ≡ true → early_refusal m n q ≡ request_refusal m n q
 not_early m n q sessions same is_open = ap (λ (b : Bool). option_or (refuse_if (not b) refusal.NotOpen) (request_refusal m n q)) (ap (λ (xs : List Session). is_open_in xs n) same ∙ is_open)
 
-pub ends_answered : (rules : Rules) (m : Machine) (n : ℕ) (q : Request) (stamp : ℕ) (made : Stepped) (before now : FaultCounts) (o : Outcome) → o ≡ Answered → made ≡ step_of rules m n q stamp → EndsFor rules m n q stamp made before now o
+pub ends_answered : (rules : Rules) (m : Machine) (n : ℕ) (q : Request) (stamp : ℕ) (made : Stepped) (before now : FaultCounts) (o : StepOutcome) → o ≡ Answered → made ≡ step_of rules m n q stamp → EndsFor rules m n q stamp made before now o
 ends_answered rules m n q stamp made before now Answered is same = same
 ends_answered rules m n q stamp made before now ReadingFailed is same = absurd cc
 ends_answered rules m n q stamp made before now NoMemory is same = absurd cc

@@ -27,15 +27,15 @@ use Rattle.zodb_core.specs.declared.request.Request.TheVariants as request
 use Rattle.zodb_core.specs.declared.session.Session.{Session}
 use Rattle.zodb_core.specs.declared.vote.HubVote.{HubVote}
 use Rattle.zodb_core.specs.declared.vote.VotedEntry.{VotedEntry}
-use Rattle.zodb_core.specs.HubState.{HasVoted, HubState, IsBeforeOrBehind, IsEntryOf, IsKept, MakesStep, StandsForMachine, counts_of, has_vote, seen_vote, sessions_with, writes_of}
+use Rattle.zodb_core.specs.HubState.{HasVotedWrites, HubState, IsBeforeOrBehind, IsEntryOf, HubKeeps, MakesStep, StandsForMachine, counts_of, has_vote, vote_of_hub, sessions_with, writes_of}
 use Rattle.zodb_core.specs.Machine.{Machine, MachineVote, OpenPack, Rules, has_pack, holds_vote, is_open_in}
 use Rattle.zodb_core.specs.Outcomes.{AreLaterCounts, MayGoWrong, changes_store, closed_session, failed, holds_writes}
-use Rattle.zodb_core.specs.Steps.{Stepped, early_refusal, finished, finish_step, refuse_if, replied, request_refusal, request_step, step_of, unless_early, with_commit, without_session, without_vote}
+use Rattle.zodb_core.specs.Steps.{Stepped, early_refusal, finish_gives, finish_step, refuse_if, replied, request_refusal, request_step, step_of, unless_early, with_commit, without_session, without_vote}
 use Rattle.zodb_core.proofs.Stepping.{answered, not_early, sessions_whole}
 
 -- ---- the vote that a session holds
 
-held_by : (n : ℕ) (vote : Option HubVote) (voted : Option Transaction) → has_vote n vote ≡ true → option_map (seen_vote voted) vote ≡ Some (record { session = n; writes = voted })
+held_by : (n : ℕ) (vote : Option HubVote) (voted : Option Transaction) → has_vote n vote ≡ true → option_map (vote_of_hub voted) vote ≡ Some (record { session = n; writes = voted })
 held_by n None voted e = absurd cc
 held_by n (Some v) voted e = ap (λ (k : ℕ). let x : MachineVote = record { session = k; writes = voted } in Some x) (eqb-true v.session n e)
 
@@ -50,7 +50,7 @@ holds_own n writes vote is = ap (holds_vote n) is ∙ eq-eqb n n refl
 -- ---- finish
 
 finish_of : (rules : Rules) (m : Machine) (n stamp : ℕ) (writes : Option Transaction) → is_open_in m.sessions n ≡ true → m.vote ≡ Some (record { session = n; writes = writes })
-    → step_of rules m n request.Finish stamp ≡ finished m n writes
+    → step_of rules m n request.Finish stamp ≡ finish_gives m n writes
 finish_of rules m n stamp writes is_open vote =
     ap (λ (b : Bool). unless_early (option_or (refuse_if (not b) refusal.NotOpen) (refuse_if (not (holds_vote n m.vote)) refusal.NotVoted)) m (finish_step m n m.vote)) is_open
     ∙ ap (λ (b : Bool). unless_early (refuse_if (not b) refusal.NotVoted) m (finish_step m n m.vote)) (holds_own n writes m.vote vote)
@@ -73,7 +73,7 @@ finish_empty rules m n old new stamps stands is_open whole held voted store entr
       pack = stands.pack;
       failed = stands.failed ∙ sym (ap (λ (s : StoreState). s.broken) store);
       list = λ _. stands.list whole ∙ sym (ap (λ (s : StoreState). s.list) store);
-      vote = λ _. sym (ap (option_map (seen_vote new.store.voted)) vote);
+      vote = λ _. sym (ap (option_map (vote_of_hub new.store.voted)) vote);
     })
 
 committed_with : {R F : Type 0} (rules : Rules) (m : Machine) (n : ℕ) (t : Transaction) (e : VotedEntry) (old new : HubState R F) (stamps : Option (List Stamp))
@@ -95,7 +95,7 @@ committed_with rules m n t e old new stamps stands is_open whole held voted tid 
       pack = stands.pack;
       failed = stands.failed ∙ whole ∙ sym still;
       list = λ _. ap (λ (ts : List Transaction). ts ++ t ∷ []) (stands.list whole) ∙ sym list;
-      vote = λ _. sym (ap (option_map (seen_vote new.store.voted)) vote);
+      vote = λ _. sym (ap (option_map (vote_of_hub new.store.voted)) vote);
     })
 
 pub finish_committed : {R F : Type 0} (rules : Rules) (m : Machine) (n : ℕ) (voted : Option Transaction) (e : VotedEntry) (old new : HubState R F) (stamps : Option (List Stamp))
@@ -162,7 +162,7 @@ pub leaves_same : (stands_for : List ℕ → List Transaction → Type 0) (shown
     → LeavesOnly Main (λ bytes. stands_for bytes shown.list) shown.log log
 leaves_same stands_for shown s log is only = subst (λ (x : StoreState). LeavesOnly Main (λ bytes. stands_for bytes x.list) x.log log) (sym is) only
 
-not_held : (n : ℕ) (vote : Option HubVote) (voted : Option Transaction) → has_vote n vote ≡ false → holds_vote n (option_map (seen_vote voted) vote) ≡ false
+not_held : (n : ℕ) (vote : Option HubVote) (voted : Option Transaction) → has_vote n vote ≡ false → holds_vote n (option_map (vote_of_hub voted) vote) ≡ false
 not_held n None voted e = refl
 not_held n (Some v) voted e = e
 
@@ -186,7 +186,7 @@ dropped_none m n old new stands whole not store entries greatest sessions vote =
   failed = stands.failed ∙ sym (ap (λ (s : StoreState). s.broken) store);
   list = λ _. stands.list whole ∙ sym (ap (λ (s : StoreState). s.list) store);
   vote = λ _. kept_vote (holds_vote n m.vote) m.vote (ap (holds_vote n) (stands.vote whole) ∙ not_held n old.vote old.store.voted not)
-      ∙ stands.vote whole ∙ sym (ap (λ (s : StoreState). option_map (seen_vote s.voted) new.vote) store ∙ ap (option_map (seen_vote old.store.voted)) vote);
+      ∙ stands.vote whole ∙ sym (ap (λ (s : StoreState). option_map (vote_of_hub s.voted) new.vote) store ∙ ap (option_map (vote_of_hub old.store.voted)) vote);
 }
 
 -- it held it, and the store has voted nothing any more
@@ -200,7 +200,7 @@ dropped_writes m n old new stands whole held still list entries greatest session
   pack = stands.pack;
   failed = stands.failed ∙ whole ∙ sym still;
   list = λ _. stands.list whole ∙ sym list;
-  vote = λ _. lost_vote (holds_vote n m.vote) m.vote (holds_own n old.store.voted m.vote (vote_held m n old stands whole held)) ∙ sym (ap (option_map (seen_vote new.store.voted)) vote);
+  vote = λ _. lost_vote (holds_vote n m.vote) m.vote (holds_own n old.store.voted m.vote (vote_held m n old stands whole held)) ∙ sym (ap (option_map (vote_of_hub new.store.voted)) vote);
 }
 
 -- the store failed
@@ -284,7 +284,7 @@ close_dropped rules m n old mid new stamps stands whole is_open later left still
       pack = no_pack n m.pack stands.pack;
       failed = left.failed ∙ sym (ap (λ (s : StoreState). s.broken) store);
       list = λ _. left.list still ∙ sym (ap (λ (s : StoreState). s.list) store);
-      vote = λ _. left.vote still ∙ sym (ap (λ (s : StoreState). option_map (seen_vote s.voted) new.vote) store ∙ ap (option_map (seen_vote mid.store.voted)) vote);
+      vote = λ _. left.vote still ∙ sym (ap (λ (s : StoreState). option_map (vote_of_hub s.voted) new.vote) store ∙ ap (option_map (vote_of_hub mid.store.voted)) vote);
     })
 
 pub close_failed : {R F : Type 0} (rules : Rules) (m : Machine) (n : ℕ) (old new : HubState R F) (stamps : Option (List Stamp))

@@ -10,7 +10,7 @@ use Rattle.zb_model.specs.declared.store_error.StoreError.TheVariants as store_e
 use Rattle.zodb_core.specs.declared.request.Request.{Request}
 use Rattle.zodb_core.specs.declared.texts.Texts.{Texts}
 use Rattle.zodb_core.specs.declared.vote.HubVote.{HubVote}
-use Rattle.zodb_core.specs.HubState.{IsRead}
+use Rattle.zodb_core.specs.HubState.{IsClockRead}
 use Rattle.zodb_core.specs.Machine.{Machine, Rules}
 use Rattle.zodb_core.specs.Outcomes.{changes_store, holds_writes, reads_store, takes_memory}
 use Rattle.zodb_core.specs.Steps.{Stepped, early_refusal, step_of, vote_step}
@@ -28,7 +28,7 @@ tid_if_left tid = if nat_lt tid (2 ^ 64 - 1) then Some tid else None
 -- the tid after the newest by a clock that was read, if one is left
 pub record IsNextTid (newest : ℕ) (before after : Option (List Stamp)) (result : Option ℕ) : Type 0 where
   pub stamp : ℕ
-  pub clock : IsRead stamp before after
+  pub clock : IsClockRead stamp before after
   pub tid : result ≡ tid_if_left (tid_after newest stamp)
   pub above : IfSome result (λ tid. newest < tid)
 

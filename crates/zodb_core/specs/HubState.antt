@@ -18,7 +18,7 @@ use Rattle.zodb_core.specs.declared.session.Session.{Session}
 use Rattle.zodb_core.specs.declared.vote.HubVote.{HubVote}
 use Rattle.zodb_core.specs.declared.vote.VotedEntry.{VotedEntry}
 use Rattle.zodb_core.specs.Machine.{Machine, MachineVote, Rules, session_limit, switches_of}
-use Rattle.zodb_core.specs.Outcomes.{AreLaterCounts, FaultCounts, IsStepMade, Outcome, Answered, ReadingFailed, NoMemory, StoreFailed, closed_session, outcome_of}
+use Rattle.zodb_core.specs.Outcomes.{AreLaterCounts, FaultCounts, IsStepMade, StepOutcome, Answered, ReadingFailed, NoMemory, StoreFailed, closed_session, outcome_of}
 use Rattle.zb_base.specs.Counts.{Rose}
 use Rattle.zodb_core.specs.Steps.{Stepped, changes_in_journal, journal_limit, step_of}
 
@@ -33,8 +33,8 @@ pub record HubState (R F : Type 0) : Type 0 where
   pub vote : Option HubVote
 
 -- the vote writes what the store has voted
-abbrev pub seen_vote : Option Transaction → HubVote → MachineVote
-seen_vote voted v = record { session = v.session; writes = voted }
+abbrev pub vote_of_hub : Option Transaction → HubVote → MachineVote
+vote_of_hub voted v = record { session = v.session; writes = voted }
 
 -- no session is open once the store has failed
 abbrev pub sessions_with : Bool → List Session → List Session
@@ -49,7 +49,7 @@ pub record StandsForMachine {R F : Type 0} (hub : HubState R F) (m : Machine) : 
   pub pack : m.pack ≡ None
   pub failed : m.failed ≡ hub.store.broken
   pub list : hub.store.broken ≡ false → m.list ≡ hub.store.list
-  pub vote : hub.store.broken ≡ false → m.vote ≡ option_map (seen_vote hub.store.voted) hub.vote
+  pub vote : hub.store.broken ≡ false → m.vote ≡ option_map (vote_of_hub hub.store.voted) hub.vote
 
 -- the rules that a hub was given, as functions on bytes
 abbrev pub rules_of : {R F : Type 0} → (R → MergeRules) → (F → List ℕ → Option (List ℕ)) → HubState R F → Rules
@@ -59,7 +59,7 @@ abbrev pub counts_of : StoreState → FaultCounts
 counts_of s = record { reads = s.read_faults; others = s.faults }
 
 -- a fault comes only where its count rose
-abbrev pub IsCauseOf : FaultCounts → FaultCounts → Outcome → Type 0
+abbrev pub IsCauseOf : FaultCounts → FaultCounts → StepOutcome → Type 0
 IsCauseOf before now Answered = Unit {0}
 IsCauseOf before now ReadingFailed = Rose before.reads now.reads
 IsCauseOf before now NoMemory = Unit {0}
@@ -85,14 +85,14 @@ MayRefuseSession count session_refusal.Memory = Unit {0}
 -- ---- a step of a hub
 
 -- a clock that was read gave its first stamp, whose number this is, and one that wasn't is as it was
-abbrev pub IsRead : ℕ → Option (List Stamp) → Option (List Stamp) → Type 0
-IsRead stamp None after = after ≡ None
-IsRead stamp (Some []) after = ⊥
-IsRead stamp (Some (s ∷ stamps)) after = (stamp ≡ stamp_number s) × (after ≡ Some (stamps_after (s ∷ stamps)))
+abbrev pub IsClockRead : ℕ → Option (List Stamp) → Option (List Stamp) → Type 0
+IsClockRead stamp None after = after ≡ None
+IsClockRead stamp (Some []) after = ⊥
+IsClockRead stamp (Some (s ∷ stamps)) after = (stamp ≡ stamp_number s) × (after ≡ Some (stamps_after (s ∷ stamps)))
 
 abbrev pub HasTicked : Bool → ℕ → Option (List Stamp) → Option (List Stamp) → Type 0
 HasTicked false stamp before after = after ≡ before
-HasTicked true stamp before after = IsRead stamp before after
+HasTicked true stamp before after = IsClockRead stamp before after
 
 -- A hub made a step of this machine with this reply: the clock gave a stamp where it was read, and the hub then stands for the machine that is left.
 pub record MakesStep {R F : Type 0} (rules : Rules) (m : Machine) (n : ℕ) (q : Request) (reply : Reply) (old new : HubState R F) (before after : Option (List Stamp)) : Type 0 where
@@ -122,9 +122,9 @@ abbrev pub has_vote : ℕ → Option HubVote → Bool
 has_vote n vote = option_map_or (λ v. v.session == n) vote false
 
 -- the store has voted what the vote is to write, and else nothing
-abbrev pub HasVoted : Option HubVote → Option Transaction → Type 0
-HasVoted None voted = voted ≡ None
-HasVoted (Some v) voted = is_some voted ≡ is_some v.writes
+abbrev pub HasVotedWrites : Option HubVote → Option Transaction → Type 0
+HasVotedWrites None voted = voted ≡ None
+HasVotedWrites (Some v) voted = is_some voted ≡ is_some v.writes
 
 abbrev pub writes_of : Option HubVote → Option VotedEntry
 writes_of None = None
@@ -137,12 +137,12 @@ IsEntryOf _ _ = Unit {0}
 
 -- What a hub keeps beside its store: sessions, the journal with the numbers of its changes and of its packs and with room for what is voted, and the vote. `told` says
 -- whether the store tells its list.
-pub record IsKept (told : Type 0) (store : StoreState) (journal : List JournalEntry) (capacity changes switches : ℕ) (sessions : List Session) (vote : Option HubVote) (has_failed : Bool) : Type 0 where
+pub record HubKeeps (told : Type 0) (store : StoreState) (journal : List JournalEntry) (capacity changes switches : ℕ) (sessions : List Session) (vote : Option HubVote) (has_failed : Bool) : Type 0 where
   pub failed : has_failed ≡ store.broken
   pub few : length sessions ≤ session_limit
   pub counted : changes ≡ changes_in_journal journal
   pub bounded : changes ≤ journal_limit
   pub switched : switches ≡ switches_of journal
   pub room : IfSome (writes_of vote) (λ e. (length journal < capacity) × (changes + length e.oids ≤ journal_limit))
-  pub voted : store.broken ≡ false → HasVoted vote store.voted
+  pub voted : store.broken ≡ false → HasVotedWrites vote store.voted
   pub entry : told → store.broken ≡ false → IsEntryOf (writes_of vote) store.voted

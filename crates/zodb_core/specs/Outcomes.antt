@@ -12,20 +12,20 @@ use Rattle.zodb_core.specs.declared.session.Session.{Session}
 use Rattle.zodb_core.specs.Machine.{Machine, MachineVote, Rules}
 use Rattle.zodb_core.specs.Steps.{Stepped, early_refusal, step_of}
 
-pub data Outcome : Type 0 where
-  Answered : Outcome
-  ReadingFailed : Outcome
-  NoMemory : Outcome
-  StoreFailed : Outcome
+pub data StepOutcome : Type 0 where
+  Answered : StepOutcome
+  ReadingFailed : StepOutcome
+  NoMemory : StepOutcome
+  StoreFailed : StepOutcome
 
 -- what a reply says of it
-abbrev pub outcome_of_refusal : Refusal → Outcome
+abbrev pub outcome_of_refusal : Refusal → StepOutcome
 outcome_of_refusal refusal.ReadFault = ReadingFailed
 outcome_of_refusal refusal.Memory = NoMemory
 outcome_of_refusal refusal.StoreFault = StoreFailed
 outcome_of_refusal _ = Answered
 
-abbrev pub outcome_of : Reply → Outcome
+abbrev pub outcome_of : Reply → StepOutcome
 outcome_of (reply.Refused r) = outcome_of_refusal r
 outcome_of _ = Answered
 
@@ -68,7 +68,7 @@ closed_session x = record x { is_open = false }
 abbrev pub failed : Machine → Machine
 failed m = record m { sessions = map closed_session m.sessions; vote = None; pack = None; failed = true }
 
-abbrev pub machine_left : Rules → Machine → ℕ → Request → ℕ → Outcome → Machine
+abbrev pub machine_left : Rules → Machine → ℕ → Request → ℕ → StepOutcome → Machine
 machine_left rules m n q stamp Answered = (step_of rules m n q stamp).machine
 machine_left rules m n q stamp ReadingFailed = m
 machine_left rules m n q stamp NoMemory = m
@@ -92,7 +92,7 @@ pub record MayGoWrong (m : Machine) (n : ℕ) (q : Request) (is_one : Bool) : Ty
   pub one : is_one ≡ true
 
 -- why it ended so
-abbrev pub EndsFor : Rules → Machine → ℕ → Request → ℕ → Stepped → FaultCounts → FaultCounts → Outcome → Type 0
+abbrev pub EndsFor : Rules → Machine → ℕ → Request → ℕ → Stepped → FaultCounts → FaultCounts → StepOutcome → Type 0
 EndsFor rules m n q stamp made before now Answered = made ≡ step_of rules m n q stamp
 EndsFor rules m n q stamp made before now ReadingFailed = MayGoWrong m n q (reads_store q) × Rose before.reads now.reads
 EndsFor rules m n q stamp made before now NoMemory = MayGoWrong m n q (takes_memory q)

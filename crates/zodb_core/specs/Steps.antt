@@ -35,8 +35,8 @@ pub record Stepped : Type 0 where
 abbrev pub replied : Machine → Reply → Stepped
 replied m r = record { reply = r; machine = m; ticks = false }
 
-abbrev pub refused : Machine → Refusal → Stepped
-refused m r = replied m (reply.Refused r)
+abbrev pub replied_refusal : Machine → Refusal → Stepped
+replied_refusal m r = replied m (reply.Refused r)
 
 -- ---- the refusals that need no reading, in their order
 
@@ -111,12 +111,12 @@ vote_at m n texts changes tid =
 -- unless the journal is full, the clock is read
 abbrev pub vote_counted : Machine → ℕ → Texts → List Change → ℕ → ℕ → Stepped
 vote_counted m n texts changes stamp count =
-    if nat_lt journal_limit count then refused m (refusal.JournalFull count)
+    if nat_lt journal_limit count then replied_refusal m (refusal.JournalFull count)
     else vote_at m n texts changes (tid_after (newest_tid m.list) stamp)
 
 -- Vote and Undo: what was decided is held; where nothing is to be written the clock isn't read
 abbrev pub vote_step : Machine → ℕ → Texts → ℕ → Result (List Change) Refusal → Stepped
-vote_step m n texts stamp (Err r) = refused m r
+vote_step m n texts stamp (Err r) = replied_refusal m r
 vote_step m n texts stamp (Ok []) = replied (with_vote m n None) reply.Voted
 vote_step m n texts stamp (Ok (c ∷ changes)) = vote_counted m n texts (c ∷ changes) stamp (changes_in_journal m.journal + length (c ∷ changes))
 
@@ -132,13 +132,13 @@ with_commit m n t = record m {
   vote = None;
 }
 
-abbrev pub finished : Machine → ℕ → Option Transaction → Stepped
-finished m n None = replied (record m { vote = None }) reply.Empty
-finished m n (Some t) = replied (with_commit m n t) (reply.Committed t.tid)
+abbrev pub finish_gives : Machine → ℕ → Option Transaction → Stepped
+finish_gives m n None = replied (record m { vote = None }) reply.Empty
+finish_gives m n (Some t) = replied (with_commit m n t) (reply.Committed t.tid)
 
 abbrev pub finish_step : Machine → ℕ → Option MachineVote → Stepped
-finish_step m n None = refused m refusal.NotVoted
-finish_step m n (Some v) = finished m n v.writes
+finish_step m n None = replied_refusal m refusal.NotVoted
+finish_step m n (Some v) = finish_gives m n v.writes
 
 -- Abort: the session's vote is dropped
 abbrev pub without_vote : Machine → ℕ → Machine
@@ -174,7 +174,7 @@ request_step rules m n request.UndoLog stamp = replied m (reply.UndoLog (undo_lo
 request_step rules m n request.Close stamp = replied (without_session m n) reply.Closed
 
 abbrev pub unless_early : Option Refusal → Machine → Stepped → Stepped
-unless_early (Some r) m made = refused m r
+unless_early (Some r) m made = replied_refusal m r
 unless_early None m made = made
 
 -- a step of session n, where the clock's next stamp has this number

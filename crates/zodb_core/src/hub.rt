@@ -46,7 +46,7 @@ pub struct Hub<St: Store, R: Resolver, F: Refs> {
 
 impl<St: Store, R: Resolver, F: Refs> Model for Hub<St, R, F> {
     ghost use Rattle.std.specs.Prelude.{vec_capacity};
-    ghost use Rattle.zodb_core.specs.HubState.{HubState, IsKept};
+    ghost use Rattle.zodb_core.specs.HubState.{HubState, HubKeeps};
 
     ghost Value = { HubState R F };
 
@@ -60,7 +60,7 @@ impl<St: Store, R: Resolver, F: Refs> Model for Hub<St, R, F> {
       vote = hub.vote;
     } };
 
-    ghost invariant = { λ hub. IsKept St.told (St.state hub.store) hub.journal.items (vec_capacity hub.journal) hub.changes hub.switches hub.sessions.items hub.vote hub.failed };
+    ghost invariant = { λ hub. HubKeeps St.told (St.state hub.store) hub.journal.items (vec_capacity hub.journal) hub.changes hub.switches hub.sessions.items hub.vote hub.failed };
 }
 
 impl<St: Store, R: Resolver, F: Refs> Hub<St, R, F> {
