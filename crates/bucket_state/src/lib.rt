@@ -16,6 +16,3 @@ pub use laws::{same_graphs_are_spelled_alike, written_buckets_read_back};
 pub use reading::read_bucket;
 pub use tree::{Branch, Inner, TreeState, read_tree};
 pub use writing::write_bucket;
-
-#[cfg(test)]
-mod tests;
