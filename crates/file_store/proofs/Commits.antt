@@ -2,7 +2,6 @@
 use Rattle.std.proofs.Common.{◌≡◌, ◌⊎◌, inl, inr, ⊎_elim, ℕ, zero, suc, ◌+◌, ◌<◌, false, List, [], ◌∷◌, ◌++◌, length, get_or, map, take, Option, Some, None, refl, sym, ap, subst, ◌∙◌, arith}
 use Rattle.std.specs.Prelude.{option_map, All}
 use Rattle.std.specs.Option.{ForSome, IsSome}
-use Rattle.std.proofs.lemmas.List.{length-map}
 use Rattle.std.proofs.lemmas.List.Elements.{All-head, All-tail}
 use Rattle.zb_volume.specs.declared.areas.Area.TheVariants.{Main}
 use Rattle.zb_volume.specs.Calls.{Event}
@@ -10,11 +9,10 @@ use Rattle.zb_volume.specs.Disk.{seen, written, IsSettled}
 use Rattle.zb_volume.specs.Moments.{LeavesOnly, here}
 use Rattle.zb_volume.specs.Runs.{leaves_less}
 use Rattle.zb_model.specs.declared.data.Transaction.{Transaction}
-use Rattle.zb_model.specs.declared.new_transaction.NewChange.{NewChange}
 use Rattle.zb_model.specs.declared.new_transaction.NewTransaction.{NewTransaction}
 use Rattle.zb_base.specs.Bytes.{AreBytes}
 use Rattle.fs_records.specs.Blocks.{Reached, Begins}
-use Rattle.fs_records.specs.Places.{IsIndexOf}
+use Rattle.fs_records.specs.Places.{IsIndexOf, places_in, oids_placed}
 use Rattle.zb_model.specs.Voting.{IsVotable, voted_of}
 use Rattle.fs_records.specs.File.{IsReadAs, a_file}
 use Rattle.fs_records.specs.Listed.{listed, reached_in, reading_stands}
@@ -24,9 +22,10 @@ use Rattle.fs_append.specs.Appending.{IsStillRead, IsVote, IsVoted}
 use Rattle.file_store.specs.declared.staged.Staged.{Staged}
 use Rattle.file_store.specs.Kept.{HasRoomForTally, IsKept, IsVotedIn, StandsForList, done, voted_in, cut_of, length_by}
 use Rattle.file_store.specs.KeptLaws.{kept_stands, kept_for, kept_leaves, list_read}
-use Rattle.file_store.specs.Numbers.{NumbersKept, AreNumbersOf}
-use Rattle.file_store.specs.Preparing.{IsPrepared}
-use Rattle.file_store.specs.Staging.{StagedKept, shown_places, shown_starts}
+use Rattle.fs_recovery.specs.Numbers.{NumbersKept, AreNumbersOf}
+use Rattle.file_store.specs.Preparing.{IsPrepared, begin_of}
+use Rattle.file_store.specs.Staging.{StagedKept, IsWith}
+use Rattle.file_store.proofs.Placing.{length_placed}
 use Rattle.zb_volume.specs.Lasting.{written_end}
 use Rattle.file_store.proofs.Writes.{Voted, staged_for, voted_kept, finished_kept, aborted_kept}
 
@@ -55,10 +54,10 @@ none_staged None f is = refl
 none_staged (Some s) f is = absurd cc
 
 -- the room that was made is that for what was staged
-pub room_for : (numbers : NumbersKept) (staged : Option Staged) (old : StagedKept) (new : NewTransaction) (text : List ℕ) → staged ≡ Some (staged_for old new text) → HasRoomForTally numbers (length new.changes) → ForSome staged (λ s. HasRoomForTally numbers (length s.oids))
+pub room_for : (numbers : NumbersKept) (staged : Option Staged) (old : StagedKept) (new : NewTransaction) (text : List ℕ) → staged ≡ Some (staged_for old new text) → HasRoomForTally numbers (length new.changes) → ForSome staged (λ s. HasRoomForTally numbers (length s.records))
 room_for numbers staged old new text is room s some =
     let same : s ≡ staged_for old new text = some_same Staged staged (staged_for old new text) s is some in
-    subst (λ (x : Staged). HasRoomForTally numbers (length x.oids)) (sym same) (subst (λ (n : ℕ). HasRoomForTally numbers n) (sym (length-map new.changes (λ (c : NewChange). c.oid))) room)
+    subst (λ (x : Staged). HasRoomForTally numbers (length x.records)) (sym same) (subst (λ (n : ℕ). HasRoomForTally numbers n) (sym (length_placed new.tid (begin_of old new) new.changes)) room)
 
 pub none_there : (A : Type 0) (P : A → Type 0) (o : Option A) → o ≡ None → ForSome o P
 none_there A P o is a some = absurd cc
@@ -121,7 +120,7 @@ module _ (log : List Event) (index : StagedKept) (numbers : NumbersKept) (settle
 
   -- and what is read of it
   pub aborted : (new : List Event) (now : StagedKept) (s : Staged) (end : ℕ) → index.staged ≡ Some s → IsVotedIn (seen log Main) s index → end ≡ index.end → seen new Main ≡ take end (seen log Main)
-      → now.staged ≡ None → now.end ≡ index.end → now.newest ≡ index.newest → ((oid : ℕ) → shown_places now oid ≡ shown_places index oid) → shown_starts now ≡ shown_starts index
+      → now.staged ≡ None → now.end ≡ index.end → now.newest ≡ index.newest → ((oid : ℕ) → places_in now.kept.entries oid ≡ places_in index.kept.entries oid) → now.kept.transactions ≡ index.kept.transactions
       → IsKept (seen new Main) now numbers × (listed (seen new Main) ≡ listed (seen log Main))
   aborted new now s end some voted end_is content none end_same newest_same places starts =
       let a = aborted_kept (seen log Main) index now numbers kept (omega (arith, voted.long)) none end_same newest_same places starts in
@@ -132,7 +131,7 @@ module _ (log : List Event) (index : StagedKept) (numbers : NumbersKept) (settle
   pub voted : (new_log : List Event) (now : StagedKept) (are : NumbersKept) (new : NewTransaction) (end : ℕ) (text bytes : List ℕ) → index.staged ≡ None → IsPrepared index now are new text → end ≡ now.end → bytes ≡ text → All (λ byte. byte < 256) text
       → ((b : List ℕ) (s : Reached) → Begins b s → IsIndexOf s index.kept → s.end ≡ index.end → IsVotable s.list new → IsNext s (block_of 32 index.kept.entries new) (voted_of s.list new))
       → IsVotable (listed (seen log Main)) new → now.end ≡ index.end → now.newest ≡ index.newest
-      → ((oid : ℕ) → shown_places now oid ≡ shown_places index oid) → shown_starts now ≡ shown_starts index
+      → ((oid : ℕ) → places_in now.kept.entries oid ≡ places_in index.kept.entries oid) → now.kept.transactions ≡ index.kept.transactions
       → are.tallies ≡ numbers.tallies → are.greatest ≡ numbers.greatest → are.pack_point ≡ numbers.pack_point
       → seen new_log Main ≡ written (seen log Main) end bytes → Voted (seen log Main) (seen new_log Main) now are (staged_for index new text) new
   voted new_log now are new end text bytes free p end_is text_is all next votable end_same newest_same places starts tallies greatest point content =
@@ -142,9 +141,9 @@ module _ (log : List Event) (index : StagedKept) (numbers : NumbersKept) (settle
 
   -- a finish leaves the list with what was voted
   pub finished : (new : List Event) (now : StagedKept) (are : NumbersKept) (s : Staged) (end : ℕ) → index.staged ≡ Some s → IsVotedIn (seen log Main) s index → end ≡ index.end → seen new Main ≡ done end (seen log Main)
-      → now ≡ record { kept = index.kept; staged = None; newest = s.tid; end = s.end }
-      → ((list : List Transaction) (t : Transaction) → t.tid ≡ s.tid → t.packed ≡ false → map (λ c. c.oid) t.changes ≡ s.oids → AreNumbersOf list numbers → AreNumbersOf (list ++ t ∷ []) are)
+      → now.staged ≡ None → IsWith s index now
+      → ((list : List Transaction) (t : Transaction) → t.tid ≡ s.tid → t.packed ≡ false → map (λ c. c.oid) t.changes ≡ oids_placed s.records → AreNumbersOf list numbers → AreNumbersOf (list ++ t ∷ []) are)
       → IsKept (seen new Main) now are
-  finished new now are s end some voted end_is content is add =
-      let f = finished_kept (seen log Main) index now numbers are s kept voted some is add in
+  finished new now are s end some voted end_is content none is add =
+      let f = finished_kept (seen log Main) index now numbers are s kept voted some none is add in
       subst (λ (b : List ℕ). IsKept b now are) (ap (λ (n : ℕ). done n (seen log Main)) (sym end_is) ∙ sym content) f

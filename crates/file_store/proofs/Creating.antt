@@ -8,10 +8,9 @@ use Rattle.zb_model.specs.declared.data.Transaction.{Transaction}
 use Rattle.zb_model.specs.declared.new_transaction.NewTransaction.{NewTransaction}
 use Rattle.zb_model.specs.Creation.{first_transaction}
 use Rattle.zb_model.specs.Voting.{NamesRevision, IsVotable, voted_of}
-use Rattle.fs_records.specs.declared.place.Place.{Place}
 use Rattle.fs_records.specs.Blocks.{Reached, file_start, magic, block_text, after_block, transaction_of, Begins}
 use Rattle.fs_records.specs.File.{IsReadAs, StandsFor, a_file}
-use Rattle.fs_records.specs.Places.{Kept, IsIndexOf}
+use Rattle.fs_records.specs.Places.{PlacesKept, Kept, IsIndexOf, places_in}
 use Rattle.fs_records.specs.StatusLaws.{status_set}
 use Rattle.fs_records.specs.WriteLaws.{block_stands}
 use Rattle.fs_records.specs.Writing.{IsNext, block_of}
@@ -41,20 +40,19 @@ one_listed b = refl
 pub text_behind_16 : (status : ℕ) (kept : Kept) (new : NewTransaction) → 16 < length (block_text 4 (block_of status kept.entries new))
 text_behind_16 status kept new = omega (arith, text_long status kept.entries 4 new)
 
-pub empty_is : (kept : Kept) → kept.entries ≡ [] → kept.transactions ≡ [] → kept ≡ record { entries = []; transactions = [] }
-empty_is kept none nothing =
-    ap (λ (es : List (ℕ × List Place)). record { entries = es; transactions = kept.transactions }) none
-    ∙ ap (λ (ts : List Place). record { entries = []; transactions = ts }) nothing
-
 pub committed_is : (t : Transaction) (text block : List ℕ) → text ≡ block_text 4 (block_of 99 [] (as_new t)) → block ≡ set text 16 32 → magic ++ block ≡ file_with t
 committed_is t text block text_is is = ap (λ (x : List ℕ). magic ++ x) (is ∙ ap (λ (x : List ℕ). set x 16 32) text_is ∙ status_set 4 (block_of 99 [] (as_new t)) 32)
 
-pub first_stands : (n : ℕ) (kept : Kept) (file : List ℕ) → kept ≡ record { entries = []; transactions = [] } → Nexts kept (as_new (first_transaction n)) → file ≡ file_with (first_transaction n) → StandsFor file (first_transaction n ∷ []) None
-first_stands n kept file none next is =
+-- an index of nothing is that of a file's start
+nothing_indexed : (kept : Kept) → kept.entries ≡ [] → kept.transactions ≡ [] → IsIndexOf file_start kept
+nothing_indexed kept entries transactions = record { records = λ oid. ap (λ (es : List (ℕ × PlacesKept)). places_in es oid) entries; transactions = transactions }
+
+pub first_stands : (n : ℕ) (kept : Kept) (file : List ℕ) → kept.entries ≡ [] → kept.transactions ≡ [] → Nexts kept (as_new (first_transaction n)) → file ≡ file_with (first_transaction n) → StandsFor file (first_transaction n ∷ []) None
+first_stands n kept file entries transactions next is =
     let new = as_new (first_transaction n) in
     let b = block_of 32 [] new in
-    let nexts : Nexts (record { entries = []; transactions = [] }) new = subst (λ (k : Kept). Nexts k new) none next in
-    let here : IsNext file_start b (voted_of [] new) = nexts magic file_start nothing_begins (record { records = λ oid. refl; transactions = refl }) refl (votable n) in
+    let here : IsNext file_start b (voted_of [] new) =
+    subst (λ (es : List (ℕ × PlacesKept)). IsNext file_start (block_of 32 es new) (voted_of [] new)) entries (next magic file_start nothing_begins (nothing_indexed kept entries transactions) refl (votable n)) in
     let stands : IsReadAs (file_with (first_transaction n)) (after_block file_start b) None = block_stands magic file_start b nothing_begins here.block in
     a_file (after_block file_start b) (subst (λ (x : List ℕ). IsReadAs x (after_block file_start b) None) (sym is) stands)
     (sym (one_listed b ∙ ap (λ (t : Transaction). t ∷ []) here.is))

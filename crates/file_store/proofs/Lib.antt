@@ -1,9 +1,7 @@
 pub mod Commits
-pub mod Counting
 pub mod Creating
 pub mod Opens
 pub mod Placing
 pub mod Shown
 pub mod Sizes
-pub mod Tallies
 pub mod Writes

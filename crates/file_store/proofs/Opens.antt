@@ -1,16 +1,17 @@
 -- What is opened is kept, and what a crash leaves of it.
 use Rattle.std.proofs.Common.{◌≡◌, ◌≢◌, ◌⊎◌, inl, inr, ℕ, ◌^◌, ◌<◌, ◌≤◌, List, [], ◌∷◌, ◌++◌, length, map, take, drop, Option, Some, None, refl, sym, ap, subst, ◌∙◌, arith}
 use Rattle.std.specs.Result.{IsErr, IsErrAnd, IfErr}
-use Rattle.std.specs.Prelude.{Result, Ok, Err, IfOk, IfSome, option_map, slice_get}
+use Rattle.std.specs.Prelude.{Result, Ok, Err, IfOk, IfSome, OnErr, option_map, slice_get}
 use Rattle.std.specs.List.{last_or}
 use Rattle.std.specs.Option.{option_map_or}
 use Rattle.std.proofs.lemmas.List.{nil_from_length, length-append, length-take, take_at}
 use Rattle.zb_ids.specs.declared.stamp.Stamp.{Stamp}
-use Rattle.zb_volume.specs.declared.areas.Area.TheVariants.{Main}
+use Rattle.zb_base.specs.Counts.{rose_after}
+use Rattle.zb_volume.specs.declared.areas.Area.TheVariants.{Main, Side}
 use Rattle.zb_volume.specs.Calls.{Event}
 use Rattle.zb_volume.specs.Disk.{seen, IsSettled}
 use Rattle.zb_volume.specs.Images.{CrashLeaves}
-use Rattle.zb_volume.specs.Moments.{Leaves, LeavesOnly, here}
+use Rattle.zb_volume.specs.Moments.{Leaves, LeavesOnly, StaysAs, here}
 use Rattle.zb_outside.specs.Stamps.{stamps_after}
 use Rattle.zb_volume.specs.Lasting.{settled_leaves}
 use Rattle.zb_volume.specs.Runs.{joined, weaker}
@@ -29,11 +30,11 @@ use Rattle.fs_recovery.specs.declared.errors.OpenError.{OpenError}
 use Rattle.fs_recovery.specs.declared.errors.OpenError.TheVariants.{StoreFault, BadRecord, NotFileStorage, Memory}
 use Rattle.fs_recovery.specs.Ends.{whole_end}
 use Rattle.fs_recovery.specs.Opens.{ImagesStand, IsNoList, IsOpened, IsWhole, Opens}
-use Rattle.fs_recovery.specs.Reading.{CountsFault, CountsReads}
+use Rattle.fs_recovery.specs.Reading.{CountsFault, CountsReads, RefusesMain}
 use Rattle.file_store.specs.Kept.{IsKept, StandsForList}
 use Rattle.file_store.specs.KeptLaws.{list_read}
-use Rattle.file_store.specs.Numbers.{NumbersKept, AreNumbersOf}
-use Rattle.file_store.specs.Opening.{Harm, IsBegun, IsMade, there, made, IsNewOr, KeepsList, MakesList, first_list}
+use Rattle.fs_recovery.specs.Numbers.{AreNumbersOf}
+use Rattle.file_store.specs.Opening.{Harm, IsBegun, IsMade, IsUnlessWritten, there, made, IsNewOr, KeepsList, MakesList, first_list}
 use Rattle.file_store.specs.Staging.{StagedKept}
 
 -- ---- what is kept
@@ -52,17 +53,16 @@ read_within bytes s begins =
     let front = magic ++ blocks_text file_start begins.blocks in
     omega (arith, ap length begins.parts, length-append magic (blocks_text file_start begins.blocks ++ drop s.end bytes), length-append (blocks_text file_start begins.blocks) (drop s.end bytes), length-append magic (blocks_text file_start begins.blocks), length-read bytes s begins)
 
-pub kept_of : (bytes : List ℕ) (o : Opened) (index : StagedKept) (numbers : NumbersKept) (newest : ℕ)
+pub kept_of : (bytes : List ℕ) (o : Opened) (index : StagedKept) (newest : ℕ)
     → IsWhole bytes o → AreBytes bytes → length bytes ≤ o.end → o.end < 2 ^ 63
-    → newest ≡ option_map_or (λ p. p.serial) (last_or None o.index.transactions) 0 → index ≡ record { kept = o.index; staged = None; newest = newest; end = o.end }
-    → ((s : Reached) → Begins bytes s → o.index.transactions ≡ s.starts → AreNumbersOf s.list numbers) → IsKept bytes index numbers
-kept_of bytes o index numbers newest whole fits within limit newest_is index_is counted =
+    → newest ≡ option_map_or (λ p. p.serial) (last_or None o.index.transactions) 0 → index ≡ record { kept = o.index; staged = None; newest = newest; end = o.end } → IsKept bytes index o.numbers
+kept_of bytes o index newest whole fits within limit newest_is index_is =
     let short : length bytes < 2 ^ 63 = omega (arith, within, limit) in
     let s = whole.reached in
     let n = reading_of bytes s whole.stands.begins in
     let reading = reading_is bytes s None fits (omega (arith, short)) whole.stands in
     let reached : reached_in bytes ≡ s = reached_is bytes s None fits (omega (arith, short)) whole.stands in
-    subst (λ (i : StagedKept). IsKept bytes i numbers) (sym index_is) (record {
+    subst (λ (i : StagedKept). IsKept bytes i o.numbers) (sym index_is) (record {
       fits = fits;
       short = short;
       whole = omega (arith, within, read_within bytes s whole.stands.begins, whole.end_is);
@@ -72,7 +72,7 @@ kept_of bytes o index numbers newest whole fits within limit newest_is index_is 
           ∙ ap (λ (ps : List Place). option_map_or (λ p. p.serial) (last_or None ps) 0) (sym whole.index.transactions) ∙ sym newest_is;
       records = λ oid. whole.index.records oid ∙ ap (λ (x : Reached). places_of oid x.known) (sym reached);
       starts = whole.index.transactions ∙ ap (λ (x : Reached). x.starts) (sym reached);
-      counted = subst (λ (l : List Transaction). AreNumbersOf l numbers) (sym (list_read bytes s None reading)) (counted s whole.stands.begins whole.index.transactions);
+      counted = subst (λ (l : List Transaction). AreNumbersOf l o.numbers) (sym (list_read bytes s None reading)) whole.counted;
     })
 
 -- ---- crashes
@@ -253,6 +253,7 @@ fresh_whole bytes o list opened stands some = record {
   stands = subst (λ (k : Option ℕ). IsReadAs bytes opened.reached k) (fresh_content bytes o list opened stands some).0 opened.stands;
   end_is = opened.end_is;
   index = opened.index;
+  counted = opened.counted;
 }
 
 -- and nothing was done to it
@@ -275,3 +276,32 @@ fresh_read (Err e) bytes now list same opened stands some = tt
 pub fresh_kept : (r : Result Opened OpenError) (bytes now : List ℕ) (list : List Transaction) → now ≡ bytes → Opens bytes r → StandsFor bytes list None → bytes ≢ [] → IfOk r (λ o. IsWhole now o)
 fresh_kept (Ok o) bytes now list same opened stands some = subst (λ (b : List ℕ). IsWhole b o) (sym same) (fresh_whole bytes o list opened stands some)
 fresh_kept (Err e) bytes now list same opened stands some = tt
+
+-- ---- what an opening leaves as it was
+
+pub stays_still : (old new : List Event) → new ≡ old → StaysAs Side old new
+stays_still old new same = subst (λ (log : List Event). StaysAs Side old log) (sym same) (here refl)
+
+pub stays_after : (old mid new : List Event) → mid ≡ old → StaysAs Side mid new → StaysAs Side old new
+stays_after old mid new same stays = subst (λ (log : List Event). StaysAs Side log new) same stays
+
+-- an error of opening: nothing was changed, or a write failed
+pub unless_written : {T : Type 0} (r : Result T OpenError) (old mid new : List Event) (reads reads' writes mid_writes writes' : ℕ) → mid ≡ old → writes ≤ mid_writes
+    → (RefusesMain r → new ≡ mid) → CountsFault mid new reads reads' mid_writes writes' r → OnErr r (IsUnlessWritten old new writes writes')
+unless_written (Ok x) old mid new reads reads' writes mid_writes writes' same still untouched counts = tt
+unless_written (Err StoreFault) old mid new reads reads' writes mid_writes writes' same still untouched (inl failed) = inl (failed.untouched ∙ same)
+unless_written (Err StoreFault) old mid new reads reads' writes mid_writes writes' same still untouched (inr failed) = inr (rose_after writes mid_writes writes' still failed.rose)
+unless_written (Err (BadRecord at field)) old mid new reads reads' writes mid_writes writes' same still untouched counts = inl (untouched tt ∙ same)
+unless_written (Err NotFileStorage) old mid new reads reads' writes mid_writes writes' same still untouched counts = inl (untouched tt ∙ same)
+unless_written (Err Memory) old mid new reads reads' writes mid_writes writes' same still untouched counts = inl (untouched tt ∙ same)
+
+-- want of memory comes where no call has failed
+pub counts_memory : (T : Type 0) (e : OpenError) (old new : List Event) (reads reads' writes writes' : ℕ) → e ≡ Memory → CountsFault {T = T} old new reads reads' writes writes' (Err e) → (reads' ≡ reads) × (writes' ≡ writes)
+counts_memory T StoreFault old new reads reads' writes writes' is counts = absurd cc
+counts_memory T (BadRecord at field) old new reads reads' writes writes' is counts = absurd cc
+counts_memory T NotFileStorage old new reads reads' writes writes' is counts = absurd cc
+counts_memory T Memory old new reads reads' writes writes' is counts = counts
+
+pub on_err : {T E : Type 0} (r : Result T E) (P : Type 0) → P → OnErr r P
+on_err (Ok x) P holds = tt
+on_err (Err e) P holds = holds

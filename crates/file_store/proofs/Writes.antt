@@ -14,16 +14,17 @@ use Rattle.zb_base.specs.Bytes.{AreBytes, AreBytes-take}
 use Rattle.fs_records.specs.Blocks.{Known, Reached, Block, block_text, records_from, length_of, with_records, after_block, transaction_of, Begins}
 use Rattle.fs_records.specs.File.{IsReadAs}
 use Rattle.fs_records.specs.Listed.{listed, reached_in, reading_in, reading_is, reached_is}
-use Rattle.fs_records.specs.Places.{IsIndexOf, places_in, places_of}
+use Rattle.fs_records.specs.Places.{IsIndexOf, places_in, placed_of, places_of, oids_placed}
 use Rattle.fs_records.specs.StatusLaws.{block_status, status_set}
 use Rattle.fs_records.specs.WriteLaws.{block_stands, vote_stands, without_tail_stands, length-block_text}
 use Rattle.fs_records.specs.Writing.{IsNext, block_of}
 use Rattle.file_store.specs.declared.staged.Staged.{Staged}
 use Rattle.file_store.specs.Kept.{IsKept, IsVotedIn, done, voted_in, nothing, cut_of, length_by}
 use Rattle.file_store.specs.KeptLaws.{kept_stands, list_read}
-use Rattle.file_store.specs.Numbers.{NumbersKept, AreNumbersOf}
+use Rattle.fs_recovery.specs.Numbers.{NumbersKept, AreNumbersOf}
 use Rattle.file_store.specs.Preparing.{IsPrepared, begin_of}
-use Rattle.file_store.specs.Staging.{StagedKept, placed_from, placed_of, shown, shown_places, shown_starts}
+use Rattle.file_store.specs.Staging.{StagedKept, IsWith, placed_from}
+use Rattle.file_store.proofs.Placing.{oids_from}
 use Rattle.file_store.proofs.Sizes.{places_read, text_long}
 
 -- ---- bytes
@@ -68,7 +69,7 @@ pub record Voted (main now_main : List ℕ) (now : StagedKept) (are : NumbersKep
   pub list : listed now_main ≡ listed main
 
 abbrev pub staged_for : StagedKept → NewTransaction → List ℕ → Staged
-staged_for old new text = record { tid = new.tid; end = old.end + length text; oids = map (λ c. c.oid) new.changes }
+staged_for old new text = record { tid = new.tid; end = old.end + length text; records = placed_from new.tid (begin_of old new) new.changes }
 
 -- the numbers of the same list
 numbers_same : (list : List Transaction) (was are : NumbersKept) → AreNumbersOf list was → are.tallies ≡ was.tallies → are.greatest ≡ was.greatest → are.pack_point ≡ was.pack_point → AreNumbersOf list are
@@ -77,7 +78,7 @@ numbers_same list was are n t g p = record { tallies = t ∙ n.tallies; greatest
 module _ (main text : List ℕ) (old now : StagedKept) (was are : NumbersKept) (new : NewTransaction) (kept : IsKept main old was) (free : old.staged ≡ None) (p : IsPrepared old now are new text)
     (next : (bytes : List ℕ) (s : Reached) → Begins bytes s → IsIndexOf s old.kept → s.end ≡ old.end → IsVotable s.list new → IsNext s (block_of 32 old.kept.entries new) (voted_of s.list new))
     (votable : IsVotable (listed main) new) (fits : AreBytes text) (end_same : now.end ≡ old.end) (newest_same : now.newest ≡ old.newest)
-    (places_same : (oid : ℕ) → shown_places now oid ≡ shown_places old oid) (starts_same : shown_starts now ≡ shown_starts old)
+    (places_same : (oid : ℕ) → places_in now.kept.entries oid ≡ places_in old.kept.entries oid) (starts_same : now.kept.transactions ≡ old.kept.transactions)
     (tallies_same : are.tallies ≡ was.tallies) (greatest_same : are.greatest ≡ was.greatest) (point_same : are.pack_point ≡ was.pack_point) where
   whole : length main ≡ old.end
   whole = kept.whole ∙ ap (λ (o : Option Staged). length_by o old.end) free
@@ -89,10 +90,7 @@ module _ (main text : List ℕ) (old now : StagedKept) (was are : NumbersKept) (
   list_is = list_read main (reached_in main) (cut_of old) kept.reading
 
   index : IsIndexOf (reached_in main) old.kept
-  index = record {
-    records = λ oid. ap (λ (o : Option Staged). shown o (places_in old.kept.entries oid)) (sym free) ∙ kept.records oid;
-    transactions = ap (λ (o : Option Staged). shown o old.kept.transactions) (sym free) ∙ kept.starts;
-  }
+  index = record { records = kept.records; transactions = kept.starts }
 
   next_is : IsNext (reached_in main) (block_of 32 old.kept.entries new) (voted_of (reached_in main).list new)
   next_is = next main (reached_in main) stands.begins index kept.end_is (subst (λ (l : List Transaction). IsVotable l new) list_is votable)
@@ -163,7 +161,7 @@ module _ (main text : List ℕ) (old now : StagedKept) (was are : NumbersKept) (
       let b = block_of 32 old.kept.entries new in
       omega (arith, (parts (reached_in main) b).end_is, ap (λ (n : ℕ). length_of n b) kept.end_is, kept.end_is, ap length p.text_is, length-block_text old.end (block_of 99 old.kept.entries new))
 
-  finished_places : (oid : ℕ) → shown_places old oid ++ placed_of oid (placed_from new.tid (begin_of old new) new.changes) ≡ places_of oid (reached_in (done now.end (main ++ text))).known
+  finished_places : (oid : ℕ) → places_in old.kept.entries oid ++ placed_of oid (placed_from new.tid (begin_of old new) new.changes) ≡ places_of oid (reached_in (done now.end (main ++ text))).known
   finished_places oid =
       let b = block_of 32 old.kept.entries new in
       ap (λ (ps : List Place). ps ++ placed_of oid (placed_from new.tid (begin_of old new) new.changes)) (kept.records oid)
@@ -193,14 +191,13 @@ module _ (main text : List ℕ) (old now : StagedKept) (was are : NumbersKept) (
       reading = read_as (done now.end (main ++ text)) _ None finished_fits finished_short finished_stands;
       end_is = ap (λ (r : Reached). r.end) finished_reached ∙ staged_end;
       newest_is = ap (λ (r : Reached). r.newest) finished_reached ∙ (parts (reached_in main) (block_of 32 old.kept.entries new)).newest_is;
-      records = λ oid. p.records oid ∙ finished_places oid;
-      starts = p.transactions
-          ∙ ap (λ (ps : List Place). ps ++ record { serial = new.tid; at = old.end } ∷ []) kept.starts
-          ∙ ap (λ (n : ℕ). (reached_in main).starts ++ record { serial = new.tid; at = n } ∷ []) (sym kept.end_is)
+      records = λ oid. ap (λ (ps : List Place). ps ++ placed_of oid (placed_from new.tid (begin_of old new) new.changes)) (places_same oid) ∙ finished_places oid;
+      starts = ap (λ (ps : List Place). ps ++ record { serial = new.tid; at = now.end } ∷ []) (starts_same ∙ kept.starts)
+          ∙ ap (λ (n : ℕ). (reached_in main).starts ++ record { serial = new.tid; at = n } ∷ []) (end_same ∙ sym kept.end_is)
           ∙ sym (parts (reached_in main) (block_of 32 old.kept.entries new)).starts_are
           ∙ ap (λ (r : Reached). r.starts) (sym finished_reached);
       list = finished_list ∙ ap (λ (t : Transaction). listed main ++ t ∷ []) (sym voted_is) ∙ ap (λ (l : List Transaction). l ++ voted_in new.tid now.end (main ++ text) ∷ []) (sym grown_list);
-      oids = ap (λ (t : Transaction). map (λ c. c.oid) t.changes) voted_is ∙ oids_kept (listed main) new.changes;
+      oids = ap (λ (t : Transaction). map (λ c. c.oid) t.changes) voted_is ∙ oids_kept (listed main) new.changes ∙ sym (oids_from new.tid (begin_of old new) new.changes);
       unpacked = ap (λ (t : Transaction). t.packed) voted_is;
     };
     is = voted_is;
@@ -211,33 +208,32 @@ module _ (main text : List ℕ) (old now : StagedKept) (was are : NumbersKept) (
 
 -- what a finish leaves: what was voted is the last of the list
 pub finished_kept : (main : List ℕ) (old now : StagedKept) (was are : NumbersKept) (s : Staged) → IsKept main old was → IsVotedIn main s old → old.staged ≡ Some s
-    → now ≡ record { kept = old.kept; staged = None; newest = s.tid; end = s.end }
-    → ((list : List Transaction) (t : Transaction) → t.tid ≡ s.tid → t.packed ≡ false → map (λ c. c.oid) t.changes ≡ s.oids → AreNumbersOf list was → AreNumbersOf (list ++ t ∷ []) are)
+    → now.staged ≡ None → IsWith s old now
+    → ((list : List Transaction) (t : Transaction) → t.tid ≡ s.tid → t.packed ≡ false → map (λ c. c.oid) t.changes ≡ oids_placed s.records → AreNumbersOf list was → AreNumbersOf (list ++ t ∷ []) are)
     → IsKept (done old.end main) now are
-finished_kept main old now was are s kept voted some is add =
+finished_kept main old now was are s kept voted some none is add =
     let t = voted_in s.tid old.end main in
     let bytes = done old.end main in
     let fits : AreBytes bytes = set_bytes main (old.end + 16) 32 (omega arith) kept.fits in
     let short : length bytes < 2 ^ 63 = omega (arith, length-set main (old.end + 16) 32, kept.short) in
     let whole : length bytes ≡ s.end = length-set main (old.end + 16) 32 ∙ kept.whole ∙ ap (λ (o : Option Staged). length_by o old.end) some in
-    subst (λ (i : StagedKept). IsKept bytes i are) (sym is)
-    (record {
+    record {
       fits = fits;
       short = short;
-      whole = whole;
-      reading = voted.reading;
-      end_is = voted.end_is;
-      newest_is = voted.newest_is;
-      records = voted.records;
-      starts = voted.starts;
+      whole = whole ∙ sym is.end ∙ ap (λ (o : Option Staged). length_by o now.end) (sym none);
+      reading = voted.reading ∙ ap (λ (o : Option Staged). Some (reached_in bytes, option_map (λ (x : Staged). now.end) o)) (sym none);
+      end_is = voted.end_is ∙ sym is.end;
+      newest_is = voted.newest_is ∙ sym is.newest;
+      records = λ oid. is.records oid ∙ voted.records oid;
+      starts = is.transactions ∙ voted.starts;
       counted = subst (λ (l : List Transaction). AreNumbersOf l are) (sym voted.list) (add (listed main) t refl voted.unpacked voted.oids kept.counted);
-    })
+    }
 
 -- ---- an abort
 
 -- what an abort leaves: the list as it was
 pub aborted_kept : (main : List ℕ) (old now : StagedKept) (numbers : NumbersKept) → IsKept main old numbers → old.end ≤ length main → now.staged ≡ None → now.end ≡ old.end → now.newest ≡ old.newest
-    → ((oid : ℕ) → shown_places now oid ≡ shown_places old oid) → shown_starts now ≡ shown_starts old
+    → ((oid : ℕ) → places_in now.kept.entries oid ≡ places_in old.kept.entries oid) → now.kept.transactions ≡ old.kept.transactions
     → IsKept (take old.end main) now numbers × (listed (take old.end main) ≡ listed main)
 aborted_kept main old now numbers kept within none end_same newest_same places starts =
     let bytes = take old.end main in

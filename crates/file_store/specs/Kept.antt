@@ -4,11 +4,11 @@ use Rattle.std.specs.List.{last_or}
 use Rattle.zb_model.specs.declared.data.Transaction.{Transaction}
 use Rattle.zb_base.specs.Bytes.{AreBytes}
 use Rattle.fs_records.specs.Listed.{listed, reached_in, reading_in}
-use Rattle.fs_records.specs.Places.{places_in, places_of}
+use Rattle.fs_records.specs.Places.{places_in, placed_of, places_of, oids_placed}
 use Rattle.fs_records.specs.File.{StandsFor}
 use Rattle.file_store.specs.declared.staged.Staged.{Staged}
-use Rattle.file_store.specs.Numbers.{NumbersKept, AreNumbersOf, total_of}
-use Rattle.file_store.specs.Staging.{StagedKept, shown_places, shown_starts}
+use Rattle.fs_recovery.specs.Numbers.{NumbersKept, AreNumbersOf, total_of}
+use Rattle.file_store.specs.Staging.{StagedKept}
 
 -- the bytes of Main once what is voted at this end is finished
 abbrev pub done : ℕ → List ℕ → List ℕ
@@ -34,7 +34,7 @@ length_by (Some s) end = s.end
 abbrev pub StandsForList : List ℕ → List Transaction → Type 0
 StandsForList bytes list = (cut : Option ℕ) × StandsFor bytes list cut
 
--- the bytes are read as a file up to the end, whose records and transactions the index shows, and whose list has these numbers
+-- the bytes are read as a file up to the end, whose records and transactions the index keeps, and whose list has these numbers
 pub record IsKept (bytes : List ℕ) (index : StagedKept) (numbers : NumbersKept) : Type 0 where
   pub fits : AreBytes bytes
   pub short : length bytes < 2 ^ 63
@@ -42,21 +42,21 @@ pub record IsKept (bytes : List ℕ) (index : StagedKept) (numbers : NumbersKept
   pub reading : reading_in bytes ≡ Some (reached_in bytes, cut_of index)
   pub end_is : (reached_in bytes).end ≡ index.end
   pub newest_is : (reached_in bytes).newest ≡ index.newest
-  pub records : (oid : ℕ) → shown_places index oid ≡ places_of oid (reached_in bytes).known
-  pub starts : shown_starts index ≡ (reached_in bytes).starts
+  pub records : (oid : ℕ) → places_in index.kept.entries oid ≡ places_of oid (reached_in bytes).known
+  pub starts : index.kept.transactions ≡ (reached_in bytes).starts
   pub counted : AreNumbersOf (listed bytes) numbers
 
--- what is staged stands at the end with the status of a vote; once it is finished the bytes are read as a file with it, whose records and transactions the index keeps
+-- what is staged stands at the end with the status of a vote; once it is finished the bytes are read as a file with it, whose records and transactions are those of the index and of what is staged
 pub record IsVotedIn (bytes : List ℕ) (s : Staged) (index : StagedKept) : Type 0 where
   pub long : index.end + 17 ≤ length bytes
   pub status : slice_index bytes (index.end + 16) ≡ 99
   pub reading : reading_in (done index.end bytes) ≡ Some (reached_in (done index.end bytes), None)
   pub end_is : (reached_in (done index.end bytes)).end ≡ s.end
   pub newest_is : (reached_in (done index.end bytes)).newest ≡ s.tid
-  pub records : (oid : ℕ) → places_in index.kept.entries oid ≡ places_of oid (reached_in (done index.end bytes)).known
-  pub starts : index.kept.transactions ≡ (reached_in (done index.end bytes)).starts
+  pub records : (oid : ℕ) → places_in index.kept.entries oid ++ placed_of oid s.records ≡ places_of oid (reached_in (done index.end bytes)).known
+  pub starts : index.kept.transactions ++ record { serial = s.tid; at = index.end } ∷ [] ≡ (reached_in (done index.end bytes)).starts
   pub list : listed (done index.end bytes) ≡ listed bytes ++ voted_in s.tid index.end bytes ∷ []
-  pub oids : map (λ c. c.oid) (voted_in s.tid index.end bytes).changes ≡ s.oids
+  pub oids : map (λ c. c.oid) (voted_in s.tid index.end bytes).changes ≡ oids_placed s.records
   pub unpacked : (voted_in s.tid index.end bytes).packed ≡ false
 
 -- there is room for one more transaction with so many changes

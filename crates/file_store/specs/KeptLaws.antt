@@ -14,7 +14,7 @@ use Rattle.fs_records.specs.File.{IsReadAs, StandsFor, a_file}
 use Rattle.fs_records.specs.Databases.{database_of}
 use Rattle.fs_records.specs.Listed.{content_set, listed, reached_in, reading_in, reading_stands}
 use Rattle.file_store.specs.declared.staged.Staged.{Staged}
-use Rattle.file_store.specs.Numbers.{NumbersKept}
+use Rattle.fs_recovery.specs.Numbers.{NumbersKept}
 use Rattle.file_store.specs.Staging.{StagedKept}
 use Rattle.file_store.specs.Kept.{IsKept, IsVotedIn, StandsForList, cut_of}
 

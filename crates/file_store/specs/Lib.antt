@@ -1,7 +1,6 @@
 pub mod First
 pub mod Kept
 pub mod KeptLaws
-pub mod Numbers
 pub mod Opening
 pub mod Preparing
 pub mod Staging

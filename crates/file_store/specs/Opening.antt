@@ -30,6 +30,10 @@ Harm bytes Memory = Unit {0}
 abbrev pub SomeRose : ℕ → ℕ → ℕ → ℕ → Type 0
 SomeRose reads reads_now writes writes_now = Rose reads reads_now ⊎ Rose writes writes_now
 
+-- nothing was changed, unless a call failed that would change the volume
+abbrev pub IsUnlessWritten : List Event → List Event → ℕ → ℕ → Type 0
+IsUnlessWritten old new writes writes_now = (new ≡ old) ⊎ Rose writes writes_now
+
 -- a list is that of a new database, without a tail, by the clock's first stamp where the clock tells
 pub record IsMade (stamps : Option (List Stamp)) (list : List Transaction) (cut : Option ℕ) : Type 0 where
   pub stamp : Stamp

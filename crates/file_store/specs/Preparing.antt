@@ -1,12 +1,11 @@
 -- What a vote makes ready before it writes. Source: own.
-use Rattle.std.specs.Prelude.{◌≡◌, ℕ, ◌+◌, ◌<◌, ◌^◌, List, [], ◌∷◌, ◌++◌, Some, length, map}
+use Rattle.std.specs.Prelude.{◌≡◌, ℕ, ◌+◌, ◌<◌, ◌^◌, List, Some, length}
 use Rattle.zb_model.specs.declared.new_transaction.NewTransaction.{NewTransaction}
 use Rattle.fs_records.specs.Blocks.{block_text, records_from}
-use Rattle.fs_records.specs.Places.{places_in}
 use Rattle.fs_records.specs.Writing.{block_of}
-use Rattle.file_store.specs.Numbers.{NumbersKept}
+use Rattle.fs_recovery.specs.Numbers.{NumbersKept}
 use Rattle.file_store.specs.Kept.{HasRoomForTally}
-use Rattle.file_store.specs.Staging.{StagedKept, placed_from, placed_of, shown_places, shown_starts}
+use Rattle.file_store.specs.Staging.{StagedKept, placed_from}
 
 -- where the data records of a new transaction begin that is written at the end
 abbrev pub begin_of : StagedKept → NewTransaction → ℕ
@@ -16,7 +15,5 @@ begin_of index new = records_from index.end (block_of 99 index.kept.entries new)
 pub record IsPrepared (old now : StagedKept) (numbers : NumbersKept) (new : NewTransaction) (text : List ℕ) : Type 0 where
   pub text_is : text ≡ block_text old.end (block_of 99 old.kept.entries new)
   pub limit : old.end + length text < 2 ^ 63
-  pub staged_is : now.staged ≡ Some (record { tid = new.tid; end = old.end + length text; oids = map (λ c. c.oid) new.changes })
-  pub records : (oid : ℕ) → places_in now.kept.entries oid ≡ shown_places old oid ++ placed_of oid (placed_from new.tid (begin_of old new) new.changes)
-  pub transactions : now.kept.transactions ≡ shown_starts old ++ record { serial = new.tid; at = old.end } ∷ []
+  pub staged_is : now.staged ≡ Some (record { tid = new.tid; end = old.end + length text; records = placed_from new.tid (begin_of old new) new.changes })
   pub room : HasRoomForTally numbers (length new.changes)

@@ -2,13 +2,11 @@
 #![tactic(auto)]
 
 mod first;
-mod numbers;
 mod opening;
 mod preparing;
 mod staged;
 mod staging;
 mod store;
-mod tally;
 
 pub use opening::create_if_empty;
 pub use store::FileStore;

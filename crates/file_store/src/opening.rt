@@ -1,34 +1,29 @@
 //! A store is opened, and its file made where there is none.
 
-ghost use Rattle.std.specs.Prelude.{◌≡◌, ◌≢◌, ℕ, ◌<◌, ◌≤◌, ◌^◌, [], None, List, length, option_map, slice_get, take, true, Some, IfOk, IfErr, IfSome, OnOk, IsErrOf};
+ghost use Rattle.std.specs.Prelude.{◌≡◌, ◌≢◌, ℕ, ◌<◌, ◌≤◌, ◌^◌, [], None, List, length, option_map, slice_get, take, true, Some, IfOk, IfErr, IfSome, OnOk, OnErr, IsErrOf};
 ghost use Rattle.std.specs.List.{last_or};
 ghost use Rattle.std.specs.Option.{option_map_or};
-ghost use Rattle.zb_volume.specs.declared.areas.Area.TheVariants.{Main};
+ghost use Rattle.zb_volume.specs.declared.areas.Area.TheVariants.{Main, Side};
 ghost use Rattle.zb_volume.specs.Disk.{seen, IsSettled};
 ghost use Rattle.zb_base.specs.Counts.{Rose};
+ghost use Rattle.zb_volume.specs.Moments.{StaysAs};
 ghost use Rattle.zb_ids.specs.declared.stamp.Stamp.{Stamp};
 ghost use Rattle.zb_outside.specs.Stamps.{stamps_after};
-ghost use Rattle.fs_records.specs.Blocks.{Reached, Begins};
 ghost use Rattle.fs_records.specs.File.{StandsFor};
 ghost use Rattle.fs_records.specs.Listed.{listed};
 ghost use Rattle.zb_base.specs.Bytes.{AreBytes};
-ghost use Rattle.fs_reading.specs.Main.{AreStarts};
-ghost use Rattle.fs_reading.specs.declared.errors.ReadError.TheVariants as read_error;
-ghost use Rattle.fs_recovery.specs.declared.errors.OpenError.TheVariants.{StoreFault as Fault};
+ghost use Rattle.fs_recovery.specs.declared.errors.OpenError.TheVariants.{StoreFault as Fault, Memory};
 ghost use Rattle.fs_recovery.specs.Opens.{ImagesStand, IsBounded, IsNoList, IsWhole, Opens};
-ghost use Rattle.fs_recovery.specs.Reading.{CountsFault};
+ghost use Rattle.fs_recovery.specs.Reading.{CountsFault, RefusesMain};
 ghost use Rattle.file_store.specs.Kept.{IsKept};
-ghost use Rattle.file_store.specs.Numbers.{AreNumbersOf};
-ghost use Rattle.file_store.specs.Opening.{GaveAtMostOne, Harm, IsBegun, IsFresh, IsMade, KeepsList, MakesList, SomeRose, first_list};
+ghost use Rattle.file_store.specs.Opening.{GaveAtMostOne, Harm, IsBegun, IsFresh, IsMade, IsUnlessWritten, KeepsList, MakesList, SomeRose, first_list};
 
 use crate::first::first_file;
-use crate::numbers::Numbers;
 use crate::staging::StagedIndex;
 use fs_append as append;
 use fs_index::last_of;
-use fs_reading::{ReadError, read_outline};
 use fs_records::Place;
-use fs_recovery::{OpenError, Opened, open_main, read_file};
+use fs_recovery::{Numbers, OpenError, Opened, open_main, read_file};
 use std::alloc::Global;
 use zb_ids::{Stamp, Tid};
 use zb_outside::Clock;
@@ -53,32 +48,6 @@ fn newest_of(starts: &[Place]) -> Tid
     }
 }
 
-/// The numbers of the list, by the places of the transactions in what was read of the file. It reads
-/// headers alone. It is `ReadFault` only where a read failed, and else `Memory`. The volume is as it
-/// was.
-fn read_numbers<V: Volume>(
-    alloc: Global,
-    volume: &mut V,
-    starts: &[Place],
-) -> Result<Numbers, ReadError>
-    requires { V.told → AreStarts (seen (V.log volume.old) Main) starts.now }
-    ensures numbers { V.told → (reached : Reached) → Begins (seen (V.log volume.old) Main) reached
-        → starts.now ≡ reached.starts → IfOk result (λ numbers. AreNumbersOf reached.list numbers) }
-    ensures same { V.log volume.new ≡ V.log volume.old }
-    ensures later { V.read_faults volume.old ≤ V.read_faults volume.new }
-    ensures fault { IsErrOf result read_error.ReadFault
-        → Rose (V.read_faults volume.old) (V.read_faults volume.new) }
-    ensures uncounted { OnOk result (V.read_faults volume.new ≡ V.read_faults volume.old) }
-    ensures write_faults { V.write_faults volume.new ≡ V.write_faults volume.old }
-{
-    let mut numbers = Numbers::new(alloc);
-    'read: for (count, place) in starts.iter().enumerate() {
-        let outline = read_outline(alloc, volume, *place)?;
-        numbers.add(place.serial, outline.packed, outline.oids.as_slice())?;
-    }
-    Ok(numbers)
-}
-
 /// Makes the file of a new database in the place of Main.
 fn make<V: Volume>(alloc: Global, volume: &mut V, clock: Stamp) -> Result<(), OpenError>
     ensures made { V.told → OnOk result
@@ -89,6 +58,9 @@ fn make<V: Volume>(alloc: Global, volume: &mut V, clock: Stamp) -> Result<(), Op
     ensures any_moment { V.told → MakesList clock (V.log volume.old) (V.log volume.new) }
     ensures fault { IsErrOf result Fault
         → Rose (V.write_faults volume.old) (V.write_faults volume.new) }
+    ensures memory { IsErrOf result Memory
+        → V.write_faults volume.new ≡ V.write_faults volume.old }
+    ensures uncounted { OnOk result (V.write_faults volume.new ≡ V.write_faults volume.old) }
     ensures later { V.write_faults volume.old ≤ V.write_faults volume.new }
     ensures read_faults { V.read_faults volume.new ≡ V.read_faults volume.old }
 {
@@ -101,7 +73,8 @@ fn make<V: Volume>(alloc: Global, volume: &mut V, clock: Stamp) -> Result<(), Op
 /// alone, with a stamp of the clock, which is asked for only there. Nothing else is written. The
 /// answer is whether the file was made; then nothing of Main is pending, and it has no tail.
 ///
-/// It is `StoreFault` only where a call of the volume failed, and else `Memory`; no other error comes.
+/// It is `StoreFault` only where a call of the volume failed, and else `Memory`, where none did; no
+/// other error comes.
 /// With an error Main is as it was, unless it was empty.
 pub fn create_if_empty<V: Volume, C: Clock>(
     alloc: Global,
@@ -122,7 +95,10 @@ pub fn create_if_empty<V: Volume, C: Clock>(
         → slice_get stamps 0 ≡ Some stamp → MakesList stamp (V.log volume.old) (V.log volume.new)) }
     ensures fault { IsErrOf result Fault → SomeRose (V.read_faults volume.old)
         (V.read_faults volume.new) (V.write_faults volume.old) (V.write_faults volume.new) }
+    ensures memory { IsErrOf result Memory → (V.read_faults volume.new ≡ V.read_faults volume.old)
+        × (V.write_faults volume.new ≡ V.write_faults volume.old) }
     ensures reads_same { OnOk result (V.read_faults volume.new ≡ V.read_faults volume.old) }
+    ensures writes_same { OnOk result (V.write_faults volume.new ≡ V.write_faults volume.old) }
     ensures reads_later { V.read_faults volume.old ≤ V.read_faults volume.new }
     ensures writes_later { V.write_faults volume.old ≤ V.write_faults volume.new }
 {
@@ -147,6 +123,8 @@ fn recover<V: Volume>(alloc: Global, volume: &mut V, made: bool) -> Result<Opene
     ensures harmed { V.told → IsNoList (seen (V.log volume.old) Main)
         → V.log volume.new ≡ V.log volume.old }
     ensures images { V.told → ImagesStand (V.log volume.old) (V.log volume.new) }
+    ensures untouched { RefusesMain result → V.log volume.new ≡ V.log volume.old }
+    ensures side { V.told → StaysAs Side (V.log volume.old) (V.log volume.new) }
     ensures bounded { IfOk result (λ o. IsBounded o) }
     ensures counts { CountsFault (V.log volume.old) (V.log volume.new) (V.read_faults volume.old)
         (V.read_faults volume.new) (V.write_faults volume.old) (V.write_faults volume.new) result }
@@ -157,36 +135,26 @@ fn recover<V: Volume>(alloc: Global, volume: &mut V, made: bool) -> Result<Opene
     open_main(alloc, volume)
 }
 
-/// What is kept of the file in Main, which was opened.
-fn keep<V: Volume>(alloc: Global, volume: &mut V, opened: Opened) -> Result<Ready, OpenError>
-    requires whole { V.told → IsWhole (seen (V.log volume.old) Main) opened }
-    requires fits { V.told → AreBytes (seen (V.log volume.old) Main) }
-    requires within { V.told → length (seen (V.log volume.old) Main) ≤ opened.end }
-    requires bounded { IsBounded opened }
-    ensures kept { V.told → IfOk result (λ r.
-        IsKept (seen (V.log volume.old) Main) r.index r.numbers) }
-    ensures free { IfOk result (λ r. r.index.staged ≡ None) }
-    ensures cut { IfOk result (λ r. r.cut ≡ opened.cut) }
-    ensures harm { (bytes : List ℕ) → IfErr result (λ e. Harm bytes e) }
-    ensures same { V.log volume.new ≡ V.log volume.old }
-    ensures later { V.read_faults volume.old ≤ V.read_faults volume.new }
-    ensures fault { IsErrOf result Fault
-        → Rose (V.read_faults volume.old) (V.read_faults volume.new) }
-    ensures uncounted { OnOk result (V.read_faults volume.new ≡ V.read_faults volume.old) }
-    ensures write_faults { V.write_faults volume.new ≡ V.write_faults volume.old }
+/// What is kept of a file that was opened.
+fn keep(opened: Opened) -> Ready
+    requires { IsBounded opened }
+    ensures kept { (bytes : List ℕ) → IsWhole bytes opened → AreBytes bytes
+        → length bytes ≤ opened.end → IsKept bytes result.index result.numbers }
+    ensures free { result.index.staged ≡ None }
+    ensures cut { result.cut ≡ opened.cut }
 {
-    let Opened { index, end, cut } = opened;
+    let Opened {
+        index,
+        numbers,
+        end,
+        cut,
+    } = opened;
     let newest = newest_of(index.transactions());
-    let numbers = match read_numbers(alloc, volume, index.transactions()) {
-        Ok(numbers) => numbers,
-        Err(ReadError::ReadFault) => return Err(OpenError::StoreFault),
-        Err(ReadError::Memory) => return Err(OpenError::Memory),
-    };
-    Ok(Ready {
+    Ready {
         index: StagedIndex::new(index, newest, end),
         numbers,
         cut,
-    })
+    }
 }
 
 /// Opens the file in Main, and makes it first where Main is empty.
@@ -211,17 +179,25 @@ pub(crate) fn open<V: Volume, C: Clock>(
     ensures harm { V.told → IfErr result (λ e. Harm (seen (V.log volume.old) Main) e) }
     ensures untouched { V.told → IsNoList (seen (V.log volume.old) Main)
         → V.log volume.new ≡ V.log volume.old }
+    ensures unharmed { V.told → seen (V.log volume.old) Main ≢ [] → OnErr result
+        (IsUnlessWritten (V.log volume.old) (V.log volume.new)
+        (V.write_faults volume.old) (V.write_faults volume.new)) }
+    ensures side { V.told → seen (V.log volume.old) Main ≢ []
+        → StaysAs Side (V.log volume.old) (V.log volume.new) }
     ensures keeps { V.told → KeepsList (V.log volume.old) (V.log volume.new) }
     ensures makes { V.told → IfSome (C.stamps clock.old) (λ stamps. (stamp : Stamp)
         → slice_get stamps 0 ≡ Some stamp → MakesList stamp (V.log volume.old) (V.log volume.new)) }
     ensures fault { IsErrOf result Fault → SomeRose (V.read_faults volume.old)
         (V.read_faults volume.new) (V.write_faults volume.old) (V.write_faults volume.new) }
+    ensures memory { IfErr result (λ e. e ≡ Memory
+        → (V.read_faults volume.new ≡ V.read_faults volume.old)
+        × (V.write_faults volume.new ≡ V.write_faults volume.old)) }
     ensures reads_same { OnOk result (V.read_faults volume.new ≡ V.read_faults volume.old) }
+    ensures writes_same { OnOk result (V.write_faults volume.new ≡ V.write_faults volume.old) }
     ensures reads_later { V.read_faults volume.old ≤ V.read_faults volume.new }
     ensures writes_later { V.write_faults volume.old ≤ V.write_faults volume.new }
 {
     let made = create_if_empty(alloc, volume, clock)?;
     let opened = recover(alloc, volume, made)?;
-    let ready = keep(alloc, volume, opened)?;
-    Ok(ready)
+    Ok(keep(opened))
 }

@@ -5,16 +5,15 @@ ghost use Rattle.std.specs.Option.{ForSome};
 ghost use Rattle.zb_model.specs.declared.data.Transaction.{Transaction};
 ghost use Rattle.zb_model.specs.Voting.{IsVotable, IsWellFormed, voted_of};
 ghost use Rattle.fs_records.specs.Blocks.{Begins, Reached};
-ghost use Rattle.fs_records.specs.Places.{IsIndexOf};
+ghost use Rattle.fs_records.specs.Places.{IsIndexOf, oids_placed, places_in};
 ghost use Rattle.fs_records.specs.Writing.{IsNext, block_of};
 ghost use Rattle.file_store.specs.Kept.{HasRoomForTally};
-ghost use Rattle.file_store.specs.Numbers.{AreNumbersOf};
+ghost use Rattle.fs_recovery.specs.Numbers.{AreNumbersOf};
 ghost use Rattle.file_store.specs.Preparing.{IsPrepared};
-ghost use Rattle.file_store.specs.Staging.{shown_places, shown_starts};
 
-use crate::numbers::Numbers;
 use crate::staging::StagedIndex;
 use fs_records::{HEADER_LENGTH, write_transaction};
+use fs_recovery::Numbers;
 use std::alloc::{AllocError, Global};
 use zb_ids::Text8;
 use zb_model::NewTransaction;
@@ -24,8 +23,8 @@ const MOST: u64 = (1 << 63) - 1;
 
 #[tactic(auto, using(crate::proofs::Sizes::text_end, crate::proofs::Sizes::begins_at))]
 /// Makes a vote ready: the text that is to be written at the index's end, its places staged, and room
-/// for all that its finish needs. The one error is want of memory, also where the file would be
-/// longer than 2^63 - 1 bytes, and then nothing is staged.
+/// in the index and in the numbers for all that its finish adds. The one error is want of memory, also
+/// where the file would be longer than 2^63 - 1 bytes, and then nothing is staged.
 pub(crate) fn prepare(
     alloc: Global,
     index: &mut StagedIndex,
@@ -41,8 +40,9 @@ pub(crate) fn prepare(
         → IsIndexOf s index.old.kept → s.end ≡ index.old.end → IsVotable s.list new.now
         → IsNext s (block_of 32 index.old.kept.entries new.now) (voted_of s.list new.now)) }
     ensures none { OnErr result (index.new.staged ≡ None) }
-    ensures shown_places { (oid : ℕ) → shown_places index.new oid ≡ shown_places index.old oid }
-    ensures shown_starts { shown_starts index.new ≡ shown_starts index.old }
+    ensures places { (oid : ℕ) →
+        places_in index.new.kept.entries oid ≡ places_in index.old.kept.entries oid }
+    ensures starts { index.new.kept.transactions ≡ index.old.kept.transactions }
     ensures newest { index.new.newest ≡ index.old.newest }
     ensures end { index.new.end ≡ index.old.end }
     ensures tallies { numbers.new.tallies ≡ numbers.old.tallies }
@@ -69,12 +69,12 @@ pub(crate) fn prepare(
 
 /// Counts what is staged, for which room was made.
 pub(crate) fn count_staged(numbers: &mut Numbers, index: &StagedIndex)
-    requires { ForSome index.now.staged (λ s. HasRoomForTally numbers.old (length s.oids)) }
+    requires { ForSome index.now.staged (λ s. HasRoomForTally numbers.old (length s.records)) }
     ensures { ForSome index.now.staged (λ s. (list : List Transaction) (t : Transaction)
-        → t.tid ≡ s.tid → t.packed ≡ false → map (λ c. c.oid) t.changes ≡ s.oids
+        → t.tid ≡ s.tid → t.packed ≡ false → map (λ c. c.oid) t.changes ≡ oids_placed s.records
         → AreNumbersOf list numbers.old → AreNumbersOf (list ++ t ∷ []) numbers.new) }
 {
     if let Some(staged) = index.staged() {
-        let _ = numbers.add(staged.tid, false, staged.oids.as_slice());
+        let _ = numbers.add(staged.tid, false, staged.records.as_slice());
     }
 }

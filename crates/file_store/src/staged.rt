@@ -1,14 +1,15 @@
-//! A transaction whose places are kept ahead of its finish.
+//! A transaction that is voted and not finished.
 
-use zb_ids::{ListOf, Oid, Tid};
+use fs_records::Placed;
+use zb_ids::{ListOf, Tid};
 
-/// A transaction whose places are kept in an index ahead of its finish.
+/// A transaction that stands behind what an index keeps, until it is finished or aborted.
 #[derive(Debug, Drop)]
 pub struct Staged {
     /// Its number.
     pub tid: Tid,
     /// The place behind it.
     pub end: u64,
-    /// The objects of its data records, in their order.
-    pub oids: ListOf<Oid>,
+    /// Where its data records stand, in their order.
+    pub records: ListOf<Placed>,
 }

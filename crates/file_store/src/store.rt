@@ -2,18 +2,18 @@
 
 ghost use Rattle.std.specs.Prelude.{◌≡◌, ◌≢◌, ◌≤◌, [], None, Some, false, length, option_map, slice_get, IfErr, IfOk, IfSome, OnOk};
 ghost use Rattle.std.specs.Option.{ForSome};
-ghost use Rattle.zb_volume.specs.declared.areas.Area.TheVariants.{Main};
+ghost use Rattle.zb_volume.specs.declared.areas.Area.TheVariants.{Main, Side};
 ghost use Rattle.zb_volume.specs.Disk.{seen, IsSettled};
+ghost use Rattle.zb_volume.specs.Moments.{StaysAs};
 ghost use Rattle.zb_ids.specs.declared.stamp.Stamp.{Stamp};
 ghost use Rattle.zb_outside.specs.Stamps.{stamps_after};
 ghost use Rattle.fs_records.specs.File.{StandsFor};
-ghost use Rattle.fs_recovery.specs.declared.errors.OpenError.TheVariants.{StoreFault as Fault};
+ghost use Rattle.fs_recovery.specs.declared.errors.OpenError.TheVariants.{StoreFault as Fault, Memory};
 ghost use Rattle.fs_recovery.specs.Opens.{IsNoList};
 ghost use Rattle.file_store.specs.Kept.{HasRoomForTally, IsKept, IsVotedIn, StandsForList};
 ghost use Rattle.file_store.specs.KeptLaws.{kept_once, voted_once};
-ghost use Rattle.file_store.specs.Opening.{GaveAtMostOne, Harm, IsMade, KeepsList, MakesList, SomeRose};
+ghost use Rattle.file_store.specs.Opening.{GaveAtMostOne, Harm, IsMade, IsUnlessWritten, KeepsList, MakesList, SomeRose};
 
-use crate::numbers::Numbers;
 use crate::opening::{Ready, open};
 use crate::preparing::{count_staged, prepare};
 use crate::staging::StagedIndex;
@@ -22,7 +22,7 @@ use fs_index::last_of;
 use fs_reading::{
     read_before, read_first_after, read_history_at, read_transaction_with, read_undo_log_at,
 };
-use fs_recovery::OpenError;
+use fs_recovery::{Numbers, OpenError};
 use std::alloc::Global;
 use zb_ids::{ListOf, Oid, Tid};
 use zb_model::{Found, LogLine, NewTransaction, Revision, Store, StoreError, Transaction};
@@ -40,7 +40,7 @@ pub struct FileStore<V: Volume> {
     pub(crate) numbers: Numbers,
     /// Whether a call is under way that changes the volume, or one has failed.
     pub(crate) broken: bool,
-    ghost room: { ForSome index.staged (λ s. HasRoomForTally numbers (length s.oids)) },
+    ghost room: { ForSome index.staged (λ s. HasRoomForTally numbers (length s.records)) },
     ghost settled: { V.told → broken ≡ false → IsSettled (V.log volume) Main },
     ghost kept: { V.told → broken ≡ false → IsKept (seen (V.log volume) Main) index numbers } by { kept_once V.told (broken ≡ false) (seen (V.log volume) Main) index numbers },
     ghost voted: { V.told → broken ≡ false → ForSome index.staged (λ s. IsVotedIn (seen (V.log volume) Main) s index) } by { voted_once V.told (broken ≡ false) (seen (V.log volume) Main) index },
@@ -51,7 +51,9 @@ impl<V: Volume + Drop> FileStore<V> {
     /// the first transaction alone, with a stamp of the clock, which is asked for only there. What was
     /// voted and never finished is cut off, and its place is answered beside the store.
     ///
-    /// An error hands the volume back. Where Main is damaged or no file nothing was changed.
+    /// An error hands the volume back. Where Main is damaged or no file nothing was changed, and where it
+    /// wasn't empty nothing was changed with any error but that of a write that failed. Side is as it was
+    /// unless the file was made. `Memory` comes only where no call of the volume failed.
     pub fn create_or_open<C: Clock>(
         alloc: Global,
         mut volume: V,
@@ -71,6 +73,12 @@ impl<V: Volume + Drop> FileStore<V> {
         ensures harm { V.told → IfErr result (λ e. Harm (seen (V.log volume) Main) e.0) }
         ensures untouched { V.told → IsNoList (seen (V.log volume) Main)
             → IfErr result (λ e. V.log e.1 ≡ V.log volume) }
+        ensures unharmed { V.told → seen (V.log volume) Main ≢ [] → IfErr result (λ e.
+            IsUnlessWritten (V.log volume) (V.log e.1) (V.write_faults volume) (V.write_faults e.1)) }
+        ensures side { V.told → seen (V.log volume) Main ≢ [] → IfOk result (λ r.
+            StaysAs Side (V.log volume) (⟦<FileStore<V> as Store>⟧.state r.0).log) }
+        ensures side_refused { V.told → seen (V.log volume) Main ≢ [] → IfErr result (λ e.
+            StaysAs Side (V.log volume) (V.log e.1)) }
         ensures keeps { V.told → IfOk result (λ r. KeepsList (V.log volume) (⟦<FileStore<V> as Store>⟧.state r.0).log) }
         ensures keeps_refused { V.told → IfErr result (λ e. KeepsList (V.log volume) (V.log e.1)) }
         ensures makes { V.told → IfSome (C.stamps clock.old) (λ stamps. (stamp : Stamp)
@@ -81,6 +89,8 @@ impl<V: Volume + Drop> FileStore<V> {
             MakesList stamp (V.log volume) (V.log e.1))) }
         ensures fault { IfErr result (λ e. e.0 ≡ Fault → SomeRose (V.read_faults volume)
             (V.read_faults e.1) (V.write_faults volume) (V.write_faults e.1)) }
+        ensures memory { IfErr result (λ e. e.0 ≡ Memory → (V.read_faults e.1 ≡ V.read_faults volume)
+            × (V.write_faults e.1 ≡ V.write_faults volume)) }
         ensures read_faults { IfOk result (λ r.
             (⟦<FileStore<V> as Store>⟧.state r.0).read_faults ≡ V.read_faults volume) }
         ensures faults { IfOk result (λ r. V.write_faults volume ≤ (⟦<FileStore<V> as Store>⟧.state r.0).faults) }
@@ -180,7 +190,8 @@ impl<V: Volume + Drop> Store for FileStore<V> {
     }
 
     fn load_before(&mut self, alloc: Global, oid: Oid, front: Tid) -> Result<Found, StoreError> {
-        let found = read_before(alloc, &mut self.volume, self.index.places(oid), front)?;
+        let end = self.index.end();
+        let found = read_before(alloc, &mut self.volume, self.index.places(oid), end, front)?;
         Ok(found)
     }
 

@@ -30,6 +30,7 @@ pub fn vote<V: Volume>(volume: &mut V, end: u64, bytes: &[u8]) -> Result<(), Sto
     ensures side { V.told → StaysAs Area.Side (V.log volume.old) (V.log volume.new) }
     ensures limit { OnOk result (end + length bytes.now < 2 ^ 63) }
     ensures cause { HasCause (V.write_faults volume.old) (V.write_faults volume.new) result }
+    ensures uncounted { OnOk result (V.write_faults volume.new ≡ V.write_faults volume.old) }
     ensures read_faults { V.read_faults volume.new ≡ V.read_faults volume.old }
 {
     write_and_sync(volume, Area::Main, end, bytes)
@@ -54,6 +55,7 @@ pub fn finish<V: Volume>(volume: &mut V, end: u64) -> Result<(), StoreFault>
         (V.log volume.old) (V.log volume.new) }
     ensures side { V.told → StaysAs Area.Side (V.log volume.old) (V.log volume.new) }
     ensures cause { HasCause (V.write_faults volume.old) (V.write_faults volume.new) result }
+    ensures uncounted { OnOk result (V.write_faults volume.new ≡ V.write_faults volume.old) }
     ensures read_faults { V.read_faults volume.new ≡ V.read_faults volume.old }
 {
     write_and_sync(volume, Area::Main, end + STATUS_PLACE as u64, &[COMMITTED])
@@ -75,6 +77,7 @@ pub fn abort<V: Volume>(volume: &mut V, end: u64) -> Result<(), StoreFault>
         LeavesOnly Area.Main (IsStillRead s) (V.log volume.old) (V.log volume.new) }
     ensures side { V.told → StaysAs Area.Side (V.log volume.old) (V.log volume.new) }
     ensures cause { HasCause (V.write_faults volume.old) (V.write_faults volume.new) result }
+    ensures uncounted { OnOk result (V.write_faults volume.new ≡ V.write_faults volume.old) }
     ensures read_faults { V.read_faults volume.new ≡ V.read_faults volume.old }
 {
     cut_and_sync(volume, Area::Main, end)

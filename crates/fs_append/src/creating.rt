@@ -24,6 +24,7 @@ pub fn create<V: Volume>(volume: &mut V, bytes: &[u8]) -> Result<(), StoreFault>
         (λ image. CrashLeaves (V.log volume.old) Area.Main image ⊎ (image ≡ bytes.now))
         (V.log volume.old) (V.log volume.new) }
     ensures cause { HasCause (V.write_faults volume.old) (V.write_faults volume.new) result }
+    ensures uncounted { OnOk result (V.write_faults volume.new ≡ V.write_faults volume.old) }
     ensures read_faults { V.read_faults volume.new ≡ V.read_faults volume.old }
 {
     volume.cut(Area::Side, 0)?;

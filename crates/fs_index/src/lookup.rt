@@ -1,6 +1,6 @@
 //! The calls of an index.
 
-ghost use Rattle.std.specs.Prelude.{◌≡◌, All, OnOk, OnErr};
+ghost use Rattle.std.specs.Prelude.{◌≡◌, ℕ, All, OnOk, OnErr};
 ghost use Rattle.std.specs.List.{last_or};
 ghost use Rattle.fs_records.specs.Places.{Kept, places_in, last_below, knows, Added, IsBefore};
 
@@ -34,11 +34,12 @@ pub trait Lookup {
         ensures { result ≡ knows (kept self.now).entries oid at };
 
     /// Keeps the place of one record more, which stands behind all that are kept of its object. The
-    /// one error is want of memory, and then what is kept is as it was.
+    /// one error is want of memory, and then the places are as they were.
     fn add(&mut self, oid: Oid, place: Place) -> Result<(), AllocError>
         requires { All (IsBefore place.serial place.at) (places_in (kept self.old).entries oid) }
         ensures ok { OnOk result (Added (kept self.old).entries oid place (kept self.new).entries) }
-        ensures err { OnErr result ((kept self.new).entries ≡ (kept self.old).entries) }
+        ensures err { OnErr result ((o : ℕ) →
+            places_in (kept self.new).entries o ≡ places_in (kept self.old).entries o) }
         ensures transactions { (kept self.new).transactions ≡ (kept self.old).transactions };
 }
 

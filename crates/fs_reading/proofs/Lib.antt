@@ -1,7 +1,8 @@
+pub mod Notes
 pub mod Between
 pub mod Chains
 pub mod Lines
-pub mod Outlines
 pub mod Revisions
 pub mod Starts
 pub mod Wholes
+pub mod Fronts

@@ -4,9 +4,9 @@ pub mod Contents
 pub mod Histories
 pub mod Main
 pub mod Merged
-pub mod Outlines
 pub mod RecordsStand
 pub mod Sources
 pub mod Standing
 pub mod StoreErrors
 pub mod TransactionsStand
+pub mod Sizes

@@ -10,6 +10,7 @@ ghost use Rattle.fs_reading.specs.Sources.{IsSource, IsKnownPlace};
 ghost use Rattle.fs_reading.specs.declared.errors.ReadError.TheVariants.{ReadFault, Memory};
 
 use crate::errors::ReadError;
+use crate::front::{FRONT, content_in, fill_front, header_in};
 use crate::pieces::{back_pointer_at, bytes_at, data_header_at};
 use fs_records::{DATA_HEADER_LENGTH, DataHeader};
 use std::alloc::Global;
@@ -102,5 +103,41 @@ pub fn read_content<V: Volume>(alloc: Global, volume: &mut V, at: u64) -> Result
     ensures write_faults { V.write_faults volume.new ≡ V.write_faults volume.old }
 {
     let header = data_header_at(volume, at)?;
+    content_of(alloc, volume, at, &header)
+}
+
+/// The content of the data record at a place, as `read_content` gives it, where the bytes of the file
+/// up to `end` may be read. Where the record has at most 4,096 bytes before `end`, they are read at
+/// once.
+pub(crate) fn read_content_before<V: Volume>(
+    alloc: Global,
+    volume: &mut V,
+    at: u64,
+    end: u64,
+) -> Result<Content, ReadError>
+    requires known { V.told → IsKnownPlace (main_bytes (V.log volume.old)) at }
+    requires end { V.told → end ≤ length (main_bytes (V.log volume.old)) }
+    ensures content { V.told → (reached : Reached) (oid : ℕ)
+        → Begins (main_bytes (V.log volume.old)) reached → is_known reached.known oid at ≡ true
+        → IfOk result (λ content. content ≡ content_at reached.known oid at) }
+    ensures same { V.log volume.new ≡ V.log volume.old }
+    ensures later { V.read_faults volume.old ≤ V.read_faults volume.new }
+    ensures fault { IsErrOf result ReadFault
+        → Rose (V.read_faults volume.old) (V.read_faults volume.new) }
+    ensures memory { IsErrOf result Memory → V.read_faults volume.new ≡ V.read_faults volume.old }
+    ensures uncounted { OnOk result (V.read_faults volume.new ≡ V.read_faults volume.old) }
+    ensures write_faults { V.write_faults volume.new ≡ V.write_faults volume.old }
+{
+    let room = end.saturating_sub(at);
+    if room < DATA_HEADER_LENGTH as u64 {
+        return read_content(alloc, volume, at);
+    }
+    let mut front = [0; FRONT];
+    let held = fill_front(volume, at, room, &mut front)?;
+    let header = header_in(&front);
+    if header.length > 0 && header.length <= (held - DATA_HEADER_LENGTH) as u64 {
+        let content = content_in(alloc, &front, header.length as usize)?;
+        return Ok(content);
+    }
     content_of(alloc, volume, at, &header)
 }

@@ -9,25 +9,33 @@ ghost use Rattle.fs_records.specs.Places.{IsIndexOf, place_of, places_of};
 ghost use Rattle.fs_reading.specs.Main.{IsIndexed, ArePlaces};
 ghost use Rattle.fs_reading.specs.Standing.{RecordStands, is_replaced, lasts, revision_line_of};
 ghost use Rattle.fs_reading.specs.Sources.{is_same_transaction};
+ghost use Rattle.fs_reading.specs.Sizes.{noted_of};
 ghost use Rattle.fs_reading.specs.declared.errors.ReadError.TheVariants.{ReadFault, Memory};
 ghost use Rattle.zb_volume.specs.Disk.{main_bytes};
 
-use crate::contents::source_of;
 use crate::errors::ReadError;
-use crate::pieces::{data_header_at, header_at, keep, user_and_description};
+use crate::noted::Noted;
+use crate::pieces::{header_at, keep, user_and_description};
+use crate::sizes::note_all;
 use fs_records::{Index, Place};
 use std::alloc::Global;
 use zb_ids::{ListOf, Oid, Tid};
 use zb_model::Revision;
 use zb_volume::Volume;
 
-/// The line of the data record at a place.
-fn line_at<V: Volume>(alloc: Global, volume: &mut V, place: Place) -> Result<Revision, ReadError>
+/// The line of a data record of this transaction, of which this was noted.
+fn line_of<V: Volume>(
+    alloc: Global,
+    volume: &mut V,
+    serial: Tid,
+    noted: Noted,
+) -> Result<Revision, ReadError>
     requires short { V.told → length (main_bytes (V.log volume.old)) < 2 ^ 64 }
-    requires stands { V.told
-        → (k : Known) × (place ≡ place_of k) × RecordStands (main_bytes (V.log volume.old)) k }
-    ensures value { V.told → (k : Known) → place ≡ place_of k
+    requires stands { V.told → (k : Known) × RecordStands (main_bytes (V.log volume.old)) k
+        × (noted ≡ noted_of (main_bytes (V.log volume.old)) k) }
+    ensures value { V.told → (k : Known) → serial ≡ k.tid
         → RecordStands (main_bytes (V.log volume.old)) k
+        → noted ≡ noted_of (main_bytes (V.log volume.old)) k
         → IfOk result (λ line. line ≡ revision_line_of (main_bytes (V.log volume.old)) k) }
     ensures same { V.log volume.new ≡ V.log volume.old }
     ensures later { V.read_faults volume.old ≤ V.read_faults volume.new }
@@ -37,13 +45,11 @@ fn line_at<V: Volume>(alloc: Global, volume: &mut V, place: Place) -> Result<Rev
     ensures uncounted { OnOk result (V.read_faults volume.new ≡ V.read_faults volume.old) }
     ensures write_faults { V.write_faults volume.new ≡ V.write_faults volume.old }
 {
-    let record = data_header_at(volume, place.at)?;
-    let source = source_of(volume, place.at, &record)?;
-    let header = header_at(volume, record.transaction)?;
-    let (user, description) = user_and_description(alloc, volume, record.transaction, &header)?;
+    let header = header_at(volume, noted.transaction)?;
+    let (user, description) = user_and_description(alloc, volume, noted.transaction, &header)?;
     Ok(Revision {
-        tid: place.serial,
-        size: source.map(|source| source.length),
+        tid: serial,
+        size: noted.size,
         user,
         description,
     })
@@ -59,19 +65,21 @@ fn is_replaced(serial: Tid, later: &[Place]) -> bool
     }
 }
 
-/// The line of the data record at a place, if none of the places behind it is of the same
-/// transaction.
+/// The line of a data record of this transaction, if none of the places behind it is of the same
+/// one.
 fn line_of_last<V: Volume>(
     alloc: Global,
     volume: &mut V,
-    place: Place,
+    serial: Tid,
+    noted: Noted,
     later: &[Place],
 ) -> Result<Option<Revision>, ReadError>
     requires short { V.told → length (main_bytes (V.log volume.old)) < 2 ^ 64 }
-    requires stands { V.told
-        → (k : Known) × (place ≡ place_of k) × RecordStands (main_bytes (V.log volume.old)) k }
-    ensures value { V.told → (k : Known) (ks : List Known) → place ≡ place_of k
+    requires stands { V.told → (k : Known) × RecordStands (main_bytes (V.log volume.old)) k
+        × (noted ≡ noted_of (main_bytes (V.log volume.old)) k) }
+    ensures value { V.told → (k : Known) (ks : List Known) → serial ≡ k.tid
         → later.now ≡ map place_of ks → RecordStands (main_bytes (V.log volume.old)) k
+        → noted ≡ noted_of (main_bytes (V.log volume.old)) k
         → IfOk result (λ line. line
         ≡ (if is_replaced k ks then None else Some (revision_line_of (main_bytes (V.log volume.old)) k))) }
     ensures same { V.log volume.new ≡ V.log volume.old }
@@ -82,25 +90,29 @@ fn line_of_last<V: Volume>(
     ensures uncounted { OnOk result (V.read_faults volume.new ≡ V.read_faults volume.old) }
     ensures write_faults { V.write_faults volume.new ≡ V.write_faults volume.old }
 {
-    if is_replaced(place.serial, later) {
+    if is_replaced(serial, later) {
         return Ok(None);
     }
-    let line = line_at(alloc, volume, place)?;
+    let line = line_of(alloc, volume, serial, noted)?;
     Ok(Some(line))
 }
 
-/// The lines of the data records of an object at these places, the last one first, one for each
-/// transaction, which is that of its last record.
-fn lines_at<V: Volume>(
+/// The lines of the data records of an object at these places, of which this was noted, the last one
+/// first, one for each transaction, which is that of its last record.
+fn lines_of<V: Volume>(
     alloc: Global,
     volume: &mut V,
     places: &[Place],
+    noted: &[Noted],
 ) -> Result<ListOf<Revision>, ReadError>
+    requires long { length noted.now ≡ length places.now }
     requires short { V.told → length (main_bytes (V.log volume.old)) < 2 ^ 64 }
     requires stand { V.told → (ks : List Known) × (places.now ≡ map place_of ks)
-        × AllByRecursion (RecordStands (main_bytes (V.log volume.old))) ks }
+        × AllByRecursion (RecordStands (main_bytes (V.log volume.old))) ks
+        × (noted.now ≡ map (noted_of (main_bytes (V.log volume.old))) ks) }
     ensures lines { V.told → (ks : List Known) → places.now ≡ map place_of ks
         → AllByRecursion (RecordStands (main_bytes (V.log volume.old))) ks
+        → noted.now ≡ map (noted_of (main_bytes (V.log volume.old))) ks
         → IfOk result (λ lines.
         lines ≡ reverse (map (revision_line_of (main_bytes (V.log volume.old))) (lasts ks))) }
     ensures same { V.log volume.new ≡ V.log volume.old }
@@ -116,7 +128,7 @@ fn lines_at<V: Volume>(
     while left > 0 {
         let later = &places[left..];
         left -= 1;
-        let line = line_of_last(alloc, volume, places[left], later)?;
+        let line = line_of_last(alloc, volume, places[left].serial, noted[left], later)?;
         keep(&mut lines, line)?;
     }
     Ok(lines)
@@ -126,9 +138,9 @@ fn lines_at<V: Volume>(
 /// of the file, in the order in which they stand: the tid, the user and the description of its
 /// transaction, and how many bytes the object has from then on, or `None` where it is gone. Where
 /// one transaction has several records of the object, its change is that of the last one. It reads
-/// headers, back pointers and texts alone, never the object's bytes, and nothing that stands behind
-/// what was read; memory is that of the list. It is `ReadFault` only where a read failed, and else
-/// `Memory`. The volume is as it was.
+/// headers, back pointers and texts alone, each record once, never the object's bytes, and nothing
+/// that stands behind what was read; memory is that of the list, and a few numbers for each record. It
+/// is `ReadFault` only where a read failed, and else `Memory`. The volume is as it was.
 pub fn read_history_at<V: Volume>(
     alloc: Global,
     volume: &mut V,
@@ -146,7 +158,9 @@ pub fn read_history_at<V: Volume>(
     ensures uncounted { OnOk result (V.read_faults volume.new ≡ V.read_faults volume.old) }
     ensures write_faults { V.write_faults volume.new ≡ V.write_faults volume.old }
 {
-    lines_at(alloc, volume, places)
+    let noted = note_all(alloc, volume, places)?;
+    let lines = lines_of(alloc, volume, places, &noted)?;
+    Ok(lines)
 }
 
 /// Every change of an object, the newest first, for an index of what stands in the file: the tid, the

@@ -1,15 +1,17 @@
 //! What stands in the open file of a database, read from its volume: the list of transactions that
-//! may be undone, the history of an object, the content of a record, a transaction whole, what a
-//! transaction changes, and what is looked up by places: an object's revision below a front, the
-//! transaction with a tid, and the first one above a tid.
+//! may be undone, the history of an object, the content of a record, a transaction whole, and what is
+//! looked up by places: an object's revision below a front, the transaction with a tid, and the first
+//! one above a tid.
 #![tactic(auto)]
 
 mod contents;
 mod errors;
+mod front;
 mod history;
 mod lookups;
-mod outline;
+mod noted;
 mod pieces;
+mod sizes;
 mod transaction;
 mod undo_log;
 
@@ -17,7 +19,6 @@ pub use contents::read_content;
 pub use errors::ReadError;
 pub use history::{read_history, read_history_at};
 pub use lookups::{read_before, read_first_after, read_transaction_with};
-pub use outline::{Outline, read_outline};
 pub use transaction::{read_transaction, read_transaction_at};
 pub use undo_log::{read_undo_log, read_undo_log_at};
 

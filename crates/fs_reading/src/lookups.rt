@@ -1,6 +1,6 @@
 //! Look-ups of an object and of a transaction by the places where they stand.
 
-ghost use Rattle.std.specs.Prelude.{◌≡◌, ℕ, ◌≤◌, IfOk, OnOk, IsErrOf};
+ghost use Rattle.std.specs.Prelude.{◌≡◌, ℕ, ◌≤◌, length, IfOk, OnOk, IsErrOf};
 ghost use Rattle.std.specs.Option.{option_map};
 ghost use Rattle.zb_model.specs.Queries.{first_after, found_as, found_below, transaction_at};
 ghost use Rattle.zb_base.specs.Counts.{Rose};
@@ -11,7 +11,7 @@ ghost use Rattle.fs_reading.specs.Main.{ArePlaces, AreStarts};
 ghost use Rattle.fs_reading.specs.declared.errors.ReadError.TheVariants.{ReadFault, Memory};
 ghost use Rattle.zb_volume.specs.Disk.{main_bytes};
 
-use crate::contents::read_content;
+use crate::contents::read_content_before;
 use crate::errors::ReadError;
 use crate::transaction::read_transaction_at;
 use fs_index::{first_from, last_before};
@@ -42,16 +42,19 @@ fn found_with(content: Content, serial: Tid, end: Option<Tid>) -> Found
 
 /// An object's last revision below a front, with the serial of its next one, by the places of the
 /// object's records in what was read of the file, in the order in which they stand. It reads one
-/// content, and nothing that stands behind what was read; memory is that of the content. It is
-/// `ReadFault` only where a read failed, and else `Memory`. The volume is as it was.
+/// content, and nothing that stands behind `end`, at which Main has its end or goes on; a record of
+/// at most 4,096 bytes takes one read of the volume. Memory is that of the content. It is `ReadFault`
+/// only where a read failed, and else `Memory`. The volume is as it was.
 pub fn read_before<V: Volume>(
     alloc: Global,
     volume: &mut V,
     places: &[Place],
+    end: u64,
     front: Tid,
 ) -> Result<Found, ReadError>
     requires places { V.told → ArePlaces (main_bytes (V.log volume.old)) places.now }
     requires rising { IsRising places.now }
+    requires end { V.told → end ≤ length (main_bytes (V.log volume.old)) }
     ensures found { V.told → (reached : Reached) (oid : ℕ)
         → Begins (main_bytes (V.log volume.old)) reached → places.now ≡ places_of oid reached.known
         → IfOk result (λ found. found ≡ found_below oid front reached.list) }
@@ -66,7 +69,7 @@ pub fn read_before<V: Volume>(
     let Some(place) = last_before(places, front) else {
         return Ok(Found::Nothing);
     };
-    let content = read_content(alloc, volume, place.at)?;
+    let content = read_content_before(alloc, volume, place.at, end)?;
     let end = serial_from(places, front);
     Ok(found_with(content, place.serial, end))
 }

@@ -168,7 +168,13 @@ fn revisions_below_fronts(rt: HostRuntime) -> Result<(), Fail> {
         (9, 8, (7, b"9", None)),
     ];
     for (oid, front, wanted) in rows {
-        let found = read_before(alloc, &mut volume, index.places(Oid(oid)), Tid(front))?;
+        let found = read_before(
+            alloc,
+            &mut volume,
+            index.places(Oid(oid)),
+            FILE.len() as u64,
+            Tid(front),
+        )?;
         assert_eq!(rt; parts(&found), wanted, "{oid} below {front}");
     }
     let past_the_end = read_content(alloc, &mut volume, 600).err();
@@ -210,8 +216,5 @@ fn transactions_are_found(rt: HostRuntime) -> Result<(), Fail> {
     assert_eq!(rt; with.map(|t| t.changes.len()), Some(1));
     let after = read_first_after(alloc, &mut volume, starts, Tid(6))?;
     assert_eq!(rt; after.map(|t| t.changes.len()), Some(2));
-    let outline = read_outline(alloc, &mut volume, place(7, 394))?;
-    assert!(rt; !outline.packed);
-    assert_eq!(rt; outline.oids.as_slice(), [Oid(9), Oid(5)].as_slice());
     Ok(())
 }

@@ -1,6 +1,6 @@
 pub mod Adding
 pub mod Rising
 pub mod Searching
-pub mod Taking
 pub mod Voting
 pub mod Written
+pub mod Keeping

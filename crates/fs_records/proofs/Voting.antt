@@ -24,7 +24,7 @@ use Rattle.fs_records.specs.declared.place.Place.{Place}
 use Rattle.fs_records.specs.Blocks.{Known, Written, record_text, records_text, texts, is_at, is_known, content_at, content_of, known_at, with_record, with_records, changes_of, as_change, Reached, file_start, after_block, records_from, Block, IsPayload, AreWritten, after_blocks, Begins}
 use Rattle.fs_records.specs.BlockLaws.{after-end}
 use Rattle.fs_records.specs.Databases.{reading_of}
-use Rattle.fs_records.specs.Places.{Kept, places_in, ArePlacesOf, IsIndexOf, last_below}
+use Rattle.fs_records.specs.Places.{PlacesKept, Kept, places_in, ArePlacesOf, IsIndexOf, last_below}
 use Rattle.fs_records.specs.Writing.{at_or_0, earlier_in, payload_of, written_of, block_of, IsNext, PayloadFits, HasRoom}
 use Rattle.fs_records.specs.Lookups.{RevisionRead, revision_read}
 
@@ -171,7 +171,7 @@ AreSound s cs = All (λ (c : NewChange). NamesRevision s.list c.oid c.content) c
 abbrev AreFilled : List NewChange → Type 0
 AreFilled cs = All (λ (c : NewChange). IsFilled c.content) cs
 
-module _ (bytes : List ℕ) (s : Reached) (entries : List (ℕ × List Place)) (begins : Begins bytes s) (index : ArePlacesOf s.known entries) where
+module _ (bytes : List ℕ) (s : Reached) (entries : List (ℕ × PlacesKept)) (begins : Begins bytes s) (index : ArePlacesOf s.known entries) where
   earlier_is : (oid serial : ℕ) → NamesRevision s.list oid (new_content.AsOf serial) → Earlier s oid (earlier_in entries oid serial) (content_as_of oid serial s.list)
   earlier_is oid serial sound =
       earlier_found s oid serial (last_below (serial + 1) (places_in entries oid)) (revision_at oid serial s.list)

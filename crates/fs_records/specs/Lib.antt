@@ -25,3 +25,5 @@ pub mod Unique
 pub mod WriteLaws
 pub mod StatusLaws
 pub mod Writing
+pub mod HeldPlaces
+pub mod SizeLaws

@@ -1,12 +1,11 @@
 -- What a scan has found so far, as a loop keeps it. Source: own.
 use Rattle.std.specs.Prelude.{◌≡◌, ℕ, List}
-use Rattle.fs_records.specs.declared.place.Place.{Place}
 use Rattle.fs_records.specs.Blocks.{Known, Written, with_records, Reached, Begins}
 use Rattle.fs_records.specs.Rules.{AreRecordsBetween}
-use Rattle.fs_records.specs.Places.{Kept, ArePlacesOf, IsIndexOf}
+use Rattle.fs_records.specs.Places.{PlacesKept, Kept, ArePlacesOf, IsIndexOf}
 
 -- data records stand between two places, and what is kept of each object is where its records stand, these ones too
-pub record RecordsIndexed (bytes : List ℕ) (known : List Known) (place tid from to : ℕ) (entries : List (ℕ × List Place)) : Type 0 where
+pub record RecordsIndexed (bytes : List ℕ) (known : List Known) (place tid from to : ℕ) (entries : List (ℕ × PlacesKept)) : Type 0 where
   pub records : List Written
   pub stand : AreRecordsBetween bytes known place tid from to records
   pub index : ArePlacesOf (with_records known place tid from records) entries

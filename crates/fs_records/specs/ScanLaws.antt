@@ -7,10 +7,10 @@ use Rattle.std.proofs.lemmas.List.Elements.{All-weaker, All-push}
 use Rattle.fs_records.specs.declared.field.Field.{Field}
 use Rattle.fs_records.specs.declared.place.Place.{Place}
 use Rattle.zb_base.specs.Bytes.{AreBytes}
-use Rattle.fs_records.specs.Blocks.{Known, known_at, Written, AreWritten, IsWrittenRecord, with_record, with_records, records_text, record_text, is_known}
+use Rattle.fs_records.specs.Blocks.{Known, Written, AreWritten, IsWrittenRecord, with_record, with_records, records_text, record_text, is_known}
 use Rattle.fs_records.specs.Rules.{AreRecordsBetween, record_at, record_in}
 use Rattle.fs_records.specs.File.{RecordFault}
-use Rattle.fs_records.specs.Places.{place_of, IsBefore, Added, places_in, places_of, is_of, knows, ArePlacesOf, AreBefore}
+use Rattle.fs_records.specs.Places.{PlacesKept, place_of, IsBefore, Added, places_in, places_of, is_of, knows, ArePlacesOf, AreBefore}
 use Rattle.fs_records.specs.RecordLaws.{record_takes}
 use Rattle.fs_records.specs.Scan.{RecordsIndexed}
 
@@ -27,7 +27,7 @@ any_place (k ∷ ks) oid at = by_cases (eqb oid k.oid) (any_place ks oid at)
     by_cases false e = e
 
 -- an index knows a record exactly where one was read
-pub knows_is : (known : List Known) (entries : List (ℕ × List Place)) → ArePlacesOf known entries → (oid at : ℕ) → knows entries oid at ≡ is_known known oid at
+pub knows_is : (known : List Known) (entries : List (ℕ × PlacesKept)) → ArePlacesOf known entries → (oid at : ℕ) → knows entries oid at ≡ is_known known oid at
 knows_is known entries h oid at = ap (λ (ps : List Place). list_any (λ (p : Place). eqb p.at at) ps) (h oid) ∙ any_place known oid at
 
 pub places_of-push : (oid : ℕ) (known : List Known) (k : Known) → places_of oid (known ++ k ∷ []) ≡ cond (eqb oid k.oid) (places_of oid known ++ place_of k ∷ []) (places_of oid known)
@@ -46,12 +46,12 @@ places_of-push oid (x ∷ xs) k = by_cases (eqb oid x.oid) (eqb oid k.oid) (plac
     by_cases false false e = e
 
 -- an index with the place of one record more
-pub index_more : (known : List Known) (old new : List (ℕ × List Place)) (k : Known) → ArePlacesOf known old → Added old k.oid (place_of k) new → ArePlacesOf (known ++ k ∷ []) new
+pub index_more : (known : List Known) (old new : List (ℕ × PlacesKept)) (k : Known) → ArePlacesOf known old → Added old k.oid (place_of k) new → ArePlacesOf (known ++ k ∷ []) new
 index_more known old new k is added o =
     added o ∙ ap (λ (ps : List Place). cond (eqb o k.oid) (ps ++ place_of k ∷ []) ps) (is o) ∙ sym (places_of-push o known k)
 
 -- all places are before the end of what was added
-pub before_more : (old new : List (ℕ × List Place)) (oid tid q size : ℕ) → 0 < size → AreBefore old tid q → Added old oid (record { serial = tid; at = q }) new → AreBefore new tid (q + size)
+pub before_more : (old new : List (ℕ × PlacesKept)) (oid tid q size : ℕ) → 0 < size → AreBefore old tid q → Added old oid (record { serial = tid; at = q }) new → AreBefore new tid (q + size)
 before_more old new oid tid q size some before added o =
     let place : Place = record { serial = tid; at = q } in
     let weaker = All-weaker (IsBefore tid q) (IsBefore tid (q + size)) (λ p h. (h.0, omega (arith, h.1))) (places_in old o) (before o) in
@@ -61,12 +61,6 @@ before_more old new oid tid q size some before added o =
 
 -- ---- one record more
 
-with_records-push : (known : List Known) (place tid q : ℕ) (rs : List Written) (r : Written) → with_records known place tid q (rs ++ r ∷ []) ≡ with_record (with_records known place tid q rs) tid (q + length (records_text place tid rs)) r
-with_records-push known place tid q [] r = ap (λ (n : ℕ). with_record known tid n r) (omega arith)
-with_records-push known place tid q (x ∷ xs) r =
-    with_records-push (with_record known tid q x) place tid (q + length (record_text place tid x)) xs r
-    ∙ ap (λ (n : ℕ). with_record (with_records known place tid q (x ∷ xs)) tid n r) (omega (arith, length-append (record_text place tid x) (records_text place tid xs)))
-
 AreWritten-push : (known : List Known) (place tid q : ℕ) (rs : List Written) (r : Written) → AreWritten known place tid q rs → IsWrittenRecord (with_records known place tid q rs) r → AreWritten known place tid q (rs ++ r ∷ [])
 AreWritten-push known place tid q [] r h one = (one, tt)
 AreWritten-push known place tid q (x ∷ xs) r h one = (h.0, AreWritten-push (with_record known tid q x) place tid (q + length (record_text place tid x)) xs r h.1 one)
@@ -75,34 +69,8 @@ records_text-push : (place tid : ℕ) (rs : List Written) (r : Written) → reco
 records_text-push place tid [] r = append-nil (record_text place tid r)
 records_text-push place tid (x ∷ xs) r = ap (λ (t : List ℕ). record_text place tid x ++ t) (records_text-push place tid xs r) ∙ sym (append_assoc (record_text place tid x) (records_text place tid xs) (record_text place tid r))
 
-pub none_yet : (bytes : List ℕ) (known : List Known) (place tid from : ℕ) (entries : List (ℕ × List Place)) → ArePlacesOf known entries → RecordsIndexed bytes known place tid from from entries
-none_yet bytes known place tid from entries index = record { records = []; stand = record { written = tt; parts = refl; next = omega arith }; index = index }
-
-pub one_record_more : (bytes : List ℕ) (known : List Known) (place tid from q end oid size : ℕ) (old new : List (ℕ × List Place)) → AreBytes (drop q bytes) → end ≤ length bytes → q ≤ end
-    → Ok (oid, size) ≡ record_at (knows old) place tid (end - q) (drop q bytes)
-    → Added old oid (record { serial = tid; at = q }) new
-    → RecordsIndexed bytes known place tid from q old → RecordsIndexed bytes known place tid from (q + size) new
-one_record_more bytes known place tid from q end oid size old new fits within order read added so_far =
-    let rs = so_far.records in
-    let r = record_in (drop q bytes) in
-    let known_now = with_records known place tid from rs in
-    let t = record_takes known_now (knows old) place tid (end - q) (drop q bytes) oid size (knows_is known_now old so_far.index) fits (omega (arith, length-drop q bytes)) (sym read) in
-    let text = record_text place tid r in
-    let pushed = records_text-push place tid rs r in
-    let added_too : Added old r.oid (record { serial = tid; at = q }) new = subst (λ (o : ℕ). Added old o (record { serial = tid; at = q }) new) t.oid_is added in
-    let known_is : with_records known place tid from (rs ++ r ∷ []) ≡ with_record known_now tid q r = with_records-push known place tid from rs r ∙ ap (λ (n : ℕ). with_record known_now tid n r) (sym so_far.stand.next) in
-    record {
-      records = rs ++ r ∷ [];
-      stand = record {
-        written = AreWritten-push known place tid from rs r so_far.stand.written t.is;
-        parts = so_far.stand.parts ∙ ap (λ (x : List ℕ). records_text place tid rs ++ x) (t.parts ∙ ap (λ (x : List ℕ). text ++ x) (drop-drop size q bytes)) ∙ sym (append_assoc (records_text place tid rs) text (drop (q + size) bytes)) ∙ ap (λ (x : List ℕ). x ++ drop (q + size) bytes) (sym pushed);
-        next = omega (arith, so_far.stand.next, t.size_is, ap length pushed, length-append (records_text place tid rs) text);
-      };
-      index = subst (λ (ks : List Known). ArePlacesOf ks new) (sym known_is) (index_more known_now old new (known_at known_now tid q r) so_far.index added_too);
-    }
-
 -- the first fault
-pub fault_found : (bytes : List ℕ) (known : List Known) (place tid from q end : ℕ) (field : Field) (entries : List (ℕ × List Place)) → q < end → Err field ≡ record_at (knows entries) place tid (end - q) (drop q bytes)
+pub fault_found : (bytes : List ℕ) (known : List Known) (place tid from q end : ℕ) (field : Field) (entries : List (ℕ × PlacesKept)) → q < end → Err field ≡ record_at (knows entries) place tid (end - q) (drop q bytes)
     → RecordsIndexed bytes known place tid from q entries → RecordFault bytes known place tid from end q field
 fault_found bytes known place tid from q end field entries before fault so_far = record {
   records = so_far.records;

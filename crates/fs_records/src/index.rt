@@ -1,63 +1,110 @@
 //! Where the records of each object stand, and where the transactions do.
 
-ghost use Rattle.std.specs.Prelude.{◌≡◌, List, [], ◌∷◌, ◌++◌, All, OnOk, OnErr};
-ghost use Rattle.std.specs.List.{last_or};
-ghost use Rattle.fs_records.specs.Places.{places_in, Added, IsTakenBack, all_but_last, IsBefore, IsRising};
+ghost use Rattle.std.specs.Prelude.{◌≡◌, ◌==◌, ◌+◌, ◌<◌, ◌≤◌, ℕ, false, nat_eq, List, [], ◌∷◌, ◌++◌, All, length, IsOk, OnOk, OnErr};
+ghost use Rattle.std.specs.List.{IsDistinct};
+ghost use Rattle.std.specs.Map.{lookup};
+ghost use Rattle.indexmap.specs.IndexMap.{spare};
+ghost use Rattle.fs_records.specs.Places.{places_in, placed_of, oids_placed, Added, HasRoomIn, HasRoomFor, IsBefore, IsRising, StandBehind};
 
-use crate::place::Place;
+use crate::place::{Place, Placed};
+use crate::places::Places;
 use indexmap::IndexMap;
 use std::alloc::{AllocError, Global};
 use std::marker::Model;
-use zb_ids::{ListOf, Oid};
+use zb_ids::Oid;
 
 /// The places of the data records of each object and of the transactions of a file, each in the
 /// order in which they stand. A record that a later one of the same object and transaction
-/// replaces is kept too. Contracts see the places of each object and those of the transactions.
+/// replaces is kept too. Contracts see the places of each object and those of the transactions, and
+/// for how many more there is room.
 #[derive(Drop)]
 pub struct Index {
     alloc: Global,
-    objects: IndexMap<Oid, ListOf<Place>>,
-    transactions: ListOf<Place>,
+    objects: IndexMap<Oid, Places>,
+    transactions: Vec<Place>,
 }
 
 impl Model for Index {
+    ghost use Rattle.std.specs.Prelude.{◌-◌, vec_len, vec_capacity};
+    ghost use Rattle.indexmap.specs.IndexMap.{spare};
     ghost use Rattle.fs_records.specs.Places.{Kept, IsSoundIndex};
 
     ghost Value = { Kept };
 
-    ghost view = { λ index. record { entries = index.objects.entries; transactions = index.transactions } };
+    ghost view = { λ index. record {
+      entries = index.objects.entries;
+      transactions = index.transactions.items;
+      objects_room = spare index.objects;
+      transactions_room = vec_capacity index.transactions - vec_len index.transactions;
+    } };
 
-    ghost invariant = { λ index. IsSoundIndex (record { entries = index.objects.entries; transactions = index.transactions }) };
+    ghost invariant = { λ index. IsSoundIndex index.objects.entries index.transactions.items };
 }
 
-/// Puts a place at the end of an object's places.
+/// Puts a place at the end of an object's places. Where there is room for it, it takes no memory.
 fn keep(
     alloc: Global,
-    objects: &mut IndexMap<Oid, ListOf<Place>>,
+    objects: &mut IndexMap<Oid, Places>,
     oid: Oid,
     place: Place,
 ) -> Result<(), AllocError>
     ensures ok { OnOk result (Added objects.old.entries oid place objects.new.entries) }
-    ensures err { OnErr result (objects.new.entries ≡ objects.old.entries) }
+    ensures err { OnErr result ((o : ℕ) →
+        places_in objects.new.entries o ≡ places_in objects.old.entries o) }
+    ensures succeeds { 0 < spare objects.old → HasRoomIn objects.old.entries oid → IsOk result }
+    ensures others { (o : ℕ) → (o == oid) ≡ false → HasRoomIn objects.old.entries o
+        → HasRoomIn objects.new.entries o }
+    ensures room { spare objects.old ≤ spare objects.new + 1 }
 {
     if let Some(places) = objects.get_mut(&oid) {
-        places.push(place)?;
-        return Ok(());
+        return places.push(alloc, place);
     }
-    let mut places = ListOf::new(alloc);
-    places.push(place)?;
-    objects.insert(oid, places)?;
+    objects.insert(oid, Places::one(place))?;
     Ok(())
 }
 
-/// Takes the last of an object's places off, or answers None where there is none.
-fn take_back(objects: &mut IndexMap<Oid, ListOf<Place>>, oid: Oid) -> Option<Place>
-    ensures value { result ≡ last_or None (places_in objects.old.entries oid) }
-    ensures taken { IsTakenBack objects.old.entries oid objects.new.entries }
+/// Makes room for one place more of an object that has places. The one error is want of memory.
+fn reserve_one(
+    alloc: Global,
+    objects: &mut IndexMap<Oid, Places>,
+    oid: Oid,
+) -> Result<(), AllocError>
+    ensures ok { OnOk result (HasRoomIn objects.new.entries oid) }
+    ensures others { (o : ℕ) → HasRoomIn objects.old.entries o → HasRoomIn objects.new.entries o }
+    ensures places { (o : ℕ) → places_in objects.new.entries o ≡ places_in objects.old.entries o }
 {
     match objects.get_mut(&oid) {
-        None => None,
-        Some(places) => places.pop(),
+        None => Ok(()),
+        Some(places) => places.reserve(alloc),
+    }
+}
+
+/// Makes room for one place more of each of these objects that has places. The one error is want of
+/// memory.
+fn reserve_each(
+    alloc: Global,
+    objects: &mut IndexMap<Oid, Places>,
+    placed: &[Placed],
+) -> Result<(), AllocError>
+    ensures ok { OnOk result (All (λ p. HasRoomIn objects.new.entries p.oid) placed.now) }
+    ensures places { (o : ℕ) → places_in objects.new.entries o ≡ places_in objects.old.entries o }
+{
+    'each: for one in placed {
+        reserve_one(alloc, objects, one.oid)?;
+    }
+    Ok(())
+}
+
+/// Puts each of these places at the end of its object's places. It takes no memory.
+fn keep_each(alloc: Global, objects: &mut IndexMap<Oid, Places>, placed: &[Placed])
+    requires objects { length placed.now ≤ spare objects.old }
+    requires each { All (λ p. HasRoomIn objects.old.entries p.oid) placed.now }
+    requires distinct { IsDistinct nat_eq (oids_placed placed.now) }
+    ensures { (o : ℕ) → places_in objects.new.entries o
+        ≡ places_in objects.old.entries o ++ placed_of o placed.now }
+{
+    'each: for one in placed {
+        let _ = keep(alloc, objects, one.oid, one.place);
     }
 }
 
@@ -70,7 +117,7 @@ impl Index {
         Index {
             alloc,
             objects: IndexMap::new(alloc),
-            transactions: ListOf::new(alloc),
+            transactions: Vec::new(alloc),
         }
     }
 
@@ -94,18 +141,19 @@ impl Index {
     }
 
     /// Keeps the place of a record, which stands behind all that are kept of its object. The one
-    /// error is want of memory, and then the index is as it was.
+    /// error is want of memory, and then the places are as they were.
     pub fn push_record(&mut self, oid: Oid, place: Place) -> Result<(), AllocError>
         requires behind { All (IsBefore place.serial place.at) (places_in self.old.entries oid) }
         ensures ok { OnOk result (Added self.old.entries oid place self.new.entries) }
-        ensures err { OnErr result (self.new.entries ≡ self.old.entries) }
+        ensures err { OnErr result ((o : ℕ) →
+            places_in self.new.entries o ≡ places_in self.old.entries o) }
         ensures transactions { self.new.transactions ≡ self.old.transactions }
     {
         keep(self.alloc, &mut self.objects, oid, place)
     }
 
     /// Keeps the place of a transaction, which stands behind all that are kept. The one error is
-    /// want of memory, and then the index is as it was.
+    /// want of memory, and then the places are as they were.
     pub fn push_transaction(&mut self, place: Place) -> Result<(), AllocError>
         requires behind { All (IsBefore place.serial place.at) self.old.transactions }
         ensures ok { OnOk result (self.new.transactions ≡ self.old.transactions ++ place ∷ []) }
@@ -116,23 +164,31 @@ impl Index {
         Ok(())
     }
 
-    /// Takes back the last place that is kept of an object, or answers None where there is none. It
-    /// takes no memory.
-    pub fn pop_record(&mut self, oid: Oid) -> Option<Place>
-        ensures value { result ≡ last_or None (places_in self.old.entries oid) }
-        ensures taken { IsTakenBack self.old.entries oid self.new.entries }
+    /// Makes room for the place of one transaction more and for these places of its data records. The
+    /// one error is want of memory; the places that are kept stay in any case.
+    pub fn reserve(&mut self, placed: &[Placed]) -> Result<(), AllocError>
+        ensures room { OnOk result (HasRoomFor self.new placed.now) }
+        ensures places { (o : ℕ) → places_in self.new.entries o ≡ places_in self.old.entries o }
         ensures transactions { self.new.transactions ≡ self.old.transactions }
     {
-        take_back(&mut self.objects, oid)
+        self.transactions.reserve(1)?;
+        reserve_each(self.alloc, &mut self.objects, placed)?;
+        self.objects.reserve(placed.len())
     }
 
-    /// Takes back the last place that is kept of a transaction, or answers None where there is none.
-    /// It takes no memory.
-    pub fn pop_transaction(&mut self) -> Option<Place>
-        ensures value { result ≡ last_or None self.old.transactions }
-        ensures taken { self.new.transactions ≡ all_but_last self.old.transactions }
-        ensures objects { self.new.entries ≡ self.old.entries }
+    /// Keeps the place of a transaction, which stands behind all that are kept, and those of its data
+    /// records, each behind all that are kept of its object, for which room was made. It takes no
+    /// memory.
+    pub fn add_reserved(&mut self, start: Place, placed: &[Placed])
+        requires room { HasRoomFor self.old placed.now }
+        requires distinct { IsDistinct nat_eq (oids_placed placed.now) }
+        requires start { All (IsBefore start.serial start.at) self.old.transactions }
+        requires behind { StandBehind self.old.entries placed.now }
+        ensures records { (o : ℕ) → places_in self.new.entries o
+            ≡ places_in self.old.entries o ++ placed_of o placed.now }
+        ensures transactions { self.new.transactions ≡ self.old.transactions ++ start ∷ [] }
     {
-        self.transactions.pop()
+        let _ = self.transactions.push(start);
+        keep_each(self.alloc, &mut self.objects, placed);
     }
 }

@@ -7,6 +7,7 @@ mod header;
 mod index;
 mod laws;
 mod place;
+mod places;
 mod verdict;
 mod writing;
 
@@ -20,9 +21,9 @@ pub use laws::{
     always, below_is, bytes_have_one_reading, list_is_a_database, lookups_are_revisions,
     never_both, one_damage, one_list, records_are_revisions, written_blocks_are_read,
 };
-pub use place::Place;
+pub use place::{Place, Placed};
 pub use verdict::Verdict;
-pub use writing::{finishing_sets_the_status, write_transaction};
+pub use writing::{finishing_sets_the_status, record_length, write_transaction};
 
 #[cfg(test)]
 mod tests;

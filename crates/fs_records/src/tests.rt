@@ -147,7 +147,7 @@ fn keep_all(index: &mut Index, records: &[(u64, Place)]) -> Result<bool, AllocEr
 }
 
 #[test]
-fn an_index_keeps_places_and_takes_them_back(rt: HostRuntime) -> Result<(), Fail> {
+fn an_index_keeps_places(rt: HostRuntime) -> Result<(), Fail> {
     let mut index = Index::new(rt.alloc());
     let records = [
         (5, place(1, 27)),
@@ -163,19 +163,5 @@ fn an_index_keeps_places_and_takes_them_back(rt: HostRuntime) -> Result<(), Fail
     assert_eq!(rt; index.places(Oid(5)), of_5.as_slice());
     assert_eq!(rt; index.places(Oid(1)).len(), 0);
     assert_eq!(rt; index.transactions(), [place(1, 4)].as_slice());
-    for (oid, taken) in [
-        (5, Some(place(7, 210))),
-        (0, Some(place(7, 160))),
-        (0, None),
-        (1, None),
-    ] {
-        assert_eq!(rt; index.pop_record(Oid(oid)), taken);
-    }
-    assert_eq!(rt;
-        index.places(Oid(5)),
-        [place(1, 27), place(1, 80)].as_slice()
-    );
-    assert_eq!(rt; index.pop_transaction(), Some(place(1, 4)));
-    assert_eq!(rt; index.pop_transaction(), None);
     Ok(())
 }

@@ -1,6 +1,6 @@
 //! A transaction as it is written when it is voted.
 
-ghost use Rattle.std.specs.Prelude.{◌≡◌, ℕ, ◌+◌, ◌^◌, ◌<◌, ◌++◌, List, None, length, map, OnOk, IfOk};
+ghost use Rattle.std.specs.Prelude.{◌≡◌, ℕ, ◌+◌, ◌^◌, ◌<◌, ◌++◌, List, None, length, map, OnOk, IfOk, IfSome};
 ghost use Rattle.std.specs.List.{last_or, AllByRecursion};
 ghost use Rattle.zb_model.specs.Voting.{IsVotable, IsWellFormed, voted_of};
 ghost use Rattle.fs_records.specs.Numbers.{number};
@@ -8,9 +8,11 @@ ghost use Rattle.fs_records.specs.HeaderLaws.{IsDataHeader};
 ghost use Rattle.fs_records.specs.Headers.{data_header_text};
 ghost use Rattle.fs_records.specs.Blocks.{Reached, Begins, record_text, records_text, block_text};
 ghost use Rattle.fs_records.specs.Places.{IsRising, IsIndexOf, last_below};
-ghost use Rattle.fs_records.specs.Writing.{at_or_0, written_of, block_of, IsNext, HasRoom, StatusIsSet};
+ghost use Rattle.fs_records.specs.Writing.{at_or_0, written_of, block_of, record_size, text_size, IsNext, HasRoom, StatusIsSet};
 
-use crate::header::{DataHeader, HEADER_LENGTH, Header, VOTED, write_data_header, write_header};
+use crate::header::{
+    DATA_HEADER_LENGTH, DataHeader, HEADER_LENGTH, Header, VOTED, write_data_header, write_header,
+};
 use crate::index::Index;
 use crate::place::Place;
 use std::alloc::{AllocError, Global};
@@ -111,25 +113,51 @@ fn write_record(
     }
 }
 
-/// The data records of a transaction at this place, one behind another. The one error is want of
-/// memory.
+/// Puts the data records of a transaction at this place at the end of a text, one behind another.
+/// Where there is no memory, part of them may be put there.
 #[tactic(auto, using(crate::proofs::Written::text_more, crate::proofs::Written::room_more))]
 fn write_records(
-    alloc: Global,
+    text: &mut Vec<u8>,
     new: &NewTransaction,
     at: u64,
     places: &Index,
-) -> Result<Vec<u8>, AllocError>
-    ensures text { IfOk result (λ text. text.items ≡
-        records_text at new.now.tid (map (written_of places.now.entries) new.now.changes)) }
-    ensures room { IfOk result (λ _.
-        AllByRecursion HasRoom (map (written_of places.now.entries) new.now.changes)) }
+) -> Result<(), AllocError>
+    ensures text { OnOk result (text.new.items ≡ text.old.items
+        ++ records_text at new.now.tid (map (written_of places.now.entries) new.now.changes)) }
+    ensures room { OnOk result
+        (AllByRecursion HasRoom (map (written_of places.now.entries) new.now.changes)) }
 {
-    let mut text = Vec::new(alloc);
     for change in new.changes.as_slice() {
-        write_record(&mut text, change, new.tid, at, places)?;
+        write_record(text, change, new.tid, at, places)?;
     }
-    Ok(text)
+    Ok(())
+}
+
+/// How many bytes the data record of a change has, as it is written.
+pub fn record_length(content: &NewContent) -> u64
+    ensures { result ≡ record_size content.now }
+{
+    match content {
+        NewContent::Bytes(bytes) => DATA_HEADER_LENGTH as u64 + bytes.as_slice().len() as u64,
+        NewContent::Absent => DATA_HEADER_LENGTH as u64 + 8,
+        NewContent::AsOf(_) => DATA_HEADER_LENGTH as u64 + 8,
+    }
+}
+
+/// How many bytes the text of a transaction has, or `None` where there are more than 2^64 - 1.
+fn text_length(new: &NewTransaction) -> Option<u64>
+    requires { IsWellFormed new.now }
+    ensures { IfSome result (λ n. n ≡ text_size new.now) }
+{
+    let texts = new.user.len() + new.description.len() + new.extension.len();
+    let mut length = HEADER_LENGTH as u64 + 8 + texts as u64;
+    'size: for change in new.changes.as_slice() {
+        match length.checked_add(record_length(&change.content)) {
+            Some(more) => length = more,
+            None => return None,
+        }
+    }
+    Some(length)
 }
 
 /// The whole text of a transaction that is voted and not yet finished, as it is to stand at this
@@ -137,7 +165,7 @@ fn write_records(
 /// change, and its length again. The index says where the records of each object stand in front of
 /// it. The data record of a change names the place of the object's newest record, and an earlier
 /// content is a back pointer to the object's last record of its transaction or of one before it. The
-/// one error is want of memory.
+/// one error is want of memory. The text is put together once, in memory of its own length.
 ///
 /// With the status 20 in place of 63 the text is a transaction that may stand at the end of what
 /// was read of a file, where the index is of what was read and the new transaction may be voted over
@@ -156,21 +184,23 @@ pub fn write_transaction(
         Begins bytes s → IsIndexOf s places.now → s.end ≡ at → IsVotable s.list new.now →
         IsNext s (block_of 32 places.now.entries new.now) (voted_of s.list new.now)) }
 {
-    let records = write_records(alloc, new, at, places)?;
-    let texts = new.user.len() + new.description.len() + new.extension.len();
+    let Some(length) = text_length(new) else {
+        return Err(AllocError);
+    };
     let header = Header {
         tid: new.tid,
-        length: HEADER_LENGTH as u64 + texts as u64 + records.len() as u64,
+        length: length - 8,
         status: VOTED,
         user: new.user.len() as u16,
         description: new.description.len() as u16,
         extension: new.extension.len() as u16,
     };
-    let mut text = Vec::from_slice(alloc, &write_header(&header))?;
+    let mut text = Vec::with_capacity(alloc, length as usize)?;
+    text.extend_from_slice(&write_header(&header))?;
     text.extend_from_slice(new.user.as_slice())?;
     text.extend_from_slice(new.description.as_slice())?;
     text.extend_from_slice(new.extension.as_slice())?;
-    text.extend_from_slice(&records)?;
+    write_records(&mut text, new, at, places)?;
     text.extend_from_slice(&number_bytes(header.length))?;
     Ok(Text8::from_vec(text))
 }

@@ -1,5 +1,7 @@
+pub mod Counting
 pub mod Faults
 pub mod Seen
 pub mod Starts
 pub mod Steps
 pub mod Times
+pub mod Tallies

@@ -1,7 +1,7 @@
 -- What a window shows.
 use Rattle.std.proofs.Common.{◌≡◌, ℕ, ◌+◌, ◌-◌, ◌≤◌, List, take, drop, sym, ap, ◌∙◌, arith}
 use Rattle.std.proofs.lemmas.List.{drop-drop, drop-take, take-take}
-use Rattle.fs_recovery.specs.Reading.{Shows, Covers}
+use Rattle.fs_recovery.specs.Reading.{Holds, Covers}
 
 inner : (k n count : ℕ) (xs : List ℕ) → k + n ≤ count → take n (drop k (take count xs)) ≡ take n (drop k xs)
 inner k n count xs h =
@@ -9,7 +9,7 @@ inner k n count xs h =
     ap (λ (c : ℕ). take n (drop k (take c xs))) (sym e) ∙ ap (take n) (drop-take k (count - k) xs) ∙ take-take n (count - k) (drop k xs) (omega arith)
 
 -- the n bytes from a place on that are held are those of the text
-pub shown : (at count from n : ℕ) (held text : List ℕ) → Shows at count held text → Covers at count from n → take n (drop (from - at) held) ≡ take n (drop from text)
+pub shown : (at count from n : ℕ) (held text : List ℕ) → Holds at count held text → Covers at count from n → take n (drop (from - at) held) ≡ take n (drop from text)
 shown at count from n held text shows covers =
     let k = from - at in
     let place : at + k ≡ from = omega (arith, covers.no_earlier) in

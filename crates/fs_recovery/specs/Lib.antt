@@ -4,3 +4,5 @@ pub mod Records
 pub mod Opens
 pub mod Fronts
 pub mod Ends
+pub mod Numbers
+pub mod Counting

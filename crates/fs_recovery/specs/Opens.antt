@@ -12,10 +12,11 @@ use Rattle.fs_records.specs.declared.place.Place.{Place}
 use Rattle.fs_records.specs.Blocks.{Reached}
 use Rattle.fs_records.specs.File.{IsReadAs, IsNoFile, IsDamaged}
 use Rattle.fs_records.specs.Places.{Kept, AreBefore, IsBefore, IsIndexOf}
-use Rattle.fs_records.specs.Scan.{Indexed}
 use Rattle.fs_recovery.specs.declared.errors.OpenError.{OpenError}
 use Rattle.fs_recovery.specs.declared.errors.OpenError.TheVariants.{StoreFault, BadRecord, NotFileStorage, Memory}
 use Rattle.fs_recovery.specs.declared.opening.Opened.{Opened}
+use Rattle.fs_recovery.specs.Numbers.{NumbersKept, AreNumbersOf}
+use Rattle.fs_recovery.specs.Counting.{Numbered}
 
 -- ---- what an index keeps, whatever a volume gives
 
@@ -37,26 +38,27 @@ pub record IsBounded (o : Opened) : Type 0 where
 
 -- ---- one transaction
 
--- a transaction was read and kept, or the first fault in it
-abbrev pub BlockRead : List ℕ → ℕ → ℕ → Kept → Result (Unit {0}) OpenError → Type 0
-BlockRead bytes p newest kept (Ok u) = Indexed bytes p newest kept
-BlockRead bytes p newest kept (Err StoreFault) = Unit {0}
-BlockRead bytes p newest kept (Err (BadRecord at field)) = IsDamaged bytes at field
-BlockRead bytes p newest kept (Err NotFileStorage) = ⊥
-BlockRead bytes p newest kept (Err Memory) = Unit {0}
+-- a transaction was read, kept and counted, or the first fault in it
+abbrev pub BlockRead : List ℕ → ℕ → ℕ → Kept → NumbersKept → Result (Unit {0}) OpenError → Type 0
+BlockRead bytes p newest kept numbers (Ok u) = Numbered bytes p newest kept numbers
+BlockRead bytes p newest kept numbers (Err StoreFault) = Unit {0}
+BlockRead bytes p newest kept numbers (Err (BadRecord at field)) = IsDamaged bytes at field
+BlockRead bytes p newest kept numbers (Err NotFileStorage) = ⊥
+BlockRead bytes p newest kept numbers (Err Memory) = Unit {0}
 
 -- ---- the whole file
 
--- the bytes stand for what was reached, with this cut, up to this end, and the index is one of that
+-- the bytes stand for what was reached, with this cut, up to this end, and the index and the numbers are those of that
 pub record IsOpened (bytes : List ℕ) (o : Opened) : Type 0 where
   pub reached : Reached
   pub stands : IsReadAs bytes reached o.cut
   pub end_is : reached.end ≡ o.end
   pub index : IsIndexOf reached o.index
+  pub counted : AreNumbersOf reached.list o.numbers
 
 -- the bytes stand for what was opened, and there is no tail
 abbrev pub IsWhole : List ℕ → Opened → Type 0
-IsWhole bytes o = IsOpened bytes (record { index = o.index; end = o.end; cut = None })
+IsWhole bytes o = IsOpened bytes (record { index = o.index; numbers = o.numbers; end = o.end; cut = None })
 
 -- The answer is what the bytes are: a list of transactions, damaged, or no file. A failed call and want of memory say nothing of them.
 abbrev pub Opens : List ℕ → Result Opened OpenError → Type 0

@@ -1,12 +1,13 @@
 -- What reading the data records of a transaction gives. Source: own.
 use Rattle.std.specs.Prelude.{◌≡◌, ℕ, List, Result, Ok, Err}
 use Rattle.fs_records.specs.declared.field.Field.{Field}
-use Rattle.fs_records.specs.declared.place.Place.{Place}
 use Rattle.fs_records.specs.Blocks.{Known}
 use Rattle.fs_records.specs.File.{RecordFault}
-use Rattle.fs_records.specs.Scan.{RecordsIndexed}
+use Rattle.fs_recovery.specs.declared.counted.Counted.{Counted}
+use Rattle.fs_recovery.specs.Counting.{RecordsCounted}
 use Rattle.fs_recovery.specs.declared.errors.OpenError.{OpenError}
 use Rattle.fs_recovery.specs.declared.errors.OpenError.TheVariants.{StoreFault, BadRecord, NotFileStorage, Memory}
+use Rattle.fs_records.specs.Places.{PlacesKept}
 
 -- one data record at q: what the rules say of it, unless a read failed
 abbrev pub RecordGives : Result (ℕ × ℕ) OpenError → ℕ → Result (ℕ × ℕ) Field → Type 0
@@ -16,9 +17,9 @@ RecordGives (Err (BadRecord at field)) q read = (at ≡ q) × (read ≡ Err fiel
 RecordGives (Err NotFileStorage) q read = ⊥
 RecordGives (Err Memory) q read = ⊥
 
--- all of them: they stand and are kept, or the first fault among them
-abbrev pub RecordsRead : List ℕ → List Known → ℕ → ℕ → ℕ → ℕ → List (ℕ × List Place) → Result (Unit {0}) OpenError → Type 0
-RecordsRead bytes known place tid from end entries (Ok u) = RecordsIndexed bytes known place tid from end entries
+-- all of them: they stand, are kept and were counted, or the first fault among them
+abbrev pub RecordsRead : List ℕ → List Known → ℕ → ℕ → ℕ → ℕ → List (ℕ × PlacesKept) → Result Counted OpenError → Type 0
+RecordsRead bytes known place tid from end entries (Ok counted) = RecordsCounted bytes known place tid from end entries counted
 RecordsRead bytes known place tid from end entries (Err StoreFault) = Unit {0}
 RecordsRead bytes known place tid from end entries (Err (BadRecord at field)) = RecordFault bytes known place tid from end at field
 RecordsRead bytes known place tid from end entries (Err NotFileStorage) = ⊥

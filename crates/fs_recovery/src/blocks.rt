@@ -26,11 +26,11 @@ pub fn judge<V: Volume, const N: usize>(
     requires order { p ≤ window.old.length }
     requires length { V.told → window.old.length ≡ length (main_bytes (V.log volume.old)) }
     requires shows { V.told →
-        Shows window.old.at window.old.count window.old.held (main_bytes (V.log volume.old)) }
+        Shows window.old.at window.old.count window.old.held window.old.ahead (main_bytes (V.log volume.old)) }
     ensures value { V.told → IfOk result (λ x. Judges x newest (drop p (main_bytes (V.log volume.old)))) }
     ensures fit { IfOk result (λ x. IsFit x newest (window.old.length - p)) }
     ensures shows { V.told →
-        Shows window.new.at window.new.count window.new.held (main_bytes (V.log volume.old)) }
+        Shows window.new.at window.new.count window.new.held window.new.ahead (main_bytes (V.log volume.old)) }
     ensures length { window.new.length ≡ window.old.length }
     ensures same { V.log volume.new ≡ V.log volume.old }
     ensures cause { HasCause (V.read_faults volume.old) (V.read_faults volume.new) result }

@@ -3,16 +3,22 @@
 #![tactic(auto)]
 
 mod blocks;
+mod counted;
 mod errors;
 mod head;
+mod numbers;
 mod opening;
 mod pieces;
 mod records;
 mod tail;
+mod tally;
 mod window;
 
+pub use counted::Counted;
 pub use errors::OpenError;
+pub use numbers::Numbers;
 pub use opening::{Opened, open_main, read_file};
+pub use tally::Tally;
 
 #[cfg(test)]
 mod tests;

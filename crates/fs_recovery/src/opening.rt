@@ -13,27 +13,30 @@ ghost use Rattle.fs_records.specs.Rules.{texts_length};
 ghost use Rattle.fs_recovery.specs.Reading.{Shows, CountsReads, CountsFault, RefusesMain};
 ghost use Rattle.fs_recovery.specs.Heads.{HeaderBegins};
 ghost use Rattle.fs_recovery.specs.Opens.{newest_kept, KeptBefore, BlockRead, IsBounded, IsNoList, IsWhole, Opens, MomentsOfOpening, ImagesStand};
-ghost use Rattle.fs_records.specs.Scan.{Indexed};
+ghost use Rattle.fs_recovery.specs.Counting.{Numbered};
 
 use crate::blocks::judge;
 use crate::errors::OpenError;
 use crate::head::Head;
+use crate::numbers::Numbers;
 use crate::records::read_records;
 use crate::tail::keep_front;
 use crate::window::Window;
-use fs_records::{HEADER_LENGTH, Header, Index, Place};
+use fs_records::{HEADER_LENGTH, Header, Index, PACKED, Place};
 use std::alloc::Global;
 use zb_ids::Tid;
 use zb_volume::{Area, StoreFault, Volume};
 
 /// How many bytes a read of Main asks for at most.
-const WINDOW: usize = 8192;
+const WINDOW: usize = 65_536;
 
 /// A file that was opened.
 #[derive(Drop)]
 pub struct Opened {
     /// Where the records of each object stand, and where the transactions do.
     pub index: Index,
+    /// What the transactions change, counted.
+    pub numbers: Numbers,
     /// The place behind the last transaction, where the next one is to stand: at least 4, and below
     /// 2^63.
     pub end: u64,
@@ -42,13 +45,14 @@ pub struct Opened {
     pub cut: Option<u64>,
 }
 
-/// Puts the transaction with this header at this place into the index.
+/// Puts the transaction with this header at this place into the index and the numbers.
 fn keep_block<V: Volume, const N: usize>(
     volume: &mut V,
     window: &mut Window<N>,
     p: u64,
     header: &Header,
     index: &mut Index,
+    numbers: &mut Numbers,
 ) -> Result<(), OpenError>
     requires small { 42 ≤ N }
     requires within { p + header.now.length + 8 ≤ window.old.length }
@@ -57,17 +61,17 @@ fn keep_block<V: Volume, const N: usize>(
     requires before { KeptBefore index.old p }
     requires length { V.told → window.old.length ≡ length (main_bytes (V.log volume.old)) }
     requires shows { V.told →
-        Shows window.old.at window.old.count window.old.held (main_bytes (V.log volume.old)) }
+        Shows window.old.at window.old.count window.old.held window.old.ahead (main_bytes (V.log volume.old)) }
     requires bytes { V.told → AreBytes (main_bytes (V.log volume.old)) }
     ensures before { OnOk result (KeptBefore index.new (p + header.now.length + 8)) }
     ensures newest { OnOk result (newest_kept index.new ≡ header.now.tid) }
     ensures read { V.told →
         HeaderBegins (main_bytes (V.log volume.old)) p (newest_kept index.old) header.now →
-        Indexed (main_bytes (V.log volume.old)) p (newest_kept index.old) index.old →
+        Numbered (main_bytes (V.log volume.old)) p (newest_kept index.old) index.old numbers.old →
         BlockRead (main_bytes (V.log volume.old)) (p + header.now.length + 8) header.now.tid
-        index.new result }
+        index.new numbers.new result }
     ensures shows { V.told →
-        Shows window.new.at window.new.count window.new.held (main_bytes (V.log volume.old)) }
+        Shows window.new.at window.new.count window.new.held window.new.ahead (main_bytes (V.log volume.old)) }
     ensures length { window.new.length ≡ window.old.length }
     ensures same { V.log volume.new ≡ V.log volume.old }
     ensures counts { CountsReads (V.read_faults volume.old) (V.read_faults volume.new) result }
@@ -75,7 +79,7 @@ fn keep_block<V: Volume, const N: usize>(
 {
     let texts = header.user as u64 + header.description as u64 + header.extension as u64;
     let from = p + (HEADER_LENGTH as u64 + texts);
-    read_records(
+    let counted = read_records(
         volume,
         window,
         p,
@@ -88,6 +92,7 @@ fn keep_block<V: Volume, const N: usize>(
         serial: header.tid,
         at: p,
     })?;
+    numbers.add_counted(header.tid, header.status == PACKED, counted)?;
     Ok(())
 }
 
@@ -101,7 +106,7 @@ fn read_blocks<V: Volume, const N: usize>(
     requires long { 4 ≤ window.old.length }
     requires length { V.told → window.old.length ≡ length (main_bytes (V.log volume.old)) }
     requires shows { V.told →
-        Shows window.old.at window.old.count window.old.held (main_bytes (V.log volume.old)) }
+        Shows window.old.at window.old.count window.old.held window.old.ahead (main_bytes (V.log volume.old)) }
     requires bytes { V.told → AreBytes (main_bytes (V.log volume.old)) }
     requires magic { V.told → take 4 (main_bytes (V.log volume.old)) ≡ magic }
     ensures opens { V.told → Opens (main_bytes (V.log volume.old)) result }
@@ -112,6 +117,7 @@ fn read_blocks<V: Volume, const N: usize>(
     ensures write_faults { V.write_faults volume.new ≡ V.write_faults volume.old }
 {
     let mut index = Index::new(alloc);
+    let mut numbers = Numbers::new(alloc);
     let mut newest = Tid(0);
     let mut p = 4;
     'scan: loop {
@@ -119,6 +125,7 @@ fn read_blocks<V: Volume, const N: usize>(
             Head::Ends => {
                 return Ok(Opened {
                     index,
+                    numbers,
                     end: p,
                     cut: None,
                 });
@@ -126,13 +133,14 @@ fn read_blocks<V: Volume, const N: usize>(
             Head::Tail => {
                 return Ok(Opened {
                     index,
+                    numbers,
                     end: p,
                     cut: Some(p),
                 });
             }
             Head::Fault(field) => return Err(OpenError::BadRecord { at: p, field }),
             Head::Begun(header) => {
-                keep_block(volume, window, p, &header, &mut index)?;
+                keep_block(volume, window, p, &header, &mut index, &mut numbers)?;
                 newest = header.tid;
                 p = p + header.length + 8;
             }
@@ -156,11 +164,11 @@ fn has_magic<V: Volume, const N: usize>(
     requires long { 4 ≤ window.old.length }
     requires length { V.told → window.old.length ≡ length (main_bytes (V.log volume.old)) }
     requires shows { V.told →
-        Shows window.old.at window.old.count window.old.held (main_bytes (V.log volume.old)) }
+        Shows window.old.at window.old.count window.old.held window.old.ahead (main_bytes (V.log volume.old)) }
     ensures value { V.told →
         IfOk result (λ b. b ≡ bytes_eq (take 4 (main_bytes (V.log volume.old))) magic) }
     ensures shows { V.told →
-        Shows window.new.at window.new.count window.new.held (main_bytes (V.log volume.old)) }
+        Shows window.new.at window.new.count window.new.held window.new.ahead (main_bytes (V.log volume.old)) }
     ensures length { window.new.length ≡ window.old.length }
     ensures same { V.log volume.new ≡ V.log volume.old }
     ensures cause { HasCause (V.read_faults volume.old) (V.read_faults volume.new) result }
@@ -221,9 +229,10 @@ pub fn read_file<V: Volume>(alloc: Global, volume: &mut V) -> Result<Opened, Ope
 /// place; only a failed call of the volume or want of memory comes between. Bytes stand for at most
 /// one list, and what stands for one is not damaged, so each answer rules out the others.
 ///
-/// Memory is that of the index and of one window of 8192 bytes. Headers that lie close together
-/// share a read, the content of the records is skipped, and no file takes more than two reads for
-/// each transaction, two for each data record and one besides.
+/// Memory is that of the index, of the numbers and of one window of 65,536 bytes. Headers that lie
+/// close together share a read, a closing length is read together with the header behind it, long
+/// content is skipped, and no file takes more than two reads for each transaction, two for each data
+/// record and one besides.
 pub fn open_main<V: Volume>(alloc: Global, volume: &mut V) -> Result<Opened, OpenError>
     requires { V.told → main_bytes (V.log volume.old) ≢ [] }
     ensures opens { V.told → Opens (main_bytes (V.log volume.old)) result }

@@ -24,10 +24,10 @@ pub fn header_at<V: Volume, const N: usize>(
     requires within { at + 23 ≤ window.old.length }
     requires length { V.told → window.old.length ≡ length (main_bytes (V.log volume.old)) }
     requires shows { V.told →
-        Shows window.old.at window.old.count window.old.held (main_bytes (V.log volume.old)) }
+        Shows window.old.at window.old.count window.old.held window.old.ahead (main_bytes (V.log volume.old)) }
     ensures value { V.told → IfOk result (λ h. h ≡ header_of (drop at (main_bytes (V.log volume.old)))) }
     ensures shows { V.told →
-        Shows window.new.at window.new.count window.new.held (main_bytes (V.log volume.old)) }
+        Shows window.new.at window.new.count window.new.held window.new.ahead (main_bytes (V.log volume.old)) }
     ensures length { window.new.length ≡ window.old.length }
     ensures same { V.log volume.new ≡ V.log volume.old }
     ensures cause { HasCause (V.read_faults volume.old) (V.read_faults volume.new) result }
@@ -49,11 +49,11 @@ pub fn data_header_at<V: Volume, const N: usize>(
     requires within { at + 42 ≤ window.old.length }
     requires length { V.told → window.old.length ≡ length (main_bytes (V.log volume.old)) }
     requires shows { V.told →
-        Shows window.old.at window.old.count window.old.held (main_bytes (V.log volume.old)) }
+        Shows window.old.at window.old.count window.old.held window.old.ahead (main_bytes (V.log volume.old)) }
     ensures value { V.told →
         IfOk result (λ h. h ≡ data_header_of (drop at (main_bytes (V.log volume.old)))) }
     ensures shows { V.told →
-        Shows window.new.at window.new.count window.new.held (main_bytes (V.log volume.old)) }
+        Shows window.new.at window.new.count window.new.held window.new.ahead (main_bytes (V.log volume.old)) }
     ensures length { window.new.length ≡ window.old.length }
     ensures same { V.log volume.new ≡ V.log volume.old }
     ensures cause { HasCause (V.read_faults volume.old) (V.read_faults volume.new) result }
@@ -69,16 +69,19 @@ pub fn data_header_at<V: Volume, const N: usize>(
 #[tactic(auto, unfolding(fs_records::specs::Numbers::number_in))]
 pub fn number_behind<V: Volume, const N: usize>(
     volume: &mut V,
-    window: &Window<N>,
+    window: &mut Window<N>,
     at: u64,
     n: u64,
 ) -> Result<u64, StoreFault>
-    requires within { at + n + 8 ≤ window.now.length }
-    requires length { V.told → window.now.length ≡ length (main_bytes (V.log volume.old)) }
+    requires within { at + n + 8 ≤ window.old.length }
+    requires length { V.told → window.old.length ≡ length (main_bytes (V.log volume.old)) }
     requires shows { V.told →
-        Shows window.now.at window.now.count window.now.held (main_bytes (V.log volume.old)) }
+        Shows window.old.at window.old.count window.old.held window.old.ahead (main_bytes (V.log volume.old)) }
     ensures value { V.told →
         IfOk result (λ x. x ≡ number_in 8 (drop n (drop at (main_bytes (V.log volume.old))))) }
+    ensures shows { V.told →
+        Shows window.new.at window.new.count window.new.held window.new.ahead (main_bytes (V.log volume.old)) }
+    ensures length { window.new.length ≡ window.old.length }
     ensures same { V.log volume.new ≡ V.log volume.old }
     ensures cause { HasCause (V.read_faults volume.old) (V.read_faults volume.new) result }
     ensures uncounted { OnOk result (V.read_faults volume.new ≡ V.read_faults volume.old) }

@@ -1,15 +1,16 @@
 //! The data records of a transaction.
 
-ghost use Rattle.std.specs.Prelude.{◌≡◌, ℕ, ◌+◌, ◌-◌, ◌<◌, ◌≤◌, List, length, drop, IfOk, OnOk};
+ghost use Rattle.std.specs.Prelude.{◌≡◌, ℕ, ◌+◌, ◌-◌, ◌<◌, ◌≤◌, List, All, length, drop, IfOk, OnOk};
 ghost use Rattle.zb_base.specs.Counts.{HasCause};
 ghost use Rattle.zb_base.specs.Bytes.{AreBytes};
 ghost use Rattle.fs_records.specs.Blocks.{Known};
 ghost use Rattle.fs_records.specs.Rules.{record_at, payload_size, is_astray};
-ghost use Rattle.fs_records.specs.Places.{knows, AreBefore, ArePlacesOf};
+ghost use Rattle.fs_records.specs.Places.{knows, places_in, AreBefore, ArePlacesOf};
 ghost use Rattle.fs_recovery.specs.Reading.{Shows, CountsReads};
 ghost use Rattle.fs_recovery.specs.Records.{RecordGives, RecordsRead};
 ghost use Rattle.zb_volume.specs.Disk.{main_bytes};
 
+use crate::counted::{Counted, with_record};
 use crate::errors::OpenError;
 use crate::pieces::{data_header_at, number_behind};
 use crate::window::Window;
@@ -28,18 +29,21 @@ fn payload_size(header: &DataHeader) -> u64
 /// Whether a data record has a back pointer that leads to no record of its object that was read.
 fn is_astray<V: Volume, const N: usize>(
     volume: &mut V,
-    window: &Window<N>,
+    window: &mut Window<N>,
     q: u64,
     header: &DataHeader,
     index: &Index,
 ) -> Result<bool, StoreFault>
-    requires within { q + 42 + payload_size header.now ≤ window.now.length }
-    requires length { V.told → window.now.length ≡ length (main_bytes (V.log volume.old)) }
+    requires within { q + 42 + payload_size header.now ≤ window.old.length }
+    requires length { V.told → window.old.length ≡ length (main_bytes (V.log volume.old)) }
     requires shows { V.told →
-        Shows window.now.at window.now.count window.now.held (main_bytes (V.log volume.old)) }
+        Shows window.old.at window.old.count window.old.held window.old.ahead (main_bytes (V.log volume.old)) }
     ensures value { V.told →
         IfOk result (λ b. b ≡ is_astray (knows index.now.entries) header.now
         (drop q (main_bytes (V.log volume.old)))) }
+    ensures shows { V.told →
+        Shows window.new.at window.new.count window.new.held window.new.ahead (main_bytes (V.log volume.old)) }
+    ensures length { window.new.length ≡ window.old.length }
     ensures same { V.log volume.new ≡ V.log volume.old }
     ensures cause { HasCause (V.read_faults volume.old) (V.read_faults volume.new) result }
     ensures uncounted { OnOk result (V.read_faults volume.new ≡ V.read_faults volume.old) }
@@ -79,13 +83,13 @@ fn read_record<V: Volume, const N: usize>(
     requires within { end ≤ window.old.length }
     requires length { V.told → window.old.length ≡ length (main_bytes (V.log volume.old)) }
     requires shows { V.told →
-        Shows window.old.at window.old.count window.old.held (main_bytes (V.log volume.old)) }
+        Shows window.old.at window.old.count window.old.held window.old.ahead (main_bytes (V.log volume.old)) }
     ensures size { IfOk result (λ r. (0 < r.1) × (r.1 ≤ end - q)) }
     ensures value { V.told →
         RecordGives result q (record_at (knows index.now.entries) place tid (end - q)
         (drop q (main_bytes (V.log volume.old)))) }
     ensures shows { V.told →
-        Shows window.new.at window.new.count window.new.held (main_bytes (V.log volume.old)) }
+        Shows window.new.at window.new.count window.new.held window.new.ahead (main_bytes (V.log volume.old)) }
     ensures length { window.new.length ≡ window.old.length }
     ensures same { V.log volume.new ≡ V.log volume.old }
     ensures counts { CountsReads (V.read_faults volume.old) (V.read_faults volume.new) result }
@@ -116,7 +120,7 @@ fn read_record<V: Volume, const N: usize>(
 }
 
 /// Puts the data records from `from` to `end`, of the transaction with this number at this place,
-/// into the index.
+/// into the index, and counts the objects that they change.
 pub fn read_records<V: Volume, const N: usize>(
     volume: &mut V,
     window: &mut Window<N>,
@@ -125,31 +129,37 @@ pub fn read_records<V: Volume, const N: usize>(
     from: u64,
     end: u64,
     index: &mut Index,
-) -> Result<(), OpenError>
+) -> Result<Counted, OpenError>
     requires small { 42 ≤ N }
     requires order { from ≤ end }
     requires within { end ≤ window.old.length }
     requires length { V.told → window.old.length ≡ length (main_bytes (V.log volume.old)) }
     requires shows { V.told →
-        Shows window.old.at window.old.count window.old.held (main_bytes (V.log volume.old)) }
+        Shows window.old.at window.old.count window.old.held window.old.ahead (main_bytes (V.log volume.old)) }
     requires bytes { V.told → AreBytes (main_bytes (V.log volume.old)) }
     requires before { AreBefore index.old.entries tid from }
+    requires earlier { (oid : ℕ) → All (λ p. p.serial < tid) (places_in index.old.entries oid) }
     ensures before { OnOk result (AreBefore index.new.entries tid end) }
     ensures read { V.told → (known : List Known) → ArePlacesOf known index.old.entries →
         RecordsRead (main_bytes (V.log volume.old)) known place tid from end index.new.entries result }
     ensures transactions { index.new.transactions ≡ index.old.transactions }
     ensures shows { V.told →
-        Shows window.new.at window.new.count window.new.held (main_bytes (V.log volume.old)) }
+        Shows window.new.at window.new.count window.new.held window.new.ahead (main_bytes (V.log volume.old)) }
     ensures length { window.new.length ≡ window.old.length }
     ensures same { V.log volume.new ≡ V.log volume.old }
     ensures counts { CountsReads (V.read_faults volume.old) (V.read_faults volume.new) result }
     ensures write_faults { V.write_faults volume.new ≡ V.write_faults volume.old }
 {
     let mut q = from;
+    let mut counted = Counted {
+        changes: 0,
+        greatest: Oid(0),
+    };
     while q < end {
         let (oid, size) = read_record(volume, window, q, end, place, tid, index)?;
+        counted = with_record(counted, index, oid, tid);
         index.add(oid, Place { serial: tid, at: q })?;
         q += size;
     }
-    Ok(())
+    Ok(counted)
 }

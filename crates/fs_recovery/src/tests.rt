@@ -126,7 +126,7 @@ fn a_file_is_indexed(rt: HostRuntime) -> Result<(), Fail> {
     if volume.len(Area::Main)? == 0 {
         return Err(Fail::new("Main is empty"));
     }
-    let index = read_file(rt.alloc(), &mut volume)?.index;
+    let Opened { index, numbers, .. } = read_file(rt.alloc(), &mut volume)?;
     assert_eq!(rt;
         index.transactions(),
         [place(5, 4), place(6, 84)].as_slice()
@@ -136,6 +136,10 @@ fn a_file_is_indexed(rt: HostRuntime) -> Result<(), Fail> {
         [place(5, 31), place(6, 107)].as_slice()
     );
     assert_eq!(rt; index.places(Oid(2)).len(), 0);
+    let changes = [4, 5, 6, 7].map(|tid| numbers.changes_to(Tid(tid)));
+    assert_eq!(rt; changes, [0, 1, 2, 2]);
+    assert_eq!(rt; numbers.greatest_oid(), Oid(1));
+    assert_eq!(rt; numbers.pack_point(), Tid(0));
     Ok(())
 }
 
@@ -165,20 +169,20 @@ fn commit(file: &mut Vec<u8>, tid: u64, content: &[u8]) -> Result<(), AllocError
     file.extend_from_slice(&header.length.to_be_bytes())
 }
 
-// Long content is skipped: the length, a piece at the start, the closing length, a piece behind the
-// transaction, and the sync, behind two calls. A thousand transactions of 76 bytes take a read for
-// each 8192 bytes or a few more, and one where a piece ends in a transaction's closing length.
+// Long content is skipped: the length, a piece at the start, the closing length with all that stands
+// behind it, and the sync, behind two calls. A thousand transactions of 76 bytes take a read for each
+// 65,536 bytes, and a few where a piece ends in a transaction.
 #[test]
 fn calls_are_few(rt: HostRuntime) -> Result<(), Fail> {
     let alloc = rt.alloc();
     let mut long = Vec::from_slice(alloc, b"FS30")?;
-    commit(&mut long, 1, &vec![in alloc; 1; 50_000]?)?;
+    commit(&mut long, 1, &vec![in alloc; 1; 100_000]?)?;
     commit(&mut long, 2, b"a")?;
     let mut many = Vec::from_slice(alloc, b"FS30")?;
     for i in 0..1000u64 {
         commit(&mut many, i + 1, b"abc")?;
     }
-    for (file, number, fails) in [(&long, 7, true), (&long, 8, false), (&many, 40, false)] {
+    for (file, number, fails) in [(&long, 6, true), (&long, 7, false), (&many, 10, false)] {
         let mut volume = volume_of(alloc, file, number)?;
         let fault = open(alloc, &mut volume).err() == Some(OpenError::StoreFault);
         assert_eq!(rt; fault, fails, "call {number}");

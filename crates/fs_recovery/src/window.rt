@@ -1,14 +1,33 @@
 //! A piece of Main that was read.
 
-ghost use Rattle.std.specs.Prelude.{◌≡◌, ◌+◌, ◌-◌, ◌<◌, ◌≤◌, ◌^◌, length, take, drop, true, OnOk};
+ghost use Rattle.std.specs.Prelude.{◌≡◌, ◌+◌, ◌-◌, ◌<◌, ◌≤◌, ◌^◌, length, min, take, drop, true, OnOk};
 ghost use Rattle.zb_base.specs.Counts.{HasCause};
-ghost use Rattle.fs_recovery.specs.Reading.{Shows, Covers};
+ghost use Rattle.fs_recovery.specs.Reading.{Shows, Holds, Covers};
 ghost use Rattle.zb_volume.specs.Disk.{main_bytes};
 
 use zb_volume::{Area, StoreFault, Volume};
 
-/// Up to N bytes of Main, from a place on. Reading forward through it takes one read for each N
-/// bytes at most, and one for each place that lies past what it holds.
+/// How many bytes are read ahead: room for a closing length and the two headers that may stand behind
+/// it.
+const AHEAD: usize = 128;
+
+/// How many bytes are read at a place that lies further past what is held than that.
+const SHORT: usize = 512;
+
+/// A short piece of Main that was read ahead of the rest.
+#[derive(Drop)]
+pub struct Ahead {
+    /// From which place on bytes are held.
+    pub at: u64,
+    /// How many.
+    pub count: usize,
+    /// The bytes, and behind them anything.
+    pub held: [u8; AHEAD],
+}
+
+/// Up to N bytes of Main, from a place on, and a few that were read ahead of them. Reading forward
+/// through it takes one read for each N bytes at most, and a short one for each place that lies far
+/// past what it holds.
 #[derive(Drop)]
 pub struct Window<const N: usize> {
     /// How many bytes Main has.
@@ -19,8 +38,69 @@ pub struct Window<const N: usize> {
     pub count: usize,
     /// The bytes, and behind them anything.
     pub held: [u8; N],
+    /// A closing length that was looked at, and what stands behind it.
+    pub ahead: Ahead,
     ghost within: { count ≤ N },
     ghost limit: { length < 2 ^ 63 },
+}
+
+impl Ahead {
+    /// A piece that holds nothing yet.
+    fn new() -> Ahead
+        ensures { result.count ≡ 0 }
+    {
+        Ahead {
+            at: 0,
+            count: 0,
+            held: [0; AHEAD],
+        }
+    }
+
+    /// Whether the n bytes at a place are held.
+    fn covers(&self, at: u64, n: usize) -> bool
+        ensures covers { result ≡ true → Covers self.now.at self.now.count at n }
+        ensures within { result ≡ true → self.now.count ≤ 128 }
+    {
+        self.count <= AHEAD
+            && at >= self.at
+            && at - self.at <= self.count as u64
+            && n <= self.count - (at - self.at) as usize
+    }
+
+    /// Holds the bytes at a place, of which there are `room`, as many as there is room for.
+    fn fill<V: Volume>(&mut self, volume: &mut V, at: u64, room: u64) -> Result<(), StoreFault>
+        requires within { V.told → at + room ≤ length (main_bytes (V.log volume.old)) }
+        ensures holds { V.told →
+            Holds self.new.at self.new.count self.new.held (main_bytes (V.log volume.old)) }
+        ensures at { OnOk result (self.new.at ≡ at) }
+        ensures count { OnOk result (self.new.count ≡ min room 128) }
+        ensures same { V.log volume.new ≡ V.log volume.old }
+        ensures cause { HasCause (V.read_faults volume.old) (V.read_faults volume.new) result }
+        ensures uncounted { OnOk result (V.read_faults volume.new ≡ V.read_faults volume.old) }
+        ensures write_faults { V.write_faults volume.new ≡ V.write_faults volume.old }
+    {
+        let mut m = AHEAD;
+        if room < AHEAD as u64 {
+            m = room as usize;
+        }
+        self.count = 0;
+        self.at = at;
+        volume.read(Area::Main, at, &mut self.held[..m])?;
+        self.count = m;
+        Ok(())
+    }
+
+    /// The n bytes at a place, which are held.
+    fn piece(&self, at: u64, n: usize) -> &[u8]
+        requires covers { Covers self.now.at self.now.count at n }
+        requires within { self.now.count ≤ 128 }
+        ensures bytes { result.now ≡ take n (drop (at - self.now.at) self.now.held) }
+        ensures long { length result.now ≡ n }
+    {
+        let from = (at - self.at) as usize;
+        let all = &self.held[..];
+        &all[from..from + n]
+    }
 }
 
 impl<const N: usize> Window<N> {
@@ -28,6 +108,7 @@ impl<const N: usize> Window<N> {
     pub fn new(long: u64) -> Self
         requires { long < 2 ^ 63 }
         ensures empty { result.count ≡ 0 }
+        ensures ahead { result.ahead.count ≡ 0 }
         ensures length { result.length ≡ long }
     {
         Window {
@@ -35,7 +116,21 @@ impl<const N: usize> Window<N> {
             at: 0,
             count: 0,
             held: [0; N],
+            ahead: Ahead::new(),
         }
+    }
+
+    /// How many bytes to read at a place: as many as there is room for, or few where the place lies far
+    /// past what is held, since long content may stand between.
+    fn reach(&self, at: u64) -> usize
+        requires { 42 ≤ N }
+        ensures least { 42 ≤ result }
+        ensures most { result ≤ N }
+    {
+        if at >= self.at && (at - self.at).saturating_sub(self.count as u64) <= SHORT as u64 {
+            return N;
+        }
+        SHORT.min(N)
     }
 
     /// Whether the n bytes at a place are held.
@@ -47,16 +142,16 @@ impl<const N: usize> Window<N> {
             && n <= self.count - (at - self.at) as usize
     }
 
-    /// Holds the n bytes at a place, and as many behind them as there is room for, where it doesn't
-    /// hold them already.
+    /// Holds the n bytes at a place, and more behind them, where it doesn't hold them already.
     fn fill<V: Volume>(&mut self, volume: &mut V, at: u64, n: usize) -> Result<(), StoreFault>
-        requires small { n ≤ N }
+        requires small { n ≤ 42 }
+        requires room { 42 ≤ N }
         requires within { at + n ≤ self.old.length }
         requires length { V.told → self.old.length ≡ length (main_bytes (V.log volume.old)) }
         requires shows { V.told →
-            Shows self.old.at self.old.count self.old.held (main_bytes (V.log volume.old)) }
+            Shows self.old.at self.old.count self.old.held self.old.ahead (main_bytes (V.log volume.old)) }
         ensures shows { V.told →
-            Shows self.new.at self.new.count self.new.held (main_bytes (V.log volume.old)) }
+            Shows self.new.at self.new.count self.new.held self.new.ahead (main_bytes (V.log volume.old)) }
         ensures covers { OnOk result (Covers self.new.at self.new.count at n) }
         ensures length { self.new.length ≡ self.old.length }
         ensures same { V.log volume.new ≡ V.log volume.old }
@@ -67,8 +162,8 @@ impl<const N: usize> Window<N> {
         if self.covers(at, n) {
             return Ok(());
         }
-        let mut m = N;
-        if self.length - at < N as u64 {
+        let mut m = self.reach(at);
+        if self.length - at < m as u64 {
             m = (self.length - at) as usize;
         }
         self.count = 0;
@@ -89,22 +184,23 @@ impl<const N: usize> Window<N> {
         &all[from..from + n]
     }
 
-    /// Fills `out` with the bytes at a place. What it then holds goes on from there.
+    /// Fills `out` with the bytes at a place.
     pub fn read<V: Volume>(
         &mut self,
         volume: &mut V,
         at: u64,
         out: &mut [u8],
     ) -> Result<(), StoreFault>
-        requires small { length out.old ≤ N }
+        requires small { length out.old ≤ 42 }
+        requires room { 42 ≤ N }
         requires within { at + length out.old ≤ self.old.length }
         requires length { V.told → self.old.length ≡ length (main_bytes (V.log volume.old)) }
         requires shows { V.told →
-            Shows self.old.at self.old.count self.old.held (main_bytes (V.log volume.old)) }
+            Shows self.old.at self.old.count self.old.held self.old.ahead (main_bytes (V.log volume.old)) }
         ensures bytes { V.told →
             OnOk result (out.new ≡ take (length out.old) (drop at (main_bytes (V.log volume.old)))) }
         ensures shows { V.told →
-            Shows self.new.at self.new.count self.new.held (main_bytes (V.log volume.old)) }
+            Shows self.new.at self.new.count self.new.held self.new.ahead (main_bytes (V.log volume.old)) }
         ensures length { self.new.length ≡ self.old.length }
         ensures same { V.log volume.new ≡ V.log volume.old }
         ensures cause { HasCause (V.read_faults volume.old) (V.read_faults volume.new) result }
@@ -112,19 +208,33 @@ impl<const N: usize> Window<N> {
         ensures write_faults { V.write_faults volume.new ≡ V.write_faults volume.old }
     {
         let n = out.len();
+        if self.ahead.covers(at, n) {
+            out.copy_from_slice(self.ahead.piece(at, n));
+            return Ok(());
+        }
         self.fill(volume, at, n)?;
         out.copy_from_slice(self.piece(at, n));
         Ok(())
     }
 
-    /// Fills `out` with the bytes at a place, and keeps what it holds, wherever that is.
-    pub fn peek<V: Volume>(&self, volume: &mut V, at: u64, out: &mut [u8]) -> Result<(), StoreFault>
-        requires within { at + length out.old ≤ self.now.length }
-        requires length { V.told → self.now.length ≡ length (main_bytes (V.log volume.old)) }
+    /// Fills `out` with the bytes at a place, and keeps what it holds, wherever that is: where it
+    /// doesn't hold them, they are read with a few that stand behind them.
+    pub fn peek<V: Volume>(
+        &mut self,
+        volume: &mut V,
+        at: u64,
+        out: &mut [u8],
+    ) -> Result<(), StoreFault>
+        requires small { length out.old ≤ 128 }
+        requires within { at + length out.old ≤ self.old.length }
+        requires length { V.told → self.old.length ≡ length (main_bytes (V.log volume.old)) }
         requires shows { V.told →
-            Shows self.now.at self.now.count self.now.held (main_bytes (V.log volume.old)) }
+            Shows self.old.at self.old.count self.old.held self.old.ahead (main_bytes (V.log volume.old)) }
         ensures bytes { V.told →
             OnOk result (out.new ≡ take (length out.old) (drop at (main_bytes (V.log volume.old)))) }
+        ensures shows { V.told →
+            Shows self.new.at self.new.count self.new.held self.new.ahead (main_bytes (V.log volume.old)) }
+        ensures length { self.new.length ≡ self.old.length }
         ensures same { V.log volume.new ≡ V.log volume.old }
         ensures cause { HasCause (V.read_faults volume.old) (V.read_faults volume.new) result }
         ensures uncounted { OnOk result (V.read_faults volume.new ≡ V.read_faults volume.old) }
@@ -135,6 +245,12 @@ impl<const N: usize> Window<N> {
             out.copy_from_slice(self.piece(at, n));
             return Ok(());
         }
-        volume.read(Area::Main, at, out)
+        if self.ahead.covers(at, n) {
+            out.copy_from_slice(self.ahead.piece(at, n));
+            return Ok(());
+        }
+        self.ahead.fill(volume, at, self.length - at)?;
+        out.copy_from_slice(self.ahead.piece(at, n));
+        Ok(())
     }
 }

@@ -1,7 +1,8 @@
 -- What several writes or reads do to known bytes, as one.
 use Rattle.std.proofs.Common.{refl, [], append-nil, append_assoc, take-append-drop, ◌≡◌, ℕ, ◌+◌, ◌-◌, ◌≤◌, List, ◌++◌, length, take, drop, Option, sym, ap, ◌∙◌, subst, take-add, arith, length-append, length-take}
-use Rattle.std.proofs.lemmas.List.{take_rest}
-use Rattle.std.specs.Io.KnownBytes.{Appends, Consumes, Keeps}
+use Rattle.std.specs.Prelude.{Result, Ok, Err, IfOk}
+use Rattle.std.proofs.lemmas.List.{take_rest, take-take}
+use Rattle.std.specs.Io.KnownBytes.{Appends, Consumes, Keeps, WriteAppends}
 use Rattle.std.proofs.KnownBytes.{Appends-trans, Appends-kept, Appends-nil, Consumes-trans}
 use Rattle.zb_outside.specs.Written.{AppendsPrefix, AppendsBefore}
 
@@ -12,6 +13,11 @@ pub appends_more : (a b c : Option (List ℕ)) (bytes : List ℕ) (n m : ℕ) �
     → Appends b c (take m (take (length bytes - n) (drop n bytes))) → Appends a c (take (n + m) bytes)
 appends_more a b c bytes n m p q =
     subst (Appends a c) (ap (λ (l : List ℕ). take n bytes ++ take m l) (take_rest bytes n) ∙ sym (take-add n m bytes)) (Appends-trans a b c _ _ p q)
+
+-- what was taken of a piece was taken of the whole
+pub appends_within : {E : Type 0} (r : Result ℕ E) (a b : Option (List ℕ)) (bytes : List ℕ) (m : ℕ) → IfOk r (λ n. n ≤ length (take m bytes)) → WriteAppends a b r (take m bytes) → WriteAppends a b r bytes
+appends_within (Ok n) a b bytes m fits written = subst (Appends a b) (take-take n m bytes (omega (arith, fits, length-take m bytes))) written
+appends_within (Err e) a b bytes m fits kept = kept
 
 -- a front, and then nothing, is a front
 pub front_kept : (a b c : Option (List ℕ)) (bytes : List ℕ) (n : ℕ) → Appends a b (take n bytes) → Keeps b c → AppendsPrefix a c bytes

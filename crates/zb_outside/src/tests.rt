@@ -256,7 +256,7 @@ fn read_all_stops_at_its_limit_or_a_fault(rt: HostRuntime) -> Result<(), Fail> {
         (b"abc", 3, 3, Ok(3)),
         (&[7; 600], 0, 600, Ok(600)),
         (&[7; 600], 0, 599, Err(TooLong)),
-        (&[7; 600], 3, 600, Err(Fault)),
+        (&[7; 600], 2, 600, Err(Fault)),
     ] {
         let failing = vec![in rt.alloc(); failing]?;
         let mut source = MemorySource::new(text.to_vec(rt.alloc())?, failing);

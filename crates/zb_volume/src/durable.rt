@@ -33,6 +33,7 @@ pub fn write_and_sync<V: Volume>(
         StaysAs other (V.log volume.old) (V.log volume.new) }
     ensures limit { OnOk result (at + length bytes.now < 2 ^ 63) }
     ensures cause { HasCause (V.write_faults volume.old) (V.write_faults volume.new) result }
+    ensures uncounted { OnOk result (V.write_faults volume.new ≡ V.write_faults volume.old) }
     ensures read_faults { V.read_faults volume.new ≡ V.read_faults volume.old }
 {
     volume.write_at(area, at, bytes)?;
@@ -56,6 +57,7 @@ pub fn cut_and_sync<V: Volume>(volume: &mut V, area: Area, length: u64) -> Resul
     ensures elsewhere { V.told → (other : Area) → same_area area other ≡ false →
         StaysAs other (V.log volume.old) (V.log volume.new) }
     ensures cause { HasCause (V.write_faults volume.old) (V.write_faults volume.new) result }
+    ensures uncounted { OnOk result (V.write_faults volume.new ≡ V.write_faults volume.old) }
     ensures read_faults { V.read_faults volume.new ≡ V.read_faults volume.old }
 {
     volume.cut(area, length)?;
@@ -76,6 +78,7 @@ pub fn sync_and_replace<V: Volume>(volume: &mut V) -> Result<(), StoreFault>
     ensures any_moment { V.told → LeavesOnly Area.Main (OldOrSide (V.log volume.old))
         (V.log volume.old) (V.log volume.new) }
     ensures cause { HasCause (V.write_faults volume.old) (V.write_faults volume.new) result }
+    ensures uncounted { OnOk result (V.write_faults volume.new ≡ V.write_faults volume.old) }
     ensures read_faults { V.read_faults volume.new ≡ V.read_faults volume.old }
 {
     volume.sync(Area::Side)?;

@@ -24,9 +24,9 @@ use std::rt::Files;
 /// No file has a descriptor below 3 (`fcntl` with `F_DUPFD_CLOEXEC`), so that what is written to a
 /// standard stream that was closed doesn't come into it.
 ///
-/// - A read gives what was written: `lseek` with `read`, and `lseek` with `write`.
+/// - A read gives what was written: `pread` and `pwrite`.
 /// - Between two syncs each byte of a file is after a crash as at the last one or as some write since
-///   left it, or 0 past the old end, and its length is any since then: `write` and `ftruncate`, of
+///   left it, or 0 past the old end, and its length is any since then: `pwrite` and `ftruncate`, of
 ///   which the host may have made any part in any order.
 /// - After a sync a crash leaves what a read gives: `fsync` of the file. Where that answers an error,
 ///   the host may have forgotten what it couldn't write; so no later sync or replace is tried, and
@@ -35,8 +35,7 @@ use std::rt::Files;
 ///   answered `Ok` it is kept: `fsync` of the folder follows. Side is empty: its file is gone, and the
 ///   next call makes one.
 ///
-/// A read or a write of any size is one call of the host and one to find the place, as long as the
-/// host takes it whole. Any error of the host is a fault of that call. A process that doesn't ask for
+/// A read or a write of any size is one call of the host, as long as the host takes it whole. Any error of the host is a fault of that call. A process that doesn't ask for
 /// the lock may not touch the files.
 #[derive(Drop)]
 pub struct HostVolume<R: Files> {

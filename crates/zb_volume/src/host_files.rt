@@ -5,8 +5,8 @@ ghost use Rattle.std.specs.Prelude.{◌+◌, ◌<◌, ◌^◌, length, IfOk, OnO
 use crate::Area;
 use std::alloc::{AllocError, Global};
 use std::fs::{File, OpenFile, OpenOptions, Permissions};
-use std::io::{ErrorKind, Read, Seek, SeekFrom, Write};
-use std::os::unix::fs::MetadataExt;
+use std::io::ErrorKind;
+use std::os::unix::fs::{FileExt, MetadataExt};
 use std::path::Path;
 use std::rt::Files;
 use std::{fs, io};
@@ -14,16 +14,30 @@ use std::{fs, io};
 // The greatest length of a file in bytes.
 const MAX_LENGTH: u64 = (1 << 63) - 1;
 
-/// An open file that can be locked for the one that opened it.
+/// An open file that can be locked for the one that opened it, and is read and written at a place.
 pub trait LockFile {
     /// Locks the whole file until it is closed, or answers an error at once where another open of the
     /// same file has locked it.
     fn lock_alone(&self) -> io::Result<()>;
+
+    /// Fills `out` with the bytes from a place on, or answers an error where there are fewer.
+    fn fill_at(&self, at: u64, out: &mut [u8]) -> io::Result<()>;
+
+    /// Puts all the bytes into the file from a place on.
+    fn put_at(&self, at: u64, bytes: &[u8]) -> io::Result<()>;
 }
 
 impl LockFile for File {
     fn lock_alone(&self) -> io::Result<()> {
         Ok(self.try_lock()?)
+    }
+
+    fn fill_at(&self, at: u64, out: &mut [u8]) -> io::Result<()> {
+        self.read_exact_at(out, at)
+    }
+
+    fn put_at(&self, at: u64, bytes: &[u8]) -> io::Result<()> {
+        self.write_all_at(bytes, at)
     }
 }
 
@@ -80,7 +94,10 @@ where
     Ok(file)
 }
 
-impl<R: Files> AreaFile<R> {
+impl<R: Files> AreaFile<R>
+where
+    R::File: LockFile,
+{
     fn permissions(&self) -> io::Result<Permissions> {
         let Some(file) = &self.file else {
             return Err(invalid());
@@ -101,25 +118,23 @@ impl<R: Files> AreaFile<R> {
         Ok(length)
     }
 
-    fn read(&mut self, at: u64, out: &mut [u8]) -> io::Result<()> {
-        let Some(file) = &mut self.file else {
-            return Err(invalid());
-        };
-        file.seek(SeekFrom::Start(at))?;
-        file.read_exact(out)
+    fn read(&self, at: u64, out: &mut [u8]) -> io::Result<()> {
+        match &self.file {
+            Some(file) => file.fill_at(at, out),
+            None => Err(invalid()),
+        }
     }
 
-    fn write(&mut self, at: u64, bytes: &[u8]) -> io::Result<()>
+    fn write(&self, at: u64, bytes: &[u8]) -> io::Result<()>
         ensures { OnOk result (at + length bytes.now < 2 ^ 63) }
     {
         if bytes.len() as u64 > MAX_LENGTH || at > MAX_LENGTH - bytes.len() as u64 {
             return Err(invalid());
         }
-        let Some(file) = &mut self.file else {
-            return Err(invalid());
-        };
-        file.seek(SeekFrom::Start(at))?;
-        file.write_all(bytes)
+        match &self.file {
+            Some(file) => file.put_at(at, bytes),
+            None => Err(invalid()),
+        }
     }
 
     fn cut(&self, length: u64) -> io::Result<()> {

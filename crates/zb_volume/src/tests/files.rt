@@ -1,6 +1,6 @@
 // A volume over real files, and the calls of the host that it makes.
 use crate::tests::recorder::HostCall::{
-    Duplicate, Length, Lock, Read, Rename, Seek, SetLength, SyncFile, SyncFolder, Write,
+    Duplicate, Length, Lock, ReadAt, Rename, SetLength, SyncFile, SyncFolder, WriteAt,
 };
 use crate::tests::recorder::{HostCall, Log, Recorder};
 use crate::tests::steps::{Step, content, make, remove_files};
@@ -79,12 +79,8 @@ const CALLS: &[CallRow] = &[
             Duplicate, Lock, Length, Length, Duplicate, Lock, Length, Length, SyncFolder, Length,
         ],
     ),
-    (
-        Step::Write(MAIN, 0, &[7; 9000]),
-        true,
-        &[Length, Seek, Write],
-    ),
-    (Step::Read(MAIN, 0, 9000), true, &[Length, Seek, Read]),
+    (Step::Write(MAIN, 0, &[7; 9000]), true, &[Length, WriteAt]),
+    (Step::Read(MAIN, 0, 9000), true, &[Length, ReadAt]),
     (Step::Cut(MAIN, 10), true, &[Length, SetLength]),
     (Step::Sync(MAIN), true, &[SyncFile]),
     (Step::Replace, true, &[Rename, SyncFolder]),

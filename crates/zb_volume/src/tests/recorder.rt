@@ -13,6 +13,8 @@ pub enum HostCall {
     Seek,
     Read,
     Write,
+    ReadAt,
+    WriteAt,
     SetLength,
     Length,
     Duplicate,
@@ -135,6 +137,16 @@ impl<'a> LockFile for Recorded<'a> {
     fn lock_alone(&self) -> io::Result<()> {
         self.log.add(HostCall::Lock)?;
         self.file.lock_alone()
+    }
+
+    fn fill_at(&self, at: u64, out: &mut [u8]) -> io::Result<()> {
+        self.log.add(HostCall::ReadAt)?;
+        self.file.fill_at(at, out)
+    }
+
+    fn put_at(&self, at: u64, bytes: &[u8]) -> io::Result<()> {
+        self.log.add(HostCall::WriteAt)?;
+        self.file.put_at(at, bytes)
     }
 }
 

@@ -2,12 +2,12 @@ use Rattle.std.proofs.Common.{◌≡◌, ◌<◌, [], length, ℕ, List, refl, s
 use Rattle.zb_ids.specs.Tids.{stamp_number}
 use Rattle.zb_model.specs.declared.new_transaction.NewTransaction.{NewTransaction}
 use Rattle.zb_model.specs.Creation.{first_transaction as first_by}
-use Rattle.fs_records.specs.declared.place.Place.{Place}
 use Rattle.fs_records.specs.Blocks.{block_text}
 use Rattle.fs_records.specs.Writing.{block_of}
 use Rattle.file_store.specs.First.{as_new, file_with}
-use Rattle.file_store.proofs.Creating.{Nexts, text_behind_16, committed_is, empty_is, first_stands}
+use Rattle.file_store.proofs.Creating.{Nexts, text_behind_16, committed_is, first_stands}
 use Rattle.file_store.proofs.first.first_file.Goals as goal
+use Rattle.fs_records.specs.Places.{PlacesKept}
 
 -- what is written is the first transaction
 new_is : (c : goal.After-drop-new-5) → c.in_ok-new.new ≡ as_new (first_by (stamp_number c.args.clock))
@@ -17,7 +17,7 @@ text_is : (c : goal.After-drop-new-5) → c.in_ok-vote.vote ≡ block_text 4 (bl
 text_is c =
     c.in_ok-vote.ensures.text
     ∙ ap (λ (n : NewTransaction). block_text 4 (block_of 99 c.new-index.result.entries n)) (new_is c)
-    ∙ ap (λ (es : List (ℕ × List Place)). block_text 4 (block_of 99 es (as_new (first_by (stamp_number c.args.clock))))) c.new-index.ensures.objects
+    ∙ ap (λ (es : List (ℕ × PlacesKept)). block_text 4 (block_of 99 es (as_new (first_by (stamp_number c.args.clock))))) c.new-index.ensures.objects
 
 file_is : (c : goal.After-drop-new-5) → c.in_ok-file.file ≡ file_with (first_by (stamp_number c.args.clock))
 file_is c = c.in_ok-file.ensures ∙ committed_is (first_by (stamp_number c.args.clock)) c.in_ok-vote.vote _ (text_is c) refl
@@ -31,5 +31,5 @@ returns-clause-value c = file_is c
 pub returns-clause-stands : goal.returns-clause-stands
 returns-clause-stands c =
     first_stands (stamp_number c.args.clock) c.new-index.result c.in_ok-file.file
-    (empty_is c.new-index.result c.new-index.ensures.objects c.new-index.ensures.transactions)
+    c.new-index.ensures.objects c.new-index.ensures.transactions
     (subst (λ (n : NewTransaction). Nexts c.new-index.result n) (new_is c) c.in_ok-vote.ensures.block) (file_is c)

@@ -2,7 +2,7 @@ use Rattle.std.proofs.Common.{List, ap}
 use Rattle.zb_volume.specs.Calls.{Event}
 use Rattle.zb_volume.specs.declared.areas.Area.TheVariants.{Main}
 use Rattle.zb_volume.specs.Disk.{seen}
-use Rattle.file_store.proofs.Opens.{fresh_kept, fresh_read, images_still}
+use Rattle.file_store.proofs.Opens.{fresh_kept, fresh_read, images_still, stays_still}
 use Rattle.file_store.proofs.opening.recover.Goals as goal
 
 pub returns-then-made-clause-content : goal.returns-then-made-clause-content
@@ -17,3 +17,6 @@ returns-then-made-clause-whole g c = λ told.
 
 pub returns-then-made-clause-images : goal.returns-then-made-clause-images
 returns-then-made-clause-images g c = λ told. images_still (g.V.Volume.log c.args.volume.now) (g.V.Volume.log c.read_file.new.volume) c.read_file.ensures.same
+
+pub returns-then-made-clause-side : goal.returns-then-made-clause-side
+returns-then-made-clause-side g c = λ told. stays_still (g.V.Volume.log c.args.volume.now) (g.V.Volume.log c.read_file.new.volume) c.read_file.ensures.same

@@ -1,5 +1,5 @@
 use Rattle.std.proofs.Common.{◌≡◌, ◌≤◌, ◌<◌, ◌^◌, ◌-◌}
-use Rattle.fs_records.specs.Scan.{Indexed}
+use Rattle.fs_recovery.specs.Counting.{Numbered}
 use Rattle.fs_recovery.specs.Reading.{Shows}
 use Rattle.fs_recovery.specs.Opens.{newest_kept, KeptBefore}
 use Rattle.fs_recovery.proofs.opening.read_blocks.Given as goal
@@ -13,11 +13,11 @@ invariant-scan g l = record {
   below : l.newest < 2 ^ 64 - 1;
   before : KeptBefore l.index l.p;
   length : l.window.length ≡ l.fn.window.length;
-  shows : g.V.Volume.told → Shows l.window.at l.window.count l.window.held (main_bytes (g.V.Volume.log l.fn.volume));
+  shows : g.V.Volume.told → Shows l.window.at l.window.count l.window.held l.window.ahead (main_bytes (g.V.Volume.log l.fn.volume));
   same : g.V.Volume.log l.volume ≡ g.V.Volume.log l.fn.volume;
   counts : g.V.Volume.read_faults l.volume ≡ g.V.Volume.read_faults l.fn.volume;
   write_faults : g.V.Volume.write_faults l.volume ≡ g.V.Volume.write_faults l.fn.volume;
-  so_far : g.V.Volume.told → Indexed (main_bytes (g.V.Volume.log l.fn.volume)) l.p l.newest l.index;
+  so_far : g.V.Volume.told → Numbered (main_bytes (g.V.Volume.log l.fn.volume)) l.p l.newest l.index l.numbers;
 }
 
 abbrev pub decreases-scan : goal.decreases-scan

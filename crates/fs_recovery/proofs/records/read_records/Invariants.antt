@@ -1,7 +1,7 @@
 use Rattle.std.proofs.Common.{◌≡◌, ◌≤◌, ◌-◌, List}
 use Rattle.fs_records.specs.Blocks.{Known}
 use Rattle.fs_records.specs.Places.{AreBefore, ArePlacesOf}
-use Rattle.fs_records.specs.Scan.{RecordsIndexed}
+use Rattle.fs_recovery.specs.Counting.{RecordsCounted}
 use Rattle.fs_recovery.specs.Reading.{Shows}
 use Rattle.fs_recovery.proofs.records.read_records.Given as goal
 use Rattle.zb_volume.specs.Disk.{main_bytes}
@@ -9,14 +9,16 @@ use Rattle.zb_volume.specs.Disk.{main_bytes}
 abbrev pub invariant-loop-q : goal.invariant-loop-q
 invariant-loop-q g l = record {
   order : l.q ≤ l.end;
+  behind : l.from ≤ l.q;
+  few : l.counted.changes ≤ l.q - l.from;
   before : AreBefore l.index.entries l.tid l.q;
   transactions : l.index.transactions ≡ l.fn.index.transactions;
   length : l.window.length ≡ l.fn.window.length;
-  shows : g.V.Volume.told → Shows l.window.at l.window.count l.window.held (main_bytes (g.V.Volume.log l.fn.volume));
+  shows : g.V.Volume.told → Shows l.window.at l.window.count l.window.held l.window.ahead (main_bytes (g.V.Volume.log l.fn.volume));
   same : g.V.Volume.log l.volume ≡ g.V.Volume.log l.fn.volume;
   counts : g.V.Volume.read_faults l.volume ≡ g.V.Volume.read_faults l.fn.volume;
   write_faults : g.V.Volume.write_faults l.volume ≡ g.V.Volume.write_faults l.fn.volume;
-  read : g.V.Volume.told → (known : List Known) → ArePlacesOf known l.fn.index.entries → RecordsIndexed (main_bytes (g.V.Volume.log l.fn.volume)) known l.place l.tid l.from l.q l.index.entries;
+  read : g.V.Volume.told → (known : List Known) → ArePlacesOf known l.fn.index.entries → RecordsCounted (main_bytes (g.V.Volume.log l.fn.volume)) known l.place l.tid l.from l.q l.index.entries l.counted;
 }
 
 abbrev pub decreases-loop-q : goal.decreases-loop-q

@@ -1,10 +1,31 @@
-use Rattle.std.proofs.Common.{length, arith}
+use Rattle.std.proofs.Common.{◌≡◌, ℕ, None, ap, length, arith}
 use Rattle.zb_volume.specs.declared.areas.Area.TheVariants.{Main}
 use Rattle.zb_volume.specs.Disk.{seen}
 use Rattle.file_store.specs.declared.staged.Staged.{Staged}
 use Rattle.file_store.specs.Kept.{IsVotedIn, HasRoomForTally}
+use Rattle.fs_records.specs.Places.{places_in}
+use Rattle.file_store.specs.Staging.{StagedKept}
 use Rattle.file_store.proofs.Commits.{staged_some, none_there, abort_moments, aborted}
 use Rattle.file_store.proofs.store.FileStoreStore.abort.Goals as goal
+
+-- what is left once what is staged is dropped
+abbrev dropped : StagedKept → StagedKept → Type 0
+dropped old new = new ≡ record old { staged = None }
+
+staged_of : (old new : StagedKept) → dropped old new → new.staged ≡ None
+staged_of old new is = ap (λ (i : StagedKept). i.staged) is
+
+end_of : (old new : StagedKept) → dropped old new → new.end ≡ old.end
+end_of old new is = ap (λ (i : StagedKept). i.end) is
+
+newest_of : (old new : StagedKept) → dropped old new → new.newest ≡ old.newest
+newest_of old new is = ap (λ (i : StagedKept). i.newest) is
+
+places_of : (old new : StagedKept) → dropped old new → (oid : ℕ) → places_in new.kept.entries oid ≡ places_in old.kept.entries oid
+places_of old new is oid = ap (λ (i : StagedKept). places_in i.kept.entries oid) is
+
+starts_of : (old new : StagedKept) → dropped old new → new.kept.transactions ≡ old.kept.transactions
+starts_of old new is = ap (λ (i : StagedKept). i.kept.transactions) is
 
 pub abort-requires-clause-within : goal.abort-requires-clause-within
 abort-requires-clause-within g c = λ told.
@@ -26,12 +47,12 @@ invariant_of-self-2 g c =
     let s = staged_some self.index.staged _ c.requires.voted in
     let t = c.take_back.ensures in
     record {
-      room = none_there Staged (λ x. HasRoomForTally self.numbers (length x.oids)) c.take_back.new.self.staged t.staged;
+      room = none_there Staged (λ x. HasRoomForTally self.numbers (length x.records)) c.take_back.new.self.staged (staged_of self.index c.take_back.new.self t);
       settled = λ told whole. c.in_ok-abort.ensures.settled told;
       kept = λ told whole.
           (aborted (g.V.Volume.log self.volume) self.index self.numbers (self.settled told c.requires.whole) (self.kept told c.requires.whole) (g.V.Volume.log c.abort.new.volume) c.take_back.new.self s.0 c.end.result s.1
-          (self.voted told c.requires.whole s.0 s.1) c.end.ensures.value (c.in_ok-abort.ensures.content told) t.staged t.end t.newest t.shown_places t.shown_starts).0;
-      voted = λ told whole. none_there Staged (λ x. IsVotedIn (seen (g.V.Volume.log c.abort.new.volume) Main) x c.take_back.new.self) c.take_back.new.self.staged t.staged;
+          (self.voted told c.requires.whole s.0 s.1) c.end.ensures.value (c.in_ok-abort.ensures.content told) (staged_of self.index c.take_back.new.self t) (end_of self.index c.take_back.new.self t) (newest_of self.index c.take_back.new.self t) (places_of self.index c.take_back.new.self t) (starts_of self.index c.take_back.new.self t)).0;
+      voted = λ told whole. none_there Staged (λ x. IsVotedIn (seen (g.V.Volume.log c.abort.new.volume) Main) x c.take_back.new.self) c.take_back.new.self.staged (staged_of self.index c.take_back.new.self t);
     }
 
 pub returns-clause-list : goal.returns-clause-list
@@ -40,7 +61,7 @@ returns-clause-list g c = λ told.
     let s = staged_some self.index.staged _ c.requires.voted in
     let t = c.take_back.ensures in
     (aborted (g.V.Volume.log self.volume) self.index self.numbers (self.settled told c.requires.whole) (self.kept told c.requires.whole) (g.V.Volume.log c.abort.new.volume) c.take_back.new.self s.0 c.end.result s.1
-    (self.voted told c.requires.whole s.0 s.1) c.end.ensures.value (c.in_ok-abort.ensures.content told) t.staged t.end t.newest t.shown_places t.shown_starts).1
+    (self.voted told c.requires.whole s.0 s.1) c.end.ensures.value (c.in_ok-abort.ensures.content told) (staged_of self.index c.take_back.new.self t) (end_of self.index c.take_back.new.self t) (newest_of self.index c.take_back.new.self t) (places_of self.index c.take_back.new.self t) (starts_of self.index c.take_back.new.self t)).1
 
 pub returns-clause-any_moment : goal.returns-clause-any_moment
 returns-clause-any_moment g c = λ told.

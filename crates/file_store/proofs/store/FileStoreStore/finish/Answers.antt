@@ -1,10 +1,9 @@
-use Rattle.std.proofs.Common.{ap, length, arith}
+use Rattle.std.proofs.Common.{ap, length, ◌∙◌, arith}
 use Rattle.zb_volume.specs.declared.areas.Area.TheVariants.{Main}
 use Rattle.zb_volume.specs.Disk.{seen}
 use Rattle.zb_model.specs.declared.data.Transaction.{Transaction}
 use Rattle.file_store.specs.declared.staged.Staged.{Staged}
 use Rattle.file_store.specs.Kept.{IsVotedIn, HasRoomForTally}
-use Rattle.file_store.specs.Staging.{StagedKept}
 use Rattle.file_store.proofs.Commits.{staged_some, some_mapped, none_there, finish_moments, finished}
 use Rattle.file_store.proofs.store.FileStoreStore.finish.Goals as goal
 
@@ -26,14 +25,14 @@ pub invariant_of-self-2 : goal.invariant_of-self-2
 invariant_of-self-2 g c =
     let self = c.args.self.now in
     let s = staged_some self.index.staged _ c.requires.voted in
-    let k = c.keep.ensures s.0 s.1 in
-    let none = ap (λ (i : StagedKept). i.staged) k in
+    let k = c.keep.ensures.kept s.0 s.1 in
+    let none = c.keep.ensures.staged in
     record {
-      room = none_there Staged (λ x. HasRoomForTally c.count_staged.new.numbers (length x.oids)) c.keep.new.self.staged none;
+      room = none_there Staged (λ x. HasRoomForTally c.count_staged.new.numbers (length x.records)) c.keep.new.self.staged none;
       settled = λ told whole. c.in_ok-finish.ensures.settled told;
       kept = λ told whole.
           finished (g.V.Volume.log self.volume) self.index self.numbers (self.settled told c.requires.whole) (self.kept told c.requires.whole) (g.V.Volume.log c.finish.new.volume) c.keep.new.self c.count_staged.new.numbers s.0 c.end.result s.1
-          (self.voted told c.requires.whole s.0 s.1) c.end.ensures.value (c.in_ok-finish.ensures.content told) k (c.count_staged.ensures s.0 s.1);
+          (self.voted told c.requires.whole s.0 s.1) c.end.ensures.value (c.in_ok-finish.ensures.content told) none k (c.count_staged.ensures s.0 s.1);
       voted = λ told whole. none_there Staged (λ x. IsVotedIn (seen (g.V.Volume.log c.finish.new.volume) Main) x c.keep.new.self) c.keep.new.self.staged none;
     }
 
@@ -43,3 +42,8 @@ returns-clause-any_moment g c = λ told t is.
     let s = some_mapped Staged Transaction self.index.staged _ t is in
     finish_moments (g.V.Volume.log self.volume) self.index self.numbers (self.settled told c.requires.whole) (self.kept told c.requires.whole) (g.V.Volume.log c.finish.new.volume) s.0 t c.end.result s.1
     (self.voted told c.requires.whole s.0 s.1) c.end.ensures.value s.2 (c.finish.ensures.any_moment told (self.settled told c.requires.whole))
+
+pub returns-clause-number : goal.returns-clause-number
+returns-clause-number g c = λ t is.
+    let s = some_mapped Staged Transaction c.args.self.now.index.staged _ t is in
+    (c.keep.ensures.kept s.0 s.1).newest ∙ ap (λ (x : Transaction). x.tid) s.2

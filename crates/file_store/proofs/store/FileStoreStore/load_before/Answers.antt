@@ -1,13 +1,19 @@
-use Rattle.std.proofs.Common.{ℕ, List}
+use Rattle.std.proofs.Common.{ℕ, List, refl, arith}
 use Rattle.zb_volume.specs.declared.areas.Area.TheVariants.{Main}
 use Rattle.zb_volume.specs.Disk.{seen}
 use Rattle.zb_model.specs.declared.data.Transaction.{Transaction}
 use Rattle.zb_model.specs.Queries.{found_below}
-use Rattle.file_store.proofs.Shown.{by_places, places_are, still}
+use Rattle.file_store.proofs.Shown.{by_places, end_within, places_are, still}
 use Rattle.file_store.proofs.store.FileStoreStore.load_before.Goals as goal
 
 pub read_before-requires-clause-places : goal.read_before-requires-clause-places
 read_before-requires-clause-places g c = λ told. let self = c.args.self.now in places_are (seen (g.V.Volume.log self.volume) Main) self.index self.numbers (self.kept told c.requires) c.args.oid c.places.result.now c.places.ensures.value
+
+pub read_before-requires-clause-end : goal.read_before-requires-clause-end
+read_before-requires-clause-end g c = λ told.
+    let self = c.args.self.now in
+    let main = seen (g.V.Volume.log self.volume) Main in
+    omega (arith, c.end-end.ensures.value, end_within main self.index self.numbers (self.kept told c.requires) self.index.staged refl (self.voted told c.requires))
 
 pub invariant_of-self : goal.invariant_of-self
 invariant_of-self g c =

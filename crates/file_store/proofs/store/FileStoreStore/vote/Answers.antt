@@ -29,7 +29,7 @@ leaves g c = λ told.
     let free = none_staged self.index.staged _ c.requires.free in
     let p = c.in_ok-text.ensures.prepared in
     voted (g.V.Volume.log self.volume) self.index self.numbers (self.settled told c.requires.whole) (self.kept told c.requires.whole) (g.V.Volume.log c.vote.new.volume) c.prepare.new.index c.prepare.new.numbers c.args.new.now c.end.result c.in_ok-text.text c.as_slice.result.now free p c.end.ensures.value c.as_slice.ensures.value c.as_slice.ensures.bytes
-    c.in_ok-text.ensures.next (c.requires.votable told) c.prepare.ensures.end c.prepare.ensures.newest c.prepare.ensures.shown_places c.prepare.ensures.shown_starts c.prepare.ensures.tallies c.prepare.ensures.greatest c.prepare.ensures.pack_point (c.in-Ok.ensures.content told)
+    c.in_ok-text.ensures.next (c.requires.votable told) c.prepare.ensures.end c.prepare.ensures.newest c.prepare.ensures.places c.prepare.ensures.starts c.prepare.ensures.tallies c.prepare.ensures.greatest c.prepare.ensures.pack_point (c.in-Ok.ensures.content told)
 
 pub invariant_of-self-2 : goal.invariant_of-self-2
 invariant_of-self-2 g c =
@@ -49,7 +49,7 @@ left g c = λ told.
     let free = none_staged self.index.staged _ c.requires.free in
     let p = c.in_ok-text.ensures.prepared in
     voted (g.V.Volume.log self.volume) self.index self.numbers (self.settled told c.requires.whole) (self.kept told c.requires.whole) (g.V.Volume.log c.vote.new.volume) c.prepare.new.index c.prepare.new.numbers c.args.new.now c.end.result c.in_ok-text.text c.as_slice.result.now free p c.end.ensures.value c.as_slice.ensures.value c.as_slice.ensures.bytes
-    c.in_ok-text.ensures.next (c.requires.votable told) c.prepare.ensures.end c.prepare.ensures.newest c.prepare.ensures.shown_places c.prepare.ensures.shown_starts c.prepare.ensures.tallies c.prepare.ensures.greatest c.prepare.ensures.pack_point (c.in-Ok.ensures.content told)
+    c.in_ok-text.ensures.next (c.requires.votable told) c.prepare.ensures.end c.prepare.ensures.newest c.prepare.ensures.places c.prepare.ensures.starts c.prepare.ensures.tallies c.prepare.ensures.greatest c.prepare.ensures.pack_point (c.in-Ok.ensures.content told)
 
 pub returns-clause-voted : goal.returns-clause-voted
 returns-clause-voted g c = λ told.

@@ -1,0 +1,108 @@
+#!/bin/bash
+# Times the built program against other programs of this machine, in one run, and prints one table of ratios. It is no part
+# of the gate. Give it the built program, which stands at crates/zodb/out/zodb after `rt run`, and a folder on the disk that
+# is to be measured:
+#
+#     bench/run.sh crates/zodb/out/zodb /tmp
+#
+# It needs bash, awk, head and cc; sqlite3 and strace where they are there. What isn't there is skipped, and it says so. Sizes
+# can be set: TRANSACTIONS (1300000), COMMITS (300), LOADS (20000), LINES (100000), TIMES (3, of which the least is taken).
+set -u
+program=$(realpath "${1:?the built program}")
+folder=$(mktemp -d "${2:-/tmp}/zodb-bench.XXXXXX")
+trap 'rm -rf "$folder"' EXIT
+here=$(dirname "$(realpath "$0")")
+transactions=${TRANSACTIONS:-1300000} commits=${COMMITS:-300} loads=${LOADS:-20000} lines=${LINES:-100000} times=${TIMES:-3}
+for name in measure make_file walk pairs loads; do
+    cc -O2 -o "$folder/$name" "$here/$name.c" || { echo "cc doesn't compile $name.c"; exit 1; }
+done
+cd "$folder" || exit 1
+: >empty
+
+# seconds and KiB of a command with a file as its standard input
+cost() { ./measure "$times" "$@"; }
+row() { awk -v name="$1" -v ours="$2" -v than="$3" -v theirs="$4" 'BEGIN {
+    split(ours, a, " "); split(theirs, b, " ");
+    printf "%-38s %9.3f s   %-34s %9.3f s   %6.2f\n", name, a[1], than, b[1], a[1] / (b[1] > 0 ? b[1] : 0.0001) }'; }
+skipped() { printf '%-38s skipped: %s\n' "$1" "$2"; }
+
+echo "load: $(cut -d' ' -f1-3 /proc/loadavg), processors: $(nproc)"
+printf '%-38s %11s   %-34s %11s   %6s\n' "ours" "" "against" "" "ratio"
+
+# opening by a scan
+./make_file many.fs "$transactions" 1 3
+opening=$(cost empty "$program" many.fs run)
+row "opening, an empty script" "$opening" "C, headers in pieces of 64 KiB" "$(cost empty ./walk many.fs pieces)"
+row "opening, an empty script" "$opening" "C, each header by a read" "$(cost empty ./walk many.fs places)"
+row "opening, an empty script" "$opening" "cat" "$(cost empty cat many.fs)"
+row "opening, the history of one object" "$(cost empty "$program" many.fs history 0000000000000001)" \
+    "C, headers in pieces of 64 KiB" "$(cost empty ./walk many.fs pieces)"
+row "opening, the undo list" "$(cost empty "$program" many.fs undolog)" "C, each header by a read" "$(cost empty ./walk many.fs places)"
+
+# loads of objects that lie apart
+awk -v loads="$loads" -v objects="$transactions" 'BEGIN {
+    print "a open local"; print "a begin"; at = 12345
+    for (i = 0; i < loads; i++) { at = (at * 1103515245 + 12345) % 2147483648; printf "a load %016x\n", at % objects } }' >loads.txt
+row "$loads loads, with opening" "$(cost loads.txt "$program" many.fs run)" "C, reads at places" "$(cost empty ./loads many.fs "$loads")"
+skipped "loads against LMDB" "no client of it is written here"
+
+# commits of one object of 1 KiB
+content=$(head -c 1024 /dev/zero | tr '\0' a | od -An -tx1 -v | tr -d ' \n')
+awk -v commits="$commits" -v content="$content" 'BEGIN {
+    for (i = 1; i <= commits; i++) {
+        c = sprintf("a%06d", i)
+        printf "%s open local\n%s begin\n%s store %016x 0000000000000000 %s\n%s vote \"\" \"\"\n%s finish\n", c, c, c, i, content, c, c } }' >commits.txt
+best=
+for _ in $(seq "$times"); do
+    rm -f commits.fs
+    took=$(./measure 1 commits.txt "$program" commits.fs run)
+    best=$(printf '%s\n%s\n' "${best:-$took}" "$took" | sort -g | head -1)
+done
+row "$commits commits of 1 KiB" "$best" "C, pwrite and fsync twice each" "$(cost empty ./pairs pairs.bin "$commits")"
+if command -v sqlite3 >/dev/null; then
+    { echo "PRAGMA synchronous=FULL; CREATE TABLE o (k INTEGER PRIMARY KEY, v BLOB);"
+      for i in $(seq "$commits"); do echo "INSERT INTO o VALUES ($i, x'$content');"; done; } >commits.sql
+    best_sql=
+    for _ in $(seq "$times"); do
+        rm -f commits.db
+        took=$(./measure 1 commits.sql sqlite3 commits.db)
+        best_sql=$(printf '%s\n%s\n' "${best_sql:-$took}" "$took" | sort -g | head -1)
+    done
+    row "$commits commits of 1 KiB" "$best" "sqlite3, synchronous=FULL" "$best_sql"
+else
+    skipped "commits against sqlite3" "it isn't there"
+fi
+
+# a script read, and stores that stay pending
+awk -v lines="$lines" 'BEGIN { print "a open local"; print "a begin"
+    for (i = 1; i < lines; i++) printf "a load %016x\n", 0 }' >read.txt
+row "a script of $lines loads of nothing" "$(cost read.txt "$program" read.fs run)" "cat of the script" "$(cost read.txt cat)"
+awk -v lines="$lines" 'BEGIN { print "a open local"; print "a begin"
+    for (i = 1; i < lines; i++) printf "a store %016x 0000000000000000 616263\n", i }' >stores.txt
+row "$lines pending stores" "$(cost stores.txt "$program" stores.fs run)" "cat of the script" "$(cost stores.txt cat)"
+
+# a history over back pointers needs undo, which scripts don't have yet
+
+# the resident set
+grown() { # KIND SMALL LARGE: bytes for each of 900,000 more
+    awk -v kind="$1" -v small="$2" -v large="$3" 'BEGIN { split(small, a, " "); split(large, b, " ");
+        printf "%-38s %9.1f bytes\n", kind, (b[2] - a[2]) * 1024 / 900000 }'; }
+./make_file small.fs 1 100000 3; ./make_file large.fs 1 1000000 3
+grown "an object with one revision" "$(cost empty "$program" small.fs run)" "$(cost empty "$program" large.fs run)"
+./make_file small.fs 100000 0 0; ./make_file large.fs 1000000 0 0
+grown "a transaction" "$(cost empty "$program" small.fs run)" "$(cost empty "$program" large.fs run)"
+
+# calls of the host
+if command -v strace >/dev/null; then
+    calls() { # NAME FILE INPUT COUNT: calls by name, for each of COUNT
+        strace -f -c -o calls.txt "$program" "$2" run <"$3" >/dev/null
+        awk -v name="$1" -v count="$4" '$4 ~ /^[0-9]+$/ && $NF !~ /total/ && $NF ~ /read|write|seek|sync|ftruncate|stat/ { printf "%s %s %.2f", (n++ ? "," : name ":"), $NF, $4 / count }
+            END { print "" }' calls.txt
+    }
+    rm -f commits.fs
+    calls "calls for one commit" commits.fs commits.txt "$commits"
+    calls "calls for one load, with opening" many.fs loads.txt "$loads"
+    calls "calls for opening" many.fs empty 1
+else
+    skipped "calls of the host" "strace isn't there"
+fi

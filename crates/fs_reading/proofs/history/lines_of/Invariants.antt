@@ -1,0 +1,23 @@
+use Rattle.std.proofs.Common.{◌≡◌, ◌≤◌, List, length, map, drop}
+use Rattle.std.specs.Prelude.{reverse}
+use Rattle.std.specs.List.{AllByRecursion}
+use Rattle.fs_records.specs.Blocks.{Known}
+use Rattle.fs_records.specs.Places.{place_of}
+use Rattle.zb_volume.specs.Disk.{main_bytes}
+use Rattle.fs_reading.specs.Sizes.{noted_of}
+use Rattle.fs_reading.specs.Standing.{RecordStands, lasts, revision_line_of}
+use Rattle.fs_reading.proofs.history.lines_of.Given as goal
+
+abbrev pub invariant-loop-left : goal.invariant-loop-left
+invariant-loop-left g l = record {
+  within : l.left ≤ length l.places;
+  same : g.V.Volume.log l.volume ≡ g.V.Volume.log l.fn.volume;
+  reads : g.V.Volume.read_faults l.volume ≡ g.V.Volume.read_faults l.fn.volume;
+  writes : g.V.Volume.write_faults l.volume ≡ g.V.Volume.write_faults l.fn.volume;
+  lines : g.V.Volume.told → (ks : List Known) → l.places ≡ map place_of ks → AllByRecursion (RecordStands (main_bytes (g.V.Volume.log l.fn.volume))) ks
+      → l.noted ≡ map (noted_of (main_bytes (g.V.Volume.log l.fn.volume))) ks
+      → l.lines ≡ reverse (map (revision_line_of (main_bytes (g.V.Volume.log l.fn.volume))) (lasts (drop l.left ks)));
+}
+
+abbrev pub decreases-loop-left : goal.decreases-loop-left
+decreases-loop-left g l = l.left

@@ -1,0 +1,18 @@
+use Rattle.std.proofs.Common.{◌≡◌, List, map, take, vec_len}
+use Rattle.std.specs.List.{AllByRecursion}
+use Rattle.fs_records.specs.Blocks.{Known}
+use Rattle.fs_records.specs.Places.{place_of}
+use Rattle.zb_volume.specs.Disk.{main_bytes}
+use Rattle.fs_reading.specs.Sizes.{noted_of}
+use Rattle.fs_reading.specs.Standing.{RecordStands}
+use Rattle.fs_reading.proofs.sizes.note_all.Given as goal
+
+abbrev pub invariant-note : goal.invariant-note
+invariant-note g l = record {
+  same : g.V.Volume.log l.volume ≡ g.V.Volume.log l.fn.volume;
+  reads : g.V.Volume.read_faults l.volume ≡ g.V.Volume.read_faults l.fn.volume;
+  writes : g.V.Volume.write_faults l.volume ≡ g.V.Volume.write_faults l.fn.volume;
+  long : vec_len l.noted ≡ l.count;
+  noted : g.V.Volume.told → (ks : List Known) → l.places ≡ map place_of ks → AllByRecursion (RecordStands (main_bytes (g.V.Volume.log l.fn.volume))) ks
+      → l.noted.items ≡ map (noted_of (main_bytes (g.V.Volume.log l.fn.volume))) (take l.count ks);
+}

@@ -1,0 +1,32 @@
+-- What a store answers of its list without reading it. Source: own.
+use Rattle.std.specs.Prelude.{◌≡◌, ℕ, ◌+◌, Bool, nat_le, List, [], ◌∷◌, None, length}
+use Rattle.std.specs.List.{last_or}
+use Rattle.std.specs.Option.{option_map_or}
+use Rattle.zb_model.specs.declared.data.Transaction.{Transaction}
+use Rattle.zb_model.specs.Queries.{greatest_oid, pack_point}
+use Rattle.fs_recovery.specs.declared.tally.Tally.{Tally}
+
+-- of each transaction, how many changes those up to it have, where those before have so many
+abbrev pub tallies_from : ℕ → List Transaction → List Tally
+tallies_from n [] = []
+tallies_from n (t ∷ ts) = record { tid = t.tid; changes = n + length t.changes } ∷ tallies_from (n + length t.changes) ts
+
+-- how many changes there are by the last tally
+abbrev pub total_of : List Tally → ℕ
+total_of tallies = option_map_or (λ x. x.changes) (last_or None tallies) 0
+
+abbrev pub is_tally_up_to : ℕ → Tally → Bool
+is_tally_up_to tid x = nat_le x.tid tid
+
+-- what contracts see of the numbers of a list: its tallies, its greatest object, its pack point, and for how many tallies more there is room
+pub record NumbersKept : Type 0 where
+  pub tallies : List Tally
+  pub greatest : ℕ
+  pub pack_point : ℕ
+  pub room : ℕ
+
+-- these are the numbers of a list
+pub record AreNumbersOf (list : List Transaction) (n : NumbersKept) : Type 0 where
+  pub tallies : n.tallies ≡ tallies_from 0 list
+  pub greatest : n.greatest ≡ greatest_oid list
+  pub pack_point : n.pack_point ≡ pack_point list
