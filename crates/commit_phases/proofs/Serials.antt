@@ -1,72 +1,14 @@
--- The revisions of an object in a database rise, so that a look-up below a front finds the one with a serial, and the last one.
-use Rattle.std.proofs.Common.{◌≡◌, ℕ, zero, suc, ◌+◌, ◌<◌, ◌≤◌, Bool, true, false, cond, eqb, ltb, List, [], ◌∷◌, map, filter, add-one, Option, Some, None, refl, sym, ap, ◌∙◌, arith}
-use native.Mathlib.Numerals.{unary_clauses}
-use Rattle.std.specs.List.{find, filter_map, last_or}
-use Rattle.std.specs.List.Sorted.{IsStrictlyIncreasing}
-use Rattle.std.specs.Option.{option_map_or}
-use Rattle.std.proofs.lemmas.Bool.{eqb-true, eqb-false, ltb-true, ltb-false, lt-ltb}
-use Rattle.zb_model.specs.declared.data.Change.{Change}
+-- What a look-up below a front answers is the record that an object has now, or the one that had a serial.
+use Rattle.std.proofs.Common.{◌≡◌, ℕ, ◌+◌, ◌<◌, Bool, true, false, eqb, List, Option, Some, None, refl, ap, sym, ◌∙◌, arith}
 use Rattle.zb_model.specs.declared.data.Content.{Content}
 use Rattle.zb_model.specs.declared.data.Content.TheVariants.{Held, Absent}
 use Rattle.zb_model.specs.declared.data.Transaction.{Transaction}
-use Rattle.zb_model.specs.Database.{IsDatabase, ObjectRevision, change_in, is_below, newest_tid, revision_below, revision_in, revisions}
+use Rattle.zb_model.specs.Database.{IsDatabase, ObjectRevision, newest_tid, revision_below}
 use Rattle.zb_model.specs.Queries.{end_of, found_below, found_of}
-use Rattle.zb_model.specs.Voting.{has_serial, revision_at}
+use Rattle.zb_model.specs.SerialLaws.{exact, last_is, none_spent as no_revision}
+use Rattle.zb_model.specs.SerialLaws as serials
 use Rattle.commit_phases.specs.Decision.{record_with_serial, current_record, revision_record}
 use Rattle.commit_phases.specs.Resolving.{bytes_alone, bytes_with, held_of}
-
--- ---- tids and serials that rise, up to a bound
-
-abbrev RisesTo : ℕ → ℕ → List Transaction → Type 0
-RisesTo low high [] = low ≤ high
-RisesTo low high (t ∷ ts) = (low < t.tid) × RisesTo t.tid high ts
-
-abbrev SerialsTo : ℕ → ℕ → List ObjectRevision → Type 0
-SerialsTo low high [] = low ≤ high
-SerialsTo low high (r ∷ rs) = (low < r.serial) × SerialsTo r.serial high rs
-
-abbrev last_tid : ℕ → List Transaction → ℕ
-last_tid low [] = low
-last_tid low (t ∷ ts) = last_tid t.tid ts
-
-last_tid-is : (t : Transaction) (ts : List Transaction) → last_tid t.tid ts ≡ option_map_or (λ (x : Transaction). x.tid) (last_or (Some t) ts) 0
-last_tid-is t [] = refl
-last_tid-is t (x ∷ ts) = last_tid-is x ts
-
-newest_is : (ts : List Transaction) → last_tid 0 ts ≡ newest_tid ts
-newest_is [] = refl
-newest_is (t ∷ ts) = last_tid-is t ts
-
-rises : (low : ℕ) (ts : List Transaction) → IsStrictlyIncreasing (low ∷ map (λ t. t.tid) ts) → RisesTo low (last_tid low ts) ts
-rises low [] h = omega arith
-rises low (t ∷ ts) h = (h 0 (omega arith), rises t.tid ts (λ k l. rw add-one (simp unary_clauses at (h (suc k) (omega arith)))))
-
-lower : (low low' high : ℕ) (rs : List ObjectRevision) → low ≤ low' → SerialsTo low' high rs → SerialsTo low high rs
-lower low low' high [] l h = omega (arith, l, h)
-lower low low' high (r ∷ rs) l h = (omega (arith, l, h.0), h.1)
-
-serials : (oid low high : ℕ) (ts : List Transaction) → RisesTo low high ts → SerialsTo low high (revisions oid ts)
-serials oid low high [] h = h
-serials oid low high (t ∷ ts) h = by_cases (change_in oid t.changes) refl (serials oid t.tid high ts h.1)
-  where
-    by_cases : (o : Option Change) → change_in oid t.changes ≡ o → SerialsTo t.tid high (revisions oid ts) → SerialsTo low high (filter_map (revision_in oid) (t ∷ ts))
-    by_cases None e rest = rw e (lower low t.tid high (revisions oid ts) (omega (arith, h.0)) rest)
-    by_cases (Some c) e rest = rw e (h.0, rest)
-
-database_serials : (oid : ℕ) (list : List Transaction) → IsDatabase list → SerialsTo 0 (newest_tid list) (revisions oid list)
-database_serials oid list is = rw (sym (newest_is list)) (serials oid 0 (last_tid 0 list) list (rises 0 list is.rising))
-
-bounded : (low high : ℕ) (rs : List ObjectRevision) → SerialsTo low high rs → low ≤ high
-bounded low high [] h = h
-bounded low high (r ∷ rs) h = omega (arith, h.0, bounded r.serial high rs h.1)
-
--- ---- the last one
-
-all_below : (low high : ℕ) (rs : List ObjectRevision) → SerialsTo low high rs → filter (is_below (high + 1)) rs ≡ rs
-all_below low high [] h = refl
-all_below low high (r ∷ rs) h =
-    let below : ltb r.serial (high + 1) ≡ true = lt-ltb r.serial (high + 1) (omega (arith, bounded r.serial high rs h.1)) in
-    rw below (ap (λ ys. r ∷ ys) (all_below r.serial high rs h.1))
 
 held_found : (o : Option ObjectRevision) (end : Option ℕ) → bytes_alone (held_of (found_of o end)) ≡ revision_record o
 held_found None end = refl
@@ -76,17 +18,10 @@ held_found (Some r) end = by_content r.content refl
     by_content (Held bytes) e = rw e refl
     by_content Absent e = rw e refl
 
+-- above the newest tid the object's record is found
 pub current_is : (oid : ℕ) (list : List Transaction) → IsDatabase list → bytes_alone (held_of (found_below oid (newest_tid list + 1) list)) ≡ current_record oid list
 current_is oid list is =
-    held_found (revision_below oid (newest_tid list + 1) list) (end_of oid (newest_tid list + 1) list)
-    ∙ ap (λ (rs : List ObjectRevision). revision_record (last_or None rs)) (all_below 0 (newest_tid list) (revisions oid list) (database_serials oid list is))
-
--- ---- the one with a serial
-
--- a revision, where it has this serial
-abbrev exact : ℕ → Option ObjectRevision → Option ObjectRevision
-exact s None = None
-exact s (Some r) = cond (eqb r.serial s) (Some r) None
+    held_found (revision_below oid (newest_tid list + 1) list) (end_of oid (newest_tid list + 1) list) ∙ ap revision_record (last_is oid list is)
 
 held_with : (s : ℕ) (o : Option ObjectRevision) (end : Option ℕ) → bytes_with s (held_of (found_of o end)) ≡ revision_record (exact s o)
 held_with s None end = refl
@@ -98,62 +33,11 @@ held_with s (Some r) end = by_cases (eqb r.serial s) r.content refl refl
     by_cases false (Held bytes) e f = grind (arith, e, f)
     by_cases false Absent e f = grind (arith, e, f)
 
-abbrev EndsBefore : ℕ → Option ObjectRevision → Type 0
-EndsBefore s None = Unit {0}
-EndsBefore s (Some r) = r.serial < s
-
-exact_none : (s : ℕ) (o : Option ObjectRevision) → EndsBefore s o → exact s o ≡ None
-exact_none s None h = refl
-exact_none s (Some r) h = by_cases (eqb r.serial s) refl
-  where
-    by_cases : (b : Bool) → eqb r.serial s ≡ b → cond b (Some r) None ≡ None
-    by_cases true e = absurd (omega (arith, h, eqb-true r.serial s e))
-    by_cases false e = refl
-
-none_below : (s low high : ℕ) (rs : List ObjectRevision) → s ≤ low → SerialsTo low high rs → filter (is_below (s + 1)) rs ≡ []
-none_below s low high [] l h = refl
-none_below s low high (r ∷ rs) l h = by_cases (ltb r.serial (s + 1)) refl (none_below s r.serial high rs (omega (arith, l, h.0)) h.1)
-  where
-    by_cases : (b : Bool) → ltb r.serial (s + 1) ≡ b → filter (is_below (s + 1)) rs ≡ [] → cond b (r ∷ filter (is_below (s + 1)) rs) (filter (is_below (s + 1)) rs) ≡ []
-    by_cases true e rest = absurd (omega (arith, l, h.0, ltb-true r.serial (s + 1) e))
-    by_cases false e rest = rest
-
-none_at : (s low high : ℕ) (rs : List ObjectRevision) → s ≤ low → SerialsTo low high rs → find (has_serial s) rs ≡ None
-none_at s low high [] l h = refl
-none_at s low high (r ∷ rs) l h = by_cases (eqb r.serial s) refl (none_at s r.serial high rs (omega (arith, l, h.0)) h.1)
-  where
-    by_cases : (b : Bool) → eqb r.serial s ≡ b → find (has_serial s) rs ≡ None → cond b (Some r) (find (has_serial s) rs) ≡ None
-    by_cases true e rest = absurd (omega (arith, l, h.0, eqb-true r.serial s e))
-    by_cases false e rest = rest
-
-found_exact : (s low high : ℕ) (o : Option ObjectRevision) (rs : List ObjectRevision) → EndsBefore s o → SerialsTo low high rs → find (has_serial s) rs ≡ exact s (last_or o (filter (is_below (s + 1)) rs))
-found_exact s low high o [] b h = sym (exact_none s o b)
-found_exact s low high o (r ∷ rs) b h = by_cases (eqb r.serial s) (ltb r.serial (s + 1)) refl refl (λ before. found_exact s r.serial high (Some r) rs before h.1)
-  where
-    by_cases : (e l : Bool) → eqb r.serial s ≡ e → ltb r.serial (s + 1) ≡ l → (r.serial < s → find (has_serial s) rs ≡ exact s (last_or (Some r) (filter (is_below (s + 1)) rs))) → cond e (Some r) (find (has_serial s) rs) ≡ exact s (last_or o (cond l (r ∷ filter (is_below (s + 1)) rs) (filter (is_below (s + 1)) rs)))
-    by_cases true true is below rest =
-        let none : filter (is_below (s + 1)) rs ≡ [] = none_below s r.serial high rs (omega (arith, eqb-true r.serial s is)) h.1 in
-        rw none (rw is refl)
-    by_cases true false is below rest = absurd (omega (arith, eqb-true r.serial s is, ltb-false r.serial (s + 1) below))
-    by_cases false true is below rest = rest (omega (arith, eqb-false r.serial s is, ltb-true r.serial (s + 1) below))
-    by_cases false false is below rest =
-        let above : s ≤ r.serial = omega (arith, ltb-false r.serial (s + 1) below) in
-        let none : filter (is_below (s + 1)) rs ≡ [] = none_below s r.serial high rs above h.1 in
-        none_at s r.serial high rs above h.1 ∙ sym (ap (λ (ys : List ObjectRevision). exact s (last_or o ys)) none ∙ exact_none s o b)
-
+-- right above a serial the record with this serial is found, or another
 pub at_is : (oid s : ℕ) (list : List Transaction) → IsDatabase list → bytes_with s (held_of (found_below oid (s + 1) list)) ≡ record_with_serial oid s list
 at_is oid s list is =
-    held_with s (revision_below oid (s + 1) list) (end_of oid (s + 1) list)
-    ∙ ap revision_record (sym (found_exact s 0 (newest_tid list) None (revisions oid list) tt (database_serials oid list is)))
+    held_with s (revision_below oid (s + 1) list) (end_of oid (s + 1) list) ∙ ap revision_record (sym (serials.at_is oid s list is))
 
--- no revision has the greatest number of 64 bits as its serial
-none_from : (s low high : ℕ) (rs : List ObjectRevision) → high < s → SerialsTo low high rs → find (has_serial s) rs ≡ None
-none_from s low high [] l h = refl
-none_from s low high (r ∷ rs) l h = by_cases (eqb r.serial s) refl (none_from s r.serial high rs l h.1)
-  where
-    by_cases : (b : Bool) → eqb r.serial s ≡ b → find (has_serial s) rs ≡ None → cond b (Some r) (find (has_serial s) rs) ≡ None
-    by_cases true e rest = absurd (omega (arith, l, bounded r.serial high rs h.1, eqb-true r.serial s e))
-    by_cases false e rest = rest
-
+-- none has a serial above the newest
 pub none_spent : (oid s : ℕ) (list : List Transaction) → newest_tid list < s → IsDatabase list → record_with_serial oid s list ≡ None
-none_spent oid s list l is = ap revision_record (none_from s 0 (newest_tid list) (revisions oid list) l (database_serials oid list is))
+none_spent oid s list l is = ap revision_record (no_revision oid s list l is)

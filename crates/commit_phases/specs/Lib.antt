@@ -1,5 +1,4 @@
 pub mod Decision
-pub mod Joined
 pub mod Kept
 pub mod Pending
 pub mod Resolving

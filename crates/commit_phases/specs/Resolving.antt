@@ -1,5 +1,5 @@
 -- What the code of a vote says of one store. Own.
-use Rattle.std.specs.Prelude.{◌≡◌, ℕ, ◌≤◌, List, ◌++◌, length, Option, Some, None, Result, Ok, Err, IfErr, ◌==◌, if◌then◌else◌}
+use Rattle.std.specs.Prelude.{◌≡◌, ℕ, ◌≤◌, List, ◌++◌, length, Option, Some, None, Result, Ok, Err, IfErr, OnOk, ◌==◌, if◌then◌else◌}
 use Rattle.zb_base.specs.Counts.{Rose}
 use Rattle.zb_model.specs.declared.data.Change.{Change}
 use Rattle.zb_model.specs.declared.data.Transaction.{Transaction}
@@ -47,17 +47,18 @@ IsResolved is (Err (unresolved.Refused why)) = is ≡ Err why
 IsResolved is (Err unresolved.ReadFault) = Unit {0}
 IsResolved is (Err unresolved.Memory) = Unit {0}
 
--- a read fault is answered only where the count of failed reads rose
+-- a read fault is answered only where the count of failed reads rose, and any other refusal only where it has not moved
 abbrev pub HasCauseIn : ℕ → ℕ → Unresolved → Type 0
-HasCauseIn before now (unresolved.Refused why) = Unit {0}
+HasCauseIn before now (unresolved.Refused why) = now ≡ before
 HasCauseIn before now unresolved.ReadFault = Rose before now
-HasCauseIn before now unresolved.Memory = Unit {0}
+HasCauseIn before now unresolved.Memory = now ≡ before
 
--- a store was only read: all but the count of failed reads is as before, that hasn't fallen, and a read fault has its cause
+-- a store was only read: all but the count of failed reads is as before, and that moves only where a read fault is answered
 pub record ResolvingOnlyReads {T : Type 0} (old new : StoreState) (result : Result T Unresolved) : Type 0 where
   pub same : ReadKeepsRest old new
   pub counted : old.read_faults ≤ new.read_faults
   pub cause : IfErr result (HasCauseIn old.read_faults new.read_faults)
+  pub answered : OnOk result (new.read_faults ≡ old.read_faults)
 
 -- the refusal that an answer without bytes becomes, over a list
 abbrev pub refusal_as : List Transaction → ℕ → ℕ → Unresolved → VoteRefusal

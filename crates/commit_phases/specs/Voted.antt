@@ -1,5 +1,5 @@
 -- What the contract of a vote says of its answer. Own.
-use Rattle.std.specs.Prelude.{◌≡◌, ℕ, ◌<◌, ◌≤◌, List, Option, Some, Result, Ok, Err, IfErr, length, map, nat_eq, All}
+use Rattle.std.specs.Prelude.{◌≡◌, ℕ, ◌<◌, ◌≤◌, List, Option, Some, Result, Ok, Err, IfErr, OnOk, length, map, nat_eq, All}
 use Rattle.std.specs.List.{IsDistinct}
 use Rattle.zb_base.specs.Counts.{Rose}
 use Rattle.zb_model.specs.declared.data.Change.{Change}
@@ -34,19 +34,20 @@ abbrev pub IsOneDecision : List Transaction → Result Change Refusal → Result
 IsOneDecision list decided (Ok change) = decided ≡ Ok (voted_change list change)
 IsOneDecision list decided (Err why) = IsVoteRefusal decided why
 
--- a read fault is answered only where the count of failed reads rose
+-- a read fault is answered only where the count of failed reads rose, and any other refusal only where it has not moved
 abbrev pub HasVoteCause : ℕ → ℕ → VoteRefusal → Type 0
-HasVoteCause before now (vote_refusal.Conflict oid base current why) = Unit {0}
-HasVoteCause before now (vote_refusal.ReadConflict oid base current) = Unit {0}
-HasVoteCause before now (vote_refusal.TooLong n) = Unit {0}
+HasVoteCause before now (vote_refusal.Conflict oid base current why) = now ≡ before
+HasVoteCause before now (vote_refusal.ReadConflict oid base current) = now ≡ before
+HasVoteCause before now (vote_refusal.TooLong n) = now ≡ before
 HasVoteCause before now vote_refusal.ReadFault = Rose before now
-HasVoteCause before now vote_refusal.Memory = Unit {0}
+HasVoteCause before now vote_refusal.Memory = now ≡ before
 
--- a vote only reads: all of the store but its count of failed reads is as before, that hasn't fallen, and a read fault has its cause
+-- a vote only reads: all of the store but its count of failed reads is as before, and that moves only where a read fault is answered
 pub record VoteOnlyReads {T : Type 0} (old new : StoreState) (result : Result T VoteRefusal) : Type 0 where
   pub same : ReadKeepsRest old new
   pub counted : old.read_faults ≤ new.read_faults
   pub cause : IfErr result (HasVoteCause old.read_faults new.read_faults)
+  pub answered : OnOk result (new.read_faults ≡ old.read_faults)
 
 -- each store was made from its object's last revision
 abbrev pub AreCurrent : List Transaction → List PendingStore → Type 0

@@ -124,7 +124,7 @@ fn refuse_checks<St: Store>(store: &St, checks: &[PendingCheck]) -> Option<VoteR
         → IfNone result (failed_check (St.state store.now).list checks.now ≡ None) }
     ensures some { St.told
         → IfSome result (IsFailedCheck (failed_check (St.state store.now).list checks.now)) }
-    ensures cause { IfSome result (λ why. (before now : ℕ) → HasVoteCause before now why) }
+    ensures cause { IfSome result (λ why. (before now : ℕ) → now ≡ before → HasVoteCause before now why) }
 {
     for check in checks {
         let current = store.serial_of(check.oid);

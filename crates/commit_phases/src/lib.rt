@@ -10,6 +10,3 @@ mod resolving;
 pub use deciding::decide;
 pub use errors::{PendingError, VoteRefusal};
 pub use pending::{OBJECT_LIMIT, Pending, TRANSACTION_LIMIT};
-
-#[cfg(test)]
-mod tests;

@@ -10,7 +10,7 @@ use Rattle.zb_model.specs.Queries.{end_of, found_below, found_of}
 use Rattle.zb_model.specs.Voting.{content_as_of}
 use Rattle.undo_records.specs.Reading.{content_found, content_found_at, found_taken_over}
 use Rattle.undo_records.specs.Undone.{content_before, last_content, taken_over}
-use Rattle.undo_records.proofs.Serials.{at_is, exact, last_is, none_spent}
+use Rattle.zb_model.specs.SerialLaws.{at_is, exact, last_is, none_spent}
 
 -- the content of a revision, if there is one
 abbrev content_in : Option ObjectRevision → Content

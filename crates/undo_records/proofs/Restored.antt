@@ -26,7 +26,7 @@ use Rattle.undo_records.specs.declared.refusal.UndoRefusal.TheVariants as undo_r
 use Rattle.undo_records.specs.Outcomes.{IsUndone}
 use Rattle.undo_records.specs.Restoring.{IsRestored, NamesNewest}
 use Rattle.undo_records.specs.Undone.{content_before, is_new_of, is_untouched, last_content, taken_over, then_with, undone_changes, undone_content, undone_from, undone_of, undone_transaction, with_change, written_for}
-use Rattle.undo_records.proofs.Serials.{RisesTo, database_rises, last_of_rising}
+use Rattle.zb_model.specs.SerialLaws.{RisesTo, database_rises, last_of_rising}
 use Rattle.undo_records.proofs.Sound.{taken}
 
 -- ---- lists

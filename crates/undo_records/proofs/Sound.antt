@@ -19,7 +19,7 @@ use Rattle.zb_model.specs.Voting.{NamesRevision, revision_at, voted_content}
 use Rattle.undo_records.specs.declared.refusal.UndoRefusal.{UndoRefusal}
 use Rattle.undo_records.specs.Outcomes.{IsUndone}
 use Rattle.undo_records.specs.Undone.{content_before, content_now, is_same, is_untouched, merged_content, taken_from, taken_over, then_with, undone_changes, undone_content, undone_from, undone_of, undone_transaction, with_change}
-use Rattle.undo_records.proofs.Serials.{again_is}
+use Rattle.zb_model.specs.SerialLaws.{again_is}
 use Rattle.undo_records.proofs.Writing.{each_with}
 
 -- what is taken over of a revision below a front is what the object had there

@@ -1,5 +1,5 @@
 -- What the contract of undo says of its answer. Own.
-use Rattle.std.specs.Prelude.{◌≡◌, ℕ, ◌≤◌, List, Result, Ok, Err, IfErr, map, nat_eq, All}
+use Rattle.std.specs.Prelude.{◌≡◌, ℕ, ◌≤◌, List, Result, Ok, Err, IfErr, OnOk, map, nat_eq, All}
 use Rattle.std.specs.List.{IsDistinct}
 use Rattle.zb_base.specs.Counts.{Rose}
 use Rattle.zb_model.specs.declared.new_transaction.NewChange.{NewChange}
@@ -31,19 +31,20 @@ unread_refusal store_error.StoreFault = undo_refusal.ReadFault
 unread_refusal store_error.ReadFault = undo_refusal.ReadFault
 unread_refusal store_error.Memory = undo_refusal.Memory
 
--- a read fault is answered only where the count of failed reads rose
+-- a read fault is answered only where the count of failed reads rose, and any other refusal only where it has not moved
 abbrev pub HasUndoCause : ℕ → ℕ → UndoRefusal → Type 0
-HasUndoCause before now (undo_refusal.UndoUnknown tid) = Unit {0}
-HasUndoCause before now (undo_refusal.UndoPacked tid) = Unit {0}
-HasUndoCause before now (undo_refusal.UndoConflict oid later) = Unit {0}
+HasUndoCause before now (undo_refusal.UndoUnknown tid) = now ≡ before
+HasUndoCause before now (undo_refusal.UndoPacked tid) = now ≡ before
+HasUndoCause before now (undo_refusal.UndoConflict oid later) = now ≡ before
 HasUndoCause before now undo_refusal.ReadFault = Rose before now
-HasUndoCause before now undo_refusal.Memory = Unit {0}
+HasUndoCause before now undo_refusal.Memory = now ≡ before
 
--- undo only reads: all of the store but its count of failed reads is as before, that hasn't fallen, and a read fault has its cause
+-- undo only reads: all of the store but its count of failed reads is as before, and that moves only where a read fault is answered
 pub record ReadsToUndo {T : Type 0} (old new : StoreState) (result : Result T UndoRefusal) : Type 0 where
   pub same : ReadKeepsRest old new
   pub counted : old.read_faults ≤ new.read_faults
   pub cause : IfErr result (HasUndoCause old.read_faults new.read_faults)
+  pub answered : OnOk result (new.read_faults ≡ old.read_faults)
 
 -- changes that a store may vote: each names its object once, and none has empty bytes
 pub record AreWellFormedChanges (changes : List NewChange) : Type 0 where

@@ -9,6 +9,3 @@ mod written;
 
 pub use refusal::UndoRefusal;
 pub use undoing::undo;
-
-#[cfg(test)]
-mod tests;

@@ -7,6 +7,7 @@ pub mod Queries
 pub mod QueryLaws
 pub mod Rules
 pub mod Seen
+pub mod SerialLaws
 pub mod Stores
 pub mod Voting
 pub mod VotingLaws

@@ -1,5 +1,5 @@
 -- What contracts see of a store, and what they say of its outcomes. Own.
-use Rattle.std.specs.Prelude.{◌≡◌, ℕ, ◌≤◌, ◌⊎◌, Bool, Option, List, [], ◌∷◌, ◌++◌, Result, Ok, Err, IfErr}
+use Rattle.std.specs.Prelude.{◌≡◌, ℕ, ◌≤◌, ◌⊎◌, Bool, Option, List, [], ◌∷◌, ◌++◌, Result, Ok, Err, IfErr, OnOk}
 use Rattle.zb_volume.specs.Calls.{Event}
 use Rattle.zb_base.specs.Counts.{Rose}
 use Rattle.zb_model.specs.declared.data.Transaction.{Transaction}
@@ -32,23 +32,29 @@ UnlessFault (Err StoreFault) P = Unit {0}
 UnlessFault (Err ReadFault) P = P
 UnlessFault (Err Memory) P = P
 
--- a store fault comes only where the count of faults rose, a read fault where that of read faults did; want of memory is free
+-- neither count of faults has moved
+pub record CountsStand (old new : StoreState) : Type 0 where
+  pub reads : new.read_faults ≡ old.read_faults
+  pub faults : new.faults ≡ old.faults
+
+-- a store fault comes only where the count of faults rose, a read fault where that of read faults did, and want of memory where neither moved
 abbrev pub MayRefuse : StoreState → StoreState → StoreError → Type 0
 MayRefuse old new StoreFault = Rose old.faults new.faults
 MayRefuse old new ReadFault = Rose old.read_faults new.read_faults
-MayRefuse old new Memory = Unit {0}
+MayRefuse old new Memory = CountsStand old new
 
--- neither count of faults has fallen, and each refusal has its cause
+-- neither count of faults has fallen, each refusal has its cause, and with an answer neither count has moved
 pub record HasStoreCause {T : Type 0} (old new : StoreState) (result : Result T StoreError) : Type 0 where
   pub reads_later : old.read_faults ≤ new.read_faults
   pub faults_later : old.faults ≤ new.faults
   pub refused : IfErr result (MayRefuse old new)
+  pub answered : OnOk result (CountsStand old new)
 
--- a call that only reads is refused for a read fault, where that count rose, or for want of memory
+-- a call that only reads is refused for a read fault, where that count rose, or for want of memory, where it has not moved
 abbrev pub MayRefuseReading : StoreState → StoreState → StoreError → Type 0
 MayRefuseReading old new StoreFault = ⊥
 MayRefuseReading old new ReadFault = Rose old.read_faults new.read_faults
-MayRefuseReading old new Memory = Unit {0}
+MayRefuseReading old new Memory = new.read_faults ≡ old.read_faults
 
 -- ---- frames: what a call leaves as it was
 
@@ -62,11 +68,12 @@ RefusalKeepsRest old new StoreFault = Unit {0}
 RefusalKeepsRest old new ReadFault = ReadKeepsRest old new
 RefusalKeepsRest old new Memory = ReadKeepsRest old new
 
--- a store was only read: the rest is as it was, the count of read faults has not fallen, and each refusal has its cause
+-- a store was only read: the rest is as it was, the count of read faults has not fallen, each refusal has its cause, and with an answer that count has not moved
 pub record IsOnlyRead {T : Type 0} (old new : StoreState) (result : Result T StoreError) : Type 0 where
   pub same : ReadKeepsRest old new
   pub later : old.read_faults ≤ new.read_faults
   pub refused : IfErr result (MayRefuseReading old new)
+  pub answered : OnOk result (new.read_faults ≡ old.read_faults)
 
 -- a vote may change any of these, and leaves the rest: the number of the newest
 abbrev pub VoteKeepsRest : StoreState → StoreState → Type 0

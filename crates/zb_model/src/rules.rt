@@ -113,16 +113,16 @@ impl Resolver for NoRules {
     }
 }
 
-/// No record names an object.
+/// No bytes are a record whose references are known.
 #[derive(Clone, Copy, Debug, Drop)]
 pub struct NoRefs;
 
 impl Refs for NoRefs {
-    ghost use Rattle.std.specs.Prelude.{[], Some};
+    ghost use Rattle.std.specs.Prelude.{None};
 
-    ghost named = { λ _ _. Some [] };
+    ghost named = { λ _ _. None };
 
-    fn references(&self, alloc: Global, _bytes: &[u8]) -> Result<ListOf<Oid>, RefsError> {
-        Ok(ListOf::new(alloc))
+    fn references(&self, _alloc: Global, _bytes: &[u8]) -> Result<ListOf<Oid>, RefsError> {
+        Err(RefsError::Unreadable)
     }
 }

@@ -32,7 +32,8 @@ use zb_volume::StoreFault;
 /// may be made, and the volume is to be opened again.
 ///
 /// A store has two counts of faults, one for reading and one for the calls that change it. They never
-/// fall, and stand still at 2^64 - 1. Its list is always a database: `database` says so.
+/// fall, and stand still at 2^64 - 1. A call moves one only where it answers a fault, so want of memory
+/// is never told of a read or a write that failed. Its list is always a database: `database` says so.
 pub trait Store {
     ghost use Rattle.std.specs.Prelude.{◌≡◌, ℕ, false, List};
     ghost use Rattle.zb_volume.specs.declared.areas.Area.TheVariants.{Main};
@@ -150,6 +151,7 @@ pub trait Store {
             (StandsForOneOf stands (state self.old).list t) (state self.old).log (state self.new).log) }
         ensures quiet { quiet → (state self.new).log ≡ (state self.old).log }
         ensures cause { HasCause (state self.old).faults (state self.new).faults result }
+        ensures uncounted { OnOk result ((state self.new).faults ≡ (state self.old).faults) }
         ensures keeps { FinishKeepsRest (state self.old) (state self.new) };
 
     /// Drops the voted transaction. It takes no memory.
@@ -164,6 +166,7 @@ pub trait Store {
             (state self.old).log (state self.new).log }
         ensures quiet { quiet → (state self.new).log ≡ (state self.old).log }
         ensures cause { HasCause (state self.old).faults (state self.new).faults result }
+        ensures uncounted { OnOk result ((state self.new).faults ≡ (state self.old).faults) }
         ensures keeps { AbortKeepsRest (state self.old) (state self.new) };
 
     /// Between calls the list is a database.

@@ -67,7 +67,7 @@ ticked rules m n q r left stamp old new before after later is gives read stands 
 -- ---- the clock
 
 is_read : (stamp : Stamp) (before after : Option (List Stamp)) → IfSome before (λ told. slice_get told 0 ≡ Some stamp) → after ≡ option_map stamps_after before → IsClockRead (stamp_number stamp) before after
-is_read stamp None after first left = left
+is_read stamp None after first left = ((stamp, refl), left)
 is_read stamp (Some []) after first left = absurd cc
 is_read stamp (Some (s ∷ stamps)) after first left = (sym (ap stamp_number (same_Some s stamp first)), left)
 

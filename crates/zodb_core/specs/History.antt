@@ -6,6 +6,7 @@ use Rattle.zodb_core.specs.declared.reply.Reply.{Reply}
 use Rattle.zodb_core.specs.declared.request.Request.{Request}
 use Rattle.zodb_core.specs.Machine.{Machine, Rules, machine_over, session_limit, with_session}
 use Rattle.zodb_core.specs.Outcomes.{Answered, FaultCounts, IsStepMade, machine_left, outcome_of}
+use Rattle.zodb_core.specs.Stamps.{IsStampNumberIfSome}
 use Rattle.zodb_core.specs.Steps.{Stepped}
 
 -- a step of a session: its request, the number of the stamp, where the clock was read, the reply, and the counts of faults behind it
@@ -49,10 +50,10 @@ pub record OpensNext (m : Machine) (n : ℕ) : Type 0 where
   pub number : n ≡ length m.sessions
   pub room : n < session_limit
 
--- the machine may take an entry
+-- the machine may take an entry; where the clock was read, it gave a stamp
 abbrev pub IsNextEntry : Rules → Machine → FaultCounts → Entry → Type 0
 IsNextEntry rules m counts (Opened n) = OpensNext m n
-IsNextEntry rules m counts (Made e) = IsStepMade rules m e.session e.request (stamp_of_step e) (made_by rules m e) counts e.counts
+IsNextEntry rules m counts (Made e) = IsStepMade rules m e.session e.request (stamp_of_step e) (made_by rules m e) counts e.counts × IsStampNumberIfSome e.stamp
 
 -- the machine may take these entries, one after another
 abbrev pub IsLegal : Rules → Machine → FaultCounts → List Entry → Type 0

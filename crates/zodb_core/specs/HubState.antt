@@ -12,6 +12,8 @@ use Rattle.zodb_core.specs.declared.errors.SessionRefusal.{SessionRefusal}
 use Rattle.zodb_core.specs.declared.errors.SessionRefusal.TheVariants as session_refusal
 use Rattle.zodb_core.specs.declared.journal.JournalEntry.{JournalEntry}
 use Rattle.zodb_core.specs.declared.reply.Reply.{Reply}
+use Rattle.zodb_core.specs.declared.reply.Reply.TheVariants as reply
+use Rattle.zb_model.specs.declared.refusal.Refusal.TheVariants as refusal
 use Rattle.zodb_core.specs.declared.request.Request.{Request}
 use Rattle.zodb_core.specs.declared.request.Request.TheVariants as request
 use Rattle.zodb_core.specs.declared.session.Session.{Session}
@@ -19,6 +21,7 @@ use Rattle.zodb_core.specs.declared.vote.HubVote.{HubVote}
 use Rattle.zodb_core.specs.declared.vote.VotedEntry.{VotedEntry}
 use Rattle.zodb_core.specs.Machine.{Machine, MachineVote, Rules, session_limit, switches_of}
 use Rattle.zodb_core.specs.Outcomes.{AreLaterCounts, FaultCounts, IsStepMade, StepOutcome, Answered, ReadingFailed, NoMemory, StoreFailed, closed_session, outcome_of}
+use Rattle.zodb_core.specs.Stamps.{IsStampNumber}
 use Rattle.zb_base.specs.Counts.{Rose}
 use Rattle.zodb_core.specs.Steps.{Stepped, changes_in_journal, journal_limit, step_of}
 
@@ -58,11 +61,11 @@ rules_of rules named hub = record { merging = rules hub.resolver; named = named 
 abbrev pub counts_of : StoreState → FaultCounts
 counts_of s = record { reads = s.read_faults; others = s.faults }
 
--- a fault comes only where its count rose
+-- a fault comes only where its count rose, and any other answer only where neither count has moved
 abbrev pub IsCauseOf : FaultCounts → FaultCounts → StepOutcome → Type 0
-IsCauseOf before now Answered = Unit {0}
+IsCauseOf before now Answered = now ≡ before
 IsCauseOf before now ReadingFailed = Rose before.reads now.reads
-IsCauseOf before now NoMemory = Unit {0}
+IsCauseOf before now NoMemory = now ≡ before
 IsCauseOf before now StoreFailed = Rose before.others now.others
 
 -- ---- what a request is to keep
@@ -84,9 +87,9 @@ MayRefuseSession count session_refusal.Memory = Unit {0}
 
 -- ---- a step of a hub
 
--- a clock that was read gave its first stamp, whose number this is, and one that wasn't is as it was
+-- a clock that was read gave its first stamp, or, where it doesn't tell, some stamp, whose number this is; one that wasn't is as it was
 abbrev pub IsClockRead : ℕ → Option (List Stamp) → Option (List Stamp) → Type 0
-IsClockRead stamp None after = after ≡ None
+IsClockRead stamp None after = IsStampNumber stamp × (after ≡ None)
 IsClockRead stamp (Some []) after = ⊥
 IsClockRead stamp (Some (s ∷ stamps)) after = (stamp ≡ stamp_number s) × (after ≡ Some (stamps_after (s ∷ stamps)))
 
@@ -103,13 +106,30 @@ pub record MakesStep {R F : Type 0} (rules : Rules) (m : Machine) (n : ℕ) (q :
   pub clock : HasTicked ticks stamp before after
   pub stands : StandsForMachine new left
 
--- Whatever the store tells: neither count of faults has fallen, a fault is answered only where its count rose, and the hub keeps its rules.
+-- replies of steps that may have changed the store's volume; any other reply, each refusal but a store fault among them, leaves it
+abbrev pub may_write : Reply → Bool
+may_write reply.Voted = true
+may_write (reply.Committed tid) = true
+may_write reply.Aborted = true
+may_write reply.Closed = true
+may_write (reply.Refused refusal.StoreFault) = true
+may_write _ = false
+
+-- the store failed
+abbrev pub is_store_failed : StepOutcome → Bool
+is_store_failed StoreFailed = true
+is_store_failed _ = false
+
+-- Whatever the store tells: neither count of faults has fallen, a fault is answered only where its count rose and anything else only where neither moved; the hub
+-- keeps its rules; its store is broken exactly where the reply says so; and a refusal, but for a store fault, has changed no volume.
 pub record StepsSafely {R F : Type 0} (reply : Reply) (old new : HubState R F) : Type 0 where
   pub resolver : new.resolver ≡ old.resolver
   pub refs : new.refs ≡ old.refs
   pub sessions : length new.sessions ≡ length old.sessions
   pub later : AreLaterCounts (counts_of old.store) (counts_of new.store)
   pub cause : IsCauseOf (counts_of old.store) (counts_of new.store) (outcome_of reply)
+  pub broken : old.store.broken ≡ false → new.store.broken ≡ is_store_failed (outcome_of reply)
+  pub log : may_write reply ≡ false → new.store.log ≡ old.store.log
 
 -- bytes stand for the list before a step, or for the one behind it
 abbrev pub IsBeforeOrBehind : (List ℕ → List Transaction → Type 0) → Rules → Machine → ℕ → Request → List ℕ → Type 0

@@ -4,4 +4,5 @@ pub mod HubState
 pub mod Machine
 pub mod Outcomes
 pub mod Replies
+pub mod Stamps
 pub mod Steps

@@ -7,7 +7,7 @@ ghost use Rattle.zb_volume.specs.declared.areas.Area.TheVariants.{Main};
 ghost use Rattle.zb_volume.specs.Moments.{LeavesOnly};
 ghost use Rattle.zodb_core.specs.HubState.{IsBeforeOrBehind, MakesStep, StandsForMachine, StepsSafely, has_vote, rules_of, writes_of};
 ghost use Rattle.zodb_core.specs.Machine.{Machine, is_open_in};
-ghost use Rattle.zodb_core.specs.Outcomes.{failed, holds_writes};
+ghost use Rattle.zodb_core.specs.Outcomes.{NoMemory, failed, holds_writes, outcome_of};
 ghost use Rattle.zodb_core.specs.Steps.{without_vote};
 
 use crate::hub::Hub;
@@ -56,8 +56,10 @@ impl<St: Store, R: Resolver, F: Refs> Hub<St, R, F> {
         requires whole { self.old.store.broken ≡ false }
         requires is_open { is_open_in self.old.sessions session ≡ true }
         ensures step { St.told → (m : Machine) → StandsForMachine self.old m → (stamps : Option (List Stamp)) →
-            MakesStep (rules_of R.rules F.named self.old) m session Request.Finish result self.old self.new stamps stamps }
+            MakesStep (rules_of R.rules F.named self.old) m session Request.Finish
+            result self.old self.new stamps stamps }
         ensures safe { StepsSafely result self.old self.new }
+        ensures memory { ¬ (outcome_of result ≡ NoMemory) }
         ensures any_moment { St.lasts → St.told → (m : Machine) → StandsForMachine self.old m →
             LeavesOnly Main (IsBeforeOrBehind St.stands (rules_of R.rules F.named self.old) m session Request.Finish)
             self.old.store.log self.new.store.log }
@@ -90,15 +92,20 @@ impl<St: Store, R: Resolver, F: Refs> Hub<St, R, F> {
     #[tactic(auto, using(crate::proofs::Votes::dropped_none, crate::proofs::Votes::dropped_writes, crate::proofs::Votes::dropped_failed, crate::proofs::Votes::held_writes))]
     fn drop_vote(&mut self, session: u32) -> Result<(), StoreFault>
         requires whole { self.old.store.broken ≡ false }
-        ensures dropped { St.told → (m : Machine) → StandsForMachine self.old m → OnOk result (StandsForMachine self.new (without_vote m session)) }
-        ensures failed { St.told → (m : Machine) → StandsForMachine self.old m → OnErr result (StandsForMachine self.new (failed m)) }
-        ensures writes { St.told → (m : Machine) → StandsForMachine self.old m → OnErr result (holds_writes session m.vote ≡ true) }
+        ensures dropped { St.told → (m : Machine) → StandsForMachine self.old m →
+            OnOk result (StandsForMachine self.new (without_vote m session)) }
+        ensures failed { St.told → (m : Machine) → StandsForMachine self.old m →
+            OnErr result (StandsForMachine self.new (failed m)) }
+        ensures writes { St.told → (m : Machine) → StandsForMachine self.old m →
+            OnErr result (holds_writes session m.vote ≡ true) }
         ensures whole { OnOk result (self.new.store.broken ≡ false) }
+        ensures breaks { OnErr result (self.new.store.broken ≡ true) }
         ensures resolver { self.new.resolver ≡ self.old.resolver }
         ensures refs { self.new.refs ≡ self.old.refs }
         ensures sessions { self.new.sessions ≡ self.old.sessions }
         ensures reads { self.new.store.read_faults ≡ self.old.store.read_faults }
         ensures cause { HasCause self.old.store.faults self.new.store.faults result }
+        ensures uncounted { OnOk result (self.new.store.faults ≡ self.old.store.faults) }
         ensures any_moment { St.lasts → St.told →
             LeavesOnly Main (λ bytes. St.stands bytes self.old.store.list) self.old.store.log self.new.store.log }
     {
@@ -121,8 +128,10 @@ impl<St: Store, R: Resolver, F: Refs> Hub<St, R, F> {
         requires whole { self.old.store.broken ≡ false }
         requires is_open { is_open_in self.old.sessions session ≡ true }
         ensures step { St.told → (m : Machine) → StandsForMachine self.old m → (stamps : Option (List Stamp)) →
-            MakesStep (rules_of R.rules F.named self.old) m session Request.Abort result self.old self.new stamps stamps }
+            MakesStep (rules_of R.rules F.named self.old) m session Request.Abort
+            result self.old self.new stamps stamps }
         ensures safe { StepsSafely result self.old self.new }
+        ensures memory { ¬ (outcome_of result ≡ NoMemory) }
         ensures any_moment { St.lasts → St.told → (m : Machine) → StandsForMachine self.old m →
             LeavesOnly Main (IsBeforeOrBehind St.stands (rules_of R.rules F.named self.old) m session Request.Abort)
             self.old.store.log self.new.store.log }
@@ -139,8 +148,10 @@ impl<St: Store, R: Resolver, F: Refs> Hub<St, R, F> {
         requires whole { self.old.store.broken ≡ false }
         requires is_open { is_open_in self.old.sessions session ≡ true }
         ensures step { St.told → (m : Machine) → StandsForMachine self.old m → (stamps : Option (List Stamp)) →
-            MakesStep (rules_of R.rules F.named self.old) m session Request.Close result self.old self.new stamps stamps }
+            MakesStep (rules_of R.rules F.named self.old) m session Request.Close
+            result self.old self.new stamps stamps }
         ensures safe { StepsSafely result self.old self.new }
+        ensures memory { ¬ (outcome_of result ≡ NoMemory) }
         ensures any_moment { St.lasts → St.told → (m : Machine) → StandsForMachine self.old m →
             LeavesOnly Main (IsBeforeOrBehind St.stands (rules_of R.rules F.named self.old) m session Request.Close)
             self.old.store.log self.new.store.log }

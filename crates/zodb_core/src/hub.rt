@@ -60,7 +60,8 @@ impl<St: Store, R: Resolver, F: Refs> Model for Hub<St, R, F> {
       vote = hub.vote;
     } };
 
-    ghost invariant = { λ hub. HubKeeps St.told (St.state hub.store) hub.journal.items (vec_capacity hub.journal) hub.changes hub.switches hub.sessions.items hub.vote hub.failed };
+    ghost invariant = { λ hub. HubKeeps St.told (St.state hub.store) hub.journal.items (vec_capacity hub.journal)
+        hub.changes hub.switches hub.sessions.items hub.vote hub.failed };
 }
 
 impl<St: Store, R: Resolver, F: Refs> Hub<St, R, F> {
@@ -103,7 +104,8 @@ impl<St: Store, R: Resolver, F: Refs> Hub<St, R, F> {
     /// sessions were opened. A session that is opened after a store fault is closed from the start.
     pub fn open_session(&mut self) -> Result<u32, SessionRefusal>
         ensures number { IfOk result (λ number. number ≡ length self.old.sessions) }
-        ensures stands { (m : Machine) → StandsForMachine self.old m → IfOk result (λ _. StandsForMachine self.new (with_session m)) }
+        ensures stands { (m : Machine) → StandsForMachine self.old m →
+            IfOk result (λ _. StandsForMachine self.new (with_session m)) }
         ensures refused { IfErr result (MayRefuseSession (length self.old.sessions)) }
         ensures room { IfOk result (λ number. length self.old.sessions < session_limit) }
         ensures same { OnErr result (self.new ≡ self.old) }

@@ -26,6 +26,3 @@ pub use reply::Reply;
 pub use request::Request;
 pub use session::Session;
 pub use vote::{HubVote, VotedEntry};
-
-#[cfg(test)]
-mod tests;

@@ -4,6 +4,7 @@ ghost use Rattle.std.specs.Prelude.{◌≡◌, ◌<◌, Option, List, false, tru
 ghost use Rattle.zb_ids.specs.declared.stamp.Stamp.{Stamp};
 ghost use Rattle.zodb_core.specs.HubState.{MakesStep, StandsForMachine, StepsSafely, rules_of};
 ghost use Rattle.zodb_core.specs.Machine.{Machine, front_of, is_open_in};
+ghost use Rattle.zodb_core.specs.Outcomes.{NoMemory, outcome_of};
 ghost use Rattle.zodb_core.specs.Replies.{fault_reply, loaded_reply};
 
 use crate::hub::Hub;
@@ -56,7 +57,8 @@ impl<St: Store, R: Resolver, F: Refs> Hub<St, R, F> {
         requires whole { self.old.store.broken ≡ false }
         requires is_open { is_open_in self.old.sessions session ≡ true }
         ensures step { St.told → (m : Machine) → StandsForMachine self.old m → (stamps : Option (List Stamp)) →
-            MakesStep (rules_of R.rules F.named self.old) m session Request.Front result self.old self.new stamps stamps }
+            MakesStep (rules_of R.rules F.named self.old) m session Request.Front
+            result self.old self.new stamps stamps }
         ensures safe { StepsSafely result self.old self.new }
         ensures log { self.new.store.log ≡ self.old.store.log }
     {
@@ -87,7 +89,8 @@ impl<St: Store, R: Resolver, F: Refs> Hub<St, R, F> {
         requires whole { self.old.store.broken ≡ false }
         requires is_open { is_open_in self.old.sessions session ≡ true }
         ensures step { St.told → (m : Machine) → StandsForMachine self.old m → (stamps : Option (List Stamp)) →
-            MakesStep (rules_of R.rules F.named self.old) m session (Request.LoadBefore oid front) result self.old self.new stamps stamps }
+            MakesStep (rules_of R.rules F.named self.old) m session (Request.LoadBefore oid front)
+            result self.old self.new stamps stamps }
         ensures safe { StepsSafely result self.old self.new }
         ensures log { self.new.store.log ≡ self.old.store.log }
     {
@@ -103,7 +106,8 @@ impl<St: Store, R: Resolver, F: Refs> Hub<St, R, F> {
         requires whole { self.old.store.broken ≡ false }
         requires is_open { is_open_in self.old.sessions session ≡ true }
         ensures step { St.told → (m : Machine) → StandsForMachine self.old m → (stamps : Option (List Stamp)) →
-            MakesStep (rules_of R.rules F.named self.old) m session (Request.History oid) result self.old self.new stamps stamps }
+            MakesStep (rules_of R.rules F.named self.old) m session (Request.History oid)
+            result self.old self.new stamps stamps }
         ensures safe { StepsSafely result self.old self.new }
         ensures log { self.new.store.log ≡ self.old.store.log }
     {
@@ -118,7 +122,8 @@ impl<St: Store, R: Resolver, F: Refs> Hub<St, R, F> {
         requires whole { self.old.store.broken ≡ false }
         requires is_open { is_open_in self.old.sessions session ≡ true }
         ensures step { St.told → (m : Machine) → StandsForMachine self.old m → (stamps : Option (List Stamp)) →
-            MakesStep (rules_of R.rules F.named self.old) m session Request.UndoLog result self.old self.new stamps stamps }
+            MakesStep (rules_of R.rules F.named self.old) m session Request.UndoLog
+            result self.old self.new stamps stamps }
         ensures safe { StepsSafely result self.old self.new }
         ensures log { self.new.store.log ≡ self.old.store.log }
     {
@@ -134,8 +139,10 @@ impl<St: Store, R: Resolver, F: Refs> Hub<St, R, F> {
         requires is_open { is_open_in self.old.sessions session ≡ true }
         requires some { 0 < count }
         ensures step { St.told → (m : Machine) → StandsForMachine self.old m → (stamps : Option (List Stamp)) →
-            MakesStep (rules_of R.rules F.named self.old) m session (Request.NewOids count) result self.old self.new stamps stamps }
+            MakesStep (rules_of R.rules F.named self.old) m session (Request.NewOids count)
+            result self.old self.new stamps stamps }
         ensures safe { StepsSafely result self.old self.new }
+        ensures memory { ¬ (outcome_of result ≡ NoMemory) }
         ensures log { self.new.store.log ≡ self.old.store.log }
     {
         let before = self.greatest.0;

@@ -1,10 +1,11 @@
 //! One step.
 
-ghost use Rattle.std.specs.Prelude.{◌≡◌, Option, List, false};
+ghost use Rattle.std.specs.Prelude.{◌≡◌, Option, List, false, true};
 ghost use Rattle.zb_volume.specs.declared.areas.Area.TheVariants.{Main};
 ghost use Rattle.zb_volume.specs.Moments.{LeavesOnly};
 ghost use Rattle.zodb_core.specs.HubState.{IsBeforeOrBehind, IsFitting, MakesStep, StandsForMachine, StepsSafely, rules_of};
-ghost use Rattle.zodb_core.specs.Machine.{Machine};
+ghost use Rattle.zodb_core.specs.Machine.{Machine, is_open_in};
+ghost use Rattle.zodb_core.specs.Outcomes.{NoMemory, outcome_of, takes_memory};
 
 use crate::hub::Hub;
 use crate::reply::Reply;
@@ -35,9 +36,16 @@ impl<St: Store, R: Resolver, F: Refs> Hub<St, R, F> {
     ) -> Reply
         requires fitting { IsFitting request }
         ensures step { St.told → (m : Machine) → StandsForMachine self.old m →
-            MakesStep (rules_of R.rules F.named self.old) m session request result self.old self.new (C.stamps clock.old) (C.stamps clock.new) }
+            MakesStep (rules_of R.rules F.named self.old) m session request
+            result self.old self.new (C.stamps clock.old) (C.stamps clock.new) }
         ensures safe { StepsSafely result self.old self.new }
-        ensures any_moment { St.lasts → St.told → self.old.store.broken ≡ false → (m : Machine) → StandsForMachine self.old m →
+        ensures failed { self.old.store.broken ≡ true →
+            (result ≡ Reply.Refused Refusal.NotOpen) × (self.new ≡ self.old) }
+        ensures closed { is_open_in self.old.sessions session ≡ false →
+            (result ≡ Reply.Refused Refusal.NotOpen) × (self.new ≡ self.old) }
+        ensures memory { takes_memory request ≡ false → ¬ (outcome_of result ≡ NoMemory) }
+        ensures any_moment { St.lasts → St.told → self.old.store.broken ≡ false →
+            (m : Machine) → StandsForMachine self.old m →
             LeavesOnly Main (IsBeforeOrBehind St.stands (rules_of R.rules F.named self.old) m session request)
             self.old.store.log self.new.store.log }
     {

@@ -134,9 +134,11 @@ impl<St: Store, R: Resolver, F: Refs> Hub<St, R, F> {
         requires sound { St.told → All (λ c. NamesRevision self.old.store.list c.oid c.content) changes }
         ensures step { St.told → (m : Machine) → StandsForMachine self.old m → (q : Request) →
             VotesFor (rules_of R.rules F.named self.old) m session q texts (Ok (map (voted_change m.list) changes)) →
-            MakesStep (rules_of R.rules F.named self.old) m session q result self.old self.new (C.stamps clock.old) (C.stamps clock.new) }
+            MakesStep (rules_of R.rules F.named self.old) m session q
+            result self.old self.new (C.stamps clock.old) (C.stamps clock.new) }
         ensures safe { StepsSafely result self.old self.new }
-        ensures any_moment { St.lasts → St.told → LeavesOnly Main (λ bytes. St.stands bytes self.old.store.list) self.old.store.log self.new.store.log }
+        ensures any_moment { St.lasts → St.told →
+            LeavesOnly Main (λ bytes. St.stands bytes self.old.store.list) self.old.store.log self.new.store.log }
     {
         if changes.is_empty() {
             self.vote = Some(HubVote {
@@ -193,9 +195,12 @@ impl<St: Store, R: Resolver, F: Refs> Hub<St, R, F> {
         requires is_open { is_open_in self.old.sessions session ≡ true }
         requires short { AreShort texts }
         ensures step { St.told → (m : Machine) → StandsForMachine self.old m →
-            MakesStep (rules_of R.rules F.named self.old) m session (Request.Vote texts.user texts.description texts.extension pending) result self.old self.new (C.stamps clock.old) (C.stamps clock.new) }
+            MakesStep (rules_of R.rules F.named self.old) m session
+            (Request.Vote texts.user texts.description texts.extension pending)
+            result self.old self.new (C.stamps clock.old) (C.stamps clock.new) }
         ensures safe { StepsSafely result self.old self.new }
-        ensures any_moment { St.lasts → St.told → LeavesOnly Main (λ bytes. St.stands bytes self.old.store.list) self.old.store.log self.new.store.log }
+        ensures any_moment { St.lasts → St.told →
+            LeavesOnly Main (λ bytes. St.stands bytes self.old.store.list) self.old.store.log self.new.store.log }
     {
         if let Some(refusal) = vote_refusal(&self.vote, session) {
             return Reply::Refused(refusal);
@@ -222,9 +227,11 @@ impl<St: Store, R: Resolver, F: Refs> Hub<St, R, F> {
         requires short { AreShort texts }
         requires bare { texts.extension ≡ [] }
         ensures step { St.told → (m : Machine) → StandsForMachine self.old m →
-            MakesStep (rules_of R.rules F.named self.old) m session (Request.Undo texts.user texts.description tids) result self.old self.new (C.stamps clock.old) (C.stamps clock.new) }
+            MakesStep (rules_of R.rules F.named self.old) m session (Request.Undo texts.user texts.description tids)
+            result self.old self.new (C.stamps clock.old) (C.stamps clock.new) }
         ensures safe { StepsSafely result self.old self.new }
-        ensures any_moment { St.lasts → St.told → LeavesOnly Main (λ bytes. St.stands bytes self.old.store.list) self.old.store.log self.new.store.log }
+        ensures any_moment { St.lasts → St.told →
+            LeavesOnly Main (λ bytes. St.stands bytes self.old.store.list) self.old.store.log self.new.store.log }
     {
         if let Some(refusal) = vote_refusal(&self.vote, session) {
             return Reply::Refused(refusal);

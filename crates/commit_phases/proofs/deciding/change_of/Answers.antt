@@ -5,4 +5,5 @@ returns-in-Err-clause-read g c = record {
   same = c.in-Err.ensures.read.same;
   counted = c.in-Err.ensures.read.counted;
   cause = c.refuse.ensures.cause _ _ c.in-Err.ensures.read.cause;
+  answered = tt;
 }

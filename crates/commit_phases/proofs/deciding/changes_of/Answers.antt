@@ -1,8 +1,7 @@
-use Rattle.std.proofs.Common.{◌≡◌, ℕ, ◌+◌, ◌<◌, ◌≤◌, ◌∷◌, ◌++◌, List, length, map, sym, ap, subst, ◌∙◌, arith}
+use Rattle.std.proofs.Common.{◌≡◌, ◌+◌, ◌<◌, ◌∷◌, ◌++◌, List, length, map, sym, ap, subst, ◌∙◌, arith}
 use Rattle.std.specs.Prelude.{All}
 use Rattle.std.specs.Vec.Iter.{into_iter_items, into_iter_len}
 use Rattle.std.proofs.lemmas.List.Elements.{All-head, All-push, All-rest}
-use Rattle.zb_model.specs.declared.data.Transaction.{Transaction}
 use Rattle.zb_model.specs.declared.new_transaction.NewChange.{NewChange}
 use Rattle.zb_model.specs.declared.pending.PendingStore.{PendingStore}
 use Rattle.zb_model.specs.Database.{serial_of}
@@ -31,7 +30,7 @@ loop-pending-preserved g c =
     let lengths : length items ≡ length (p ∷ left) = ap (λ (ps : List PendingStore). length ps) is in
     record {
       same = kept_twice old mid (g.St.Store.state c.change_of.new.store) inv.same read.same;
-      counted = omega (arith, inv.counted, read.counted);
+      counted = read.answered ∙ inv.counted;
       ends = omega (arith, fewer, ends, lengths);
       oids = subst (λ (cs : List NewChange). map (λ c. c.oid) cs ++ map (λ p. p.oid) left ≡ map (λ p. p.oid) c.args.stores) (sym c.in_ok-keep.ensures)
           (oids_more done change p left items c.args.stores is c.in_ok-change.ensures.oid inv.oids);

@@ -1,4 +1,4 @@
-use Rattle.std.proofs.Common.{◌≡◌, ℕ, ◌<◌, ◌≤◌, ◌++◌, length, map}
+use Rattle.std.proofs.Common.{◌≡◌, ◌<◌, ◌++◌, length, map}
 use Rattle.std.specs.Prelude.{All}
 use Rattle.std.specs.Vec.Iter.{into_iter_items, into_iter_len}
 use Rattle.zb_model.specs.Stores.{ReadKeepsRest}
@@ -15,7 +15,7 @@ invariant-loop-pending g l =
     let left = into_iter_items l.pending-iterator in
     record {
       same : ReadKeepsRest old (g.St.Store.state l.store);
-      counted : old.read_faults ≤ (g.St.Store.state l.store).read_faults;
+      counted : (g.St.Store.state l.store).read_faults ≡ old.read_faults;
       ends : into_iter_len l.pending-iterator ≡ length left;
       oids : map (λ c. c.oid) l.changes ++ map (λ p. p.oid) left ≡ map (λ p. p.oid) l.fn.stores;
       left_filled : All (λ p. 0 < length p.bytes) left;

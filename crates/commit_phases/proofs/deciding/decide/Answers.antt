@@ -1,15 +1,8 @@
-use Rattle.std.proofs.Common.{◌≡◌, ℕ, ◌≤◌, ◌∙◌, List, Option, Some, None, Result, Ok, length, map, sym, ap, subst, arith}
-use Rattle.zb_model.specs.declared.data.Change.{Change}
-use Rattle.zb_model.specs.declared.data.Transaction.{Transaction}
+use Rattle.std.proofs.Common.{◌≡◌, List, Some, None, length, sym, ap, subst, arith}
 use Rattle.zb_model.specs.declared.new_transaction.NewChange.{NewChange}
-use Rattle.zb_model.specs.declared.pending.PendingCheck.{PendingCheck}
 use Rattle.zb_model.specs.declared.pending.PendingStore.{PendingStore}
-use Rattle.zb_model.specs.declared.refusal.Refusal.{Refusal}
 use Rattle.zb_model.specs.Stores.{StoreState}
-use Rattle.zb_model.specs.Voting.{voted_change}
-use Rattle.commit_phases.specs.Decision.{changes_of_stores, excess_of, failed_check}
-use Rattle.commit_phases.specs.Pending.{AreStores, PendingChanges}
-use Rattle.commit_phases.specs.Resolving.{length_of_new}
+use Rattle.commit_phases.specs.Pending.{AreStores}
 use Rattle.commit_phases.proofs.Settling.{decision_is, few_changes}
 use Rattle.commit_phases.proofs.deciding.decide.Goals as goal
 
@@ -17,7 +10,8 @@ pub returns-in-Some-clause-read : goal.returns-in-Some-clause-read
 returns-in-Some-clause-read g c = record {
   same = c.in_ok-changes.ensures.read.same;
   counted = c.in_ok-changes.ensures.read.counted;
-  cause = c.in-Some.ensures.cause _ _;
+  cause = c.in-Some.ensures.cause _ _ c.in_ok-changes.ensures.read.answered;
+  answered = tt;
 }
 
 pub excess-requires : goal.excess-requires

@@ -1,11 +1,11 @@
-use Rattle.std.proofs.Common.{◌≡◌, ℕ, ◌+◌, ◌-◌, ◌<◌, ◌≤◌, List, length, sym, ap, ◌∙◌, arith}
+use Rattle.std.proofs.Common.{◌≡◌, ℕ, ◌+◌, ◌-◌, List, length, sym, ap, ◌∙◌, arith}
 use Rattle.std.specs.Prelude.{nat_eq}
 use Rattle.std.specs.Map.{lookup}
 use Rattle.zb_model.specs.declared.pending.PendingStore.{PendingStore}
 use Rattle.indexmap.specs.IndexMap.{insert_entry}
 use Rattle.commit_phases.specs.declared.pending.Stored.{Stored}
 use Rattle.commit_phases.specs.Kept.{length_or_none, stores_of}
-use Rattle.commit_phases.specs.Pending.{object_limit, size_of_stores, transaction_limit, with_pending}
+use Rattle.commit_phases.specs.Pending.{size_of_stores, with_pending}
 use Rattle.commit_phases.proofs.Storing.{are_stores, earlier_within, kept_as, put_fits, put_is, put_size, put_too_long}
 use Rattle.commit_phases.proofs.pending.put.Goals as goal
 

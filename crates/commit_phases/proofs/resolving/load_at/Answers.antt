@@ -1,5 +1,4 @@
-use Rattle.std.proofs.Common.{◌≡◌, ℕ, ◌+◌, ◌<◌, sym, ap, ◌∙◌, arith}
-use Rattle.zb_model.specs.Database.{newest_tid}
+use Rattle.std.proofs.Common.{ℕ, ◌+◌, sym, ap, ◌∙◌, arith}
 use Rattle.zb_model.specs.Queries.{found_below}
 use Rattle.commit_phases.specs.Resolving.{bytes_with, held_of}
 use Rattle.commit_phases.proofs.Serials.{at_is, none_spent}

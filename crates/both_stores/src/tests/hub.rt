@@ -1,0 +1,6 @@
+//! Requests and replies.
+mod asking;
+mod faults;
+mod limits;
+mod rows;
+mod telling;

@@ -1,0 +1,6 @@
+//! Votes, by rules that put texts together.
+mod answers;
+mod joining;
+mod limits;
+mod making;
+mod telling;

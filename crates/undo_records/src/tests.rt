@@ -1,4 +1,0 @@
-//! Undo over a list.
-mod making;
-mod plain;
-mod steps;
