@@ -19,7 +19,7 @@ use Rattle.btree_family.specs.declared.key.Key.TheVariants as keys
 use Rattle.btree_family.specs.declared.table.KeyKind.{KeyKind}
 use Rattle.btree_family.specs.declared.table.ValueKind.{ValueKind}
 use Rattle.btree_family.specs.declared.table.ValueKind.TheVariants as values
-use Rattle.btree_family.specs.declared.table.ClassRow.{ClassRow}
+use Rattle.btree_family.specs.Classes.{Class}
 use Rattle.btree_family.specs.declared.bucket.Item.{Item}
 use Rattle.btree_family.specs.Families.{key_fits}
 use Rattle.btree_family.specs.Buckets.{keys_of}
@@ -86,10 +86,10 @@ shifted_fits values.Int64 by _ = refl
 abbrev pub Extends : List Node → List Node → Type 0
 Extends xs big = (n : ℕ) (x : Node) → slice_get xs n ≡ Some x → slice_get big n ≡ Some x
 
-laid_extends : (laid : Laid) (g : Graph) → Extends laid.nodes (laid_on laid g).nodes
+pub laid_extends : (laid : Laid) (g : Graph) → Extends laid.nodes (laid_on laid g).nodes
 laid_extends laid g n x h = get_front laid.nodes (map (shifted (length laid.nodes)) g.nodes) n x h
 
-laid_within : (laid : Laid) (g : Graph) (big : List Node) → Extends (laid_on laid g).nodes big → Within big g.nodes (length laid.nodes)
+pub laid_within : (laid : Laid) (g : Graph) (big : List Node) → Extends (laid_on laid g).nodes big → Within big g.nodes (length laid.nodes)
 laid_within laid g big ext n x h =
     ext (length laid.nodes + n) (shifted (length laid.nodes) x)
     (get_behind laid.nodes (map (shifted (length laid.nodes)) g.nodes) n ∙ get_map (shifted (length laid.nodes)) g.nodes n ∙ ap (option_map (shifted (length laid.nodes))) h)
@@ -121,17 +121,17 @@ value_back kind text g laid big read ext =
 -- ---- items
 
 -- the roots that items add, and what they are read as wherever the nodes lie
-pub record Rooted (values : Bool) (row : ClassRow) (start end : Laid) (items : List Item) : Type 0 where
+pub record Rooted (values : Bool) (class : Class) (start end : Laid) (items : List Item) : Type 0 where
   pub roots : List ℕ
   pub added : end.roots ≡ start.roots ++ roots
   pub kept : Extends start.nodes end.nodes
   pub entries : List Entry
   pub told : entries_in values roots ≡ Some entries
-  pub read : (big : List Node) → Extends end.nodes big → found_all (entry_item row big) entries ≡ Some items
+  pub read : (big : List Node) → Extends end.nodes big → found_all (entry_item class big) entries ≡ Some items
 
 -- a key alone, and the rest
-one_more_key : (row : ClassRow) (laid : Laid) (key : Key) (items : List Item) → key_fits row.key key ≡ true → Rooted false row (laid_on laid (key_graph key)) (laid_all (laid_on laid (key_graph key)) (item_graphs items)) items → Rooted false row laid (laid_all (laid_on laid (key_graph key)) (item_graphs items)) (record { key = key; value = None } ∷ items)
-one_more_key row laid key items fits rest =
+one_more_key : (class : Class) (laid : Laid) (key : Key) (items : List Item) → key_fits class.key key ≡ true → Rooted false class (laid_on laid (key_graph key)) (laid_all (laid_on laid (key_graph key)) (item_graphs items)) items → Rooted false class laid (laid_all (laid_on laid (key_graph key)) (item_graphs items)) (record { key = key; value = None } ∷ items)
+one_more_key class laid key items fits rest =
     let at : ℕ = length laid.nodes + 0 in
     record {
       roots = at ∷ rest.roots;
@@ -140,14 +140,14 @@ one_more_key row laid key items fits rest =
       entries = record { key = at; value = None } ∷ rest.entries;
       told = ap (option_map (λ (es : List Entry). record { key = at; value = None } ∷ es)) rest.told;
       read = λ big ext.
-          let first = key_read row.key key laid big fits (λ n x h. ext n x (rest.kept n x h)) in
+          let first = key_read class.key key laid big fits (λ n x h. ext n x (rest.kept n x h)) in
           let later = rest.read big ext in
           (λ i. found_both (λ y ys. y ∷ ys) (found_both (λ k v. record { key = k; value = v }) (first i) (Some None)) (later i));
     }
 
 -- a key with its value, and the rest
-one_more_pair : (row : ClassRow) (laid : Laid) (key : Key) (text : List ℕ) (items : List Item) → key_fits row.key key ≡ true → IsRead row.value text (value_graph text) → Rooted true row (laid_on (laid_on laid (key_graph key)) (value_graph text)) (laid_all (laid_on (laid_on laid (key_graph key)) (value_graph text)) (item_graphs items)) items → Rooted true row laid (laid_all (laid_on (laid_on laid (key_graph key)) (value_graph text)) (item_graphs items)) (record { key = key; value = Some text } ∷ items)
-one_more_pair row laid key text items fits value rest =
+one_more_pair : (class : Class) (laid : Laid) (key : Key) (text : List ℕ) (items : List Item) → key_fits class.key key ≡ true → IsRead class.value text (value_graph text) → Rooted true class (laid_on (laid_on laid (key_graph key)) (value_graph text)) (laid_all (laid_on (laid_on laid (key_graph key)) (value_graph text)) (item_graphs items)) items → Rooted true class laid (laid_all (laid_on (laid_on laid (key_graph key)) (value_graph text)) (item_graphs items)) (record { key = key; value = Some text } ∷ items)
+one_more_pair class laid key text items fits value rest =
     let one : Laid = laid_on laid (key_graph key) in
     let at : ℕ = length laid.nodes + 0 in
     let to : ℕ = length one.nodes + (value_graph text).root in
@@ -159,26 +159,26 @@ one_more_pair row laid key text items fits value rest =
       told = ap (option_map (λ (es : List Entry). record { key = at; value = Some to } ∷ es)) rest.told;
       read = λ big ext.
           let two : Extends (laid_on one (value_graph text)).nodes big = λ n x h. ext n x (rest.kept n x h) in
-          let first = key_read row.key key laid big fits (λ n x h. two n x (laid_extends one (value_graph text) n x h)) in
-          let second = value_back row.value text (value_graph text) one big value two in
+          let first = key_read class.key key laid big fits (λ n x h. two n x (laid_extends one (value_graph text) n x h)) in
+          let second = value_back class.value text (value_graph text) one big value two in
           let later = rest.read big ext in
           (λ i. found_both (λ y ys. y ∷ ys) (found_both (λ k v. record { key = k; value = v }) (first i) (option_map (λ t. Some t) (second i))) (later i));
     }
 
-key_case : (row : ClassRow) (laid : Laid) (key : Key) (o : Option (List ℕ)) (items : List Item) → key_fits row.key key ≡ true → ValueStands false row.value o → ((l : Laid) → Rooted false row l (laid_all l (item_graphs items)) items) → Rooted false row laid (laid_all laid (item_graphs (record { key = key; value = o } ∷ items))) (record { key = key; value = o } ∷ items)
-key_case row laid key None items fits stands rest = one_more_key row laid key items fits (rest (laid_on laid (key_graph key)))
-key_case row laid key (Some text) items fits stands rest = absurd stands
+key_case : (class : Class) (laid : Laid) (key : Key) (o : Option (List ℕ)) (items : List Item) → key_fits class.key key ≡ true → ValueStands false class.value o → ((l : Laid) → Rooted false class l (laid_all l (item_graphs items)) items) → Rooted false class laid (laid_all laid (item_graphs (record { key = key; value = o } ∷ items))) (record { key = key; value = o } ∷ items)
+key_case class laid key None items fits stands rest = one_more_key class laid key items fits (rest (laid_on laid (key_graph key)))
+key_case class laid key (Some text) items fits stands rest = absurd stands
 
-pair_case : WrittenReadsBack → (row : ClassRow) (laid : Laid) (key : Key) (o : Option (List ℕ)) (items : List Item) → key_fits row.key key ≡ true → ValueStands true row.value o → ((l : Laid) → Rooted true row l (laid_all l (item_graphs items)) items) → Rooted true row laid (laid_all laid (item_graphs (record { key = key; value = o } ∷ items))) (record { key = key; value = o } ∷ items)
-pair_case law row laid key None items fits stands rest = absurd stands
-pair_case law row laid key (Some text) items fits stands rest =
-    one_more_pair row laid key text items fits (value_read law row.value text stands) (rest (laid_on (laid_on laid (key_graph key)) (value_graph text)))
+pair_case : WrittenReadsBack → (class : Class) (laid : Laid) (key : Key) (o : Option (List ℕ)) (items : List Item) → key_fits class.key key ≡ true → ValueStands true class.value o → ((l : Laid) → Rooted true class l (laid_all l (item_graphs items)) items) → Rooted true class laid (laid_all laid (item_graphs (record { key = key; value = o } ∷ items))) (record { key = key; value = o } ∷ items)
+pair_case law class laid key None items fits stands rest = absurd stands
+pair_case law class laid key (Some text) items fits stands rest =
+    one_more_pair class laid key text items fits (value_read law class.value text stands) (rest (laid_on (laid_on laid (key_graph key)) (value_graph text)))
 
-items_back : WrittenReadsBack → (values : Bool) (row : ClassRow) (laid : Laid) (items : List Item) → ItemsStand values row.key row.value items → Rooted values row laid (laid_all laid (item_graphs items)) items
-items_back law true row laid [] stand = record { roots = []; added = sym (append-nil laid.roots); kept = λ n x h. h; entries = []; told = refl; read = λ big ext. refl }
-items_back law false row laid [] stand = record { roots = []; added = sym (append-nil laid.roots); kept = λ n x h. h; entries = []; told = refl; read = λ big ext. refl }
-items_back law false row laid (item ∷ items) stand = key_case row laid item.key item.value items stand.0 stand.1 (λ l. items_back law false row l items stand.2)
-items_back law true row laid (item ∷ items) stand = pair_case law row laid item.key item.value items stand.0 stand.1 (λ l. items_back law true row l items stand.2)
+items_back : WrittenReadsBack → (values : Bool) (class : Class) (laid : Laid) (items : List Item) → ItemsStand values class.key class.value items → Rooted values class laid (laid_all laid (item_graphs items)) items
+items_back law true class laid [] stand = record { roots = []; added = sym (append-nil laid.roots); kept = λ n x h. h; entries = []; told = refl; read = λ big ext. refl }
+items_back law false class laid [] stand = record { roots = []; added = sym (append-nil laid.roots); kept = λ n x h. h; entries = []; told = refl; read = λ big ext. refl }
+items_back law false class laid (item ∷ items) stand = key_case class laid item.key item.value items stand.0 stand.1 (λ l. items_back law false class l items stand.2)
+items_back law true class laid (item ∷ items) stand = pair_case law class laid item.key item.value items stand.0 stand.1 (λ l. items_back law true class l items stand.2)
 
 -- ---- a graph that lies first
 
@@ -231,26 +231,26 @@ zero_nodes (x ∷ xs) = λ i. zero_node x i ∷ zero_nodes xs i
 -- ---- the whole
 
 -- the tuple behind its items
-tuple_last : (ns : List Node) (roots : List ℕ) → slice_get (ns ++ nodes.Tuple roots ∷ []) (length ns) ≡ Some (nodes.Tuple roots)
+pub tuple_last : (ns : List Node) (roots : List ℕ) → slice_get (ns ++ nodes.Tuple roots ∷ []) (length ns) ≡ Some (nodes.Tuple roots)
 tuple_last ns roots =
     let e : length ns ≡ length ns + 0 = omega arith in
     ap (slice_get (ns ++ nodes.Tuple roots ∷ [])) e ∙ get_behind ns (nodes.Tuple roots ∷ []) 0
 
 -- the tuple of items, wherever its graph lies first
-items_read : WrittenReadsBack → (row : ClassRow) (items : List Item) (big : List Node) → ItemsStand (has_values row.kind) row.key row.value items → stand_in_row None (keys_of items) ≡ true → Extends (tuple_graph (item_graphs items)).nodes big → state_items row big (0 + (tuple_graph (item_graphs items)).root) ≡ Some items
-items_read law row items big stand rising ext =
+pub items_read : WrittenReadsBack → (class : Class) (items : List Item) (big : List Node) → ItemsStand (has_values class.kind) class.key class.value items → stand_in_row None (keys_of items) ≡ true → Extends (tuple_graph (item_graphs items)).nodes big → state_items class big (0 + (tuple_graph (item_graphs items)).root) ≡ Some items
+items_read law class items big stand rising ext =
     let fin : Laid = laid_all no_graphs (item_graphs items) in
-    let back = items_back law (has_values row.kind) row no_graphs items stand in
+    let back = items_back law (has_values class.kind) class no_graphs items stand in
     let place : 0 + length fin.nodes ≡ length fin.nodes = omega arith in
     let there : slice_get big (0 + length fin.nodes) ≡ Some (nodes.Tuple fin.roots) = ap (slice_get big) place ∙ ext (length fin.nodes) (nodes.Tuple fin.roots) (tuple_last fin.nodes fin.roots) in
     let front : Extends fin.nodes big = λ n x h. ext n x (get_front fin.nodes (nodes.Tuple fin.roots ∷ []) n x h) in
-    ap (λ (o : Option Node). option_and_then (member_items row big) (tuple_in o)) there
-    ∙ ap (member_items row big) back.added
-    ∙ ap (λ (o : Option (List Entry)). option_and_then standing_items (option_and_then (found_all (entry_item row big)) o)) back.told
+    ap (λ (o : Option Node). option_and_then (member_items class big) (tuple_in o)) there
+    ∙ ap (member_items class big) back.added
+    ∙ ap (λ (o : Option (List Entry)). option_and_then standing_items (option_and_then (found_all (entry_item class big)) o)) back.told
     ∙ ap (option_and_then standing_items) (back.read big front)
     ∙ ap (λ (t : Bool). cond t (Some items) None) rising
 
-first_extends : (g : Graph) → Extends g.nodes (laid_on no_graphs g).nodes
+pub first_extends : (g : Graph) → Extends g.nodes (laid_on no_graphs g).nodes
 first_extends g n x h = ap (λ (xs : List Node). slice_get xs n) (zero_nodes g.nodes) ∙ h
 
 link_read : (oid : ℕ) (m n : List ℕ) (laid : Laid) (big : List Node) → oid < 2 ^ 64 → Extends (laid_on laid (link_graph oid m n)).nodes big → link_at big (length laid.nodes + (link_graph oid m n).root) ≡ Some oid
@@ -266,28 +266,28 @@ link_read oid m n laid big low ext =
     ∙ ap (λ (o : Option Node). one_oid (with_name (oid_of o) (Some []))) at0
     ∙ ap Some (big_number-reads_back 8 oid [] low)
 
-closed_extends : (laid : Laid) → Extends laid.nodes (closed laid).nodes
+pub closed_extends : (laid : Laid) → Extends laid.nodes (closed laid).nodes
 closed_extends laid n x h = get_front laid.nodes (nodes.Tuple laid.roots ∷ []) n x h
 
-closed_root : (laid : Laid) → slice_get (closed laid).nodes (closed laid).root ≡ Some (nodes.Tuple laid.roots)
+pub closed_root : (laid : Laid) → slice_get (closed laid).nodes (closed laid).root ≡ Some (nodes.Tuple laid.roots)
 closed_root laid = tuple_last laid.nodes laid.roots
 
-back_by : WrittenReadsBack → (row : ClassRow) (items : List Item) (next : Option ℕ) → ItemsStand (has_values row.kind) row.key row.value items → stand_in_row None (keys_of items) ≡ true → IsLink next → bucket_of row (bucket_graph row (record { items = items; next = next })) ≡ Some (record { items = items; next = next })
-back_by law row items None stand rising link =
+back_by : WrittenReadsBack → (class : Class) (items : List Item) (next : Option ℕ) → ItemsStand (has_values class.kind) class.key class.value items → stand_in_row None (keys_of items) ≡ true → IsLink next → bucket_of class (bucket_graph class (record { items = items; next = next })) ≡ Some (record { items = items; next = next })
+back_by law class items None stand rising link =
     let t : Graph = tuple_graph (item_graphs items) in
     let outer : Laid = laid_on no_graphs t in
     let big : List Node = (closed outer).nodes in
-    let read = items_read law row items big stand rising (λ n x h. closed_extends outer n x (first_extends t n x h)) in
-    ap (λ (o : Option Node). option_and_then (bucket_in row big) (tuple_in o)) (closed_root outer) ∙ ap (with_next None) read
-back_by law row items (Some oid) stand rising link =
+    let read = items_read law class items big stand rising (λ n x h. closed_extends outer n x (first_extends t n x h)) in
+    ap (λ (o : Option Node). option_and_then (bucket_in class big) (tuple_in o)) (closed_root outer) ∙ ap (with_next None) read
+back_by law class items (Some oid) stand rising link =
     let t : Graph = tuple_graph (item_graphs items) in
     let outer : Laid = laid_on no_graphs t in
-    let g : Graph = link_graph oid row.«module».now row.name.now in
+    let g : Graph = link_graph oid class.module_name class.class_name in
     let both : Laid = laid_on outer g in
     let big : List Node = (closed both).nodes in
-    let read = items_read law row items big stand rising (λ n x h. closed_extends both n x (laid_extends outer g n x (first_extends t n x h))) in
-    let linked_to = link_read oid row.«module».now row.name.now outer big link (closed_extends both) in
-    ap (λ (o : Option Node). option_and_then (bucket_in row big) (tuple_in o)) (closed_root both) ∙ (λ i. linked (linked_to i) (read i))
+    let read = items_read law class items big stand rising (λ n x h. closed_extends both n x (laid_extends outer g n x (first_extends t n x h))) in
+    let linked_to = link_read oid class.module_name class.class_name outer big link (closed_extends both) in
+    ap (λ (o : Option Node). option_and_then (bucket_in class big) (tuple_in o)) (closed_root both) ∙ (λ i. linked (linked_to i) (read i))
 
 pub bucket_back : WrittenReadsBack → WrittenBucketReadsBack
-bucket_back law row bucket stands = back_by law row bucket.items bucket.next stands.items stands.rising stands.link
+bucket_back law class bucket stands = back_by law class bucket.items bucket.next stands.items stands.rising stands.link

@@ -11,11 +11,11 @@ use Rattle.bucket_state.specs.Written.{shifted, shifted_act, shifted_pair, IsLai
 
 -- ---- numbers below a bound
 
-below_more : (n m : ℕ) (xs : List ℕ) → n ≤ m → AllBelow n xs → AllBelow m xs
+pub below_more : (n m : ℕ) (xs : List ℕ) → n ≤ m → AllBelow n xs → AllBelow m xs
 below_more n m [] l h = tt
 below_more n m (x ∷ xs) l h = (omega (arith, h.0), below_more n m xs l h.1)
 
-pairs_more : (n m : ℕ) (xs : List (ℕ × ℕ)) → n ≤ m → PairsBelow n xs → PairsBelow m xs
+pub pairs_more : (n m : ℕ) (xs : List (ℕ × ℕ)) → n ≤ m → PairsBelow n xs → PairsBelow m xs
 pairs_more n m [] l h = tt
 pairs_more n m (x ∷ xs) l h = (omega (arith, h.0), omega (arith, h.1), pairs_more n m xs l h.2)
 
@@ -24,15 +24,15 @@ act_more n m (Append value) l h = omega arith
 act_more n m (Set key value) l h = (omega (arith, h.0), omega (arith, h.1))
 act_more n m (Build state) l h = omega arith
 
-acts_more : (n m : ℕ) (xs : List Act) → n ≤ m → ActsBelow n xs → ActsBelow m xs
+pub acts_more : (n m : ℕ) (xs : List Act) → n ≤ m → ActsBelow n xs → ActsBelow m xs
 acts_more n m [] l h = tt
 acts_more n m (x ∷ xs) l h = (act_more n m x l h.0, acts_more n m xs l h.1)
 
-below_shifted : (by n : ℕ) (xs : List ℕ) → AllBelow n xs → AllBelow (by + n) (map (λ k. by + k) xs)
+pub below_shifted : (by n : ℕ) (xs : List ℕ) → AllBelow n xs → AllBelow (by + n) (map (λ k. by + k) xs)
 below_shifted by n [] h = tt
 below_shifted by n (x ∷ xs) h = (omega (arith, h.0), below_shifted by n xs h.1)
 
-pairs_shifted : (by n : ℕ) (xs : List (ℕ × ℕ)) → PairsBelow n xs → PairsBelow (by + n) (map (shifted_pair by) xs)
+pub pairs_shifted : (by n : ℕ) (xs : List (ℕ × ℕ)) → PairsBelow n xs → PairsBelow (by + n) (map (shifted_pair by) xs)
 pairs_shifted by n [] h = tt
 pairs_shifted by n (x ∷ xs) h = (omega (arith, h.0), omega (arith, h.1), pairs_shifted by n xs h.2)
 
@@ -41,7 +41,7 @@ act_shifted by n (Append value) h = omega arith
 act_shifted by n (Set key value) h = (omega (arith, h.0), omega (arith, h.1))
 act_shifted by n (Build state) h = omega arith
 
-acts_shifted : (by n : ℕ) (xs : List Act) → ActsBelow n xs → ActsBelow (by + n) (map (shifted_act by) xs)
+pub acts_shifted : (by n : ℕ) (xs : List Act) → ActsBelow n xs → ActsBelow (by + n) (map (shifted_act by) xs)
 acts_shifted by n [] h = tt
 acts_shifted by n (x ∷ xs) h = (act_shifted by n x h.0, acts_shifted by n xs h.1)
 
@@ -85,7 +85,7 @@ tuple_shifted by (Some (nodes.Global a b)) h = cc
 tuple_shifted by (Some (nodes.Reference id)) h = cc
 tuple_shifted by (Some (nodes.Object a b c d)) h = cc
 
-longer : (xs ys : List Node) → length xs ≤ length (xs ++ ys)
+pub longer : (xs ys : List Node) → length xs ≤ length (xs ++ ys)
 longer xs ys = simp length-append (omega arith)
 
 node_more : (ns more : List Node) (node : Node) → IsNode ns node → IsNode (ns ++ more) node
@@ -118,7 +118,7 @@ length_map f [] = refl
 length_map f (x ∷ xs) = ap suc (length_map f xs)
 
 -- a graph's nodes behind others
-length_laid : (ns g : List Node) → length (ns ++ map (shifted (length ns)) g) ≡ length ns + length g
+pub length_laid : (ns g : List Node) → length (ns ++ map (shifted (length ns)) g) ≡ length ns + length g
 length_laid ns g = length-append ns (map (shifted (length ns)) g) ∙ ap (λ (n : ℕ). length ns + n) (length_map (shifted (length ns)) g)
 
 node_behind : (ns g : List Node) (node : Node) → IsNode g node → IsNode (ns ++ map (shifted (length ns)) g) (shifted (length ns) node)
@@ -147,7 +147,7 @@ nodes_behind : (ns g rest : List Node) → AreNodes g rest → AreNodes (ns ++ m
 nodes_behind ns g [] h = tt
 nodes_behind ns g (node ∷ rest) h = (node_behind ns g node h.0, nodes_behind ns g rest h.1)
 
-below_append : (n : ℕ) (xs : List ℕ) (x : ℕ) → AllBelow n xs → x < n → AllBelow n (xs ++ x ∷ [])
+pub below_append : (n : ℕ) (xs : List ℕ) (x : ℕ) → AllBelow n xs → x < n → AllBelow n (xs ++ x ∷ [])
 below_append n [] x h l = (l, tt)
 below_append n (y ∷ ys) x h l = (h.0, below_append n ys x h.1 l)
 

@@ -8,3 +8,7 @@ pub mod Sharing
 pub mod Spelled
 pub mod Shifts
 pub mod Back
+pub mod Leaves
+pub mod Keyed
+pub mod Depths
+pub mod Shallow

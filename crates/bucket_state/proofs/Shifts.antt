@@ -9,6 +9,8 @@ use Rattle.pickle_value.specs.declared.node.Act.TheVariants.{Append, Set, Build}
 use Rattle.pickle_value.specs.Graph.{Graph, AllBelow, PairsBelow, ActBelow, ActsBelow}
 use Rattle.pickle_value.specs.Same.{HasOrigin, HaveOrigins, PairsStandFor, ActStandsFor, ActsStandFor, IsCopy, AllCopies, StandOnce, IsSame, has}
 use Rattle.pickle_value.specs.Spelling.{spelling_of}
+use Rattle.pickle_value.specs.Walks.{has_walk}
+use Rattle.bucket_state.proofs.Ways.{walks_alike}
 use Rattle.bucket_state.specs.Written.{shifted, shifted_act, shifted_pair}
 use Rattle.bucket_state.proofs.Sound.{in_range}
 use Rattle.bucket_state.proofs.Spelled.{same_spelled}
@@ -156,17 +158,25 @@ within_copies origin big small by i (x ∷ rest) stands within at below =
       subst (λ (k : ℕ). AllCopies origin big rest (counting k rest)) count (within_copies origin big small by (i + 1) rest stands within next below.1),
     )
 
-pub spelled_within : (big small : List Node) (by root : ℕ) → Within big small by → AllNameBelow (length small) small → root < length small → spelling_of big (by + root) ≡ spelling_of small root
-spelled_within big small by root within below low =
+-- the graph within is the same as by itself
+within_same : (big small : List Node) (by root : ℕ) → Within big small by → AllNameBelow (length small) small → root < length small → IsSame (record { nodes = big; root = by + root }) (record { nodes = small; root = root })
+within_same big small by root within below low =
     let origin : List ℕ = counting (by + 0) small in
     let stands : (n : ℕ) → n < length small → HasOrigin origin n (by + n) = λ n l. counting_at (by + 0) small n l ∙ (let e : by + 0 + n ≡ by + n = omega arith in ap Some e) in
     let front : (k : ℕ) → 0 + k ≡ k = λ k. omega arith in
-    let g : Graph = record { nodes = big; root = by + root } in
-    let copy : Graph = record { nodes = small; root = root } in
-    let same : IsSame g copy = record {
+    record {
       origin = origin;
       each = within_copies origin big small by 0 small stands within (λ k. ap (slice_get small) (front k)) below;
       root = stands root low;
       once = counting_once big (by + 0) small;
-    } in
-    sym (same_spelled g copy same)
+    }
+
+pub spelled_within : (big small : List Node) (by root : ℕ) → Within big small by → AllNameBelow (length small) small → root < length small → spelling_of big (by + root) ≡ spelling_of small root
+spelled_within big small by root within below low =
+    sym (same_spelled (record { nodes = big; root = by + root }) (record { nodes = small; root = root }) (within_same big small by root within below low))
+
+-- walks within are those of the graph by itself
+pub walks_within : (n : ℕ) (big small : List Node) (by root : ℕ) → Within big small by → AllNameBelow (length small) small → root < length small → has_walk n big (by + root) ≡ has_walk n small root
+walks_within n big small by root within below low =
+    let same = within_same big small by root within below low in
+    sym (walks_alike n same.origin big small root (by + root) same.each same.root)

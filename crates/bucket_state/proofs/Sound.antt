@@ -14,7 +14,7 @@ use Rattle.btree_family.specs.declared.table.KeyKind.{KeyKind}
 use Rattle.btree_family.specs.Families.{key_fits}
 use Rattle.bucket_state.specs.Writable.{IsWritable, AreWritable}
 use Rattle.btree_family.specs.declared.table.ValueKind.{ValueKind}
-use Rattle.btree_family.specs.declared.table.ClassRow.{ClassRow}
+use Rattle.btree_family.specs.Classes.{Class}
 use Rattle.btree_family.specs.declared.bucket.Item.{Item}
 use Rattle.btree_family.specs.Keys.{key_cmp, rank_of}
 use Rattle.btree_family.specs.Rising.{Rises}
@@ -71,32 +71,32 @@ entry_spelled kind ns root (Some n) found sound h = by_value (family_value_at ki
         subst IsValue same (value_spelled kind ns root n (slice_get ns n) text sound refl e)
 
 -- what is found for both
-of_both : {A B C : Type 0} (f : A → B → C) (a : Option A) (b : Option B) (c : C) → found_both f a b ≡ Some c → (x : A) × (y : B) × (a ≡ Some x) × (b ≡ Some y) × (f x y ≡ c)
+pub of_both : {A B C : Type 0} (f : A → B → C) (a : Option A) (b : Option B) (c : C) → found_both f a b ≡ Some c → (x : A) × (y : B) × (a ≡ Some x) × (b ≡ Some y) × (f x y ≡ c)
 of_both f None b c h = cc
 of_both f (Some x) None c h = cc
 of_both f (Some x) (Some y) c h = let same : f x y ≡ c = cc in (x, y, refl, refl, same)
 
-all_spelled : (row : ClassRow) (ns : List Node) (root : ℕ) (entries : List Entry) (items : List Item) → IsGraph ns root → found_all (entry_item row ns) entries ≡ Some items → AreValues items
-all_spelled row ns root [] [] sound h = tt
-all_spelled row ns root [] (item ∷ items) sound h = cc
-all_spelled row ns root (entry ∷ entries) items sound h =
-    let all = of_both (λ y ys. y ∷ ys) (entry_item row ns entry) (found_all (entry_item row ns) entries) items h in
-    let parts = of_both (λ key value. record { key = key; value = value }) (key_at row.key ns entry.key) (entry_value row.value ns entry.value) all.0 all.2 in
+all_spelled : (class : Class) (ns : List Node) (root : ℕ) (entries : List Entry) (items : List Item) → IsGraph ns root → found_all (entry_item class ns) entries ≡ Some items → AreValues items
+all_spelled class ns root [] [] sound h = tt
+all_spelled class ns root [] (item ∷ items) sound h = cc
+all_spelled class ns root (entry ∷ entries) items sound h =
+    let all = of_both (λ y ys. y ∷ ys) (entry_item class ns entry) (found_all (entry_item class ns) entries) items h in
+    let parts = of_both (λ key value. record { key = key; value = value }) (key_at class.key ns entry.key) (entry_value class.value ns entry.value) all.0 all.2 in
     let value : parts.1 ≡ all.0.value = ap (λ (item : Item). item.value) parts.4 in
-    subst AreValues all.4 (subst IsValue value (entry_spelled row.value ns root entry.value parts.1 sound parts.3), all_spelled row ns root entries all.1 sound all.3)
+    subst AreValues all.4 (subst IsValue value (entry_spelled class.value ns root entry.value parts.1 sound parts.3), all_spelled class ns root entries all.1 sound all.3)
 
-pub items_bucket : (row : ClassRow) (ns : List Node) (root : ℕ) (members : List ℕ) (items : List Item) → IsGraph ns root → member_items row ns members ≡ Some items → IsBucket items
-items_bucket row ns root members items sound h = by_entries (entries_in (has_values row.kind) members) h
+pub items_bucket : (class : Class) (ns : List Node) (root : ℕ) (members : List ℕ) (items : List Item) → IsGraph ns root → member_items class ns members ≡ Some items → IsBucket items
+items_bucket class ns root members items sound h = by_entries (entries_in (has_values class.kind) members) h
   where
-    by_items : (entries : List Entry) (o : Option (List Item)) → found_all (entry_item row ns) entries ≡ o → option_and_then standing_items o ≡ Some items → IsBucket items
+    by_items : (entries : List Entry) (o : Option (List Item)) → found_all (entry_item class ns) entries ≡ o → option_and_then standing_items o ≡ Some items → IsBucket items
     by_items entries None e g = cc
     by_items entries (Some found) e g =
         let p = passed (stand_in_row None (keys_of found)) found items g in
-        subst IsBucket p.1 (record { rises = rises_by None (keys_of found) p.0; spelled = all_spelled row ns root entries found sound e })
+        subst IsBucket p.1 (record { rises = rises_by None (keys_of found) p.0; spelled = all_spelled class ns root entries found sound e })
 
-    by_entries : (o : Option (List Entry)) → option_and_then standing_items (option_and_then (found_all (entry_item row ns)) o) ≡ Some items → IsBucket items
+    by_entries : (o : Option (List Entry)) → option_and_then standing_items (option_and_then (found_all (entry_item class ns)) o) ≡ Some items → IsBucket items
     by_entries None g = cc
-    by_entries (Some entries) g = by_items entries (found_all (entry_item row ns) entries) refl g
+    by_entries (Some entries) g = by_items entries (found_all (entry_item class ns) entries) refl g
 
 -- ---- keys of a graph can be written
 
@@ -131,25 +131,25 @@ fitting_writable ns root n kind (Some node) key sound e h = by_key (key_in (Some
         let p = passed (key_fits kind found) found key g in
         subst IsWritable p.1 (key_writable ns node found (node_at ns ns n node sound.each e) is)
 
-all_writable : (row : ClassRow) (ns : List Node) (root : ℕ) (entries : List Entry) (items : List Item) → IsGraph ns root → found_all (entry_item row ns) entries ≡ Some items → AreWritable (keys_of items)
-all_writable row ns root [] [] sound h = tt
-all_writable row ns root [] (item ∷ items) sound h = cc
-all_writable row ns root (entry ∷ entries) items sound h =
-    let all = of_both (λ y ys. y ∷ ys) (entry_item row ns entry) (found_all (entry_item row ns) entries) items h in
-    let parts = of_both (λ key value. record { key = key; value = value }) (key_at row.key ns entry.key) (entry_value row.value ns entry.value) all.0 all.2 in
+all_writable : (class : Class) (ns : List Node) (root : ℕ) (entries : List Entry) (items : List Item) → IsGraph ns root → found_all (entry_item class ns) entries ≡ Some items → AreWritable (keys_of items)
+all_writable class ns root [] [] sound h = tt
+all_writable class ns root [] (item ∷ items) sound h = cc
+all_writable class ns root (entry ∷ entries) items sound h =
+    let all = of_both (λ y ys. y ∷ ys) (entry_item class ns entry) (found_all (entry_item class ns) entries) items h in
+    let parts = of_both (λ key value. record { key = key; value = value }) (key_at class.key ns entry.key) (entry_value class.value ns entry.value) all.0 all.2 in
     let key : parts.0 ≡ all.0.key = ap (λ (item : Item). item.key) parts.4 in
-    let writable : IsWritable parts.0 = fitting_writable ns root entry.key row.key (slice_get ns entry.key) parts.0 sound refl parts.2 in
-    subst (λ (x : List Item). AreWritable (keys_of x)) all.4 (subst IsWritable key writable, all_writable row ns root entries all.1 sound all.3)
+    let writable : IsWritable parts.0 = fitting_writable ns root entry.key class.key (slice_get ns entry.key) parts.0 sound refl parts.2 in
+    subst (λ (x : List Item). AreWritable (keys_of x)) all.4 (subst IsWritable key writable, all_writable class ns root entries all.1 sound all.3)
 
-pub items_writable : (row : ClassRow) (ns : List Node) (root : ℕ) (members : List ℕ) (items : List Item) → IsGraph ns root → member_items row ns members ≡ Some items → AreWritable (keys_of items)
-items_writable row ns root members items sound h = by_entries (entries_in (has_values row.kind) members) h
+pub items_writable : (class : Class) (ns : List Node) (root : ℕ) (members : List ℕ) (items : List Item) → IsGraph ns root → member_items class ns members ≡ Some items → AreWritable (keys_of items)
+items_writable class ns root members items sound h = by_entries (entries_in (has_values class.kind) members) h
   where
-    by_items : (entries : List Entry) (o : Option (List Item)) → found_all (entry_item row ns) entries ≡ o → option_and_then standing_items o ≡ Some items → AreWritable (keys_of items)
+    by_items : (entries : List Entry) (o : Option (List Item)) → found_all (entry_item class ns) entries ≡ o → option_and_then standing_items o ≡ Some items → AreWritable (keys_of items)
     by_items entries None e g = cc
     by_items entries (Some found) e g =
         let p = passed (stand_in_row None (keys_of found)) found items g in
-        subst (λ (x : List Item). AreWritable (keys_of x)) p.1 (all_writable row ns root entries found sound e)
+        subst (λ (x : List Item). AreWritable (keys_of x)) p.1 (all_writable class ns root entries found sound e)
 
-    by_entries : (o : Option (List Entry)) → option_and_then standing_items (option_and_then (found_all (entry_item row ns)) o) ≡ Some items → AreWritable (keys_of items)
+    by_entries : (o : Option (List Entry)) → option_and_then standing_items (option_and_then (found_all (entry_item class ns)) o) ≡ Some items → AreWritable (keys_of items)
     by_entries None g = cc
-    by_entries (Some entries) g = by_items entries (found_all (entry_item row ns) entries) refl g
+    by_entries (Some entries) g = by_items entries (found_all (entry_item class ns) entries) refl g

@@ -7,12 +7,15 @@ use Rattle.pickle_value.specs.Same.{IsSame}
 use Rattle.pickle_value.specs.Spelling.{spelling_of, root_piece}
 use Rattle.btree_family.specs.declared.table.KeyKind.{KeyKind}
 use Rattle.btree_family.specs.declared.table.ValueKind.{ValueKind}
-use Rattle.btree_family.specs.declared.table.ClassRow.{ClassRow}
+use Rattle.btree_family.specs.Classes.{Class}
 use Rattle.btree_family.specs.declared.bucket.Item.{Item}
 use Rattle.btree_family.specs.Families.{key_fits}
 use Rattle.btree_family.specs.Buckets.{BucketContents, keys_of}
 use Rattle.bucket_state.specs.States.{value_fits, has_values, stand_in_row, bucket_of}
-use Rattle.bucket_state.specs.Written.{bucket_graph}
+use Rattle.bucket_state.specs.declared.tree.TreeState.{TreeState}
+use Rattle.bucket_state.specs.declared.tree.TreeState.TheVariants.{Empty, Leaf}
+use Rattle.bucket_state.specs.Trees.{tree_state_of}
+use Rattle.bucket_state.specs.Written.{bucket_graph, embedded_graph}
 
 -- graphs that are the same are spelled alike
 abbrev pub SameIsSpelledAlike : Type 0
@@ -50,11 +53,21 @@ IsLink None = Unit {0}
 IsLink (Some oid) = oid < 2 ^ 64
 
 -- a bucket of a class: keys that rise strictly and are of one kind, keys and values of the family, and a link
-pub record BucketStands (row : ClassRow) (bucket : BucketContents) : Type 0 where
-  pub items : ItemsStand (has_values row.kind) row.key row.value bucket.items
+pub record BucketStands (class : Class) (bucket : BucketContents) : Type 0 where
+  pub items : ItemsStand (has_values class.kind) class.key class.value bucket.items
   pub rising : stand_in_row None (keys_of bucket.items) ≡ true
   pub link : IsLink bucket.next
 
 -- what is written of a bucket reads back as it
 abbrev pub WrittenBucketReadsBack : Type 0
-WrittenBucketReadsBack = (row : ClassRow) (bucket : BucketContents) → BucketStands row bucket → bucket_of row (bucket_graph row bucket) ≡ Some bucket
+WrittenBucketReadsBack = (class : Class) (bucket : BucketContents) → BucketStands class bucket → bucket_of class (bucket_graph class bucket) ≡ Some bucket
+
+-- a tree of these items in one leaf
+abbrev pub leaf_tree : List Item → TreeState
+leaf_tree [] = Empty
+leaf_tree (item ∷ items) = Leaf (record { items = item ∷ items; next = None })
+
+-- what is written of a tree of one leaf reads back as it
+abbrev pub WrittenLeafReadsBack : Type 0
+WrittenLeafReadsBack =
+    (class : Class) (items : List Item) → BucketStands class (record { items = items; next = None }) → tree_state_of class (embedded_graph items) ≡ Some (leaf_tree items)

@@ -4,3 +4,4 @@ pub mod Trees
 pub mod Written
 pub mod Writable
 pub mod Laws
+pub mod Depths

@@ -15,7 +15,7 @@ use Rattle.btree_family.specs.declared.table.Kind.TheVariants as kinds
 use Rattle.btree_family.specs.declared.table.KeyKind.{KeyKind}
 use Rattle.btree_family.specs.declared.table.ValueKind.{ValueKind}
 use Rattle.btree_family.specs.declared.table.ValueKind.TheVariants as values
-use Rattle.btree_family.specs.declared.table.ClassRow.{ClassRow}
+use Rattle.btree_family.specs.Classes.{Class}
 use Rattle.btree_family.specs.declared.bucket.Item.{Item}
 use Rattle.btree_family.specs.Keys.{key_cmp, rank_of}
 use Rattle.btree_family.specs.Families.{key_fits, number_fits}
@@ -101,9 +101,9 @@ abbrev pub entry_value : ValueKind → List Node → Option ℕ → Option (Opti
 entry_value kind ns None = Some None
 entry_value kind ns (Some n) = option_map (λ text. Some text) (family_value_at kind ns n)
 
-abbrev pub entry_item : ClassRow → List Node → Entry → Option Item
-entry_item row ns entry =
-    found_both (λ key value. record { key = key; value = value }) (key_at row.key ns entry.key) (entry_value row.value ns entry.value)
+abbrev pub entry_item : Class → List Node → Entry → Option Item
+entry_item class ns entry =
+    found_both (λ key value. record { key = key; value = value }) (key_at class.key ns entry.key) (entry_value class.value ns entry.value)
 
 -- the key is above the one before it, if there is one, and of its kind
 abbrev pub follows : Option Key → Key → Bool
@@ -119,11 +119,11 @@ abbrev pub standing_items : List Item → Option (List Item)
 standing_items items = if stand_in_row None (keys_of items) then Some items else None
 
 -- the items that the members of a tuple are
-abbrev pub member_items : ClassRow → List Node → List ℕ → Option (List Item)
-member_items row ns members = option_and_then standing_items (option_and_then (found_all (entry_item row ns)) (entries_in (has_values row.kind) members))
+abbrev pub member_items : Class → List Node → List ℕ → Option (List Item)
+member_items class ns members = option_and_then standing_items (option_and_then (found_all (entry_item class ns)) (entries_in (has_values class.kind) members))
 
-abbrev pub state_items : ClassRow → List Node → ℕ → Option (List Item)
-state_items row ns n = option_and_then (member_items row ns) (members_at ns n)
+abbrev pub state_items : Class → List Node → ℕ → Option (List Item)
+state_items class ns n = option_and_then (member_items class ns) (members_at ns n)
 
 -- the oid, where just one is named
 abbrev pub one_oid : Option (List ℕ) → Option ℕ
@@ -149,14 +149,14 @@ linked None items = None
 linked (Some oid) items = with_next (Some oid) items
 
 -- a tuple of keys and values, and the bucket that follows, if one does
-abbrev pub bucket_in : ClassRow → List Node → List ℕ → Option BucketContents
-bucket_in row ns (items ∷ []) = with_next None (state_items row ns items)
-bucket_in row ns (items ∷ next ∷ []) = linked (link_at ns next) (state_items row ns items)
-bucket_in row ns _ = None
+abbrev pub bucket_in : Class → List Node → List ℕ → Option BucketContents
+bucket_in class ns (items ∷ []) = with_next None (state_items class ns items)
+bucket_in class ns (items ∷ next ∷ []) = linked (link_at ns next) (state_items class ns items)
+bucket_in class ns _ = None
 
-abbrev pub bucket_at : ClassRow → List Node → ℕ → Option BucketContents
-bucket_at row ns n = option_and_then (bucket_in row ns) (members_at ns n)
+abbrev pub bucket_at : Class → List Node → ℕ → Option BucketContents
+bucket_at class ns n = option_and_then (bucket_in class ns) (members_at ns n)
 
 -- the bucket whose state a graph is, if it is one
-abbrev pub bucket_of : ClassRow → Graph → Option BucketContents
-bucket_of row g = bucket_at row g.nodes g.root
+abbrev pub bucket_of : Class → Graph → Option BucketContents
+bucket_of class g = bucket_at class g.nodes g.root

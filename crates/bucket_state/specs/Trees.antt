@@ -6,7 +6,7 @@ use Rattle.pickle_value.specs.declared.node.Node.TheVariants as nodes
 use Rattle.pickle_value.specs.Graph.{Graph}
 use Rattle.btree_family.specs.declared.key.Key.{Key}
 use Rattle.btree_family.specs.declared.table.KeyKind.{KeyKind}
-use Rattle.btree_family.specs.declared.table.ClassRow.{ClassRow}
+use Rattle.btree_family.specs.Classes.{Class}
 use Rattle.btree_family.specs.Buckets.{BucketContents}
 use Rattle.bucket_state.specs.declared.entries.Entry.{Entry}
 use Rattle.bucket_state.specs.declared.tree.Branch.{Branch}
@@ -53,21 +53,21 @@ abbrev pub lone_leaf : BucketContents → Option TreeState
 lone_leaf found = leaf_before found.next found
 
 -- the state of a leaf, in a tuple of its own
-abbrev pub embedded_in : ClassRow → List Node → List ℕ → Option TreeState
-embedded_in row ns (leaf ∷ []) = option_and_then lone_leaf (option_and_then (bucket_in row ns) (members_at ns leaf))
-embedded_in row ns _ = None
+abbrev pub embedded_in : Class → List Node → List ℕ → Option TreeState
+embedded_in class ns (leaf ∷ []) = option_and_then lone_leaf (option_and_then (bucket_in class ns) (members_at ns leaf))
+embedded_in class ns _ = None
 
-abbrev pub tree_members : ClassRow → List Node → List ℕ → Option TreeState
-tree_members row ns (embedded ∷ []) = option_and_then (embedded_in row ns) (members_at ns embedded)
-tree_members row ns (children ∷ first ∷ []) = inner_in row.key ns children first
-tree_members row ns _ = None
+abbrev pub tree_members : Class → List Node → List ℕ → Option TreeState
+tree_members class ns (embedded ∷ []) = option_and_then (embedded_in class ns) (members_at ns embedded)
+tree_members class ns (children ∷ first ∷ []) = inner_in class.key ns children first
+tree_members class ns _ = None
 
 -- nothing, a leaf, or children
-abbrev pub tree_in : ClassRow → List Node → Option Node → Option TreeState
-tree_in row ns (Some nodes.None) = Some Empty
-tree_in row ns (Some (nodes.Tuple members)) = tree_members row ns members
-tree_in row ns _ = None
+abbrev pub tree_in : Class → List Node → Option Node → Option TreeState
+tree_in class ns (Some nodes.None) = Some Empty
+tree_in class ns (Some (nodes.Tuple members)) = tree_members class ns members
+tree_in class ns _ = None
 
 -- the state of a tree that a graph is, if it is one
-abbrev pub tree_state_of : ClassRow → Graph → Option TreeState
-tree_state_of row g = tree_in row g.nodes (slice_get g.nodes g.root)
+abbrev pub tree_state_of : Class → Graph → Option TreeState
+tree_state_of class g = tree_in class g.nodes (slice_get g.nodes g.root)

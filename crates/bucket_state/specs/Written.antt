@@ -9,9 +9,10 @@ use Rattle.pickle_value.specs.declared.error.PickleError.{PickleError}
 use Rattle.pickle_value.specs.declared.reading.TheConstants.{NODE_LIMIT}
 use Rattle.pickle_value.specs.Graph.{Graph, AreNodes, AllBelow}
 use Rattle.pickle_value.specs.Reading.{graph_at}
+use Rattle.pickle_value.specs.Spelling.{leaf_text}
 use Rattle.btree_family.specs.declared.key.Key.{Key}
 use Rattle.btree_family.specs.declared.key.Key.TheVariants as keys
-use Rattle.btree_family.specs.declared.table.ClassRow.{ClassRow}
+use Rattle.btree_family.specs.Classes.{Class}
 use Rattle.btree_family.specs.declared.bucket.Item.{Item}
 use Rattle.btree_family.specs.Buckets.{BucketContents}
 
@@ -88,6 +89,10 @@ key_node (keys.Number n) = nodes.Number n
 abbrev pub key_graph : Key → Graph
 key_graph key = leaf_graph (key_node key)
 
+-- the spelling of a key
+abbrev pub key_text : Key → List ℕ
+key_text key = leaf_text (key_node key)
+
 -- the graph that was read, if one was
 abbrev pub graph_found : Result (Graph × ℕ) PickleError → Graph
 graph_found (Ok found) = found.0
@@ -121,11 +126,22 @@ item_graphs [] = []
 item_graphs (item ∷ items) = key_graph item.key ∷ with_value item.value (item_graphs items)
 
 -- the link to the next bucket of the class, if there is one
-abbrev pub next_graphs : ClassRow → Option ℕ → List Graph
-next_graphs row None = []
-next_graphs row (Some oid) = link_graph oid row.«module».now row.name.now ∷ []
+abbrev pub next_graphs : Class → Option ℕ → List Graph
+next_graphs class None = []
+next_graphs class (Some oid) = link_graph oid class.module_name class.class_name ∷ []
 
 -- The state of a bucket or a set: a tuple of its keys and values, and behind it the next link, if it has one. Each key,
 -- each value and the link stand apart: no node is part of two of them.
-abbrev pub bucket_graph : ClassRow → BucketContents → Graph
-bucket_graph row bucket = tuple_graph (tuple_graph (item_graphs bucket.items) ∷ next_graphs row bucket.next)
+abbrev pub bucket_graph : Class → BucketContents → Graph
+bucket_graph class bucket = tuple_graph (tuple_graph (item_graphs bucket.items) ∷ next_graphs class bucket.next)
+
+-- ---- trees of one leaf
+
+abbrev pub none_graph : Graph
+none_graph = leaf_graph nodes.None
+
+-- The state of a tree of one leaf that is no object of its own: None where it has no items, else the leaf's state, without a
+-- link, in a tuple in a tuple.
+abbrev pub embedded_graph : List Item → Graph
+embedded_graph [] = none_graph
+embedded_graph (item ∷ items) = tuple_graph (tuple_graph (tuple_graph (tuple_graph (item_graphs (item ∷ items)) ∷ []) ∷ []) ∷ [])

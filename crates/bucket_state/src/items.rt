@@ -4,6 +4,7 @@ ghost use Rattle.std.specs.Prelude.{◌≡◌, Some, None, slice_get, ◌<◌, l
 ghost use Rattle.std.specs.Option.{option_copied};
 ghost use Rattle.pickle_value.specs.Graph.{IsGraph};
 ghost use Rattle.btree_family.specs.Buckets.{keys_of, IsBucket};
+ghost use Rattle.btree_family.specs.Classes.{class_seen};
 ghost use Rattle.bucket_state.specs.Answers.{AnswersFound};
 ghost use Rattle.bucket_state.specs.States.{key_in, key_at, value_fits, family_value_at, has_values, entry_item, found_all, follows, stand_in_row, member_items};
 ghost use Rattle.bucket_state.specs.States;
@@ -84,7 +85,7 @@ fn read_item(
     row: &ClassRow,
     entry: Entry,
 ) -> Result<Item, StateError>
-    ensures { AnswersFound result (entry_item row.now pickle.now.nodes entry) }
+    ensures { AnswersFound result (entry_item (class_seen row.now) pickle.now.nodes entry) }
 {
     let key = read_key(pickle.nodes().as_slice(), entry.key, row.key)?;
     let Some(number) = entry.value else {
@@ -104,7 +105,7 @@ fn read_all(
     row: &ClassRow,
     entries: &[Entry],
 ) -> Result<ListOf<Item>, StateError>
-    ensures { AnswersFound result (found_all (entry_item row.now pickle.now.nodes) entries.now) }
+    ensures { AnswersFound result (found_all (entry_item (class_seen row.now) pickle.now.nodes) entries.now) }
 {
     let mut items = Vec::new(alloc);
     for entry in entries {
@@ -157,7 +158,7 @@ pub(crate) fn read_items(
     row: &ClassRow,
     members: &[u32],
 ) -> Result<ListOf<Item>, StateError>
-    ensures { AnswersFound result (member_items row.now pickle.now.nodes members.now) }
+    ensures { AnswersFound result (member_items (class_seen row.now) pickle.now.nodes members.now) }
 {
     let entries = entries(alloc, has_values(row.kind), members)?;
     let items = read_all(alloc, pickle, row, entries.as_slice())?;

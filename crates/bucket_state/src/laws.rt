@@ -1,6 +1,7 @@
 //! Laws. A law is the contract of a function that does nothing.
 
-ghost use Rattle.bucket_state.specs.Laws.{SameIsSpelledAlike, WrittenBucketReadsBack};
+ghost use Rattle.bucket_state.specs.Depths.{ReadIsShallow, ReadLeafIsShallow, WrittenIsShallow, WrittenLeafIsShallow};
+ghost use Rattle.bucket_state.specs.Laws.{SameIsSpelledAlike, WrittenBucketReadsBack, WrittenLeafReadsBack};
 
 use pickle_value::written_pickles_read_back;
 
@@ -14,6 +15,25 @@ pub fn same_graphs_are_spelled_alike()
 /// pickle may have.
 pub fn written_buckets_read_back()
     ensures { WrittenBucketReadsBack }
+{
+    written_pickles_read_back();
+}
+
+/// The items of a tree of one leaf read back from the state that is written of it, where each value makes no more
+/// nodes than a pickle may have.
+pub fn written_leaves_read_back()
+    ensures { WrittenLeafReadsBack }
+{
+    written_pickles_read_back();
+}
+
+/// The values of a state that is not too deep to write are not too deep for a state of such an object, and a state of
+/// such values is not too deep to write. So is the state of a tree of one leaf.
+pub fn states_keep_their_depth()
+    ensures read { ReadIsShallow }
+    ensures read_leaf { ReadLeafIsShallow }
+    ensures written { WrittenIsShallow }
+    ensures written_leaf { WrittenLeafIsShallow }
 {
     written_pickles_read_back();
 }

@@ -12,7 +12,13 @@ mod tree;
 mod writing;
 
 pub use error::StateError;
-pub use laws::{same_graphs_are_spelled_alike, written_buckets_read_back};
+pub use laws::{
+    same_graphs_are_spelled_alike, states_keep_their_depth, written_buckets_read_back,
+    written_leaves_read_back,
+};
 pub use reading::read_bucket;
 pub use tree::{Branch, Inner, TreeState, read_tree};
-pub use writing::write_bucket;
+pub use writing::{key_spelling, write_bucket, write_embedded};
+
+#[cfg(test)]
+mod tests;

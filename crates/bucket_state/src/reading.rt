@@ -3,6 +3,7 @@
 ghost use Rattle.std.specs.Prelude.{◌≡◌, Some, None, slice_get, IfOk};
 ghost use Rattle.std.specs.Option.{option_copied};
 ghost use Rattle.btree_family.specs.Buckets.{IsBucket, keys_of};
+ghost use Rattle.btree_family.specs.Classes.{class_seen};
 ghost use Rattle.bucket_state.specs.Writable.{AreWritable};
 ghost use Rattle.bucket_state.specs.Answers.{AnswersFound};
 ghost use Rattle.bucket_state.specs.States.{members_at, with_next, state_items, bucket_in, bucket_at, bucket_of};
@@ -23,7 +24,7 @@ fn read_contents(
     number: u32,
     next: Option<Oid>,
 ) -> Result<Bucket, StateError>
-    ensures bucket { AnswersFound result (with_next next (state_items row.now pickle.now.nodes number)) }
+    ensures bucket { AnswersFound result (with_next next (state_items (class_seen row.now) pickle.now.nodes number)) }
     ensures writable { IfOk result (λ bucket. AreWritable (keys_of bucket.items)) }
 {
     let Some(members) = tuple(pickle.nodes().as_slice(), number) else {
@@ -40,7 +41,7 @@ pub(crate) fn read_members(
     row: &ClassRow,
     members: &[u32],
 ) -> Result<Bucket, StateError>
-    ensures bucket { AnswersFound result (bucket_in row.now pickle.now.nodes members.now) }
+    ensures bucket { AnswersFound result (bucket_in (class_seen row.now) pickle.now.nodes members.now) }
     ensures writable { IfOk result (λ bucket. AreWritable (keys_of bucket.items)) }
 {
     match members {
@@ -64,7 +65,7 @@ pub(crate) fn read_members(
 /// as its spelling. `BadState` is answered exactly where the graph is no such state. Want of memory answers
 /// `Memory`.
 pub fn read_bucket(alloc: Global, state: &Pickle, row: &ClassRow) -> Result<Bucket, StateError>
-    ensures bucket { AnswersFound result (bucket_of row.now state.now) }
+    ensures bucket { AnswersFound result (bucket_of (class_seen row.now) state.now) }
     ensures writable { IfOk result (λ bucket. AreWritable (keys_of bucket.items)) }
 {
     let Some(members) = tuple(state.nodes().as_slice(), state.root()) else {

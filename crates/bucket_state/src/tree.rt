@@ -1,8 +1,10 @@
 //! Reading the states of trees.
 
-ghost use Rattle.std.specs.Prelude.{◌≡◌, Some, None, slice_get};
+ghost use Rattle.std.specs.Prelude.{◌≡◌, Some, None, slice_get, IfOk};
 ghost use Rattle.std.specs.Option.{option_copied};
+ghost use Rattle.btree_family.specs.Classes.{class_seen};
 ghost use Rattle.bucket_state.specs.Answers.{AnswersFound};
+ghost use Rattle.bucket_state.specs.Writable.{IsWritableTree};
 ghost use Rattle.bucket_state.specs.States.{found_all, stand_in_row, members_at};
 ghost use Rattle.bucket_state.specs.Trees.{separators_of, child_at, branch_at, branches_in, children_in, inner_in, embedded_in, tree_members, tree_state_of};
 
@@ -119,7 +121,8 @@ fn read_inner(
     children: u32,
     first: u32,
 ) -> Result<TreeState, StateError>
-    ensures { AnswersFound result (inner_in kind nodes.now children first) }
+    ensures tree { AnswersFound result (inner_in kind nodes.now children first) }
+    ensures writable { IfOk result (λ tree. IsWritableTree tree) }
 {
     let Some([head, rest @ ..]) = tuple(nodes, children) else {
         return Err(StateError::BadState);
@@ -141,7 +144,8 @@ fn read_embedded(
     row: &ClassRow,
     members: &[u32],
 ) -> Result<TreeState, StateError>
-    ensures { AnswersFound result (embedded_in row.now pickle.now.nodes members.now) }
+    ensures tree { AnswersFound result (embedded_in (class_seen row.now) pickle.now.nodes members.now) }
+    ensures writable { IfOk result (λ tree. IsWritableTree tree) }
 {
     let [leaf] = members else {
         return Err(StateError::BadState);
@@ -163,7 +167,8 @@ fn read_parts(
     row: &ClassRow,
     members: &[u32],
 ) -> Result<TreeState, StateError>
-    ensures { AnswersFound result (tree_members row.now pickle.now.nodes members.now) }
+    ensures tree { AnswersFound result (tree_members (class_seen row.now) pickle.now.nodes members.now) }
+    ensures writable { IfOk result (λ tree. IsWritableTree tree) }
 {
     let nodes = pickle.nodes().as_slice();
     match members {
@@ -185,7 +190,8 @@ fn read_parts(
 /// of the family, of one kind, which rise strictly, and the second is a reference to the first leaf. `BadState`
 /// is answered exactly where the graph is none of these. Want of memory answers `Memory`.
 pub fn read_tree(alloc: Global, state: &Pickle, row: &ClassRow) -> Result<TreeState, StateError>
-    ensures tree { AnswersFound result (tree_state_of row.now state.now) }
+    ensures tree { AnswersFound result (tree_state_of (class_seen row.now) state.now) }
+    ensures writable { IfOk result (λ tree. IsWritableTree tree) }
 {
     match state.nodes().get(state.root() as usize) {
         Some(Node::None) => Ok(TreeState::Empty),

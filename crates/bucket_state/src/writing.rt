@@ -3,13 +3,14 @@
 ghost use Rattle.std.specs.Prelude.{◌≡◌, ◌++◌, [], ◌∷◌, IfOk};
 ghost use Rattle.pickle_value.specs.Graph.{IsGlobal};
 ghost use Rattle.btree_family.specs.Buckets.{keys_of};
-ghost use Rattle.bucket_state.specs.Written.{key_graph, value_graph, link_graph, with_value, item_graphs, laid_all, tuple_graph, next_graphs, bucket_graph};
+ghost use Rattle.btree_family.specs.Classes.{class_seen};
+ghost use Rattle.bucket_state.specs.Written.{key_graph, key_text, value_graph, link_graph, with_value, item_graphs, laid_all, tuple_graph, next_graphs, bucket_graph, none_graph, embedded_graph};
 ghost use Rattle.bucket_state.specs.Writable.{IsWritable, AreWritable};
 
 use crate::laying::Side;
 use btree_family::{Bucket, ClassRow, Item, Key};
 use byteorder::{BigEndian, ByteOrder};
-use pickle_value::{Node, Pickle, read_pickle};
+use pickle_value::{Node, Pickle, read_pickle, spelling};
 use std::alloc::{AllocError, Global};
 use zb_ids::{ListOf, Oid, Text8};
 
@@ -26,6 +27,19 @@ fn key_pickle(alloc: Global, key: &Key) -> Result<Pickle, AllocError>
     let mut nodes = Vec::new(alloc);
     nodes.push(node)?;
     Ok(Pickle::new(ListOf::from_vec(nodes), 0))
+}
+
+/// The spelling of a key, as a node of its own. Want of memory is the one error.
+#[tactic(auto, using(crate::proofs::Keyed::key_spelled))]
+pub fn key_spelling(alloc: Global, key: &Key) -> Result<Text8, AllocError>
+    requires { IsWritable key.now }
+    ensures { IfOk result (λ text. text ≡ key_text key.now) }
+{
+    let pickle = key_pickle(alloc, key)?;
+    match spelling(alloc, &pickle, pickle.root()) {
+        Ok(text) => Ok(text),
+        Err(_) => Err(AllocError),
+    }
 }
 
 /// The graph that a spelling is read as. One of more nodes than a pickle may have is refused as want of memory.
@@ -98,7 +112,7 @@ fn lay_next(
     next: Option<Oid>,
 ) -> Result<Side, AllocError>
     requires { IsGlobal row.now.module.now row.now.name.now }
-    ensures { IfOk result (λ all. all ≡ laid_all side (next_graphs row.now next)) }
+    ensures { IfOk result (λ all. all ≡ laid_all side (next_graphs (class_seen row.now) next)) }
 {
     match next {
         None => Ok(side),
@@ -120,9 +134,44 @@ fn lay_next(
 pub fn write_bucket(alloc: Global, bucket: &Bucket, row: &ClassRow) -> Result<Pickle, AllocError>
     requires keys { AreWritable (keys_of bucket.now.items) }
     requires class { IsGlobal row.now.module.now row.now.name.now }
-    ensures state { IfOk result (λ graph. graph ≡ bucket_graph row.now bucket.now) }
+    ensures state { IfOk result (λ graph. graph ≡ bucket_graph (class_seen row.now) bucket.now) }
 {
     let items = items_pickle(alloc, bucket.items().as_slice())?;
     let side = Side::new(alloc).lay(alloc, &items)?;
     lay_next(alloc, side, row, bucket.next())?.close()
+}
+
+/// The tuple of one graph.
+fn lone_tuple(alloc: Global, graph: &Pickle) -> Result<Pickle, AllocError>
+    ensures { IfOk result (λ all. all ≡ tuple_graph (graph.now ∷ [])) }
+{
+    Side::new(alloc).lay(alloc, graph)?.close()
+}
+
+/// The pickle of None.
+fn none_pickle(alloc: Global) -> Result<Pickle, AllocError>
+    ensures { IfOk result (λ graph. graph ≡ none_graph) }
+{
+    let mut nodes = Vec::new(alloc);
+    nodes.push(Node::None)?;
+    Ok(Pickle::new(ListOf::from_vec(nodes), 0))
+}
+
+/// The state of a tree of one leaf that is no object of its own, so that its link is not written: None where the
+/// leaf has no items, else a tuple of a tuple of the leaf's state. [`read_tree`](crate::read_tree) reads it as the
+/// same leaf, or as `Empty`.
+///
+/// Keys and values stand in it as in what [`write_bucket`] gives. Want of memory is the one error; a value of more
+/// nodes than a pickle may have is refused so, too.
+pub fn write_embedded(alloc: Global, leaf: &Bucket) -> Result<Pickle, AllocError>
+    requires keys { AreWritable (keys_of leaf.now.items) }
+    ensures state { IfOk result (λ graph. graph ≡ embedded_graph leaf.now.items) }
+{
+    let items = leaf.items().as_slice();
+    if items.is_empty() {
+        return none_pickle(alloc);
+    }
+    let state = lone_tuple(alloc, &items_pickle(alloc, items)?)?;
+    let inner = lone_tuple(alloc, &state)?;
+    lone_tuple(alloc, &inner)
 }

@@ -1,0 +1,6 @@
+mod Keys
+mod Joined
+mod Walks
+mod Values
+mod Theorems
+mod Sets

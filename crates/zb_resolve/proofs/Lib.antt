@@ -1,0 +1,3 @@
+mod Counts
+mod Buckets
+pub mod Whole

@@ -1,0 +1,7 @@
+pub mod Classes
+pub mod States
+pub mod Answers
+pub mod Resolution
+pub mod References
+pub mod NeverEmpty
+pub mod Depths

@@ -1,0 +1,50 @@
+//! Records of which the states are merged.
+
+ghost use Rattle.std.specs.Prelude.{IfOk};
+ghost use Rattle.bucket_state.specs.Answers.{AnswersFound};
+ghost use Rattle.zb_resolve.specs.Classes.{rule_seen};
+ghost use Rattle.zb_resolve.specs.States.{readable, depth_for, IsWritableState, IsShallowState};
+ghost use Rattle.zb_resolve.specs.Answers.{AnswersFor};
+ghost use Rattle.zb_resolve.specs.Resolution.{found_state};
+
+use crate::rule::{Rule, is_class_of};
+use crate::state::{State, read_state};
+use bucket_state::StateError;
+use std::alloc::Global;
+use zb_model::{ResolveError, Why};
+use zb_record::{RecordError, read_record, write_record};
+
+/// The state that a record of a rule's class holds. `BadState` where the bytes hold none, or where they are too deep
+/// to write.
+#[tactic(auto, using(crate::proofs::Whole::state_whole))]
+fn read_object(alloc: Global, rule: Rule, bytes: &[u8]) -> Result<State, StateError>
+    ensures state { AnswersFound result (readable (rule_seen rule) bytes.now) }
+    ensures writable { IfOk result (λ state. IsWritableState state) }
+    ensures shallow { IfOk result (λ state. IsShallowState (depth_for (rule_seen rule)) state) }
+{
+    let object = match read_record(alloc, bytes) {
+        Ok(object) => object,
+        Err(RecordError::Memory) => return Err(StateError::Memory),
+        Err(RecordError::Pickle(_)) => return Err(StateError::BadState),
+        Err(RecordError::Rest { at: _ }) => return Err(StateError::BadState),
+        Err(RecordError::BadClass) => return Err(StateError::BadState),
+    };
+    if !is_class_of(rule, &object.class) {
+        return Err(StateError::BadState);
+    }
+    let _text = write_record(alloc, &object)?;
+    read_state(alloc, rule, &object.state)
+}
+
+/// The state that a record of a rule's class holds, or that it can't be read.
+pub(crate) fn read_readable(alloc: Global, rule: Rule, bytes: &[u8]) -> Result<State, ResolveError>
+    ensures state { AnswersFor result (found_state (readable (rule_seen rule) bytes.now)) }
+    ensures writable { IfOk result (λ state. IsWritableState state) }
+    ensures shallow { IfOk result (λ state. IsShallowState (depth_for (rule_seen rule)) state) }
+{
+    match read_object(alloc, rule, bytes) {
+        Ok(state) => Ok(state),
+        Err(StateError::BadState) => Err(ResolveError::Refused(Why::Unreadable)),
+        Err(StateError::Memory) => Err(ResolveError::Memory),
+    }
+}
