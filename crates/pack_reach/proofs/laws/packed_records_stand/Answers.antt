@@ -1,0 +1,5 @@
+use Rattle.pack_reach.proofs.Packing.{records_stand}
+use Rattle.pack_reach.proofs.laws.packed_records_stand.Goals as goal
+
+pub returns : goal.returns
+returns c = records_stand

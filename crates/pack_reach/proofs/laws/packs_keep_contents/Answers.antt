@@ -1,0 +1,5 @@
+use Rattle.pack_reach.proofs.Packing.{contents_kept}
+use Rattle.pack_reach.proofs.laws.packs_keep_contents.Goals as goal
+
+pub returns : goal.returns
+returns c = contents_kept

@@ -1,0 +1,19 @@
+//! What a pack reaches, and what it may drop, whatever keeps the list and whatever reads the references
+//! of records.
+#![tactic(auto)]
+
+mod laws;
+mod marker;
+mod oid_set;
+mod refusal;
+
+pub use laws::{
+    packed_records_stand, packs_keep_contents, reached_is_all, states_are_reached,
+    unreadable_is_least,
+};
+pub use marker::{Marked, Marker};
+pub use oid_set::OidSet;
+pub use refusal::PackRefusal;
+
+#[cfg(test)]
+mod tests;

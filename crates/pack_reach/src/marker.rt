@@ -1,0 +1,409 @@
+//! The marks of a pack.
+
+ghost use Rattle.std.specs.Prelude.{◌≡◌, ◌<◌, ◌+◌, ◌-◌, ◌^◌, ◌∷◌, [], ℕ, List, Option, Some, None, false, true, IfOk};
+ghost use Rattle.std.specs.Prelude.{OnOk, OnErr, if◌then◌else◌, length, min, nat_lt, slice_get};
+ghost use Rattle.std.specs.FinSet as set;
+ghost use Rattle.zb_model.specs.declared.data.Transaction.{Transaction};
+ghost use Rattle.zb_model.specs.declared.data.Content.TheVariants as content;
+ghost use Rattle.zb_model.specs.Queries.{first_after};
+ghost use Rattle.zb_model.specs.Stores.{IsOnlyRead};
+ghost use Rattle.pack_reach.specs.Marking.{IsChangeRead, IsComplete, IsFoundRead, IsMarking, IsNextSeen, IsOneFollowed};
+ghost use Rattle.pack_reach.specs.Marking.{IsPartlyRead, IsRead, IsTransactionRead, MayMark, MayRead, MayReadChange};
+ghost use Rattle.pack_reach.specs.Marking.{MayReadFound, MayReadTransaction, IsSound, KeepsMarks, OnlyMarks};
+ghost use Rattle.pack_reach.specs.Marking.{new_marker, with_mark, with_marks, with_note, with_record};
+ghost use Rattle.pack_reach.specs.Reach.{is_at_most};
+ghost use Rattle.pack_reach.specs.Outcomes.{IsMarked, ReadsToMark};
+
+use crate::oid_set::OidSet;
+use crate::refusal::PackRefusal;
+use std::alloc::{AllocError, Global};
+use std::collections::VecDeque;
+use std::marker::Model;
+use zb_ids::{Oid, Tid};
+use zb_model::{Change, Content, Found, Refs, RefsError, Store, StoreError, Transaction};
+
+/// How far the marks of a pack have come.
+#[derive(Clone, Copy, Debug, PartialEq, Eq)]
+pub struct Marked {
+    /// How many objects are marked.
+    pub count: u64,
+    /// Whether that is all that the pack reaches.
+    pub whole: bool,
+}
+
+/// The marks of one pack: the objects that it reaches, as far as they were found.
+///
+/// A path starts at the root, at an object that is changed after the pack's tid, or at one that a record
+/// written after it names. Each further step is a reference of an object's last revision up to that tid.
+/// Objects that are marked wait in line until that revision is read, so each is read once.
+///
+/// Contracts see how far it has come. Each call leaves marks that stand for the list that they were made
+/// over, also where it is refused, and a later call goes on from there.
+#[derive(Drop)]
+pub struct Marker {
+    tid: Tid,
+    seen: Tid,
+    marks: OidSet,
+    waiting: VecDeque<Oid>,
+    unreadable: Option<(Oid, Tid)>,
+}
+
+impl Model for Marker {
+    ghost use Rattle.pack_reach.specs.Marking.{MarkerState, marker_code};
+
+    ghost Value = { MarkerState };
+
+    ghost coded = { marker_code };
+
+    ghost view = { λ a. record {
+      tid = a.tid;
+      seen = a.seen;
+      set = a.marks;
+      waiting = a.waiting.items;
+      unreadable = a.unreadable;
+    } };
+}
+
+impl Marker {
+    /// The marks of a pack up to a tid: nothing is marked. The one error is want of memory.
+    pub fn new(alloc: Global, tid: Tid) -> Result<Marker, AllocError>
+        ensures new { IfOk result (λ made. made ≡ new_marker tid) }
+        ensures may_mark { IfOk result
+            (λ made. (named : List ℕ → Option (List ℕ)) (list : List Transaction) → MayMark named list made) }
+    {
+        Ok(Marker {
+            tid,
+            seen: tid,
+            marks: OidSet::new(alloc),
+            waiting: VecDeque::with_capacity(alloc, 64)?,
+            unreadable: None,
+        })
+    }
+
+    /// The objects that are marked.
+    pub fn set(&self) -> &OidSet
+        ensures { result.now ≡ self.now.set }
+    {
+        &self.marks
+    }
+
+    /// Marks an object, which then waits, unless it is marked already. Where there is no memory the
+    /// marks stay as they were.
+    fn mark(&mut self, oid: Oid) -> Result<(), AllocError>
+        ensures ok { OnOk result (self.new ≡ with_mark self.old oid) }
+        ensures err { OnErr result (self.new ≡ self.old) }
+    {
+        if self.marks.contains(oid) {
+            return Ok(());
+        }
+        self.waiting.push_back(oid)?;
+        match self.marks.insert(oid) {
+            Ok(_) => Ok(()),
+            Err(error) => {
+                let _ = self.waiting.pop_back();
+                Err(error)
+            }
+        }
+    }
+
+    /// How many objects are marked.
+    fn count(&self) -> usize
+        ensures count { result ≡ set.len self.now.set }
+        ensures bound { result < 2 ^ 63 }
+    {
+        self.marks.len()
+    }
+
+    /// Whether some object waits.
+    fn waits(&self) -> bool
+        ensures { result ≡ nat_lt 0 (length self.now.waiting) }
+    {
+        !self.waiting.is_empty()
+    }
+
+    /// The object that waits first, if one waits.
+    fn first_waiting(&self) -> Option<Oid>
+        ensures { result ≡ slice_get self.now.waiting 0 }
+    {
+        match self.waiting.front() {
+            Some(oid) => Some(*oid),
+            None => None,
+        }
+    }
+
+    /// Marks objects in turn. Where there is no memory, those are marked that stand in front of one that
+    /// isn't.
+    fn mark_each(&mut self, oids: &[Oid]) -> Result<(), AllocError>
+        ensures ok { OnOk result (self.new ≡ with_marks self.old oids.now) }
+        ensures err { OnErr result (IsPartlyRead (Some oids.now) self.old self.new) }
+    {
+        for oid in oids {
+            self.mark(*oid)?;
+        }
+        Ok(())
+    }
+
+    /// Notes a record that can't be read.
+    fn note(&mut self, oid: Oid, serial: Tid)
+        ensures { self.new ≡ with_note self.old (oid, serial) }
+    {
+        self.unreadable = match self.unreadable {
+            Some(least) => Some(lesser(least, (oid, serial))),
+            None => Some((oid, serial)),
+        };
+    }
+
+    /// Reads a record: marks the objects that it names, or notes that it can't be read. The one error is
+    /// want of memory.
+    fn read_record<F: Refs>(
+        &mut self,
+        alloc: Global,
+        refs: &F,
+        oid: Oid,
+        serial: Tid,
+        bytes: &[u8],
+    ) -> Result<(), AllocError>
+        ensures ok { OnOk result (self.new ≡ with_record (F.named refs.now bytes.now) self.old oid serial) }
+        ensures err { OnErr result (IsPartlyRead (F.named refs.now bytes.now) self.old self.new) }
+    {
+        match refs.references(alloc, bytes) {
+            Ok(oids) => self.mark_each(oids.as_slice()),
+            Err(RefsError::Unreadable) => {
+                self.note(oid, serial);
+                Ok(())
+            }
+            Err(RefsError::Memory) => Err(AllocError),
+        }
+    }
+
+    /// Reads a change: marks its object, and reads its record. The one error is want of memory.
+    fn read_change<F: Refs>(
+        &mut self,
+        alloc: Global,
+        refs: &F,
+        tid: Tid,
+        change: &Change,
+    ) -> Result<(), AllocError>
+        ensures only { OnlyMarks self.old self.new }
+        ensures sound { (list : List Transaction) → MayReadChange (F.named refs.now) self.old.tid list tid change.now
+            → IsSound (F.named refs.now) list self.old self.new }
+        ensures read { OnOk result (IsChangeRead (F.named refs.now) self.new tid change.now) }
+    {
+        self.mark(change.oid)?;
+        match &change.content {
+            Content::Held(bytes) => {
+                self.read_record(alloc, refs, change.oid, tid, bytes.as_slice())
+            }
+            Content::Absent => Ok(()),
+        }
+    }
+
+    /// Reads the changes of a transaction. The one error is want of memory.
+    fn read_transaction<F: Refs>(
+        &mut self,
+        alloc: Global,
+        refs: &F,
+        transaction: &Transaction,
+    ) -> Result<(), AllocError>
+        ensures only { OnlyMarks self.old self.new }
+        ensures sound { (list : List Transaction)
+            → MayReadTransaction (F.named refs.now) self.old.tid list transaction.now
+            → IsSound (F.named refs.now) list self.old self.new }
+        ensures read { OnOk result (IsTransactionRead (F.named refs.now) self.new transaction.now) }
+    {
+        for change in transaction.changes.as_slice() {
+            self.read_change(alloc, refs, transaction.tid, change)?;
+        }
+        Ok(())
+    }
+
+    /// Reads the next transaction above the pack's tid, and answers whether there was one.
+    fn mark_next<St: Store, F: Refs>(
+        &mut self,
+        alloc: Global,
+        store: &mut St,
+        refs: &F,
+    ) -> Result<bool, StoreError>
+        requires whole { (St.state store.old).broken ≡ false }
+        ensures marks { St.told → IsMarking (F.named refs.now) (St.state store.old).list self.old
+            → IsMarking (F.named refs.now) (St.state store.old).list self.new }
+        ensures next { St.told → IfOk result (IsNextSeen (St.state store.old).list self.old self.new) }
+        ensures keeps { KeepsMarks self.old self.new }
+        ensures read { IsOnlyRead (St.state store.old) (St.state store.new) result }
+    {
+        let Some(transaction) = store.after(alloc, self.seen)? else {
+            return Ok(false);
+        };
+        self.read_transaction(alloc, refs, &transaction)?;
+        self.seen = transaction.tid;
+        Ok(true)
+    }
+
+    /// Reads every transaction above the pack's tid that wasn't read yet.
+    fn mark_later<St: Store, F: Refs>(
+        &mut self,
+        alloc: Global,
+        store: &mut St,
+        refs: &F,
+    ) -> Result<(), StoreError>
+        requires whole { (St.state store.old).broken ≡ false }
+        ensures marks { St.told → IsMarking (F.named refs.now) (St.state store.old).list self.old
+            → IsMarking (F.named refs.now) (St.state store.old).list self.new }
+        ensures all { St.told → OnOk result (first_after self.new.seen (St.state store.old).list ≡ None) }
+        ensures keeps { KeepsMarks self.old self.new }
+        ensures read { IsOnlyRead (St.state store.old) (St.state store.new) result }
+    {
+        for _i in 0..u64::MAX {
+            if !self.mark_next(alloc, store, refs)? {
+                return Ok(());
+            }
+        }
+        Ok(())
+    }
+
+    /// Reads what was found of the object that waits first, as its last revision up to the pack's tid. The
+    /// one error is want of memory.
+    fn read_found<F: Refs>(
+        &mut self,
+        alloc: Global,
+        refs: &F,
+        oid: Oid,
+        found: &Found,
+    ) -> Result<(), AllocError>
+        ensures only { OnlyMarks self.old self.new }
+        ensures sound { (list : List Transaction) → MayReadFound (F.named refs.now) self.old.tid list oid found.now
+            → IsSound (F.named refs.now) list self.old self.new }
+        ensures read { OnOk result (IsFoundRead (F.named refs.now) self.new oid found.now) }
+    {
+        match found {
+            Found::Held {
+                serial,
+                bytes,
+                end: _,
+            } => { self.read_record(alloc, refs, oid, *serial, bytes.as_slice()) }
+            Found::Absent { serial: _ } => Ok(()),
+            Found::Nothing => Ok(()),
+        }
+    }
+
+    /// Reads the last revision up to the pack's tid of the object that waits first, which then waits no
+    /// more.
+    fn follow_next<St: Store, F: Refs>(
+        &mut self,
+        alloc: Global,
+        store: &mut St,
+        refs: &F,
+    ) -> Result<(), StoreError>
+        requires whole { (St.state store.old).broken ≡ false }
+        ensures marks { St.told → IsMarking (F.named refs.now) (St.state store.old).list self.old
+            → IsMarking (F.named refs.now) (St.state store.old).list self.new }
+        ensures one { OnOk result (IsOneFollowed self.old self.new) }
+        ensures seen { self.new.seen ≡ self.old.seen }
+        ensures keeps { KeepsMarks self.old self.new }
+        ensures read { IsOnlyRead (St.state store.old) (St.state store.new) result }
+    {
+        let Some(oid) = self.first_waiting() else {
+            return Ok(());
+        };
+        let found = store.load_before(alloc, oid, front_behind(self.tid))?;
+        self.read_found(alloc, refs, oid, &found)?;
+        self.waiting.pop_front();
+        Ok(())
+    }
+
+    /// Follows every object that waits, also those that are marked meanwhile, and answers how many are
+    /// marked then.
+    fn follow_all<St: Store, F: Refs>(
+        &mut self,
+        alloc: Global,
+        store: &mut St,
+        refs: &F,
+    ) -> Result<usize, StoreError>
+        requires whole { (St.state store.old).broken ≡ false }
+        ensures marks { St.told → IsMarking (F.named refs.now) (St.state store.old).list self.old
+            → IsMarking (F.named refs.now) (St.state store.old).list self.new }
+        ensures all { OnOk result (self.new.waiting ≡ []) }
+        ensures count { IfOk result (λ count. count ≡ set.len self.new.set) }
+        ensures seen { self.new.seen ≡ self.old.seen }
+        ensures keeps { KeepsMarks self.old self.new }
+        ensures read { IsOnlyRead (St.state store.old) (St.state store.new) result }
+    {
+        let mut count = self.count();
+        'follow: while self.waits() {
+            self.follow_next(alloc, store, refs)?;
+            count = self.count();
+        }
+        Ok(count)
+    }
+
+    /// Marks all that is reached, and answers how many objects that is. Records that can't be read are noted.
+    fn mark_reached<St: Store, F: Refs>(
+        &mut self,
+        alloc: Global,
+        store: &mut St,
+        refs: &F,
+    ) -> Result<usize, StoreError>
+        requires whole { (St.state store.old).broken ≡ false }
+        ensures marks { St.told → IsMarking (F.named refs.now) (St.state store.old).list self.old
+            → IsMarking (F.named refs.now) (St.state store.old).list self.new }
+        ensures all { St.told → OnOk result (IsComplete (St.state store.old).list self.new) }
+        ensures count { IfOk result (λ count. count ≡ set.len self.new.set) }
+        ensures keeps { KeepsMarks self.old self.new }
+        ensures read { IsOnlyRead (St.state store.old) (St.state store.new) result }
+    {
+        self.mark(Oid(0))?;
+        self.mark_later(alloc, store, refs)?;
+        self.follow_all(alloc, store, refs)
+    }
+
+    /// Marks all that a pack reaches over the list of a store, and answers how many objects that is.
+    ///
+    /// The marks go on from those that were made over what the list begins with: each transaction behind
+    /// that is above the pack's tid. A record is read once, and refused where it can't be read only once
+    /// all is marked. Of several that can't, the one of the least object is named, then of the least
+    /// serial. A read of the store that failed and want of memory leave the marks that were made. It only
+    /// reads the store.
+    pub fn mark_turn<St: Store, F: Refs>(
+        &mut self,
+        alloc: Global,
+        store: &mut St,
+        refs: &F,
+    ) -> Result<Marked, PackRefusal>
+        requires whole { (St.state store.old).broken ≡ false }
+        requires may_mark { St.told → MayMark (F.named refs.now) (St.state store.old).list self.old }
+        ensures marked { St.told → IsMarked (F.named refs.now) (St.state store.old).list self.new result }
+        ensures may_mark { St.told → MayMark (F.named refs.now) (St.state store.old).list self.new }
+        ensures keeps { KeepsMarks self.old self.new }
+        ensures count { IfOk result (λ marked. marked.count ≡ set.len self.new.set) }
+        ensures whole { IfOk result (λ marked. marked.whole ≡ true) }
+        ensures read { ReadsToMark (St.state store.old) (St.state store.new) result }
+    {
+        let count = self.mark_reached(alloc, store, refs)?;
+        match self.unreadable {
+            Some((oid, tid)) => Err(PackRefusal::Unreadable { oid, tid }),
+            None => Ok(Marked {
+                count: count as u64,
+                whole: true,
+            }),
+        }
+    }
+}
+
+/// The front that all revisions up to a tid are below: the number after it, or the greatest one, which no
+/// transaction has.
+fn front_behind(tid: Tid) -> Tid
+    ensures { result ≡ min (tid + 1) (2 ^ 64 - 1) }
+{
+    Tid(tid.0.saturating_add(1))
+}
+
+/// The lesser of two records, by object and then by serial.
+fn lesser(one: (Oid, Tid), other: (Oid, Tid)) -> (Oid, Tid)
+    ensures { result ≡ (if is_at_most one other then one else other) }
+{
+    if one.0 < other.0 || (one.0 == other.0 && one.1 <= other.1) {
+        one
+    } else {
+        other
+    }
+}

@@ -1,0 +1,40 @@
+mod making;
+mod marks;
+
+use super::*;
+use std::test::Fail;
+use zb_ids::{Oid, Tid};
+
+/// A set has what was put in, each object once.
+#[test]
+fn sets_of_objects(rt: HostRuntime) -> Result<(), Fail> {
+    let mut set = OidSet::new(rt.alloc());
+    assert_eq!(rt; set.len(), 0);
+    for (oid, new) in [(7, true), (u64::MAX, true), (7, false), (0, true)] {
+        assert_eq!(rt; set.insert(Oid(oid))?, new);
+    }
+    assert_eq!(rt; set.len(), 3);
+    for (oid, there) in [(0, true), (1, false), (7, true), (u64::MAX, true)] {
+        assert_eq!(rt; set.contains(Oid(oid)), there);
+    }
+    Ok(())
+}
+
+/// A refusal is told by its numbers.
+#[test]
+fn refusals_are_told(rt: HostRuntime) -> Result<(), Fail> {
+    let refusal = PackRefusal::Unreadable {
+        oid: Oid(16),
+        tid: Tid(255),
+    };
+    assert_eq!(rt;
+        format!(in rt.alloc(); "{refusal}")?.as_str(),
+        "the record of the object 0000000000000010 at 00000000000000ff can't be read"
+    );
+    reached_is_all();
+    unreadable_is_least();
+    packs_keep_contents();
+    states_are_reached();
+    packed_records_stand();
+    Ok(())
+}
