@@ -1,16 +1,17 @@
 -- How the table of pending stores stands for the stores.
-use Rattle.std.proofs.Common.{◌≡◌, ℕ, ◌+◌, ◌<◌, ◌≤◌, Bool, true, false, cond, eqb, ltb, List, [], ◌∷◌, length, map, Some, None, refl, sym, ap, subst, arith}
+use Rattle.std.proofs.Common.{◌≡◌, ℕ, ◌+◌, ◌<◌, ◌≤◌, Bool, true, false, cond, eqb, ltb, List, [], ◌∷◌, length, map, Option, Some, None, refl, sym, ap, subst, ◌∙◌, arith}
 use Rattle.std.specs.Prelude.{nat_eq, All}
+use Rattle.std.specs.Option.{option_map}
 use Rattle.std.specs.List.{IsDistinct}
 use Rattle.std.specs.Map.{keys_of, lookup}
-use Rattle.std.proofs.lemmas.Bool.{lt-ltb, le-ltb}
+use Rattle.std.proofs.lemmas.Bool.{lt-ltb, le-ltb, eqb-true}
 use Rattle.std.proofs.lemmas.List.Elements.{All-cons, All-head, All-tail}
 use Rattle.std.proofs.lemmas.List.Sums.{sum_by-cons}
 use Rattle.zb_model.specs.declared.pending.PendingStore.{PendingStore}
 use Rattle.indexmap.specs.IndexMap.{insert_entry}
 use Rattle.commit_phases.specs.declared.pending.Stored.{Stored}
 use Rattle.commit_phases.specs.Kept.{base_or, length_or_none, store_of, stores_of}
-use Rattle.commit_phases.specs.Pending.{excess_with, object_limit, size_of_stores, transaction_limit, with_pending, AreStores}
+use Rattle.commit_phases.specs.Pending.{excess_with, object_limit, pending_of, size_of_stores, transaction_limit, with_pending, AreStores}
 
 abbrev store_at : ℕ → ℕ → List ℕ → PendingStore
 store_at oid base bytes = record { oid = oid; base = base; bytes = bytes }
@@ -99,3 +100,33 @@ are_stores es new p are distinct is filled short within = record {
   short = subst (λ (ps : List PendingStore). All (λ q. length q.bytes ≤ object_limit) ps) (sym is) (all_with (λ (bytes : List ℕ). length bytes ≤ object_limit) (stores_of es) p are.short short);
   within = subst (λ (ps : List PendingStore). size_of_stores ps ≤ transaction_limit) (sym is) within;
 }
+
+-- ---- what stands for an object
+
+-- the store of an object is that of its entry
+pub store_found : (es : List (ℕ × Stored)) (oid : ℕ) → option_map (λ (s : Stored). store_of (oid, s)) (lookup (nat_eq oid) es) ≡ pending_of (stores_of es) oid
+store_found [] oid = refl
+store_found (e ∷ es) oid = by_cases (eqb oid e.0) refl (store_found es oid)
+  where
+    by_cases : (b : Bool) → eqb oid e.0 ≡ b → option_map (λ (s : Stored). store_of (oid, s)) (lookup (nat_eq oid) es) ≡ pending_of (stores_of es) oid
+        → option_map (λ (s : Stored). store_of (oid, s)) (cond b (Some e.1) (lookup (nat_eq oid) es)) ≡ cond b (Some (store_of e)) (pending_of (stores_of es) oid)
+    by_cases true is rest = ap (λ (n : ℕ). Some (store_of (n, e.1))) (eqb-true oid e.0 is)
+    by_cases false is rest = rest
+
+base_then : (oid : ℕ) (found : Option Stored) → option_map (λ (s : Stored). s.base) found ≡ option_map (λ (p : PendingStore). p.base) (option_map (λ (s : Stored). store_of (oid, s)) found)
+base_then oid None = refl
+base_then oid (Some s) = refl
+
+-- and its base
+pub base_found : (es : List (ℕ × Stored)) (oid : ℕ) → option_map (λ (s : Stored). s.base) (lookup (nat_eq oid) es) ≡ option_map (λ (p : PendingStore). p.base) (pending_of (stores_of es) oid)
+base_found es oid = base_then oid (lookup (nat_eq oid) es) ∙ ap (option_map (λ (p : PendingStore). p.base)) (store_found es oid)
+
+-- stores that each have a byte are at most as many as their bytes
+filled_few : (stores : List PendingStore) → All (λ p. 0 < length p.bytes) stores → length stores ≤ size_of_stores stores
+filled_few [] all = omega arith
+filled_few (p ∷ stores) all =
+    let here : 0 < length p.bytes = All-head (λ (q : PendingStore). 0 < length q.bytes) p stores all in
+    omega (arith, sum_by-cons (λ (q : PendingStore). length q.bytes) p stores, filled_few stores (All-tail (λ (q : PendingStore). 0 < length q.bytes) p stores all))
+
+pub few_stores : (stores : List PendingStore) → AreStores stores → length stores ≤ 67108864
+few_stores stores are = omega (arith, filled_few stores are.filled, are.within)

@@ -1,6 +1,6 @@
 -- Changes that wait for a vote. Source: `Connection` and the two-phase commit of ZODB; the limits are own.
-use Rattle.std.specs.Prelude.{◌≡◌, ℕ, ◌<◌, ◌≤◌, ◌^◌, List, [], ◌∷◌, Option, Some, None, Result, Ok, Err, ◌==◌, if◌then◌else◌, nat_lt, nat_eq, length, map, All}
-use Rattle.std.specs.List.{sum_by, IsDistinct}
+use Rattle.std.specs.Prelude.{◌≡◌, ℕ, ◌<◌, ◌≤◌, ◌^◌, List, [], ◌∷◌, Option, Some, None, Result, Ok, Err, Bool, ◌==◌, if◌then◌else◌, nat_lt, nat_eq, length, map, All}
+use Rattle.std.specs.List.{find, sum_by, IsDistinct}
 use Rattle.zb_model.specs.declared.pending.PendingStore.{PendingStore}
 use Rattle.zb_model.specs.declared.pending.PendingCheck.{PendingCheck}
 use Rattle.commit_phases.specs.declared.errors.PendingError.{PendingError}
@@ -26,6 +26,13 @@ size_of_stores stores = sum_by (λ p. length p.bytes) stores
 abbrev pub with_pending : List PendingStore → PendingStore → List PendingStore
 with_pending [] p = p ∷ []
 with_pending (q ∷ stores) p = if p.oid == q.oid then (record { oid = q.oid; base = q.base; bytes = p.bytes }) ∷ stores else q ∷ with_pending stores p
+
+abbrev pub is_store_of : ℕ → PendingStore → Bool
+is_store_of oid p = oid == p.oid
+
+-- what waits for an object, if anything
+abbrev pub pending_of : List PendingStore → ℕ → Option PendingStore
+pending_of stores oid = find (is_store_of oid) stores
 
 -- the length that passes a limit once these bytes are stored: the object's own, else that of all
 abbrev pub excess_with : List PendingStore → PendingStore → Option ℕ

@@ -1,9 +1,10 @@
 //! Changes that wait for a vote.
 
-ghost use Rattle.std.specs.Prelude.{◌≡◌, ◌++◌, ◌∷◌, [], ◌<◌, IfOk, OnOk, OnErr, length, nat_eq};
+ghost use Rattle.std.specs.Prelude.{◌≡◌, ◌+◌, ◌++◌, ◌∷◌, [], ◌<◌, IfOk, OnOk, OnErr, length, nat_eq};
 ghost use Rattle.indexmap.specs.IndexMap.{get, insert_entry, keys};
 ghost use Rattle.std.specs.List.{IsDistinct};
-ghost use Rattle.commit_phases.specs.Pending.{excess_with, size_of_stores, with_pending, AreStores, IsOkUnlessTooLong};
+ghost use Rattle.std.specs.Option.{option_map};
+ghost use Rattle.commit_phases.specs.Pending.{excess_with, pending_of, size_of_stores, with_pending, AreStores, IsOkUnlessTooLong};
 ghost use Rattle.commit_phases.specs.Kept.{base_or, length_or_none, store_of, stores_of};
 
 use crate::errors::PendingError;
@@ -163,6 +164,32 @@ impl Pending {
         })
     }
 
+    /// How many stores and checks there are together.
+    #[tactic(auto, using(crate::proofs::Storing::few_stores))]
+    pub fn count(&self) -> u64
+        ensures { result ≡ length self.now.stores + length self.now.checks }
+    {
+        let checks = self.checks.as_slice();
+        self.stores.len() as u64 + checks.len() as u64
+    }
+
+    /// The base of the object's store, if it has one.
+    #[tactic(auto, using(crate::proofs::Storing::base_found))]
+    pub fn base_of(&self, oid: Oid) -> Option<Tid>
+        ensures { result ≡ option_map (λ p. p.base) (pending_of self.now.stores oid) }
+    {
+        stored_base(&self.stores, oid)
+    }
+
+    /// The object's store once more, if it has one. The one error is want of memory.
+    #[tactic(auto, using(crate::proofs::Storing::store_found))]
+    pub fn copy_of(&self, oid: Oid) -> Result<Option<PendingStore>, AllocError>
+        ensures { IfOk result (λ store. store ≡ pending_of self.now.stores oid) }
+    {
+        let store = stored_copy(&self.stores, oid)?;
+        Ok(store)
+    }
+
     /// The stores and the checks, in their orders. The one error is want of memory.
     pub(crate) fn into_parts(
         self,
@@ -193,6 +220,26 @@ fn earlier_or(stores: &IndexMap<Oid, Stored>, oid: Oid, base: Tid) -> (Tid, u64)
     match stores.get(&oid) {
         Some(stored) => (stored.base, stored.bytes.len() as u64),
         None => (base, 0),
+    }
+}
+
+/// The base that an object's store has.
+fn stored_base(stores: &IndexMap<Oid, Stored>, oid: Oid) -> Option<Tid>
+    ensures { result ≡ option_map (λ stored. stored.base) (get nat_eq stores.now oid) }
+{
+    match stores.get(&oid) {
+        Some(stored) => Some(stored.base),
+        None => None,
+    }
+}
+
+/// An object's store once more.
+fn stored_copy(stores: &IndexMap<Oid, Stored>, oid: Oid) -> Result<Option<PendingStore>, AllocError>
+    ensures { IfOk result (λ store. store ≡ option_map (λ stored. store_of (oid, stored)) (get nat_eq stores.now oid)) }
+{
+    match stores.get(&oid) {
+        Some(stored) => Ok(Some(pending_store(oid, stored.clone()?))),
+        None => Ok(None),
     }
 }
 

@@ -1,5 +1,5 @@
 -- Where no object waits and no transaction is left, all that is reached is marked.
-use Rattle.std.proofs.Common.{◌≡◌, ℕ, ◌+◌, ◌<◌, ◌≤◌, ◌⊎◌, inl, inr, ⊎_elim, Bool, true, false, ◌||◌, eqb, ltb, List, [], ◌∷◌, ◌++◌, append-nil, map, filter, Option, Some, None, refl, sym, ap, subst, ◌∙◌, arith}
+use Rattle.std.proofs.Common.{◌≡◌, ℕ, ◌+◌, ◌<◌, ◌≤◌, inl, inr, ⊎_elim, Bool, true, false, eqb, ltb, List, [], ◌∷◌, ◌++◌, append-nil, map, Option, Some, None, refl, sym, ap, subst, ◌∙◌}
 use Rattle.std.specs.Prelude.{IfSome, IsTrue, ◌↔◌, Result, Ok, Err, OnOk}
 use Rattle.std.specs.Cmp.{nat_cmp_total}
 use Rattle.std.specs.List.{AllByRecursion, flat_map}
@@ -11,10 +11,10 @@ use Rattle.zb_model.specs.declared.data.Transaction.{Transaction}
 use Rattle.zb_model.specs.declared.store_error.StoreError.{StoreError}
 use Rattle.zb_model.specs.declared.store_error.StoreError.TheVariants as store_error
 use Rattle.zb_model.specs.Database.{ObjectRevision, revision_below}
-use Rattle.zb_model.specs.Queries.{first_after, is_above, oids_of}
+use Rattle.zb_model.specs.Queries.{first_after, oids_of}
 use Rattle.pack_reach.specs.Marking.{IsChangeRead, IsComplete, IsFollowed, IsMarking, IsNoted, IsRead, IsTransactionRead, KeepsMarks, MarkerState, MayMark, OnlyMarks, with_mark}
 use Rattle.pack_reach.specs.Outcomes.{IsAllMarked, RefusesToMark, unread_refusal}
-use Rattle.pack_reach.specs.Reach.{IsLeastUnreadable, IsReached, IsUnreadable, changed_after, is_in, is_pair_in, named_after, references_in, references_of, references_up_to, unreadable_after, unreadable_in, unreadable_of, unreadable_up_to}
+use Rattle.pack_reach.specs.Reach.{IsLeastUnreadable, IsReached, IsUnreadable, changed_after, is_in, is_pair_in, named_after, references_in, references_of, unreadable_after, unreadable_in, unreadable_of}
 use Rattle.pack_reach.specs.Reached.{reached, unreadable}
 use Rattle.pack_reach.proofs.Growing.{mark_only, mark_sound, mark_there}
 use Rattle.pack_reach.proofs.Least.{computed_least, one_least, pair_either}

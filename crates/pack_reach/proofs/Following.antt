@@ -1,9 +1,8 @@
 -- A marker follows the object that waits first.
-use Rattle.std.proofs.Common.{◌≡◌, ℕ, ◌+◌, ◌-◌, ◌^◌, ◌<◌, ◌≤◌, min, ◌⊎◌, inl, inr, ⊎_elim, Bool, true, false, ◌||◌, eqb, List, [], ◌∷◌, ◌++◌, length, drop, Option, Some, None, refl, sym, ap, subst, ◌∙◌, arith}
+use Rattle.std.proofs.Common.{◌≡◌, ℕ, ◌+◌, ◌-◌, ◌^◌, ◌<◌, ◌≤◌, min, inl, inr, ⊎_elim, true, eqb, List, [], ◌∷◌, ◌++◌, length, drop, Option, Some, None, refl, sym, ap, subst, ◌∙◌, arith}
 use Rattle.std.specs.Prelude.{IfSome, IsTrue, slice_get}
-use Rattle.std.specs.List.{AllByRecursion}
-use Rattle.std.specs.Option.{option_map_or, option_to_list}
-use Rattle.std.specs.FinSet.{contains, len}
+use Rattle.std.specs.Option.{option_map_or}
+use Rattle.std.specs.FinSet.{len}
 use Rattle.std.proofs.lemmas.Bool.{cases_lt, or_cases, or_left, or_right, eqb-true, eq-eqb}
 use Rattle.zb_model.specs.declared.data.Content.{Content}
 use Rattle.zb_model.specs.declared.data.Content.TheVariants.{Held, Absent}
@@ -12,9 +11,9 @@ use Rattle.zb_model.specs.declared.found.Found.{Found}
 use Rattle.zb_model.specs.Database.{IsDatabase, ObjectRevision, newest_tid, revision_below}
 use Rattle.zb_model.specs.Queries.{end_of, found_as, found_below, found_of}
 use Rattle.zb_model.specs.SerialLaws.{database_rises, last_of_rising}
-use Rattle.pack_reach.specs.Marking.{IsFollowed, IsFoundRead, IsMarking, IsNoted, IsOneFollowed, IsRead, IsTransactionRead, MarkerState, MayRead, MayReadFound, OnlyMarks}
-use Rattle.pack_reach.specs.Reach.{IsReached, is_in, is_pair_in, references_of, references_up_to, unreadable_in, unreadable_up_to}
-use Rattle.pack_reach.proofs.Growing.{absent_read, read_carried, transaction_carried}
+use Rattle.pack_reach.specs.Marking.{IsFollowed, IsFoundRead, IsMarking, IsRead, IsTransactionRead, MarkerState, MayReadFound, OnlyMarks}
+use Rattle.pack_reach.specs.Reach.{IsReached, is_in, is_pair_in, references_of, unreadable_in, unreadable_up_to}
+use Rattle.pack_reach.proofs.Growing.{absent_read, transaction_carried}
 use Rattle.pack_reach.proofs.Least.{in_content}
 use Rattle.pack_reach.proofs.Members.{each_implies}
 use Rattle.pack_reach.proofs.Seeing.{followed_carried}

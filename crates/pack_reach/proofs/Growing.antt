@@ -1,5 +1,5 @@
 -- A marker that marks and notes.
-use Rattle.std.proofs.Common.{◌≡◌, ℕ, zero, suc, add-one, get_or, ◌+◌, ◌<◌, ◌≤◌, ◌⊎◌, inl, inr, ⊎_elim, Bool, true, false, cond, ◌||◌, ◌&&◌, eqb, List, [], ◌∷◌, ◌++◌, append-nil, length, length-append, append_assoc, take, drop, Option, Some, None, refl, sym, ap, subst, ◌∙◌, arith}
+use Rattle.std.proofs.Common.{◌≡◌, ℕ, zero, suc, add-one, get_or, ◌+◌, ◌<◌, ◌≤◌, ◌⊎◌, inl, inr, ⊎_elim, Bool, true, false, cond, ◌&&◌, eqb, List, [], ◌∷◌, ◌++◌, append-nil, length, length-append, append_assoc, take, Option, Some, None, refl, sym, ap, subst, ◌∙◌, arith}
 use Rattle.std.specs.Prelude.{IfSome, IsTrue, unwrap_or, is_none, Result, Ok, Err, OnOk, OnErr}
 use Rattle.std.specs.List.{AllByRecursion}
 use Rattle.std.specs.Cmp.{nat_cmp_total}
@@ -12,11 +12,11 @@ use Rattle.zb_model.specs.declared.data.Content.TheVariants.{Held, Absent}
 use Rattle.zb_model.specs.declared.data.Transaction.{Transaction}
 use Rattle.zb_model.specs.declared.found.Found.{Found}
 use Rattle.zb_model.specs.declared.found.Found.TheVariants as found
-use Rattle.pack_reach.specs.Marking.{IsChangeRead, IsFoundRead, IsMarking, IsNoted, IsPartlyRead, IsRead, IsSound, IsTransactionRead, KeepsMarks, MarkerState, MayMark, MayRead, MayReadChange, MayReadFound, MayReadTransaction, OnlyMarks, with_mark, with_marks, with_note, with_record}
+use Rattle.pack_reach.specs.Marking.{IsChangeRead, IsFoundRead, IsNoted, IsPartlyRead, IsRead, IsSound, IsTransactionRead, MarkerState, MayMark, MayRead, MayReadChange, MayReadFound, OnlyMarks, with_mark, with_marks, with_note, with_record}
 use Rattle.pack_reach.specs.Reach.{IsReached, IsUnreadable, is_at_most, is_in, is_pair_in, references_of, unreadable_in}
 use Rattle.pack_reach.specs.Reached.{lesser}
 use Rattle.pack_reach.proofs.Least.{at_most_other, at_most_self, at_most_through, first_pair, same_pair}
-use Rattle.pack_reach.proofs.Members.{each_implies, each_of_all, in_append, in_back, in_either, in_front}
+use Rattle.pack_reach.proofs.Members.{each_implies, each_of_all, in_back, in_either, in_front}
 use Rattle.pack_reach.proofs.Sets.{in_inserted}
 
 -- ---- a new marker

@@ -1,18 +1,18 @@
 -- Marks over a list stand for marks over it with later transactions behind.
-use Rattle.std.proofs.Common.{◌≡◌, ℕ, ◌+◌, ◌<◌, ◌≤◌, max, ◌⊎◌, inl, inr, ⊎_elim, Bool, true, false, ltb, List, [], ◌∷◌, ◌++◌, append-nil, filter, Option, Some, None, refl, sym, ap, subst, ◌∙◌, arith}
+use Rattle.std.proofs.Common.{◌≡◌, ℕ, ◌+◌, ◌<◌, ◌≤◌, max, inl, inr, ⊎_elim, true, false, ltb, List, [], ◌∷◌, ◌++◌, append-nil, append_assoc, filter, Option, Some, None, refl, sym, ap, subst, ◌∙◌, arith}
 use Rattle.std.specs.Prelude.{IfSome, IsTrue}
 use Rattle.std.specs.List.{AllByRecursion, flat_map, last_or}
-use Rattle.std.specs.Option.{option_map_or}
-use Rattle.std.specs.FinSet.{contains}
-use Rattle.std.proofs.lemmas.Bool.{cases_Bool, ltb-true, ltb-false, le-ltb}
+use Rattle.std.specs.Option.{ForSome, option_map_or}
+use Rattle.std.proofs.lemmas.Bool.{cases_Bool, le-ltb}
 use Rattle.std.proofs.lemmas.List.Elements.{filter-append, filter_map-append}
+use Rattle.zb_base.specs.Lists.{each_more}
 use Rattle.zb_model.specs.declared.data.Change.{Change}
 use Rattle.zb_model.specs.declared.data.Transaction.{Transaction}
 use Rattle.zb_model.specs.Database.{IsDatabase, ObjectRevision, is_below, newest_tid, revision_below, revision_in, revisions}
 use Rattle.zb_model.specs.Queries.{is_above, oids_of}
 use Rattle.zb_model.specs.SerialLaws.{RisesTo, database_rises}
 use Rattle.pack_reach.specs.Marking.{IsFollowed, IsMarking, IsRead, IsTransactionRead, MarkerState, MayMark}
-use Rattle.pack_reach.specs.Reach.{IsReached, IsUnreadable, changed_after, is_in, is_pair_in, named_after, references_in, references_of, references_up_to, unreadable_after, unreadable_in, unreadable_of, unreadable_up_to}
+use Rattle.pack_reach.specs.Reach.{IsReached, IsUnreadable, is_in, is_pair_in, references_in, references_of, unreadable_in, unreadable_of}
 use Rattle.pack_reach.proofs.Least.{pair_back, pair_either, pair_front}
 use Rattle.pack_reach.proofs.Members.{each_of_all, in_back, in_either, in_front}
 use Rattle.pack_reach.proofs.Reaching.{revision_has, revisions_have}
@@ -119,3 +119,14 @@ stand named front later m is above k =
 pub marks_stand : (named : List ℕ → Option (List ℕ)) (list : List Transaction) (m : MarkerState) → IsDatabase list → MayMark named list m → IsMarking named list m
 marks_stand named list m is may =
     subst (λ (l : List Transaction). IsMarking named l m) (sym may.split) (stand named may.front may.later m (subst IsDatabase may.split is) may.above may.marks)
+
+-- marks may go on with one transaction behind, which the pack ends before
+pub may_mark_behind : (named : List ℕ → Option (List ℕ)) (list mid grown : List Transaction) (voted : Option Transaction) (t : Transaction) (m : MarkerState)
+    → MayMark named list m → m.tid < t.tid → mid ≡ list → voted ≡ Some t → ForSome voted (λ x. grown ≡ mid ++ x ∷ []) → MayMark named grown m
+may_mark_behind named list mid grown voted t m may above same is behind = record {
+  front = may.front;
+  later = may.later ++ t ∷ [];
+  split = behind t is ∙ ap (λ (l : List Transaction). l ++ t ∷ []) (same ∙ may.split) ∙ append_assoc may.front may.later (t ∷ []);
+  above = each_more (λ (x : Transaction). m.tid < x.tid) may.later t may.above above;
+  marks = may.marks;
+}

@@ -1,16 +1,15 @@
 -- What references lead to from the root, in a state above the pack's tid, is reached.
-use Rattle.std.proofs.Common.{◌≡◌, ℕ, ◌+◌, ◌<◌, ◌≤◌, ◌⊎◌, inl, inr, ⊎_elim, Bool, true, false, ltb, List, [], ◌∷◌, filter, Option, Some, None, refl, sym, ap, subst, ◌∙◌, arith}
-use Rattle.std.specs.Prelude.{IfSome, IsTrue, unwrap_or}
-use Rattle.std.specs.List.{AllByRecursion, flat_map, last_or}
+use Rattle.std.proofs.Common.{◌≡◌, ℕ, ◌+◌, ◌<◌, ◌≤◌, ◌⊎◌, inl, inr, ⊎_elim, true, false, ltb, List, [], ◌∷◌, filter, Option, Some, None, refl, sym, ap, subst, ◌∙◌, arith}
+use Rattle.std.specs.Prelude.{IfSome, unwrap_or}
+use Rattle.std.specs.List.{AllByRecursion, last_or}
 use Rattle.std.specs.Option.{option_map, option_map_or}
-use Rattle.std.proofs.lemmas.Bool.{cases_Bool, cases_lt, ltb-true, ltb-false, lt-ltb, le-ltb}
+use Rattle.std.proofs.lemmas.Bool.{cases_Bool, cases_lt, ltb-false, lt-ltb, le-ltb}
 use Rattle.zb_model.specs.declared.data.Change.{Change}
-use Rattle.zb_model.specs.declared.data.Content.TheVariants.{Held, Absent}
+use Rattle.zb_model.specs.declared.data.Content.TheVariants.{Absent}
 use Rattle.zb_model.specs.declared.data.Transaction.{Transaction}
 use Rattle.zb_model.specs.Database.{ObjectRevision, is_below, revision_below, revision_in, revisions}
-use Rattle.zb_model.specs.Queries.{is_above}
-use Rattle.pack_reach.specs.Laws.{IsLedTo, state_content}
-use Rattle.pack_reach.specs.Reach.{IsReached, is_in, named_after, references_in, references_of, references_up_to}
+use Rattle.pack_reach.specs.Laws.{IsLedTo}
+use Rattle.pack_reach.specs.Reach.{IsReached, is_in, named_after, references_in, references_of}
 use Rattle.pack_reach.proofs.Members.{each_implies, each_in, in_back, in_front, last_has}
 use Rattle.pack_reach.proofs.Reaching.{revision_has, revisions_have}
 

@@ -1,17 +1,16 @@
 -- The objects that are computed are those at the end of a path.
-use Rattle.std.proofs.Common.{◌≡◌, ℕ, zero, suc, ◌+◌, ◌-◌, ◌<◌, ◌≤◌, ◌⊎◌, inl, inr, ⊎_elim, Bool, true, false, cond, not, eqb, ltb, List, [], ◌∷◌, ◌++◌, length, map, filter, Option, Some, None, refl, sym, ap, subst, ◌∙◌, ◌||◌, arith}
+use Rattle.std.proofs.Common.{◌≡◌, ℕ, zero, suc, ◌+◌, ◌<◌, ◌≤◌, ◌⊎◌, inl, inr, ⊎_elim, Bool, true, false, not, eqb, List, [], ◌∷◌, ◌++◌, length, filter, Option, Some, None, refl, sym, ap, subst, ◌∙◌, ◌||◌, arith}
 use Rattle.std.specs.Prelude.{IfSome, IsTrue, ◌↔◌}
-use Rattle.std.specs.List.{AllByRecursion, cons_option, filter_map, flat_map, last_or, list_all}
+use Rattle.std.specs.List.{AllByRecursion, cons_option, flat_map, list_all}
 use Rattle.std.specs.Option.{option_map, option_map_or}
-use Rattle.std.specs.FinSet.{contains, from_list, contains-from_list_nat}
+use Rattle.std.specs.FinSet.{contains, contains-from_list_nat}
 use Rattle.std.proofs.lemmas.Bool.{cases_Bool, or_cases, or_left, or_right, eqb-true, eq-eqb}
 use Rattle.zb_model.specs.declared.data.Change.{Change}
 use Rattle.zb_model.specs.declared.data.Transaction.{Transaction}
 use Rattle.zb_model.specs.Database.{ObjectRevision, change_in, is_below, is_change_of, revision_below, revision_in, revisions}
-use Rattle.zb_model.specs.Queries.{is_above, oids_of}
 use Rattle.pack_reach.specs.Reach.{IsReached, changed_after, is_in, named_after, references_in, references_of, references_up_to}
-use Rattle.pack_reach.specs.Reached.{one_step_on, reached, reached_oids, starts, steps_on, with_oids}
-use Rattle.pack_reach.proofs.Members.{AnyOf, each_in, each_implies, last_has, in_either, in_all, in_front, in_back, in_new, in_old, nothing_new, all_pass, one_fails, in_some, each_and_any, each_of_all}
+use Rattle.pack_reach.specs.Reached.{one_step_on, reached, reached_oids, starts, steps_on}
+use Rattle.pack_reach.proofs.Members.{AnyOf, each_in, each_implies, last_has, in_either, in_all, in_front, in_back, in_new, in_old, nothing_new, all_pass, one_fails, in_some}
 
 -- ---- what each revision has that a transaction makes
 

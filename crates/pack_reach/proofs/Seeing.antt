@@ -1,7 +1,7 @@
 -- A marker goes over the transactions after the pack's tid.
-use Rattle.std.proofs.Common.{◌≡◌, ℕ, ◌+◌, ◌-◌, ◌^◌, ◌<◌, ◌≤◌, max, ◌⊎◌, inl, inr, ⊎_elim, Bool, true, false, cond, ◌||◌, eqb, ltb, List, [], ◌∷◌, ◌++◌, map, filter, Option, Some, None, refl, sym, ap, subst, ◌∙◌, arith}
+use Rattle.std.proofs.Common.{◌≡◌, ℕ, ◌+◌, ◌-◌, ◌^◌, ◌<◌, ◌≤◌, max, inl, inr, ⊎_elim, true, false, eqb, ltb, List, [], ◌∷◌, map, filter, Option, Some, None, refl, sym, ap, subst, ◌∙◌, arith}
 use Rattle.std.specs.Prelude.{IfSome, IsTrue}
-use Rattle.std.specs.List.{AllByRecursion, find, flat_map}
+use Rattle.std.specs.List.{AllByRecursion, flat_map}
 use Rattle.std.specs.FinSet.{contains}
 use Rattle.std.proofs.lemmas.Bool.{cases_Bool, cases_lt, or_left, or_right, eq-eqb, ltb-true, ltb-false, lt-ltb, le-ltb}
 use Rattle.zb_model.specs.declared.data.Change.{Change}
@@ -9,8 +9,8 @@ use Rattle.zb_model.specs.declared.data.Transaction.{Transaction}
 use Rattle.zb_model.specs.Database.{IsDatabase, ObjectRevision, newest_tid, revision_below}
 use Rattle.zb_model.specs.Queries.{first_after, is_above, oids_of}
 use Rattle.zb_model.specs.SerialLaws.{RisesTo, database_rises}
-use Rattle.pack_reach.specs.Marking.{IsChangeRead, IsFollowed, IsMarking, IsNoted, IsRead, IsSound, IsTransactionRead, MarkerState, MayRead, MayReadChange, MayReadTransaction, OnlyMarks}
-use Rattle.pack_reach.specs.Reach.{IsReached, IsUnreadable, changed_after, is_in, is_pair_in, named_after, references_in, references_of, unreadable_after, unreadable_in, unreadable_of}
+use Rattle.pack_reach.specs.Marking.{IsFollowed, IsMarking, IsNoted, IsRead, IsSound, IsTransactionRead, MarkerState, MayReadChange, MayReadTransaction, OnlyMarks}
+use Rattle.pack_reach.specs.Reach.{IsReached, IsUnreadable, is_in, is_pair_in, references_in, references_of, unreadable_in, unreadable_of}
 use Rattle.pack_reach.proofs.Growing.{read_carried, transaction_carried, waits_in}
 use Rattle.pack_reach.proofs.Least.{pair_back, pair_front}
 use Rattle.pack_reach.proofs.Members.{each_implies, each_in, in_back, in_front}

@@ -1,10 +1,10 @@
 -- Laws of packing. Own.
-use Rattle.std.specs.Prelude.{◌≡◌, ℕ, ◌<◌, ◌↔◌, List, Option, Some, IsTrue}
+use Rattle.std.specs.Prelude.{◌≡◌, ℕ, ◌<◌, ◌↔◌, List, Option, IsTrue}
 use Rattle.std.specs.Option.{unwrap_or}
 use Rattle.std.specs.Ordering.{nat_cmp}
 use Rattle.std.specs.FinSet.{FinSet, contains}
 use Rattle.zb_model.specs.declared.data.Content.{Content}
-use Rattle.zb_model.specs.declared.data.Content.TheVariants.{Held, Absent}
+use Rattle.zb_model.specs.declared.data.Content.TheVariants.{Absent}
 use Rattle.zb_model.specs.declared.data.Transaction.{Transaction}
 use Rattle.zb_model.specs.declared.found.Found.TheVariants as found
 use Rattle.zb_model.specs.Database.{IsDatabase, content_below}

@@ -1,5 +1,7 @@
 mod making;
 mod marks;
+mod random;
+mod unreadable;
 
 use super::*;
 use std::test::Fail;

@@ -1,9 +1,9 @@
 -- A vote and an undo, from what is asked to what is decided.
-use Rattle.std.proofs.Common.{◌≡◌, ℕ, ◌+◌, ◌<◌, ◌≤◌, List, [], Option, Some, None, Result, Ok, Err, Bool, true, false, not, if◌then◌else◌, map, refl, sym, ap, subst, ◌∙◌, arith}
+use Rattle.std.proofs.Common.{◌≡◌, ℕ, List, [], Option, Some, None, Result, Ok, Err, Bool, true, false, not, if◌then◌else◌, map, refl, sym, ap, subst, ◌∙◌, arith}
 use Rattle.std.specs.Prelude.{◌==◌}
-use Rattle.std.specs.Option.{option_map, option_map_or, option_or}
+use Rattle.std.specs.Option.{option_map, option_or}
 use Rattle.std.proofs.lemmas.Option.{same_Some}
-use Rattle.zb_base.specs.Counts.{Rose, rose_after}
+use Rattle.zb_base.specs.Counts.{rose_after}
 use Rattle.zb_ids.specs.declared.stamp.Stamp.{Stamp}
 use Rattle.zb_model.specs.declared.data.Change.{Change}
 use Rattle.zb_model.specs.declared.data.Transaction.{Transaction}
@@ -28,15 +28,14 @@ use Rattle.zodb_core.specs.declared.reply.Reply.{Reply}
 use Rattle.zodb_core.specs.declared.reply.Reply.TheVariants as reply
 use Rattle.zodb_core.specs.declared.request.Request.{Request}
 use Rattle.zodb_core.specs.declared.request.Request.TheVariants as request
-use Rattle.zodb_core.specs.declared.session.Session.{Session}
 use Rattle.zodb_core.specs.declared.texts.Texts.{Texts}
 use Rattle.zodb_core.specs.declared.vote.HubVote.{HubVote}
 use Rattle.zodb_core.specs.Holding.{VotesFor, held_refusal}
 use Rattle.zodb_core.specs.HubState.{HubState, MakesStep, StandsForMachine, counts_of, vote_of_hub}
-use Rattle.zodb_core.specs.Machine.{Machine, MachineVote, Rules, is_open_in}
-use Rattle.zodb_core.specs.Outcomes.{Answered, AreLaterCounts, EndsFor, FaultCounts, IsStepMade, NoMemory, StepOutcome, ReadingFailed, StoreFailed, outcome_of}
+use Rattle.zodb_core.specs.Machine.{Machine, Rules, is_open_in}
+use Rattle.zodb_core.specs.Outcomes.{Answered, AreLaterCounts, EndsFor, FaultCounts, NoMemory, StepOutcome, ReadingFailed, StoreFailed, outcome_of}
 use Rattle.zodb_core.specs.Replies.{undo_reply, vote_reply}
-use Rattle.zodb_core.specs.Steps.{Stepped, busy_for, changes_undone, early_refusal, refuse_if, replied_refusal, request_step, step_of, unless_early, vote_refusal, vote_step}
+use Rattle.zodb_core.specs.Steps.{Stepped, changes_undone, early_refusal, refuse_if, replied_refusal, request_step, unless_early, vote_refusal, vote_step}
 use Rattle.zodb_core.proofs.Stepping.{answered, not_early, reading_failed, sessions_whole, starved}
 
 -- ---- counts that rose earlier

@@ -1,11 +1,10 @@
 -- What was decided is voted.
-use Rattle.std.proofs.Common.{◌≡◌, ℕ, zero, suc, ◌+◌, ◌-◌, ◌^◌, ◌<◌, ◌≤◌, List, [], ◌∷◌, ◌++◌, Option, Some, None, Result, Ok, Err, Bool, true, false, not, if◌then◌else◌, length, map, refl, sym, ap, subst, ◌∙◌, arith, IsTrue}
-use Rattle.std.specs.Prelude.{IfSome, nat_lt, slice_get, ◌==◌}
-use Rattle.std.specs.Option.{is_some, option_map, option_map_or}
-use Rattle.std.proofs.lemmas.Bool.{lt-ltb, le-ltb, ltb-true, eq-eqb}
+use Rattle.std.proofs.Common.{◌≡◌, ℕ, ◌+◌, ◌-◌, ◌^◌, ◌<◌, ◌≤◌, List, [], ◌∷◌, Option, Some, None, Ok, Bool, true, false, if◌then◌else◌, length, map, refl, sym, ap, subst, ◌∙◌, arith, IsTrue}
+use Rattle.std.specs.Prelude.{IfSome, nat_lt, slice_get}
+use Rattle.std.specs.Option.{is_some, option_map}
+use Rattle.std.proofs.lemmas.Bool.{lt-ltb, le-ltb, eq-eqb}
 use Rattle.std.proofs.lemmas.List.{length-map}
 use Rattle.std.proofs.lemmas.Option.{same_Some}
-use Rattle.zb_base.specs.Counts.{Rose, rose_after}
 use Rattle.zb_ids.specs.declared.stamp.Stamp.{Stamp}
 use Rattle.zb_ids.specs.Tids.{stamp_number, tid_after}
 use Rattle.zb_outside.specs.Stamps.{stamps_after}
@@ -13,7 +12,6 @@ use Rattle.zb_model.specs.declared.data.Change.{Change}
 use Rattle.zb_model.specs.declared.data.Transaction.{Transaction}
 use Rattle.zb_model.specs.declared.new_transaction.NewChange.{NewChange}
 use Rattle.zb_model.specs.declared.new_transaction.NewTransaction.{NewTransaction}
-use Rattle.zb_model.specs.declared.refusal.Refusal.{Refusal}
 use Rattle.zb_model.specs.declared.refusal.Refusal.TheVariants as refusal
 use Rattle.zb_model.specs.declared.store_error.StoreError.{StoreError}
 use Rattle.zb_model.specs.declared.store_error.StoreError.TheVariants as store_error
@@ -32,7 +30,7 @@ use Rattle.zodb_core.specs.declared.vote.VotedEntry.{VotedEntry}
 use Rattle.zodb_core.specs.Holding.{IsNextTid, VotesFor, tid_if_left}
 use Rattle.zodb_core.specs.HubState.{HubState, IsEntryOf, HubKeeps, IsClockRead, MakesStep, StandsForMachine, counts_of, vote_of_hub, sessions_with}
 use Rattle.zodb_core.specs.Machine.{Machine, MachineVote, Rules, switches_of}
-use Rattle.zodb_core.specs.Outcomes.{Answered, AreLaterCounts, MayGoWrong, failed, holds_writes, machine_left, outcome_of}
+use Rattle.zodb_core.specs.Outcomes.{Answered, AreLaterCounts, failed, holds_writes, machine_left, outcome_of}
 use Rattle.zodb_core.specs.Replies.{fault_reply}
 use Rattle.zodb_core.specs.Steps.{Stepped, changes_in_journal, journal_limit, replied_refusal, replied, step_of, transaction_with, vote_at, vote_counted, vote_step, with_vote}
 use Rattle.zodb_core.proofs.Stepping.{answered, ends_answered, sessions_whole, stands_read}

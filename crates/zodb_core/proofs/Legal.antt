@@ -1,9 +1,9 @@
 -- Laws of histories.
-use Rattle.std.proofs.Common.{◌≡◌, ℕ, List, [], ◌∷◌, ◌++◌, refl, sym, ap, subst, ◌∙◌}
+use Rattle.std.proofs.Common.{◌≡◌, ℕ, List, [], ◌∷◌, ◌++◌, sym, ◌∙◌}
 use Rattle.zodb_core.specs.declared.request.Request.{Request}
 use Rattle.zodb_core.specs.History.{Entry, IsLegal, PrefixesAreLegal, RepliesAreOne, counts_behind, machine_behind}
 use Rattle.zodb_core.specs.Machine.{Machine, Rules}
-use Rattle.zodb_core.specs.Outcomes.{Answered, EndsFor, FaultCounts, IsStepMade, NoMemory, StepOutcome, ReadingFailed, StoreFailed, outcome_of}
+use Rattle.zodb_core.specs.Outcomes.{Answered, EndsFor, FaultCounts, NoMemory, StepOutcome, ReadingFailed, StoreFailed, outcome_of}
 use Rattle.zodb_core.specs.Steps.{Stepped, step_of}
 
 legal_prefix : (rules : Rules) (m : Machine) (counts : FaultCounts) (front rest : List Entry) → IsLegal rules m counts (front ++ rest) → IsLegal rules m counts front

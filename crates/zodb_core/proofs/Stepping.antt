@@ -1,32 +1,25 @@
 -- How a hub's step is a step of each machine that it stands for.
-use Rattle.std.proofs.Common.{◌≡◌, ℕ, zero, suc, ◌+◌, ◌-◌, ◌^◌, ◌<◌, ◌≤◌, List, [], ◌∷◌, ◌++◌, Option, Some, None, Result, Ok, Err, Bool, true, false, not, nat_lt, if◌then◌else◌, length, map, drop, refl, sym, ap, subst, ◌∙◌, arith, IsTrue}
-use Rattle.std.specs.Prelude.{IfErr, IfOk, filter, slice_set, ◌==◌}
+use Rattle.std.proofs.Common.{◌≡◌, ℕ, List, Option, None, Bool, true, false, not, refl, sym, ap, ◌∙◌}
 use Rattle.std.specs.Option.{option_map, option_or}
 use Rattle.zb_base.specs.Counts.{Rose}
 use Rattle.zb_ids.specs.declared.stamp.Stamp.{Stamp}
-use Rattle.zb_model.specs.declared.data.Transaction.{Transaction}
 use Rattle.zb_model.specs.declared.found.Found.{Found}
 use Rattle.zb_model.specs.declared.found.Found.TheVariants as found
-use Rattle.zb_model.specs.declared.lists.LogLine.{LogLine}
-use Rattle.zb_model.specs.declared.lists.Revision.{Revision}
-use Rattle.zb_model.specs.declared.refusal.Refusal.{Refusal}
 use Rattle.zb_model.specs.declared.refusal.Refusal.TheVariants as refusal
 use Rattle.zb_model.specs.declared.store_error.StoreError.{StoreError}
 use Rattle.zb_model.specs.declared.store_error.StoreError.TheVariants as store_error
-use Rattle.zb_model.specs.declared.news.News.{News}
-use Rattle.zb_model.specs.Lists.{history_of, undo_log_of}
 use Rattle.zb_model.specs.Queries.{found_below}
-use Rattle.zb_model.specs.Stores.{IsOnlyRead, MayRefuseReading, ReadKeepsRest, StoreState}
+use Rattle.zb_model.specs.Stores.{MayRefuseReading, ReadKeepsRest, StoreState}
 use Rattle.zodb_core.specs.declared.reply.Reply.{Reply}
 use Rattle.zodb_core.specs.declared.reply.Reply.TheVariants as reply
 use Rattle.zodb_core.specs.declared.request.Request.{Request}
 use Rattle.zodb_core.specs.declared.request.Request.TheVariants as request
 use Rattle.zodb_core.specs.declared.session.Session.{Session}
 use Rattle.zodb_core.specs.HubState.{HubState, MakesStep, StandsForMachine, counts_of, vote_of_hub, sessions_with}
-use Rattle.zodb_core.specs.Machine.{Machine, Rules, front_of, is_news_for, is_open_in, news_of, switches_of, told_of}
-use Rattle.zodb_core.specs.Outcomes.{Answered, AreLaterCounts, EndsFor, FaultCounts, IsStepMade, MayGoWrong, NoMemory, StepOutcome, ReadingFailed, StoreFailed, machine_left, outcome_of, outcome_of_refusal, reads_store, takes_memory}
+use Rattle.zodb_core.specs.Machine.{Machine, Rules, front_of, is_open_in, switches_of}
+use Rattle.zodb_core.specs.Outcomes.{Answered, AreLaterCounts, EndsFor, FaultCounts, MayGoWrong, NoMemory, StepOutcome, ReadingFailed, StoreFailed, machine_left, outcome_of, reads_store, takes_memory}
 use Rattle.zodb_core.specs.Replies.{fault_reply, loaded_reply}
-use Rattle.zodb_core.specs.Steps.{Stepped, early_refusal, loaded, refuse_if, replied, request_refusal, request_step, step_of}
+use Rattle.zodb_core.specs.Steps.{Stepped, early_refusal, loaded, refuse_if, replied, request_refusal, step_of}
 
 -- ---- what a hub that was only read stands for
 

@@ -1,12 +1,8 @@
 -- How a vote or a session ends.
-use Rattle.std.proofs.Common.{◌≡◌, ℕ, zero, suc, ◌+◌, ◌-◌, ◌^◌, ◌<◌, ◌≤◌, ◌⊎◌, inl, inr, ⊎_elim, List, [], ◌∷◌, ◌++◌, Option, Some, None, Bool, true, false, not, if◌then◌else◌, length, map, max, refl, sym, ap, subst, ◌∙◌, arith, IsTrue, All}
-use Rattle.std.specs.Prelude.{slice_set, ◌==◌}
-use Rattle.std.specs.List.{sum_by}
-use Rattle.std.specs.Option.{ForSome, option_map, option_map_or, option_or, is_some}
+use Rattle.std.proofs.Common.{◌≡◌, ℕ, zero, suc, ◌≤◌, inl, inr, ⊎_elim, List, [], ◌∷◌, ◌++◌, Option, Some, None, Bool, true, false, not, if◌then◌else◌, length, map, max, refl, sym, ap, subst, ◌∙◌, arith}
+use Rattle.std.specs.Prelude.{slice_set}
+use Rattle.std.specs.Option.{ForSome, option_map, option_or, is_some}
 use Rattle.std.proofs.lemmas.Bool.{eq-eqb, eqb-true, true≢false}
-use Rattle.std.proofs.lemmas.List.{length-map}
-use Rattle.std.proofs.lemmas.List.Elements.{All-from_recursion, All-map, recursion_from_All}
-use Rattle.std.specs.List.{AllByRecursion}
 use Rattle.zb_base.specs.Counts.{Rose}
 use Rattle.zb_ids.specs.declared.stamp.Stamp.{Stamp}
 use Rattle.zb_model.specs.declared.data.Transaction.{Transaction}
@@ -16,20 +12,19 @@ use Rattle.zb_model.specs.Queries.{greatest_of, oids_of}
 use Rattle.zb_model.specs.Stores.{StandsForOneOf, StoreState}
 use Rattle.zb_volume.specs.declared.areas.Area.TheVariants.{Main}
 use Rattle.zb_volume.specs.Calls.{Event}
-use Rattle.zb_volume.specs.Moments.{Along, here, Leaves, LeavesOnly}
+use Rattle.zb_volume.specs.Moments.{here, Leaves, LeavesOnly}
 use Rattle.zb_volume.specs.Runs.{leaves_less}
 use Rattle.zodb_core.specs.declared.journal.JournalEntry.{JournalEntry}
 use Rattle.zodb_core.specs.declared.journal.JournalEntry.TheVariants as journal
-use Rattle.zodb_core.specs.declared.reply.Reply.{Reply}
 use Rattle.zodb_core.specs.declared.reply.Reply.TheVariants as reply
 use Rattle.zodb_core.specs.declared.request.Request.{Request}
 use Rattle.zodb_core.specs.declared.request.Request.TheVariants as request
 use Rattle.zodb_core.specs.declared.session.Session.{Session}
 use Rattle.zodb_core.specs.declared.vote.HubVote.{HubVote}
 use Rattle.zodb_core.specs.declared.vote.VotedEntry.{VotedEntry}
-use Rattle.zodb_core.specs.HubState.{HasVotedWrites, HubState, IsBeforeOrBehind, IsEntryOf, HubKeeps, MakesStep, StandsForMachine, counts_of, has_vote, vote_of_hub, sessions_with, writes_of}
+use Rattle.zodb_core.specs.HubState.{HubState, IsBeforeOrBehind, IsEntryOf, MakesStep, StandsForMachine, counts_of, has_vote, vote_of_hub, sessions_with}
 use Rattle.zodb_core.specs.Machine.{Machine, MachineVote, OpenPack, Rules, has_pack, holds_vote, is_open_in}
-use Rattle.zodb_core.specs.Outcomes.{AreLaterCounts, MayGoWrong, changes_store, closed_session, failed, holds_writes}
+use Rattle.zodb_core.specs.Outcomes.{AreLaterCounts, changes_store, closed_session, failed, holds_writes}
 use Rattle.zodb_core.specs.Steps.{Stepped, early_refusal, finish_gives, finish_step, refuse_if, replied, request_refusal, request_step, step_of, unless_early, with_commit, without_session, without_vote}
 use Rattle.zodb_core.proofs.Stepping.{answered, not_early, sessions_whole}
 
@@ -303,7 +298,7 @@ moments_same_as stands_for rules m n q hub mid log stands whole only same =
 
 -- ---- sessions that are closed
 
-no_session : (sessions : List Session) (n : ℕ) → is_open_in (map closed_session sessions) n ≡ false
+pub no_session : (sessions : List Session) (n : ℕ) → is_open_in (map closed_session sessions) n ≡ false
 no_session [] zero = refl
 no_session [] (suc n) = refl
 no_session (x ∷ xs) zero = refl
@@ -328,3 +323,12 @@ closed_now rules m n q hub stamps stands whole closed = closed_to rules m n q hu
 -- what a store leaves, as contracts see it
 pub leaves_shown : (stands_for : List ℕ → List Transaction → Type 0) (shown s : StoreState) → shown ≡ s → Leaves Main (λ bytes. stands_for bytes s.list) s.log → Leaves Main (λ bytes. stands_for bytes shown.list) shown.log
 leaves_shown stands_for shown s is leaves = subst (λ (x : StoreState). Leaves Main (λ bytes. stands_for bytes x.list) x.log) (sym is) leaves
+
+-- whether a session is open, as the hub knows it
+pub open_known : (b : Bool) (sessions : List Session) (n : ℕ) → b ≡ true → false ≡ is_open_in (sessions_with b sessions) n
+open_known true sessions n is = sym (no_session sessions n)
+open_known false sessions n is = absurd cc
+
+pub open_there : (b : Bool) (sessions : List Session) (n : ℕ) → b ≡ false → is_open_in sessions n ≡ is_open_in (sessions_with b sessions) n
+open_there false sessions n is = refl
+open_there true sessions n is = absurd cc

@@ -41,6 +41,11 @@ abbrev pub counts_behind : FaultCounts → Entry → FaultCounts
 counts_behind counts (Opened n) = counts
 counts_behind counts (Made e) = e.counts
 
+-- the counts of faults behind a history
+abbrev pub counts_after : FaultCounts → List Entry → FaultCounts
+counts_after counts [] = counts
+counts_after counts (e ∷ entries) = counts_after (counts_behind counts e) entries
+
 -- what the step of an entry gave
 abbrev pub made_by : Rules → Machine → HistoryStep → Stepped
 made_by rules m e = record { reply = e.reply; machine = machine_behind rules m (Made e); ticks = is_some e.stamp }

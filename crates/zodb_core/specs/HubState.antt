@@ -1,5 +1,5 @@
 -- What contracts see of a hub, and the machines that it stands for. Own.
-use Rattle.std.specs.Prelude.{◌≡◌, ℕ, ◌<◌, ◌≤◌, ◌+◌, ◌⊎◌, ◌==◌, List, [], ◌∷◌, ◌++◌, Option, Some, None, Bool, true, false, IfSome, length, map, is_some}
+use Rattle.std.specs.Prelude.{◌≡◌, ℕ, ◌<◌, ◌≤◌, ◌+◌, ◌⊎◌, ◌==◌, List, [], ◌∷◌, Option, Some, None, Bool, true, false, IfSome, length, map, is_some}
 use Rattle.std.specs.Option.{option_map, option_map_or}
 use Rattle.zb_ids.specs.declared.stamp.Stamp.{Stamp}
 use Rattle.zb_ids.specs.Tids.{stamp_number}
@@ -23,7 +23,7 @@ use Rattle.zodb_core.specs.Machine.{Machine, MachineVote, Rules, session_limit, 
 use Rattle.zodb_core.specs.Outcomes.{AreLaterCounts, FaultCounts, IsStepMade, StepOutcome, Answered, ReadingFailed, NoMemory, StoreFailed, closed_session, outcome_of}
 use Rattle.zodb_core.specs.Stamps.{IsStampNumber}
 use Rattle.zb_base.specs.Counts.{Rose}
-use Rattle.zodb_core.specs.Steps.{Stepped, changes_in_journal, journal_limit, step_of}
+use Rattle.zodb_core.specs.Steps.{changes_in_journal, journal_limit, step_of}
 
 -- what contracts see of a hub: its store, its rules and references, and what it keeps beside the store
 pub record HubState (R F : Type 0) : Type 0 where

@@ -1,8 +1,16 @@
+pub mod DecisionLaws
+pub mod GrowthLaws
+pub mod Handed
 pub mod History
+pub mod HistoryLaws
 pub mod Holding
 pub mod HubState
+pub mod Laws
 pub mod Machine
 pub mod Outcomes
 pub mod Replies
+pub mod Sound
+pub mod SoundLaws
 pub mod Stamps
+pub mod StepCases
 pub mod Steps

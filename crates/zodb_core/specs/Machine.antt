@@ -1,5 +1,5 @@
 -- The plain database: a list of transactions, and the sessions that read it and add to it. Source: the storages of ZODB; sessions and news after ZEO.
-use Rattle.std.specs.Prelude.{◌≡◌, ℕ, ◌+◌, List, [], ◌∷◌, ◌++◌, Option, Some, None, Bool, true, false, not, ◌==◌, nat_lt, if◌then◌else◌, length, drop, filter, count_by, slice_get}
+use Rattle.std.specs.Prelude.{ℕ, ◌+◌, List, [], ◌∷◌, ◌++◌, Option, Some, None, Bool, true, false, not, ◌==◌, nat_lt, if◌then◌else◌, length, drop, filter, count_by, slice_get}
 use Rattle.std.specs.List.{filter_map, list_any}
 use Rattle.std.specs.Option.{option_map_or}
 use Rattle.zb_model.specs.declared.data.Transaction.{Transaction}

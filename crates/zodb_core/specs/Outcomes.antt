@@ -1,5 +1,5 @@
 -- How a step ends: answered, or not made because reading failed, memory ran out or the store failed. Own.
-use Rattle.std.specs.Prelude.{◌≡◌, ℕ, ◌≤◌, List, Option, Some, None, Bool, true, false, IsTrue, if◌then◌else◌, ◌==◌, is_some, map}
+use Rattle.std.specs.Prelude.{◌≡◌, ℕ, ◌≤◌, Option, None, Bool, true, false, IsTrue, if◌then◌else◌, ◌==◌, is_some, map}
 use Rattle.std.specs.Option.{option_map_or}
 use Rattle.zb_base.specs.Counts.{Rose}
 use Rattle.zb_model.specs.declared.refusal.Refusal.{Refusal}

@@ -1,5 +1,5 @@
 -- What the hub answers from what it reads. Own.
-use Rattle.std.specs.Prelude.{ℕ, List, Option}
+use Rattle.std.specs.Prelude.{ℕ}
 use Rattle.zb_model.specs.declared.found.Found.{Found}
 use Rattle.zb_model.specs.declared.found.Found.TheVariants as found
 use Rattle.zb_model.specs.declared.refusal.Refusal.TheVariants as refusal

@@ -3,12 +3,12 @@
 ghost use Rattle.std.specs.Prelude.{◌≡◌, ◌<◌, [], None, OnErr, IfErr, IfOk, IsErrOf, false, length};
 ghost use Rattle.zb_volume.specs.declared.areas.Area.TheVariants.{Main};
 ghost use Rattle.zb_volume.specs.Moments.{Leaves};
-ghost use Rattle.zodb_core.specs.HubState.{MayRefuseSession, StandsForMachine};
-ghost use Rattle.zodb_core.specs.Machine.{Machine, machine_over, session_limit, with_session};
+ghost use Rattle.zodb_core.specs.HubState.{MayRefuseSession, StandsForMachine, sessions_with};
+ghost use Rattle.zodb_core.specs.Machine.{Machine, is_open_in, machine_over, session_limit, with_session};
 
 use crate::errors::SessionRefusal;
 use crate::journal::JournalEntry;
-use crate::session::{Session, push_session};
+use crate::session::{Session, is_open, push_session};
 use crate::vote::HubVote;
 use std::alloc::Global;
 use std::marker::Model;
@@ -98,6 +98,25 @@ impl<St: Store, R: Resolver, F: Refs> Hub<St, R, F> {
             Leaves Main (λ bytes. St.stands bytes self.now.store.list) self.now.store.log }
     {
         self.failed
+    }
+
+    /// The law that until its store fails each crash leaves the list as it is, where it lies on a disk.
+    pub fn lasting(&self)
+        ensures lasting { St.lasts → self.now.store.broken ≡ false →
+            Leaves Main (λ bytes. St.stands bytes self.now.store.list) self.now.store.log }
+    {
+        let _ = self.has_failed();
+    }
+
+    /// Whether a session is open: it was opened, it was not closed, and the store has not failed.
+    #[tactic(auto, using(crate::proofs::Votes::open_known, crate::proofs::Votes::open_there))]
+    pub fn is_open(&self, session: u32) -> bool
+        ensures value { result ≡ is_open_in (sessions_with self.now.store.broken self.now.sessions) session }
+    {
+        if self.failed {
+            return false;
+        }
+        is_open(self.sessions.as_slice(), session)
     }
 
     /// Opens a session, and answers its number: they run from 0. `TooManySessions` comes exactly where 64

@@ -1,6 +1,12 @@
 //! Laws of the machine.
 
 ghost use Rattle.zodb_core.specs.History.{PrefixesAreLegal, RepliesAreOne};
+ghost use Rattle.zodb_core.specs.Laws.{CountsNeverFall, EndingsKeepSound, FrontsNeverFall};
+ghost use Rattle.zodb_core.specs.Laws.{GreatestNeverFalls, HistoriesKeepSound, HistoriesOnlyGrow};
+ghost use Rattle.zodb_core.specs.Laws.{JournalIsFull, ListsOnlyGrow, ListsStayDatabases, MachineStartsSound};
+ghost use Rattle.zodb_core.specs.Laws.{NewNumbersAreNew, NewestNeverFalls, NumbersComeBehindGreatest};
+ghost use Rattle.zodb_core.specs.Laws.{OpeningsKeepSound, StatesBelowFrontsStay, StepsAreAnswered};
+ghost use Rattle.zodb_core.specs.Laws.{StepsKeepSound};
 
 /// What a legal history begins with is legal.
 #[tactic(auto, using(crate::proofs::Legal::prefixes))]
@@ -12,4 +18,54 @@ pub fn histories_begin()
 #[tactic(auto, using(crate::proofs::Legal::one_reply))]
 pub fn replies_are_one()
     ensures { RepliesAreOne }
+{}
+
+/// Over a database the machine starts sound, and each step, each opening of a session and each history
+/// leaves it so, however a step ends. So a list stays a database over every legal history.
+pub fn machines_stay_sound()
+    ensures start { MachineStartsSound }
+    ensures step { StepsKeepSound }
+    ensures ending { EndingsKeepSound }
+    ensures opening { OpeningsKeepSound }
+    ensures history { HistoriesKeepSound }
+    ensures databases { ListsStayDatabases }
+{}
+
+/// A step leaves the list as it was, or puts one later transaction behind it, and a history puts later
+/// ones behind it. So the newest is never older, the front never lower, and what stood below a front that
+/// the list had reached stays as it was.
+pub fn lists_only_grow()
+    ensures step { ListsOnlyGrow }
+    ensures history { HistoriesOnlyGrow }
+    ensures newest { NewestNeverFalls }
+    ensures states { StatesBelowFrontsStay }
+{}
+
+/// No front that a session is told is below one that any session was told before.
+pub fn fronts_never_fall()
+    ensures { FrontsNeverFall }
+{}
+
+/// The numbers that are handed out come behind the greatest, which never falls. So none of them stood in
+/// the list at any moment, and none was handed out before.
+pub fn new_numbers_are_new()
+    ensures greatest { GreatestNeverFalls }
+    ensures behind { NumbersComeBehindGreatest }
+    ensures new { NewNumbersAreNew }
+{}
+
+/// The machine by itself never answers that reading failed, that memory ran out or that the store failed.
+pub fn steps_are_answered()
+    ensures { StepsAreAnswered }
+{}
+
+/// Along a legal history neither count of faults falls.
+pub fn counts_never_fall()
+    ensures { CountsNeverFall }
+{}
+
+/// A step is refused for a full journal exactly where nothing refuses it at once, something is to be
+/// written, and with its changes the journal would have more than 2^23.
+pub fn journal_is_full()
+    ensures { JournalIsFull }
 {}

@@ -21,7 +21,10 @@ mod voting;
 pub use errors::SessionRefusal;
 pub use hub::{Hub, SESSION_LIMIT};
 pub use journal::JournalEntry;
-pub use laws::{histories_begin, replies_are_one};
+pub use laws::{
+    counts_never_fall, fronts_never_fall, histories_begin, journal_is_full, lists_only_grow,
+    machines_stay_sound, new_numbers_are_new, replies_are_one, steps_are_answered,
+};
 pub use reply::Reply;
 pub use request::Request;
 pub use session::Session;

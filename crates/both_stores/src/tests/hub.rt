@@ -2,5 +2,6 @@
 mod asking;
 mod faults;
 mod limits;
+mod news;
 mod rows;
 mod telling;

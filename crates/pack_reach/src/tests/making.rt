@@ -1,5 +1,6 @@
 // Stores, and references that are read off the bytes.
-ghost use Rattle.std.specs.Prelude.{◌≡◌, None, IfOk, OnOk};
+ghost use Rattle.std.specs.Prelude.{◌≡◌, ◌<◌, ℕ, List, Option, None, IfOk, OnOk};
+ghost use Rattle.pack_reach.specs.Marking.{MarkerState, MayMark};
 
 use mapping_store::MappingStore;
 use std::alloc::{AllocError, Global};
@@ -52,12 +53,14 @@ fn oids_of(alloc: Global, bytes: &[u8]) -> Result<ListOf<Oid>, AllocError>
     Ok(oids)
 }
 
-/// A new transaction, so far behind T0. An object without bytes is taken away.
+/// A new transaction. An object without bytes is taken away.
 fn new_transaction(
     alloc: Global,
-    place: u8,
+    tid: Tid,
     changes: &[(u64, &[u8])],
-) -> Result<NewTransaction, AllocError> {
+) -> Result<NewTransaction, AllocError>
+    ensures { IfOk result (λ new. new.tid ≡ tid) }
+{
     let mut list = ListOf::new(alloc);
     for (oid, bytes) in changes {
         let content = if bytes.is_empty() {
@@ -71,7 +74,7 @@ fn new_transaction(
         })?;
     }
     Ok(NewTransaction {
-        tid: Tid(T0 + place as u64),
+        tid,
         user: Text8::new(alloc),
         description: Text8::new(alloc),
         extension: Text8::new(alloc),
@@ -88,17 +91,20 @@ pub fn new_store(alloc: Global) -> Result<MappingStore, Fail>
     Ok(store)
 }
 
-/// Commits changes so far behind T0.
+/// Commits changes. Marks whose pack ends before them may go on.
 pub fn commit(
     alloc: Global,
     store: &mut MappingStore,
-    place: u8,
+    tid: Tid,
     changes: &[(u64, &[u8])],
 ) -> Result<(), Fail>
     requires { (⟦<MappingStore as Store>⟧.state store.old).voted ≡ None }
-    ensures { OnOk result ((⟦<MappingStore as Store>⟧.state store.new).voted ≡ None) }
+    ensures free { OnOk result ((⟦<MappingStore as Store>⟧.state store.new).voted ≡ None) }
+    ensures marks { (named : List ℕ → Option (List ℕ)) → (m : MarkerState) → m.tid < tid
+        → MayMark named (⟦<MappingStore as Store>⟧.state store.old).list m
+        → OnOk result (MayMark named (⟦<MappingStore as Store>⟧.state store.new).list m) }
 {
-    let new = new_transaction(alloc, place, changes)?;
+    let new = new_transaction(alloc, tid, changes)?;
     if !is_votable(store.list(), &new) {
         return Err(Fail::new("the transaction may be voted"));
     }
@@ -114,7 +120,7 @@ pub fn store_of(alloc: Global, rows: &[&[(u64, &[u8])]]) -> Result<MappingStore,
     let mut store = new_store(alloc)?;
     let mut place = 1_u8;
     for changes in rows {
-        commit(alloc, &mut store, place, changes)?;
+        commit(alloc, &mut store, Tid(T0 + place as u64), changes)?;
         place = place.saturating_add(1);
     }
     Ok(store)

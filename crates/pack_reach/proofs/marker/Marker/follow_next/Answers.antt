@@ -1,4 +1,4 @@
-use Rattle.std.proofs.Common.{◌≡◌, ℕ, Option, Some, length, drop, ◌+◌, ◌-◌, ◌^◌, min, ◌∙◌, sym, ap, subst}
+use Rattle.std.proofs.Common.{◌≡◌, ℕ, Some, length, drop, ◌+◌, ◌-◌, ◌^◌, min, ◌∙◌, sym, ap, subst}
 use Rattle.std.specs.Prelude.{slice_get}
 use Rattle.std.specs.FinSet.{len}
 use Rattle.pack_reach.specs.Marking.{IsMarking, MarkerState}

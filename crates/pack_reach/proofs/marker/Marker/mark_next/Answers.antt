@@ -1,4 +1,4 @@
-use Rattle.std.proofs.Common.{◌≡◌, ℕ, Option, Some, ◌∙◌, sym, ap, subst}
+use Rattle.std.proofs.Common.{◌≡◌, ℕ, Some, ◌∙◌, sym, ap, subst}
 use Rattle.zb_model.specs.Queries.{first_after}
 use Rattle.pack_reach.specs.Marking.{IsMarking, MarkerState}
 use Rattle.pack_reach.proofs.Seeing.{grown_marking, may_read_next, next_is_above, next_marking}

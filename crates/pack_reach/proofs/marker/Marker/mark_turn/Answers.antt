@@ -1,6 +1,5 @@
-use Rattle.std.proofs.Common.{◌≡◌, ℕ, Option, Some, None, ◌∙◌, sym, ap, subst}
-use Rattle.zb_model.specs.Stores.{StoreState}
-use Rattle.pack_reach.specs.Marking.{IsMarking, MarkerState}
+use Rattle.std.proofs.Common.{◌≡◌, ◌∙◌, sym, ap, subst}
+use Rattle.pack_reach.specs.Marking.{MarkerState}
 use Rattle.pack_reach.specs.Outcomes.{IsMarked}
 use Rattle.pack_reach.proofs.Finishing.{answered, may_of, refused}
 use Rattle.pack_reach.proofs.Later.{marks_stand}

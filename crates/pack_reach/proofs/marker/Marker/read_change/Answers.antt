@@ -1,5 +1,5 @@
 use Rattle.std.proofs.Common.{◌∙◌, sym, ap, subst}
-use Rattle.zb_model.specs.declared.data.Content.TheVariants.{Held, Absent}
+use Rattle.zb_model.specs.declared.data.Content.TheVariants.{Held}
 use Rattle.pack_reach.specs.Marking.{OnlyMarks}
 use Rattle.pack_reach.proofs.Growing.{held_only, held_sound, held_read, absent_sound, absent_is_read, mark_only}
 use Rattle.pack_reach.proofs.marker.Marker.read_change.Goals as goal

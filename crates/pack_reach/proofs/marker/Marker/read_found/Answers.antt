@@ -1,4 +1,3 @@
-use Rattle.std.proofs.Common.{◌∙◌, sym, ap, subst}
 use Rattle.pack_reach.proofs.Growing.{any_only, found_sound, found_read}
 use Rattle.pack_reach.proofs.marker.Marker.read_found.Goals as goal
 

@@ -1,4 +1,4 @@
-use Rattle.std.proofs.Common.{◌≡◌, ◌<◌, ℕ, List, length, get_or, take, ◌∙◌, sym, ap, subst}
+use Rattle.std.proofs.Common.{◌≡◌, ◌<◌, ℕ, List, length, get_or, take, sym, subst}
 use Rattle.zb_model.specs.declared.data.Change.{Change}
 use Rattle.pack_reach.specs.Marking.{IsChangeRead, MayReadChange}
 use Rattle.pack_reach.proofs.Growing.{change_kept, each_at, each_more, only_then, sound_then}

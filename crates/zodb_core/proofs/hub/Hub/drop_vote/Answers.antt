@@ -1,4 +1,4 @@
-use Rattle.std.proofs.Common.{rules, refl, sym, ap, subst, ◌∙◌}
+use Rattle.std.proofs.Common.{rules, refl}
 use Rattle.zodb_core.proofs.Votes.{leaves_now, leaves_same}
 use Rattle.zodb_core.proofs.hub.Hub.drop_vote.Goals as goal
 

@@ -1,4 +1,4 @@
-use Rattle.std.proofs.Common.{rules, refl, sym, ap, subst, ◌∙◌}
+use Rattle.std.proofs.Common.{rules}
 use Rattle.zodb_core.proofs.Votes.{leaves_shown}
 use Rattle.zodb_core.proofs.hub.Hub.has_failed.Goals as goal
 

@@ -1,4 +1,4 @@
-use Rattle.std.proofs.Common.{rules, refl, sym, ap, subst, ◌∙◌, ◌+◌, length, arith}
+use Rattle.std.proofs.Common.{rules, refl, ◌+◌, arith}
 use Rattle.zodb_core.specs.HubState.{rules_of}
 use Rattle.zodb_core.proofs.Holding.{hold_full, hold_failed, hold_spent, hold_voted, kept_voted}
 use Rattle.std.specs.Vec.{vec_capacity}

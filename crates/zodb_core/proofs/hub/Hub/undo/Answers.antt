@@ -1,4 +1,4 @@
-use Rattle.std.proofs.Common.{rules, refl, sym, ap, subst, ◌∙◌, map, Ok}
+use Rattle.std.proofs.Common.{rules, refl, map, Ok}
 use Rattle.zb_model.specs.Voting.{voted_change}
 use Rattle.zodb_core.specs.declared.request.Request.TheVariants as request
 use Rattle.zodb_core.specs.HubState.{rules_of}

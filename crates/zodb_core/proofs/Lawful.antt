@@ -1,0 +1,53 @@
+-- Laws of the machine, each as it is stated.
+use Rattle.zodb_core.specs.HistoryLaws.{entry_numbers, fronts_rise, history_counts, left_greatest, numbers_new, step_answered}
+use Rattle.zodb_core.specs.Laws.{CountsNeverFall, EndingsKeepSound, FrontsNeverFall, GreatestNeverFalls, HistoriesKeepSound, HistoriesOnlyGrow, ListsOnlyGrow, ListsStayDatabases, MachineStartsSound, NewNumbersAreNew, NewestNeverFalls, NumbersComeBehindGreatest, OpeningsKeepSound, StatesBelowFrontsStay, StepsAreAnswered, StepsKeepSound}
+use Rattle.zodb_core.specs.Machine.{machine_over}
+use Rattle.zodb_core.specs.SoundLaws.{content_grown, front_grown, history_grows, history_sound, left_grows, left_sound, newest_grown, opened_sound, over_sound, revision_grown, step_sound}
+
+pub starts_sound : MachineStartsSound
+starts_sound list is = over_sound list is
+
+pub steps_sound : StepsKeepSound
+steps_sound rules m n q stamp sound distinct = step_sound rules m n q stamp sound distinct
+
+pub endings_sound : EndingsKeepSound
+endings_sound rules m n q stamp outcome sound distinct = left_sound rules m n q stamp outcome sound distinct
+
+pub openings_sound : OpeningsKeepSound
+openings_sound m sound = opened_sound m sound
+
+pub histories_sound : HistoriesKeepSound
+histories_sound rules m entries sound distinct = history_sound rules m entries sound distinct
+
+pub stay_databases : ListsStayDatabases
+stay_databases rules list counts entries is distinct legal = (history_sound rules (machine_over list) entries (over_sound list is) distinct).database
+
+pub lists_grow : ListsOnlyGrow
+lists_grow rules m n q stamp outcome sound = left_grows rules m n q stamp outcome sound
+
+pub histories_grow : HistoriesOnlyGrow
+histories_grow rules m entries sound distinct = history_grows rules m entries sound distinct
+
+pub newest_rises : NewestNeverFalls
+newest_rises list grown grows = (newest_grown list grown grows, front_grown list grown grows)
+
+pub states_stay : StatesBelowFrontsStay
+states_stay oid front list grown grows up = (revision_grown oid front list grown grows up, content_grown oid front list grown grows up)
+
+pub fronts_never : FrontsNeverFall
+fronts_never rules m counts entries sound distinct legal = fronts_rise rules m counts entries sound distinct legal
+
+pub greatest_never : GreatestNeverFalls
+greatest_never rules m n q stamp outcome = left_greatest rules m n q stamp outcome
+
+pub numbers_behind : NumbersComeBehindGreatest
+numbers_behind rules m counts e range legal is = entry_numbers rules m counts e range legal.0 is
+
+pub numbers_are_new : NewNumbersAreNew
+numbers_are_new rules m counts entries e range sound distinct legal is = numbers_new rules m counts entries e range sound distinct legal is
+
+pub all_answered : StepsAreAnswered
+all_answered rules m n q stamp = step_answered rules m n q stamp
+
+pub counts_never : CountsNeverFall
+counts_never rules m counts entries legal = history_counts rules m counts entries legal

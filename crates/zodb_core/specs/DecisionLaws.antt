@@ -1,0 +1,238 @@
+-- What votes and undos write names each object once, and what refuses them is told. For the proofs of those who follow the machine.
+use Rattle.std.proofs.Common.{◌≡◌, ℕ, Bool, true, false, cond, eqb, List, [], ◌∷◌, map, Option, Some, None, Result, Ok, Err, refl, sym, ap, subst, ◌∙◌}
+use Rattle.std.specs.Prelude.{nat_eq, ok_or, option_map, ◌||◌}
+use Rattle.std.specs.List.{AllByRecursion, IsDistinct}
+use Rattle.std.specs.Option.{option_or}
+use Rattle.std.proofs.lemmas.Bool.{eqb-true, eqb-false, ne_eqb}
+use Rattle.std.proofs.lemmas.Map.Keys.{IsDistinct-head, IsDistinct-tail, IsDistinct-cons}
+use Rattle.zb_model.specs.declared.data.Change.{Change}
+use Rattle.zb_model.specs.declared.data.Transaction.{Transaction}
+use Rattle.zb_model.specs.declared.new_transaction.NewChange.{NewChange}
+use Rattle.zb_model.specs.declared.new_transaction.NewContent.TheVariants as new_content
+use Rattle.zb_model.specs.declared.pending.PendingStore.{PendingStore}
+use Rattle.zb_model.specs.declared.pending.PendingCheck.{PendingCheck}
+use Rattle.zb_model.specs.declared.refusal.Refusal.{Refusal}
+use Rattle.zb_model.specs.declared.refusal.Refusal.TheVariants as refusal
+use Rattle.zb_model.specs.declared.refusal.Why.{Why}
+use Rattle.zb_model.specs.Database.{revision_below, serial_of}
+use Rattle.zb_model.specs.Queries.{transaction_at}
+use Rattle.zb_model.specs.Rules.{MergeRules}
+use Rattle.zb_model.specs.VotingLaws.{oids_kept}
+use Rattle.commit_phases.specs.Decision.{ahead_of_changes, change_of_store, change_or_conflict, changes_of_stores, excess_of, failed_check, goes_in, length_of_content, too_long, unless_checks_fail, unless_refused, vote_decision}
+use Rattle.commit_phases.specs.Pending.{PendingChanges, with_pending}
+use Rattle.undo_records.specs.Undone.{content_before, content_now, is_same, is_untouched, merged_content, taken_over, then_with, undone_changes, undone_content, undone_from, undone_of, undone_transaction, with_change}
+use Rattle.zodb_core.specs.Outcomes.{Answered, outcome_of_refusal}
+use Rattle.zodb_core.specs.Steps.{changes_undone}
+
+-- the journal is full
+abbrev pub is_full : Refusal → Bool
+is_full (refusal.JournalFull count) = true
+is_full _ = false
+
+-- a refusal by what was asked: no failure, nor a journal that is full
+abbrev pub IsOrdinary : Refusal → Type 0
+IsOrdinary r = (outcome_of_refusal r ≡ Answered) × (is_full r ≡ false)
+
+-- ---- a vote writes the objects of its stores
+
+-- the changes have these objects, in their order
+abbrev HaveOids : List ℕ → Result (List Change) Refusal → Type 0
+HaveOids oids (Ok changes) = map (λ c. c.oid) changes ≡ oids
+HaveOids oids (Err r) = IsOrdinary r
+
+-- and the change has this one
+abbrev HasOid : ℕ → Result Change Refusal → Type 0
+HasOid oid (Ok c) = c.oid ≡ oid
+HasOid oid (Err r) = IsOrdinary r
+
+conflict_oid : (list : List Transaction) (p : PendingStore) (r : Result (List ℕ) Why) → HasOid p.oid (change_or_conflict list p r)
+conflict_oid list p (Ok bytes) = refl
+conflict_oid list p (Err why) = (refl, refl)
+
+ahead_oids : (oid : ℕ) (oids : List ℕ) (one : Result Change Refusal) (rest : Result (List Change) Refusal) → HasOid oid one → HaveOids oids rest → HaveOids (oid ∷ oids) (ahead_of_changes one rest)
+ahead_oids oid oids (Err r) rest one all = one
+ahead_oids oid oids (Ok c) (Err r) one all = all
+ahead_oids oid oids (Ok c) (Ok changes) one all = ap (λ (n : ℕ). n ∷ map (λ (x : Change). x.oid) changes) one ∙ ap (λ (ns : List ℕ). oid ∷ ns) all
+
+stores_oids : (rules : MergeRules) (list : List Transaction) (stores : List PendingStore) → HaveOids (map (λ p. p.oid) stores) (changes_of_stores rules list stores)
+stores_oids rules list [] = refl
+stores_oids rules list (p ∷ stores) =
+    ahead_oids p.oid (map (λ p. p.oid) stores) (change_of_store rules list p) (changes_of_stores rules list stores)
+    (conflict_oid list p (goes_in rules list p)) (stores_oids rules list stores)
+
+-- a refusal, if there is one, is ordinary
+abbrev pub AnswersIfSome : Option Refusal → Type 0
+AnswersIfSome None = Unit {0}
+AnswersIfSome (Some r) = IsOrdinary r
+
+pub answers_or : (one other : Option Refusal) → AnswersIfSome one → AnswersIfSome other → AnswersIfSome (option_or one other)
+answers_or None other first second = second
+answers_or (Some r) other first second = first
+
+check_answers : (list : List Transaction) (checks : List PendingCheck) → AnswersIfSome (failed_check list checks)
+check_answers list [] = tt
+check_answers list (c ∷ checks) = by_cases (eqb c.serial (serial_of c.oid list)) (check_answers list checks)
+  where
+    by_cases : (b : Bool) → AnswersIfSome (failed_check list checks) → AnswersIfSome (cond b (failed_check list checks) (Some (refusal.ReadConflict c.oid c.serial (serial_of c.oid list))))
+    by_cases true rest = rest
+    by_cases false rest = (refl, refl)
+
+long_answers : (n : Option ℕ) → AnswersIfSome (option_map (λ n. refusal.TooLong n) n)
+long_answers None = tt
+long_answers (Some n) = (refl, refl)
+
+refused_oids : (oids : List ℕ) (changes : List Change) (o : Option Refusal) → map (λ c. c.oid) changes ≡ oids → AnswersIfSome o → HaveOids oids (unless_refused changes o)
+refused_oids oids changes None have answers = have
+refused_oids oids changes (Some r) have answers = answers
+
+checked_oids : (list : List Transaction) (checks : List PendingCheck) (oids : List ℕ) (r : Result (List Change) Refusal) → HaveOids oids r → HaveOids oids (unless_checks_fail list checks r)
+checked_oids list checks oids (Err r) have = have
+checked_oids list checks oids (Ok changes) have =
+    refused_oids oids changes (option_or (failed_check list checks) (too_long changes)) have
+    (answers_or (failed_check list checks) (too_long changes) (check_answers list checks) (long_answers (excess_of (map (λ (c : Change). length_of_content c.content) changes))))
+
+vote_oids : (rules : MergeRules) (list : List Transaction) (pending : PendingChanges) → HaveOids (map (λ p. p.oid) pending.stores) (vote_decision rules list pending)
+unfolding vote_decision
+vote_oids rules list pending = checked_oids list pending.checks (map (λ p. p.oid) pending.stores) (changes_of_stores rules list pending.stores) (stores_oids rules list pending.stores)
+
+-- ---- an undo names each object once
+
+abbrev AreOnce : List NewChange → Type 0
+AreOnce changes = IsDistinct nat_eq (map (λ c. c.oid) changes)
+
+abbrev IsNone : ℕ → List NewChange → Type 0
+IsNone oid changes = AllByRecursion (λ n. nat_eq oid n ≡ false) (map (λ c. c.oid) changes)
+
+-- an object that differs from those that are written and from this one differs from all then
+apart_with : (oid : ℕ) (written : List NewChange) (c : NewChange) → IsNone oid written → nat_eq oid c.oid ≡ false → IsNone oid (with_change written c)
+apart_with oid [] c none one = (one, tt)
+apart_with oid (d ∷ written) c none one = by_cases (eqb c.oid d.oid) (apart_with oid written c none.1 one)
+  where
+    by_cases : (b : Bool) → IsNone oid (with_change written c) → IsNone oid (cond b (c ∷ written) (d ∷ with_change written c))
+    by_cases true rest = (one, none.1)
+    by_cases false rest = (none.0, rest)
+
+flipped : (a b : ℕ) → eqb a b ≡ false → nat_eq b a ≡ false
+flipped a b e = ne_eqb b a (λ q. eqb-false a b e (sym q))
+
+once_with : (written : List NewChange) (c : NewChange) → AreOnce written → AreOnce (with_change written c)
+once_with [] c once = IsDistinct-cons nat_eq c.oid [] tt once
+once_with (d ∷ written) c once =
+    by_cases (eqb c.oid d.oid) refl (IsDistinct-head nat_eq d.oid (map (λ (x : NewChange). x.oid) written) once) (IsDistinct-tail nat_eq d.oid (map (λ (x : NewChange). x.oid) written) once)
+    (once_with written c (IsDistinct-tail nat_eq d.oid (map (λ (x : NewChange). x.oid) written) once))
+  where
+    by_cases : (b : Bool) → eqb c.oid d.oid ≡ b → IsNone d.oid written → AreOnce written → AreOnce (with_change written c) → AreOnce (cond b (c ∷ written) (d ∷ with_change written c))
+    by_cases true e none rest all =
+        IsDistinct-cons nat_eq c.oid (map (λ (x : NewChange). x.oid) written) (subst (λ (n : ℕ). IsNone n written) (sym (eqb-true c.oid d.oid e)) none) rest
+    by_cases false e none rest all =
+        IsDistinct-cons nat_eq d.oid (map (λ (x : NewChange). x.oid) (with_change written c)) (apart_with d.oid written c none (flipped c.oid d.oid e)) all
+
+-- what is written names each object once, or what refuses it is told
+abbrev AreOnceIfOk : Result (List NewChange) Refusal → Type 0
+AreOnceIfOk (Ok changes) = AreOnce changes
+AreOnceIfOk (Err r) = IsOrdinary r
+
+abbrev AnswersIfErr : {T : Type 0} → Result T Refusal → Type 0
+AnswersIfErr (Ok x) = Unit {0}
+AnswersIfErr (Err r) = IsOrdinary r
+
+merged_answers : (oid later : ℕ) (m : Option (List ℕ)) → AnswersIfErr (ok_or (option_map new_content.Bytes m) (refusal.UndoConflict oid later))
+merged_answers oid later None = (refl, refl)
+merged_answers oid later (Some bytes) = tt
+
+content_answers : (rules : MergeRules) (list : List Transaction) (tid : ℕ) (written : List NewChange) (c : Change) → AnswersIfErr (undone_content rules list tid written c)
+content_answers rules list tid written c = by_cases (is_untouched list tid written c.oid || is_same (content_now list written c.oid) c.content)
+  where
+    by_cases : (b : Bool) → AnswersIfErr (cond b (Ok (taken_over (revision_below c.oid tid list))) (ok_or (option_map new_content.Bytes (merged_content rules c.content (content_now list written c.oid) (content_before c.oid tid list))) (refusal.UndoConflict c.oid (serial_of c.oid list))))
+    by_cases true = tt
+    by_cases false = merged_answers c.oid (serial_of c.oid list) (merged_content rules c.content (content_now list written c.oid) (content_before c.oid tid list))
+
+then_once : {A : Type 0} (u : Result A Refusal) (next : A → Result (List NewChange) Refusal) → AnswersIfErr u → ((x : A) → u ≡ Ok x → AreOnceIfOk (next x)) → AreOnceIfOk (then_with u next)
+then_once (Ok x) next answers each = each x refl
+then_once (Err r) next answers each = answers
+
+changes_once : (rules : MergeRules) (list : List Transaction) (tid : ℕ) (written : List NewChange) (changes : List Change) → AreOnce written → AreOnceIfOk (undone_changes rules list tid written changes)
+changes_once rules list tid written [] once = once
+changes_once rules list tid written (c ∷ changes) once =
+    then_once (undone_content rules list tid written c) (λ content. undone_changes rules list tid (with_change written (record { oid = c.oid; content = content })) changes)
+    (content_answers rules list tid written c)
+    (λ content _. changes_once rules list tid (with_change written (record { oid = c.oid; content = content })) changes (once_with written (record { oid = c.oid; content = content }) once))
+
+transaction_once : (rules : MergeRules) (list : List Transaction) (tid : ℕ) (written : List NewChange) (o : Option Transaction) → AreOnce written → AreOnceIfOk (undone_transaction rules list tid written o)
+transaction_once rules list tid written None once = (refl, refl)
+transaction_once rules list tid written (Some t) once = by_cases t.packed (changes_once rules list tid written t.changes once)
+  where
+    by_cases : (b : Bool) → AreOnceIfOk (undone_changes rules list tid written t.changes) → AreOnceIfOk (cond b (Err (refusal.UndoPacked tid)) (undone_changes rules list tid written t.changes))
+    by_cases true rest = (refl, refl)
+    by_cases false rest = rest
+
+answers_of_once : (u : Result (List NewChange) Refusal) → AreOnceIfOk u → AnswersIfErr u
+answers_of_once (Ok changes) once = tt
+answers_of_once (Err r) once = once
+
+once_of : (u : Result (List NewChange) Refusal) (changes : List NewChange) → AreOnceIfOk u → u ≡ Ok changes → AreOnce changes
+once_of u changes once is = subst AreOnceIfOk is once
+
+from_once : (rules : MergeRules) (list : List Transaction) (written : List NewChange) (tids : List ℕ) → AreOnce written → AreOnceIfOk (undone_from rules list written tids)
+from_once rules list written [] once = once
+from_once rules list written (tid ∷ tids) once =
+    let first : AreOnceIfOk (undone_transaction rules list tid written (transaction_at tid list)) = transaction_once rules list tid written (transaction_at tid list) once in
+    then_once (undone_transaction rules list tid written (transaction_at tid list)) (λ more. undone_from rules list more tids)
+    (answers_of_once (undone_transaction rules list tid written (transaction_at tid list)) first)
+    (λ more is. from_once rules list more tids (once_of (undone_transaction rules list tid written (transaction_at tid list)) more first is))
+
+none_once : AreOnce []
+unfolding IsDistinct
+none_once = tt
+
+undo_once : (rules : MergeRules) (list : List Transaction) (tids : List ℕ) → AreOnceIfOk (undone_of rules list tids)
+unfolding undone_of
+undo_once rules list tids = from_once rules list [] tids none_once
+
+-- ---- what was decided
+
+-- what is to be written names each object once, under a premise, or what refuses it is told
+abbrev pub IsDecidedOnce : Type 0 → Result (List Change) Refusal → Type 0
+IsDecidedOnce premise (Ok changes) = premise → IsDistinct nat_eq (map (λ c. c.oid) changes)
+IsDecidedOnce premise (Err r) = IsOrdinary r
+
+by_oids : (oids : List ℕ) (r : Result (List Change) Refusal) → HaveOids oids r → IsDecidedOnce (IsDistinct nat_eq oids) r
+by_oids oids (Ok changes) have = λ distinct. subst (λ (ns : List ℕ). IsDistinct nat_eq ns) (sym have) distinct
+by_oids oids (Err r) have = have
+
+-- a vote whose stores name each object once
+pub vote_decided : (rules : MergeRules) (list : List Transaction) (pending : PendingChanges) → IsDecidedOnce (IsDistinct nat_eq (map (λ p. p.oid) pending.stores)) (vote_decision rules list pending)
+vote_decided rules list pending = by_oids (map (λ p. p.oid) pending.stores) (vote_decision rules list pending) (vote_oids rules list pending)
+
+by_once : (list : List Transaction) (u : Result (List NewChange) Refusal) → AreOnceIfOk u → IsDecidedOnce (Unit {0}) (changes_undone list u)
+by_once list (Ok changes) once = λ _. subst (λ (ns : List ℕ). IsDistinct nat_eq ns) (sym (oids_kept list changes)) once
+by_once list (Err r) once = once
+
+-- every undo
+pub undo_decided : (rules : MergeRules) (list : List Transaction) (tids : List ℕ) → IsDecidedOnce (Unit {0}) (changes_undone list (undone_of rules list tids))
+undo_decided rules list tids = by_once list (undone_of rules list tids) (undo_once rules list tids)
+
+-- ---- stores that wait for a vote
+
+none_pending : (oid : ℕ) (stores : List PendingStore) (p : PendingStore) → AllByRecursion (λ n. nat_eq oid n ≡ false) (map (λ q. q.oid) stores) → nat_eq oid p.oid ≡ false
+    → AllByRecursion (λ n. nat_eq oid n ≡ false) (map (λ q. q.oid) (with_pending stores p))
+none_pending oid [] p none one = (one, tt)
+none_pending oid (q ∷ stores) p none one = by_cases (eqb p.oid q.oid) (none_pending oid stores p none.1 one)
+  where
+    by_cases : (b : Bool) → AllByRecursion (λ n. nat_eq oid n ≡ false) (map (λ x. x.oid) (with_pending stores p))
+        → AllByRecursion (λ n. nat_eq oid n ≡ false) (map (λ x. x.oid) (cond b ((record { oid = q.oid; base = q.base; bytes = p.bytes }) ∷ stores) (q ∷ with_pending stores p)))
+    by_cases true rest = none
+    by_cases false rest = (none.0, rest)
+
+-- with one more they still name each object once
+pub pending_once : (stores : List PendingStore) (p : PendingStore) → IsDistinct nat_eq (map (λ q. q.oid) stores) → IsDistinct nat_eq (map (λ q. q.oid) (with_pending stores p))
+pending_once [] p once = IsDistinct-cons nat_eq p.oid [] tt once
+pending_once (q ∷ stores) p once =
+    by_cases (eqb p.oid q.oid) refl (pending_once stores p (IsDistinct-tail nat_eq q.oid (map (λ (x : PendingStore). x.oid) stores) once))
+  where
+    by_cases : (b : Bool) → eqb p.oid q.oid ≡ b → IsDistinct nat_eq (map (λ x. x.oid) (with_pending stores p))
+        → IsDistinct nat_eq (map (λ x. x.oid) (cond b ((record { oid = q.oid; base = q.base; bytes = p.bytes }) ∷ stores) (q ∷ with_pending stores p)))
+    by_cases true e rest = once
+    by_cases false e rest =
+        IsDistinct-cons nat_eq q.oid (map (λ (x : PendingStore). x.oid) (with_pending stores p))
+        (none_pending q.oid stores p (IsDistinct-head nat_eq q.oid (map (λ (x : PendingStore). x.oid) stores) once) (flipped p.oid q.oid e)) rest

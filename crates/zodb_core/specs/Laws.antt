@@ -1,0 +1,131 @@
+-- Laws of the machine: what holds of every step and of every history, over whatever rules. Own.
+use Rattle.std.specs.Prelude.{◌↔◌, ◌≡◌, ℕ, ◌<◌, ◌≤◌, ◌+◌, List, [], ◌∷◌, ◌++◌, Some, All, None, length, Option}
+use Rattle.std.specs.List.{AllPairs}
+use Rattle.std.specs.Result.{result_ok}
+use Rattle.zb_model.specs.declared.data.Change.{Change}
+use Rattle.zb_model.specs.declared.data.Transaction.{Transaction}
+use Rattle.zb_model.specs.declared.refusal.Refusal.TheVariants as refusal
+use Rattle.zb_model.specs.Database.{IsDatabase, content_below, newest_tid, revision_below}
+use Rattle.zb_model.specs.Queries.{greatest_oid}
+use Rattle.commit_phases.specs.Decision.{vote_decision}
+use Rattle.undo_records.specs.Undone.{undone_of}
+use Rattle.zodb_core.specs.declared.reply.Reply.TheVariants as reply
+use Rattle.zodb_core.specs.declared.request.Request.{Request}
+use Rattle.zodb_core.specs.declared.request.Request.TheVariants as request
+use Rattle.zodb_core.specs.Handed.{NumberRange, all_numbers, end_of_range, fronts_told, numbers_handed}
+use Rattle.zodb_core.specs.History.{Entry, IsLegal, IsLegalOver, counts_after, machine_after, machine_behind}
+use Rattle.zodb_core.specs.Machine.{Machine, Rules, front_of, machine_over, with_session}
+use Rattle.zodb_core.specs.Outcomes.{Answered, AreLaterCounts, FaultCounts, StepOutcome, machine_left, outcome_of}
+use Rattle.zodb_core.specs.Sound.{AreDistinctRequests, GrowsByOne, GrowsTo, IsDistinctRequest, IsSoundMachine}
+use Rattle.zodb_core.specs.Steps.{changes_in_journal, changes_undone, early_refusal, journal_limit, step_of}
+
+-- ---- the machine stays sound
+
+-- over a database it starts sound
+abbrev pub MachineStartsSound : Type 0
+MachineStartsSound = (list : List Transaction) → IsDatabase list → IsSoundMachine (machine_over list)
+
+-- a step leaves it sound
+abbrev pub StepsKeepSound : Type 0
+StepsKeepSound = (rules : Rules) (m : Machine) (n : ℕ) (q : Request) (stamp : ℕ) → IsSoundMachine m → IsDistinctRequest q → IsSoundMachine (step_of rules m n q stamp).machine
+
+-- however it ends
+abbrev pub EndingsKeepSound : Type 0
+EndingsKeepSound = (rules : Rules) (m : Machine) (n : ℕ) (q : Request) (stamp : ℕ) (outcome : StepOutcome)
+    → IsSoundMachine m → IsDistinctRequest q → IsSoundMachine (machine_left rules m n q stamp outcome)
+
+-- and so does the opening of a session
+abbrev pub OpeningsKeepSound : Type 0
+OpeningsKeepSound = (m : Machine) → IsSoundMachine m → IsSoundMachine (with_session m)
+
+-- and every history, legal or not
+abbrev pub HistoriesKeepSound : Type 0
+HistoriesKeepSound = (rules : Rules) (m : Machine) (entries : List Entry) → IsSoundMachine m → AreDistinctRequests entries → IsSoundMachine (machine_after rules m entries)
+
+-- so a database stays one over every legal history
+abbrev pub ListsStayDatabases : Type 0
+ListsStayDatabases = (rules : Rules) (list : List Transaction) (counts : FaultCounts) (entries : List Entry)
+    → IsDatabase list → AreDistinctRequests entries → IsLegalOver rules list counts entries → IsDatabase (machine_after rules (machine_over list) entries).list
+
+-- ---- its list only grows
+
+-- a step leaves the list, or puts one later transaction behind it, however it ends
+abbrev pub ListsOnlyGrow : Type 0
+ListsOnlyGrow = (rules : Rules) (m : Machine) (n : ℕ) (q : Request) (stamp : ℕ) (outcome : StepOutcome) → IsSoundMachine m → GrowsByOne m.list (machine_left rules m n q stamp outcome).list
+
+-- a history puts later transactions behind it
+abbrev pub HistoriesOnlyGrow : Type 0
+HistoriesOnlyGrow = (rules : Rules) (m : Machine) (entries : List Entry) → IsSoundMachine m → AreDistinctRequests entries → GrowsTo m.list (machine_after rules m entries).list
+
+-- no list that grew has an older newest transaction, nor a lower front
+abbrev pub NewestNeverFalls : Type 0
+NewestNeverFalls = (list grown : List Transaction) → GrowsTo list grown → (newest_tid list ≤ newest_tid grown) × (front_of list ≤ front_of grown)
+
+-- and every state below a front that the list had reached is as it was
+abbrev pub StatesBelowFrontsStay : Type 0
+StatesBelowFrontsStay = (oid front : ℕ) (list grown : List Transaction) → GrowsTo list grown → front ≤ front_of list
+    → (revision_below oid front grown ≡ revision_below oid front list) × (content_below oid front grown ≡ content_below oid front list)
+
+-- ---- fronts never fall
+
+-- no front that a session was told is below one that any session was told before it
+abbrev pub FrontsNeverFall : Type 0
+FrontsNeverFall = (rules : Rules) (m : Machine) (counts : FaultCounts) (entries : List Entry)
+    → IsSoundMachine m → AreDistinctRequests entries → IsLegal rules m counts entries → AllPairs (λ earlier later. earlier ≤ later) (fronts_told entries)
+
+-- ---- new numbers are new
+
+-- the greatest number never falls, however a step ends
+abbrev pub GreatestNeverFalls : Type 0
+GreatestNeverFalls = (rules : Rules) (m : Machine) (n : ℕ) (q : Request) (stamp : ℕ) (outcome : StepOutcome) → m.greatest ≤ (machine_left rules m n q stamp outcome).greatest
+
+-- the numbers that an entry hands out begin above the greatest, and the greatest behind it is their last
+pub record ComeBehindGreatest (rules : Rules) (m : Machine) (e : Entry) (range : NumberRange) : Type 0 where
+  pub above : range.first ≡ m.greatest + 1
+  pub last : (machine_behind rules m e).greatest + 1 ≡ end_of_range range
+
+abbrev pub NumbersComeBehindGreatest : Type 0
+NumbersComeBehindGreatest = (rules : Rules) (m : Machine) (counts : FaultCounts) (e : Entry) (range : NumberRange)
+    → IsLegal rules m counts (e ∷ []) → numbers_handed e ≡ Some range → ComeBehindGreatest rules m e range
+
+-- Numbers that come behind a history: they are above the greatest that it began with, and none of them, nor any after them, stood in the list at any moment of
+-- it or was handed out in it.
+pub record AreNewNumbers (rules : Rules) (m : Machine) (entries : List Entry) (range : NumberRange) : Type 0 where
+  pub above : m.greatest < range.first
+  pub unlisted : (front rest : List Entry) → entries ≡ front ++ rest → greatest_oid (machine_after rules m front).list < range.first
+  pub unhanded : All (λ earlier. end_of_range earlier ≤ range.first) (all_numbers entries)
+
+abbrev pub NewNumbersAreNew : Type 0
+NewNumbersAreNew = (rules : Rules) (m : Machine) (counts : FaultCounts) (entries : List Entry) (e : Entry) (range : NumberRange)
+    → IsSoundMachine m → AreDistinctRequests entries → IsLegal rules m counts (entries ++ e ∷ []) → numbers_handed e ≡ Some range → AreNewNumbers rules m entries range
+
+-- ---- answers and counts
+
+-- the machine by itself never answers that reading failed, that memory ran out or that the store failed
+abbrev pub StepsAreAnswered : Type 0
+StepsAreAnswered = (rules : Rules) (m : Machine) (n : ℕ) (q : Request) (stamp : ℕ) → outcome_of (step_of rules m n q stamp).reply ≡ Answered
+
+-- along a legal history neither count of faults falls
+abbrev pub CountsNeverFall : Type 0
+CountsNeverFall = (rules : Rules) (m : Machine) (counts : FaultCounts) (entries : List Entry) → IsLegal rules m counts entries → AreLaterCounts counts (counts_after counts entries)
+
+-- ---- a full journal
+
+-- what a vote or an undo is to write, where that is decided
+abbrev pub changes_asked : Rules → Machine → Request → Option (List Change)
+changes_asked rules m (request.Vote user description extension pending) = result_ok (vote_decision rules.merging m.list pending)
+changes_asked rules m (request.Undo user description tids) = result_ok (changes_undone m.list (undone_of rules.merging m.list tids))
+changes_asked rules m _ = None
+
+-- something is to be written, and with it the journal has this many changes, which are too many
+pub record OverfillsJournal (m : Machine) (asked : Option (List Change)) (count : ℕ) : Type 0 where
+  pub changes : List Change
+  pub written : asked ≡ Some changes
+  pub some : 0 < length changes
+  pub counted : count ≡ changes_in_journal m.journal + length changes
+  pub above : journal_limit < count
+
+-- a step is refused for a full journal exactly where nothing refuses it at once and it is to write too much
+abbrev pub JournalIsFull : Type 0
+JournalIsFull = (rules : Rules) (m : Machine) (n : ℕ) (q : Request) (stamp count : ℕ)
+    → ((step_of rules m n q stamp).reply ≡ reply.Refused (refusal.JournalFull count)) ↔ ((early_refusal m n q ≡ None) × OverfillsJournal m (changes_asked rules m q) count)

@@ -1,0 +1,71 @@
+-- What holds of every machine that sessions lead to, and how its list grows. Own.
+use Rattle.std.specs.Prelude.{◌≡◌, ℕ, ◌<◌, ◌≤◌, ◌-◌, ◌^◌, ◌⊎◌, List, [], ◌∷◌, ◌++◌, Option, Some, None, false, length, map, nat_eq}
+use Rattle.std.specs.List.{AllByRecursion, IsDistinct}
+use Rattle.zb_model.specs.declared.data.Transaction.{Transaction}
+use Rattle.zb_model.specs.Database.{IsDatabase, newest_tid}
+use Rattle.zb_model.specs.Queries.{greatest_oid, oids_of}
+use Rattle.zodb_core.specs.declared.request.Request.{Request}
+use Rattle.zodb_core.specs.declared.request.Request.TheVariants as request
+use Rattle.zodb_core.specs.declared.session.Session.{Session}
+use Rattle.zodb_core.specs.History.{Entry, Made, Opened}
+use Rattle.zodb_core.specs.Machine.{Machine, MachineVote}
+
+-- a transaction may be the next of a list: it is later, its number has one after it, it names each object once, and no pack went over it
+pub record IsNextTransaction (list : List Transaction) (t : Transaction) : Type 0 where
+  pub later : newest_tid list < t.tid
+  pub bounded : t.tid < 2 ^ 64 - 1
+  pub distinct : IsDistinct nat_eq (oids_of t)
+  pub unpacked : t.packed ≡ false
+
+-- the same of what is to be written, if anything is
+abbrev pub IsNextIfSome : List Transaction → Option Transaction → Type 0
+IsNextIfSome list None = Unit {0}
+IsNextIfSome list (Some t) = IsNextTransaction list t
+
+-- and of what a vote will write, if one is held
+abbrev pub IsSoundVote : List Transaction → Option MachineVote → Type 0
+IsSoundVote list None = Unit {0}
+IsSoundVote list (Some v) = IsNextIfSome list v.writes
+
+-- a session was told no more than happened
+abbrev pub IsToldWithin : ℕ → Session → Type 0
+IsToldWithin happened x = x.told ≤ happened
+
+-- The list is a database, and stays one with what is voted behind it; each object that it changes has a number up to the greatest; and no session was told
+-- more than happened.
+pub record IsSoundMachine (m : Machine) : Type 0 where
+  pub database : IsDatabase m.list
+  pub next : IsSoundVote m.list m.vote
+  pub numbered : greatest_oid m.list ≤ m.greatest
+  pub told : AllByRecursion (IsToldWithin (length m.journal)) m.sessions
+
+-- a request as its type has it: the stores that wait for a vote name each object once
+abbrev pub IsDistinctRequest : Request → Type 0
+IsDistinctRequest (request.Vote user description extension pending) = IsDistinct nat_eq (map (λ p. p.oid) pending.stores)
+IsDistinctRequest _ = Unit {0}
+
+-- and so each request of a history
+abbrev pub IsDistinctEntry : Entry → Type 0
+IsDistinctEntry (Opened n) = Unit {0}
+IsDistinctEntry (Made e) = IsDistinctRequest e.request
+
+abbrev pub AreDistinctRequests : List Entry → Type 0
+AreDistinctRequests entries = AllByRecursion IsDistinctEntry entries
+
+-- ---- how a list grows
+
+-- a list with one transaction behind it, which is later
+pub record HasOneMore (list grown : List Transaction) : Type 0 where
+  pub newest : Transaction
+  pub behind : grown ≡ list ++ newest ∷ []
+  pub later : newest_tid list < newest.tid
+
+-- a list as it was, or with one transaction more
+abbrev pub GrowsByOne : List Transaction → List Transaction → Type 0
+GrowsByOne list grown = (grown ≡ list) ⊎ HasOneMore list grown
+
+-- a list with transactions behind it, each of which is later than the newest
+pub record GrowsTo (list grown : List Transaction) : Type 0 where
+  pub more : List Transaction
+  pub behind : grown ≡ list ++ more
+  pub later : AllByRecursion (λ t. newest_tid list < t.tid) more
