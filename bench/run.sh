@@ -5,7 +5,7 @@
 #
 #     bench/run.sh crates/zodb/out/zodb /tmp
 #
-# It needs bash, awk, head and cc; sqlite3 and strace where they are there. What isn't there is skipped, and it says so. Sizes
+# It needs bash, awk, head and cc; sqlite3, strace and Python's BTrees package where they are there. What isn't there is skipped, and it says so. Sizes
 # can be set: TRANSACTIONS (1300000), COMMITS (300), LOADS (20000), LINES (100000), TIMES (3, of which the least is taken).
 set -u
 program=$(realpath "${1:?the built program}")
@@ -49,9 +49,8 @@ skipped "loads against LMDB" "no client of it is written here"
 # commits of one object of 1 KiB
 content=$(head -c 1024 /dev/zero | tr '\0' a | od -An -tx1 -v | tr -d ' \n')
 awk -v commits="$commits" -v content="$content" 'BEGIN {
-    for (i = 1; i <= commits; i++) {
-        c = sprintf("a%06d", i)
-        printf "%s open local\n%s begin\n%s store %016x 0000000000000000 %s\n%s vote \"\" \"\"\n%s finish\n", c, c, c, i, content, c, c } }' >commits.txt
+    print "a open local"
+    for (i = 1; i <= commits; i++) printf "a begin\na store %016x 0000000000000000 %s\na vote \"\" \"\"\na finish\n", i, content }' >commits.txt
 best=
 for _ in $(seq "$times"); do
     rm -f commits.fs
@@ -75,13 +74,43 @@ fi
 
 # a script read, and stores that stay pending
 awk -v lines="$lines" 'BEGIN { print "a open local"; print "a begin"
-    for (i = 1; i < lines; i++) printf "a load %016x\n", 0 }' >read.txt
+    for (i = 2; i < lines; i++) printf "a load %016x\n", 0 }' >read.txt
 row "a script of $lines loads of nothing" "$(cost read.txt "$program" read.fs run)" "cat of the script" "$(cost read.txt cat)"
 awk -v lines="$lines" 'BEGIN { print "a open local"; print "a begin"
-    for (i = 1; i < lines; i++) printf "a store %016x 0000000000000000 616263\n", i }' >stores.txt
+    for (i = 2; i < lines; i++) printf "a store %016x 0000000000000000 616263\n", i }' >stores.txt
 row "$lines pending stores" "$(cost stores.txt "$program" stores.fs run)" "cat of the script" "$(cost stores.txt cat)"
 
-# a history over back pointers needs undo, which scripts don't have yet
+awk -v lines="$lines" 'BEGIN { print "a open local"
+    for (i = 1; i < lines; i++) print "a new" }' >new.txt
+row "$lines lines, all but one new" "$(cost new.txt "$program" new.fs run)" "cat of the script" "$(cost new.txt cat)"
+
+# two writers of one bucket, who both commit: merges of three buckets of so many items, with the script read and the commits
+python=
+for each in python3 /usr/bin/python3; do
+    if [ -z "$python" ] && "$each" -c 'import BTrees' 2>/dev/null; then python=$each; fi
+done
+merges() { # MERGES ITEMS
+    awk -v merges="$1" -v items="$2" 'function put(c, k,  n) { printf "%s put 0000000000000001 <BTrees.IIBTree:IIBucket> ((", c
+            for (n = 0; n < items; n++) printf "%s%d,%d", (n ? "," : ""), 10 * n, (n == k ? round : value[n])
+            print "),)" }
+        BEGIN { print "a open local"; print "b open local"; print "a begin"; put("a", -1); print "a vote \"\" \"\""; print "a finish"
+            for (round = 1; round <= merges; round++) {
+                print "a begin"; print "b begin"
+                one = round % items; other = (round + int(items / 2)) % items
+                put("a", one); put("b", other)
+                print "a vote \"\" \"\""; print "a finish"; print "b vote \"\" \"\""; print "b finish"
+                value[one] = round; value[other] = round } }' >merges.txt
+    rm -f merges.fs
+    local ours
+    ours=$(./measure 1 merges.txt "$program" merges.fs run)
+    if [ -n "$python" ]; then
+        row "$1 merges of $2 items" "$ours" "BTrees of Python, merges alone" "$(cost empty "$python" "$here/merges.py" "$1" "$2")"
+    else
+        row "$1 merges of $2 items" "$ours" "cat of the script" "$(cost merges.txt cat)"
+    fi
+}
+merges 300 30
+merges 10 10000
 
 # the resident set
 grown() { # KIND SMALL LARGE: bytes for each of 900,000 more

@@ -84,12 +84,12 @@ program() {
     timeout -s KILL "$limit" "$ZODB" "$@"
 }
 
-# commits FIRST COUNT: a script of COUNT clients that each commit one new object, from FIRST on.
+# commits FIRST COUNT: a script of COUNT commits of one new object each, from FIRST on.
 commits() {
     local n
+    echo 'c open local'
     for ((n = $1; n < $1 + $2; n++)); do
-        printf 'c%d open local\nc%d begin\nc%d store %016x 0000000000000000 %064x\nc%d vote "" ""\nc%d finish\n' \
-            "$n" "$n" "$n" "$n" "$n" "$n" "$n"
+        printf 'c begin\nc store %016x 0000000000000000 %064x\nc vote "" ""\nc finish\n' "$n" "$n"
     done
 }
 
@@ -100,7 +100,7 @@ make() {
 
 # The tids that the replies in these files acknowledge.
 acknowledged() {
-    sed -n 's/^c[0-9]* committed \([0-9a-f]\{16\}\)$/\1/p' "$@" | sort -u
+    sed -n 's/^c committed \([0-9a-f]\{16\}\)$/\1/p' "$@" | sort -u
 }
 
 # lost PATH REPLIES..: says what is wrong with a file that has to hold every acknowledged commit.

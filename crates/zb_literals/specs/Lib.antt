@@ -6,3 +6,4 @@ pub mod Literals
 pub mod Printing
 pub mod Records
 pub mod Plain
+pub mod Exact

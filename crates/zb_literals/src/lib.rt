@@ -3,6 +3,7 @@
 
 mod characters;
 mod error;
+mod exact;
 mod form;
 mod laws;
 mod leaves;
@@ -16,6 +17,7 @@ mod texts;
 mod words;
 
 pub use error::LiteralError;
+pub use exact::literals_are_exact;
 pub use laws::{plain_graphs_have_script_literals, trees_unfold_again};
 pub use printing::{node_literal, write_literal};
 pub use reading::read_literal;

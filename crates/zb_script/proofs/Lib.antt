@@ -1,5 +1,12 @@
-pub mod Lasts
-pub mod LineLaws
+pub mod Counting
+pub mod Froms
+pub mod Gaps
 pub mod Pieces
+pub mod PayloadLaws
+pub mod Lowers
+pub mod GapLaws
+pub mod FieldLaws
+pub mod LineLaws
 pub mod ScriptLaws
 pub mod Steps
+pub mod ShapeLaws

@@ -1,170 +1,43 @@
 -- The two laws of a line: what is read is spelled so, and what is spelled so is read.
-use Rattle.std.proofs.Common.{◌≡◌, ℕ, suc, ◌+◌, ◌*◌, ◌^◌, ◌<◌, ◌≤◌, ◌≢◌, Bool, true, false, cond, eqb, ltb, List, [], ◌∷◌, ◌++◌, length, get_or, take, drop, Option, Some, None, refl, sym, ap, subst, ◌∙◌, append_assoc, arith, inl, inr}
-use Rattle.std.specs.Prelude.{◌⊎◌, codes, ◌==◌}
-use Rattle.std.specs.List.{AllByRecursion, position, position_or_len, list_all}
+use Rattle.std.proofs.Common.{◌≡◌, ℕ, ◌+◌, ◌^◌, ◌<◌, cond, List, [], ◌∷◌, ◌++◌, length, Option, Some, None, refl, sym, ap, subst, ◌∙◌, arith, inl, inr}
+use Rattle.std.specs.Prelude.{◌⊎◌, codes}
+use Rattle.std.specs.List.{AllByRecursion}
 use Rattle.std.specs.Str.{bytes_eq}
-use Rattle.std.specs.Int.{w64, to_be_bytes}
-use Rattle.std.proofs.lemmas.Bool.{eqb-true, eqb-false, eq-eqb, ne_eqb, lt-ltb, ltb-false, le-ltb, and_parts}
-use Rattle.std.proofs.lemmas.Bool.Decides.{nat_tests}
-use Rattle.std.proofs.lemmas.Option.{same_Some, some_pair_parts, cond_some}
-use Rattle.std.proofs.lemmas.List.{take-append-drop, take_at, drop_at, length-append, drop_more}
-use Rattle.std.proofs.lemmas.List.Elements.{recursion_from_All, All-from_recursion}
-use Rattle.std.proofs.lemmas.List.Quantifiers.{position-Some}
+use Rattle.std.proofs.lemmas.Option.{same_Some, cond_some}
 use Rattle.std.proofs.lemmas.Slice.Eq.{bytes_eq-Decides}
-use Rattle.zb_ids.specs.Hex.{◌>>=◌, hex_text, hex_number, number_at, bytes_at}
-use Rattle.zb_ids.specs.HexLaws.{bind_some, from_bind, bytes_take, bytes_again, number_takes, number_again}
+use Rattle.zb_ids.specs.Hex.{hex_text, hex_number, number_at}
+use Rattle.zb_ids.specs.HexLaws.{from_bind, number_takes, number_again}
+use Rattle.zb_literals.specs.Literals.{IsLiteral}
+use Rattle.pickle_value.specs.Graph.{Graph}
+use Rattle.pickle_value.specs.declared.depth.TheConstants.{WALK_LIMIT}
+use Rattle.zb_literals.specs.Reading.{if_some}
+use Rattle.zb_literals.specs.Texts.{quoted_text}
 use Rattle.zb_script.specs.declared.line.Line.{Line}
 use Rattle.zb_script.specs.declared.line.Line.TheVariants as lines
 use Rattle.zb_script.specs.declared.line.Turn.{Turn}
-use Rattle.zb_script.specs.Names.{is_letter_or_digit, is_name, IsName}
-use Rattle.zb_script.specs.Payloads.{IsRecordBytes}
-use Rattle.zb_script.specs.Spelling.{line_text, turn_text, IsLine, IsTurn}
-use Rattle.zb_script.specs.Reading.{cut_at, behind_word, field_at, load_at, payload_at, store_at, words_at, line_at, name_at, turn_at}
-use Rattle.zb_literals.specs.Reading.{if_some}
+use Rattle.zb_script.specs.Names.{is_name, IsName}
+use Rattle.zb_script.specs.Lines.{Lacks}
+use Rattle.zb_script.specs.Spelling.{IsNumbered, IsStore, IsPut, IsCheck, IsVote, IsUndo, IsLineText, IsTurnText, AreTurnTexts, IsLine, IsTurn, tids_text}
+use Rattle.zb_script.specs.Reading.{cut_at, behind_word, literal_cut, field_at, payload_at, short_at, short_field_at, tids_at, record_at, numbered_at, store_at, put_at, check_at, vote_at, undo_at, words_at, short_line_at, line_at, name_at, turn_at}
+use Rattle.zb_script.proofs.Froms.{From, From-append, From-weaker, from_test, hex_from, number_from, name_from, Lacks-from, chosen}
+use Rattle.zb_script.proofs.GapLaws.{IsWord, quoted_word, literal_word, word_cut, cut_is}
+use Rattle.zb_script.proofs.PayloadLaws.{payload_takes, payload_again}
+use Rattle.zb_script.proofs.FieldLaws.{Exact, cut_takes, cut_again, behind_takes, field_takes, field_again, tids_take, tids_again, short_takes, short_again, short_field_takes, short_field_again, record_takes, record_again, record_some}
 
--- no byte below k
-abbrev pub From : ℕ → List ℕ → Type 0
-From k bytes = AllByRecursion (λ b. k ≤ b) bytes
-
-pub From-append : (k : ℕ) (a b : List ℕ) → From k a → From k b → From k (a ++ b)
-From-append k [] b p q = q
-From-append k (x ∷ a) b p q = (p.0, From-append k a b p.1 q)
-
-pub From-weaker : (j k : ℕ) (a : List ℕ) → k ≤ j → From j a → From k a
-From-weaker j k [] le p = tt
-From-weaker j k (x ∷ a) le p = (omega (arith, p.0), From-weaker j k a le p.1)
-
-cond_none_some : {A : Type 0} (b : Bool) (x y : A) → cond b None (Some x) ≡ Some y → (b ≡ false) × (x ≡ y)
-cond_none_some true x y e = absurd cc
-cond_none_some false x y e = (refl, cc)
-
-cond_none : {A : Type 0} (b : Bool) (r : Option A) (y : A) → cond b None r ≡ Some y → (b ≡ false) × (r ≡ Some y)
-cond_none true r y e = absurd cc
-cond_none false r y e = (refl, e)
-
--- ---- cutting
-
-cut_takes : (c : ℕ) (bytes a b : List ℕ) → cut_at c bytes ≡ Some (a, b) → bytes ≡ a ++ c ∷ b
-unfolding cut_at
-cut_takes c bytes a b e =
-    let p = bind_some (position (λ x. x == c) bytes) (λ i. Some (take i bytes, drop (i + 1) bytes)) (a, b) e in
-    let at = position-Some (λ x. x == c) bytes p.0 0 p.1 in
-    let parts = some_pair_parts _ _ _ _ p.2 in
-    let here : get_or bytes p.0 0 ≡ c = eqb-true _ _ at.1 in
-    let rest : drop p.0 bytes ≡ c ∷ drop (p.0 + 1) bytes = rw (drop_more bytes p.0 0 at.0, here) refl in
-    sym (take-append-drop p.0 bytes) ∙ cc (rest, parts.0, parts.1)
-
-place_at : (c : ℕ) (a b : List ℕ) → From (suc c) a → position_or_len (λ x. x == c) (a ++ c ∷ b) ≡ length a
-place_at c [] b h = rw (eq-eqb c c refl) refl
-place_at c (x ∷ a) b h =
-    let apart : eqb x c ≡ false = ne_eqb x c (λ e. absurd (omega (arith, h.0, e))) in
-    rw (apart, place_at c a b h.1) (omega arith)
-
-cut_again : (c : ℕ) (a b : List ℕ) → From (suc c) a → cut_at c (a ++ c ∷ b) ≡ Some (a, b)
-unfolding cut_at
-cut_again c a b h =
-    let place = place_at c a b h in
-    let within : ltb (length a) (length (a ++ c ∷ b)) ≡ true = lt-ltb _ _ (omega (arith, length-append a (c ∷ b))) in
-    let found : position (λ x. x == c) (a ++ c ∷ b) ≡ Some (length a) = rw (place, within) refl in
-    let front = take_at a (c ∷ b) (length a) refl in
-    let whole : a ++ c ∷ b ≡ (a ++ c ∷ []) ++ b = sym (append_assoc a (c ∷ []) b) in
-    let back : drop (length a + 1) (a ++ c ∷ b) ≡ b = rw whole (drop_at (a ++ c ∷ []) b (length a + 1) (omega (arith, length-append a (c ∷ [])))) in
-    rw (found, front, back) refl
-
--- ---- words
-
-behind_takes : (word bytes rest : List ℕ) → behind_word word bytes ≡ Some rest → bytes ≡ word ++ rest
-unfolding behind_word
-behind_takes word bytes rest e =
-    let p = cond_some (bytes_eq (take (length word) bytes) word) (drop (length word) bytes) rest e in
-    let front : take (length word) bytes ≡ word = (bytes_eq-Decides _ _).0 p.0 in
-    sym (take-append-drop (length word) bytes) ∙ cc (front, p.1)
-
--- ---- fields
-
-pub hex_from : (bytes : List ℕ) → From 48 (hex_text bytes)
-hex_from [] = tt
-hex_from (b ∷ bytes) = (grind (arith, nat_tests), (grind (arith, nat_tests), hex_from bytes))
-
-pub number_from : (n : ℕ) → From 48 (hex_number n)
-unfolding hex_number
-number_from n = hex_from (to_be_bytes w64 n)
-
-field_takes : (bytes : List ℕ) (x : ℕ × List ℕ) → field_at bytes ≡ Some x → (x.0 < 2 ^ 64) × (bytes ≡ hex_number x.0 ++ 32 ∷ x.1)
-unfolding field_at
-field_takes bytes x e =
-    let p = bind_some (cut_at 32 bytes) (λ word. number_at word.0 >>= λ number. Some (number, word.1)) x e in
-    let q = bind_some (number_at p.0.0) (λ number. Some (number, p.0.1)) x p.2 in
-    let cut = cut_takes 32 bytes p.0.0 p.0.1 p.1 in
-    let number = number_takes p.0.0 q.0 q.1 in
-    subst (λ (y : ℕ × List ℕ). (y.0 < 2 ^ 64) × (bytes ≡ hex_number y.0 ++ 32 ∷ y.1)) (same_Some (q.0, p.0.1) x q.2) (number.0, cc (cut, number.1))
-
-field_again : (n : ℕ) (rest : List ℕ) → n < 2 ^ 64 → field_at (hex_number n ++ 32 ∷ rest) ≡ Some (n, rest)
-unfolding field_at
-field_again n rest h = rw (cut_again 32 (hex_number n) rest (From-weaker 48 33 _ (omega arith) (number_from n)), number_again n h) refl
-
--- ---- payloads
-
-length-hex_text : (bytes : List ℕ) → length (hex_text bytes) ≡ 2 * length bytes
-length-hex_text [] = refl
-length-hex_text (b ∷ bytes) = omega (arith, length-hex_text bytes)
-
--- what few enough digits spell is a payload where it isn't empty
-pub payload_of_digits : (text bytes : List ℕ) → length text ≤ 33554432 → bytes_at text ≡ Some bytes → length bytes ≢ 0 → IsRecordBytes bytes
-payload_of_digits text bytes short e some =
-    let t = bytes_take text bytes e in
-    record { some = omega arith; fits = omega (arith, length-hex_text bytes, ap length t.0); are_bytes = All-from_recursion (λ b. b < 256) bytes t.1 }
-
-payload_takes : (text bytes : List ℕ) → payload_at text ≡ Some bytes → IsRecordBytes bytes × (text ≡ hex_text bytes)
-unfolding payload_at
-payload_takes text bytes e =
-    let p = cond_none (ltb 33554432 (length text)) _ bytes e in
-    let short : length text ≤ 33554432 = ltb-false _ _ p.0 in
-    from_bind (bytes_at text) _ bytes p.1 (λ read at_read chosen.
-    let g = cond_none_some (eqb (length read) 0) read bytes chosen in
-    let is : bytes_at text ≡ Some bytes = at_read ∙ ap (λ (x : List ℕ). Some x) g.1 in
-    let some : length bytes ≢ 0 = rw (← g.1) (eqb-false _ _ g.0) in
-    (payload_of_digits text bytes short is some, (bytes_take text bytes is).0))
-
-payload_again : (bytes : List ℕ) → IsRecordBytes bytes → payload_at (hex_text bytes) ≡ Some bytes
-unfolding payload_at
-payload_again bytes h =
-    let short : ltb 33554432 (length (hex_text bytes)) ≡ false = le-ltb _ _ (omega (arith, length-hex_text bytes, h.fits)) in
-    let some : eqb (length bytes) 0 ≡ false = ne_eqb _ _ (λ e. absurd (omega (arith, e, h.some))) in
-    rw (short, bytes_again bytes (recursion_from_All (λ b. b < 256) bytes h.are_bytes), some) refl
-
--- ---- what stands behind the name
-
-line_again : (l : Line) → IsLine l → line_at (line_text l) ≡ Some l
-unfolding line_at behind_word words_at load_at store_at
-line_again lines.Open h = refl
-line_again lines.Begin h = refl
-line_again (lines.Load oid) h = rw (number_again oid h) refl
-line_again (lines.Store oid base bytes) h = rw (field_again oid (hex_number base ++ 32 ∷ hex_text bytes) h.0, field_again base (hex_text bytes) h.1, payload_again bytes h.2) refl
-line_again lines.Vote h = refl
-line_again lines.Finish h = refl
-line_again lines.Abort h = refl
-line_again lines.New h = refl
-
-pub chosen : {A : Type 0} (b : Bool) (x y z : A) → cond b x y ≡ z → ((b ≡ true) × (x ≡ z)) ⊎ ((b ≡ false) × (y ≡ z))
-chosen true x y z e = inl (refl, e)
-chosen false x y z e = inr (refl, e)
+-- ---- what is read is spelled so
 
 which : {A B : Type 0} (o : Option A) (f : A → Option B) (other : Option B) (y : B) → if_some o f other ≡ Some y → ((x : A) × (o ≡ Some x) × (f x ≡ Some y)) ⊎ (other ≡ Some y)
 which (Some x) f other y e = inl (x, refl, e)
 which None f other y e = inr e
 
-abbrev IsText : List ℕ → Line → Type 0
-IsText bytes l = IsLine l × (bytes ≡ line_text l)
+numbered_takes : (word bytes : List ℕ) (line : ℕ → Line) → ((n : ℕ) (text : List ℕ) → IsNumbered text word n → IsLineText text (line n)) → (l : Line) → numbered_at line bytes ≡ Some l → IsLineText (word ++ bytes) l
+unfolding numbered_at
+numbered_takes word bytes line spells l e =
+    from_bind (number_at bytes) _ l e (λ number at is.
+    let t = number_takes bytes number at in
+    subst (IsLineText (word ++ bytes)) (same_Some (line number) l is) (spells number (word ++ bytes) (record { small = t.0; is = ap (λ (x : List ℕ). word ++ x) t.1 })))
 
-load_takes : (bytes : List ℕ) (l : Line) → load_at bytes ≡ Some l → IsText (codes "load " ++ bytes) l
-unfolding load_at
-load_takes bytes l e =
-    from_bind (number_at bytes) (λ oid. Some (lines.Load oid)) l e (λ oid at is.
-    let number = number_takes bytes oid at in
-    subst (IsText (codes "load " ++ bytes)) (same_Some (lines.Load oid) l is) (number.0, rw (number.1) refl))
-
-store_takes : (bytes : List ℕ) (l : Line) → store_at bytes ≡ Some l → IsText (codes "store " ++ bytes) l
+store_takes : (bytes : List ℕ) (l : Line) → store_at bytes ≡ Some l → IsLineText (codes "store " ++ bytes) l
 unfolding store_at
 store_takes bytes l e =
     from_bind (field_at bytes) _ l e (λ oid at_oid e1.
@@ -173,62 +46,297 @@ store_takes bytes l e =
     let p = field_takes bytes oid at_oid in
     let q = field_takes oid.1 base at_base in
     let r = payload_takes base.1 stored at_stored in
-    subst (IsText (codes "store " ++ bytes)) (same_Some (lines.Store oid.0 base.0 stored) l is) ((p.0, q.0, r.0), rw (p.1, q.1, r.1) refl))))
+    let whole : bytes ≡ hex_number oid.0 ++ 32 ∷ (hex_number base.0 ++ 32 ∷ hex_text stored) = cc (p.is, q.is, r.spelled) in
+    let spelled : IsStore (codes "store " ++ bytes) oid.0 base.0 stored = record { oid_small = p.small; base_small = q.small; payload = r.is; fits = r.fits; is = ap (λ (x : List ℕ). codes "store " ++ x) whole } in
+    subst (IsLineText (codes "store " ++ bytes)) (same_Some (lines.Store oid.0 base.0 stored) l is) spelled)))
 
-word_takes : (bytes word : List ℕ) (l t : Line) (other : Option Line) → cond (bytes_eq bytes word) (Some l) other ≡ Some t → IsText word l → (other ≡ Some t → IsText bytes t) → IsText bytes t
+put_takes : Exact → (bytes : List ℕ) (l : Line) → put_at bytes ≡ Some l → IsLineText (codes "put " ++ bytes) l
+unfolding put_at
+put_takes exact bytes l e =
+    from_bind (field_at bytes) _ l e (λ oid at_oid e1.
+    from_bind (literal_cut oid.1) _ l e1 (λ texts at_texts e2.
+    from_bind (record_at texts.0 texts.1) _ l e2 (λ stored at_stored is.
+    let p = field_takes bytes oid at_oid in
+    let whole : bytes ≡ hex_number oid.0 ++ 32 ∷ (texts.0 ++ 32 ∷ texts.1) = cc (p.is, cut_is oid.1 texts at_texts) in
+    let spelled : IsPut (codes "put " ++ bytes) oid.0 stored = record { oid_small = p.small; class_text = texts.0; state_text = texts.1; stored = record_takes exact texts.0 texts.1 stored at_stored; is = ap (λ (x : List ℕ). codes "put " ++ x) whole } in
+    subst (IsLineText (codes "put " ++ bytes)) (same_Some (lines.Put oid.0 stored) l is) spelled)))
+
+check_takes : (bytes : List ℕ) (l : Line) → check_at bytes ≡ Some l → IsLineText (codes "check " ++ bytes) l
+unfolding check_at
+check_takes bytes l e =
+    from_bind (field_at bytes) _ l e (λ oid at_oid e1.
+    from_bind (number_at oid.1) _ l e1 (λ serial at_serial is.
+    let p = field_takes bytes oid at_oid in
+    let q = number_takes oid.1 serial at_serial in
+    let whole : bytes ≡ hex_number oid.0 ++ 32 ∷ hex_number serial = cc (p.is, q.1) in
+    let spelled : IsCheck (codes "check " ++ bytes) oid.0 serial = record { oid_small = p.small; serial_small = q.0; is = ap (λ (x : List ℕ). codes "check " ++ x) whole } in
+    subst (IsLineText (codes "check " ++ bytes)) (same_Some (lines.Check oid.0 serial) l is) spelled))
+
+vote_takes : Exact → (bytes : List ℕ) (l : Line) → vote_at bytes ≡ Some l → IsLineText (codes "vote " ++ bytes) l
+unfolding vote_at
+vote_takes exact bytes l e =
+    from_bind (short_field_at bytes) _ l e (λ user at_user e1.
+    from_bind (short_at user.1) _ l e1 (λ description at_description is.
+    let p = short_field_takes exact bytes user at_user in
+    let q = short_takes exact user.1 description at_description in
+    let whole : bytes ≡ quoted_text user.0 ++ 32 ∷ quoted_text description = p.is ∙ ap (λ (x : List ℕ). quoted_text user.0 ++ 32 ∷ x) q.is in
+    let spelled : IsVote (codes "vote " ++ bytes) user.0 description = record { user_short = p.short; description_short = q.short; is = ap (λ (x : List ℕ). codes "vote " ++ x) whole } in
+    subst (IsLineText (codes "vote " ++ bytes)) (same_Some (lines.Vote user.0 description) l is) spelled))
+
+undo_takes : Exact → (bytes : List ℕ) (l : Line) → undo_at bytes ≡ Some l → IsLineText (codes "undo " ++ bytes) l
+unfolding undo_at
+undo_takes exact bytes l e =
+    from_bind (short_field_at bytes) _ l e (λ user at_user e1.
+    from_bind (short_field_at user.1) _ l e1 (λ description at_description e2.
+    from_bind (tids_at description.1) _ l e2 (λ tids at_tids is.
+    let p = short_field_takes exact bytes user at_user in
+    let q = short_field_takes exact user.1 description at_description in
+    let r = tids_take description.1 tids at_tids in
+    let whole : bytes ≡ quoted_text user.0 ++ 32 ∷ (quoted_text description.0 ++ tids_text tids) =
+    p.is ∙ ap (λ (x : List ℕ). quoted_text user.0 ++ 32 ∷ x) (q.is ∙ ap (λ (x : List ℕ). quoted_text description.0 ++ x) r.is) in
+    let spelled : IsUndo (codes "undo " ++ bytes) user.0 description.0 tids = record { user_short = p.short; description_short = q.short; undone = r.are; is = ap (λ (x : List ℕ). codes "undo " ++ x) whole } in
+    subst (IsLineText (codes "undo " ++ bytes)) (same_Some (lines.Undo user.0 description.0 tids) l is) spelled)))
+
+word_takes : (bytes word : List ℕ) (l t : Line) (other : Option Line) → cond (bytes_eq bytes word) (Some l) other ≡ Some t → (bytes ≡ word → IsLineText bytes l) → (other ≡ Some t → IsLineText bytes t) → IsLineText bytes t
 word_takes bytes word l t other e spells then =
     elim (chosen (bytes_eq bytes word) (Some l) other (Some t) e) [
-      | inl it ↦ subst (IsText bytes) (same_Some l t it.1) (spells.0, (bytes_eq-Decides bytes word).0 it.0 ∙ spells.1)
+      | inl it ↦ subst (IsLineText bytes) (same_Some l t it.1) (spells ((bytes_eq-Decides bytes word).0 it.0))
       | inr not_it ↦ then not_it.1
     ]
 
-words_take : (bytes : List ℕ) (l : Line) → words_at bytes ≡ Some l → IsText bytes l
+words_take : (bytes : List ℕ) (l : Line) → words_at bytes ≡ Some l → IsLineText bytes l
 unfolding words_at
 words_take bytes l e =
-    word_takes bytes (codes "open local") lines.Open l _ e (tt, refl) (λ e.
-    word_takes bytes (codes "begin") lines.Begin l _ e (tt, refl) (λ e.
-    word_takes bytes (codes "vote \"\" \"\"") lines.Vote l _ e (tt, refl) (λ e.
-    word_takes bytes (codes "finish") lines.Finish l _ e (tt, refl) (λ e.
-    word_takes bytes (codes "abort") lines.Abort l _ e (tt, refl) (λ e.
-    word_takes bytes (codes "new") lines.New l _ e (tt, refl) (λ e. absurd cc))))))
+    word_takes bytes (codes "open local") lines.Open l _ e (λ is. is) (λ e.
+    word_takes bytes (codes "begin") lines.Begin l _ e (λ is. is) (λ e.
+    word_takes bytes (codes "new") lines.New l _ e (λ is. is) (λ e.
+    word_takes bytes (codes "finish") lines.Finish l _ e (λ is. is) (λ e.
+    word_takes bytes (codes "abort") lines.Abort l _ e (λ is. is) (λ e.
+    word_takes bytes (codes "undolog") lines.UndoLog l _ e (λ is. is) (λ e.
+    word_takes bytes (codes "close") lines.Close l _ e (λ is. is) (λ e. absurd cc)))))))
 
-line_takes : (bytes : List ℕ) (l : Line) → line_at bytes ≡ Some l → IsText bytes l
-unfolding line_at
-line_takes bytes l e =
-    elim (which (behind_word (codes "load ") bytes) load_at (if_some (behind_word (codes "store ") bytes) store_at (words_at bytes)) l e) [
-      | inl load ↦ rw (behind_takes (codes "load ") bytes load.0 load.1) (load_takes load.0 l load.2)
-      | inr other ↦ elim (which (behind_word (codes "store ") bytes) store_at (words_at bytes) l other) [
-        | inl store ↦ rw (behind_takes (codes "store ") bytes store.0 store.1) (store_takes store.0 l store.2)
-        | inr words ↦ words_take bytes l words
-      ]
+-- a line that begins with a word, or another one
+begun_takes : (word bytes : List ℕ) (read : List ℕ → Option Line) (other : Option Line) (l : Line) → if_some (behind_word word bytes) read other ≡ Some l
+    → ((rest : List ℕ) → read rest ≡ Some l → IsLineText (word ++ rest) l) → (other ≡ Some l → IsLineText bytes l) → IsLineText bytes l
+begun_takes word bytes read other l e takes then =
+    elim (which (behind_word word bytes) read other l e) [
+      | inl begun ↦ subst (λ (x : List ℕ). IsLineText x l) (sym (behind_takes word bytes begun.0 begun.1)) (takes begun.0 begun.2)
+      | inr further ↦ then further
     ]
+
+short_line_takes : (bytes : List ℕ) (l : Line) → short_line_at bytes ≡ Some l → IsLineText bytes l
+unfolding short_line_at
+short_line_takes bytes l e =
+    begun_takes (codes "load ") bytes (numbered_at lines.Load) _ l e (λ rest. numbered_takes (codes "load ") rest lines.Load (λ n text is. is) l) (λ e.
+    begun_takes (codes "get ") bytes (numbered_at lines.Get) _ l e (λ rest. numbered_takes (codes "get ") rest lines.Get (λ n text is. is) l) (λ e.
+    begun_takes (codes "history ") bytes (numbered_at lines.History) _ l e (λ rest. numbered_takes (codes "history ") rest lines.History (λ n text is. is) l) (λ e.
+    words_take bytes l e)))
+
+line_takes : Exact → (bytes : List ℕ) (l : Line) → line_at bytes ≡ Some l → IsLineText bytes l
+unfolding line_at
+line_takes exact bytes l e =
+    begun_takes (codes "store ") bytes store_at _ l e (λ rest. store_takes rest l) (λ e.
+    begun_takes (codes "put ") bytes put_at _ l e (λ rest. put_takes exact rest l) (λ e.
+    begun_takes (codes "check ") bytes check_at _ l e (λ rest. check_takes rest l) (λ e.
+    begun_takes (codes "vote ") bytes vote_at _ l e (λ rest. vote_takes exact rest l) (λ e.
+    begun_takes (codes "undo ") bytes undo_at _ l e (λ rest. undo_takes exact rest l) (λ e.
+    short_line_takes bytes l e)))))
+
+-- ---- what is spelled so is read
+
+abbrev IsRead : List ℕ → Line → Type 0
+IsRead text l = line_at text ≡ Some l
+
+load_again : (oid : ℕ) → oid < 2 ^ 64 → IsRead (codes "load " ++ hex_number oid) (lines.Load oid)
+unfolding line_at behind_word short_line_at numbered_at
+load_again oid h = rw (number_again oid h) refl
+
+get_again : (oid : ℕ) → oid < 2 ^ 64 → IsRead (codes "get " ++ hex_number oid) (lines.Get oid)
+unfolding line_at behind_word short_line_at numbered_at
+get_again oid h = rw (number_again oid h) refl
+
+history_again : (oid : ℕ) → oid < 2 ^ 64 → IsRead (codes "history " ++ hex_number oid) (lines.History oid)
+unfolding line_at behind_word short_line_at numbered_at
+history_again oid h = rw (number_again oid h) refl
+
+store_again : (text : List ℕ) (oid base : ℕ) (bytes : List ℕ) (h : IsStore text oid base bytes) → IsRead (codes "store " ++ (hex_number oid ++ 32 ∷ (hex_number base ++ 32 ∷ hex_text bytes))) (lines.Store oid base bytes)
+unfolding line_at behind_word store_at
+store_again text oid base bytes h =
+    rw (field_again oid (hex_number base ++ 32 ∷ hex_text bytes) h.oid_small, field_again base (hex_text bytes) h.base_small, payload_again bytes h.payload h.fits) refl
+
+class_word : (text : List ℕ) (graph : Graph) → IsLiteral text graph → IsWord text
+class_word text graph h = subst IsWord (sym h.text) (literal_word h.tree (WALK_LIMIT + 1) h.each)
+
+put_again : Exact → (text : List ℕ) (oid : ℕ) (bytes : List ℕ) (h : IsPut text oid bytes) → IsRead (codes "put " ++ (hex_number oid ++ 32 ∷ (h.class_text ++ 32 ∷ h.state_text))) (lines.Put oid bytes)
+unfolding line_at behind_word put_at
+put_again exact text oid bytes h =
+    rw (field_again oid (h.class_text ++ 32 ∷ h.state_text) h.oid_small, word_cut h.class_text h.state_text (class_word h.class_text h.stored.class h.stored.class_spelled), record_again exact h.class_text h.state_text bytes h.stored) refl
+
+check_again : (oid serial : ℕ) → oid < 2 ^ 64 → serial < 2 ^ 64 → IsRead (codes "check " ++ (hex_number oid ++ 32 ∷ hex_number serial)) (lines.Check oid serial)
+unfolding line_at behind_word check_at
+check_again oid serial h k = rw (field_again oid (hex_number serial) h, number_again serial k) refl
+
+vote_again : Exact → (text user description : List ℕ) → IsVote text user description → IsRead (codes "vote " ++ (quoted_text user ++ 32 ∷ quoted_text description)) (lines.Vote user description)
+unfolding line_at behind_word vote_at
+vote_again exact text user description h = rw (short_field_again exact user (quoted_text description) h.user_short, short_again exact description h.description_short) refl
+
+undo_again : Exact → (text user description tids : List ℕ) → IsUndo text user description tids → IsRead (codes "undo " ++ (quoted_text user ++ 32 ∷ (quoted_text description ++ tids_text tids))) (lines.Undo user description tids)
+unfolding line_at behind_word undo_at
+undo_again exact text user description [] h = absurd (omega (arith, h.undone.some))
+undo_again exact text user description (tid ∷ tids) h =
+    rw (short_field_again exact user (quoted_text description ++ 32 ∷ (hex_number tid ++ tids_text tids)) h.user_short, short_field_again exact description (hex_number tid ++ tids_text tids) h.description_short, tids_again tid tids h.undone.fall) refl
+
+word_again : (l : Line) (text word : List ℕ) → text ≡ word → line_at word ≡ Some l → line_at text ≡ Some l
+word_again l text word is read = ap line_at is ∙ read
+
+open_again : IsRead (codes "open local") lines.Open
+unfolding line_at behind_word short_line_at words_at
+open_again = refl
+
+begin_again : IsRead (codes "begin") lines.Begin
+unfolding line_at behind_word short_line_at words_at
+begin_again = refl
+
+new_again : IsRead (codes "new") lines.New
+unfolding line_at behind_word short_line_at words_at
+new_again = refl
+
+finish_again : IsRead (codes "finish") lines.Finish
+unfolding line_at behind_word short_line_at words_at
+finish_again = refl
+
+abort_again : IsRead (codes "abort") lines.Abort
+unfolding line_at behind_word short_line_at words_at
+abort_again = refl
+
+undolog_again : IsRead (codes "undolog") lines.UndoLog
+unfolding line_at behind_word short_line_at words_at
+undolog_again = refl
+
+close_again : IsRead (codes "close") lines.Close
+unfolding line_at behind_word short_line_at words_at
+close_again = refl
+
+line_again : Exact → (text : List ℕ) (l : Line) → IsLineText text l → line_at text ≡ Some l
+line_again exact text lines.Open h = word_again lines.Open text _ h open_again
+line_again exact text lines.Begin h = word_again lines.Begin text _ h begin_again
+line_again exact text (lines.Load oid) h = word_again (lines.Load oid) text _ h.is (load_again oid h.small)
+line_again exact text (lines.Get oid) h = word_again (lines.Get oid) text _ h.is (get_again oid h.small)
+line_again exact text (lines.Store oid base bytes) h = word_again (lines.Store oid base bytes) text _ h.is (store_again text oid base bytes h)
+line_again exact text (lines.Put oid bytes) h = word_again (lines.Put oid bytes) text _ h.is (put_again exact text oid bytes h)
+line_again exact text (lines.Check oid serial) h = word_again (lines.Check oid serial) text _ h.is (check_again oid serial h.oid_small h.serial_small)
+line_again exact text lines.New h = word_again lines.New text _ h new_again
+line_again exact text (lines.Vote user description) h = word_again (lines.Vote user description) text _ h.is (vote_again exact text user description h)
+line_again exact text (lines.Undo user description tids) h = word_again (lines.Undo user description tids) text _ h.is (undo_again exact text user description tids h)
+line_again exact text lines.Finish h = word_again lines.Finish text _ h finish_again
+line_again exact text lines.Abort h = word_again lines.Abort text _ h abort_again
+line_again exact text (lines.History oid) h = word_again (lines.History oid) text _ h.is (history_again oid h.small)
+line_again exact text lines.UndoLog h = word_again lines.UndoLog text _ h undolog_again
+line_again exact text lines.Close h = word_again lines.Close text _ h close_again
 
 -- ---- whole lines
 
-letters_from : (bytes : List ℕ) → list_all is_letter_or_digit bytes ≡ true → From 48 bytes
-letters_from [] h = tt
-letters_from (b ∷ bytes) h =
-    let p = and_parts (is_letter_or_digit b) (list_all is_letter_or_digit bytes) h in
-    let one : is_letter_or_digit b ≡ true = p.0 in
-    (grind (arith, nat_tests), letters_from bytes p.1)
-
-pub name_from : (bytes : List ℕ) → IsName bytes → From 48 bytes
-name_from bytes h = letters_from bytes (and_parts _ _ h).1
-
-pub turn_takes : (bytes : List ℕ) (t : Turn) → turn_at bytes ≡ Some t → IsTurn t × (bytes ≡ turn_text t)
+pub turn_takes : Exact → (bytes : List ℕ) (t : Turn) → turn_at bytes ≡ Some t → IsTurnText bytes t
 unfolding turn_at name_at
-turn_takes bytes t e =
+turn_takes exact bytes t e =
     from_bind (cut_at 32 bytes) _ t e (λ word at_word e1.
     from_bind (name_at word.0) _ t e1 (λ client at_client e2.
     from_bind (line_at word.1) _ t e2 (λ line at_line is.
     let cut = cut_takes 32 bytes word.0 word.1 at_word in
     let name = cond_some (is_name word.0) word.0 client at_client in
-    let l = line_takes word.1 line at_line in
     let named : IsName client = rw (← name.1) (name.0) in
-    let whole : bytes ≡ client ++ 32 ∷ line_text line = cc (cut, name.1, l.1) in
-    subst (λ (x : Turn). IsTurn x × (bytes ≡ turn_text x)) (same_Some (record { client = client; line = line }) t is) ((named, l.0), whole))))
+    let whole : bytes ≡ client ++ 32 ∷ word.1 = cc (cut, name.1) in
+    subst (IsTurnText bytes) (same_Some (record { client = client; line = line }) t is)
+    (record { named = named; line_text = word.1; spelled = line_takes exact word.1 line at_line; is = whole }))))
 
-pub turn_again : (t : Turn) → IsTurn t → turn_at (turn_text t) ≡ Some t
+pub turn_again : Exact → (text : List ℕ) (t : Turn) → IsTurnText text t → turn_at text ≡ Some t
 unfolding turn_at name_at
-turn_again t h =
-    rw (cut_again 32 t.client (line_text t.line) (From-weaker 48 33 _ (omega arith) (name_from t.client h.0)), h.0, line_again t.line h.1) refl
+turn_again exact text t h =
+    let read : turn_at (t.client ++ 32 ∷ h.line_text) ≡ Some t = rw (cut_again 32 t.client h.line_text (From-weaker 48 33 _ (omega arith) (name_from t.client h.named)), h.named, line_again exact h.line_text t.line h.spelled) refl in
+    ap turn_at h.is ∙ read
+
+-- ---- no line has a newline
+
+numbered_from : (word : List ℕ) (n : ℕ) (text : List ℕ) → From 32 word → IsNumbered text word n → From 32 text
+numbered_from word n text high h = subst (From 32) (sym h.is) (From-append 32 word (hex_number n) high (From-weaker 48 32 _ (omega arith) (number_from n)))
+
+-- a number ahead of a blank
+field_from : (n : ℕ) (rest : List ℕ) → From 32 rest → From 32 (hex_number n ++ 32 ∷ rest)
+field_from n rest high = From-append 32 (hex_number n) (32 ∷ rest) (From-weaker 48 32 _ (omega arith) (number_from n)) (omega arith, high)
+
+tids_from : (tids : List ℕ) → From 32 (tids_text tids)
+tids_from [] = tt
+tids_from (tid ∷ tids) = (omega arith, From-append 32 (hex_number tid) (tids_text tids) (From-weaker 48 32 _ (omega arith) (number_from tid)) (tids_from tids))
+
+both_from : (a b : List ℕ) → IsWord a → From 32 b → From 32 (a ++ 32 ∷ b)
+both_from a b word high = From-append 32 a (32 ∷ b) word.high (omega arith, high)
+
+texts_from : (user description : List ℕ) → From 32 (quoted_text user ++ 32 ∷ quoted_text description)
+texts_from user description = let d = quoted_word description in both_from (quoted_text user) (quoted_text description) (quoted_word user) d.high
+
+undone_from : (user description tids : List ℕ) → From 32 (quoted_text user ++ 32 ∷ (quoted_text description ++ tids_text tids))
+undone_from user description tids =
+    let d = quoted_word description in
+    both_from (quoted_text user) (quoted_text description ++ tids_text tids) (quoted_word user) (From-append 32 (quoted_text description) (tids_text tids) d.high (tids_from tids))
+
+line_from : (l : Line) (text : List ℕ) → IsLineText text l → From 32 text
+line_from lines.Open text h = subst (From 32) (sym h) (from_test 32 (codes "open local") refl)
+line_from lines.Begin text h = subst (From 32) (sym h) (from_test 32 (codes "begin") refl)
+line_from (lines.Load oid) text h = numbered_from (codes "load ") oid text (from_test 32 (codes "load ") refl) h
+line_from (lines.Get oid) text h = numbered_from (codes "get ") oid text (from_test 32 (codes "get ") refl) h
+line_from (lines.Store oid base bytes) text h =
+    subst (From 32) (sym h.is) (From-append 32 (codes "store ") _ (from_test 32 (codes "store ") refl) (field_from oid _ (field_from base _ (From-weaker 48 32 _ (omega arith) (hex_from bytes)))))
+line_from (lines.Put oid bytes) text h =
+    let class = class_word h.class_text h.stored.class h.stored.class_spelled in
+    let state = class_word h.state_text h.stored.state h.stored.state_spelled in
+    subst (From 32) (sym h.is) (From-append 32 (codes "put ") _ (from_test 32 (codes "put ") refl) (field_from oid _ (From-append 32 h.class_text (32 ∷ h.state_text) class.high (omega arith, state.high))))
+line_from (lines.Check oid serial) text h =
+    subst (From 32) (sym h.is) (From-append 32 (codes "check ") _ (from_test 32 (codes "check ") refl) (field_from oid _ (From-weaker 48 32 _ (omega arith) (number_from serial))))
+line_from lines.New text h = subst (From 32) (sym h) (from_test 32 (codes "new") refl)
+line_from (lines.Vote user description) text h =
+    subst (From 32) (sym h.is) (From-append 32 (codes "vote ") (quoted_text user ++ 32 ∷ quoted_text description) (from_test 32 (codes "vote ") refl) (texts_from user description))
+line_from (lines.Undo user description tids) text h =
+    subst (From 32) (sym h.is) (From-append 32 (codes "undo ") (quoted_text user ++ 32 ∷ (quoted_text description ++ tids_text tids)) (from_test 32 (codes "undo ") refl) (undone_from user description tids))
+line_from lines.Finish text h = subst (From 32) (sym h) (from_test 32 (codes "finish") refl)
+line_from lines.Abort text h = subst (From 32) (sym h) (from_test 32 (codes "abort") refl)
+line_from (lines.History oid) text h = numbered_from (codes "history ") oid text (from_test 32 (codes "history ") refl) h
+line_from lines.UndoLog text h = subst (From 32) (sym h) (from_test 32 (codes "undolog") refl)
+line_from lines.Close text h = subst (From 32) (sym h) (from_test 32 (codes "close") refl)
+
+pub turn_lacks : (text : List ℕ) (t : Turn) → IsTurnText text t → Lacks 10 text
+turn_lacks text t h =
+    let whole : From 32 (t.client ++ 32 ∷ h.line_text) = From-append 32 t.client (32 ∷ h.line_text) (From-weaker 48 32 _ (omega arith) (name_from t.client h.named)) (omega arith, line_from t.line h.line_text h.spelled) in
+    Lacks-from text (subst (From 32) (sym h.is) whole)
+
+pub turn_some : (text : List ℕ) (t : Turn) → IsTurnText text t → 0 < length text
+turn_some [] t h = absurd (nothing t.client h.line_text h.is)
+  where
+    nothing : (client more : List ℕ) → [] ≡ client ++ 32 ∷ more → ⊥
+    nothing [] more e = cc
+    nothing (c ∷ client) more e = cc
+turn_some (b ∷ text) t h = omega arith
+
+-- ---- fields
+
+line_is : (l : Line) (text : List ℕ) → IsLineText text l → IsLine l
+line_is lines.Open text h = tt
+line_is lines.Begin text h = tt
+line_is (lines.Load oid) text h = h.small
+line_is (lines.Get oid) text h = h.small
+line_is (lines.Store oid base bytes) text h = (h.oid_small, h.base_small, h.payload)
+line_is (lines.Put oid bytes) text h = (h.oid_small, record_some h.class_text h.state_text bytes h.stored)
+line_is (lines.Check oid serial) text h = (h.oid_small, h.serial_small)
+line_is lines.New text h = tt
+line_is (lines.Vote user description) text h = (h.user_short, h.description_short)
+line_is (lines.Undo user description tids) text h = (h.user_short, h.description_short, h.undone)
+line_is lines.Finish text h = tt
+line_is lines.Abort text h = tt
+line_is (lines.History oid) text h = h.small
+line_is lines.UndoLog text h = tt
+line_is lines.Close text h = tt
+
+pub turns_are : (texts : List (List ℕ)) (turns : List Turn) → AreTurnTexts texts turns → AllByRecursion IsTurn turns
+turns_are [] [] h = tt
+turns_are [] (t ∷ turns) h = absurd h
+turns_are (text ∷ texts) [] h = absurd h
+turns_are (text ∷ texts) (t ∷ turns) h = let one = h.0 in ((one.named, line_is t.line one.line_text one.spelled), turns_are texts turns h.1)

@@ -5,10 +5,8 @@ use Rattle.std.specs.List.{position, position_or_len, onto_first}
 use Rattle.std.proofs.lemmas.Bool.{eqb-true, eqb-false, eq-eqb, ne_eqb, ltb-false}
 use Rattle.std.proofs.lemmas.List.Sums.{fails_before_first}
 use Rattle.std.proofs.lemmas.List.Quantifiers.{position-Some}
-use Rattle.zb_script.specs.Spelling.{Lacks, IsEnd}
-use Rattle.zb_script.specs.Reading.{pieces}
-use Rattle.zb_script.specs.Shape.{is_empty}
-use Rattle.zb_script.proofs.LineLaws.{chosen}
+use Rattle.zb_script.specs.Lines.{pieces, Lacks, IsEnd}
+use Rattle.zb_script.proofs.Froms.{chosen}
 
 -- ---- the code's step
 
@@ -100,12 +98,6 @@ first_piece (b ∷ bytes) line others e =
       | inl newline ↦ at_newline b bytes line others (eqb-true _ _ newline.0) newline.1
       | inr other ↦ in_line b bytes line others (pieces bytes) (eqb-false _ _ other.0) refl other.1 (λ q qs is. first_piece bytes q qs is)
     ]
-
--- there is a piece where there is a byte
-pub some_piece : (b : ℕ) (t : Bool) (ps : List (List ℕ)) → is_empty (cond t ([] ∷ ps) (onto_first b ps)) ≡ false
-some_piece b true ps = refl
-some_piece b false [] = refl
-some_piece b false (p ∷ ps) = refl
 
 -- ---- the last newline
 

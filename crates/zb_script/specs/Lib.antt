@@ -1,9 +1,13 @@
 pub mod Names
 pub mod Payloads
+pub mod Lines
 pub mod Spelling
 pub mod Shape
 pub mod Script
+pub mod Limits
 pub mod Reading
-pub mod Answers
 pub mod Turns
 pub mod Lists
+pub mod Objects
+pub mod Refusals
+pub mod Answers

@@ -5,18 +5,25 @@ use Rattle.zb_model.specs.declared.lists.LogLine.{LogLine}
 use Rattle.zb_model.specs.declared.lists.Revision.{Revision}
 use Rattle.zb_literals.specs.Texts.{text_literal}
 
--- a user and a description, with a blank before each and a newline behind
-abbrev pub texts_text : List ℕ → List ℕ → List ℕ
-texts_text user description = 32 ∷ (text_literal user ++ 32 ∷ (text_literal description ++ 10 ∷ []))
+-- a user and a description, with a blank before each
+abbrev pub texts_words : List ℕ → List ℕ → List ℕ
+texts_words user description = 32 ∷ (text_literal user ++ 32 ∷ text_literal description)
 
--- a line of the undo list: tid, user and description
-abbrev pub log_text : LogLine → List ℕ
-log_text line = hex_number line.tid ++ texts_text line.user line.description
+-- an item of the undo list: tid, user and description
+abbrev pub log_words : LogLine → List ℕ
+log_words line = hex_number line.tid ++ texts_words line.user line.description
 
 abbrev pub size_text : Option ℕ → List ℕ
 size_text (Some size) = decimal size
 size_text None = codes "absent"
 
--- a line of a history: tid, size, user and description
+-- an item of a history: tid, size, user and description
+abbrev pub revision_words : Revision → List ℕ
+revision_words line = hex_number line.tid ++ 32 ∷ (size_text line.size ++ texts_words line.user line.description)
+
+-- the lines of both, with their newline
+abbrev pub log_text : LogLine → List ℕ
+log_text line = log_words line ++ 10 ∷ []
+
 abbrev pub revision_text : Revision → List ℕ
-revision_text line = hex_number line.tid ++ 32 ∷ (size_text line.size ++ texts_text line.user line.description)
+revision_text line = revision_words line ++ 10 ∷ []

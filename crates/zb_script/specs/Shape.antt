@@ -1,7 +1,6 @@
 -- Where a line can stand in a script. Own.
-use Rattle.std.specs.Prelude.{ℕ, List, [], ◌∷◌, ◌++◌, Option, Some, None, Bool, true, false, not, ◌&&◌, ◌||◌, filter, IsTrue}
-use Rattle.std.specs.List.{last_or}
-use Rattle.std.specs.Option.{option_map}
+use Rattle.std.specs.Prelude.{◌↔◌, ℕ, List, [], ◌∷◌, ◌++◌, Bool, true, false, not, ◌&&◌, map, filter, IsTrue, if◌then◌else◌}
+use Rattle.std.specs.List.{list_any}
 use Rattle.std.specs.Str.{bytes_eq}
 use Rattle.zb_script.specs.declared.line.Line.{Line}
 use Rattle.zb_script.specs.declared.line.Line.TheVariants as lines
@@ -11,80 +10,41 @@ abbrev pub is_open : Line → Bool
 is_open lines.Open = true
 is_open _ = false
 
-abbrev pub is_new : Line → Bool
-is_new lines.New = true
-is_new _ = false
+-- the clients that have opened their session, in order
+abbrev pub openers : List Turn → List (List ℕ)
+openers turns = map (λ t. t.client) (filter (λ t. is_open t.line) turns)
 
-abbrev pub is_vote : Line → Bool
-is_vote lines.Vote = true
-is_vote _ = false
+abbrev pub is_among : List ℕ → List (List ℕ) → Bool
+is_among client names = list_any (bytes_eq client) names
 
--- what can stand where no transaction is open
-abbrev pub is_outside : Line → Bool
-is_outside lines.Begin = true
-is_outside lines.New = true
-is_outside _ = false
+-- a client's open can stand where it has none ahead of it, and each other line where it has
+abbrev pub stands_behind : List (List ℕ) → Turn → Bool
+stands_behind names t = if is_open t.line then not (is_among t.client names) else is_among t.client names
 
--- what can stand in an open transaction that isn't voted
-abbrev pub is_inside : Line → Bool
-is_inside (lines.Load oid) = true
-is_inside (lines.Store oid base bytes) = true
-is_inside lines.Vote = true
-is_inside lines.Abort = true
-is_inside lines.New = true
-is_inside _ = false
+abbrev pub can_stand : List Turn → Turn → Bool
+can_stand before t = stands_behind (openers before) t
 
--- what can stand behind a vote
-abbrev pub is_ending : Line → Bool
-is_ending lines.Finish = true
-is_ending lines.Abort = true
-is_ending _ = false
+-- whether each of the turns can stand behind `before` and those ahead of it
+abbrev pub all_stand : List Turn → List Turn → Bool
+all_stand before [] = true
+all_stand before (t ∷ turns) = can_stand before t && all_stand (before ++ t ∷ []) turns
 
--- whether a line can be a client's next one, behind its last one that is no `new`
-abbrev pub may_follow : Option Line → Line → Bool
-may_follow None next = is_open next
-may_follow (Some lines.Open) next = is_outside next
-may_follow (Some lines.Begin) next = is_inside next
-may_follow (Some (lines.Load oid)) next = is_inside next
-may_follow (Some (lines.Store oid base bytes)) next = is_inside next
-may_follow (Some lines.Vote) next = is_ending next
-may_follow (Some lines.Abort) next = is_outside next
-may_follow (Some lines.Finish) next = is_new next
-may_follow (Some lines.New) next = false
+-- the first line of a client is its open, and it has no other; behind it any line can stand anywhere
+abbrev pub IsInShape : List Turn → Type 0
+IsInShape turns = IsTrue (all_stand [] turns)
 
 abbrev pub is_turn_of : List ℕ → Turn → Bool
-is_turn_of client t = bytes_eq t.client client
+is_turn_of client t = bytes_eq client t.client
 
--- whether a turn is the client's, and its line is no `new`
-abbrev pub is_step_of : List ℕ → Turn → Bool
-is_step_of client t = is_turn_of client t && not (is_new t.line)
+-- a client's lines, in order
+abbrev pub lines_of : List ℕ → List Turn → List Line
+lines_of client turns = map (λ t. t.line) (filter (is_turn_of client) turns)
 
--- a client's last line among these turns that is no `new`
-abbrev pub last_line : List ℕ → List Turn → Option Line
-last_line client turns = option_map (λ t. t.line) (last_or None (filter (is_step_of client) turns))
+-- the first is an open, and there is no other
+abbrev pub opens_first : List Line → Bool
+opens_first [] = true
+opens_first (line ∷ others) = is_open line && not (list_any is_open others)
 
--- directly behind a vote only the client that voted has a turn
-abbrev pub has_turn : Option Turn → List ℕ → Bool
-has_turn None client = true
-has_turn (Some t) client = not (is_vote t.line) || is_turn_of client t
-
--- whether a turn can stand behind those before it; `ends` says that the script ends with it
-abbrev pub can_stand : List Turn → Turn → Bool → Bool
-can_stand before t ends = may_follow (last_line t.client before) t.line && has_turn (last_or None before) t.client && not (is_vote t.line && ends)
-
-abbrev pub is_empty : {A : Type 0} → List A → Bool
-is_empty [] = true
-is_empty (x ∷ xs) = false
-
--- whether each of the turns can stand behind `before` and those ahead of it; `ends` says that the
--- script ends with them
-abbrev pub all_stand : List Turn → List Turn → Bool → Bool
-all_stand before [] ends = true
-all_stand before (t ∷ turns) ends = can_stand before t (ends && is_empty turns) && all_stand (before ++ t ∷ []) turns ends
-
--- A client opens its session first and once. Then it makes transactions: begin, loads and stores, and
--- abort, or vote and abort, or vote and finish, behind which it has no other. Its last one may be
--- left open, but not voted. Anywhere behind its open, but not directly behind a vote, it may ask for
--- new numbers.
-abbrev pub IsInShape : List Turn → Type 0
-IsInShape turns = IsTrue (all_stand [] turns true)
+-- the law that turns stand in their places exactly where this holds of each client's lines
+abbrev pub ClientsOpenFirst : Type 0
+ClientsOpenFirst = (turns : List Turn) → IsInShape turns ↔ ((client : List ℕ) → IsTrue (opens_first (lines_of client turns)))

@@ -1,50 +1,130 @@
--- The one spelling of each line, and of a script. Own.
-use Rattle.std.specs.Prelude.{◌≡◌, ◌≢◌, ℕ, ◌<◌, ◌^◌, List, [], ◌∷◌, ◌++◌, length, codes, ◌⊎◌}
-use Rattle.std.specs.List.{flat_map, AllByRecursion}
+-- The one spelling of each line. Own.
+use Rattle.std.specs.Prelude.{◌≡◌, ℕ, ◌<◌, ◌≤◌, ◌^◌, List, [], ◌∷◌, ◌++◌, true, Ok, length, codes}
+use Rattle.std.specs.List.{flat_map}
+use Rattle.std.specs.Str.{is_utf8}
 use Rattle.zb_ids.specs.Hex.{hex_text, hex_number}
+use Rattle.pickle_value.specs.Graph.{Graph}
+use Rattle.zb_literals.specs.Literals.{IsLiteral}
+use Rattle.zb_literals.specs.Texts.{quoted_text}
+use Rattle.zb_record.specs.Class.{is_class}
+use Rattle.zb_record.specs.Records.{object_text}
 use Rattle.zb_script.specs.declared.line.Line.{Line}
 use Rattle.zb_script.specs.declared.line.Line.TheVariants as lines
 use Rattle.zb_script.specs.declared.line.Turn.{Turn}
 use Rattle.zb_script.specs.Names.{IsName}
-use Rattle.zb_script.specs.Payloads.{IsRecordBytes}
+use Rattle.zb_script.specs.Payloads.{IsPayload}
 
--- what stands behind the client's name and a blank
-abbrev pub line_text : Line → List ℕ
-line_text lines.Open = codes "open local"
-line_text lines.Begin = codes "begin"
-line_text (lines.Load oid) = codes "load " ++ hex_number oid
-line_text (lines.Store oid base bytes) = codes "store " ++ (hex_number oid ++ 32 ∷ (hex_number base ++ 32 ∷ hex_text bytes))
-line_text lines.Vote = codes "vote \"\" \"\""
-line_text lines.Finish = codes "finish"
-line_text lines.Abort = codes "abort"
-line_text lines.New = codes "new"
+-- ---- fields
+
+-- a user or a description: UTF-8, and no more of it than this
+pub record IsShort (text : List ℕ) : Type 0 where
+  pub utf8 : is_utf8 text ≡ true
+  pub fits : length text ≤ 65535
+
+-- each number is below the one before it, and the first below a bound
+abbrev pub Falls : ℕ → List ℕ → Type 0
+Falls bound [] = Unit {0}
+Falls bound (tid ∷ tids) = (tid < bound) × Falls tid tids
+
+-- what is undone: at least one tid, each below the one before it
+pub record AreTids (tids : List ℕ) : Type 0 where
+  pub some : 0 < length tids
+  pub fall : Falls (2 ^ 64) tids
+
+-- the digits of each, behind a blank
+abbrev pub tids_text : List ℕ → List ℕ
+tids_text tids = flat_map (λ tid. 32 ∷ hex_number tid) tids
+
+-- the two literals are a class and a state, and the bytes are the record that these write
+pub record IsRecordOf (class_text state_text bytes : List ℕ) : Type 0 where
+  pub class : Graph
+  pub state : Graph
+  pub class_spelled : IsLiteral class_text class
+  pub state_spelled : IsLiteral state_text state
+  pub class_is : is_class class ≡ true
+  pub written : object_text class state ≡ Ok bytes
+
+-- ---- lines
+
+-- a word and a number
+pub record IsNumbered (text word : List ℕ) (number : ℕ) : Type 0 where
+  pub small : number < 2 ^ 64
+  pub is : text ≡ word ++ hex_number number
+
+pub record IsStore (text : List ℕ) (oid base : ℕ) (bytes : List ℕ) : Type 0 where
+  pub oid_small : oid < 2 ^ 64
+  pub base_small : base < 2 ^ 64
+  pub payload : IsPayload bytes
+  pub fits : length bytes ≤ 2 ^ 26
+  pub is : text ≡ codes "store " ++ (hex_number oid ++ 32 ∷ (hex_number base ++ 32 ∷ hex_text bytes))
+
+pub record IsPut (text : List ℕ) (oid : ℕ) (bytes : List ℕ) : Type 0 where
+  pub oid_small : oid < 2 ^ 64
+  pub class_text : List ℕ
+  pub state_text : List ℕ
+  pub stored : IsRecordOf class_text state_text bytes
+  pub is : text ≡ codes "put " ++ (hex_number oid ++ 32 ∷ (class_text ++ 32 ∷ state_text))
+
+pub record IsCheck (text : List ℕ) (oid serial : ℕ) : Type 0 where
+  pub oid_small : oid < 2 ^ 64
+  pub serial_small : serial < 2 ^ 64
+  pub is : text ≡ codes "check " ++ (hex_number oid ++ 32 ∷ hex_number serial)
+
+pub record IsVote (text user description : List ℕ) : Type 0 where
+  pub user_short : IsShort user
+  pub description_short : IsShort description
+  pub is : text ≡ codes "vote " ++ (quoted_text user ++ 32 ∷ quoted_text description)
+
+pub record IsUndo (text user description tids : List ℕ) : Type 0 where
+  pub user_short : IsShort user
+  pub description_short : IsShort description
+  pub undone : AreTids tids
+  pub is : text ≡ codes "undo " ++ (quoted_text user ++ 32 ∷ (quoted_text description ++ tids_text tids))
+
+-- the text is what stands behind the client's name and a blank
+abbrev pub IsLineText : List ℕ → Line → Type 0
+IsLineText text lines.Open = text ≡ codes "open local"
+IsLineText text lines.Begin = text ≡ codes "begin"
+IsLineText text (lines.Load oid) = IsNumbered text (codes "load ") oid
+IsLineText text (lines.Get oid) = IsNumbered text (codes "get ") oid
+IsLineText text (lines.Store oid base bytes) = IsStore text oid base bytes
+IsLineText text (lines.Put oid bytes) = IsPut text oid bytes
+IsLineText text (lines.Check oid serial) = IsCheck text oid serial
+IsLineText text lines.New = text ≡ codes "new"
+IsLineText text (lines.Vote user description) = IsVote text user description
+IsLineText text (lines.Undo user description tids) = IsUndo text user description tids
+IsLineText text lines.Finish = text ≡ codes "finish"
+IsLineText text lines.Abort = text ≡ codes "abort"
+IsLineText text (lines.History oid) = IsNumbered text (codes "history ") oid
+IsLineText text lines.UndoLog = text ≡ codes "undolog"
+IsLineText text lines.Close = text ≡ codes "close"
 
 -- the client's name, a blank, and what it does
-abbrev pub turn_text : Turn → List ℕ
-turn_text t = t.client ++ 32 ∷ line_text t.line
+pub record IsTurnText (text : List ℕ) (t : Turn) : Type 0 where
+  pub named : IsName t.client
+  pub line_text : List ℕ
+  pub spelled : IsLineText line_text t.line
+  pub is : text ≡ t.client ++ 32 ∷ line_text
 
--- what the fields of a line can be: numbers of 64 bits, and a payload
+-- each text is that of the turn at its place
+abbrev pub AreTurnTexts : List (List ℕ) → List Turn → Type 0
+AreTurnTexts [] [] = Unit {0}
+AreTurnTexts (text ∷ texts) (t ∷ turns) = IsTurnText text t × AreTurnTexts texts turns
+AreTurnTexts _ _ = ⊥
+
+-- ---- fields of lines
+
+-- what the fields of a line can be
 abbrev pub IsLine : Line → Type 0
 IsLine (lines.Load oid) = oid < 2 ^ 64
-IsLine (lines.Store oid base bytes) = (oid < 2 ^ 64) × (base < 2 ^ 64) × IsRecordBytes bytes
+IsLine (lines.Get oid) = oid < 2 ^ 64
+IsLine (lines.Store oid base bytes) = (oid < 2 ^ 64) × (base < 2 ^ 64) × IsPayload bytes
+IsLine (lines.Put oid bytes) = (oid < 2 ^ 64) × (0 < length bytes)
+IsLine (lines.Check oid serial) = (oid < 2 ^ 64) × (serial < 2 ^ 64)
+IsLine (lines.Vote user description) = IsShort user × IsShort description
+IsLine (lines.Undo user description tids) = IsShort user × IsShort description × AreTids tids
+IsLine (lines.History oid) = oid < 2 ^ 64
 IsLine _ = Unit {0}
 
 abbrev pub IsTurn : Turn → Type 0
 IsTurn t = IsName t.client × IsLine t.line
-
--- each turn's text ends with a newline
-abbrev pub script_text : List Turn → List ℕ
-script_text turns = flat_map (λ t. turn_text t ++ 10 ∷ []) turns
-
--- the bytes spell these turns; the last newline may be missing
-abbrev pub Spells : List ℕ → List Turn → Type 0
-Spells bytes turns = (bytes ≡ script_text turns) ⊎ (bytes ++ 10 ∷ [] ≡ script_text turns)
-
--- none of the bytes is this one
-abbrev pub Lacks : ℕ → List ℕ → Type 0
-Lacks c bytes = AllByRecursion (λ b. b ≢ c) bytes
-
--- a line ends before a newline, or at the end of the bytes where it isn't empty
-abbrev pub IsEnd : List ℕ → List ℕ → Type 0
-IsEnd line [] = 0 < length line
-IsEnd line (b ∷ more) = b ≡ 10

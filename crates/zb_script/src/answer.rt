@@ -1,14 +1,17 @@
 //! What a turn is answered.
 
-ghost use Rattle.std.specs.Prelude.{◌≡◌, ◌∷◌, ◌++◌, IfOk, OnOk, decimal};
-ghost use Rattle.zb_ids.specs.Hex.{hex_number};
-ghost use Rattle.zb_script.specs.Answers.{answer_text, refusal_text, reply_text, three_numbers, two_numbers, why_text};
+ghost use Rattle.std.specs.Prelude.{◌≡◌, ◌∷◌, ◌++◌, [], map, IfOk, OnOk};
+ghost use Rattle.zb_script.specs.Answers.{answer_text, dashed, item_texts, reply_line, reply_lines};
+ghost use Rattle.zb_script.specs.Lists.{log_words, revision_words};
 
+use crate::lists::{push_log, push_revision};
 use crate::name::Name;
-use crate::spelling::{push_count, push_digits, push_number};
+use crate::objects::push_object;
+use crate::refusal::push_refusal;
+use crate::spelling::{push_counted, push_digits, push_numbered};
 use std::alloc::{AllocError, Global};
-use zb_ids::{Oid, Text8, Tid};
-use zb_model::{Refusal, Why};
+use zb_ids::{ListOf, Oid, Text8, Tid};
+use zb_model::{LogLine, Refusal, Revision};
 
 /// What a turn is answered.
 #[derive(Debug, Drop)]
@@ -30,8 +33,17 @@ pub enum Answer {
         /// Its bytes.
         bytes: Text8,
     },
+    /// What the transaction has of an object, to be shown by its class and its state.
+    Object {
+        /// The serial of the revision, or the base of the store that waits for the vote.
+        serial: Tid,
+        /// Its bytes.
+        bytes: Text8,
+    },
     /// The store waits for the vote.
     Stored,
+    /// The check waits for the vote.
+    Checked,
     /// The transaction can be committed.
     Voted,
     /// The transaction is committed.
@@ -48,168 +60,48 @@ pub enum Answer {
         /// The number.
         oid: Oid,
     },
-    /// The turn is refused, and has changed nothing.
-    Refused(Refusal),
+    /// The revisions of an object.
+    History {
+        /// They, the newest first.
+        list: ListOf<Revision>,
+    },
+    /// The transactions that may be undone.
+    UndoLog {
+        /// They, the newest first.
+        list: ListOf<LogLine>,
+    },
+    /// The session is closed.
+    Closed,
+    /// The turn is refused.
+    Refused(
+        /// Why.
+        Refusal,
+    ),
 }
 
-/// A word, and a count in decimal behind it.
-fn push_counted(out: &mut Vec<u8>, word: &[u8], count: u64) -> Result<(), AllocError>
-    ensures { OnOk result (out.new.items ≡ out.old.items ++ (word.now ++ decimal count)) }
-{
-    out.extend_from_slice(word)?;
-    push_count(out, count)
-}
-
-/// A word, and a number in sixteen digits behind it.
-fn push_numbered(out: &mut Vec<u8>, word: &[u8], number: u64) -> Result<(), AllocError>
-    ensures { OnOk result (out.new.items ≡ out.old.items ++ (word.now ++ hex_number number)) }
-{
-    out.extend_from_slice(word)?;
-    push_number(out, number)
-}
-
-/// A word, and an object's and a transaction's number behind it.
-fn push_revision(out: &mut Vec<u8>, word: &[u8], oid: Oid, tid: Tid) -> Result<(), AllocError>
-    ensures { OnOk result (out.new.items ≡ out.old.items ++ (word.now ++ two_numbers oid tid)) }
-{
-    push_numbered(out, word, oid.0)?;
-    out.push(b' ')?;
-    push_number(out, tid.0)
-}
-
-/// A word, and behind it an object's number and two serials.
-fn push_conflict(
-    out: &mut Vec<u8>,
-    word: &[u8],
-    oid: Oid,
-    base: Tid,
-    current: Tid,
-) -> Result<(), AllocError>
-    ensures { OnOk result (out.new.items ≡ out.old.items ++ (word.now ++ three_numbers oid base current)) }
-{
-    push_revision(out, word, oid, base)?;
-    out.push(b' ')?;
-    push_number(out, current.0)
-}
-
-fn push_why(out: &mut Vec<u8>, why: &Why) -> Result<(), AllocError>
-    ensures { OnOk result (out.new.items ≡ out.old.items ++ why_text why.now) }
-{
-    match why {
-        Why::NoRule => out.extend_from_slice(b"NoRule"),
-        Why::Gone => out.extend_from_slice(b"Gone"),
-        Why::NoOld => out.extend_from_slice(b"NoOld"),
-        Why::Unreadable => out.extend_from_slice(b"Unreadable"),
-        Why::NotEmbedded => out.extend_from_slice(b"NotEmbedded"),
-        Why::Link => out.extend_from_slice(b"Link"),
-        Why::EmptySide => out.extend_from_slice(b"EmptySide"),
-        Why::Key(spelling) => {
-            out.extend_from_slice(b"Key ")?;
-            push_digits(out, spelling.as_slice())
-        }
-        Why::FirstKey => out.extend_from_slice(b"FirstKey"),
-        Why::Overflow => out.extend_from_slice(b"Overflow"),
-    }
-}
-
-fn push_word(out: &mut Vec<u8>, word: &[u8]) -> Result<(), AllocError>
-    ensures { OnOk result (out.new.items ≡ out.old.items ++ word.now) }
-{
-    out.extend_from_slice(word)
-}
-
-fn push_refusal(out: &mut Vec<u8>, refusal: &Refusal) -> Result<(), AllocError>
-    ensures { OnOk result (out.new.items ≡ out.old.items ++ refusal_text refusal.now) }
-{
-    match refusal {
-        Refusal::TidsSpent => push_word(out, b"TidsSpent"),
-        Refusal::StoreFault => push_word(out, b"StoreFault"),
-        Refusal::Conflict {
-            oid,
-            base,
-            current,
-            why,
-        } => {
-            push_conflict(out, b"Conflict ", *oid, *base, *current)?;
-            out.push(b' ')?;
-            push_why(out, why)
-        }
-        Refusal::ReadConflict { oid, base, current } => {
-            push_conflict(out, b"ReadConflict ", *oid, *base, *current)
-        }
-        Refusal::TooLong { length } => push_counted(out, b"TooLong ", *length),
-        Refusal::UndoUnknown { tid } => push_numbered(out, b"UndoUnknown ", tid.0),
-        Refusal::UndoPacked { tid } => push_numbered(out, b"UndoPacked ", tid.0),
-        Refusal::UndoConflict { oid, later } => push_revision(out, b"UndoConflict ", *oid, *later),
-        Refusal::Overtaken { oid, tid } => push_revision(out, b"Overtaken ", *oid, *tid),
-        Refusal::Unreadable { oid, tid } => push_revision(out, b"Unreadable ", *oid, *tid),
-        Refusal::PackedAlready { packed } => push_numbered(out, b"PackedAlready ", packed.0),
-        Refusal::Missing { oid, packed } => {
-            push_numbered(out, b"Missing ", oid.0)?;
-            out.extend_from_slice(if *packed { b" true" } else { b" false" })
-        }
-        Refusal::NoTransaction => push_word(out, b"NoTransaction"),
-        Refusal::InTransaction => push_word(out, b"InTransaction"),
-        Refusal::NotVoted => push_word(out, b"NotVoted"),
-        Refusal::Voted => push_word(out, b"Voted"),
-        Refusal::Busy { holder } => push_counted(out, b"Busy ", u64::from(*holder)),
-        Refusal::PackRunning { session } => push_counted(out, b"PackRunning ", u64::from(*session)),
-        Refusal::OidsSpent => push_word(out, b"OidsSpent"),
-        Refusal::JournalFull { count } => push_counted(out, b"JournalFull ", *count),
-        Refusal::TooManySessions { count } => {
-            push_counted(out, b"TooManySessions ", u64::from(*count))
-        }
-        Refusal::NotOpen => push_word(out, b"NotOpen"),
-        Refusal::NoSavepoint { number } => push_counted(out, b"NoSavepoint ", *number),
-        Refusal::FrameTooLong { length } => push_counted(out, b"FrameTooLong ", u64::from(*length)),
-        Refusal::BadMessage => push_word(out, b"BadMessage"),
-        Refusal::LinkFault => push_word(out, b"LinkFault"),
-        Refusal::Closed => push_word(out, b"Closed"),
-        Refusal::Mixed { stores } => push_counted(out, b"Mixed ", *stores),
-        Refusal::NoPack => push_word(out, b"NoPack"),
-        Refusal::NotATree { oid } => push_numbered(out, b"NotATree ", oid.0),
-        Refusal::NodeMissing { oid } => push_numbered(out, b"NodeMissing ", oid.0),
-        Refusal::BadKey => push_word(out, b"BadKey"),
-        Refusal::ReadFault => push_word(out, b"ReadFault"),
-        Refusal::NothingToDelete { oid, current } => {
-            push_revision(out, b"NothingToDelete ", *oid, *current)
-        }
-        Refusal::Connected { session } => push_counted(out, b"Connected ", u64::from(*session)),
-        Refusal::StepsSpent => push_word(out, b"StepsSpent"),
-        Refusal::Memory => push_word(out, b"Memory"),
-    }
-}
-
+/// Puts the first line of an answer at the end.
 fn push_answer(out: &mut Vec<u8>, answer: &Answer) -> Result<(), AllocError>
     ensures { OnOk result (out.new.items ≡ out.old.items ++ answer_text answer.now) }
 {
     match answer {
-        Answer::Opened { session } => {
-            out.extend_from_slice(b"opened ")?;
-            push_count(out, u64::from(*session))
-        }
-        Answer::Begun { front } => {
-            out.extend_from_slice(b"begun ")?;
-            push_number(out, front.0)
-        }
+        Answer::Opened { session } => push_counted(out, b"opened ", u64::from(*session)),
+        Answer::Begun { front } => push_numbered(out, b"begun ", front.0),
         Answer::Data { serial, bytes } => {
-            out.extend_from_slice(b"data ")?;
-            push_number(out, serial.0)?;
+            push_numbered(out, b"data ", serial.0)?;
             out.push(b' ')?;
             push_digits(out, bytes.as_slice())
         }
+        Answer::Object { serial, bytes } => push_object(out, *serial, bytes.as_slice()),
         Answer::Stored => out.extend_from_slice(b"stored"),
+        Answer::Checked => out.extend_from_slice(b"checked"),
         Answer::Voted => out.extend_from_slice(b"voted"),
-        Answer::Committed { tid } => {
-            out.extend_from_slice(b"committed ")?;
-            push_number(out, tid.0)
-        }
+        Answer::Committed { tid } => push_numbered(out, b"committed ", tid.0),
         Answer::Empty => out.extend_from_slice(b"empty"),
         Answer::Aborted => out.extend_from_slice(b"aborted"),
-        Answer::Oid { oid } => {
-            out.extend_from_slice(b"oid ")?;
-            push_number(out, oid.0)
-        }
+        Answer::Oid { oid } => push_numbered(out, b"oid ", oid.0),
+        Answer::History { list } => push_counted(out, b"history ", list.len() as u64),
+        Answer::UndoLog { list } => push_counted(out, b"undolog ", list.len() as u64),
+        Answer::Closed => out.extend_from_slice(b"closed"),
         Answer::Refused(refusal) => {
             out.extend_from_slice(b"refused ")?;
             push_refusal(out, refusal)
@@ -217,13 +109,107 @@ fn push_answer(out: &mut Vec<u8>, answer: &Answer) -> Result<(), AllocError>
     }
 }
 
-/// The line that answers a turn of this client, with its newline. The one error is want of memory.
-pub fn answer_line(alloc: Global, client: &Name, answer: &Answer) -> Result<Text8, AllocError>
-    ensures { IfOk result (λ text. text ≡ reply_text client.now answer.now) }
+/// What each line begins with: the client's name and a blank.
+fn begun(alloc: Global, client: &Name) -> Result<Vec<u8>, AllocError>
+    ensures { IfOk result (λ out. out.items ≡ client.now ++ 32 ∷ []) }
 {
     let mut out = Vec::from_slice(alloc, client.as_bytes())?;
     out.push(b' ')?;
+    Ok(out)
+}
+
+fn first_line(alloc: Global, client: &Name, answer: &Answer) -> Result<Text8, AllocError>
+    ensures { IfOk result (λ text. text ≡ reply_line client.now (answer_text answer.now)) }
+{
+    let mut out = begun(alloc, client)?;
     push_answer(&mut out, answer)?;
     out.push(b'\n')?;
     Ok(Text8::from_vec(out))
+}
+
+fn revision_item(alloc: Global, client: &Name, item: &Revision) -> Result<Text8, AllocError>
+    ensures { IfOk result (λ text. text ≡ reply_line client.now (dashed (revision_words item.now))) }
+{
+    let mut out = begun(alloc, client)?;
+    out.extend_from_slice(b"- ")?;
+    push_revision(&mut out, item)?;
+    out.push(b'\n')?;
+    Ok(Text8::from_vec(out))
+}
+
+fn log_item(alloc: Global, client: &Name, item: &LogLine) -> Result<Text8, AllocError>
+    ensures { IfOk result (λ text. text ≡ reply_line client.now (dashed (log_words item.now))) }
+{
+    let mut out = begun(alloc, client)?;
+    out.extend_from_slice(b"- ")?;
+    push_log(&mut out, item)?;
+    out.push(b'\n')?;
+    Ok(Text8::from_vec(out))
+}
+
+/// Puts a line at the end.
+fn push_line(lines: &mut ListOf<Text8>, line: Text8) -> Result<(), AllocError>
+    ensures { OnOk result (lines.new ≡ lines.old ++ line ∷ []) }
+{
+    lines.push(line)?;
+    Ok(())
+}
+
+fn push_history(
+    lines: &mut ListOf<Text8>,
+    alloc: Global,
+    client: &Name,
+    list: &[Revision],
+) -> Result<(), AllocError>
+    ensures { OnOk result (lines.new ≡ lines.old ++ map (reply_line client.now) (map (λ item. dashed (revision_words item)) list.now)) }
+{
+    for item in list {
+        push_line(lines, revision_item(alloc, client, item)?)?;
+    }
+    Ok(())
+}
+
+fn push_undolog(
+    lines: &mut ListOf<Text8>,
+    alloc: Global,
+    client: &Name,
+    list: &[LogLine],
+) -> Result<(), AllocError>
+    ensures { OnOk result (lines.new ≡ lines.old ++ map (reply_line client.now) (map (λ item. dashed (log_words item)) list.now)) }
+{
+    for item in list {
+        push_line(lines, log_item(alloc, client, item)?)?;
+    }
+    Ok(())
+}
+
+/// Puts a line for each item of a list at the end.
+fn push_items(
+    lines: &mut ListOf<Text8>,
+    alloc: Global,
+    client: &Name,
+    answer: &Answer,
+) -> Result<(), AllocError>
+    ensures { OnOk result (lines.new ≡ lines.old ++ map (reply_line client.now) (item_texts answer.now)) }
+{
+    match answer {
+        Answer::History { list } => push_history(lines, alloc, client, list.as_slice()),
+        Answer::UndoLog { list } => push_undolog(lines, alloc, client, list.as_slice()),
+        _ => Ok(()),
+    }
+}
+
+/// The lines that answer a turn of this client, each with its newline: one, and behind it one for each item of
+/// a list. The one error is want of memory.
+pub fn answer_lines(
+    alloc: Global,
+    client: &Name,
+    answer: &Answer,
+) -> Result<ListOf<Text8>, AllocError>
+    ensures { IfOk result (λ lines. lines ≡ reply_lines client.now answer.now) }
+{
+    let mut lines = ListOf::new(alloc);
+    push_line(&mut lines, first_line(alloc, client, answer)?)?;
+    push_items(&mut lines, alloc, client, answer)?;
+    Ok(lines)
 }

@@ -3,24 +3,32 @@
 #![tactic(auto)]
 
 mod answer;
+mod cutting;
 mod errors;
+mod limits;
 mod line;
 mod lists;
 mod name;
+mod objects;
 mod payload;
 mod reading;
+mod refusal;
 mod script;
 mod shape;
 mod spelling;
+mod stored;
+mod voting;
+mod words;
 
-pub use answer::{Answer, answer_line};
+pub use answer::{Answer, answer_lines};
 pub use errors::ScriptError;
+pub use limits::Limit;
 pub use line::{Line, Turn};
 pub use lists::{log_line, revision_line};
 pub use name::Name;
+pub use objects::shown_line;
 pub use payload::Payload;
-pub use script::{one_script, read_script};
-pub use spelling::write_script;
+pub use script::{clients_open_first, one_script, read_script};
 
 #[cfg(test)]
 mod tests;

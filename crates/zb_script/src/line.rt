@@ -2,7 +2,7 @@
 
 use crate::name::Name;
 use crate::payload::Payload;
-use zb_ids::{Oid, Tid};
+use zb_ids::{ListOf, Oid, Text8, Tid};
 
 /// What a client does in one turn.
 #[derive(Debug, Drop)]
@@ -11,8 +11,13 @@ pub enum Line {
     Open,
     /// `begin`: a transaction begins, with a view of the list as it stands.
     Begin,
-    /// `load OID`: reads an object in the view.
+    /// `load OID`: reads the bytes of an object in the view.
     Load {
+        /// The object.
+        oid: Oid,
+    },
+    /// `get OID`: reads an object as the transaction has it.
+    Get {
         /// The object.
         oid: Oid,
     },
@@ -25,14 +30,51 @@ pub enum Line {
         /// The bytes.
         bytes: Payload,
     },
-    /// `vote "" ""`: decides whether the stores can be committed.
-    Vote,
+    /// `put OID CLASS STATE`: the object is to have this class and this state.
+    Put {
+        /// The object.
+        oid: Oid,
+        /// The record of the class and the state, as `write_record` of `zb_record` writes it.
+        bytes: Payload,
+    },
+    /// `check OID SERIAL`: the transaction stands only while this is the object's serial.
+    Check {
+        /// The object.
+        oid: Oid,
+        /// The serial.
+        serial: Tid,
+    },
+    /// `new`: asks for the number of a new object.
+    New,
+    /// `vote USER DESCRIPTION`: decides whether the transaction can be committed.
+    Vote {
+        /// Who made the transaction: at most 65,535 bytes of UTF-8.
+        user: Text8,
+        /// What it is for: at most 65,535 bytes of UTF-8.
+        description: Text8,
+    },
+    /// `undo USER DESCRIPTION TID ..`: decides whether these transactions can be undone by a new one.
+    Undo {
+        /// Who made the new transaction: at most 65,535 bytes of UTF-8.
+        user: Text8,
+        /// What it is for: at most 65,535 bytes of UTF-8.
+        description: Text8,
+        /// The transactions, the newest first: at least one, and none twice.
+        tids: ListOf<Tid>,
+    },
     /// `finish`: commits what was voted.
     Finish,
     /// `abort`: ends the transaction and drops its stores.
     Abort,
-    /// `new`: asks for the number of a new object.
-    New,
+    /// `history OID`: lists the revisions of an object.
+    History {
+        /// The object.
+        oid: Oid,
+    },
+    /// `undolog`: lists the transactions that may be undone.
+    UndoLog,
+    /// `close`: ends the session.
+    Close,
 }
 
 /// One line of a script: who does what.

@@ -1,7 +1,7 @@
 //! The lines of the lists that a database answers.
 
 ghost use Rattle.std.specs.Prelude.{◌≡◌, ◌++◌, IfOk, OnOk};
-ghost use Rattle.zb_script.specs.Lists.{log_text, revision_text, size_text, texts_text};
+ghost use Rattle.zb_script.specs.Lists.{log_text, log_words, revision_text, revision_words, size_text, texts_words};
 
 use crate::spelling::{push_count, push_number};
 use std::alloc::{AllocError, Global};
@@ -10,14 +10,12 @@ use zb_literals::push_text;
 use zb_model::{LogLine, Revision};
 
 fn push_texts(out: &mut Vec<u8>, user: &Text8, description: &Text8) -> Result<(), AllocError>
-    ensures { OnOk result (out.new.items ≡ out.old.items ++ texts_text user.now description.now) }
+    ensures { OnOk result (out.new.items ≡ out.old.items ++ texts_words user.now description.now) }
 {
     out.push(b' ')?;
     push_text(out, user.as_slice())?;
     out.push(b' ')?;
-    push_text(out, description.as_slice())?;
-    out.push(b'\n')?;
-    Ok(())
+    push_text(out, description.as_slice())
 }
 
 fn push_size(out: &mut Vec<u8>, size: Option<u64>) -> Result<(), AllocError>
@@ -29,14 +27,32 @@ fn push_size(out: &mut Vec<u8>, size: Option<u64>) -> Result<(), AllocError>
     }
 }
 
+/// Puts an item of the undo list at the end.
+pub(crate) fn push_log(out: &mut Vec<u8>, line: &LogLine) -> Result<(), AllocError>
+    ensures { OnOk result (out.new.items ≡ out.old.items ++ log_words line.now) }
+{
+    push_number(out, line.tid.0)?;
+    push_texts(out, &line.user, &line.description)
+}
+
+/// Puts an item of a history at the end.
+pub(crate) fn push_revision(out: &mut Vec<u8>, line: &Revision) -> Result<(), AllocError>
+    ensures { OnOk result (out.new.items ≡ out.old.items ++ revision_words line.now) }
+{
+    push_number(out, line.tid.0)?;
+    out.push(b' ')?;
+    push_size(out, line.size)?;
+    push_texts(out, &line.user, &line.description)
+}
+
 /// A line of the undo list, with its newline: the tid in sixteen digits, the user and the
 /// description. The one error is want of memory.
 pub fn log_line(alloc: Global, line: &LogLine) -> Result<Text8, AllocError>
     ensures { IfOk result (λ text. text ≡ log_text line.now) }
 {
     let mut out = Vec::new(alloc);
-    push_number(&mut out, line.tid.0)?;
-    push_texts(&mut out, &line.user, &line.description)?;
+    push_log(&mut out, line)?;
+    out.push(b'\n')?;
     Ok(Text8::from_vec(out))
 }
 
@@ -46,9 +62,7 @@ pub fn revision_line(alloc: Global, line: &Revision) -> Result<Text8, AllocError
     ensures { IfOk result (λ text. text ≡ revision_text line.now) }
 {
     let mut out = Vec::new(alloc);
-    push_number(&mut out, line.tid.0)?;
-    out.push(b' ')?;
-    push_size(&mut out, line.size)?;
-    push_texts(&mut out, &line.user, &line.description)?;
+    push_revision(&mut out, line)?;
+    out.push(b'\n')?;
     Ok(Text8::from_vec(out))
 }

@@ -1,33 +1,17 @@
 //! Reading one line.
 
-ghost use Rattle.std.specs.Prelude.{◌≡◌, ◌<◌, ◌==◌, ℕ, length, IfSome, position};
-ghost use Rattle.zb_ids.specs.Hex.{bytes_at, number_at};
-ghost use Rattle.zb_script.specs.Reading.{ReadsAs, behind_word, cut_at, field_at, line_at, load_at, name_at, payload_at, store_at, turn_at, words_at};
+ghost use Rattle.std.specs.Prelude.{◌≡◌};
+ghost use Rattle.zb_script.specs.declared.line.Line.TheVariants as lines;
+ghost use Rattle.zb_script.specs.Reading.{ReadsAs, behind_word, check_at, line_at, name_at, numbered_at, put_at, short_line_at, store_at, turn_at, undo_at, vote_at, words_at};
 
 use crate::errors::ReadError;
 use crate::line::{Line, Turn};
 use crate::name::Name;
-use crate::payload::{MOST_DIGITS, Payload};
+use crate::stored::{payload_of, record_of};
+use crate::voting::{short_field_of, short_of, tids_of};
+use crate::words::{cut, cut_literal, field_of, number_of};
 use std::alloc::Global;
-use zb_ids::{Oid, Text8, Tid, read_hex, read_hex_pair};
-
-/// The place of the first such byte.
-pub(crate) fn place_of(separator: u8, bytes: &[u8]) -> Option<usize>
-    ensures place { result ≡ position (λ b. b == separator) bytes.now }
-    ensures bound { IfSome result (λ i. i < length bytes.now) }
-{
-    bytes.iter().position(|b| *b == separator)
-}
-
-#[tactic(auto, unfolding(crate::specs::Reading::cut_at))]
-fn cut(separator: u8, bytes: &[u8]) -> Result<(&[u8], &[u8]), ReadError>
-    ensures { ReadsAs (λ x. (x.0.now, x.1.now)) result (cut_at separator bytes.now) }
-{
-    let Some(i) = place_of(separator, bytes) else {
-        return Err(ReadError::Bad);
-    };
-    Ok((bytes.split_at(i).0, bytes.split_at(i + 1).1))
-}
+use zb_ids::{Oid, Tid};
 
 #[tactic(auto, unfolding(crate::specs::Reading::name_at))]
 fn name_of(bytes: &[u8]) -> Result<Name, ReadError>
@@ -39,61 +23,28 @@ fn name_of(bytes: &[u8]) -> Result<Name, ReadError>
     }
 }
 
-fn number_of(text: &[u8]) -> Result<u64, ReadError>
-    ensures { ReadsAs (λ number. number) result (number_at text.now) }
-{
-    match read_hex(text) {
-        Ok(number) => Ok(number),
-        Err(_) => Err(ReadError::Bad),
-    }
-}
-
-#[tactic(auto, unfolding(crate::specs::Reading::field_at))]
-fn field_of(bytes: &[u8]) -> Result<(u64, &[u8]), ReadError>
-    ensures { ReadsAs (λ x. (x.0, x.1.now)) result (field_at bytes.now) }
-{
-    let (word, rest) = cut(b' ', bytes)?;
-    let number = number_of(word)?;
-    Ok((number, rest))
-}
-
-#[tactic(auto, using(zb_ids::specs::HexLaws::pair_read, zb_ids::specs::HexLaws::pair_refused, zb_ids::specs::HexLaws::all_read, zb_ids::specs::HexLaws::odd_refused))]
-fn bytes_of(alloc: Global, text: &[u8]) -> Result<Vec<u8>, ReadError>
-    ensures { ReadsAs (λ bytes. bytes.items) result (bytes_at text.now) }
-{
-    if text.len() % 2 != 0 {
-        return Err(ReadError::Bad);
-    }
-    let mut bytes = Vec::new(alloc);
-    for i in 0..text.len() / 2 {
-        let Some(byte) = read_hex_pair(text[2 * i], text[2 * i + 1]) else {
-            return Err(ReadError::Bad);
-        };
-        bytes.push(byte)?;
-    }
-    Ok(bytes)
-}
-
-#[tactic(auto, unfolding(crate::specs::Reading::payload_at))]
-fn payload_of(alloc: Global, text: &[u8]) -> Result<Payload, ReadError>
-    ensures { ReadsAs (λ payload. payload) result (payload_at text.now) }
-{
-    if text.len() > MOST_DIGITS {
-        return Err(ReadError::Bad);
-    }
-    let bytes = bytes_of(alloc, text)?;
-    match Payload::new(Text8::from_vec(bytes)) {
-        Some(payload) => Ok(payload),
-        None => Err(ReadError::Bad),
-    }
-}
-
-#[tactic(auto, unfolding(crate::specs::Reading::load_at))]
+#[tactic(auto, unfolding(crate::specs::Reading::numbered_at))]
 fn load_of(bytes: &[u8]) -> Result<Line, ReadError>
-    ensures { ReadsAs (λ line. line) result (load_at bytes.now) }
+    ensures { ReadsAs (λ line. line) result (numbered_at lines.Load bytes.now) }
 {
     let oid = number_of(bytes)?;
     Ok(Line::Load { oid: Oid(oid) })
+}
+
+#[tactic(auto, unfolding(crate::specs::Reading::numbered_at))]
+fn get_of(bytes: &[u8]) -> Result<Line, ReadError>
+    ensures { ReadsAs (λ line. line) result (numbered_at lines.Get bytes.now) }
+{
+    let oid = number_of(bytes)?;
+    Ok(Line::Get { oid: Oid(oid) })
+}
+
+#[tactic(auto, unfolding(crate::specs::Reading::numbered_at))]
+fn history_of(bytes: &[u8]) -> Result<Line, ReadError>
+    ensures { ReadsAs (λ line. line) result (numbered_at lines.History bytes.now) }
+{
+    let oid = number_of(bytes)?;
+    Ok(Line::History { oid: Oid(oid) })
 }
 
 #[tactic(auto, unfolding(crate::specs::Reading::store_at))]
@@ -110,6 +61,54 @@ fn store_of(alloc: Global, bytes: &[u8]) -> Result<Line, ReadError>
     })
 }
 
+#[tactic(auto, unfolding(crate::specs::Reading::put_at))]
+fn put_of(alloc: Global, bytes: &[u8]) -> Result<Line, ReadError>
+    ensures { ReadsAs (λ line. line) result (put_at bytes.now) }
+{
+    let (oid, rest) = field_of(bytes)?;
+    let (class, state) = cut_literal(rest)?;
+    let bytes = record_of(alloc, class, state)?;
+    Ok(Line::Put {
+        oid: Oid(oid),
+        bytes,
+    })
+}
+
+#[tactic(auto, unfolding(crate::specs::Reading::check_at))]
+fn check_of(bytes: &[u8]) -> Result<Line, ReadError>
+    ensures { ReadsAs (λ line. line) result (check_at bytes.now) }
+{
+    let (oid, rest) = field_of(bytes)?;
+    let serial = number_of(rest)?;
+    Ok(Line::Check {
+        oid: Oid(oid),
+        serial: Tid(serial),
+    })
+}
+
+#[tactic(auto, unfolding(crate::specs::Reading::vote_at))]
+fn vote_of(alloc: Global, bytes: &[u8]) -> Result<Line, ReadError>
+    ensures { ReadsAs (λ line. line) result (vote_at bytes.now) }
+{
+    let (user, rest) = short_field_of(alloc, bytes)?;
+    let description = short_of(alloc, rest)?;
+    Ok(Line::Vote { user, description })
+}
+
+#[tactic(auto, unfolding(crate::specs::Reading::undo_at))]
+fn undo_of(alloc: Global, bytes: &[u8]) -> Result<Line, ReadError>
+    ensures { ReadsAs (λ line. line) result (undo_at bytes.now) }
+{
+    let (user, rest) = short_field_of(alloc, bytes)?;
+    let (description, rest) = short_field_of(alloc, rest)?;
+    let tids = tids_of(alloc, rest)?;
+    Ok(Line::Undo {
+        user,
+        description,
+        tids,
+    })
+}
+
 #[tactic(auto, unfolding(crate::specs::Reading::words_at))]
 fn words_of(bytes: &[u8]) -> Result<Line, ReadError>
     ensures { ReadsAs (λ line. line) result (words_at bytes.now) }
@@ -118,16 +117,34 @@ fn words_of(bytes: &[u8]) -> Result<Line, ReadError>
         Ok(Line::Open)
     } else if bytes == b"begin".as_slice() {
         Ok(Line::Begin)
-    } else if bytes == b"vote \"\" \"\"".as_slice() {
-        Ok(Line::Vote)
+    } else if bytes == b"new".as_slice() {
+        Ok(Line::New)
     } else if bytes == b"finish".as_slice() {
         Ok(Line::Finish)
     } else if bytes == b"abort".as_slice() {
         Ok(Line::Abort)
-    } else if bytes == b"new".as_slice() {
-        Ok(Line::New)
+    } else if bytes == b"undolog".as_slice() {
+        Ok(Line::UndoLog)
+    } else if bytes == b"close".as_slice() {
+        Ok(Line::Close)
     } else {
         Err(ReadError::Bad)
+    }
+}
+
+/// A line with one number, or without a field.
+#[tactic(auto, unfolding(crate::specs::Reading::short_line_at, crate::specs::Reading::behind_word))]
+fn short_line_of(bytes: &[u8]) -> Result<Line, ReadError>
+    ensures { ReadsAs (λ line. line) result (short_line_at bytes.now) }
+{
+    if let Some(rest) = bytes.strip_prefix(b"load ") {
+        load_of(rest)
+    } else if let Some(rest) = bytes.strip_prefix(b"get ") {
+        get_of(rest)
+    } else if let Some(rest) = bytes.strip_prefix(b"history ") {
+        history_of(rest)
+    } else {
+        words_of(bytes)
     }
 }
 
@@ -135,12 +152,18 @@ fn words_of(bytes: &[u8]) -> Result<Line, ReadError>
 fn line_of(alloc: Global, bytes: &[u8]) -> Result<Line, ReadError>
     ensures { ReadsAs (λ line. line) result (line_at bytes.now) }
 {
-    if let Some(rest) = bytes.strip_prefix(b"load ") {
-        load_of(rest)
-    } else if let Some(rest) = bytes.strip_prefix(b"store ") {
+    if let Some(rest) = bytes.strip_prefix(b"store ") {
         store_of(alloc, rest)
+    } else if let Some(rest) = bytes.strip_prefix(b"put ") {
+        put_of(alloc, rest)
+    } else if let Some(rest) = bytes.strip_prefix(b"check ") {
+        check_of(rest)
+    } else if let Some(rest) = bytes.strip_prefix(b"vote ") {
+        vote_of(alloc, rest)
+    } else if let Some(rest) = bytes.strip_prefix(b"undo ") {
+        undo_of(alloc, rest)
     } else {
-        words_of(bytes)
+        short_line_of(bytes)
     }
 }
 

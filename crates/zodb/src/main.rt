@@ -35,10 +35,10 @@ fn path_of(words: &[String]) -> &str {
 
 fn main(rt: HostRuntime) -> ExitCode {
     let Some(words) = words_of(&rt) else {
-        return ExitCode::from(Status::NoMemory as u8);
+        return ExitCode::from(Status::NoMemory.number());
     };
     let Ok(volume) = HostVolume::new(rt.alloc(), &rt, path_of(words.as_slice())) else {
-        return ExitCode::from(Status::NoMemory as u8);
+        return ExitCode::from(Status::NoMemory.number());
     };
     let mut source = ReadSource::new(rt.stdin());
     let mut sink = WriteSink::new(rt.stdout());
@@ -51,5 +51,5 @@ fn main(rt: HostRuntime) -> ExitCode {
         volume,
         &mut clock,
     );
-    ExitCode::from(status as u8)
+    ExitCode::from(status.number())
 }

@@ -1,5 +1,8 @@
 -- Prefixes of texts that stand one behind another.
-use Rattle.std.proofs.Common.{ℕ, List, [], ◌++◌, Option, append-nil, append_assoc, refl, sym, ap, ◌∙◌}
+use Rattle.std.proofs.Common.{◌≡◌, ℕ, List, [], ◌++◌, Option, append-nil, append_assoc, refl, sym, ap, subst, ◌∙◌}
+use Rattle.std.proofs.KnownBytes.{Appends-trans}
+use Rattle.std.proofs.lemmas.Grind.{flat_map-append}
+use Rattle.zodb_top.specs.Texts.{joined}
 use Rattle.std.specs.Io.KnownBytes.{Appends}
 use Rattle.zb_outside.specs.Written.{AppendsPrefix}
 use Rattle.zb_outside.specs.WrittenLaws.{front_more}
@@ -19,3 +22,16 @@ prefix_before a b here rest front = record {
     appended = front.before.appended;
   };
 }
+
+joined-append : (a b : List (List ℕ)) → joined (a ++ b) ≡ joined a ++ joined b
+joined-append a b = flat_map-append (λ (l : List ℕ). l) a b
+
+-- lines, and then more
+pub both_lines : (a b c : Option (List ℕ)) (lines more : List (List ℕ)) → Appends a b (joined lines) → Appends b c (joined more) → Appends a c (joined (lines ++ more))
+both_lines a b c lines more first second = subst (Appends a c) (sym (joined-append lines more)) (Appends-trans a b c (joined lines) (joined more) first second)
+
+pub first_prefix : (a b : Option (List ℕ)) (lines more : List (List ℕ)) → AppendsPrefix a b (joined lines) → AppendsPrefix a b (joined (lines ++ more))
+first_prefix a b lines more front = subst (AppendsPrefix a b) (sym (joined-append lines more)) (prefix_before a b (joined lines) (joined more) front)
+
+pub second_prefix : (a b c : Option (List ℕ)) (lines more : List (List ℕ)) → Appends a b (joined lines) → AppendsPrefix b c (joined more) → AppendsPrefix a c (joined (lines ++ more))
+second_prefix a b c lines more first front = subst (AppendsPrefix a c) (sym (joined-append lines more)) (behind_prefix a b c (joined lines) (joined more) first front)

@@ -6,7 +6,7 @@ use Rattle.fs_recovery.specs.declared.errors.OpenError.{OpenError}
 use Rattle.fs_recovery.specs.declared.errors.OpenError.TheVariants as error
 use Rattle.zodb_top.specs.declared.status.Status.{Status}
 use Rattle.zodb_top.specs.declared.status.Status.TheVariants as status
-use Rattle.zodb_top.specs.Program.{IsWritten}
+use Rattle.zodb_top.specs.Written.{IsWritten}
 use Rattle.zodb_top.specs.Texts.{damage_line, line, store_fault_line}
 use Rattle.zodb_top.specs.Unopened.{SaysUnopened}
 

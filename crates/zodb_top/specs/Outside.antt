@@ -15,6 +15,11 @@ pub record Outside : Type 0 where
   pub read_faults : ℕ
   pub write_faults : ℕ
 
+-- the same, as a record of what is given in this order
+abbrev pub outside : Option (List ℕ) → ℕ → Option (List Stamp) → List Event → ℕ → ℕ → Outside
+outside taken sink_faults stamps log read_faults write_faults =
+    record { taken = taken; sink_faults = sink_faults; stamps = stamps; log = log; read_faults = read_faults; write_faults = write_faults }
+
 -- what Main reads as
 abbrev pub main_of : Outside → List ℕ
 main_of o = seen o.log Main

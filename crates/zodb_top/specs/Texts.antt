@@ -1,8 +1,12 @@
 -- The lines that the program writes beside replies. Own.
 use Rattle.std.specs.Prelude.{ℕ, List, [], ◌∷◌, ◌++◌, Option, Some, None, codes, decimal}
 use Rattle.std.specs.List.{flat_map}
+use Rattle.sha2.specs.Sha256.{sha256}
 use Rattle.fs_records.specs.Names.{name_of}
 use Rattle.fs_records.specs.declared.field.Field.{Field}
+use Rattle.zb_ids.specs.Hex.{hex_number, hex_text}
+use Rattle.zb_script.specs.declared.limits.Limit.{Limit}
+use Rattle.zb_script.specs.Limits.{limit_count, limit_name}
 
 abbrev pub line : List ℕ → List ℕ
 line text = text ++ 10 ∷ []
@@ -23,8 +27,9 @@ store_fault_line = line (codes "store fault")
 abbrev pub bad_line : ℕ → List ℕ
 bad_line number = line (codes "bad line " ++ decimal number)
 
-abbrev pub limit_line : List ℕ
-limit_line = line (codes "limit bytes 67108864")
+-- a limit that is passed, by its name and its number
+abbrev pub limit_line : Limit → List ℕ
+limit_line l = line (codes "limit " ++ (limit_name l ++ 32 ∷ decimal (limit_count l)))
 
 -- where opening the file cut a tail off, the first line says so
 abbrev pub cut_lines : Option ℕ → List (List ℕ)
@@ -34,3 +39,15 @@ cut_lines (Some at) = line (codes "cut " ++ decimal at) ∷ []
 -- the rule that fails, and where
 abbrev pub damage_line : ℕ → Field → List ℕ
 damage_line at field = line (codes "damaged " ++ (decimal at ++ 32 ∷ name_of field))
+
+-- an object that has no record
+abbrev pub missing_line : List ℕ
+missing_line = line (codes "missing")
+
+-- a step that isn't made since reading failed
+abbrev pub refused_line : List ℕ
+refused_line = line (codes "refused ReadFault")
+
+-- a serial, and the digest of bytes, in hexadecimal digits
+abbrev pub digest_line : ℕ → List ℕ → List ℕ
+digest_line serial bytes = line (hex_number serial ++ 32 ∷ hex_text (sha256 bytes))

@@ -1,17 +1,29 @@
 //! What the words ask.
 
 ghost use Rattle.std.specs.Prelude.{◌≡◌, map, string_bytes};
-ghost use Rattle.zodb_top.specs.Words.{command_of, is_path, history_command, word_command};
+ghost use Rattle.std.specs.Option.{option_and_then};
+ghost use Rattle.zb_ids.specs.Hex.{number_at};
+ghost use Rattle.zodb_top.specs.Words.{command_of, is_path, object_command, word_command};
 
 use zb_ids::{Oid, read_hex};
 
-/// A list that a file is asked for.
+/// What is asked of the file, beside running a script.
 #[derive(Clone, Copy, Debug, PartialEq, Eq)]
-pub enum Listing {
+pub enum Asked {
     /// The transactions that no pack has gone over, the newest first.
     UndoLog,
     /// The changes of an object, the newest first.
     History {
+        /// The object.
+        oid: Oid,
+    },
+    /// The last state of an object.
+    Show {
+        /// The object.
+        oid: Oid,
+    },
+    /// The digest of an object's last record.
+    Digest {
         /// The object.
         oid: Oid,
     },
@@ -22,8 +34,8 @@ pub enum Listing {
 pub enum Command {
     /// The script that the source has is to be run.
     Run,
-    /// A list of what stands in the file is to be written.
-    List(Listing),
+    /// Something is asked of the file.
+    Ask(Asked),
 }
 
 /// Whether a word is a path: it isn't empty and doesn't begin with a dash.
@@ -44,21 +56,34 @@ fn word_command(word: &str) -> Option<Command>
         return Some(Command::Run);
     }
     if word == "undolog" {
-        return Some(Command::List(Listing::UndoLog));
+        return Some(Command::Ask(Asked::UndoLog));
+    }
+    None
+}
+
+/// What a word asks of an object.
+fn object_command(word: &str, oid: Oid) -> Option<Command>
+    ensures { result ≡ object_command word.now oid }
+{
+    if word == "history" {
+        return Some(Command::Ask(Asked::History { oid }));
+    }
+    if word == "show" {
+        return Some(Command::Ask(Asked::Show { oid }));
+    }
+    if word == "digest" {
+        return Some(Command::Ask(Asked::Digest { oid }));
     }
     None
 }
 
 /// What two words ask that stand behind the path.
-#[tactic(auto, using(crate::proofs::Digits::digits_read))]
-fn history_command(word: &str, digits: &str) -> Option<Command>
-    ensures { result ≡ history_command word.now digits.now }
+#[tactic(auto, using(crate::proofs::Digits::digits_read, crate::proofs::Digits::no_digits))]
+fn two_words(word: &str, digits: &str) -> Option<Command>
+    ensures { result ≡ option_and_then (object_command word.now) (number_at digits.now) }
 {
-    if word != "history" {
-        return None;
-    }
     match read_hex(digits.as_bytes()) {
-        Ok(oid) => Some(Command::List(Listing::History { oid: Oid(oid) })),
+        Ok(oid) => object_command(word, Oid(oid)),
         Err(_) => None,
     }
 }
@@ -78,7 +103,7 @@ pub(crate) fn command_of(words: &[String]) -> Option<Command>
             if !is_path(path.as_str()) {
                 return None;
             }
-            history_command(word.as_str(), digits.as_str())
+            two_words(word.as_str(), digits.as_str())
         }
         _ => None,
     }

@@ -4,9 +4,9 @@ ghost use Rattle.std.specs.Prelude.{◌≡◌, ◌≤◌, IfOk, OnErr, OnOk};
 ghost use Rattle.std.specs.Io.KnownBytes.{Appends};
 ghost use Rattle.zb_base.specs.Counts.{Rose};
 ghost use Rattle.zb_outside.specs.Written.{AppendsPrefix};
-ghost use Rattle.zodb_top.specs.Program.{IsWritten};
-ghost use Rattle.zodb_top.specs.Texts.{cut_lines, damage_line, joined};
+ghost use Rattle.zodb_top.specs.Texts.{bad_line, cut_lines, damage_line, joined, limit_line};
 ghost use Rattle.zodb_top.specs.Unopened.{SaysUnopened};
+ghost use Rattle.zodb_top.specs.Written.{IsWritten};
 
 use crate::status::Status;
 use fs_records::Field;
@@ -15,6 +15,7 @@ use itoa::Buffer;
 use std::alloc::{AllocError, Global};
 use zb_ids::{ListOf, Text8};
 use zb_outside::{Failed, Sink, write_all};
+use zb_script::Limit;
 
 /// Writes the line that tells of an ending, and answers its status. A sink that fails then has some
 /// prefix of the line, and changes nothing of the status.
@@ -65,6 +66,30 @@ pub(crate) fn cut_lines(alloc: Global, cut: Option<u64>) -> Result<ListOf<Text8>
         lines.push(Text8::from_vec(text))?;
     }
     Ok(lines)
+}
+
+/// The line that names a bad line.
+pub(crate) fn bad_line_text(alloc: Global, number: u64) -> Result<Vec<u8>, AllocError>
+    ensures { IfOk result (λ text. text.items ≡ bad_line number) }
+{
+    let mut text = Vec::from_slice(alloc, b"bad line ")?;
+    let mut buffer = Buffer::new();
+    text.extend_from_slice(buffer.format(number).as_bytes())?;
+    text.push(b'\n')?;
+    Ok(text)
+}
+
+/// The line that names a limit that is passed.
+pub(crate) fn limit_text(alloc: Global, limit: Limit) -> Result<Vec<u8>, AllocError>
+    ensures { IfOk result (λ text. text.items ≡ limit_line limit) }
+{
+    let mut text = Vec::from_slice(alloc, b"limit ")?;
+    text.extend_from_slice(limit.name())?;
+    text.push(b' ')?;
+    let mut buffer = Buffer::new();
+    text.extend_from_slice(buffer.format(limit.count()).as_bytes())?;
+    text.push(b'\n')?;
+    Ok(text)
 }
 
 /// The line that names the rule that fails, and where.

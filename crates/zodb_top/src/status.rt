@@ -1,5 +1,8 @@
 //! How the program ends.
 
+ghost use Rattle.std.specs.Prelude.{◌≡◌};
+ghost use Rattle.zodb_top.specs.Numbers.{number_of};
+
 /// How the program ends. Each has the number that is its exit status.
 #[derive(Clone, Copy, Debug, PartialEq, Eq)]
 pub enum Status {
@@ -13,12 +16,21 @@ pub enum Status {
     SourceFault = 3,
     /// A line could not be written: the sink's count of faults rose.
     SinkFault = 4,
-    /// A call of the volume failed, while the file was opened or in a turn: a count of its faults rose.
+    /// A call of the volume failed: any, while the file was opened, or in a turn one that would change it.
     StoreFault = 5,
     /// The file is damaged.
     Damaged = 6,
     /// A line is none, or can't stand in its place.
     BadLine = 8,
-    /// The script is too long.
+    /// The script passes a limit.
     Limit = 9,
+}
+
+impl Status {
+    /// The exit status.
+    pub fn number(self) -> u8
+        ensures { result ≡ number_of self }
+    {
+        self as u8
+    }
 }

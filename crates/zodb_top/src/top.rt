@@ -1,26 +1,30 @@
 //! The top call.
 
-ghost use Rattle.std.specs.Prelude.{◌≡◌, ◌≢◌, ◌<◌, ◌≤◌, ◌+◌, ◌⊎◌, ◌↔◌, ℕ, List, [], Option, Some, None, map, length, string_bytes, IfSome, IsTrue};
+ghost use Rattle.std.specs.Prelude.{◌≡◌, ◌≤◌, ◌+◌, ◌↔◌, ℕ, List, Option, Some, None, map, length, string_bytes, IfSome, IsTrue};
 ghost use Rattle.std.specs.Io.KnownBytes.{Consumes, IsAtEnd};
-ghost use Rattle.file_store.specs.Opening.{IsMade};
 ghost use Rattle.fs_records.specs.File.{StandsFor};
 ghost use Rattle.fs_recovery.specs.Opens.{IsNoList};
-ghost use Rattle.zb_model.specs.declared.data.Transaction.{Transaction};
 ghost use Rattle.zb_base.specs.Counts.{Rose};
+ghost use Rattle.zb_model.specs.declared.data.Transaction.{Transaction};
+ghost use Rattle.zb_script.specs.declared.limits.Limit.{Limit as WhichLimit};
 ghost use Rattle.zb_script.specs.declared.line.Turn.{Turn};
+ghost use Rattle.zb_script.specs.Limits.{first_limit};
 ghost use Rattle.zb_script.specs.Script.{IsBadLine};
 ghost use Rattle.zb_volume.specs.declared.areas.Area.TheVariants.{Main};
 ghost use Rattle.zb_volume.specs.Disk.{seen};
-ghost use Rattle.zodb_top.specs.declared.command.Command.TheVariants.{Run};
-ghost use Rattle.zodb_top.specs.declared.command.Command.TheVariants as command;
-ghost use Rattle.zodb_top.specs.declared.command.Listing.{Listing};
-ghost use Rattle.zodb_top.specs.Listings.{ListOutcome, without_tail};
-ghost use Rattle.zodb_top.specs.Program.{IsInput, IsUnlessMemory, IsWritten, RunOutcome, is_read, most_bytes};
+ghost use Rattle.zodb_top.specs.declared.command.Asked.{Asked};
+ghost use Rattle.zodb_top.specs.declared.command.Command.TheVariants.{Run, Ask};
+ghost use Rattle.zodb_top.specs.Asked.{AskSays};
+ghost use Rattle.zodb_top.specs.Inputs.{most_bytes};
+ghost use Rattle.zodb_top.specs.Opened.{IsLeft, IsUnopened};
+ghost use Rattle.zodb_top.specs.Outside.{outside};
+ghost use Rattle.zodb_top.specs.Program.{IsInput, IsUnlessMemory, RunSays, is_read};
 ghost use Rattle.zodb_top.specs.Texts.{usage_line};
 ghost use Rattle.zodb_top.specs.Words.{command_of};
+ghost use Rattle.zodb_top.specs.Written.{IsWritten};
 
+use crate::answering::answer_file;
 use crate::command::{Command, command_of};
-use crate::listing::list_file;
 use crate::saying::say;
 use crate::script::run_source;
 use crate::status::Status;
@@ -31,34 +35,44 @@ use zb_volume::Volume;
 /// All that the program does, over what the system gives it: the words behind the program's name, a
 /// source of the script, a sink for the answers, the volume whose area Main is the file, and a
 /// clock. The volume is handed back.
-#[tactic(auto, using(crate::proofs::Complete::list_done, crate::proofs::Complete::list_damaged))]
+///
+/// `outside` is what is seen at the call and at the return: what the sink has taken, its count of faults,
+/// the clock's stamps, and of the volume its log and its counts of failed reads and of other failed calls.
 pub fn zodb_main<S: Source, K: Sink, V: Volume + Drop, C: Clock>(
     alloc: Global,
     words: &[String],
     source: &mut S,
     sink: &mut K,
-    mut volume: V,
+    volume: V,
     clock: &mut C,
 ) -> (Status, V)
     // The words decide first.
     ensures usage { (result.0 ≡ Status.Usage) ↔ (command_of (map string_bytes words.now) ≡ None) }
     ensures usage_line { command_of (map string_bytes words.now) ≡ None
         → IsWritten (K.taken sink.old) (K.taken sink.new) (K.faults sink.old) (K.faults sink.new) usage_line }
-    ensures usage_alone { command_of (map string_bytes words.now) ≡ None → V.log result.1 ≡ V.log volume }
-    ensures clock_unread { command_of (map string_bytes words.now) ≡ None → C.stamps clock.new ≡ C.stamps clock.old }
+    ensures usage_alone { command_of (map string_bytes words.now) ≡ None → IsUnopened
+        (outside (K.taken sink.old) (K.faults sink.old) (C.stamps clock.old) (V.log volume) (V.read_faults volume) (V.write_faults volume))
+        (outside (K.taken sink.new) (K.faults sink.new) (C.stamps clock.new) (V.log result.1) (V.read_faults result.1) (V.write_faults result.1)) }
 
-    // What each status of `run` says: its cause, what was written, which stamps the clock gave, and
-    // what Main stands for behind it.
+    // What each status of `run` says: its cause, how far the run came, what was written, which stamps the
+    // clock gave, and what Main stands for, as it is and whatever a crash leaves or left.
     ensures run { command_of (map string_bytes words.now) ≡ Some Run
-        → RunOutcome result.0 V.told (Rose (S.faults source.old) (S.faults source.new)) (S.left source.old)
-        (record { taken = K.taken sink.old; sink_faults = K.faults sink.old; stamps = C.stamps clock.old; log = V.log volume; read_faults = V.read_faults volume; write_faults = V.write_faults volume })
-        (record { taken = K.taken sink.new; sink_faults = K.faults sink.new; stamps = C.stamps clock.new; log = V.log result.1; read_faults = V.read_faults result.1; write_faults = V.write_faults result.1 }) }
+        → RunSays result.0 V.told (Rose (S.faults source.old) (S.faults source.new)) (S.left source.old)
+        (outside (K.taken sink.old) (K.faults sink.old) (C.stamps clock.old) (V.log volume) (V.read_faults volume) (V.write_faults volume))
+        (outside (K.taken sink.new) (K.faults sink.new) (C.stamps clock.new) (V.log result.1) (V.read_faults result.1) (V.write_faults result.1)) }
 
-    // What each status of a list says: its cause, and what was written.
-    ensures list { (asked : Listing) → command_of (map string_bytes words.now) ≡ Some (command.List asked)
-        → ListOutcome result.0 asked V.told
-        (record { taken = K.taken sink.old; sink_faults = K.faults sink.old; stamps = C.stamps clock.old; log = V.log volume; read_faults = V.read_faults volume; write_faults = V.write_faults volume })
-        (record { taken = K.taken sink.new; sink_faults = K.faults sink.new; stamps = C.stamps clock.new; log = V.log result.1; read_faults = V.read_faults result.1; write_faults = V.write_faults result.1 }) }
+    // What each status of the other commands says.
+    ensures asked { (asked : Asked) → command_of (map string_bytes words.now) ≡ Some (Ask asked) → AskSays result.0 asked V.told
+        (outside (K.taken sink.old) (K.faults sink.old) (C.stamps clock.old) (V.log volume) (V.read_faults volume) (V.write_faults volume))
+        (outside (K.taken sink.new) (K.faults sink.new) (C.stamps clock.new) (V.log result.1) (V.read_faults result.1) (V.write_faults result.1)) }
+
+    // They leave the list as it was, at every moment and whatever their status.
+    ensures left { (asked : Asked) → command_of (map string_bytes words.now) ≡ Some (Ask asked) → V.told → IsLeft V.told
+        (outside (K.taken sink.old) (K.faults sink.old) (C.stamps clock.old) (V.log volume) (V.read_faults volume) (V.write_faults volume))
+        (outside (K.taken sink.new) (K.faults sink.new) (C.stamps clock.new) (V.log result.1) (V.read_faults result.1) (V.write_faults result.1)) }
+
+    // A file that is damaged is left as it was, whatever is asked.
+    ensures harmed { V.told → IsNoList (seen (V.log volume) Main) → V.log result.1 ≡ V.log volume }
 
     // A script is read to its end, and at most to the first byte past its limit; nothing else is read.
     ensures at_end { command_of (map string_bytes words.now) ≡ Some Run → IsTrue (is_read result.0) → IsAtEnd (S.left source.new) }
@@ -74,32 +88,18 @@ pub fn zodb_main<S: Source, K: Sink, V: Volume + Drop, C: Clock>(
         → IfSome (S.left source.old) (λ input. (turns : List Turn) → IsInput input turns → IsNoList (seen (V.log volume) Main)
         → ¬ Rose (S.faults source.old) (S.faults source.new)
         → ¬ Rose (V.read_faults volume) (V.read_faults result.1) → ¬ Rose (V.write_faults volume) (V.write_faults result.1) → IsUnlessMemory result.0 Status.Damaged) }
-    ensures bad_line { command_of (map string_bytes words.now) ≡ Some Run → IfSome (S.left source.old) (λ input. (n : ℕ) → length input ≤ most_bytes → IsBadLine input n
+    ensures bad_line { command_of (map string_bytes words.now) ≡ Some Run → IfSome (S.left source.old) (λ input. (n : ℕ) → first_limit input ≡ None → IsBadLine input n
         → ¬ Rose (S.faults source.old) (S.faults source.new) → IsUnlessMemory result.0 Status.BadLine) }
-    ensures limit { command_of (map string_bytes words.now) ≡ Some Run → IfSome (S.left source.old) (λ input. most_bytes < length input
+    ensures limit { command_of (map string_bytes words.now) ≡ Some Run → IfSome (S.left source.old) (λ input. (l : WhichLimit) → first_limit input ≡ Some l
         → ¬ Rose (S.faults source.old) (S.faults source.new) → IsUnlessMemory result.0 Status.Limit) }
 
-    // Each file has its status for a list, where no call failed, unless memory runs out.
-    ensures listed { (asked : Listing) → command_of (map string_bytes words.now) ≡ Some (command.List asked) → V.told
+    // And so has each of the other commands.
+    ensures listed { (asked : Asked) → command_of (map string_bytes words.now) ≡ Some (Ask asked) → V.told
         → ¬ Rose (V.read_faults volume) (V.read_faults result.1) → ¬ Rose (V.write_faults volume) (V.write_faults result.1) → ¬ Rose (K.faults sink.old) (K.faults sink.new)
         → (list : List Transaction) (cut : Option ℕ) → StandsFor (seen (V.log volume) Main) list cut → IsUnlessMemory result.0 Status.Done }
-    ensures damaged { (asked : Listing) → command_of (map string_bytes words.now) ≡ Some (command.List asked) → V.told
+    ensures damaged { (asked : Asked) → command_of (map string_bytes words.now) ≡ Some (Ask asked) → V.told
         → ¬ Rose (V.read_faults volume) (V.read_faults result.1) → ¬ Rose (V.write_faults volume) (V.write_faults result.1)
         → IsNoList (seen (V.log volume) Main) → IsUnlessMemory result.0 Status.Damaged }
-
-    // A file that is damaged is left as it was.
-    ensures harmed { V.told → IsNoList (seen (V.log volume) Main) → V.log result.1 ≡ V.log volume }
-
-    // A list leaves a file that isn't empty as it was or without its tail, and without it once the list
-    // is written; where Main was empty the file of a new database is then there.
-    ensures left { (asked : Listing) → command_of (map string_bytes words.now) ≡ Some (command.List asked) → V.told → (result.0 ≡ Status.StoreFault → ⊥) → seen (V.log volume) Main ≢ []
-        → (list : List Transaction) (cut : Option ℕ) → StandsFor (seen (V.log volume) Main) list cut
-        → (seen (V.log result.1) Main ≡ seen (V.log volume) Main) ⊎ (seen (V.log result.1) Main ≡ without_tail cut (seen (V.log volume) Main)) }
-    ensures kept { (asked : Listing) → command_of (map string_bytes words.now) ≡ Some (command.List asked) → V.told → result.0 ≡ Status.Done → seen (V.log volume) Main ≢ []
-        → (list : List Transaction) (cut : Option ℕ) → StandsFor (seen (V.log volume) Main) list cut
-        → seen (V.log result.1) Main ≡ without_tail cut (seen (V.log volume) Main) }
-    ensures made { (asked : Listing) → command_of (map string_bytes words.now) ≡ Some (command.List asked) → V.told → result.0 ≡ Status.Done → seen (V.log volume) Main ≡ []
-        → (list : List Transaction) × IsMade (C.stamps clock.old) list None × StandsFor (seen (V.log result.1) Main) list None }
 
     // The counts of faults never fall.
     ensures source_counted { S.faults source.old ≤ S.faults source.new }
@@ -112,9 +112,6 @@ pub fn zodb_main<S: Source, K: Sink, V: Volume + Drop, C: Clock>(
     };
     match command {
         Command::Run => run_source(alloc, source, sink, volume, clock),
-        Command::List(asked) => {
-            let status = list_file(alloc, asked, sink, &mut volume, clock);
-            (status, volume)
-        }
+        Command::Ask(asked) => answer_file(alloc, asked, sink, volume, clock),
     }
 }

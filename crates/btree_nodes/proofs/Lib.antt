@@ -1,0 +1,11 @@
+pub mod Entries
+pub mod Goings
+pub mod Walks
+pub mod Spans
+pub mod Reversed
+pub mod Calls
+pub mod Orders
+pub mod Mappings
+pub mod Reaching
+pub mod Looking
+pub mod Visiting

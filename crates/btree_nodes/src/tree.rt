@@ -1,0 +1,189 @@
+//! Trees.
+
+ghost use Rattle.std.specs.Prelude.{◌≡◌, ℕ, suc, ◌++◌, true, List, Ok, IfOk};
+ghost use Rattle.btree_family.specs.declared.bucket.Item.{Item};
+ghost use Rattle.btree_family.specs.Keys.{rank_of};
+ghost use Rattle.btree_nodes.specs.declared.span.Span.TheVariants.{Within};
+ghost use Rattle.btree_nodes.specs.Spaces.{handed_on};
+ghost use Rattle.btree_nodes.specs.Nodes.{class_held, objects_of, items_in, value_in};
+ghost use Rattle.btree_nodes.specs.Ways.{Answers, OnlyReads, TookReads, family_key, key_way, value_under, reads_of};
+ghost use Rattle.btree_nodes.specs.Visits.{items_under, range_under, items_within};
+ghost use Rattle.btree_nodes.specs.Shapes.{Shape, IsSound, IsTree, nodes_in};
+
+use crate::error::TreeError;
+use crate::node::{Node, value_in};
+use crate::reading::read_root;
+use crate::space::Space;
+use crate::span::Span;
+use crate::walk::walk_all;
+use crate::way::{Found, follow_root};
+use btree_family::{Item, Key, key_fits};
+use std::alloc::{AllocError, Global};
+use zb_ids::{ListOf, Oid, Text8};
+
+/// A tree of the BTrees package, by its root: a BTree or a TreeSet, or a bucket or a set that stands alone. A leaf
+/// has at most LEAF items, and an object with others below it at most INNER of these, where the tree splits them
+/// itself; LEAF is 2 or more, and INNER 3 or more.
+///
+/// Calls go by these ways on every tree, sound or not: from each object to the last child whose separator isn't
+/// above the key, or else to the first child. At each object the first of these refusals decides: `NodeMissing`,
+/// where the space has no content for it; `NotATree`, where it has no state of its kind, or stands twice on one way
+/// down; `BadKey`, where the key isn't of the family, or not of the kind of the object's keys.
+#[derive(Clone, Copy, Debug, PartialEq, Eq)]
+pub struct Tree<const LEAF: usize, const INNER: usize> {
+    /// The root's number.
+    pub root: Oid,
+}
+
+/// The value that a node has under a key.
+fn value_of(alloc: Global, node: &Node, key: &Key) -> Result<Option<Text8>, AllocError>
+    ensures { IfOk result (λ value. value ≡ value_in (items_in node.now) key.now) }
+{
+    match node {
+        Node::Lone(bucket) => value_in(alloc, bucket.items().as_slice(), key),
+        Node::Leaf(bucket) => value_in(alloc, bucket.items().as_slice(), key),
+        Node::Inner(_) => Ok(None),
+    }
+}
+
+impl<const LEAF: usize, const INNER: usize> Tree<LEAF, INNER> {
+    /// The object in which a key is to be looked up.
+    #[tactic(auto, using(crate::proofs::Goings::way_is_call, crate::proofs::Goings::root_unread))]
+    fn find<S: Space>(&self, alloc: Global, space: &mut S, key: &Key) -> Result<Found, TreeError>
+        ensures answer { Answers result (key_way (S.contents space.old) self.now.root key.now) }
+        ensures log { IfOk result (λ found. S.told → S.log space.new ≡ S.log space.old ++ reads_of (Ok found)) }
+        ensures only { S.told → OnlyReads (S.log space.old) (S.log space.new) }
+        ensures contents { S.contents space.new ≡ S.contents space.old }
+        ensures refusals { S.told → S.refusals space.new ≡ S.refusals space.old ++ handed_on result }
+    {
+        let (tree, entry) = read_root(alloc, space, self.root)?;
+        let fits = key_fits(tree.row.key, key);
+        follow_root(alloc, space, &tree, fits, key, entry)
+    }
+
+    /// What stands under a key, by its way.
+    #[tactic(auto, using(crate::proofs::Goings::value_of_way, crate::proofs::Goings::refusal_of_way, crate::proofs::Goings::reads_found))]
+    fn look_up<S: Space>(
+        &self,
+        alloc: Global,
+        space: &mut S,
+        key: &Key,
+    ) -> Result<Option<Text8>, TreeError>
+        ensures answer { Answers result (value_under (S.contents space.old) self.now.root key.now) }
+        ensures log { IfOk result (λ value. S.told
+            → S.log space.new ≡ S.log space.old ++ reads_of (key_way (S.contents space.old) self.now.root key.now)) }
+        ensures only { S.told → OnlyReads (S.log space.old) (S.log space.new) }
+        ensures contents { S.contents space.new ≡ S.contents space.old }
+        ensures refusals { S.told → S.refusals space.new ≡ S.refusals space.old ++ handed_on result }
+    {
+        let found = self.find(alloc, space, key)?;
+        let value = value_of(alloc, &found.node, key)?;
+        Ok(value)
+    }
+
+    /// What stands under a key: the spelling of its value, in a set that of True. It is `None` where the key is
+    /// absent.
+    ///
+    /// The objects on the way are each read once, from the root on.
+    #[tactic(auto, using(crate::proofs::Looking::gets_in_tree))]
+    pub fn get<S: Space>(
+        &self,
+        alloc: Global,
+        space: &mut S,
+        key: &Key,
+    ) -> Result<Option<Text8>, TreeError>
+        ensures answer { Answers result (value_under (S.contents space.old) self.now.root key.now) }
+        ensures sound { (kind : ℕ) (mapping : List Item)
+            → IsTree (objects_of (S.contents space.old) self.now.root) self.now.root kind mapping
+            → rank_of key.now ≡ kind → family_key (class_held (S.contents space.old self.now.root)) key.now ≡ true
+            → Answers result (Ok (value_in mapping key.now)) }
+        ensures log { IfOk result (λ value. S.told
+            → S.log space.new ≡ S.log space.old ++ reads_of (key_way (S.contents space.old) self.now.root key.now)) }
+        ensures cost { (kind h : ℕ) (s : Shape h)
+            → IsSound (nodes_in (objects_of (S.contents space.old) self.now.root)) self.now.root kind h s
+            → rank_of key.now ≡ kind → family_key (class_held (S.contents space.old self.now.root)) key.now ≡ true
+            → S.told → IfOk result (λ value. TookReads (suc h) (S.log space.old) (S.log space.new)) }
+        ensures only { S.told → OnlyReads (S.log space.old) (S.log space.new) }
+        ensures contents { S.contents space.new ≡ S.contents space.old }
+        ensures refusals { S.told → S.refusals space.new ≡ S.refusals space.old ++ handed_on result }
+    {
+        self.look_up(alloc, space, key)
+    }
+
+    /// All items, by a walk.
+    #[tactic(auto, using(crate::proofs::Calls::items_unread, crate::proofs::Walks::only_read, crate::proofs::Walks::only_more))]
+    fn all_items<S: Space>(&self, alloc: Global, space: &mut S) -> Result<ListOf<Item>, TreeError>
+        ensures answer { Answers result (items_under (S.contents space.old) self.now.root) }
+        ensures contents { S.contents space.new ≡ S.contents space.old }
+        ensures only { S.told → OnlyReads (S.log space.old) (S.log space.new) }
+        ensures refusals { S.told → S.refusals space.new ≡ S.refusals space.old ++ handed_on result }
+    {
+        let (tree, entry) = read_root(alloc, space, self.root)?;
+        walk_all(alloc, space, &tree, true, &Span::All, entry)
+    }
+
+    /// The items from one key to another, by a walk.
+    #[tactic(auto, using(crate::proofs::Calls::range_unread, crate::proofs::Calls::range_walk, crate::proofs::Walks::only_none, crate::proofs::Walks::only_read, crate::proofs::Walks::only_more))]
+    fn items_between<S: Space>(
+        &self,
+        alloc: Global,
+        space: &mut S,
+        from: &Key,
+        to: &Key,
+    ) -> Result<ListOf<Item>, TreeError>
+        ensures answer { Answers result (range_under (S.contents space.old) self.now.root from.now to.now) }
+        ensures contents { S.contents space.new ≡ S.contents space.old }
+        ensures only { S.told → OnlyReads (S.log space.old) (S.log space.new) }
+        ensures refusals { S.told → S.refusals space.new ≡ S.refusals space.old ++ handed_on result }
+    {
+        let low = from.clone()?;
+        let high = to.clone()?;
+        let (tree, entry) = read_root(alloc, space, self.root)?;
+        let fits = key_fits(tree.row.key, from) && key_fits(tree.row.key, to);
+        walk_all(
+            alloc,
+            space,
+            &tree,
+            fits,
+            &Span::Within { low, high },
+            entry,
+        )
+    }
+
+    /// All items, in the order of their keys where the tree is sound.
+    #[tactic(auto, using(crate::proofs::Visiting::items_of_tree))]
+    pub fn items<S: Space>(&self, alloc: Global, space: &mut S) -> Result<ListOf<Item>, TreeError>
+        ensures answer { Answers result (items_under (S.contents space.old) self.now.root) }
+        ensures sound { (kind : ℕ) (mapping : List Item)
+            → IsTree (objects_of (S.contents space.old) self.now.root) self.now.root kind mapping
+            → Answers result (Ok mapping) }
+        ensures contents { S.contents space.new ≡ S.contents space.old }
+        ensures only { S.told → OnlyReads (S.log space.old) (S.log space.new) }
+        ensures refusals { S.told → S.refusals space.new ≡ S.refusals space.old ++ handed_on result }
+    {
+        self.all_items(alloc, space)
+    }
+
+    /// The items from one key to another, both included.
+    #[tactic(auto, using(crate::proofs::Visiting::range_of_tree))]
+    pub fn range<S: Space>(
+        &self,
+        alloc: Global,
+        space: &mut S,
+        from: &Key,
+        to: &Key,
+    ) -> Result<ListOf<Item>, TreeError>
+        ensures answer { Answers result (range_under (S.contents space.old) self.now.root from.now to.now) }
+        ensures sound { (kind : ℕ) (mapping : List Item)
+            → IsTree (objects_of (S.contents space.old) self.now.root) self.now.root kind mapping
+            → rank_of from.now ≡ kind → rank_of to.now ≡ kind
+            → family_key (class_held (S.contents space.old self.now.root)) from.now ≡ true
+            → family_key (class_held (S.contents space.old self.now.root)) to.now ≡ true
+            → Answers result (Ok (items_within (Within from.now to.now) mapping)) }
+        ensures contents { S.contents space.new ≡ S.contents space.old }
+        ensures only { S.told → OnlyReads (S.log space.old) (S.log space.new) }
+        ensures refusals { S.told → S.refusals space.new ≡ S.refusals space.old ++ handed_on result }
+    {
+        self.items_between(alloc, space, from, to)
+    }
+}

@@ -1,0 +1,333 @@
+-- A read answers the revision below its view's front.
+use Rattle.std.proofs.Common.{◌≡◌, ℕ, ◌+◌, ◌-◌, ◌^◌, ◌<◌, Bool, true, false, List, [], ◌∷◌, ◌++◌, filter, length, Option, Some, None, Result, Ok, Err, cond, ltb, refl, sym, ap, subst, ◌∙◌, arith, nat_lt, if◌then◌else◌}
+use Rattle.std.specs.List.{last_or}
+use Rattle.std.specs.Option.{option_and_then}
+use Rattle.std.specs.Prelude.{IfSome, slice_get}
+use Rattle.std.proofs.lemmas.Bool.{ltb-true}
+use Rattle.std.proofs.lemmas.Option.{same_Some}
+use Rattle.zb_ids.specs.Tids.{tid_after}
+use Rattle.zb_model.specs.declared.data.Change.{Change}
+use Rattle.zb_model.specs.declared.data.Content.{Content}
+use Rattle.zb_model.specs.declared.data.Content.TheVariants.{Absent, Held}
+use Rattle.zb_model.specs.declared.data.Transaction.{Transaction}
+use Rattle.zb_model.specs.declared.pending.PendingStore.{PendingStore}
+use Rattle.zb_model.specs.declared.refusal.Refusal.{Refusal}
+use Rattle.zb_model.specs.declared.refusal.Refusal.TheVariants as refusal
+use Rattle.zb_model.specs.Database.{ObjectRevision, is_below, newest_tid, revision_below, revisions}
+use Rattle.zb_script.specs.declared.answer.Answer.{Answer}
+use Rattle.zb_script.specs.declared.answer.Answer.TheVariants as answer
+use Rattle.zb_script.specs.declared.line.Line.{Line}
+use Rattle.zb_script.specs.declared.line.Line.TheVariants as line
+use Rattle.zb_script.specs.declared.line.Turn.{Turn}
+use Rattle.commit_phases.specs.Decision.{vote_decision}
+use Rattle.commit_phases.specs.Pending.{excess_with, pending_of}
+use Rattle.zodb_core.specs.declared.reply.Reply.{Reply}
+use Rattle.zodb_core.specs.declared.reply.Reply.TheVariants as reply
+use Rattle.zodb_core.specs.declared.request.Request.{Request}
+use Rattle.zodb_core.specs.declared.request.Request.TheVariants as request
+use Rattle.zodb_core.specs.declared.texts.Texts.{Texts}
+use Rattle.zodb_core.specs.Machine.{Machine, MachineVote, Rules, with_session}
+use Rattle.zodb_core.specs.Outcomes.{EndsFor, FaultCounts, outcome_of}
+use Rattle.zodb_core.specs.Steps.{Stepped, changes_in_journal, early_refusal, finish_gives, finish_step, journal_limit, replied_refusal, request_step, step_of, transaction_with, unless_early, vote_at, vote_counted, vote_step, with_vote}
+use Rattle.client_turns.specs.declared.client.Changes.{Changes}
+use Rattle.client_turns.specs.declared.got.Got.{Got}
+use Rattle.client_turns.specs.Clients.{Client, Moment, OpenTransaction, changes_of, place_of_client}
+use Rattle.client_turns.specs.Laws.{IsReadBelow, ReadsStayBelowTheFront}
+use Rattle.client_turns.specs.Lines.{answer_of, data_of, object_of, pending_in, put, request_of, store_unless}
+use Rattle.client_turns.specs.Reads.{EndsReading, got_as, got_of}
+use Rattle.client_turns.specs.Refusing.{connection_refusal}
+use Rattle.client_turns.specs.TurnLaws.{by_name}
+use Rattle.client_turns.specs.Turns.{IsGet, IsLineOf, IsLineTaken, IsLineUnless, IsOpening, IsOwnLine, IsPut, IsStepLine, IsWithin, Opening}
+use Rattle.client_turns.specs.Views.{View}
+
+-- ---- no line's request loads
+
+abbrev pub is_loaded : Reply → Bool
+is_loaded (reply.Loaded serial bytes end upto) = true
+is_loaded (reply.Nothing oid switches) = true
+is_loaded _ = false
+
+abbrev Unread : Stepped → Type 0
+Unread s = is_loaded s.reply ≡ false
+
+at_unread : (m : Machine) (n : ℕ) (texts : Texts) (changes : List Change) (tid : ℕ) → Unread (vote_at m n texts changes tid)
+at_unread m n texts changes tid = by_cases (nat_lt tid (2 ^ 64 - 1))
+  where
+    by_cases : (b : Bool) → Unread (cond b (record { reply = reply.Voted; machine = with_vote m n (Some (transaction_with tid texts changes)); ticks = true }) (record { reply = reply.Refused refusal.TidsSpent; machine = m; ticks = true }))
+    by_cases true = refl
+    by_cases false = refl
+
+counted_unread : (m : Machine) (n : ℕ) (texts : Texts) (changes : List Change) (stamp count : ℕ) → Unread (vote_counted m n texts changes stamp count)
+counted_unread m n texts changes stamp count = by_cases (nat_lt journal_limit count) (at_unread m n texts changes (tid_after (newest_tid m.list) stamp))
+  where
+    by_cases : (b : Bool) → Unread (vote_at m n texts changes (tid_after (newest_tid m.list) stamp))
+        → Unread (cond b (replied_refusal m (refusal.JournalFull count)) (vote_at m n texts changes (tid_after (newest_tid m.list) stamp)))
+    by_cases true rest = refl
+    by_cases false rest = rest
+
+vote_unread : (m : Machine) (n : ℕ) (texts : Texts) (stamp : ℕ) (decided : Result (List Change) Refusal) → Unread (vote_step m n texts stamp decided)
+vote_unread m n texts stamp (Err r) = refl
+vote_unread m n texts stamp (Ok []) = refl
+vote_unread m n texts stamp (Ok (c ∷ changes)) = counted_unread m n texts (c ∷ changes) stamp (changes_in_journal m.journal + length (c ∷ changes))
+
+finish_unread : (m : Machine) (n : ℕ) (vote : Option MachineVote) → Unread (finish_step m n vote)
+finish_unread m n None = refl
+finish_unread m n (Some v) = by_writes v.writes
+  where
+    by_writes : (w : Option Transaction) → Unread (finish_gives m n w)
+    by_writes None = refl
+    by_writes (Some t) = refl
+
+abbrev pub AsksNoLoad : Request → Type 0
+AsksNoLoad (request.LoadBefore oid front) = ⊥
+AsksNoLoad _ = Unit {0}
+
+request_unread : (rules : Rules) (m : Machine) (n : ℕ) (q : Request) (stamp : ℕ) → AsksNoLoad q → Unread (request_step rules m n q stamp)
+request_unread rules m n request.Front stamp not = refl
+request_unread rules m n (request.LoadBefore oid front) stamp not = absurd not
+request_unread rules m n (request.NewOids count) stamp not = refl
+request_unread rules m n (request.Vote user description extension pending) stamp not =
+    vote_unread m n (record { user = user; description = description; extension = extension }) stamp (vote_decision rules.merging m.list pending)
+request_unread rules m n (request.Undo user description tids) stamp not =
+    vote_unread m n (record { user = user; description = description; extension = [] }) stamp _
+request_unread rules m n request.Finish stamp not = finish_unread m n m.vote
+request_unread rules m n request.Abort stamp not = refl
+request_unread rules m n (request.History oid) stamp not = refl
+request_unread rules m n request.UndoLog stamp not = refl
+request_unread rules m n request.Close stamp not = refl
+
+unless_unread : (early : Option Refusal) (m : Machine) (made : Stepped) → Unread made → Unread (unless_early early m made)
+unless_unread None m made unread = unread
+unless_unread (Some r) m made unread = refl
+
+pub step_unread : (rules : Rules) (m : Machine) (n : ℕ) (q : Request) (stamp : ℕ) → AsksNoLoad q → Unread (step_of rules m n q stamp)
+step_unread rules m n q stamp not = unless_unread (early_refusal m n q) m (request_step rules m n q stamp) (request_unread rules m n q stamp not)
+
+-- ---- data
+
+abbrev is_data : Answer → Bool
+is_data (answer.Data serial bytes) = true
+is_data _ = false
+
+reply_data : (rules : Rules) (m : Machine) (n : ℕ) (q : Request) (stamp : ℕ) (r : Reply) (left : Machine) (ticks : Bool) (a b : FaultCounts) → AsksNoLoad q
+    → EndsFor rules m n q stamp (record { reply = r; machine = left; ticks = ticks }) a b (outcome_of r) → is_data (answer_of r) ≡ false
+reply_data rules m n q stamp (reply.Loaded serial bytes end upto) left ticks a b not made =
+    ap (λ (s : Stepped). is_loaded s.reply) made ∙ step_unread rules m n q stamp not
+reply_data rules m n q stamp (reply.Front front news switches) left ticks a b not made = refl
+reply_data rules m n q stamp (reply.Nothing oid switches) left ticks a b not made = refl
+reply_data rules m n q stamp (reply.Oids first count) left ticks a b not made = refl
+reply_data rules m n q stamp reply.Voted left ticks a b not made = refl
+reply_data rules m n q stamp (reply.Committed tid) left ticks a b not made = refl
+reply_data rules m n q stamp reply.Empty left ticks a b not made = refl
+reply_data rules m n q stamp reply.Aborted left ticks a b not made = refl
+reply_data rules m n q stamp (reply.History list) left ticks a b not made = refl
+reply_data rules m n q stamp (reply.UndoLog list) left ticks a b not made = refl
+reply_data rules m n q stamp reply.Closed left ticks a b not made = refl
+reply_data rules m n q stamp (reply.Refused why) left ticks a b not made = refl
+
+pub asks_no_load : (ch : Option Changes) (l : Line) (q : Request) → request_of ch l ≡ Some q → AsksNoLoad q
+asks_no_load ch line.Open q is = absurd cc
+asks_no_load ch line.Begin q is = subst AsksNoLoad (same_Some request.Front q is) tt
+asks_no_load ch (line.Load oid) q is = absurd cc
+asks_no_load ch (line.Get oid) q is = absurd cc
+asks_no_load ch (line.Store oid base bytes) q is = absurd cc
+asks_no_load ch (line.Put oid bytes) q is = absurd cc
+asks_no_load ch (line.Check oid serial) q is = absurd cc
+asks_no_load ch line.New q is = subst AsksNoLoad (same_Some (request.NewOids 1) q is) tt
+asks_no_load ch (line.Vote user description) q is = subst AsksNoLoad (same_Some (request.Vote user description [] (pending_in ch)) q is) tt
+asks_no_load ch (line.Undo user description tids) q is = subst AsksNoLoad (same_Some (request.Undo user description tids) q is) tt
+asks_no_load ch line.Finish q is = subst AsksNoLoad (same_Some request.Finish q is) tt
+asks_no_load ch line.Abort q is = subst AsksNoLoad (same_Some request.Abort q is) tt
+asks_no_load ch (line.History oid) q is = subst AsksNoLoad (same_Some (request.History oid) q is) tt
+asks_no_load ch line.UndoLog q is = subst AsksNoLoad (same_Some request.UndoLog q is) tt
+asks_no_load ch line.Close q is = subst AsksNoLoad (same_Some request.Close q is) tt
+
+store_data : (t : Changes) (p : PendingStore) (o : Option ℕ) → is_data (store_unless t p o).answer ≡ false
+store_data t p None = refl
+store_data t p (Some n) = refl
+
+object_data : (r : Result Got Refusal) → is_data (object_of r) ≡ false
+object_data (Ok got) = refl
+object_data (Err why) = refl
+
+get_data : (m now : Moment) (v : View) (oid : ℕ) (o : Option PendingStore) (a : Answer) → IsGet m v oid o a now → is_data a ≡ false
+get_data m now v oid None a is = ap is_data is.2 ∙ object_data is.0
+get_data m now v oid (Some p) a is = ap is_data is.0
+
+put_data : (t : Changes) (oid : ℕ) (bytes : List ℕ) (read : Result Got Refusal) → is_data (put t oid bytes read).answer ≡ false
+put_data t oid bytes (Ok got) = store_data t (record { oid = oid; base = got.serial; bytes = bytes }) (excess_with t.pending.stores (record { oid = oid; base = got.serial; bytes = bytes }))
+put_data t oid bytes (Err refusal.TidsSpent) = refl
+put_data t oid bytes (Err refusal.StoreFault) = refl
+put_data t oid bytes (Err (refusal.Conflict a0 a1 a2 a3)) = refl
+put_data t oid bytes (Err (refusal.ReadConflict a0 a1 a2)) = refl
+put_data t oid bytes (Err (refusal.TooLong a0)) = refl
+put_data t oid bytes (Err (refusal.UndoUnknown a0)) = refl
+put_data t oid bytes (Err (refusal.UndoPacked a0)) = refl
+put_data t oid bytes (Err (refusal.UndoConflict a0 a1)) = refl
+put_data t oid bytes (Err (refusal.Overtaken a0 a1)) = refl
+put_data t oid bytes (Err (refusal.Unreadable a0 a1)) = refl
+put_data t oid bytes (Err (refusal.PackedAlready a0)) = refl
+put_data t oid bytes (Err (refusal.Missing a0 false)) = store_data t (record { oid = oid; base = 0; bytes = bytes }) (excess_with t.pending.stores (record { oid = oid; base = 0; bytes = bytes }))
+put_data t oid bytes (Err (refusal.Missing a0 true)) = refl
+put_data t oid bytes (Err refusal.NoTransaction) = refl
+put_data t oid bytes (Err refusal.InTransaction) = refl
+put_data t oid bytes (Err refusal.NotVoted) = refl
+put_data t oid bytes (Err refusal.Voted) = refl
+put_data t oid bytes (Err (refusal.Busy a0)) = refl
+put_data t oid bytes (Err (refusal.PackRunning a0)) = refl
+put_data t oid bytes (Err refusal.OidsSpent) = refl
+put_data t oid bytes (Err (refusal.JournalFull a0)) = refl
+put_data t oid bytes (Err (refusal.TooManySessions a0)) = refl
+put_data t oid bytes (Err refusal.NotOpen) = refl
+put_data t oid bytes (Err (refusal.NoSavepoint a0)) = refl
+put_data t oid bytes (Err (refusal.FrameTooLong a0)) = refl
+put_data t oid bytes (Err refusal.BadMessage) = refl
+put_data t oid bytes (Err refusal.LinkFault) = refl
+put_data t oid bytes (Err refusal.Closed) = refl
+put_data t oid bytes (Err (refusal.Mixed a0)) = refl
+put_data t oid bytes (Err refusal.NoPack) = refl
+put_data t oid bytes (Err (refusal.NotATree a0)) = refl
+put_data t oid bytes (Err (refusal.NodeMissing a0)) = refl
+put_data t oid bytes (Err refusal.BadKey) = refl
+put_data t oid bytes (Err refusal.ReadFault) = refl
+put_data t oid bytes (Err (refusal.NothingToDelete a0 a1)) = refl
+put_data t oid bytes (Err (refusal.Connected a0)) = refl
+put_data t oid bytes (Err refusal.StepsSpent) = refl
+put_data t oid bytes (Err refusal.Memory) = refl
+
+putting_data : (m now : Moment) (at : ℕ) (c : Client) (t : OpenTransaction) (oid : ℕ) (bytes : List ℕ) (o : Option PendingStore) (a : Answer) → IsPut m at c t oid bytes o a now → is_data a ≡ false
+putting_data m now at c t oid bytes None a is = ap is_data is.3.0 ∙ put_data t.changes oid bytes is.0
+putting_data m now at c t oid bytes (Some p) a is =
+    ap is_data is.0 ∙ store_data t.changes (record { oid = oid; base = p.base; bytes = bytes }) (excess_with t.changes.pending.stores (record { oid = oid; base = p.base; bytes = bytes }))
+
+-- ---- the revision
+
+last_true : (front : ℕ) (d : Option ObjectRevision) (rs : List ObjectRevision) (r : ObjectRevision) → IfSome d (λ x. x.serial < front) → last_or d (filter (is_below front) rs) ≡ Some r → r.serial < front
+last_true front None [] r first is = absurd cc
+last_true front (Some x) [] r first is = omega (arith, first, ap (λ (y : ObjectRevision). y.serial) (same_Some x r is))
+last_true front d (x ∷ rs) r first is = by_cases (ltb x.serial front) refl (last_true front (Some x) rs r) (last_true front d rs r first) is
+  where
+    by_cases : (b : Bool) → ltb x.serial front ≡ b → (x.serial < front → last_or (Some x) (filter (is_below front) rs) ≡ Some r → r.serial < front) → (last_or d (filter (is_below front) rs) ≡ Some r → r.serial < front)
+        → last_or d (cond b (x ∷ filter (is_below front) rs) (filter (is_below front) rs)) ≡ Some r → r.serial < front
+    by_cases true e taken left there = taken (ltb-true x.serial front e) there
+    by_cases false e taken left there = left there
+
+-- the revision that was read, of the one that there is
+pub record IsHeldBelow (oid front : ℕ) (list : List Transaction) (serial : ℕ) (bytes : List ℕ) : Type 0 where
+  pub below : serial < front
+  pub revision : revision_below oid front list ≡ Some (record { serial = serial; content = Held bytes })
+
+got_is : (r : ObjectRevision) (c : Content) (got : Got) → r.content ≡ c → got_as r.serial c ≡ Some got → r ≡ record { serial = got.serial; content = Held got.bytes }
+got_is r Absent got content is = absurd cc
+got_is r (Held bytes) got content is =
+    let same : record { serial = r.serial; bytes = bytes } ≡ got = same_Some (record { serial = r.serial; bytes = bytes }) got is in
+    ap (λ (c : Content). record r { content = c }) content ∙ ap (λ (g : Got). record { serial = g.serial; content = Held g.bytes }) same
+
+held_is : (oid front : ℕ) (list : List Transaction) (o : Option ObjectRevision) (got : Got) → revision_below oid front list ≡ o → option_and_then got_of o ≡ Some got → IsHeldBelow oid front list got.serial got.bytes
+held_is oid front list None got there is = absurd cc
+held_is oid front list (Some r) got there is =
+    let revision : r ≡ record { serial = got.serial; content = Held got.bytes } = got_is r r.content got refl is in
+    record {
+      below = omega (arith, last_true front None (revisions oid list) r tt there, ap (λ (x : ObjectRevision). x.serial) revision);
+      revision = there ∙ ap (λ (x : ObjectRevision). Some x) revision;
+    }
+
+read_below : (m : Machine) (v : View) (oid serial : ℕ) (bytes : List ℕ) (a b : FaultCounts) (result : Result Got Refusal) → EndsReading m v oid a b result → answer.Data serial bytes ≡ data_of result → IsHeldBelow oid v.front v.list serial bytes
+read_below m v oid serial bytes a b (Err why) ends is = absurd cc
+read_below m v oid serial bytes a b (Ok got) ends is =
+    let held : IsHeldBelow oid v.front v.list got.serial got.bytes = held_is oid v.front v.list (revision_below oid v.front v.list) got refl ends in
+    let serials : serial ≡ got.serial = ap serial_in is in
+    let texts : bytes ≡ got.bytes = ap bytes_in is in
+    subst (λ (x : ℕ). IsHeldBelow oid v.front v.list x bytes) (sym serials) (subst (λ (x : List ℕ). IsHeldBelow oid v.front v.list got.serial x) (sym texts) held)
+  where
+    serial_in : Answer → ℕ
+    serial_in (answer.Data s b) = s
+    serial_in _ = 0
+
+    bytes_in : Answer → List ℕ
+    bytes_in (answer.Data s b) = b
+    bytes_in _ = []
+
+-- ---- lines
+
+-- of a line that reads in an open transaction
+pub record ReadsWithin (t : OpenTransaction) (l : Line) (serial : ℕ) (bytes : List ℕ) : Type 0 where
+  pub oid : ℕ
+  pub line : l ≡ line.Load oid
+  pub held : IsHeldBelow oid t.view.front t.view.list serial bytes
+
+not_data : (X : Type 0) (a : Answer) → is_data a ≡ true → is_data a ≡ false → X
+not_data X a is not = absurd cc
+
+within_reads : (m now : Moment) (at : ℕ) (c : Client) (t : OpenTransaction) (l : Line) (serial : ℕ) (bytes : List ℕ) → IsWithin m at c t l (answer.Data serial bytes) now → ReadsWithin t l serial bytes
+within_reads m now at c t (line.Load oid) serial bytes is =
+    record { oid = oid; line = refl; held = read_below m.machine t.view oid serial bytes m.counts now.counts is.0 is.1.ends is.2 }
+within_reads m now at c t (line.Get oid) serial bytes is =
+    not_data (ReadsWithin t (line.Get oid) serial bytes) (answer.Data serial bytes) refl (get_data m now t.view oid (pending_of t.changes.pending.stores oid) (answer.Data serial bytes) is)
+within_reads m now at c t (line.Store oid base new) serial bytes is =
+    not_data (ReadsWithin t (line.Store oid base new) serial bytes) (answer.Data serial bytes) refl
+    (ap is_data is.0 ∙ store_data t.changes (record { oid = oid; base = base; bytes = new }) (excess_with t.changes.pending.stores (record { oid = oid; base = base; bytes = new })))
+within_reads m now at c t (line.Put oid new) serial bytes is =
+    not_data (ReadsWithin t (line.Put oid new) serial bytes) (answer.Data serial bytes) refl (putting_data m now at c t oid new (pending_of t.changes.pending.stores oid) (answer.Data serial bytes) is)
+within_reads m now at c t (line.Check oid seen) serial bytes is = not_data (ReadsWithin t (line.Check oid seen) serial bytes) (answer.Data serial bytes) refl (ap is_data is.0)
+within_reads m now at c t line.Open serial bytes is = not_data (ReadsWithin t line.Open serial bytes) (answer.Data serial bytes) refl (ap is_data is.0)
+within_reads m now at c t line.Begin serial bytes is = not_data (ReadsWithin t line.Begin serial bytes) (answer.Data serial bytes) refl (ap is_data is.0)
+within_reads m now at c t line.New serial bytes is = not_data (ReadsWithin t line.New serial bytes) (answer.Data serial bytes) refl (ap is_data is.0)
+within_reads m now at c t (line.Vote user description) serial bytes is = not_data (ReadsWithin t (line.Vote user description) serial bytes) (answer.Data serial bytes) refl (ap is_data is.0)
+within_reads m now at c t (line.Undo user description tids) serial bytes is = not_data (ReadsWithin t (line.Undo user description tids) serial bytes) (answer.Data serial bytes) refl (ap is_data is.0)
+within_reads m now at c t line.Finish serial bytes is = not_data (ReadsWithin t line.Finish serial bytes) (answer.Data serial bytes) refl (ap is_data is.0)
+within_reads m now at c t line.Abort serial bytes is = not_data (ReadsWithin t line.Abort serial bytes) (answer.Data serial bytes) refl (ap is_data is.0)
+within_reads m now at c t (line.History oid) serial bytes is = not_data (ReadsWithin t (line.History oid) serial bytes) (answer.Data serial bytes) refl (ap is_data is.0)
+within_reads m now at c t line.UndoLog serial bytes is = not_data (ReadsWithin t line.UndoLog serial bytes) (answer.Data serial bytes) refl (ap is_data is.0)
+within_reads m now at c t line.Close serial bytes is = not_data (ReadsWithin t line.Close serial bytes) (answer.Data serial bytes) refl (ap is_data is.0)
+
+-- what a client's line reads
+pub record ReadsAs (c : Client) (l : Line) (serial : ℕ) (bytes : List ℕ) : Type 0 where
+  pub transaction : OpenTransaction
+  pub begun : c.transaction ≡ Some transaction
+  pub reads : ReadsWithin transaction l serial bytes
+
+own_reads : (m now : Moment) (at : ℕ) (c : Client) (t : Option OpenTransaction) (l : Line) (serial : ℕ) (bytes : List ℕ) → c.transaction ≡ t → IsOwnLine m at c t l (answer.Data serial bytes) now → ReadsAs c l serial bytes
+own_reads m now at c None l serial bytes begun is = not_data (ReadsAs c l serial bytes) (answer.Data serial bytes) refl (ap is_data is.0)
+own_reads m now at c (Some t) l serial bytes begun is = record { transaction = t; begun = begun; reads = within_reads m now at c t l serial bytes is }
+
+step_reads : (rules : Rules) (m now : Moment) (at : ℕ) (c : Client) (q : Request) (l : Line) (serial : ℕ) (bytes : List ℕ) → AsksNoLoad q → IsStepLine rules m at c q (answer.Data serial bytes) now → ReadsAs c l serial bytes
+step_reads rules m now at c q l serial bytes not is =
+    not_data (ReadsAs c l serial bytes) (answer.Data serial bytes) refl
+    (ap is_data is.answer ∙ reply_data rules m.machine c.session q is.step.stamp is.reply is.behind.machine is.step.ticks m.counts is.behind.counts not is.step.made.cause)
+
+taken_reads : (rules : Rules) (m now : Moment) (at : ℕ) (c : Client) (l : Line) (q : Option Request) (serial : ℕ) (bytes : List ℕ) → request_of (changes_of c) l ≡ q → IsLineTaken rules m at c l q (answer.Data serial bytes) now → ReadsAs c l serial bytes
+taken_reads rules m now at c l (Some q) serial bytes asks is = step_reads rules m now at c q l serial bytes (asks_no_load (changes_of c) l q asks) is
+taken_reads rules m now at c l None serial bytes asks is = own_reads m now at c c.transaction l serial bytes refl is
+
+unless_reads : (rules : Rules) (m now : Moment) (at : ℕ) (c : Client) (l : Line) (r : Option Refusal) (serial : ℕ) (bytes : List ℕ) → IsLineUnless rules m at c l r (answer.Data serial bytes) now → ReadsAs c l serial bytes
+unless_reads rules m now at c l (Some why) serial bytes is = not_data (ReadsAs c l serial bytes) (answer.Data serial bytes) refl (ap is_data is.0)
+unless_reads rules m now at c l None serial bytes is = taken_reads rules m now at c l (request_of (changes_of c) l) serial bytes refl is
+
+read_as : (m : Moment) (t : Turn) (at : ℕ) (c : Client) (serial : ℕ) (bytes : List ℕ) → place_of_client t.client m.clients ≡ Some at → slice_get m.clients at ≡ Some c → ReadsAs c t.line serial bytes → IsReadBelow m t serial bytes
+read_as m t at c serial bytes place there reads = record {
+  transaction = reads.transaction;
+  oid = reads.reads.oid;
+  line = reads.reads.line;
+  has = record { at = at; client = c; place = place; there = there; begun = reads.begun };
+  below = reads.reads.held.below;
+  revision = reads.reads.held.revision;
+}
+
+line_of_reads : (rules : Rules) (m now : Moment) (at : Option ℕ) (t : Turn) (serial : ℕ) (bytes : List ℕ) → place_of_client t.client m.clients ≡ at → IsLineOf rules m at t.line (answer.Data serial bytes) now → IsReadBelow m t serial bytes
+line_of_reads rules m now None t serial bytes place is = not_data (IsReadBelow m t serial bytes) (answer.Data serial bytes) refl (ap is_data is.0)
+line_of_reads rules m now (Some at) t serial bytes place is =
+    read_as m t at is.0 serial bytes place is.1 (unless_reads rules m now at is.0 t.line (connection_refusal m.machine is.0 t.line) serial bytes is.2)
+
+opened_data : (m : Moment) (name : List ℕ) (b : Bool) → is_data (if b then (let o : Opening = record { answer = answer.Opened (length m.machine.sessions); moment = record { machine = with_session m.machine; clients = m.clients ++ record { name = name; session = length m.machine.sessions; transaction = None } ∷ []; stamps = m.stamps; counts = m.counts } } in o)
+    else (let o : Opening = record { answer = answer.Refused (refusal.TooManySessions (length m.machine.sessions)); moment = m } in o)).answer ≡ false
+opened_data m name true = refl
+opened_data m name false = refl
+
+opening_reads : (m now : Moment) (t : Turn) (serial : ℕ) (bytes : List ℕ) → IsOpening m t.client (answer.Data serial bytes) now → IsReadBelow m t serial bytes
+opening_reads m now t serial bytes is =
+    not_data (IsReadBelow m t serial bytes) (answer.Data serial bytes) refl (ap (λ (o : Opening). is_data o.answer) is ∙ opened_data m t.client (nat_lt (length m.machine.sessions) 64))
+
+pub reads_below : ReadsStayBelowTheFront
+reads_below rules m t last serial bytes now is =
+    by_name rules m is.behind t.client t.line (answer.Data serial bytes) (IsReadBelow m t serial bytes) (opening_reads m is.behind t serial bytes) (line_of_reads rules m is.behind (place_of_client t.client m.clients) t serial bytes refl) is.line

@@ -1,0 +1,313 @@
+-- What answers give: fronts of the list, and numbers behind the greatest.
+use Rattle.std.proofs.Common.{◌≡◌, ℕ, ◌+◌, ◌-◌, ◌^◌, ◌≤◌, Bool, true, false, List, [], ◌∷◌, ◌++◌, length, Option, Some, None, Result, Ok, Err, cond, refl, sym, ap, subst, ◌∙◌, arith, nat_lt, if◌then◌else◌}
+use Rattle.std.proofs.lemmas.Option.{same_Some}
+use Rattle.zb_ids.specs.Tids.{tid_after}
+use Rattle.zb_model.specs.declared.data.Change.{Change}
+use Rattle.zb_model.specs.declared.data.Transaction.{Transaction}
+use Rattle.zb_model.specs.declared.found.Found.{Found}
+use Rattle.zb_model.specs.declared.found.Found.TheVariants as found
+use Rattle.zb_model.specs.declared.pending.PendingStore.{PendingStore}
+use Rattle.zb_model.specs.declared.refusal.Refusal.{Refusal}
+use Rattle.zb_model.specs.declared.refusal.Refusal.TheVariants as refusal
+use Rattle.zb_model.specs.Database.{newest_tid}
+use Rattle.zb_model.specs.Queries.{found_below}
+use Rattle.zb_script.specs.declared.answer.Answer.{Answer}
+use Rattle.zb_script.specs.declared.answer.Answer.TheVariants as answer
+use Rattle.zb_script.specs.declared.line.Line.{Line}
+use Rattle.zb_script.specs.declared.line.Line.TheVariants as line
+use Rattle.commit_phases.specs.Decision.{vote_decision}
+use Rattle.commit_phases.specs.Pending.{excess_with, pending_of}
+use Rattle.zodb_core.specs.declared.reply.Reply.{Reply}
+use Rattle.zodb_core.specs.declared.reply.Reply.TheVariants as reply
+use Rattle.zodb_core.specs.declared.request.Request.{Request}
+use Rattle.zodb_core.specs.declared.request.Request.TheVariants as request
+use Rattle.zodb_core.specs.declared.texts.Texts.{Texts}
+use Rattle.zodb_core.specs.Handed.{NumberRange, front_in, numbers_in}
+use Rattle.zodb_core.specs.HistoryLaws.{left_greatest, step_front, step_numbers}
+use Rattle.zodb_core.specs.Machine.{Machine, MachineVote, Rules, front_of, with_session}
+use Rattle.zodb_core.specs.Outcomes.{EndsFor, FaultCounts, outcome_of}
+use Rattle.zodb_core.specs.Steps.{Stepped, changes_in_journal, early_refusal, finish_gives, finish_step, journal_limit, loaded, replied_refusal, request_step, step_of, transaction_with, unless_early, vote_at, vote_counted, vote_step, with_vote}
+use Rattle.client_turns.specs.declared.client.Changes.{Changes}
+use Rattle.client_turns.specs.declared.got.Got.{Got}
+use Rattle.client_turns.specs.Clients.{Client, Moment, OpenTransaction, changes_of, place_of_client}
+use Rattle.client_turns.specs.Laws.{front_given, number_given}
+use Rattle.client_turns.specs.Lines.{answer_of, data_of, is_committed, object_of, pending_in, put, request_of, store_unless, stored}
+use Rattle.client_turns.specs.Refusing.{connection_refusal}
+use Rattle.client_turns.specs.TurnLaws.{by_name}
+use Rattle.client_turns.specs.Turns.{IsGet, IsLine, IsLineOf, IsLineTaken, IsLineUnless, IsOpening, IsOwnLine, IsPut, IsStepLine, IsTold, IsWithin, Opening}
+use Rattle.client_turns.specs.Views.{View}
+
+-- ---- one number at a time
+
+abbrev Single : Stepped → Type 0
+Single s = (range : NumberRange) → numbers_in s.reply ≡ Some range → range.count ≡ 1
+
+at_single : (m : Machine) (n : ℕ) (texts : Texts) (changes : List Change) (tid : ℕ) → Single (vote_at m n texts changes tid)
+at_single m n texts changes tid = by_cases (nat_lt tid (2 ^ 64 - 1))
+  where
+    by_cases : (b : Bool) → Single (cond b (record { reply = reply.Voted; machine = with_vote m n (Some (transaction_with tid texts changes)); ticks = true }) (record { reply = reply.Refused refusal.TidsSpent; machine = m; ticks = true }))
+    by_cases true = λ range e. absurd cc
+    by_cases false = λ range e. absurd cc
+
+counted_single : (m : Machine) (n : ℕ) (texts : Texts) (changes : List Change) (stamp count : ℕ) → Single (vote_counted m n texts changes stamp count)
+counted_single m n texts changes stamp count = by_cases (nat_lt journal_limit count) (at_single m n texts changes (tid_after (newest_tid m.list) stamp))
+  where
+    by_cases : (b : Bool) → Single (vote_at m n texts changes (tid_after (newest_tid m.list) stamp))
+        → Single (cond b (replied_refusal m (refusal.JournalFull count)) (vote_at m n texts changes (tid_after (newest_tid m.list) stamp)))
+    by_cases true rest = λ range e. absurd cc
+    by_cases false rest = rest
+
+vote_single : (m : Machine) (n : ℕ) (texts : Texts) (stamp : ℕ) (decided : Result (List Change) Refusal) → Single (vote_step m n texts stamp decided)
+vote_single m n texts stamp (Err r) = λ range e. absurd cc
+vote_single m n texts stamp (Ok []) = λ range e. absurd cc
+vote_single m n texts stamp (Ok (c ∷ changes)) = counted_single m n texts (c ∷ changes) stamp (changes_in_journal m.journal + length (c ∷ changes))
+
+finish_single : (m : Machine) (n : ℕ) (vote : Option MachineVote) → Single (finish_step m n vote)
+finish_single m n None = λ range e. absurd cc
+finish_single m n (Some v) = by_writes v.writes
+  where
+    by_writes : (w : Option Transaction) → Single (finish_gives m n w)
+    by_writes None = λ range e. absurd cc
+    by_writes (Some t) = λ range e. absurd cc
+
+found_single : (m : Machine) (oid : ℕ) (f : Found) (range : NumberRange) → numbers_in (loaded m oid f) ≡ Some range → range.count ≡ 1
+found_single m oid (found.Held serial bytes end) range e = absurd cc
+found_single m oid (found.Absent serial) range e = absurd cc
+found_single m oid found.Nothing range e = absurd cc
+
+-- a request that a line asks
+abbrev AsksOne : Request → Type 0
+AsksOne (request.NewOids count) = count ≡ 1
+AsksOne _ = Unit {0}
+
+new_single : (m : Machine) (count : ℕ) (range : NumberRange) → count ≡ 1 → Some (record { first = m.greatest + 1; count = count }) ≡ Some range → range.count ≡ 1
+new_single m count range one e =
+    let given : NumberRange = record { first = m.greatest + 1; count = count } in
+    let is : given ≡ range = same_Some given range e in
+    sym (ap (λ (r : NumberRange). r.count) is) ∙ one
+
+request_single : (rules : Rules) (m : Machine) (n : ℕ) (q : Request) (stamp : ℕ) → AsksOne q → Single (request_step rules m n q stamp)
+request_single rules m n request.Front stamp one = λ range e. absurd cc
+request_single rules m n (request.LoadBefore oid front) stamp one = found_single m oid (found_below oid front m.list)
+request_single rules m n (request.NewOids count) stamp one = λ range e. new_single m count range one e
+request_single rules m n (request.Vote user description extension pending) stamp one =
+    vote_single m n (record { user = user; description = description; extension = extension }) stamp (vote_decision rules.merging m.list pending)
+request_single rules m n (request.Undo user description tids) stamp one =
+    vote_single m n (record { user = user; description = description; extension = [] }) stamp _
+request_single rules m n request.Finish stamp one = finish_single m n m.vote
+request_single rules m n request.Abort stamp one = λ range e. absurd cc
+request_single rules m n (request.History oid) stamp one = λ range e. absurd cc
+request_single rules m n request.UndoLog stamp one = λ range e. absurd cc
+request_single rules m n request.Close stamp one = λ range e. absurd cc
+
+unless_single : (early : Option Refusal) (m : Machine) (made : Stepped) → Single made → Single (unless_early early m made)
+unless_single None m made single = single
+unless_single (Some r) m made single = λ range e. absurd cc
+
+step_single : (rules : Rules) (m : Machine) (n : ℕ) (q : Request) (stamp : ℕ) → AsksOne q → Single (step_of rules m n q stamp)
+step_single rules m n q stamp one = unless_single (early_refusal m n q) m (request_step rules m n q stamp) (request_single rules m n q stamp one)
+
+-- ---- steps
+
+-- what an answer gives: the list's front, and the number behind the greatest
+pub record Gives (m now : Machine) (a : Answer) : Type 0 where
+  pub front : (f : ℕ) → front_given a ≡ Some f → f ≡ front_of m.list
+  pub number : (n : ℕ) → number_given a ≡ Some n → (n ≡ m.greatest + 1) × (n ≤ now.greatest)
+
+quiet : (m now : Machine) (a : Answer) → front_given a ≡ None → number_given a ≡ None → Gives m now a
+quiet m now a front number = record { front = λ f is. absurd cc; number = λ n is. absurd cc }
+
+abbrev MadeFor : Rules → Machine → ℕ → Request → ℕ → Reply → Machine → Bool → FaultCounts → FaultCounts → Type 0
+MadeFor rules m n q stamp r left ticks a b = EndsFor rules m n q stamp (record { reply = r; machine = left; ticks = ticks }) a b (outcome_of r)
+
+reply_front : (rules : Rules) (m : Machine) (n : ℕ) (q : Request) (stamp : ℕ) (r : Reply) (left : Machine) (ticks : Bool) (a b : FaultCounts) (f : ℕ) → MadeFor rules m n q stamp r left ticks a b
+    → front_given (answer_of r) ≡ Some f → f ≡ front_of m.list
+reply_front rules m n q stamp (reply.Front front news switches) left ticks a b f made is = step_front rules m n q stamp f (sym (ap (λ (s : Stepped). front_in s.reply) made) ∙ is)
+reply_front rules m n q stamp (reply.Loaded serial bytes end upto) left ticks a b f made is = absurd cc
+reply_front rules m n q stamp (reply.Nothing oid switches) left ticks a b f made is = absurd cc
+reply_front rules m n q stamp (reply.Oids first count) left ticks a b f made is = absurd cc
+reply_front rules m n q stamp reply.Voted left ticks a b f made is = absurd cc
+reply_front rules m n q stamp (reply.Committed tid) left ticks a b f made is = absurd cc
+reply_front rules m n q stamp reply.Empty left ticks a b f made is = absurd cc
+reply_front rules m n q stamp reply.Aborted left ticks a b f made is = absurd cc
+reply_front rules m n q stamp (reply.History list) left ticks a b f made is = absurd cc
+reply_front rules m n q stamp (reply.UndoLog list) left ticks a b f made is = absurd cc
+reply_front rules m n q stamp reply.Closed left ticks a b f made is = absurd cc
+reply_front rules m n q stamp (reply.Refused why) left ticks a b f made is = absurd cc
+
+oids_given : (rules : Rules) (m : Machine) (n : ℕ) (q : Request) (stamp : ℕ) (first count : ℕ) (left : Machine) (ticks : Bool) (x : ℕ) → AsksOne q
+    → record { reply = reply.Oids first count; machine = left; ticks = ticks } ≡ step_of rules m n q stamp → Some first ≡ Some x → (x ≡ m.greatest + 1) × (x ≤ left.greatest)
+oids_given rules m n q stamp first count left ticks x one made is =
+    let range : NumberRange = record { first = first; count = count } in
+    let said : numbers_in (step_of rules m n q stamp).reply ≡ Some range = sym (ap (λ (s : Stepped). numbers_in s.reply) made) in
+    let both : (first ≡ m.greatest + 1) × ((step_of rules m n q stamp).machine.greatest + 1 ≡ first + count) = step_numbers rules m n q stamp range said in
+    let single : count ≡ 1 = step_single rules m n q stamp one range said in
+    let same : first ≡ x = same_Some first x is in
+    (omega (arith, both.0, same), omega (arith, both.1, single, same, ap (λ (s : Stepped). s.machine.greatest) made))
+
+reply_number : (rules : Rules) (m : Machine) (n : ℕ) (q : Request) (stamp : ℕ) (r : Reply) (left : Machine) (ticks : Bool) (a b : FaultCounts) (x : ℕ) → AsksOne q → MadeFor rules m n q stamp r left ticks a b
+    → number_given (answer_of r) ≡ Some x → (x ≡ m.greatest + 1) × (x ≤ left.greatest)
+reply_number rules m n q stamp (reply.Front front news switches) left ticks a b x one made is = absurd cc
+reply_number rules m n q stamp (reply.Loaded serial bytes end upto) left ticks a b x one made is = absurd cc
+reply_number rules m n q stamp (reply.Nothing oid switches) left ticks a b x one made is = absurd cc
+reply_number rules m n q stamp (reply.Oids first count) left ticks a b x one made is = oids_given rules m n q stamp first count left ticks x one made is
+reply_number rules m n q stamp reply.Voted left ticks a b x one made is = absurd cc
+reply_number rules m n q stamp (reply.Committed tid) left ticks a b x one made is = absurd cc
+reply_number rules m n q stamp reply.Empty left ticks a b x one made is = absurd cc
+reply_number rules m n q stamp reply.Aborted left ticks a b x one made is = absurd cc
+reply_number rules m n q stamp (reply.History list) left ticks a b x one made is = absurd cc
+reply_number rules m n q stamp (reply.UndoLog list) left ticks a b x one made is = absurd cc
+reply_number rules m n q stamp reply.Closed left ticks a b x one made is = absurd cc
+reply_number rules m n q stamp (reply.Refused why) left ticks a b x one made is = absurd cc
+
+-- ---- lines
+
+-- the told step behind a commit doesn't lower the greatest number
+step_line_gives : (rules : Rules) (m now : Moment) (at : ℕ) (c : Client) (q : Request) (a : Answer) → AsksOne q → (is : IsStepLine rules m at c q a now) → is.behind.machine.greatest ≤ is.told.machine.greatest → Gives m.machine now.machine a
+step_line_gives rules m now at c q a one is up = record {
+  front = λ f given.
+      reply_front rules m.machine c.session q is.step.stamp is.reply is.behind.machine is.step.ticks m.counts is.behind.counts f is.step.made.cause (sym (ap front_given is.answer) ∙ given);
+  number = λ n given.
+      let both : (n ≡ m.machine.greatest + 1) × (n ≤ is.behind.machine.greatest) =
+      reply_number rules m.machine c.session q is.step.stamp is.reply is.behind.machine is.step.ticks m.counts is.behind.counts n one is.step.made.cause (sym (ap number_given is.answer) ∙ given) in
+      (both.0, omega (arith, both.1, up, ap (λ (x : Moment). x.machine.greatest) is.left));
+}
+
+refused_gives : (m now : Machine) (a : Answer) (why : Refusal) → a ≡ answer.Refused why → Gives m now a
+refused_gives m now a why is = quiet m now a (ap front_given is) (ap number_given is)
+
+store_quiet : (m now : Machine) (t : Changes) (p : PendingStore) (o : Option ℕ) → Gives m now (store_unless t p o).answer
+store_quiet m now t p None = quiet m now answer.Stored refl refl
+store_quiet m now t p (Some n) = quiet m now (answer.Refused (refusal.TooLong n)) refl refl
+
+as_quiet : (m now : Machine) (a b : Answer) → a ≡ b → Gives m now b → Gives m now a
+as_quiet m now a b is gives = subst (Gives m now) (sym is) gives
+
+data_quiet : (m now : Machine) (r : Result Got Refusal) → Gives m now (data_of r)
+data_quiet m now (Ok got) = quiet m now (answer.Data got.serial got.bytes) refl refl
+data_quiet m now (Err why) = quiet m now (answer.Refused why) refl refl
+
+object_quiet : (m now : Machine) (r : Result Got Refusal) → Gives m now (object_of r)
+object_quiet m now (Ok got) = quiet m now (answer.Object got.serial got.bytes) refl refl
+object_quiet m now (Err why) = quiet m now (answer.Refused why) refl refl
+
+get_gives : (m now : Moment) (v : View) (oid : ℕ) (o : Option PendingStore) (a : Answer) → IsGet m v oid o a now → Gives m.machine now.machine a
+get_gives m now v oid None a is = as_quiet m.machine now.machine a (object_of is.0) is.2 (object_quiet m.machine now.machine is.0)
+get_gives m now v oid (Some p) a is = as_quiet m.machine now.machine a (answer.Object p.base p.bytes) is.0 (quiet m.machine now.machine (answer.Object p.base p.bytes) refl refl)
+
+put_quiet : (m now : Machine) (t : Changes) (oid : ℕ) (bytes : List ℕ) (read : Result Got Refusal) → Gives m now (put t oid bytes read).answer
+put_quiet m now t oid bytes (Ok got) = store_quiet m now t (record { oid = oid; base = got.serial; bytes = bytes }) (excess_with t.pending.stores (record { oid = oid; base = got.serial; bytes = bytes }))
+put_quiet m now t oid bytes (Err refusal.TidsSpent) = refused_gives m now (answer.Refused refusal.TidsSpent) refusal.TidsSpent refl
+put_quiet m now t oid bytes (Err refusal.StoreFault) = refused_gives m now (answer.Refused refusal.StoreFault) refusal.StoreFault refl
+put_quiet m now t oid bytes (Err (refusal.Conflict a0 a1 a2 a3)) = refused_gives m now (answer.Refused (refusal.Conflict a0 a1 a2 a3)) (refusal.Conflict a0 a1 a2 a3) refl
+put_quiet m now t oid bytes (Err (refusal.ReadConflict a0 a1 a2)) = refused_gives m now (answer.Refused (refusal.ReadConflict a0 a1 a2)) (refusal.ReadConflict a0 a1 a2) refl
+put_quiet m now t oid bytes (Err (refusal.TooLong a0)) = refused_gives m now (answer.Refused (refusal.TooLong a0)) (refusal.TooLong a0) refl
+put_quiet m now t oid bytes (Err (refusal.UndoUnknown a0)) = refused_gives m now (answer.Refused (refusal.UndoUnknown a0)) (refusal.UndoUnknown a0) refl
+put_quiet m now t oid bytes (Err (refusal.UndoPacked a0)) = refused_gives m now (answer.Refused (refusal.UndoPacked a0)) (refusal.UndoPacked a0) refl
+put_quiet m now t oid bytes (Err (refusal.UndoConflict a0 a1)) = refused_gives m now (answer.Refused (refusal.UndoConflict a0 a1)) (refusal.UndoConflict a0 a1) refl
+put_quiet m now t oid bytes (Err (refusal.Overtaken a0 a1)) = refused_gives m now (answer.Refused (refusal.Overtaken a0 a1)) (refusal.Overtaken a0 a1) refl
+put_quiet m now t oid bytes (Err (refusal.Unreadable a0 a1)) = refused_gives m now (answer.Refused (refusal.Unreadable a0 a1)) (refusal.Unreadable a0 a1) refl
+put_quiet m now t oid bytes (Err (refusal.PackedAlready a0)) = refused_gives m now (answer.Refused (refusal.PackedAlready a0)) (refusal.PackedAlready a0) refl
+put_quiet m now t oid bytes (Err (refusal.Missing a0 false)) = store_quiet m now t (record { oid = oid; base = 0; bytes = bytes }) (excess_with t.pending.stores (record { oid = oid; base = 0; bytes = bytes }))
+put_quiet m now t oid bytes (Err (refusal.Missing a0 true)) = refused_gives m now (answer.Refused (refusal.Missing a0 true)) (refusal.Missing a0 true) refl
+put_quiet m now t oid bytes (Err refusal.NoTransaction) = refused_gives m now (answer.Refused refusal.NoTransaction) refusal.NoTransaction refl
+put_quiet m now t oid bytes (Err refusal.InTransaction) = refused_gives m now (answer.Refused refusal.InTransaction) refusal.InTransaction refl
+put_quiet m now t oid bytes (Err refusal.NotVoted) = refused_gives m now (answer.Refused refusal.NotVoted) refusal.NotVoted refl
+put_quiet m now t oid bytes (Err refusal.Voted) = refused_gives m now (answer.Refused refusal.Voted) refusal.Voted refl
+put_quiet m now t oid bytes (Err (refusal.Busy a0)) = refused_gives m now (answer.Refused (refusal.Busy a0)) (refusal.Busy a0) refl
+put_quiet m now t oid bytes (Err (refusal.PackRunning a0)) = refused_gives m now (answer.Refused (refusal.PackRunning a0)) (refusal.PackRunning a0) refl
+put_quiet m now t oid bytes (Err refusal.OidsSpent) = refused_gives m now (answer.Refused refusal.OidsSpent) refusal.OidsSpent refl
+put_quiet m now t oid bytes (Err (refusal.JournalFull a0)) = refused_gives m now (answer.Refused (refusal.JournalFull a0)) (refusal.JournalFull a0) refl
+put_quiet m now t oid bytes (Err (refusal.TooManySessions a0)) = refused_gives m now (answer.Refused (refusal.TooManySessions a0)) (refusal.TooManySessions a0) refl
+put_quiet m now t oid bytes (Err refusal.NotOpen) = refused_gives m now (answer.Refused refusal.NotOpen) refusal.NotOpen refl
+put_quiet m now t oid bytes (Err (refusal.NoSavepoint a0)) = refused_gives m now (answer.Refused (refusal.NoSavepoint a0)) (refusal.NoSavepoint a0) refl
+put_quiet m now t oid bytes (Err (refusal.FrameTooLong a0)) = refused_gives m now (answer.Refused (refusal.FrameTooLong a0)) (refusal.FrameTooLong a0) refl
+put_quiet m now t oid bytes (Err refusal.BadMessage) = refused_gives m now (answer.Refused refusal.BadMessage) refusal.BadMessage refl
+put_quiet m now t oid bytes (Err refusal.LinkFault) = refused_gives m now (answer.Refused refusal.LinkFault) refusal.LinkFault refl
+put_quiet m now t oid bytes (Err refusal.Closed) = refused_gives m now (answer.Refused refusal.Closed) refusal.Closed refl
+put_quiet m now t oid bytes (Err (refusal.Mixed a0)) = refused_gives m now (answer.Refused (refusal.Mixed a0)) (refusal.Mixed a0) refl
+put_quiet m now t oid bytes (Err refusal.NoPack) = refused_gives m now (answer.Refused refusal.NoPack) refusal.NoPack refl
+put_quiet m now t oid bytes (Err (refusal.NotATree a0)) = refused_gives m now (answer.Refused (refusal.NotATree a0)) (refusal.NotATree a0) refl
+put_quiet m now t oid bytes (Err (refusal.NodeMissing a0)) = refused_gives m now (answer.Refused (refusal.NodeMissing a0)) (refusal.NodeMissing a0) refl
+put_quiet m now t oid bytes (Err refusal.BadKey) = refused_gives m now (answer.Refused refusal.BadKey) refusal.BadKey refl
+put_quiet m now t oid bytes (Err refusal.ReadFault) = refused_gives m now (answer.Refused refusal.ReadFault) refusal.ReadFault refl
+put_quiet m now t oid bytes (Err (refusal.NothingToDelete a0 a1)) = refused_gives m now (answer.Refused (refusal.NothingToDelete a0 a1)) (refusal.NothingToDelete a0 a1) refl
+put_quiet m now t oid bytes (Err (refusal.Connected a0)) = refused_gives m now (answer.Refused (refusal.Connected a0)) (refusal.Connected a0) refl
+put_quiet m now t oid bytes (Err refusal.StepsSpent) = refused_gives m now (answer.Refused refusal.StepsSpent) refusal.StepsSpent refl
+put_quiet m now t oid bytes (Err refusal.Memory) = refused_gives m now (answer.Refused refusal.Memory) refusal.Memory refl
+
+put_gives : (m now : Moment) (at : ℕ) (c : Client) (t : OpenTransaction) (oid : ℕ) (bytes : List ℕ) (o : Option PendingStore) (a : Answer) → IsPut m at c t oid bytes o a now → Gives m.machine now.machine a
+put_gives m now at c t oid bytes None a is = as_quiet m.machine now.machine a (put t.changes oid bytes is.0).answer is.3.0 (put_quiet m.machine now.machine t.changes oid bytes is.0)
+put_gives m now at c t oid bytes (Some p) a is =
+    as_quiet m.machine now.machine a (stored t.changes (record { oid = oid; base = p.base; bytes = bytes })).answer is.0
+    (store_quiet m.machine now.machine t.changes (record { oid = oid; base = p.base; bytes = bytes }) (excess_with t.changes.pending.stores (record { oid = oid; base = p.base; bytes = bytes })))
+
+within_gives : (m now : Moment) (at : ℕ) (c : Client) (t : OpenTransaction) (l : Line) (a : Answer) → IsWithin m at c t l a now → Gives m.machine now.machine a
+within_gives m now at c t (line.Load oid) a is = as_quiet m.machine now.machine a (data_of is.0) is.2 (data_quiet m.machine now.machine is.0)
+within_gives m now at c t (line.Get oid) a is = get_gives m now t.view oid (pending_of t.changes.pending.stores oid) a is
+within_gives m now at c t (line.Store oid base bytes) a is =
+    as_quiet m.machine now.machine a (stored t.changes (record { oid = oid; base = base; bytes = bytes })).answer is.0
+    (store_quiet m.machine now.machine t.changes (record { oid = oid; base = base; bytes = bytes }) (excess_with t.changes.pending.stores (record { oid = oid; base = base; bytes = bytes })))
+within_gives m now at c t (line.Put oid bytes) a is = put_gives m now at c t oid bytes (pending_of t.changes.pending.stores oid) a is
+within_gives m now at c t (line.Check oid serial) a is = as_quiet m.machine now.machine a answer.Checked is.0 (quiet m.machine now.machine answer.Checked refl refl)
+within_gives m now at c t line.Open a is = refused_gives m.machine now.machine a refusal.NoTransaction is.0
+within_gives m now at c t line.Begin a is = refused_gives m.machine now.machine a refusal.NoTransaction is.0
+within_gives m now at c t line.New a is = refused_gives m.machine now.machine a refusal.NoTransaction is.0
+within_gives m now at c t (line.Vote user description) a is = refused_gives m.machine now.machine a refusal.NoTransaction is.0
+within_gives m now at c t (line.Undo user description tids) a is = refused_gives m.machine now.machine a refusal.NoTransaction is.0
+within_gives m now at c t line.Finish a is = refused_gives m.machine now.machine a refusal.NoTransaction is.0
+within_gives m now at c t line.Abort a is = refused_gives m.machine now.machine a refusal.NoTransaction is.0
+within_gives m now at c t (line.History oid) a is = refused_gives m.machine now.machine a refusal.NoTransaction is.0
+within_gives m now at c t line.UndoLog a is = refused_gives m.machine now.machine a refusal.NoTransaction is.0
+within_gives m now at c t line.Close a is = refused_gives m.machine now.machine a refusal.NoTransaction is.0
+
+own_gives : (m now : Moment) (at : ℕ) (c : Client) (t : Option OpenTransaction) (l : Line) (a : Answer) → IsOwnLine m at c t l a now → Gives m.machine now.machine a
+own_gives m now at c None l a is = refused_gives m.machine now.machine a refusal.NoTransaction is.0
+own_gives m now at c (Some t) l a is = within_gives m now at c t l a is
+
+-- the request of a line asks for one number at most
+asks_one : (ch : Option Changes) (l : Line) (q : Request) → request_of ch l ≡ Some q → AsksOne q
+asks_one ch line.Open q is = absurd cc
+asks_one ch line.Begin q is = subst AsksOne (same_Some request.Front q is) tt
+asks_one ch (line.Load oid) q is = absurd cc
+asks_one ch (line.Get oid) q is = absurd cc
+asks_one ch (line.Store oid base bytes) q is = absurd cc
+asks_one ch (line.Put oid bytes) q is = absurd cc
+asks_one ch (line.Check oid serial) q is = absurd cc
+asks_one ch line.New q is = subst AsksOne (same_Some (request.NewOids 1) q is) refl
+asks_one ch (line.Vote user description) q is = subst AsksOne (same_Some (request.Vote user description [] (pending_in ch)) q is) tt
+asks_one ch (line.Undo user description tids) q is = subst AsksOne (same_Some (request.Undo user description tids) q is) tt
+asks_one ch line.Finish q is = subst AsksOne (same_Some request.Finish q is) tt
+asks_one ch line.Abort q is = subst AsksOne (same_Some request.Abort q is) tt
+asks_one ch (line.History oid) q is = subst AsksOne (same_Some (request.History oid) q is) tt
+asks_one ch line.UndoLog q is = subst AsksOne (same_Some request.UndoLog q is) tt
+asks_one ch line.Close q is = subst AsksOne (same_Some request.Close q is) tt
+
+told_up : (rules : Rules) (b t : Moment) (n : ℕ) (committed : Bool) → IsTold rules committed b n t → b.machine.greatest ≤ t.machine.greatest
+told_up rules b t n false told = omega (arith, ap (λ (x : Moment). x.machine.greatest) told)
+told_up rules b t n true told =
+    omega (arith, ap (λ (x : Machine). x.greatest) told.1.made.left, left_greatest rules b.machine n request.Front told.1.stamp (outcome_of told.0))
+
+taken_gives : (rules : Rules) (m now : Moment) (at : ℕ) (c : Client) (l : Line) (q : Option Request) (a : Answer) → request_of (changes_of c) l ≡ q → IsLineTaken rules m at c l q a now → Gives m.machine now.machine a
+taken_gives rules m now at c l (Some q) a asks is =
+    step_line_gives rules m now at c q a (asks_one (changes_of c) l q asks) is (told_up rules is.behind is.told c.session (is_committed is.reply) is.front)
+taken_gives rules m now at c l None a asks is = own_gives m now at c c.transaction l a is
+
+unless_gives : (rules : Rules) (m now : Moment) (at : ℕ) (c : Client) (l : Line) (r : Option Refusal) (a : Answer) → IsLineUnless rules m at c l r a now → Gives m.machine now.machine a
+unless_gives rules m now at c l (Some why) a is = refused_gives m.machine now.machine a why is.0
+unless_gives rules m now at c l None a is = taken_gives rules m now at c l (request_of (changes_of c) l) a refl is
+
+line_of_gives : (rules : Rules) (m now : Moment) (at : Option ℕ) (l : Line) (a : Answer) → IsLineOf rules m at l a now → Gives m.machine now.machine a
+line_of_gives rules m now None l a is = refused_gives m.machine now.machine a refusal.NotOpen is.0
+line_of_gives rules m now (Some at) l a is = unless_gives rules m now at is.0 l (connection_refusal m.machine is.0 l) a is.2
+
+opened_gives : (m : Moment) (now : Machine) (name : List ℕ) (b : Bool) → Gives m.machine now (if b then (let o : Opening = record { answer = answer.Opened (length m.machine.sessions); moment = record { machine = with_session m.machine; clients = m.clients ++ record { name = name; session = length m.machine.sessions; transaction = None } ∷ []; stamps = m.stamps; counts = m.counts } } in o)
+    else (let o : Opening = record { answer = answer.Refused (refusal.TooManySessions (length m.machine.sessions)); moment = m } in o)).answer
+opened_gives m now name true = quiet m.machine now (answer.Opened (length m.machine.sessions)) refl refl
+opened_gives m now name false = quiet m.machine now (answer.Refused (refusal.TooManySessions (length m.machine.sessions))) refl refl
+
+opening_gives : (m now : Moment) (name : List ℕ) (a : Answer) → IsOpening m name a now → Gives m.machine now.machine a
+opening_gives m now name a is = subst (Gives m.machine now.machine) (sym (ap (λ (o : Opening). o.answer) is)) (opened_gives m now.machine name (nat_lt (length m.machine.sessions) 64))
+
+pub line_gives : (rules : Rules) (m now : Moment) (name : List ℕ) (l : Line) (a : Answer) → IsLine rules m name l a now → Gives m.machine now.machine a
+line_gives rules m now name l a is = by_name rules m now name l a (Gives m.machine now.machine a) (opening_gives m now name a) (line_of_gives rules m now (place_of_client name m.clients) l a) is

@@ -1,0 +1,16 @@
+pub mod Causes
+pub mod Causing
+pub mod Crashes
+pub mod Data
+pub mod Ending
+pub mod Following
+pub mod Giving
+pub mod Growing
+pub mod Lasting
+pub mod Lawful
+pub mod Loading
+pub mod Opening
+pub mod Owning
+pub mod Placing
+pub mod Stepping
+pub mod Taking

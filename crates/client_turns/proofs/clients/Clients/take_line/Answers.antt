@@ -1,0 +1,29 @@
+-- A line of the client at a place.
+use Rattle.std.proofs.Common.{◌∙◌, List, Option, ap, sym}
+use Rattle.std.specs.Prelude.{slice_get}
+use Rattle.client_turns.specs.declared.client.Changes.{Changes}
+use Rattle.client_turns.specs.declared.client.Client.{Client}
+use Rattle.client_turns.specs.Lines.{request_of}
+use Rattle.client_turns.proofs.Taking.{line_own, line_refused, line_step}
+use Rattle.client_turns.proofs.clients.Clients.take_line.Goals as goal
+
+pub returns-in-Some-clause-line : goal.returns-in-Some-clause-line
+returns-in-Some-clause-line g c = λ told m stands.
+    line_refused _ m c.args.at c.args.line.now c.args.self.now c.args.self.now (g.C.Clock.stamps c.args.clock.now) (g.C.Clock.stamps c.args.clock.now) stands c.requires.place c.in-Some.why (λ x there. sym c.in-Some.is ∙ c.refusal_at.ensures.refusal x there)
+
+pub returns-in-Some-2-clause-line : goal.returns-in-Some-2-clause-line
+returns-in-Some-2-clause-line g c = λ told m stands.
+    line_step _ m c.args.at c.args.line.now c.args.self.now _ _ _ stands c.requires.place c.in-Some-2.request _ (λ x there. sym c.in_default.is ∙ c.refusal_at.ensures.refusal x there)
+    (λ x there. sym c.in-Some-2.is ∙ c.in_ok-request.ensures.request ∙ ap (λ (ch : Option Changes). request_of ch c.args.line.now)
+    (c.changes_at.ensures.changes x (ap (λ (xs : List Client). slice_get xs c.args.at) (c.as_slice.ensures.value ∙ ap (λ s. s.clients) c.self.view_is) ∙ there)))
+    (c.take_step.ensures.line told m stands)
+
+pub returns-in-None-clause-line : goal.returns-in-None-clause-line
+returns-in-None-clause-line g c = λ told m stands.
+    line_own _ m c.args.at c.args.line.now c.args.self.now _ _ _ stands c.requires.place c.own_line.result c.requires.opened (λ x there. sym c.in_default.is ∙ c.refusal_at.ensures.refusal x there)
+    (λ x there. sym c.in-None.is ∙ c.in_ok-request.ensures.request ∙ ap (λ (ch : Option Changes). request_of ch c.args.line.now)
+    (c.changes_at.ensures.changes x (ap (λ (xs : List Client). slice_get xs c.args.at) (c.as_slice.ensures.value ∙ ap (λ s. s.clients) c.self.view_is) ∙ there)))
+    (c.own_line.ensures.line told m stands)
+
+pub returns-in-Some-clause-cause : goal.returns-in-Some-clause-cause
+returns-in-Some-clause-cause g c = c.in-Some.ensures.quiet _ _

@@ -1,0 +1,137 @@
+-- Laws of turns: what holds of all that scripts are answered, over whatever rules, stamps and faults. Own.
+use Rattle.std.specs.Prelude.{◌≡◌, ℕ, ◌<◌, ◌≤◌, List, ◌++◌, Option, Some, None, Ok, Err, length, All, IfSome, map, nat_eq, slice_get, Bool}
+use Rattle.std.specs.List.{AllByRecursion, AllPairs, IsDistinct, filter_map}
+use Rattle.zb_base.specs.Counts.{Rose}
+use Rattle.zb_ids.specs.declared.stamp.Stamp.{Stamp}
+use Rattle.zb_model.specs.declared.data.Content.TheVariants.{Held}
+use Rattle.zb_model.specs.declared.data.Transaction.{Transaction}
+use Rattle.zb_model.specs.declared.pending.PendingStore.{PendingStore}
+use Rattle.zb_model.specs.declared.refusal.Refusal.{Refusal}
+use Rattle.zb_model.specs.declared.refusal.Refusal.TheVariants as refusal
+use Rattle.zb_model.specs.Database.{IsDatabase, revision_below}
+use Rattle.zb_model.specs.Queries.{greatest_oid}
+use Rattle.zb_script.specs.declared.answer.Answer.{Answer}
+use Rattle.zb_script.specs.declared.answer.Answer.TheVariants as answer
+use Rattle.zb_script.specs.declared.line.Line.TheVariants as line
+use Rattle.zb_script.specs.declared.line.Turn.{Turn}
+use Rattle.commit_phases.specs.Pending.{excess_with}
+use Rattle.zodb_core.specs.declared.reply.Reply.TheVariants as reply
+use Rattle.zodb_core.specs.declared.request.Request.{Request}
+use Rattle.zodb_core.specs.Machine.{Machine, Rules, session_limit}
+use Rattle.zodb_core.specs.Outcomes.{FaultCounts}
+use Rattle.zodb_core.specs.Sound.{GrowsTo, IsSoundMachine}
+use Rattle.zodb_core.specs.Steps.{step_of}
+use Rattle.client_turns.specs.declared.client.Changes.{Changes}
+use Rattle.client_turns.specs.Clients.{Client, Moment, OpenTransaction, changes_of, first_moment, place_of_client}
+use Rattle.client_turns.specs.Lines.{request_of}
+use Rattle.client_turns.specs.Output.{Out, TurnAnswer}
+use Rattle.client_turns.specs.Reads.{Reads}
+use Rattle.client_turns.specs.Refusing.{connection_refusal}
+use Rattle.client_turns.specs.Turns.{IsTurn}
+
+-- ---- words
+
+-- the stores that wait name each object once
+abbrev pub AreOnce : Changes → Type 0
+AreOnce ch = IsDistinct nat_eq (map (λ p. p.oid) ch.pending.stores)
+
+abbrev pub IsOnceClient : Client → Type 0
+IsOnceClient c = IfSome (changes_of c) AreOnce
+
+-- the machine is sound, and so are the stores that wait
+pub record IsSoundMoment (m : Moment) : Type 0 where
+  pub machine : IsSoundMachine m.machine
+  pub once : AllByRecursion IsOnceClient m.clients
+
+-- a machine that steps led to: its list has only grown, by later transactions, and the greatest number never fell
+pub record Follows (m now : Machine) : Type 0 where
+  pub sound : IsSoundMachine now
+  pub grows : GrowsTo m.list now.list
+  pub greatest : m.greatest ≤ now.greatest
+
+-- the front that an answer gives, if it gives one, and the number of a new object
+abbrev pub front_given : Answer → Option ℕ
+front_given (answer.Begun front) = Some front
+front_given _ = None
+
+abbrev pub number_given : Answer → Option ℕ
+number_given (answer.Oid oid) = Some oid
+number_given _ = None
+
+-- the fronts, and the numbers, that turns were given, in their order
+abbrev pub fronts_given : List TurnAnswer → List ℕ
+fronts_given out = filter_map (λ (o : TurnAnswer). front_given o.answer) out
+
+abbrev pub numbers_given : List TurnAnswer → List ℕ
+numbers_given out = filter_map (λ (o : TurnAnswer). number_given o.answer) out
+
+-- ---- the list
+
+-- the list that turns leave is a database, and begins with the one that they found
+abbrev pub TheListStaysADatabase : Type 0
+TheListStaysADatabase = (rules : Rules) (list : List Transaction) (stamps : Option (List Stamp)) (counts : FaultCounts) (turns later : List Turn) (out : List TurnAnswer) (now : Moment)
+    → IsDatabase list → Out rules (first_moment list stamps counts) turns later out now → IsDatabase now.machine.list × GrowsTo list now.machine.list
+
+-- ---- fronts
+
+-- no front that a turn is given is below one that was given before, to whatever client
+abbrev pub FrontsNeverFall : Type 0
+FrontsNeverFall = (rules : Rules) (list : List Transaction) (stamps : Option (List Stamp)) (counts : FaultCounts) (turns later : List Turn) (out : List TurnAnswer) (now : Moment)
+    → IsDatabase list → Out rules (first_moment list stamps counts) turns later out now → AllPairs (λ earlier later. earlier ≤ later) (fronts_given out)
+
+-- ---- new numbers
+
+-- From a moment on, the numbers of new objects that turns are given rise, and each is above all objects of the list at that moment.
+pub record AreNewGiven (m : Moment) (out : List TurnAnswer) : Type 0 where
+  pub rising : AllPairs (λ earlier later. earlier < later) (numbers_given out)
+  pub unlisted : All (λ n. greatest_oid m.machine.list < n) (numbers_given out)
+
+-- from any moment on that turns led to
+abbrev pub NumbersAreNew : Type 0
+NumbersAreNew = (rules : Rules) (list : List Transaction) (stamps : Option (List Stamp)) (counts : FaultCounts) (turns more later : List Turn) (out behind : List TurnAnswer) (m now : Moment)
+    → IsDatabase list → Out rules (first_moment list stamps counts) turns (more ++ later) out m → Out rules m more later behind now → AreNewGiven m behind
+
+-- ---- reads
+
+-- a client's open transaction, by the client's name
+pub record HasOpen (m : Moment) (name : List ℕ) (t : OpenTransaction) : Type 0 where
+  pub at : ℕ
+  pub client : Client
+  pub place : place_of_client name m.clients ≡ Some at
+  pub there : slice_get m.clients at ≡ Some client
+  pub begun : client.transaction ≡ Some t
+
+-- what is read is the object's revision below the front, in the view's list
+pub record IsReadBelow (m : Moment) (t : Turn) (serial : ℕ) (bytes : List ℕ) : Type 0 where
+  pub transaction : OpenTransaction
+  pub oid : ℕ
+  pub line : t.line ≡ line.Load oid
+  pub has : HasOpen m t.client transaction
+  pub below : serial < transaction.view.front
+  pub revision : revision_below oid transaction.view.front transaction.view.list ≡ Some (record { serial = serial; content = Held bytes })
+
+abbrev pub ReadsStayBelowTheFront : Type 0
+ReadsStayBelowTheFront = (rules : Rules) (m : Moment) (t : Turn) (last : Bool) (serial : ℕ) (bytes : List ℕ) (now : Moment) → IsTurn rules m t last (Ok (answer.Data serial bytes)) now → IsReadBelow m t serial bytes
+
+-- ---- refusals
+
+-- the client at the place of its name
+pub record IsNamed (m : Moment) (name : List ℕ) (c : Client) : Type 0 where
+  pub at : ℕ
+  pub place : place_of_client name m.clients ≡ Some at
+  pub there : slice_get m.clients at ≡ Some c
+
+-- Why a turn was refused so: the client never opened a session; too many are open; its connection refuses the line; the machine refuses the line's step; the
+-- view hasn't got the object; what would wait is too long; or reading failed, and the count of failed reads rose.
+pub data IsRefusedFor (rules : Rules) (m : Moment) (t : Turn) (why : Refusal) (now : Moment) : Type 0 where
+  unnamed : place_of_client t.client m.clients ≡ None → why ≡ refusal.NotOpen → IsRefusedFor rules m t why now
+  crowded : session_limit ≤ length m.machine.sessions → why ≡ refusal.TooManySessions (length m.machine.sessions) → IsRefusedFor rules m t why now
+  by_connection : (c : Client) → IsNamed m t.client c → connection_refusal m.machine c t.line ≡ Some why → IsRefusedFor rules m t why now
+  by_step : (c : Client) (q : Request) (stamp : ℕ) → IsNamed m t.client c → request_of (changes_of c) t.line ≡ Some q
+      → (step_of rules m.machine c.session q stamp).reply ≡ reply.Refused why → IsRefusedFor rules m t why now
+  by_view : (o : OpenTransaction) (oid : ℕ) → HasOpen m t.client o → Reads m.machine o.view oid (Err why) → IsRefusedFor rules m t why now
+  by_length : (o : OpenTransaction) (p : PendingStore) (n : ℕ) → HasOpen m t.client o → excess_with o.changes.pending.stores p ≡ Some n → why ≡ refusal.TooLong n → IsRefusedFor rules m t why now
+  by_reading : why ≡ refusal.ReadFault → Rose m.counts.reads now.counts.reads → IsRefusedFor rules m t why now
+
+abbrev pub RefusalsHaveTheirCause : Type 0
+RefusalsHaveTheirCause = (rules : Rules) (m : Moment) (t : Turn) (last : Bool) (why : Refusal) (now : Moment) → IsTurn rules m t last (Ok (answer.Refused why)) now → IsRefusedFor rules m t why now

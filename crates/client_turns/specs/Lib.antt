@@ -1,0 +1,10 @@
+pub mod Views
+pub mod Reads
+pub mod Clients
+pub mod Refusing
+pub mod Laws
+pub mod Lines
+pub mod Turns
+pub mod Output
+pub mod Standing
+pub mod TurnLaws

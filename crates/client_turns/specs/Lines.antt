@@ -1,0 +1,135 @@
+-- What a line asks of the machine, and what it is answered and leaves. Source: connections and transactions of ZODB.
+use Rattle.std.specs.Prelude.{ℕ, List, [], ◌∷◌, ◌++◌, Option, Some, None, Result, Ok, Err, Bool, true, false}
+use Rattle.std.specs.Option.{option_map, option_map_or}
+use Rattle.zb_model.specs.declared.refusal.Refusal.{Refusal}
+use Rattle.zb_model.specs.declared.refusal.Refusal.TheVariants as refusal
+use Rattle.zb_model.specs.declared.pending.PendingStore.{PendingStore}
+use Rattle.zb_script.specs.declared.answer.Answer.{Answer}
+use Rattle.zb_script.specs.declared.answer.Answer.TheVariants as answer
+use Rattle.zb_script.specs.declared.line.Line.{Line}
+use Rattle.zb_script.specs.declared.line.Line.TheVariants as line
+use Rattle.zb_model.specs.declared.pending.PendingCheck.{PendingCheck}
+use Rattle.commit_phases.specs.Pending.{PendingChanges, excess_with, with_pending}
+use Rattle.zodb_core.specs.declared.reply.Reply.{Reply}
+use Rattle.zodb_core.specs.declared.reply.Reply.TheVariants as reply
+use Rattle.zodb_core.specs.declared.request.Request.{Request}
+use Rattle.zodb_core.specs.declared.request.Request.TheVariants as request
+use Rattle.zodb_core.specs.Machine.{Machine}
+use Rattle.client_turns.specs.declared.client.Changes.{Changes}
+use Rattle.client_turns.specs.declared.errors.TurnError.{TurnError}
+use Rattle.client_turns.specs.declared.errors.TurnError.TheVariants as error
+use Rattle.client_turns.specs.declared.got.Got.{Got}
+use Rattle.client_turns.specs.Clients.{Client, OpenTransaction, begun, nothing_pending, with_transaction}
+use Rattle.client_turns.specs.Views.{view_of}
+
+-- ---- lines that are one step
+
+-- what waits for a vote
+abbrev pub pending_in : Option Changes → PendingChanges
+pending_in changes = option_map_or (λ t. t.pending) changes nothing_pending
+
+-- the request of a line that is one step, with these changes in the transaction, where one is open
+abbrev pub request_of : Option Changes → Line → Option Request
+request_of changes line.Begin = Some request.Front
+request_of changes line.New = Some (request.NewOids 1)
+request_of changes (line.Vote user description) = Some (request.Vote user description [] (pending_in changes))
+request_of changes (line.Undo user description tids) = Some (request.Undo user description tids)
+request_of changes line.Finish = Some request.Finish
+request_of changes line.Abort = Some request.Abort
+request_of changes (line.History oid) = Some (request.History oid)
+request_of changes line.UndoLog = Some request.UndoLog
+request_of changes line.Close = Some request.Close
+request_of changes _ = None
+
+-- what the line is answered; none of them asks for a load
+abbrev pub answer_of : Reply → Answer
+answer_of (reply.Front front news switches) = answer.Begun front
+answer_of (reply.Loaded serial bytes end upto) = answer.Data serial bytes
+answer_of (reply.Nothing oid switches) = answer.Refused (refusal.Missing oid false)
+answer_of (reply.Oids first count) = answer.Oid first
+answer_of reply.Voted = answer.Voted
+answer_of (reply.Committed tid) = answer.Committed tid
+answer_of reply.Empty = answer.Empty
+answer_of reply.Aborted = answer.Aborted
+answer_of (reply.History list) = answer.History list
+answer_of (reply.UndoLog list) = answer.UndoLog list
+answer_of reply.Closed = answer.Closed
+answer_of (reply.Refused why) = answer.Refused why
+
+-- the open transaction is voted
+abbrev pub as_voted : OpenTransaction → OpenTransaction
+as_voted t = record { view = t.view; changes = record { pending = t.changes.pending; is_voted = true } }
+
+-- what is left of the open transaction, in the machine behind the step: a front begins one, a vote is kept, and what ends it drops it
+abbrev pub transaction_left : Machine → Option OpenTransaction → Reply → Option OpenTransaction
+transaction_left m t (reply.Front front news switches) = Some (begun (view_of m))
+transaction_left m t reply.Voted = option_map as_voted t
+transaction_left m t (reply.Committed tid) = None
+transaction_left m t reply.Empty = None
+transaction_left m t reply.Aborted = None
+transaction_left m t reply.Closed = None
+transaction_left m t _ = t
+
+abbrev pub client_left : Machine → Client → Reply → Client
+client_left m c r = record c { transaction = transaction_left m c.transaction r }
+
+abbrev pub is_committed : Reply → Bool
+is_committed (reply.Committed tid) = true
+is_committed _ = false
+
+-- ---- how a line ends the run
+
+abbrev pub end_in : Refusal → Option TurnError
+end_in refusal.StoreFault = Some error.StoreFault
+end_in refusal.Memory = Some error.Memory
+end_in _ = None
+
+-- an answer that isn't given, since the run ends: the store failed, or memory ran out
+abbrev pub end_of : Answer → Option TurnError
+end_of (answer.Refused why) = end_in why
+end_of _ = None
+
+-- ---- lines that the client answers by itself
+
+-- the client whose transaction has these changes
+abbrev pub with_changes : Client → OpenTransaction → Changes → Client
+with_changes c t changes = with_transaction c (record { view = t.view; changes = changes })
+
+-- what a line is answered, and the changes that it leaves
+pub record Changed : Type 0 where
+  pub answer : Answer
+  pub changes : Changes
+
+abbrev pub unchanged : Changes → Answer → Changed
+unchanged t a = record { answer = a; changes = t }
+
+-- store: it waits, unless it is too long, by itself or with the others
+abbrev pub store_unless : Changes → PendingStore → Option ℕ → Changed
+store_unless t p (Some length) = unchanged t (answer.Refused (refusal.TooLong length))
+store_unless t p None = record { answer = answer.Stored; changes = record { pending = record { stores = with_pending t.pending.stores p; checks = t.pending.checks }; is_voted = t.is_voted } }
+
+abbrev pub stored : Changes → PendingStore → Changed
+stored t p = store_unless t p (excess_with t.pending.stores p)
+
+-- put: the base is the serial that a read answers, or 0 where the object is missing
+abbrev pub put : Changes → ℕ → List ℕ → Result Got Refusal → Changed
+put t oid bytes (Ok got) = stored t (record { oid = oid; base = got.serial; bytes = bytes })
+put t oid bytes (Err (refusal.Missing o false)) = stored t (record { oid = oid; base = 0; bytes = bytes })
+put t oid bytes (Err why) = unchanged t (answer.Refused why)
+
+-- check: it waits behind the others
+abbrev pub checked : Changes → PendingCheck → Changed
+checked t c = record { answer = answer.Checked; changes = record { pending = record { stores = t.pending.stores; checks = t.pending.checks ++ c ∷ [] }; is_voted = t.is_voted } }
+
+-- load and get: what a read answers
+abbrev pub data_of : Result Got Refusal → Answer
+data_of (Ok got) = answer.Data got.serial got.bytes
+data_of (Err why) = answer.Refused why
+
+abbrev pub object_of : Result Got Refusal → Answer
+object_of (Ok got) = answer.Object got.serial got.bytes
+object_of (Err why) = answer.Refused why
+
+-- get of what waits: its base stands as its serial
+abbrev pub object_pending : PendingStore → Answer
+object_pending p = answer.Object p.base p.bytes

@@ -1,0 +1,50 @@
+-- What scripts are answered. Own.
+use Rattle.std.specs.Prelude.{◌≡◌, ℕ, List, [], ◌∷◌, ◌++◌, Ok, Bool, true, false, not, bytes_eq}
+use Rattle.std.specs.List.{list_any}
+use Rattle.zb_script.specs.declared.answer.Answer.{Answer}
+use Rattle.zb_script.specs.declared.line.Turn.{Turn}
+use Rattle.zodb_core.specs.Machine.{Rules}
+use Rattle.client_turns.specs.declared.errors.TurnError.{TurnError}
+use Rattle.client_turns.specs.Clients.{Moment}
+use Rattle.client_turns.specs.Turns.{IsBroken, IsTurn}
+
+-- an answered turn: the client's name, and the answer, whose text is the reply lines
+pub record TurnAnswer : Type 0 where
+  pub client : List ℕ
+  pub answer : Answer
+
+abbrev pub is_turn_of : List ℕ → Turn → Bool
+is_turn_of name t = bytes_eq t.client name
+
+-- a turn is its client's last: none of the later ones is of the client
+abbrev pub is_last : Turn → List Turn → Bool
+is_last t later = not (list_any (is_turn_of t.client) later)
+
+-- of each turn whether it is its client's last
+abbrev pub last_flags : List Turn → List Bool
+last_flags [] = []
+last_flags (t ∷ later) = is_last t later ∷ last_flags later
+
+-- a name is among these
+abbrev pub has : List ℕ → List (List ℕ) → Bool
+has name names = list_any (λ n. bytes_eq n name) names
+
+-- names with one more, where it is new
+abbrev pub with_name : List (List ℕ) → List ℕ → Bool → List (List ℕ)
+with_name names name true = names ++ name ∷ []
+with_name names name false = names
+
+-- The turns are answered so, one after another, and lead from one moment to another; `later` are the turns behind them, which aren't taken yet. So it
+-- speaks of all turns of a script, or of a front of them.
+abbrev pub Out : Rules → Moment → List Turn → List Turn → List TurnAnswer → Moment → Type 0
+Out rules m [] later [] now = now ≡ m
+Out rules m [] later (o ∷ out) now = ⊥
+Out rules m (t ∷ turns) later [] now = ⊥
+Out rules m (t ∷ turns) later (o ∷ out) now =
+    (next : Moment) × (o.client ≡ t.client) × IsTurn rules m t (is_last t (turns ++ later)) (Ok o.answer) next × Out rules next turns later out now
+
+-- How far a run came that broke off: these turns were answered so and led to this moment, and the next one broke off.
+pub record IsCutShort (rules : Rules) (m : Moment) (turns : List Turn) (t : Turn) (later : List Turn) (out : List TurnAnswer) (why : TurnError) (now : Moment) : Type 0 where
+  pub before : Moment
+  pub answered : Out rules m turns (t ∷ later) out before
+  pub broken : IsBroken rules before t (is_last t later) why now

@@ -1,0 +1,225 @@
+-- What contracts see of clients over a hub, and the moments that they stand for. Own.
+use Rattle.std.specs.Prelude.{◌≡◌, ◌⊎◌, ℕ, ◌<◌, ◌≤◌, List, [], ◌∷◌, ◌++◌, Option, Some, None, Result, Ok, Err, Bool, true, false, IfSome, IsSome, nat_lt, not, slice_get, slice_set}
+use Rattle.std.specs.Option.{IsSomeAnd, option_map, option_or}
+use Rattle.std.specs.declared.alloc.AllocError.{AllocError}
+use Rattle.zb_base.specs.Counts.{Rose}
+use Rattle.zb_ids.specs.declared.stamp.Stamp.{Stamp}
+use Rattle.zb_model.specs.declared.data.Transaction.{Transaction}
+use Rattle.zb_model.specs.declared.refusal.Refusal.{Refusal}
+use Rattle.zb_model.specs.declared.refusal.Refusal.TheVariants as refusal
+use Rattle.zb_model.specs.Database.{newest_tid}
+use Rattle.zb_script.specs.declared.answer.Answer.{Answer}
+use Rattle.zb_script.specs.declared.answer.Answer.TheVariants as answer
+use Rattle.zb_script.specs.declared.line.Line.{Line}
+use Rattle.zodb_core.specs.declared.reply.Reply.{Reply}
+use Rattle.zodb_core.specs.declared.reply.Reply.TheVariants as reply
+use Rattle.zodb_core.specs.declared.request.Request.{Request}
+use Rattle.zodb_core.specs.declared.request.Request.TheVariants as request
+use Rattle.zodb_core.specs.declared.session.Session.{Session}
+use Rattle.zodb_core.specs.Steps.{refuse_if}
+use Rattle.zodb_core.specs.HubState.{HubState, IsCauseOf, StandsForMachine, counts_of, is_store_failed}
+use Rattle.zodb_core.specs.Machine.{Machine, MachineVote, Rules, front_of, is_open_in, switches_of}
+use Rattle.zodb_core.specs.Outcomes.{AreLaterCounts, FaultCounts, outcome_of}
+use Rattle.client_turns.specs.declared.client.Changes.{Changes}
+use Rattle.client_turns.specs.declared.client.Client.{Client}
+use Rattle.client_turns.specs.declared.client.Work.{Work}
+use Rattle.client_turns.specs.declared.errors.TurnError.{TurnError}
+use Rattle.client_turns.specs.declared.got.Got.{Got}
+use Rattle.client_turns.specs.Clients.{Moment, OpenTransaction, no_changes, place_of_client}
+use Rattle.client_turns.specs.Clients as clients
+use Rattle.client_turns.specs.Lines.{Changed, answer_of, end_of}
+use Rattle.client_turns.specs.Refusing.{line_refusal}
+use Rattle.client_turns.specs.Reads.{held_below}
+use Rattle.client_turns.specs.Turns.{IsClosingAt, IsOwnLine, IsReadAt, IsStepLine}
+use Rattle.client_turns.specs.Views.{View}
+
+-- what contracts see of clients over a hub
+pub record ClientsState (R F : Type 0) : Type 0 where
+  pub hub : HubState R F
+  pub clients : List Client
+
+-- A machine's list still shows a view: where it wasn't packed since, each object has the same record below the front; and where it has one there, so it
+-- had in the view.
+pub record Shows (m : Machine) (v : View) : Type 0 where
+  pub front : v.front ≤ front_of m.list
+  pub switches : v.switches ≤ switches_of m.journal
+  pub same : v.switches ≡ switches_of m.journal → (oid : ℕ) → held_below oid v.front m.list ≡ held_below oid v.front v.list
+  pub held : (oid : ℕ) (got : Got) → held_below oid v.front m.list ≡ Some got → held_below oid v.front v.list ≡ Some got
+
+-- a list grows by at most one transaction, which is later than all
+pub data Grows (before now : List Transaction) : Type 0 where
+  same : now ≡ before → Grows before now
+  more : (t : Transaction) → newest_tid before < t.tid → now ≡ before ++ t ∷ [] → Grows before now
+
+-- what is voted is later than the list
+abbrev pub WritesLater : List Transaction → Option MachineVote → Type 0
+WritesLater list None = Unit {0}
+WritesLater list (Some v) = IfSome v.writes (λ t. newest_tid list < t.tid)
+
+-- a machine behind a step of another
+pub record IsLater (m now : Machine) : Type 0 where
+  pub list : Grows m.list now.list
+  pub switches : switches_of now.journal ≡ switches_of m.journal
+  pub vote : WritesLater now.list now.vote
+
+-- what a client's open transaction would change
+abbrev pub changes_in : Option Work → Option Changes
+changes_in work = option_map (λ w. w.changes) work
+
+-- a transaction as the client keeps it: of its view the front, and how often the list had been packed
+pub record IsWorkOf (m : Machine) (w : Work) (t : OpenTransaction) : Type 0 where
+  pub front : t.view.front ≡ w.front
+  pub switches : t.view.switches ≡ w.switches
+  pub changes : t.changes ≡ w.changes
+  pub shows : Shows m t.view
+
+abbrev pub IsWorkOfIfSome : Machine → Option Work → Option OpenTransaction → Type 0
+IsWorkOfIfSome m None None = Unit {0}
+IsWorkOfIfSome m (Some w) (Some t) = IsWorkOf m w t
+IsWorkOfIfSome m _ _ = ⊥
+
+pub record IsClientOf (m : Machine) (x : Client) (c : clients.Client) : Type 0 where
+  pub name : c.name ≡ x.name
+  pub session : c.session ≡ x.session
+  pub transaction : IsWorkOfIfSome m x.transaction c.transaction
+
+abbrev pub AreClientsOf : Machine → List Client → List clients.Client → Type 0
+AreClientsOf m [] [] = Unit {0}
+AreClientsOf m (x ∷ xs) (c ∷ cs) = IsClientOf m x c × AreClientsOf m xs cs
+AreClientsOf m _ _ = ⊥
+
+-- The clients stand for a moment: their hub for its machine, and each of them for its client there.
+pub record StandsForMoment {R F : Type 0} (seen : ClientsState R F) (left : Option (List Stamp)) (m : Moment) : Type 0 where
+  pub hub : StandsForMachine seen.hub m.machine
+  pub vote : WritesLater m.machine.list m.machine.vote
+  pub clients : AreClientsOf m.machine seen.clients m.clients
+  pub counts : m.counts ≡ counts_of seen.hub.store
+  pub stamps : m.stamps ≡ left
+
+-- a moment of which this holds, and for which they stand
+pub record LeadsTo {R F : Type 0} (Q : Moment → Type 0) (seen : ClientsState R F) (left : Option (List Stamp)) : Type 0 where
+  pub now : Moment
+  pub holds : Q now
+  pub stands : StandsForMoment seen left now
+
+abbrev pub work_voted : Work → Work
+work_voted w = record { front = w.front; switches = w.switches; changes = record { pending = w.changes.pending; is_voted = true } }
+
+-- what is left of the open transaction behind a reply
+abbrev pub work_left : Option Work → Reply → Option Work
+work_left w (reply.Front front news switches) = Some (record { front = front; switches = switches; changes = no_changes })
+work_left w reply.Voted = option_map work_voted w
+work_left w (reply.Committed tid) = None
+work_left w reply.Empty = None
+work_left w reply.Aborted = None
+work_left w reply.Closed = None
+work_left w _ = w
+
+abbrev pub with_work : Client → Option Work → Client
+with_work x w = record { name = x.name; session = x.session; transaction = w }
+
+-- what a reply says of a load, for a view that had seen so many packs
+abbrev pub reply_read : Reply → ℕ → Result Got Refusal
+reply_read (reply.Loaded serial bytes end upto) switches = Ok (record { serial = serial; bytes = bytes })
+reply_read (reply.Nothing oid packed) switches = Err (refusal.Missing oid (nat_lt switches packed))
+reply_read (reply.Refused why) switches = Err why
+reply_read _ switches = Err refusal.NotOpen
+
+-- the changes of an open transaction became these, with this answer; where none is open it was refused
+abbrev pub IsChangedBy : (Changes → Changed) → Option Work → Answer → Option Work → Type 0
+IsChangedBy change None a now = (a ≡ answer.Refused refusal.NoTransaction) × (now ≡ None)
+IsChangedBy change (Some w) a now = (a ≡ (change w.changes).answer) × (now ≡ Some (record { front = w.front; switches = w.switches; changes = (change w.changes).changes }))
+
+-- and so for the client at a place
+abbrev pub IsChangedAt : (Changes → Changed) → List Client → ℕ → Client → Answer → List Client → Type 0
+IsChangedAt change xs at x a ys = (w : Option Work) × IsChangedBy change x.transaction a w × (ys ≡ slice_set xs at (with_work x w))
+
+-- what a line is answered and the moment behind it, or, for want of memory, the moment as it was
+abbrev pub OrAsBefore : (Answer → Moment → Type 0) → Moment → Result Answer AllocError → Moment → Type 0
+OrAsBefore Q m (Ok a) now = Q a now
+OrAsBefore Q m (Err _) now = now ≡ m
+
+-- a line that is one step, of the client at a place
+abbrev pub IsStepOf : Rules → Moment → ℕ → Request → Answer → Moment → Type 0
+IsStepOf rules m at q a now = (c : clients.Client) × (slice_get m.clients at ≡ Some c) × IsStepLine rules m at c q a now
+
+-- a line that is none, of the client at a place
+abbrev pub IsOwnOf : Moment → ℕ → Line → Answer → Moment → Type 0
+IsOwnOf m at l a now = (c : clients.Client) × (slice_get m.clients at ≡ Some c) × IsOwnLine m at c c.transaction l a now
+
+-- what the closing of the session of a client gives: nothing where it has none, else how the step ends the run
+abbrev pub ClosesAs : Rules → Moment → Option ℕ → Option TurnError → Moment → Type 0
+ClosesAs rules m None ended now = (ended ≡ None) × (now ≡ m)
+ClosesAs rules m (Some at) ended now = (r : Reply) × IsClosingAt rules m at r now × (ended ≡ end_of (answer_of r))
+
+-- and so behind the last line of a client
+abbrev pub ClosesIf : Rules → Moment → List ℕ → Bool → Option TurnError → Moment → Type 0
+ClosesIf rules m name false ended now = (ended ≡ None) × (now ≡ m)
+ClosesIf rules m name true ended now = ClosesAs rules m (place_of_client name m.clients) ended now
+
+-- what a connection refuses, as it is kept
+abbrev pub refusal_kept : List Session → Client → Line → Option Refusal
+refusal_kept sessions x l = option_or (refuse_if (not (is_open_in sessions x.session)) refusal.NotOpen) (line_refusal (changes_in x.transaction) l)
+
+-- ---- what holds whatever the store tells
+
+-- the reply says that the store failed, or that reading failed, only where that count rose; neither count has fallen, and rules and references stay
+pub record MakesSafely {R F : Type 0} (r : Reply) (old new : HubState R F) : Type 0 where
+  pub resolver : new.resolver ≡ old.resolver
+  pub refs : new.refs ≡ old.refs
+  pub later : AreLaterCounts (counts_of old.store) (counts_of new.store)
+  pub cause : IsCauseOf (counts_of old.store) (counts_of new.store) (outcome_of r)
+  pub broken : old.store.broken ≡ false → new.store.broken ≡ is_store_failed (outcome_of r)
+
+-- an answer that says that the store failed, or that reading failed, comes only where that count rose
+abbrev pub HasTurnCause : FaultCounts → FaultCounts → Answer → Type 0
+HasTurnCause before now (answer.Refused refusal.StoreFault) = Rose before.others now.others
+HasTurnCause before now (answer.Refused refusal.ReadFault) = Rose before.reads now.reads
+HasTurnCause before now a = Unit {0}
+
+-- a read that found the object, or found it missing
+abbrev pub found_or_missing : Result Got Refusal → Bool
+found_or_missing (Ok got) = true
+found_or_missing (Err (refusal.Missing oid packed)) = true
+found_or_missing (Err _) = false
+
+-- a read in an open transaction
+abbrev pub IsReadIn : Moment → Option OpenTransaction → ℕ → Result Got Refusal → Moment → Type 0
+IsReadIn m None oid result now = ⊥
+IsReadIn m (Some t) oid result now = IsReadAt m t.view oid result now
+
+-- a read in the open transaction of the client at a place
+abbrev pub IsReadOf : Moment → ℕ → ℕ → Result Got Refusal → Moment → Type 0
+IsReadOf m at oid result now = (c : clients.Client) × (slice_get m.clients at ≡ Some c) × IsReadIn m c.transaction oid result now
+
+-- the session of the client at a place is open, and so is a transaction
+abbrev pub MayReadAt : Moment → ℕ → Type 0
+MayReadAt m at = (c : clients.Client) × (slice_get m.clients at ≡ Some c) × (is_open_in m.machine.sessions c.session ≡ true) × IsSome c.transaction
+
+-- a read that says that reading failed, or that the store did, comes only where that count rose
+abbrev pub HasReadCause : FaultCounts → FaultCounts → Result Got Refusal → Type 0
+HasReadCause before now (Err refusal.StoreFault) = Rose before.others now.others
+HasReadCause before now (Err refusal.ReadFault) = Rose before.reads now.reads
+HasReadCause before now result = Unit {0}
+
+-- ---- what a crash leaves
+
+-- what a vote is to write, behind the list
+abbrev pub IsVotedBehind : (List ℕ → List Transaction → Type 0) → List Transaction → Option MachineVote → List ℕ → Type 0
+IsVotedBehind stands list None bytes = ⊥
+IsVotedBehind stands list (Some v) bytes = IsSomeAnd v.writes (λ t. stands bytes (list ++ t ∷ []))
+
+-- bytes stand for the machine's list, or for that with what is voted behind it
+abbrev pub IsListAround : (List ℕ → List Transaction → Type 0) → Machine → List ℕ → Type 0
+IsListAround stands m bytes = stands bytes m.list ⊎ IsVotedBehind stands m.list m.vote bytes
+
+-- a refusal that says nothing of a fault
+abbrev pub IsQuiet : Refusal → Type 0
+IsQuiet why = (before now : FaultCounts) → HasTurnCause before now (answer.Refused why)
+
+-- a request that a client makes beside its lines, behind which the list is as it was
+abbrev pub keeps_list : Request → Bool
+keeps_list request.Front = true
+keeps_list (request.LoadBefore oid front) = true
+keeps_list request.Close = true
+keeps_list _ = false

@@ -1,0 +1,27 @@
+//! Turns of clients: each line of a client becomes steps of the hub, and is answered.
+#![tactic(auto)]
+
+mod changing;
+mod client;
+mod clients;
+mod errors;
+mod got;
+mod last;
+mod laws;
+mod leaving;
+mod lines;
+mod reading;
+mod refusing;
+mod requests;
+mod steps;
+mod turns;
+
+pub use client::{Changes, Client, Work};
+pub use clients::Clients;
+pub use errors::TurnError;
+pub use got::Got;
+pub use last::last_turns;
+pub use laws::{
+    fronts_never_fall, new_numbers_are_new, reads_stay_below_the_front, refusals_have_their_cause,
+    the_list_stays_a_database,
+};

@@ -1,0 +1,88 @@
+//! Reading what a line stores.
+
+ghost use Rattle.std.specs.Prelude.{◌≡◌};
+ghost use Rattle.zb_ids.specs.Hex.{bytes_at};
+ghost use Rattle.zb_literals.specs.Exact.{graph_spelled};
+ghost use Rattle.zb_record.specs.Records.{object_text};
+ghost use Rattle.zb_script.specs.Reading.{ReadsAs, payload_at, payload_of_text, record_at};
+
+use crate::errors::ReadError;
+use crate::payload::Payload;
+use pickle_value::{Pickle, WriteError};
+use std::alloc::Global;
+use zb_ids::{Text8, read_hex_pair};
+use zb_literals::{LiteralError, literals_are_exact, read_literal};
+use zb_record::{ObjectRecord, is_class, write_record};
+
+/// How many digits spell the bytes that a line stores, at most.
+const MOST_DIGITS: usize = 134_217_728;
+
+#[tactic(auto, using(zb_ids::specs::HexLaws::pair_read, zb_ids::specs::HexLaws::pair_refused, zb_ids::specs::HexLaws::all_read, zb_ids::specs::HexLaws::odd_refused))]
+fn bytes_of(alloc: Global, text: &[u8]) -> Result<Vec<u8>, ReadError>
+    ensures { ReadsAs (λ bytes. bytes.items) result (bytes_at text.now) }
+{
+    if text.len() % 2 != 0 {
+        return Err(ReadError::Bad);
+    }
+    let mut bytes = Vec::with_capacity(alloc, text.len() / 2)?;
+    for i in 0..text.len() / 2 {
+        let Some(byte) = read_hex_pair(text[2 * i], text[2 * i + 1]) else {
+            return Err(ReadError::Bad);
+        };
+        bytes.push(byte)?;
+    }
+    Ok(bytes)
+}
+
+#[tactic(auto, unfolding(crate::specs::Reading::payload_at))]
+pub(crate) fn payload_of(alloc: Global, text: &[u8]) -> Result<Payload, ReadError>
+    ensures { ReadsAs (λ payload. payload) result (payload_at text.now) }
+{
+    if text.len() > MOST_DIGITS {
+        return Err(ReadError::Bad);
+    }
+    let bytes = bytes_of(alloc, text)?;
+    match Payload::new(Text8::from_vec(bytes)) {
+        Some(payload) => Ok(payload),
+        None => Err(ReadError::Bad),
+    }
+}
+
+/// The graph of a literal.
+pub(crate) fn graph_of(alloc: Global, bytes: &[u8]) -> Result<Pickle, ReadError>
+    ensures { ReadsAs (λ graph. graph) result (graph_spelled bytes.now) }
+{
+    literals_are_exact();
+    match read_literal(alloc, bytes) {
+        Ok(graph) => Ok(graph),
+        Err(LiteralError::NotLiteral) => Err(ReadError::Bad),
+        Err(LiteralError::Memory) => Err(ReadError::Memory),
+    }
+}
+
+/// The bytes that a record writes.
+fn written(alloc: Global, entry: &ObjectRecord) -> Result<Payload, ReadError>
+    ensures { ReadsAs (λ bytes. bytes) result (payload_of_text (object_text entry.now.class entry.now.state)) }
+{
+    match write_record(alloc, entry) {
+        Ok(text) => match Payload::new(text) {
+            Some(payload) => Ok(payload),
+            None => Err(ReadError::Bad),
+        },
+        Err(WriteError::TooDeep) => Err(ReadError::Bad),
+        Err(WriteError::Memory) => Err(ReadError::Memory),
+    }
+}
+
+/// The record of the class and the state that two literals spell.
+#[tactic(auto, unfolding(crate::specs::Reading::record_at))]
+pub(crate) fn record_of(alloc: Global, class: &[u8], state: &[u8]) -> Result<Payload, ReadError>
+    ensures { ReadsAs (λ bytes. bytes) result (record_at class.now state.now) }
+{
+    let class = graph_of(alloc, class)?;
+    let state = graph_of(alloc, state)?;
+    if !is_class(&class) {
+        return Err(ReadError::Bad);
+    }
+    written(alloc, &ObjectRecord { class, state })
+}

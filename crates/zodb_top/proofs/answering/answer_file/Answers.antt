@@ -1,0 +1,97 @@
+use Rattle.std.proofs.Common.{refl, sym}
+use Rattle.std.specs.Option.{option_map}
+use Rattle.fs_records.specs.Listed.{listed}
+use Rattle.file_store.specs.Kept.{voted_in}
+use Rattle.zb_base.specs.Counts.{Rose}
+use Rattle.zb_model.specs.Stores.{StoreState}
+use Rattle.zb_volume.specs.declared.areas.Area.TheVariants.{Main}
+use Rattle.zb_volume.specs.Disk.{seen}
+use Rattle.zodb_top.specs.Outside.{Outside, outside}
+use Rattle.zodb_top.proofs.Commands.{answered, left_open, rose_so, unopened}
+use Rattle.zodb_top.proofs.Files.{opened_none, opens_as}
+use Rattle.zodb_top.proofs.answering.answer_file.Goals as goal
+
+pub returns-in-Ok-clause-outcome : goal.returns-in-Ok-clause-outcome
+returns-in-Ok-clause-outcome g c =
+    let V = g.V.Volume in
+    let K = g.K.Sink in
+    let C = g.C.Clock in
+    let before : Outside = outside (K.taken c.args.sink.now) (K.faults c.args.sink.now) (C.stamps c.args.clock.now) (V.log c.args.volume) (V.read_faults c.args.volume) (V.write_faults c.args.volume) in
+    let after : Outside = outside (K.taken c.write_answer-status.new.sink) (K.faults c.write_answer-status.new.sink) (C.stamps c.store_lines-lines.new.clock) (V.log c.into_volume.result) (V.read_faults c.into_volume.result) (V.write_faults c.into_volume.result) in
+    let s = c.in-Ok.store in
+    let t = c.store_lines-lines.result.1 in
+    let state : StoreState = record {
+      list = listed (seen (V.log s.volume) Main);
+      voted = option_map (λ x. voted_in x.tid s.index.end (seen (V.log s.volume) Main)) s.index.staged;
+      newest = s.index.newest;
+      broken = s.broken;
+      log = V.log s.volume;
+      faults = V.write_faults s.volume;
+      read_faults = V.read_faults s.volume;
+    } in
+    let state' : StoreState = record {
+      list = listed (seen (V.log t.volume) Main);
+      voted = option_map (λ x. voted_in x.tid t.index.end (seen (V.log t.volume) Main)) t.index.staged;
+      newest = t.index.newest;
+      broken = t.broken;
+      log = V.log t.volume;
+      faults = V.write_faults t.volume;
+      read_faults = V.read_faults t.volume;
+    } in
+    answered c.args.asked V.told before after state state' (C.stamps c.create_or_open.new.clock) c.in-Ok.cut c.into_volume.ensures.log
+    (λ rose. rose_so _ _ _ _ c.in-Ok.ensures.read_faults c.into_volume.ensures.read_faults rose) c.write_answer-status.result c.store_lines-lines.result.0 c.write_answer-status.ensures.says
+    (λ told. record {
+      file = record {
+        opens = opens_as _ _ _ _ _ (c.in-Ok.ensures.opened told) (c.in-Ok.ensures.made told) (c.in-Ok.ensures.stamps_kept told) (c.in-Ok.ensures.stamps_left told);
+        keeps = c.in-Ok.ensures.keeps told;
+        makes = c.in-Ok.ensures.makes told;
+        shown = g.met.V.Volume.seen_is_left c.into_volume.result Main told;
+      };
+      lines = c.store_lines-lines.ensures.lines told;
+      keeps = c.store_lines-lines.ensures.keeps told;
+      images = c.store_lines-lines.ensures.images told (c.store_lines-lines.ensures.keeps told).whole;
+    })
+    c.store_lines-lines.ensures.failed
+
+pub returns-in-Ok-clause-left : goal.returns-in-Ok-clause-left
+returns-in-Ok-clause-left g c = λ told.
+    let V = g.V.Volume in
+    let K = g.K.Sink in
+    let C = g.C.Clock in
+    let before : Outside = outside (K.taken c.args.sink.now) (K.faults c.args.sink.now) (C.stamps c.args.clock.now) (V.log c.args.volume) (V.read_faults c.args.volume) (V.write_faults c.args.volume) in
+    let after : Outside = outside (K.taken c.write_answer-status.new.sink) (K.faults c.write_answer-status.new.sink) (C.stamps c.store_lines-lines.new.clock) (V.log c.into_volume.result) (V.read_faults c.into_volume.result) (V.write_faults c.into_volume.result) in
+    let s = c.in-Ok.store in
+    let t = c.store_lines-lines.result.1 in
+    let state : StoreState = record {
+      list = listed (seen (V.log s.volume) Main);
+      voted = option_map (λ x. voted_in x.tid s.index.end (seen (V.log s.volume) Main)) s.index.staged;
+      newest = s.index.newest;
+      broken = s.broken;
+      log = V.log s.volume;
+      faults = V.write_faults s.volume;
+      read_faults = V.read_faults s.volume;
+    } in
+    let state' : StoreState = record {
+      list = listed (seen (V.log t.volume) Main);
+      voted = option_map (λ x. voted_in x.tid t.index.end (seen (V.log t.volume) Main)) t.index.staged;
+      newest = t.index.newest;
+      broken = t.broken;
+      log = V.log t.volume;
+      faults = V.write_faults t.volume;
+      read_faults = V.read_faults t.volume;
+    } in
+    left_open V.told before after state state' (C.stamps c.create_or_open.new.clock) (c.store_lines-lines.ensures.keeps told) c.into_volume.ensures.log
+    (record { stamps = c.in-Ok.ensures.stamps_given; kept = c.in-Ok.ensures.stamps_kept; keeps = c.in-Ok.ensures.keeps; makes = c.in-Ok.ensures.makes })
+
+pub returns-in-Ok-clause-harmed : goal.returns-in-Ok-clause-harmed
+returns-in-Ok-clause-harmed g c = λ told none. opened_none g.V.Volume.told _ _ _ c.in-Ok.cut c.in-Ok.ensures.opened told none
+
+pub returns-in-Err-clause-outcome : goal.returns-in-Err-clause-outcome
+returns-in-Err-clause-outcome g c =
+    unopened c.say_unopened.result c.in-Err.error c.args.asked g.V.Volume.told _ _ c.say_unopened.ensures.said c.in-Err.ensures.harm c.in-Err.ensures.fault c.in-Err.ensures.untouched
+    (record {
+      stamps = c.in-Err.ensures.stamps_given;
+      kept = c.in-Err.ensures.stamps_kept;
+      keeps = c.in-Err.ensures.keeps_refused;
+      makes = c.in-Err.ensures.makes_refused;
+    })

@@ -1,0 +1,20 @@
+use Rattle.std.proofs.Common.{sym, ◌∙◌}
+use Rattle.zodb_core.specs.HubState.{counts_of}
+use Rattle.zodb_top.proofs.Asks.{failed_by, reading_keeps, stepped_so, unrefused_by}
+use Rattle.zodb_top.proofs.asking.ask.Goals as goal
+
+pub returns-in-Some-clause-keeps : goal.returns-in-Some-clause-keeps
+returns-in-Some-clause-keeps g c = λ told m stands whole.
+    reading_keeps m c.args.session c.args.request c.step-reply.result c.args.hub.now c.step-reply.new.self _ _ c.requires.reads (c.step-reply.ensures.step told m stands) c.step-reply.ensures.safe whole
+
+pub returns-in-None-clause-keeps : goal.returns-in-None-clause-keeps
+returns-in-None-clause-keeps g c = λ told m stands whole.
+    reading_keeps m c.args.session c.args.request c.step-reply.result c.args.hub.now c.step-reply.new.self _ _ c.requires.reads (c.step-reply.ensures.step told m stands) c.step-reply.ensures.safe whole
+
+pub returns-in-Some-clause-failed : goal.returns-in-Some-clause-failed
+returns-in-Some-clause-failed g c = λ is.
+    failed_by (counts_of c.args.hub.now.store) (counts_of c.step-reply.new.self.store) c.step-reply.result c.in-Some.error (sym c.refusal_in.ensures ∙ c.in-Some.is) c.step-reply.ensures.safe.cause cc
+
+pub returns-in-None-clause-reply : goal.returns-in-None-clause-reply
+returns-in-None-clause-reply g c = λ told m stands.
+    stepped_so m c.args.session c.args.request c.step-reply.result c.args.hub.now c.step-reply.new.self _ _ (c.step-reply.ensures.step told m stands) (unrefused_by c.step-reply.result (sym c.refusal_in.ensures ∙ c.in-None.is))

@@ -1,0 +1,13 @@
+use Rattle.std.proofs.Common.{ap, ◌∙◌}
+use Rattle.zodb_core.specs.Machine.{machine_over}
+use Rattle.zodb_top.proofs.Asks.{store_kept}
+use Rattle.zodb_top.proofs.asking.store_lines.Goals as goal
+
+pub returns-clause-lines : goal.returns-clause-lines
+returns-clause-lines g c = λ told.
+    c.hub_lines-lines.ensures.lines told (machine_over (g.St.Store.state c.args.store).list) (c.new-hub.ensures.stands told) (ap (λ s. s.broken) c.new-hub.ensures.store ∙ c.requires.whole)
+
+pub returns-clause-keeps : goal.returns-clause-keeps
+returns-clause-keeps g c = λ told.
+    store_kept (g.St.Store.state c.args.store) (g.St.Store.state c.into_store.result) c.new-hub.result c.hub_lines-lines.new.hub _ _ c.new-hub.ensures.store c.into_store.ensures
+    (c.hub_lines-lines.ensures.keeps told (machine_over (g.St.Store.state c.args.store).list) (c.new-hub.ensures.stands told) (ap (λ s. s.broken) c.new-hub.ensures.store ∙ c.requires.whole))

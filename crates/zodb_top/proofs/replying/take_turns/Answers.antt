@@ -1,0 +1,42 @@
+use Rattle.std.proofs.Common.{◌≡◌, ◌+◌, ◌<◌, Bool, List, Some, arith, ap, false, length, refl, sym, subst, ◌∙◌}
+use Rattle.std.specs.Prelude.{slice_get}
+use Rattle.client_turns.specs.Output.{last_flags}
+use Rattle.zodb_top.proofs.Replies.{all_taken, flags_length, start_run, turn_last, turn_more}
+use Rattle.zodb_top.proofs.replying.take_turns.Goals as goal
+
+pub loop-at-init : goal.loop-at-init
+loop-at-init g c = record {
+  runs = λ told m stands whole. start_run g.St.Store.lasts g.St.Store.stands m c.args.turns.now (g.K.Sink.taken c.args.sink.now) c.args.clients.now (g.C.Clock.stamps c.args.clock.now) stands whole c.requires.lasting;
+  sink_counted = omega arith;
+  read_counted = omega arith;
+  counted = omega arith;
+}
+
+pub flag_at-is_last-requires : goal.flag_at-is_last-requires
+flag_at-is_last-requires g c = omega (arith, ap (length {A = Bool}) c.requires.flags, flags_length c.args.turns.now, c.loop-at-test.true)
+
+pub loop-at-preserved : goal.loop-at-preserved
+loop-at-preserved g c = record {
+  runs = λ told m stands whole.
+      let runs = c.loop-at.invariant.runs told m stands whole in
+      turn_more g.St.Store.lasts g.St.Store.stands m c.args.turns.now c.loop-at.at c.index-turns-at.result c.flag_at-is_last.result (g.K.Sink.taken c.args.sink.now) (g.K.Sink.taken c.loop-at.sink) (g.K.Sink.taken c.reply.new.sink)
+      c.args.clients.now.hub.store.log c.loop-at.clients c.reply.new.clients (g.C.Clock.stamps c.loop-at.clock) (g.C.Clock.stamps c.reply.new.clock) c.loop-at-test.true c.index-turns-at.is
+      (subst (λ (fs : List Bool). slice_get fs c.loop-at.at ≡ Some c.flag_at-is_last.result) c.requires.flags c.flag_at-is_last.ensures) runs
+      (λ lasts. c.reply.ensures.moments lasts told (sym runs.stands_for.hub.failed ∙ runs.whole) runs.now runs.stands_for) (c.in-Ok.ensures.ok told runs.now runs.stands_for);
+  sink_counted = omega (arith, c.loop-at.invariant.sink_counted, c.reply.ensures.sink_counted);
+  read_counted = omega (arith, c.loop-at.invariant.read_counted, c.reply.ensures.read_counted);
+  counted = omega (arith, c.loop-at.invariant.counted, c.reply.ensures.counted);
+}
+
+pub returns-in-Err-clause-err : goal.returns-in-Err-clause-err
+returns-in-Err-clause-err g c = λ told m stands whole.
+    let runs = c.loop-at.invariant.runs told m stands whole in
+    turn_last g.St.Store.lasts g.St.Store.stands m c.args.turns.now c.loop-at.at c.index-turns-at.result c.flag_at-is_last.result (g.K.Sink.taken c.args.sink.now) (g.K.Sink.taken c.loop-at.sink) (g.K.Sink.taken c.reply.new.sink)
+    c.args.clients.now.hub.store.log c.loop-at.clients c.reply.new.clients (g.C.Clock.stamps c.loop-at.clock) (g.C.Clock.stamps c.reply.new.clock) c.in-Err.error c.loop-at-test.true c.index-turns-at.is
+    (subst (λ (fs : List Bool). slice_get fs c.loop-at.at ≡ Some c.flag_at-is_last.result) c.requires.flags c.flag_at-is_last.ensures) runs
+    (λ lasts. c.reply.ensures.moments lasts told (sym runs.stands_for.hub.failed ∙ runs.whole) runs.now runs.stands_for) (c.in-Err.ensures.err told runs.now runs.stands_for)
+
+pub returns-clause-ok : goal.returns-clause-ok
+returns-clause-ok g c = λ told m stands whole.
+    all_taken g.St.Store.lasts g.St.Store.stands m c.args.turns.now c.loop-at.at (g.K.Sink.taken c.args.sink.now) (g.K.Sink.taken c.loop-at.sink) c.args.clients.now.hub.store.log c.loop-at.clients (g.C.Clock.stamps c.loop-at.clock)
+    c.loop-at-test.false (c.loop-at.invariant.runs told m stands whole)

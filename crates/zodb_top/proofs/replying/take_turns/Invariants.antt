@@ -1,0 +1,18 @@
+use Rattle.std.proofs.Common.{◌≡◌, ◌≤◌, false, take, drop}
+use Rattle.client_turns.specs.Clients.{Moment}
+use Rattle.client_turns.specs.Standing.{StandsForMoment}
+use Rattle.zodb_top.specs.Running.{RunsOn}
+use Rattle.zodb_top.proofs.replying.take_turns.Given as goal
+
+abbrev pub invariant-loop-at : goal.invariant-loop-at
+invariant-loop-at g l =
+    let C = g.C.Clock in
+    let K = g.K.Sink in
+    let St = g.St.Store in
+    record {
+      runs : St.told → (m : Moment) → StandsForMoment l.fn.clients (C.stamps l.fn.clock) m → m.machine.failed ≡ false
+          → RunsOn St.lasts St.stands m l.turns (take l.at l.turns) (drop l.at l.turns) (K.taken l.fn.sink) (K.taken l.sink) l.fn.clients.hub.store.log l.clients (C.stamps l.clock);
+      sink_counted : K.faults l.fn.sink ≤ K.faults l.sink;
+      read_counted : l.fn.clients.hub.store.read_faults ≤ l.clients.hub.store.read_faults;
+      counted : l.fn.clients.hub.store.faults ≤ l.clients.hub.store.faults;
+    }

@@ -1,0 +1,88 @@
+-- What the code of a command that takes no script says of replies.
+use Rattle.std.specs.Prelude.{◌≡◌, ℕ, List, [], ◌∷◌, ◌++◌, Option, Some, None, Result, Ok, Err, Bool, true, false}
+use Rattle.std.specs.Io.KnownBytes.{Appends}
+use Rattle.zb_base.specs.Counts.{Rose}
+use Rattle.zb_ids.specs.declared.stamp.Stamp.{Stamp}
+use Rattle.zb_outside.specs.Written.{AppendsPrefix}
+use Rattle.zb_model.specs.declared.data.Transaction.{Transaction}
+use Rattle.zb_model.specs.declared.refusal.Refusal.{Refusal}
+use Rattle.zb_model.specs.declared.refusal.Refusal.TheVariants as refusal
+use Rattle.zb_model.specs.Stores.{StoreState}
+use Rattle.zb_script.specs.Objects.{shown_line}
+use Rattle.zodb_core.specs.declared.reply.Reply.{Reply}
+use Rattle.zodb_core.specs.declared.reply.Reply.TheVariants as reply
+use Rattle.zodb_core.specs.declared.request.Request.{Request}
+use Rattle.zodb_core.specs.declared.request.Request.TheVariants as request
+use Rattle.zodb_core.specs.HubState.{HubState, StandsForMachine}
+use Rattle.zodb_core.specs.Machine.{Machine}
+use Rattle.zodb_core.specs.Steps.{step_of}
+use Rattle.zodb_top.specs.declared.asking.AskError.{AskError}
+use Rattle.zodb_top.specs.declared.asking.AskError.TheVariants as error
+use Rattle.zodb_top.specs.declared.status.Status.{Status}
+use Rattle.zodb_top.specs.declared.status.Status.TheVariants as status
+use Rattle.zodb_top.specs.Asked.{digested, last_of, shown}
+use Rattle.zodb_top.specs.Came.{stock}
+use Rattle.zodb_top.specs.Texts.{cut_lines, digest_line, joined, missing_line, refused_line}
+
+-- a request that only reads
+abbrev pub only_reads : Request → Bool
+only_reads request.Front = true
+only_reads (request.LoadBefore oid front) = true
+only_reads (request.History oid) = true
+only_reads request.UndoLog = true
+only_reads _ = false
+
+-- how a refusal ends what was asked, if the reply is one
+abbrev pub ask_refusal : Reply → Option AskError
+ask_refusal (reply.Refused refusal.ReadFault) = Some error.ReadFault
+ask_refusal (reply.Refused why) = Some error.Memory
+ask_refusal _ = None
+
+-- how the reply to a load is shown
+abbrev pub shown_reply : Reply → List ℕ
+shown_reply (reply.Loaded serial bytes end upto) = shown_line serial bytes
+shown_reply _ = missing_line
+
+abbrev pub digested_reply : Reply → List ℕ
+digested_reply (reply.Loaded serial bytes end upto) = digest_line serial bytes
+digested_reply _ = missing_line
+
+-- A hub that was asked stands for a machine with the same list; its volume and the clock are as they were, and its store hasn't failed.
+pub record KeepsList {R F : Type 0} (m : Machine) (old new : HubState R F) (before after : Option (List Stamp)) : Type 0 where
+  pub left : Machine
+  pub list : left.list ≡ m.list
+  pub stands : StandsForMachine new left
+  pub log : new.store.log ≡ old.store.log
+  pub whole : new.store.broken ≡ false
+  pub clock : after ≡ before
+
+-- the store of such a hub
+pub record KeepsStore (old new : StoreState) (before after : Option (List Stamp)) : Type 0 where
+  pub list : new.list ≡ old.list
+  pub log : new.log ≡ old.log
+  pub whole : new.broken ≡ false
+  pub clock : after ≡ before
+
+-- A step that only reads was answered by the machine.
+pub record IsStepped (m : Machine) (n : ℕ) (q : Request) (r : Reply) : Type 0 where
+  pub stamp : ℕ
+  pub is : r ≡ (step_of stock m n q stamp).reply
+  pub unrefused : (why : Refusal) → ¬ (r ≡ reply.Refused why)
+
+-- the reply to a load of what an object has last
+pub record IsLast (oid : ℕ) (list : List Transaction) (r : Reply) : Type 0 where
+  pub shown : shown_reply r ≡ shown (last_of oid list)
+  pub digested : digested_reply r ≡ digested (last_of oid list)
+
+-- the lines of the tail that was cut off and of an answer, or the one that says that reading failed, have this to do with what was written
+abbrev pub WritesAnswer : (List ℕ → Type 0) → Option ℕ → Result (List (List ℕ)) AskError → Type 0
+WritesAnswer written cut (Ok lines) = written (joined (cut_lines cut ++ lines))
+WritesAnswer written cut (Err error.ReadFault) = written (joined (cut_lines cut ++ refused_line ∷ []))
+WritesAnswer written cut (Err error.Memory) = ⊥
+
+-- What each status says of an answer.
+abbrev pub AnswerSays : Status → Option ℕ → Result (List (List ℕ)) AskError → Option (List ℕ) → Option (List ℕ) → ℕ → ℕ → Type 0
+AnswerSays status.Done cut answer old new before now = WritesAnswer (Appends old new) cut answer
+AnswerSays status.NoMemory cut answer old new before now = new ≡ old
+AnswerSays status.SinkFault cut answer old new before now = Rose before now × WritesAnswer (AppendsPrefix old new) cut answer
+AnswerSays _ cut answer old new before now = ⊥

@@ -1,0 +1,119 @@
+-- How far a run came. Own.
+use Rattle.std.specs.Prelude.{◌≡◌, ◌≢◌, ◌⊎◌, ℕ, ◌≤◌, List, [], ◌∷◌, ◌++◌, Option, Some, None, IsSome}
+use Rattle.std.specs.List.{flat_map}
+use Rattle.std.specs.Io.KnownBytes.{Appends}
+use Rattle.file_store.specs.Kept.{StandsForList}
+use Rattle.zb_ids.specs.declared.stamp.Stamp.{Stamp}
+use Rattle.zb_model.specs.declared.data.Transaction.{Transaction}
+use Rattle.zb_outside.specs.Written.{AppendsPrefix}
+use Rattle.zb_resolve.specs.References.{stock_references}
+use Rattle.zb_resolve.specs.Resolution.{stock_rules}
+use Rattle.zb_script.specs.declared.line.Turn.{Turn}
+use Rattle.zb_script.specs.Answers.{reply_lines}
+use Rattle.zb_volume.specs.declared.areas.Area.TheVariants.{Main}
+use Rattle.zb_volume.specs.Disk.{IsSettled}
+use Rattle.zb_volume.specs.Moments.{Leaves, LeavesOnly}
+use Rattle.zodb_core.specs.Machine.{Machine, Rules}
+use Rattle.zodb_core.specs.Outcomes.{FaultCounts}
+use Rattle.client_turns.specs.declared.errors.TurnError.{TurnError}
+use Rattle.client_turns.specs.declared.errors.TurnError.TheVariants.{Memory, StoreFault}
+use Rattle.client_turns.specs.Clients.{Moment, first_moment}
+use Rattle.client_turns.specs.Output.{Out, TurnAnswer, is_last}
+use Rattle.client_turns.specs.Standing.{IsListAround}
+use Rattle.client_turns.specs.Turns.{IsBroken}
+use Rattle.zodb_top.specs.Committed.{HasCommitted}
+use Rattle.zodb_top.specs.Opened.{OpensAs}
+use Rattle.zodb_top.specs.Outside.{Outside, main_of}
+use Rattle.zodb_top.specs.Texts.{cut_lines, joined, store_fault_line}
+use Rattle.zodb_top.specs.Written.{IsWritten}
+
+-- the rules that the program has
+abbrev pub stock : Rules
+stock = record { merging = stock_rules; named = stock_references }
+
+-- the reply lines of answered turns
+abbrev pub answers_text : List TurnAnswer → List ℕ
+answers_text answers = flat_map (λ o. joined (reply_lines o.client o.answer)) answers
+
+-- What followed on the turns that were answered: nothing, or the first of those that weren't broke off so.
+abbrev pub BreaksOff : Moment → List Turn → Option TurnError → Moment → Type 0
+BreaksOff m later None now = now ≡ m
+BreaksOff m [] (Some why) now = ⊥
+BreaksOff m (t ∷ later) (Some why) now = IsBroken stock m t (is_last t later) why now
+
+-- How far the turns came: those that were taken were answered so and led to a moment, and `broke` says whether the next one broke off then, and why. It is this
+-- moment now.
+pub record Came (m : Moment) (turns : List Turn) (broke : Option TurnError) (now : Moment) : Type 0 where
+  pub taken : List Turn
+  pub later : List Turn
+  pub parts : turns ≡ taken ++ later
+  pub answers : List TurnAnswer
+  pub behind : Moment
+  pub answered : Out stock m taken later answers behind
+  pub ends : BreaksOff behind later broke now
+
+-- the moment before the first turn, with these counts of failed reads and of other failed calls
+abbrev pub began : List Transaction → Option (List Stamp) → ℕ → ℕ → Moment
+began list stamps reads others = first_moment list stamps (record { reads = reads; others = others })
+
+-- bytes stand for the list of a machine; where the store failed, for that or for what the failing step would have left
+abbrev pub IsMainBy : (List ℕ → List Transaction → Type 0) → Option TurnError → Machine → List ℕ → Type 0
+IsMainBy stands (Some StoreFault) m bytes = IsListAround stands m bytes
+IsMainBy stands _ m bytes = stands bytes m.list
+
+abbrev pub IsMainOf : Option TurnError → Machine → List ℕ → Type 0
+IsMainOf broke m bytes = IsMainBy StandsForList broke m bytes
+
+-- Bytes stand for the list at some moment of the run, behind some front of its turns; or for what the step made there would leave.
+pub record IsOfRun (stands : List ℕ → List Transaction → Type 0) (m : Moment) (turns : List Turn) (bytes : List ℕ) : Type 0 where
+  pub taken : List Turn
+  pub later : List Turn
+  pub parts : turns ≡ taken ++ later
+  pub answers : List TurnAnswer
+  pub at : Moment
+  pub answered : Out stock m taken later answers at
+  pub list : IsListAround stands at.machine bytes
+
+-- before the first turn the file of a new database may not be there yet
+abbrev pub IsOfRunOrEmpty : List ℕ → Moment → List Turn → List ℕ → Type 0
+IsOfRunOrEmpty main m turns bytes = IsOfRun StandsForList m turns bytes ⊎ ((main ≡ []) × StandsForList bytes [])
+
+-- nothing of Main is pending, and where it is empty the clock tells
+pub record IsCalm (before : Outside) : Type 0 where
+  pub settled : IsSettled before.log Main
+  pub clock : main_of before ≡ [] → IsSome before.stamps
+
+-- The file was opened, the turns came so far over its list, and what was written has this to do with the line of the tail that was cut off and the replies. The
+-- clock and the volume's counts are those of the moment. Main stands for its list, as it is and whatever a crash leaves, and that list has each transaction that
+-- was answered as committed. Whatever a crash at any moment of the call leaves stands for the list at some moment of the run.
+pub record Reached (turns : List Turn) (broke : Option TurnError) (written : List ℕ → Type 0) (before after : Outside) : Type 0 where
+  pub list : List Transaction
+  pub cut : Option ℕ
+  pub stamps : Option (List Stamp)
+  pub faults : ℕ
+  pub opens : OpensAs (main_of before) before.stamps stamps list cut
+  pub later : before.write_faults ≤ faults
+  pub now : Moment
+  pub came : Came (began list stamps before.read_faults faults) turns broke now
+  pub text : written (joined (cut_lines cut) ++ answers_text came.answers)
+  pub stamps_left : after.stamps ≡ now.stamps
+  pub reads_left : after.read_faults ≡ now.counts.reads
+  pub faults_left : after.write_faults ≡ now.counts.others
+  pub main : IsMainOf broke came.behind.machine (main_of after)
+  pub images : Leaves Main (IsMainOf broke came.behind.machine) after.log
+  pub acknowledged : HasCommitted came.answers came.behind.machine.list
+  pub moments : IsCalm before → LeavesOnly Main (IsOfRunOrEmpty (main_of before) (began list stamps before.read_faults faults) turns) before.log after.log
+
+-- all turns were answered, and all that was written
+pub record RanWhole (turns : List Turn) (before after : Outside) : Type 0 where
+  pub reached : Reached turns None (Appends before.taken after.taken) before after
+  pub all : reached.came.later ≡ []
+
+-- the run ended early, for the sink or for memory: some prefix of what was answered was written
+abbrev pub RanInPart : List Turn → Option TurnError → Outside → Outside → Type 0
+RanInPart turns broke before after = Reached turns broke (AppendsPrefix before.taken after.taken) before after
+
+-- the store failed in a turn: all that was answered was written, and then the line that says so
+abbrev pub RanToFault : List Turn → Outside → Outside → Type 0
+RanToFault turns before after =
+    Reached turns (Some StoreFault) (λ text. IsWritten before.taken after.taken before.sink_faults after.sink_faults (text ++ store_fault_line)) before after

@@ -1,0 +1,49 @@
+-- What opening the file gives, and what is left where it isn't opened. Own.
+use Rattle.std.specs.Prelude.{◌≡◌, ◌≢◌, ℕ, List, [], Option, Some, IfSome, slice_get}
+use Rattle.std.specs.Option.{option_map}
+use Rattle.file_store.specs.Opening.{GaveAtMostOne, IsMade, KeepsList, MakesList, SomeRose}
+use Rattle.fs_records.specs.File.{StandsFor}
+use Rattle.zb_ids.specs.declared.stamp.Stamp.{Stamp}
+use Rattle.zb_model.specs.declared.data.Transaction.{Transaction}
+use Rattle.zb_outside.specs.Stamps.{stamps_after}
+use Rattle.zodb_top.specs.Damage.{NamesDamage}
+use Rattle.zodb_top.specs.Outside.{Outside, main_of}
+use Rattle.zodb_top.specs.Texts.{store_fault_line}
+use Rattle.zodb_top.specs.Written.{IsWritten}
+
+-- What opening a file gives: the list that its bytes stand for, and where a tail was cut off; or, where there
+-- are no bytes, the list of a new database, by the clock's first stamp. `stamps` are the clock's, and `stamps'` those
+-- that it has still to give.
+pub data OpensAs (bytes : List ℕ) (stamps stamps' : Option (List Stamp)) (list : List Transaction) (cut : Option ℕ) : Type 0 where
+  there : bytes ≢ [] → StandsFor bytes list cut → stamps' ≡ stamps → OpensAs bytes stamps stamps' list cut
+  made : bytes ≡ [] → IsMade stamps list cut → stamps' ≡ option_map stamps_after stamps → OpensAs bytes stamps stamps' list cut
+
+-- the file wasn't opened: nothing was done to it, and the clock wasn't read
+pub record IsUnopened (before after : Outside) : Type 0 where
+  pub stamps : after.stamps ≡ before.stamps
+  pub log : after.log ≡ before.log
+  pub read_faults : after.read_faults ≡ before.read_faults
+  pub write_faults : after.write_faults ≡ before.write_faults
+
+-- Main is as it was, but for a tail, or was made, in whole or in part. The clock was read at most once, and not where
+-- Main had bytes. Where nothing of Main was pending, all that a crash at any moment leaves of it stands for the list
+-- that it stood for, or, where it was empty, for the empty list or the first transaction alone.
+pub record IsLeft (told : Type 0) (before after : Outside) : Type 0 where
+  pub stamps : GaveAtMostOne before.stamps after.stamps
+  pub kept : told → main_of before ≢ [] → after.stamps ≡ before.stamps
+  pub keeps : told → KeepsList before.log after.log
+  pub makes : told → IfSome before.stamps (λ stamps. (stamp : Stamp) → slice_get stamps 0 ≡ Some stamp → MakesList stamp before.log after.log)
+
+-- it couldn't be opened, since a call of the volume failed
+pub record FailedToOpen (told : Type 0) (before after : Outside) : Type 0 where
+  pub rose : SomeRose before.read_faults after.read_faults before.write_faults after.write_faults
+  pub written : IsWritten before.taken after.taken before.sink_faults after.sink_faults store_fault_line
+  pub left : IsLeft told before after
+
+-- it couldn't be opened, since it is damaged
+pub record IsRefused (told : Type 0) (before after : Outside) : Type 0 where
+  pub text : List ℕ
+  pub names : NamesDamage told (main_of before) text
+  pub written : IsWritten before.taken after.taken before.sink_faults after.sink_faults text
+  pub stamps : told → after.stamps ≡ before.stamps
+  pub log : told → after.log ≡ before.log

@@ -1,0 +1,308 @@
+//! What is asked of the file, beside running a script: one session of a hub answers it.
+
+ghost use Rattle.std.specs.Prelude.{◌≡◌, ◌∷◌, [], None, false, true, map, IfOk, IsErrOf};
+ghost use Rattle.zb_base.specs.Counts.{Rose};
+ghost use Rattle.zb_model.specs.Lists.{history_of, undo_log_of};
+ghost use Rattle.zb_script.specs.Lists.{log_text, revision_text};
+ghost use Rattle.zb_volume.specs.declared.areas.Area.TheVariants.{Main};
+ghost use Rattle.zb_volume.specs.Moments.{Leaves};
+ghost use Rattle.zodb_core.specs.HubState.{IsFitting, StandsForMachine, counts_of};
+ghost use Rattle.zodb_core.specs.Machine.{Machine, front_of};
+ghost use Rattle.zodb_core.specs.Outcomes.{AreLaterCounts};
+ghost use Rattle.zodb_top.specs.Asked.{digested, last_of, lines_of, shown};
+ghost use Rattle.zodb_top.specs.Asking.{IsLast, IsStepped, KeepsList, KeepsStore, ask_refusal, digested_reply, only_reads, shown_reply};
+ghost use Rattle.zodb_top.specs.Texts.{digest_line};
+
+use crate::command::Asked;
+use sha2::{Digest, Sha256};
+use std::alloc::{AllocError, Global};
+use zb_ids::{ListOf, Oid, Text8, Tid, hex, hex_pair};
+use zb_model::{LogLine, Refusal, Revision, Store};
+use zb_outside::Clock;
+use zb_resolve::{StockRefs, StockResolver};
+use zb_script::{log_line, revision_line, shown_line};
+use zodb_core::{Hub, Reply, Request};
+
+/// Why something asked isn't answered.
+#[derive(Clone, Copy, Debug, PartialEq, Eq)]
+pub(crate) enum AskError {
+    /// There is no memory.
+    Memory,
+    /// Reading failed.
+    ReadFault,
+}
+
+impl From<AllocError> for AskError {
+    ghost use Rattle.std.specs.Prelude.{◌≡◌};
+    ghost use Rattle.zodb_top.specs.declared.asking.AskError.TheVariants.{Memory};
+
+    ghost from_gives = { λ _ error. error ≡ Memory };
+
+    fn from(_error: AllocError) -> AskError {
+        AskError::Memory
+    }
+}
+
+/// How a refusal ends what was asked, where the reply is one.
+fn refusal_in(reply: &Reply) -> Option<AskError>
+    ensures { result ≡ ask_refusal reply.now }
+{
+    match reply {
+        Reply::Refused(Refusal::ReadFault) => Some(AskError::ReadFault),
+        Reply::Refused(_) => Some(AskError::Memory),
+        _ => None,
+    }
+}
+
+/// A step of a session that only reads.
+fn ask<St: Store, C: Clock>(
+    alloc: Global,
+    hub: &mut Hub<St, StockResolver, StockRefs>,
+    session: u32,
+    request: Request,
+    clock: &mut C,
+) -> Result<Reply, AskError>
+    requires reads { only_reads request ≡ true }
+    requires fitting { IsFitting request }
+    ensures reply { St.told → (m : Machine) → StandsForMachine hub.old m → IfOk result (λ r. IsStepped m session request r) }
+    ensures keeps { St.told → (m : Machine) → StandsForMachine hub.old m → hub.old.store.broken ≡ false → KeepsList m hub.old hub.new (C.stamps clock.old) (C.stamps clock.new) }
+    ensures failed { IsErrOf result AskError.ReadFault → Rose hub.old.store.read_faults hub.new.store.read_faults }
+    ensures later { AreLaterCounts (counts_of hub.old.store) (counts_of hub.new.store) }
+{
+    let reply = hub.step(alloc, session, request, clock);
+    match refusal_in(&reply) {
+        Some(error) => Err(error),
+        None => Ok(reply),
+    }
+}
+
+fn log_lines(alloc: Global, list: &[LogLine]) -> Result<ListOf<Text8>, AllocError>
+    ensures { IfOk result (λ lines. lines ≡ map log_text list.now) }
+{
+    let mut lines = ListOf::new(alloc);
+    for line in list {
+        lines.push(log_line(alloc, line)?)?;
+    }
+    Ok(lines)
+}
+
+fn revision_lines(alloc: Global, list: &[Revision]) -> Result<ListOf<Text8>, AllocError>
+    ensures { IfOk result (λ lines. lines ≡ map revision_text list.now) }
+{
+    let mut lines = ListOf::new(alloc);
+    for line in list {
+        lines.push(revision_line(alloc, line)?)?;
+    }
+    Ok(lines)
+}
+
+/// One line.
+fn only_line(alloc: Global, line: Text8) -> Result<ListOf<Text8>, AllocError>
+    ensures { IfOk result (λ lines. lines ≡ line ∷ []) }
+{
+    let mut lines = ListOf::new(alloc);
+    lines.push(line)?;
+    Ok(lines)
+}
+
+/// The serial of a revision, and the digest of its record.
+fn digest_text(alloc: Global, serial: Tid, bytes: &[u8]) -> Result<Text8, AllocError>
+    ensures { IfOk result (λ text. text ≡ digest_line serial bytes.now) }
+{
+    let digest = Sha256::digest(bytes);
+    let mut text = Vec::from_slice(alloc, &hex(serial.0))?;
+    text.push(b' ')?;
+    for byte in &digest {
+        text.extend_from_slice(&hex_pair(*byte))?;
+    }
+    text.push(b'\n')?;
+    Ok(Text8::from_vec(text))
+}
+
+/// What a load is answered, as `show` writes it.
+fn show_line(alloc: Global, reply: &Reply) -> Result<Text8, AllocError>
+    ensures { IfOk result (λ text. text ≡ shown_reply reply.now) }
+{
+    match reply {
+        Reply::Loaded { serial, bytes, .. } => shown_line(alloc, *serial, bytes.as_slice()),
+        _ => Text8::from_slice(alloc, b"missing\n"),
+    }
+}
+
+/// What a load is answered, as `digest` writes it.
+fn digested_line(alloc: Global, reply: &Reply) -> Result<Text8, AllocError>
+    ensures { IfOk result (λ text. text ≡ digested_reply reply.now) }
+{
+    match reply {
+        Reply::Loaded { serial, bytes, .. } => digest_text(alloc, *serial, bytes.as_slice()),
+        _ => Text8::from_slice(alloc, b"missing\n"),
+    }
+}
+
+/// The tid after the newest.
+fn front<St: Store, C: Clock>(
+    alloc: Global,
+    hub: &mut Hub<St, StockResolver, StockRefs>,
+    session: u32,
+    clock: &mut C,
+) -> Result<Tid, AskError>
+    ensures front { St.told → (m : Machine) → StandsForMachine hub.old m → IfOk result (λ f. f ≡ front_of m.list) }
+    ensures keeps { St.told → (m : Machine) → StandsForMachine hub.old m → hub.old.store.broken ≡ false → KeepsList m hub.old hub.new (C.stamps clock.old) (C.stamps clock.new) }
+    ensures failed { IsErrOf result AskError.ReadFault → Rose hub.old.store.read_faults hub.new.store.read_faults }
+    ensures later { AreLaterCounts (counts_of hub.old.store) (counts_of hub.new.store) }
+{
+    match ask(alloc, hub, session, Request::Front, clock)? {
+        Reply::Front { front, .. } => Ok(front),
+        _ => Err(AskError::Memory),
+    }
+}
+
+/// The reply to a load of an object's last record.
+fn load_last<St: Store, C: Clock>(
+    alloc: Global,
+    hub: &mut Hub<St, StockResolver, StockRefs>,
+    session: u32,
+    oid: Oid,
+    clock: &mut C,
+) -> Result<Reply, AskError>
+    ensures last { St.told → (m : Machine) → StandsForMachine hub.old m → hub.old.store.broken ≡ false → IfOk result (IsLast oid m.list) }
+    ensures keeps { St.told → (m : Machine) → StandsForMachine hub.old m → hub.old.store.broken ≡ false → KeepsList m hub.old hub.new (C.stamps clock.old) (C.stamps clock.new) }
+    ensures failed { IsErrOf result AskError.ReadFault → Rose hub.old.store.read_faults hub.new.store.read_faults }
+    ensures later { AreLaterCounts (counts_of hub.old.store) (counts_of hub.new.store) }
+{
+    let front = front(alloc, hub, session, clock)?;
+    ask(
+        alloc,
+        hub,
+        session,
+        Request::LoadBefore { oid, front },
+        clock,
+    )
+}
+
+fn undo_log<St: Store, C: Clock>(
+    alloc: Global,
+    hub: &mut Hub<St, StockResolver, StockRefs>,
+    session: u32,
+    clock: &mut C,
+) -> Result<ListOf<Text8>, AskError>
+    ensures lines { St.told → (m : Machine) → StandsForMachine hub.old m → IfOk result (λ lines. lines ≡ map log_text (undo_log_of m.list)) }
+    ensures keeps { St.told → (m : Machine) → StandsForMachine hub.old m → hub.old.store.broken ≡ false → KeepsList m hub.old hub.new (C.stamps clock.old) (C.stamps clock.new) }
+    ensures failed { IsErrOf result AskError.ReadFault → Rose hub.old.store.read_faults hub.new.store.read_faults }
+    ensures later { AreLaterCounts (counts_of hub.old.store) (counts_of hub.new.store) }
+{
+    match ask(alloc, hub, session, Request::UndoLog, clock)? {
+        Reply::UndoLog { list } => Ok(log_lines(alloc, list.as_slice())?),
+        _ => Err(AskError::Memory),
+    }
+}
+
+fn history<St: Store, C: Clock>(
+    alloc: Global,
+    hub: &mut Hub<St, StockResolver, StockRefs>,
+    session: u32,
+    oid: Oid,
+    clock: &mut C,
+) -> Result<ListOf<Text8>, AskError>
+    ensures lines { St.told → (m : Machine) → StandsForMachine hub.old m → IfOk result (λ lines. lines ≡ map revision_text (history_of oid m.list)) }
+    ensures keeps { St.told → (m : Machine) → StandsForMachine hub.old m → hub.old.store.broken ≡ false → KeepsList m hub.old hub.new (C.stamps clock.old) (C.stamps clock.new) }
+    ensures failed { IsErrOf result AskError.ReadFault → Rose hub.old.store.read_faults hub.new.store.read_faults }
+    ensures later { AreLaterCounts (counts_of hub.old.store) (counts_of hub.new.store) }
+{
+    match ask(alloc, hub, session, Request::History { oid }, clock)? {
+        Reply::History { list } => Ok(revision_lines(alloc, list.as_slice())?),
+        _ => Err(AskError::Memory),
+    }
+}
+
+fn show<St: Store, C: Clock>(
+    alloc: Global,
+    hub: &mut Hub<St, StockResolver, StockRefs>,
+    session: u32,
+    oid: Oid,
+    clock: &mut C,
+) -> Result<ListOf<Text8>, AskError>
+    ensures lines { St.told → (m : Machine) → StandsForMachine hub.old m → hub.old.store.broken ≡ false → IfOk result (λ lines. lines ≡ shown (last_of oid m.list) ∷ []) }
+    ensures keeps { St.told → (m : Machine) → StandsForMachine hub.old m → hub.old.store.broken ≡ false → KeepsList m hub.old hub.new (C.stamps clock.old) (C.stamps clock.new) }
+    ensures failed { IsErrOf result AskError.ReadFault → Rose hub.old.store.read_faults hub.new.store.read_faults }
+    ensures later { AreLaterCounts (counts_of hub.old.store) (counts_of hub.new.store) }
+{
+    let reply = load_last(alloc, hub, session, oid, clock)?;
+    Ok(only_line(alloc, show_line(alloc, &reply)?)?)
+}
+
+fn digest<St: Store, C: Clock>(
+    alloc: Global,
+    hub: &mut Hub<St, StockResolver, StockRefs>,
+    session: u32,
+    oid: Oid,
+    clock: &mut C,
+) -> Result<ListOf<Text8>, AskError>
+    ensures lines { St.told → (m : Machine) → StandsForMachine hub.old m → hub.old.store.broken ≡ false → IfOk result (λ lines. lines ≡ digested (last_of oid m.list) ∷ []) }
+    ensures keeps { St.told → (m : Machine) → StandsForMachine hub.old m → hub.old.store.broken ≡ false → KeepsList m hub.old hub.new (C.stamps clock.old) (C.stamps clock.new) }
+    ensures failed { IsErrOf result AskError.ReadFault → Rose hub.old.store.read_faults hub.new.store.read_faults }
+    ensures later { AreLaterCounts (counts_of hub.old.store) (counts_of hub.new.store) }
+{
+    let reply = load_last(alloc, hub, session, oid, clock)?;
+    Ok(only_line(alloc, digested_line(alloc, &reply)?)?)
+}
+
+/// The lines that answer what is asked, from a session.
+fn session_lines<St: Store, C: Clock>(
+    alloc: Global,
+    hub: &mut Hub<St, StockResolver, StockRefs>,
+    session: u32,
+    asked: Asked,
+    clock: &mut C,
+) -> Result<ListOf<Text8>, AskError>
+    ensures lines { St.told → (m : Machine) → StandsForMachine hub.old m → hub.old.store.broken ≡ false → IfOk result (λ lines. lines ≡ lines_of asked m.list) }
+    ensures keeps { St.told → (m : Machine) → StandsForMachine hub.old m → hub.old.store.broken ≡ false → KeepsList m hub.old hub.new (C.stamps clock.old) (C.stamps clock.new) }
+    ensures failed { IsErrOf result AskError.ReadFault → Rose hub.old.store.read_faults hub.new.store.read_faults }
+    ensures later { AreLaterCounts (counts_of hub.old.store) (counts_of hub.new.store) }
+{
+    match asked {
+        Asked::UndoLog => undo_log(alloc, hub, session, clock),
+        Asked::History { oid } => history(alloc, hub, session, oid, clock),
+        Asked::Show { oid } => show(alloc, hub, session, oid, clock),
+        Asked::Digest { oid } => digest(alloc, hub, session, oid, clock),
+    }
+}
+
+/// The lines that answer what is asked, from the first session of a hub.
+fn hub_lines<St: Store, C: Clock>(
+    alloc: Global,
+    hub: &mut Hub<St, StockResolver, StockRefs>,
+    asked: Asked,
+    clock: &mut C,
+) -> Result<ListOf<Text8>, AskError>
+    ensures lines { St.told → (m : Machine) → StandsForMachine hub.old m → hub.old.store.broken ≡ false → IfOk result (λ lines. lines ≡ lines_of asked m.list) }
+    ensures keeps { St.told → (m : Machine) → StandsForMachine hub.old m → hub.old.store.broken ≡ false → KeepsList m hub.old hub.new (C.stamps clock.old) (C.stamps clock.new) }
+    ensures failed { IsErrOf result AskError.ReadFault → Rose hub.old.store.read_faults hub.new.store.read_faults }
+    ensures later { AreLaterCounts (counts_of hub.old.store) (counts_of hub.new.store) }
+{
+    match hub.open_session() {
+        Ok(session) => session_lines(alloc, hub, session, asked, clock),
+        Err(_) => Err(AskError::Memory),
+    }
+}
+
+/// The lines that answer what is asked, from a store, which is handed back.
+pub(crate) fn store_lines<St: Store, C: Clock>(
+    alloc: Global,
+    store: St,
+    asked: Asked,
+    clock: &mut C,
+) -> (Result<ListOf<Text8>, AskError>, St)
+    requires whole { (St.state store).broken ≡ false }
+    requires free { (St.state store).voted ≡ None }
+    ensures lines { St.told → IfOk result.0 (λ lines. lines ≡ lines_of asked (St.state store).list) }
+    ensures keeps { St.told → KeepsStore (St.state store) (St.state result.1) (C.stamps clock.old) (C.stamps clock.new) }
+    ensures images { St.lasts → (St.state result.1).broken ≡ false →
+        Leaves Main (λ bytes. St.stands bytes (St.state result.1).list) (St.state result.1).log }
+    ensures failed { IsErrOf result.0 AskError.ReadFault → Rose (St.state store).read_faults (St.state result.1).read_faults }
+    ensures later { AreLaterCounts (counts_of (St.state store)) (counts_of (St.state result.1)) }
+{
+    let mut hub = Hub::new(alloc, store, StockResolver, StockRefs);
+    let lines = hub_lines(alloc, &mut hub, asked, clock);
+    (lines, hub.into_store())
+}

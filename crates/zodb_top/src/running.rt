@@ -1,0 +1,110 @@
+//! The turns of a script over a store, and over the file in Main.
+
+ghost use Rattle.std.specs.Prelude.{◌≡◌, ◌≤◌, ℕ, List, Option, None, false};
+ghost use Rattle.std.specs.List.{AllByRecursion};
+ghost use Rattle.fs_records.specs.File.{StandsFor};
+ghost use Rattle.fs_recovery.specs.Opens.{IsNoList};
+ghost use Rattle.zb_base.specs.Counts.{Rose};
+ghost use Rattle.zb_model.specs.declared.data.Transaction.{Transaction};
+ghost use Rattle.zb_volume.specs.declared.areas.Area.TheVariants.{Main};
+ghost use Rattle.zb_volume.specs.Disk.{seen};
+ghost use Rattle.client_turns.specs.Refusing.{IsFittingLine};
+ghost use Rattle.zodb_top.specs.Came.{began};
+ghost use Rattle.zodb_top.specs.Outside.{outside};
+ghost use Rattle.zodb_top.specs.Program.{IsUnlessMemory};
+ghost use Rattle.zodb_top.specs.Running.{FileSays, SaysStopped, StoreSays};
+
+use crate::replying::{RunError, take_turns};
+use crate::saying::{cut_lines, say, say_unopened, write_lines};
+use crate::status::Status;
+use client_turns::{Clients, TurnError, last_turns};
+use file_store::FileStore;
+use std::alloc::Global;
+use zb_model::Store;
+use zb_outside::{Clock, Failed, Sink};
+use zb_resolve::{StockRefs, StockResolver};
+use zb_script::Turn;
+use zb_volume::Volume;
+
+/// Says why a run stopped, where that has a line.
+fn say_stopped<K: Sink>(sink: &mut K, error: RunError) -> Status
+    ensures said { SaysStopped error result (K.taken sink.old) (K.taken sink.new) (K.faults sink.old) (K.faults sink.new) }
+    ensures counted { K.faults sink.old ≤ K.faults sink.new }
+{
+    match error {
+        RunError::Turn(TurnError::StoreFault) => say(sink, b"store fault\n", Status::StoreFault),
+        RunError::Turn(TurnError::Memory) => Status::NoMemory,
+        RunError::Memory => Status::NoMemory,
+        RunError::SinkFault => Status::SinkFault,
+    }
+}
+
+/// Writes the line of a tail that was cut off, where one was, takes the turns over a store, and hands
+/// it back.
+fn run_store<St: Store, K: Sink, C: Clock>(
+    alloc: Global,
+    store: St,
+    cut: Option<u64>,
+    turns: &[Turn],
+    sink: &mut K,
+    clock: &mut C,
+) -> (Status, St)
+    requires whole { (St.state store).broken ≡ false }
+    requires free { (St.state store).voted ≡ None }
+    requires fitting { AllByRecursion (λ t. IsFittingLine t.line) turns.now }
+    ensures outcome { StoreSays result.0 St.told St.lasts St.stands
+        (began (St.state store).list (C.stamps clock.old) (St.state store).read_faults (St.state store).faults) cut turns.now
+        (K.taken sink.old) (K.taken sink.new) (K.faults sink.old) (K.faults sink.new) (St.state store) (St.state result.1) (C.stamps clock.new) }
+    ensures complete { ¬ Rose (St.state store).faults (St.state result.1).faults → ¬ Rose (K.faults sink.old) (K.faults sink.new) → IsUnlessMemory result.0 Status.Done }
+    ensures sink_counted { K.faults sink.old ≤ K.faults sink.new }
+    ensures read_counted { (St.state store).read_faults ≤ (St.state result.1).read_faults }
+    ensures counted { (St.state store).faults ≤ (St.state result.1).faults }
+{
+    let Ok(lines) = cut_lines(alloc, cut) else {
+        return (Status::NoMemory, store);
+    };
+    let Ok(last) = last_turns(alloc, turns) else {
+        return (Status::NoMemory, store);
+    };
+    match write_lines(sink, lines.as_slice()) {
+        Ok(()) => {}
+        Err(Failed) => return (Status::SinkFault, store),
+    }
+    let mut clients = Clients::new(alloc, store, StockResolver, StockRefs);
+    let ran = take_turns(alloc, &mut clients, turns, last.as_slice(), sink, clock);
+    let store = clients.into_store();
+    match ran {
+        Ok(()) => (Status::Done, store),
+        Err(error) => (say_stopped(sink, error), store),
+    }
+}
+
+/// Opens the file in Main, which is made first where Main is empty, and takes the turns over it.
+pub(crate) fn run_file<K: Sink, V: Volume + Drop, C: Clock>(
+    alloc: Global,
+    turns: &[Turn],
+    sink: &mut K,
+    volume: V,
+    clock: &mut C,
+) -> (Status, V)
+    requires fitting { AllByRecursion (λ t. IsFittingLine t.line) turns.now }
+    ensures outcome { FileSays result.0 V.told turns.now
+        (outside (K.taken sink.old) (K.faults sink.old) (C.stamps clock.old) (V.log volume) (V.read_faults volume) (V.write_faults volume))
+        (outside (K.taken sink.new) (K.faults sink.new) (C.stamps clock.new) (V.log result.1) (V.read_faults result.1) (V.write_faults result.1)) }
+    ensures complete { V.told → ¬ Rose (V.read_faults volume) (V.read_faults result.1) → ¬ Rose (V.write_faults volume) (V.write_faults result.1) → ¬ Rose (K.faults sink.old) (K.faults sink.new)
+        → (list : List Transaction) (cut : Option ℕ) → StandsFor (seen (V.log volume) Main) list cut → IsUnlessMemory result.0 Status.Done }
+    ensures damaged { V.told → ¬ Rose (V.read_faults volume) (V.read_faults result.1) → ¬ Rose (V.write_faults volume) (V.write_faults result.1)
+        → IsNoList (seen (V.log volume) Main) → IsUnlessMemory result.0 Status.Damaged }
+    ensures harmed { V.told → IsNoList (seen (V.log volume) Main) → V.log result.1 ≡ V.log volume }
+    ensures sink_counted { K.faults sink.old ≤ K.faults sink.new }
+    ensures read_counted { V.read_faults volume ≤ V.read_faults result.1 }
+    ensures counted { V.write_faults volume ≤ V.write_faults result.1 }
+{
+    match FileStore::create_or_open(alloc, volume, clock) {
+        Ok((store, cut)) => {
+            let (status, store) = run_store(alloc, store, cut, turns, sink, clock);
+            (status, store.into_volume())
+        }
+        Err((error, volume)) => (say_unopened(alloc, sink, error), volume),
+    }
+}
