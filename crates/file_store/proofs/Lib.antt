@@ -1,7 +1,10 @@
 pub mod Commits
+pub mod Copies
 pub mod Creating
 pub mod Opens
+pub mod Packs
 pub mod Placing
 pub mod Shown
+pub mod Sides
 pub mod Sizes
 pub mod Writes

@@ -12,6 +12,8 @@ use Rattle.zb_volume.specs.Calls.{Event}
 use Rattle.zb_volume.specs.Disk.{seen, IsSettled}
 use Rattle.zb_volume.specs.Images.{CrashLeaves}
 use Rattle.zb_volume.specs.Moments.{Leaves, LeavesOnly, StaysAs, here}
+use Rattle.zb_ids.specs.Tids.{stamp_number}
+use Rattle.zb_model.specs.Creation.{first_transaction}
 use Rattle.zb_outside.specs.Stamps.{stamps_after}
 use Rattle.zb_volume.specs.Lasting.{settled_leaves}
 use Rattle.zb_volume.specs.Runs.{joined, weaker}
@@ -34,7 +36,8 @@ use Rattle.fs_recovery.specs.Reading.{CountsFault, CountsReads, RefusesMain}
 use Rattle.file_store.specs.Kept.{IsKept, StandsForList}
 use Rattle.file_store.specs.KeptLaws.{list_read}
 use Rattle.fs_recovery.specs.Numbers.{AreNumbersOf}
-use Rattle.file_store.specs.Opening.{Harm, IsBegun, IsMade, IsUnlessWritten, there, made, IsNewOr, KeepsList, MakesList, first_list}
+use Rattle.file_store.specs.First.{file_with}
+use Rattle.file_store.specs.Opening.{Harm, IsBegun, IsMade, IsNewFile, IsUnlessWritten, there, made, IsNewOr, KeepsList, MakesList, first_list, without_tail}
 use Rattle.file_store.specs.Staging.{StagedKept}
 
 -- ---- what is kept
@@ -295,13 +298,48 @@ unless_written (Err (BadRecord at field)) old mid new reads reads' writes mid_wr
 unless_written (Err NotFileStorage) old mid new reads reads' writes mid_writes writes' same still untouched counts = inl (untouched tt ∙ same)
 unless_written (Err Memory) old mid new reads reads' writes mid_writes writes' same still untouched counts = inl (untouched tt ∙ same)
 
--- want of memory comes where no call has failed
-pub counts_memory : (T : Type 0) (e : OpenError) (old new : List Event) (reads reads' writes writes' : ℕ) → e ≡ Memory → CountsFault {T = T} old new reads reads' writes writes' (Err e) → (reads' ≡ reads) × (writes' ≡ writes)
-counts_memory T StoreFault old new reads reads' writes writes' is counts = absurd cc
-counts_memory T (BadRecord at field) old new reads reads' writes writes' is counts = absurd cc
-counts_memory T NotFileStorage old new reads reads' writes writes' is counts = absurd cc
-counts_memory T Memory old new reads reads' writes writes' is counts = counts
+-- any other error than a fault comes where no call has failed
+pub counts_calm : (T : Type 0) (e : OpenError) (old new : List Event) (reads reads' writes writes' : ℕ) → ¬ (e ≡ StoreFault) → CountsFault {T = T} old new reads reads' writes writes' (Err e) → (reads' ≡ reads) × (writes' ≡ writes)
+counts_calm T StoreFault old new reads reads' writes writes' other counts = absurd (other refl)
+counts_calm T (BadRecord at field) old new reads reads' writes writes' other counts = counts
+counts_calm T NotFileStorage old new reads reads' writes writes' other counts = counts
+counts_calm T Memory old new reads reads' writes writes' other counts = counts
+
+pub any_err : {T : Type 0} (r : Result T OpenError) (P : OpenError → Type 0) → ((e : OpenError) → P e) → IfErr r P
+any_err (Ok x) P all = tt
+any_err (Err e) P all = all e
 
 pub on_err : {T E : Type 0} (r : Result T E) (P : Type 0) → P → OnErr r P
 on_err (Ok x) P holds = tt
 on_err (Err e) P holds = holds
+
+-- ---- the bytes that are left
+
+left_cut : (was : List ℕ) (s : Reached) (cut : Option ℕ) → IsReadAs was s cut → take s.end was ≡ without_tail was cut
+left_cut was s None stands = whole_end was s stands
+left_cut was s (Some at) stands = ap (λ (n : ℕ). take n was) (sym stands.ends.1)
+
+-- what is left of a file that was opened
+pub left_of : (was now : List ℕ) (o : Opened) (cut : Option ℕ) → IsOpened was o → now ≡ take o.end was → cut ≡ o.cut → now ≡ without_tail was cut
+left_of was now o cut opened is cut_is =
+    is ∙ ap (λ (n : ℕ). take n was) (sym opened.end_is) ∙ left_cut was opened.reached o.cut opened.stands ∙ ap (λ (k : Option ℕ). without_tail was k) (sym cut_is)
+
+pub left_there : (old mid new : List Event) (o : Opened) (cut : Option ℕ) → mid ≡ old → IsOpened (seen mid Main) o → seen new Main ≡ take o.end (seen mid Main) → cut ≡ o.cut → seen new Main ≡ without_tail (seen old Main) cut
+left_there old mid new o cut same opened is cut_is =
+    left_of (seen mid Main) (seen new Main) o cut opened is cut_is ∙ ap (λ (log : List Event). without_tail (seen log Main) cut) same
+
+-- a new file has no tail
+pub left_new : (mid new : List Event) (stamps : Option (List Stamp)) (o : Opened) (cut : Option ℕ) (list : List Transaction) → IsOpened (seen mid Main) o → seen new Main ≡ take o.end (seen mid Main) → cut ≡ o.cut → IsMade stamps list cut
+    → IsNewFile stamps (seen mid Main) → IsNewFile stamps (seen new Main)
+left_new mid new stamps o cut list opened is cut_is is_made file =
+    subst (λ (b : List ℕ). IsNewFile stamps b) (sym (left_of (seen mid Main) (seen new Main) o cut opened is cut_is ∙ ap (λ (k : Option ℕ). without_tail (seen mid Main) k) is_made.cut_is)) file
+
+pub new_file : (stamp : Stamp) (stamps : Option (List Stamp)) (bytes : List ℕ) → IfSome stamps (λ told. slice_get told 0 ≡ Some stamp) → bytes ≡ file_with (first_transaction (stamp_number stamp)) → IsNewFile stamps bytes
+new_file stamp stamps bytes first is = record { stamp = stamp; first = first; file = is }
+
+-- Main isn't empty where it has bytes
+pub never_empty : (P : Type 0) (bytes : List ℕ) (n : ℕ) → n ≡ length bytes → 0 < n → bytes ≡ [] → P
+never_empty P bytes n is some empty = absurd (none (omega (arith, is, some, ap length empty)))
+  where
+    none : ⊥ → ⊥
+    none never = never

@@ -2,7 +2,7 @@
 use Rattle.std.proofs.Common.{◌≡◌, ℕ, ◌≤◌, List, length, Option, Some, None, refl, sym, ap, subst, ◌∙◌, arith}
 use Rattle.std.specs.List.{last_or}
 use Rattle.std.specs.Option.{ForSome, option_map_or}
-use Rattle.zb_volume.specs.declared.areas.Area.TheVariants.{Main}
+use Rattle.zb_volume.specs.declared.areas.Area.TheVariants.{Main, Side}
 use Rattle.zb_volume.specs.Calls.{Event}
 use Rattle.zb_volume.specs.Disk.{seen, IsSettled}
 use Rattle.zb_model.specs.declared.data.Transaction.{Transaction}
@@ -14,7 +14,8 @@ use Rattle.fs_records.specs.Listed.{listed, reached_in}
 use Rattle.fs_records.specs.Lookups.{serial_read}
 use Rattle.fs_records.specs.Places.{places_in, places_of}
 use Rattle.fs_reading.specs.Main.{ArePlaces, AreStarts}
-use Rattle.file_store.specs.Kept.{IsKept, IsVotedIn, cut_of, length_by}
+use Rattle.pack_copy.specs.Copying.{CopyKept}
+use Rattle.file_store.specs.Kept.{IsCopyKept, IsKept, IsVotedIn, cut_of, length_by}
 use Rattle.file_store.specs.declared.staged.Staged.{Staged}
 use Rattle.file_store.specs.KeptLaws.{kept_stands, list_read}
 use Rattle.fs_recovery.specs.Numbers.{NumbersKept}
@@ -23,14 +24,15 @@ use Rattle.file_store.specs.Staging.{StagedKept}
 -- ---- a call that only reads leaves what is kept
 
 -- what a store keeps of a log, unless it is broken
-pub record KeepsLog (T B : Type 0) (log : List Event) (index : StagedKept) (numbers : NumbersKept) : Type 0 where
+pub record KeepsLog (T B : Type 0) (log : List Event) (index : StagedKept) (numbers : NumbersKept) (copy : Option CopyKept) : Type 0 where
   pub settled : T → B → IsSettled log Main
   pub kept : T → B → IsKept (seen log Main) index numbers
   pub voted : T → B → ForSome index.staged (λ s. IsVotedIn (seen log Main) s index)
+  pub copied : T → B → ForSome copy (λ c. IsCopyKept (seen log Side) c)
 
 -- is kept of a log that is the same
-pub still : (T B : Type 0) (old new : List Event) (index : StagedKept) (numbers : NumbersKept) → new ≡ old → KeepsLog T B old index numbers → KeepsLog T B new index numbers
-still T B old new index numbers same k = subst (λ (log : List Event). KeepsLog T B log index numbers) (sym same) k
+pub still : (T B : Type 0) (old new : List Event) (index : StagedKept) (numbers : NumbersKept) (copy : Option CopyKept) → new ≡ old → KeepsLog T B old index numbers copy → KeepsLog T B new index numbers copy
+still T B old new index numbers copy same k = subst (λ (log : List Event). KeepsLog T B log index numbers copy) (sym same) k
 
 -- ---- what is read is the list's
 

@@ -2,16 +2,11 @@
 use Rattle.std.proofs.Common.{◌≡◌, ℕ, ◌+◌, ◌≤◌, Bool, true, false, cond, eqb, List, [], ◌∷◌, ◌++◌, length, map, filter, refl, sym, ap, ◌∙◌, append_assoc, arith}
 use Rattle.std.proofs.lemmas.List.{length-append, append-nil, map-append}
 use Rattle.std.proofs.lemmas.List.Elements.{filter-append}
-use Rattle.zb_model.specs.declared.new_transaction.NewContent.{NewContent}
-use Rattle.zb_model.specs.declared.new_transaction.NewContent.TheVariants as new_content
 use Rattle.zb_model.specs.declared.new_transaction.NewChange.{NewChange}
 use Rattle.zb_model.specs.declared.new_transaction.NewTransaction.{NewTransaction}
 use Rattle.fs_records.specs.declared.place.Place.{Place}
 use Rattle.fs_records.specs.declared.place.Placed.{Placed}
-use Rattle.fs_records.specs.NumberLaws.{length-number}
-use Rattle.fs_records.specs.HeaderLaws.{length-data_header_text}
-use Rattle.fs_records.specs.Headers.{data_header_text}
-use Rattle.fs_records.specs.Blocks.{Known, Written, data_header, record_text, records_text, payload_text, records_from, block_text, with_record, with_records, known_at}
+use Rattle.fs_records.specs.Blocks.{Known, Written, records_text, records_from, block_text, with_record, with_records, known_at}
 use Rattle.fs_records.specs.Places.{PlacesKept, place_of, is_of, is_placed, placed_of, places_of}
 use Rattle.fs_records.specs.WriteLaws.{length-block_text}
 use Rattle.fs_records.specs.Writing.{written_of, block_of, record_size, records_size}

@@ -2,12 +2,16 @@
 use Rattle.std.specs.Prelude.{◌≡◌, ℕ, ◌+◌, ◌<◌, ◌≤◌, ◌^◌, false, List, [], ◌∷◌, ◌++◌, Option, Some, None, length, map, slice_index, slice_set, unwrap_or, option_map}
 use Rattle.std.specs.List.{last_or}
 use Rattle.zb_model.specs.declared.data.Transaction.{Transaction}
+use Rattle.zb_model.specs.Stores.{BegunPack}
 use Rattle.zb_base.specs.Bytes.{AreBytes}
+use Rattle.fs_records.specs.Blocks.{file_start}
 use Rattle.fs_records.specs.Listed.{listed, reached_in, reading_in}
 use Rattle.fs_records.specs.Places.{places_in, placed_of, places_of, oids_placed}
 use Rattle.fs_records.specs.File.{StandsFor}
 use Rattle.file_store.specs.declared.staged.Staged.{Staged}
 use Rattle.fs_recovery.specs.Numbers.{NumbersKept, AreNumbersOf, total_of}
+use Rattle.pack_copy.specs.Copying.{CopyKept}
+use Rattle.pack_copy.specs.InFull.{after_full, full_file}
 use Rattle.file_store.specs.Staging.{StagedKept}
 
 -- the bytes of Main once what is voted at this end is finished
@@ -20,6 +24,10 @@ nothing = record { tid = 0; packed = false; user = []; description = []; extensi
 -- the transaction that is voted at this end: the last one of the list once it is finished, where there is one, with this tid, which is its own where one was voted
 abbrev pub voted_in : ℕ → ℕ → List ℕ → Transaction
 voted_in tid end bytes = record (unwrap_or (last_or None (listed (done end bytes))) nothing) { tid = tid }
+
+-- a begun pack, of which these bytes are what is copied
+abbrev pub copied_in : ℕ → List ℕ → BegunPack
+copied_in tid bytes = record { tid = tid; copied = listed bytes }
 
 -- where a tail begins: at the end, where a transaction is voted there
 abbrev pub cut_of : StagedKept → Option ℕ
@@ -45,6 +53,19 @@ pub record IsKept (bytes : List ℕ) (index : StagedKept) (numbers : NumbersKept
   pub records : (oid : ℕ) → places_in index.kept.entries oid ≡ places_of oid (reached_in bytes).known
   pub starts : index.kept.transactions ≡ (reached_in bytes).starts
   pub counted : AreNumbersOf (listed bytes) numbers
+
+-- the bytes of Side are read as a file without a tail, in which each content stands in full, whose records and transactions a copy keeps, and whose list has the copy's numbers
+pub record IsCopyKept (bytes : List ℕ) (c : CopyKept) : Type 0 where
+  pub fits : AreBytes bytes
+  pub short : length bytes < 2 ^ 63
+  pub long : length bytes ≡ c.end
+  pub reading : reading_in bytes ≡ Some (reached_in bytes, None)
+  pub end_is : (reached_in bytes).end ≡ c.end
+  pub records : (oid : ℕ) → places_in c.index.entries oid ≡ places_of oid (reached_in bytes).known
+  pub starts : c.index.transactions ≡ (reached_in bytes).starts
+  pub counted : AreNumbersOf (listed bytes) c.numbers
+  pub in_full : bytes ≡ full_file (listed bytes)
+  pub reached_full : reached_in bytes ≡ after_full file_start (listed bytes)
 
 -- what is staged stands at the end with the status of a vote; once it is finished the bytes are read as a file with it, whose records and transactions are those of the index and of what is staged
 pub record IsVotedIn (bytes : List ℕ) (s : Staged) (index : StagedKept) : Type 0 where

@@ -13,10 +13,11 @@ use Rattle.fs_records.specs.Blocks.{Reached}
 use Rattle.fs_records.specs.File.{IsReadAs, StandsFor, a_file}
 use Rattle.fs_records.specs.Databases.{database_of}
 use Rattle.fs_records.specs.Listed.{content_set, listed, reached_in, reading_in, reading_stands}
+use Rattle.pack_copy.specs.Copying.{CopyKept}
 use Rattle.file_store.specs.declared.staged.Staged.{Staged}
 use Rattle.fs_recovery.specs.Numbers.{NumbersKept}
 use Rattle.file_store.specs.Staging.{StagedKept}
-use Rattle.file_store.specs.Kept.{IsKept, IsVotedIn, StandsForList, cut_of}
+use Rattle.file_store.specs.Kept.{IsCopyKept, IsKept, IsVotedIn, StandsForList, cut_of}
 
 pub IsKept-prop : (bytes : List ℕ) (index : StagedKept) (numbers : NumbersKept) → IsProp (IsKept bytes index numbers)
 IsKept-prop bytes index numbers = hlevel (content_set, le_prop, props)
@@ -24,11 +25,17 @@ IsKept-prop bytes index numbers = hlevel (content_set, le_prop, props)
 pub IsVotedIn-prop : (bytes : List ℕ) (s : Staged) (index : StagedKept) → IsProp (IsVotedIn bytes s index)
 IsVotedIn-prop bytes s index = hlevel (content_set, le_prop, props)
 
+pub IsCopyKept-prop : (bytes : List ℕ) (c : CopyKept) → IsProp (IsCopyKept bytes c)
+IsCopyKept-prop bytes c = hlevel (content_set, le_prop, props)
+
 pub kept_once : (T B : Type 0) (bytes : List ℕ) (index : StagedKept) (numbers : NumbersKept) → IsProp (T → B → IsKept bytes index numbers)
 kept_once T B bytes index numbers = hlevel IsKept-prop
 
 pub voted_once : (T B : Type 0) (bytes : List ℕ) (index : StagedKept) → IsProp (T → B → ForSome index.staged (λ s. IsVotedIn bytes s index))
 voted_once T B bytes index = hlevel IsVotedIn-prop
+
+pub copied_once : (T B : Type 0) (bytes : List ℕ) (copy : Option CopyKept) → IsProp (T → B → ForSome copy (λ c. IsCopyKept bytes c))
+copied_once T B bytes copy = hlevel IsCopyKept-prop
 
 -- what is read of bytes is their list
 pub list_read : (bytes : List ℕ) (s : Reached) (cut : Option ℕ) → reading_in bytes ≡ Some (s, cut) → listed bytes ≡ s.list

@@ -1,5 +1,5 @@
 -- What opening a store says of Main, and what a crash leaves of it. Source: own.
-use Rattle.std.specs.Prelude.{◌≡◌, ◌≢◌, ◌⊎◌, ℕ, List, [], ◌∷◌, Option, Some, None, IfSome, option_map, slice_get}
+use Rattle.std.specs.Prelude.{◌≡◌, ◌≢◌, ◌⊎◌, ℕ, List, [], ◌∷◌, Option, Some, None, IfSome, option_map, slice_get, take}
 use Rattle.zb_volume.specs.declared.areas.Area.TheVariants.{Main}
 use Rattle.zb_volume.specs.Calls.{Event}
 use Rattle.zb_volume.specs.Disk.{seen, IsSettled}
@@ -13,6 +13,7 @@ use Rattle.zb_model.specs.Creation.{first_transaction}
 use Rattle.fs_records.specs.File.{StandsFor, IsNoFile, IsDamaged}
 use Rattle.fs_recovery.specs.declared.errors.OpenError.{OpenError}
 use Rattle.fs_recovery.specs.declared.errors.OpenError.TheVariants.{StoreFault, BadRecord, NotFileStorage, Memory}
+use Rattle.file_store.specs.First.{file_with}
 use Rattle.file_store.specs.Kept.{StandsForList}
 
 -- the list of a new database, by a clock's stamp
@@ -40,6 +41,17 @@ pub record IsMade (stamps : Option (List Stamp)) (list : List Transaction) (cut 
   pub first : IfSome stamps (λ told. slice_get told 0 ≡ Some stamp)
   pub list_is : list ≡ first_list stamp
   pub cut_is : cut ≡ None
+
+-- bytes without the tail that was cut off at this place, where there was one
+abbrev pub without_tail : List ℕ → Option ℕ → List ℕ
+without_tail bytes None = bytes
+without_tail bytes (Some at) = take at bytes
+
+-- bytes are the file of a new database, by the clock's first stamp where the clock tells
+pub record IsNewFile (stamps : Option (List Stamp)) (bytes : List ℕ) : Type 0 where
+  pub stamp : Stamp
+  pub first : IfSome stamps (λ told. slice_get told 0 ≡ Some stamp)
+  pub file : bytes ≡ file_with (first_transaction (stamp_number stamp))
 
 -- the clock gave one stamp, or none
 abbrev pub GaveAtMostOne : Option (List Stamp) → Option (List Stamp) → Type 0

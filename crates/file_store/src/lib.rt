@@ -3,6 +3,7 @@
 
 mod first;
 mod opening;
+mod packing;
 mod preparing;
 mod staged;
 mod staging;

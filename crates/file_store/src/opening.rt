@@ -9,14 +9,17 @@ ghost use Rattle.zb_base.specs.Counts.{Rose};
 ghost use Rattle.zb_volume.specs.Moments.{StaysAs};
 ghost use Rattle.zb_ids.specs.declared.stamp.Stamp.{Stamp};
 ghost use Rattle.zb_outside.specs.Stamps.{stamps_after};
+ghost use Rattle.zb_ids.specs.Tids.{stamp_number};
+ghost use Rattle.zb_model.specs.Creation.{first_transaction};
 ghost use Rattle.fs_records.specs.File.{StandsFor};
 ghost use Rattle.fs_records.specs.Listed.{listed};
 ghost use Rattle.zb_base.specs.Bytes.{AreBytes};
-ghost use Rattle.fs_recovery.specs.declared.errors.OpenError.TheVariants.{StoreFault as Fault, Memory};
+ghost use Rattle.fs_recovery.specs.declared.errors.OpenError.TheVariants.{StoreFault as Fault};
 ghost use Rattle.fs_recovery.specs.Opens.{ImagesStand, IsBounded, IsNoList, IsWhole, Opens};
 ghost use Rattle.fs_recovery.specs.Reading.{CountsFault, RefusesMain};
 ghost use Rattle.file_store.specs.Kept.{IsKept};
-ghost use Rattle.file_store.specs.Opening.{GaveAtMostOne, Harm, IsBegun, IsFresh, IsMade, IsUnlessWritten, KeepsList, MakesList, SomeRose, first_list};
+ghost use Rattle.file_store.specs.First.{file_with};
+ghost use Rattle.file_store.specs.Opening.{GaveAtMostOne, Harm, IsBegun, IsFresh, IsMade, IsNewFile, IsUnlessWritten, KeepsList, MakesList, SomeRose, first_list, without_tail};
 
 use crate::first::first_file;
 use crate::staging::StagedIndex;
@@ -52,14 +55,16 @@ fn newest_of(starts: &[Place]) -> Tid
 fn make<V: Volume>(alloc: Global, volume: &mut V, clock: Stamp) -> Result<(), OpenError>
     ensures made { V.told → OnOk result
         (StandsFor (seen (V.log volume.new) Main) (first_list clock) None) }
+    ensures file { V.told → OnOk result
+        (seen (V.log volume.new) Main ≡ file_with (first_transaction (stamp_number clock))) }
     ensures fits { V.told → OnOk result (AreBytes (seen (V.log volume.new) Main)) }
     ensures settled { V.told → OnOk result (IsSettled (V.log volume.new) Main) }
     ensures harm { (bytes : List ℕ) → IfErr result (λ e. Harm bytes e) }
     ensures any_moment { V.told → MakesList clock (V.log volume.old) (V.log volume.new) }
     ensures fault { IsErrOf result Fault
         → Rose (V.write_faults volume.old) (V.write_faults volume.new) }
-    ensures memory { IsErrOf result Memory
-        → V.write_faults volume.new ≡ V.write_faults volume.old }
+    ensures unfailed { IfErr result (λ e. ¬ (e ≡ Fault)
+        → V.write_faults volume.new ≡ V.write_faults volume.old) }
     ensures uncounted { OnOk result (V.write_faults volume.new ≡ V.write_faults volume.old) }
     ensures later { V.write_faults volume.old ≤ V.write_faults volume.new }
     ensures read_faults { V.read_faults volume.new ≡ V.read_faults volume.old }
@@ -86,6 +91,8 @@ pub fn create_if_empty<V: Volume, C: Clock>(
     ensures some { V.told → OnOk result (seen (V.log volume.new) Main ≢ []) }
     ensures fresh { V.told → IfOk result (λ made. made ≡ true → IsFresh (V.log volume.new)) }
     ensures fits { V.told → OnOk result (AreBytes (seen (V.log volume.new) Main)) }
+    ensures file { V.told → seen (V.log volume.old) Main ≡ [] → OnOk result
+        (IsNewFile (C.stamps clock.old) (seen (V.log volume.new) Main)) }
     ensures same { V.told → seen (V.log volume.old) Main ≢ [] → V.log volume.new ≡ V.log volume.old }
     ensures stamps_kept { V.told → seen (V.log volume.old) Main ≢ []
         → C.stamps clock.new ≡ C.stamps clock.old }
@@ -95,8 +102,9 @@ pub fn create_if_empty<V: Volume, C: Clock>(
         → slice_get stamps 0 ≡ Some stamp → MakesList stamp (V.log volume.old) (V.log volume.new)) }
     ensures fault { IsErrOf result Fault → SomeRose (V.read_faults volume.old)
         (V.read_faults volume.new) (V.write_faults volume.old) (V.write_faults volume.new) }
-    ensures memory { IsErrOf result Memory → (V.read_faults volume.new ≡ V.read_faults volume.old)
-        × (V.write_faults volume.new ≡ V.write_faults volume.old) }
+    ensures unfailed { IfErr result (λ e. ¬ (e ≡ Fault)
+        → (V.read_faults volume.new ≡ V.read_faults volume.old)
+        × (V.write_faults volume.new ≡ V.write_faults volume.old)) }
     ensures reads_same { OnOk result (V.read_faults volume.new ≡ V.read_faults volume.old) }
     ensures writes_same { OnOk result (V.write_faults volume.new ≡ V.write_faults volume.old) }
     ensures reads_later { V.read_faults volume.old ≤ V.read_faults volume.new }
@@ -136,7 +144,7 @@ fn recover<V: Volume>(alloc: Global, volume: &mut V, made: bool) -> Result<Opene
 }
 
 /// What is kept of a file that was opened.
-fn keep(opened: Opened) -> Ready
+pub(crate) fn keep(opened: Opened) -> Ready
     requires { IsBounded opened }
     ensures kept { (bytes : List ℕ) → IsWhole bytes opened → AreBytes bytes
         → length bytes ≤ opened.end → IsKept bytes result.index result.numbers }
@@ -167,6 +175,10 @@ pub(crate) fn open<V: Volume, C: Clock>(
         IsKept (seen (V.log volume.new) Main) r.index r.numbers) }
     ensures free { IfOk result (λ r. r.index.staged ≡ None) }
     ensures settled { V.told → OnOk result (IsSettled (V.log volume.new) Main) }
+    ensures content { V.told → seen (V.log volume.old) Main ≢ [] → IfOk result (λ r.
+        seen (V.log volume.new) Main ≡ without_tail (seen (V.log volume.old) Main) r.cut) }
+    ensures new_file { V.told → seen (V.log volume.old) Main ≡ [] → OnOk result
+        (IsNewFile (C.stamps clock.old) (seen (V.log volume.new) Main)) }
     ensures opened { V.told → seen (V.log volume.old) Main ≢ [] → IfOk result (λ r.
         StandsFor (seen (V.log volume.old) Main) (listed (seen (V.log volume.new) Main)) r.cut) }
     ensures made { V.told → seen (V.log volume.old) Main ≡ [] → IfOk result (λ r.
@@ -189,7 +201,7 @@ pub(crate) fn open<V: Volume, C: Clock>(
         → slice_get stamps 0 ≡ Some stamp → MakesList stamp (V.log volume.old) (V.log volume.new)) }
     ensures fault { IsErrOf result Fault → SomeRose (V.read_faults volume.old)
         (V.read_faults volume.new) (V.write_faults volume.old) (V.write_faults volume.new) }
-    ensures memory { IfErr result (λ e. e ≡ Memory
+    ensures unfailed { IfErr result (λ e. ¬ (e ≡ Fault)
         → (V.read_faults volume.new ≡ V.read_faults volume.old)
         × (V.write_faults volume.new ≡ V.write_faults volume.old)) }
     ensures reads_same { OnOk result (V.read_faults volume.new ≡ V.read_faults volume.old) }

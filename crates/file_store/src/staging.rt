@@ -1,6 +1,6 @@
 //! An index, and beside it the places of a voted transaction, with all the room that its finish needs.
 
-ghost use Rattle.std.specs.Prelude.{◌≡◌, ℕ, ◌-◌, ◌^◌, ◌<◌, ◌≤◌, None, Some, map, nat_eq, IfOk, OnOk, OnErr};
+ghost use Rattle.std.specs.Prelude.{◌≡◌, ℕ, ◌-◌, ◌^◌, ◌<◌, ◌≤◌, None, Some, map, nat_eq, All, IfOk, OnOk, OnErr};
 ghost use Rattle.std.specs.List.{IsDistinct};
 ghost use Rattle.std.specs.Option.{ForSome, option_copied};
 ghost use Rattle.fs_records.specs.Places.{HasRoomFor, IsRising, places_in};
@@ -98,9 +98,10 @@ impl StagedIndex {
         self.staged.as_ref()
     }
 
-    /// The index, without what is staged.
+    /// The index, without what is staged. The number of each of its transactions has one after it.
     pub(crate) fn index(&self) -> &Index
-        ensures { result.now ≡ self.now.kept }
+        ensures value { result.now ≡ self.now.kept }
+        ensures bound { All (λ p. p.serial < 2 ^ 64 - 1) result.now.transactions }
     {
         &self.index
     }

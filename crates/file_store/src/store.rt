@@ -8,13 +8,14 @@ ghost use Rattle.zb_volume.specs.Moments.{StaysAs};
 ghost use Rattle.zb_ids.specs.declared.stamp.Stamp.{Stamp};
 ghost use Rattle.zb_outside.specs.Stamps.{stamps_after};
 ghost use Rattle.fs_records.specs.File.{StandsFor};
-ghost use Rattle.fs_recovery.specs.declared.errors.OpenError.TheVariants.{StoreFault as Fault, Memory};
+ghost use Rattle.fs_recovery.specs.declared.errors.OpenError.TheVariants.{StoreFault as Fault};
 ghost use Rattle.fs_recovery.specs.Opens.{IsNoList};
-ghost use Rattle.file_store.specs.Kept.{HasRoomForTally, IsKept, IsVotedIn, StandsForList};
-ghost use Rattle.file_store.specs.KeptLaws.{kept_once, voted_once};
-ghost use Rattle.file_store.specs.Opening.{GaveAtMostOne, Harm, IsMade, IsUnlessWritten, KeepsList, MakesList, SomeRose};
+ghost use Rattle.file_store.specs.Kept.{HasRoomForTally, IsCopyKept, IsKept, IsVotedIn, StandsForList};
+ghost use Rattle.file_store.specs.KeptLaws.{copied_once, kept_once, voted_once};
+ghost use Rattle.file_store.specs.Opening.{GaveAtMostOne, Harm, IsMade, IsNewFile, IsUnlessWritten, KeepsList, MakesList, SomeRose, without_tail};
 
-use crate::opening::{Ready, open};
+use crate::opening::{Ready, keep as keep_opened, open};
+use crate::packing::pack_file;
 use crate::preparing::{count_staged, prepare};
 use crate::staging::StagedIndex;
 use fs_append as append;
@@ -23,27 +24,36 @@ use fs_reading::{
     read_before, read_first_after, read_history_at, read_transaction_with, read_undo_log_at,
 };
 use fs_recovery::{Numbers, OpenError};
+use pack_copy::{CopyState, begin, copy_turn};
+use pack_switch::Switched;
 use std::alloc::Global;
 use zb_ids::{ListOf, Oid, Tid};
-use zb_model::{Found, LogLine, NewTransaction, Revision, Store, StoreError, Transaction};
+use zb_model::{
+    Copied, Found, LogLine, NewTransaction, OidSet, Packed, Revision, Store, StoreError,
+    Transaction,
+};
 use zb_outside::Clock;
 use zb_volume::{StoreFault, Volume};
 
 /// A store whose list lies in Main of a volume, as a FileStorage file. It keeps an index of the file
 /// and a few numbers of its list in memory, and reads all else.
 ///
-/// Until a call answers a store fault, every crash leaves of Main what stands for the list.
+/// Until a call answers a store fault, every crash leaves of Main what stands for the list. While a pack
+/// is begun, Side is a file of what is copied, and no other call touches it.
 #[derive(Drop)]
 pub struct FileStore<V: Volume> {
     pub(crate) volume: V,
     pub(crate) index: StagedIndex,
     pub(crate) numbers: Numbers,
+    /// What is known of the file on Side, where a pack is begun.
+    pub(crate) copy: Option<CopyState>,
     /// Whether a call is under way that changes the volume, or one has failed.
     pub(crate) broken: bool,
     ghost room: { ForSome index.staged (λ s. HasRoomForTally numbers (length s.records)) },
     ghost settled: { V.told → broken ≡ false → IsSettled (V.log volume) Main },
     ghost kept: { V.told → broken ≡ false → IsKept (seen (V.log volume) Main) index numbers } by { kept_once V.told (broken ≡ false) (seen (V.log volume) Main) index numbers },
     ghost voted: { V.told → broken ≡ false → ForSome index.staged (λ s. IsVotedIn (seen (V.log volume) Main) s index) } by { voted_once V.told (broken ≡ false) (seen (V.log volume) Main) index },
+    ghost copied: { V.told → broken ≡ false → ForSome copy (λ c. IsCopyKept (seen (V.log volume) Side) c) } by { copied_once V.told (broken ≡ false) (seen (V.log volume) Side) copy },
 }
 
 impl<V: Volume + Drop> FileStore<V> {
@@ -53,7 +63,9 @@ impl<V: Volume + Drop> FileStore<V> {
     ///
     /// An error hands the volume back. Where Main is damaged or no file nothing was changed, and where it
     /// wasn't empty nothing was changed with any error but that of a write that failed. Side is as it was
-    /// unless the file was made. `Memory` comes only where no call of the volume failed.
+    /// unless the file was made. Any error but `StoreFault` comes only where no call of the volume failed.
+    /// Where the file is opened, none has failed, and Main's bytes are as they were without the tail, or,
+    /// where it was empty, the file of a new database.
     pub fn create_or_open<C: Clock>(
         alloc: Global,
         mut volume: V,
@@ -61,10 +73,15 @@ impl<V: Volume + Drop> FileStore<V> {
     ) -> Result<(FileStore<V>, Option<u64>), (OpenError, V)>
         ensures whole { IfOk result (λ r. (⟦<FileStore<V> as Store>⟧.state r.0).broken ≡ false) }
         ensures free { IfOk result (λ r. (⟦<FileStore<V> as Store>⟧.state r.0).voted ≡ None) }
+        ensures begun { IfOk result (λ r. (⟦<FileStore<V> as Store>⟧.state r.0).begun ≡ None) }
         ensures opened { V.told → seen (V.log volume) Main ≢ [] → IfOk result (λ r.
             StandsFor (seen (V.log volume) Main) (⟦<FileStore<V> as Store>⟧.state r.0).list r.1) }
         ensures made { V.told → seen (V.log volume) Main ≡ [] → IfOk result (λ r.
             IsMade (C.stamps clock.old) (⟦<FileStore<V> as Store>⟧.state r.0).list r.1) }
+        ensures content { V.told → seen (V.log volume) Main ≢ [] → IfOk result (λ r.
+            seen (⟦<FileStore<V> as Store>⟧.state r.0).log Main ≡ without_tail (seen (V.log volume) Main) r.1) }
+        ensures new_file { V.told → seen (V.log volume) Main ≡ [] → IfOk result (λ r.
+            IsNewFile (C.stamps clock.old) (seen (⟦<FileStore<V> as Store>⟧.state r.0).log Main)) }
         ensures stamps_kept { V.told → seen (V.log volume) Main ≢ []
             → C.stamps clock.new ≡ C.stamps clock.old }
         ensures stamps_left { V.told → seen (V.log volume) Main ≡ []
@@ -89,11 +106,12 @@ impl<V: Volume + Drop> FileStore<V> {
             MakesList stamp (V.log volume) (V.log e.1))) }
         ensures fault { IfErr result (λ e. e.0 ≡ Fault → SomeRose (V.read_faults volume)
             (V.read_faults e.1) (V.write_faults volume) (V.write_faults e.1)) }
-        ensures memory { IfErr result (λ e. e.0 ≡ Memory → (V.read_faults e.1 ≡ V.read_faults volume)
+        ensures unfailed { IfErr result (λ e. ¬ (e.0 ≡ Fault) → (V.read_faults e.1 ≡ V.read_faults volume)
             × (V.write_faults e.1 ≡ V.write_faults volume)) }
         ensures read_faults { IfOk result (λ r.
             (⟦<FileStore<V> as Store>⟧.state r.0).read_faults ≡ V.read_faults volume) }
-        ensures faults { IfOk result (λ r. V.write_faults volume ≤ (⟦<FileStore<V> as Store>⟧.state r.0).faults) }
+        ensures faults { IfOk result (λ r.
+            (⟦<FileStore<V> as Store>⟧.state r.0).faults ≡ V.write_faults volume) }
         ensures refused_reads { IfErr result (λ e. V.read_faults volume ≤ V.read_faults e.1) }
         ensures refused_writes { IfErr result (λ e. V.write_faults volume ≤ V.write_faults e.1) }
     {
@@ -108,6 +126,7 @@ impl<V: Volume + Drop> FileStore<V> {
                     volume,
                     index,
                     numbers,
+                    copy: None,
                     broken: false,
                 };
                 Ok((store, cut))
@@ -130,6 +149,7 @@ impl<V: Volume + Drop> FileStore<V> {
             volume,
             index: _,
             numbers: _,
+            copy: _,
             broken: _,
         } = self;
         volume
@@ -138,10 +158,10 @@ impl<V: Volume + Drop> FileStore<V> {
 
 impl<V: Volume + Drop> Store for FileStore<V> {
     ghost use Rattle.std.specs.Prelude.{option_map};
-    ghost use Rattle.zb_volume.specs.declared.areas.Area.TheVariants.{Main};
+    ghost use Rattle.zb_volume.specs.declared.areas.Area.TheVariants.{Main, Side};
     ghost use Rattle.zb_volume.specs.Disk.{seen};
     ghost use Rattle.fs_records.specs.Listed.{listed};
-    ghost use Rattle.file_store.specs.Kept.{StandsForList, voted_in};
+    ghost use Rattle.file_store.specs.Kept.{StandsForList, copied_in, voted_in};
     ghost use Rattle.file_store.specs.KeptLaws.{kept_database, kept_leaves};
 
     ghost told = { V.told };
@@ -155,6 +175,7 @@ impl<V: Volume + Drop> Store for FileStore<V> {
     ghost state = { λ store. record {
       list = listed (seen (V.log store.volume) Main);
       voted = option_map (λ s. voted_in s.tid store.index.end (seen (V.log store.volume) Main)) store.index.staged;
+      begun = option_map (λ c. copied_in c.tid (seen (V.log store.volume) Side)) store.copy;
       newest = store.index.newest;
       broken = store.broken;
       log = V.log store.volume;
@@ -244,5 +265,60 @@ impl<V: Volume + Drop> Store for FileStore<V> {
         self.index.take_back();
         self.broken = false;
         Ok(())
+    }
+
+    fn pack_begin(&mut self, alloc: Global, tid: Tid) -> Result<(), StoreError> {
+        self.copy = None;
+        self.broken = true;
+        match begin(alloc, &mut self.volume, tid) {
+            Ok(copy) => self.copy = Some(copy),
+            Err(StoreFault) => return Err(StoreError::StoreFault),
+        }
+        self.broken = false;
+        Ok(())
+    }
+
+    fn pack_copy(&mut self, alloc: Global, keep: &OidSet) -> Result<Copied, StoreError> {
+        let Some(mut copy) = self.copy.take() else {
+            return Err(StoreError::Memory);
+        };
+        self.broken = true;
+        match copy_turn(alloc, &mut self.volume, self.index.index(), &mut copy, keep) {
+            Ok(copied) => {
+                self.copy = Some(copy);
+                self.broken = false;
+                Ok(copied)
+            }
+            Err(error) => {
+                self.broken = error == StoreError::StoreFault;
+                Err(error)
+            }
+        }
+    }
+
+    fn pack_switch(&mut self, alloc: Global, keep: &OidSet) -> Result<Packed, StoreError> {
+        let Some(copy) = self.copy.take() else {
+            return Err(StoreError::Memory);
+        };
+        self.broken = true;
+        let volume = &mut self.volume;
+        match pack_file(alloc, volume, &self.index, &self.numbers, copy, keep) {
+            Ok(switched) => {
+                let Switched { opened, packed } = switched;
+                let ready = keep_opened(opened);
+                self.index = ready.index;
+                self.numbers = ready.numbers;
+                self.broken = false;
+                Ok(packed)
+            }
+            Err(error) => {
+                self.broken = error == StoreError::StoreFault;
+                Err(error)
+            }
+        }
+    }
+
+    fn pack_drop(&mut self) {
+        self.copy = None;
     }
 }

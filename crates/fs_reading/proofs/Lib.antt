@@ -6,3 +6,4 @@ pub mod Revisions
 pub mod Starts
 pub mod Wholes
 pub mod Fronts
+pub mod Forming

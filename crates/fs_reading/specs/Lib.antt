@@ -10,3 +10,4 @@ pub mod Standing
 pub mod StoreErrors
 pub mod TransactionsStand
 pub mod Sizes
+pub mod Formed

@@ -1,11 +1,12 @@
 //! The content of a data record.
 
-ghost use Rattle.std.specs.Prelude.{◌≡◌, ℕ, ◌+◌, ◌≤◌, ◌<◌, ◌^◌, true, length, IfOk, OnOk, IsErrOf};
+ghost use Rattle.std.specs.Prelude.{◌≡◌, ℕ, ◌+◌, ◌≤◌, ◌<◌, ◌^◌, true, length, IfOk, IfSome, OnOk, IsErrOf};
 ghost use Rattle.zb_model.specs.declared.data.Content.{Content};
 ghost use Rattle.zb_base.specs.Counts.{Rose, HasCause};
 ghost use Rattle.fs_records.specs.Blocks.{Reached, Begins, is_known, content_at};
 ghost use Rattle.zb_volume.specs.Disk.{main_bytes};
 ghost use Rattle.fs_reading.specs.Standing.{data_head_at, IsContent};
+ghost use Rattle.fs_reading.specs.Formed.{HasBytes};
 ghost use Rattle.fs_reading.specs.Sources.{IsSource, IsKnownPlace};
 ghost use Rattle.fs_reading.specs.declared.errors.ReadError.TheVariants.{ReadFault, Memory};
 
@@ -38,6 +39,7 @@ pub(crate) fn source_of<V: Volume>(
     requires some { V.told → (content : Content) × IsContent (main_bytes (V.log volume.old)) content at }
     ensures value { V.told → (content : Content) → IsContent (main_bytes (V.log volume.old)) content at
         → IfOk result (λ source. IsSource (main_bytes (V.log volume.old)) content source) }
+    ensures filled { IfOk result (λ source. IfSome source (λ s. 0 < s.length)) }
     ensures same { V.log volume.new ≡ V.log volume.old }
     ensures cause { HasCause (V.read_faults volume.old) (V.read_faults volume.new) result }
     ensures uncounted { OnOk result (V.read_faults volume.new ≡ V.read_faults volume.old) }
@@ -71,6 +73,7 @@ pub(crate) fn content_of<V: Volume>(
     requires some { V.told → (content : Content) × IsContent (main_bytes (V.log volume.old)) content at }
     ensures value { V.told → (content : Content) → IsContent (main_bytes (V.log volume.old)) content at
         → IfOk result (λ read. read ≡ content) }
+    ensures filled { IfOk result (λ read. HasBytes read) }
     ensures same { V.log volume.new ≡ V.log volume.old }
     ensures later { V.read_faults volume.old ≤ V.read_faults volume.new }
     ensures fault { IsErrOf result ReadFault

@@ -74,6 +74,7 @@ pub(crate) fn bytes_at<V: Volume>(
     requires { V.told → at + count ≤ length (main_bytes (V.log volume.old)) }
     ensures value { V.told → IfOk result (λ bytes.
         bytes ≡ take count (drop at (main_bytes (V.log volume.old)))) }
+    ensures count { IfOk result (λ bytes. length bytes ≡ count) }
     ensures same { V.log volume.new ≡ V.log volume.old }
     ensures later { V.read_faults volume.old ≤ V.read_faults volume.new }
     ensures fault { IsErrOf result ReadFault
@@ -104,6 +105,8 @@ pub(crate) fn user_and_description<V: Volume>(
         texts.0 ≡ user_at (main_bytes (V.log volume.old)) at) }
     ensures description { V.told → IfOk result (λ texts.
         texts.1 ≡ description_at (main_bytes (V.log volume.old)) at) }
+    ensures counts { IfOk result (λ texts.
+        (length texts.0 ≡ header.now.user) × (length texts.1 ≡ header.now.description)) }
     ensures same { V.log volume.new ≡ V.log volume.old }
     ensures later { V.read_faults volume.old ≤ V.read_faults volume.new }
     ensures fault { IsErrOf result ReadFault

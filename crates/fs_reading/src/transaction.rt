@@ -8,6 +8,7 @@ ghost use Rattle.fs_records.specs.Places.{IsIndexOf};
 ghost use Rattle.fs_records.specs.Rules.{payload_size};
 ghost use Rattle.fs_reading.specs.Main.{IsIndexed, IsStart, IsStartOf};
 ghost use Rattle.fs_reading.specs.ChangesStand.{ChangesStand, RecordsBetween, entries_of};
+ghost use Rattle.fs_reading.specs.Formed.{AreEntries, IsFormed};
 ghost use Rattle.fs_reading.specs.Standing.{TransactionStands};
 ghost use Rattle.fs_reading.specs.declared.errors.ReadError.TheVariants.{ReadFault, Memory};
 ghost use Rattle.zb_volume.specs.Disk.{main_bytes};
@@ -55,6 +56,7 @@ fn entries_between<V: Volume>(
     ensures value { V.told → (ks : List Known)
         → RecordsBetween (main_bytes (V.log volume.old)) from end ks
         → IfOk result (λ entries. entries.entries ≡ entries_of [] ks) }
+    ensures formed { IfOk result (λ entries. AreEntries entries.entries) }
     ensures same { V.log volume.new ≡ V.log volume.old }
     ensures later { V.read_faults volume.old ≤ V.read_faults volume.new }
     ensures fault { IsErrOf result ReadFault
@@ -90,6 +92,7 @@ fn transaction_at<V: Volume>(
         → TransactionStands (main_bytes (V.log volume.old)) place t
         → ChangesStand (main_bytes (V.log volume.old)) place.at t.changes
         → IfOk result (λ read. read ≡ t) }
+    ensures formed { IfOk result (λ read. IsFormed read) }
     ensures same { V.log volume.new ≡ V.log volume.old }
     ensures later { V.read_faults volume.old ≤ V.read_faults volume.new }
     ensures fault { IsErrOf result ReadFault
@@ -121,9 +124,10 @@ fn transaction_at<V: Volume>(
 }
 
 /// The transaction at a place where one was read, whole: an object that it changes more than once
-/// stands where it came first, with the content of its last record there. Memory is that of the
-/// transaction. It is `ReadFault` only where a read failed, and else `Memory`. The volume is as it
-/// was.
+/// stands where it came first, with the content of its last record there. Whatever the volume gives,
+/// its texts have at most 65,535 bytes each, it changes each object once, and no record is empty.
+/// Memory is that of the transaction. It is `ReadFault` only where a read failed, and else `Memory`.
+/// The volume is as it was.
 pub fn read_transaction_at<V: Volume>(
     alloc: Global,
     volume: &mut V,
@@ -133,6 +137,7 @@ pub fn read_transaction_at<V: Volume>(
     ensures transaction { V.told → (reached : Reached) (number : ℕ)
         → Begins (main_bytes (V.log volume.old)) reached → IsStartOf reached number place
         → IfOk result (λ t. slice_get reached.list number ≡ Some t) }
+    ensures formed { IfOk result (λ t. IsFormed t) }
     ensures same { V.log volume.new ≡ V.log volume.old }
     ensures later { V.read_faults volume.old ≤ V.read_faults volume.new }
     ensures fault { IsErrOf result ReadFault

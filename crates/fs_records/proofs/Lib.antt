@@ -4,3 +4,4 @@ pub mod Searching
 pub mod Voting
 pub mod Written
 pub mod Keeping
+pub mod RecordsInRow

@@ -27,3 +27,5 @@ pub mod StatusLaws
 pub mod Writing
 pub mod HeldPlaces
 pub mod SizeLaws
+pub mod Placing
+pub mod PlacingLaws

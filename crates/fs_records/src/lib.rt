@@ -8,6 +8,7 @@ mod index;
 mod laws;
 mod place;
 mod places;
+mod placing;
 mod verdict;
 mod writing;
 
@@ -22,6 +23,7 @@ pub use laws::{
     never_both, one_damage, one_list, records_are_revisions, written_blocks_are_read,
 };
 pub use place::{Place, Placed};
+pub use placing::placed_records;
 pub use verdict::Verdict;
 pub use writing::{finishing_sets_the_status, record_length, write_transaction};
 

@@ -4,6 +4,7 @@
 mod gathering;
 mod making;
 mod mapping;
+mod packing;
 mod walks;
 
 pub use mapping::MappingStore;

@@ -8,13 +8,22 @@ ghost use Rattle.zb_model.specs.DatabaseLaws.{ForSome-IsDatabase-prop, IsDatabas
 
 use crate::gathering::{gather_history, gather_undo_log};
 use crate::making::{copy_of, find_below, make_voted};
+use crate::packing::{count_changes, pack_list};
 use crate::walks::{count_to, first_above, greatest_oid_of, pack_point_of, transaction_with};
 use std::alloc::{AllocError, Global};
 use zb_ids::{ListOf, Oid, Tid};
 use zb_model::{
-    Found, LogLine, NewTransaction, Revision, Store, StoreError, Transaction, newest_of, serial_in,
+    Copied, Found, LogLine, NewTransaction, OidSet, Packed, Revision, Store, StoreError,
+    Transaction, newest_of, serial_in,
 };
 use zb_volume::StoreFault;
+
+/// A pack that is begun: how far it goes, and what is copied of the packed list.
+#[derive(Drop)]
+pub struct Begun {
+    tid: Tid,
+    copied: ListOf<Transaction>,
+}
 
 /// A store that keeps the plain list of its transactions. Each call goes over the whole list. It is in
 /// memory alone: no call of it answers a fault, and nothing of it outlives a crash.
@@ -26,6 +35,7 @@ pub struct MappingStore {
     /// How many changes the list has.
     count: u64,
     voted: Option<Transaction>,
+    begun: Option<Begun>,
     ghost database: { IsDatabase items.items } by { IsDatabase-prop items.items },
     ghost counted: { sum_by (λ t. length t.changes) items.items ≡ count },
     ghost bounded: { count < 2 ^ 64 },
@@ -40,6 +50,7 @@ impl MappingStore {
         requires { IsDatabase (first ∷ []) }
         ensures list { IfOk result (λ s. (⟦<MappingStore as Store>⟧.state s).list ≡ first ∷ []) }
         ensures voted { IfOk result (λ s. (⟦<MappingStore as Store>⟧.state s).voted ≡ None) }
+        ensures begun { IfOk result (λ s. (⟦<MappingStore as Store>⟧.state s).begun ≡ None) }
         ensures broken { IfOk result (λ s. (⟦<MappingStore as Store>⟧.state s).broken ≡ false) }
     {
         let count = first.changes.len() as u64;
@@ -49,6 +60,7 @@ impl MappingStore {
             items,
             count,
             voted: None,
+            begun: None,
         })
     }
 
@@ -62,6 +74,7 @@ impl MappingStore {
 
 impl Store for MappingStore {
     ghost use Rattle.std.specs.Prelude.{[], false};
+    ghost use Rattle.std.specs.Option.{option_map};
     ghost use Rattle.zb_model.specs.Database.{newest_tid};
 
     ghost told = { Unit {0} };
@@ -75,6 +88,7 @@ impl Store for MappingStore {
     ghost state = { λ store. record {
       list = store.items.items;
       voted = store.voted;
+      begun = option_map (λ b. record { tid = b.tid; copied = b.copied }) store.begun;
       newest = newest_tid store.items.items;
       broken = false;
       log = [];
@@ -154,5 +168,44 @@ impl Store for MappingStore {
     fn abort(&mut self) -> Result<(), StoreFault> {
         self.voted = None;
         Ok(())
+    }
+
+    fn pack_begin(&mut self, alloc: Global, tid: Tid) -> Result<(), StoreError> {
+        self.begun = Some(Begun {
+            tid,
+            copied: ListOf::new(alloc),
+        });
+        Ok(())
+    }
+
+    fn pack_copy(&mut self, alloc: Global, keep: &OidSet) -> Result<Copied, StoreError> {
+        let tid = match self.begun.take() {
+            Some(begun) => begun.tid,
+            None => Tid(0),
+        };
+        let packed = pack_list(alloc, self.items.as_slice(), tid, keep)?;
+        let count = count_changes(packed.as_slice());
+        self.begun = Some(Begun {
+            tid,
+            copied: ListOf::from_vec(packed),
+        });
+        Ok(Copied { count, whole: true })
+    }
+
+    fn pack_switch(&mut self, alloc: Global, keep: &OidSet) -> Result<Packed, StoreError> {
+        let tid = match self.begun.take() {
+            Some(begun) => begun.tid,
+            None => Tid(0),
+        };
+        let packed = pack_list(alloc, self.items.as_slice(), tid, keep)?;
+        let kept = count_changes(packed.as_slice());
+        let dropped = self.count - kept;
+        self.items = packed;
+        self.count = kept;
+        Ok(Packed { kept, dropped })
+    }
+
+    fn pack_drop(&mut self) {
+        self.begun = None;
     }
 }

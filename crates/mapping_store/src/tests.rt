@@ -1,3 +1,4 @@
 mod answers;
 mod commits;
 mod making;
+mod packs;

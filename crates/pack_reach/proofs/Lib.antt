@@ -8,4 +8,3 @@ pub mod Members
 pub mod Packing
 pub mod Reaching
 pub mod Seeing
-pub mod Sets

@@ -18,7 +18,8 @@ use Rattle.zb_model.specs.Database.{IsDatabase, ObjectRevision, change_in, is_be
 use Rattle.zb_model.specs.Queries.{end_of, found_below, found_of, is_from}
 use Rattle.zb_model.specs.SerialLaws.{SerialsTo, database_serials}
 use Rattle.pack_reach.specs.Laws.{state_content}
-use Rattle.pack_reach.specs.Packed.{is_held, packed_by, packed_form, packed_of, packed_one, serial_up_to, stays}
+use Rattle.zb_model.specs.Packing.{is_held, packed_by, packed_form, packed_one, serial_up_to, stays}
+use Rattle.pack_reach.specs.Packed.{packed_of}
 use Rattle.pack_reach.specs.Reach.{IsReached}
 use Rattle.pack_reach.specs.Reached.{reached}
 use Rattle.pack_reach.proofs.Leading.{up_to_is}

@@ -9,7 +9,8 @@ use Rattle.zb_model.specs.declared.data.Transaction.{Transaction}
 use Rattle.zb_model.specs.declared.found.Found.TheVariants as found
 use Rattle.zb_model.specs.Database.{IsDatabase, content_below}
 use Rattle.zb_model.specs.Queries.{found_below}
-use Rattle.pack_reach.specs.Packed.{packed_by, packed_of}
+use Rattle.zb_model.specs.Packing.{packed_by}
+use Rattle.pack_reach.specs.Packed.{packed_of}
 use Rattle.pack_reach.specs.Reach.{IsLeastUnreadable, IsReached, is_in, references_of}
 use Rattle.pack_reach.specs.Reached.{reached, unreadable}
 

@@ -4,7 +4,6 @@
 
 mod laws;
 mod marker;
-mod oid_set;
 mod refusal;
 
 pub use laws::{
@@ -12,7 +11,6 @@ pub use laws::{
     unreadable_is_least,
 };
 pub use marker::{Marked, Marker};
-pub use oid_set::OidSet;
 pub use refusal::PackRefusal;
 
 #[cfg(test)]

@@ -14,13 +14,12 @@ ghost use Rattle.pack_reach.specs.Marking.{new_marker, with_mark, with_marks, wi
 ghost use Rattle.pack_reach.specs.Reach.{is_at_most};
 ghost use Rattle.pack_reach.specs.Outcomes.{IsMarked, ReadsToMark};
 
-use crate::oid_set::OidSet;
 use crate::refusal::PackRefusal;
 use std::alloc::{AllocError, Global};
 use std::collections::VecDeque;
 use std::marker::Model;
 use zb_ids::{Oid, Tid};
-use zb_model::{Change, Content, Found, Refs, RefsError, Store, StoreError, Transaction};
+use zb_model::{Change, Content, Found, OidSet, Refs, RefsError, Store, StoreError, Transaction};
 
 /// How far the marks of a pack have come.
 #[derive(Clone, Copy, Debug, PartialEq, Eq)]

@@ -1,3 +1,4 @@
+mod failing;
 mod making;
 mod marks;
 mod random;
@@ -6,21 +7,6 @@ mod unreadable;
 use super::*;
 use std::test::Fail;
 use zb_ids::{Oid, Tid};
-
-/// A set has what was put in, each object once.
-#[test]
-fn sets_of_objects(rt: HostRuntime) -> Result<(), Fail> {
-    let mut set = OidSet::new(rt.alloc());
-    assert_eq!(rt; set.len(), 0);
-    for (oid, new) in [(7, true), (u64::MAX, true), (7, false), (0, true)] {
-        assert_eq!(rt; set.insert(Oid(oid))?, new);
-    }
-    assert_eq!(rt; set.len(), 3);
-    for (oid, there) in [(0, true), (1, false), (7, true), (u64::MAX, true)] {
-        assert_eq!(rt; set.contains(Oid(oid)), there);
-    }
-    Ok(())
-}
 
 /// A refusal is told by its numbers.
 #[test]

@@ -2,4 +2,4 @@ pub mod Alls
 pub mod Copies
 pub mod Distinct
 pub mod Firsts
-pub mod Lasts
+pub mod Sets

@@ -39,6 +39,14 @@ rises low (t ∷ ts) h = (h 0 (omega arith), rises t.tid ts (λ k l. rw add-one 
 pub database_rises : (list : List Transaction) → IsDatabase list → RisesTo 0 (newest_tid list) list
 database_rises list is = rw (sym (newest_is list)) (rises 0 list is.rising)
 
+last_within : (low high : ℕ) (ts : List Transaction) → RisesTo low high ts → last_tid low ts ≤ high
+last_within low high [] h = h
+last_within low high (t ∷ ts) h = last_within t.tid high ts h.1
+
+-- the newest of transactions that rise to a bound is within it
+pub newest_within : (high : ℕ) (ts : List Transaction) → RisesTo 0 high ts → newest_tid ts ≤ high
+newest_within high ts h = rw (sym (newest_is ts)) (last_within 0 high ts h)
+
 lower : (low low' high : ℕ) (rs : List ObjectRevision) → low ≤ low' → SerialsTo low' high rs → SerialsTo low high rs
 lower low low' high [] l h = omega (arith, l, h)
 lower low low' high (r ∷ rs) l h = (omega (arith, l, h.0), h.1)

@@ -1,17 +1,25 @@
 -- What contracts see of a store, and what they say of its outcomes. Own.
-use Rattle.std.specs.Prelude.{◌≡◌, ℕ, ◌≤◌, ◌⊎◌, Bool, Option, List, [], ◌∷◌, ◌++◌, Result, Ok, Err, IfErr, OnOk}
+use Rattle.std.specs.Prelude.{◌≡◌, ℕ, ◌≤◌, ◌⊎◌, Bool, Option, None, List, [], ◌∷◌, ◌++◌, Result, Ok, Err, IfErr, OnOk}
+use Rattle.std.specs.Option.{option_map}
 use Rattle.zb_volume.specs.Calls.{Event}
 use Rattle.zb_base.specs.Counts.{Rose}
 use Rattle.zb_model.specs.declared.data.Transaction.{Transaction}
 use Rattle.zb_model.specs.declared.store_error.StoreError.{StoreError}
 use Rattle.zb_model.specs.declared.store_error.StoreError.TheVariants.{StoreFault, ReadFault, Memory}
 
--- What contracts see of a store. A call leaves each part as it was that its frame doesn't name, also one that comes later, as a begun pack.
+-- A pack that is begun: the tid up to which it goes over the list, and the transactions of the packed list that are copied so far.
+pub record BegunPack : Type 0 where
+  pub tid : ℕ
+  pub copied : List Transaction
+
+-- What contracts see of a store. A call leaves each part as it was that its frame doesn't name.
 pub record StoreState : Type 0 where
   -- its transactions, the oldest first
   pub list : List Transaction
   -- the one that is voted, if one is
   pub voted : Option Transaction
+  -- the pack that is begun, if one is
+  pub begun : Option BegunPack
   -- the number that `newest` answers, also where the list isn't told
   pub newest : ℕ
   -- whether a call has answered a store fault
@@ -43,11 +51,18 @@ MayRefuse old new StoreFault = Rose old.faults new.faults
 MayRefuse old new ReadFault = Rose old.read_faults new.read_faults
 MayRefuse old new Memory = CountsStand old new
 
--- neither count of faults has fallen, each refusal has its cause, and with an answer neither count has moved
+-- a fault leaves the other count as it was
+abbrev pub KeepsOtherCount : StoreState → StoreState → StoreError → Type 0
+KeepsOtherCount old new StoreFault = new.read_faults ≡ old.read_faults
+KeepsOtherCount old new ReadFault = new.faults ≡ old.faults
+KeepsOtherCount old new Memory = Unit {0}
+
+-- neither count of faults has fallen, each refusal has its cause and moves that count alone, and with an answer neither count has moved
 pub record HasStoreCause {T : Type 0} (old new : StoreState) (result : Result T StoreError) : Type 0 where
   pub reads_later : old.read_faults ≤ new.read_faults
   pub faults_later : old.faults ≤ new.faults
   pub refused : IfErr result (MayRefuse old new)
+  pub others : IfErr result (KeepsOtherCount old new)
   pub answered : OnOk result (CountsStand old new)
 
 -- a call that only reads is refused for a read fault, where that count rose, or for want of memory, where it has not moved
@@ -56,7 +71,24 @@ MayRefuseReading old new StoreFault = ⊥
 MayRefuseReading old new ReadFault = Rose old.read_faults new.read_faults
 MayRefuseReading old new Memory = new.read_faults ≡ old.read_faults
 
--- ---- frames: what a call leaves as it was
+-- ---- frames: what a call leaves as it was. Over a volume that doesn't tell, a call that changes it leaves nothing known of what is read there: of what is voted
+-- and of a begun pack the tid stays.
+
+abbrev pub tid_of_voted : StoreState → Option ℕ
+tid_of_voted s = option_map (λ (x : Transaction). x.tid) s.voted
+
+abbrev pub tid_of_begun : StoreState → Option ℕ
+tid_of_begun s = option_map (λ (pack : BegunPack). pack.tid) s.begun
+
+-- the begun pack is as it was
+pub record KeepsBegun (told : Type 0) (old new : StoreState) : Type 0 where
+  pub tid : tid_of_begun new ≡ tid_of_begun old
+  pub all : told → new.begun ≡ old.begun
+
+-- what is voted is as it was
+pub record KeepsVoted (told : Type 0) (old new : StoreState) : Type 0 where
+  pub tid : tid_of_voted new ≡ tid_of_voted old
+  pub all : told → new.voted ≡ old.voted
 
 -- no part has changed but the count of read faults
 abbrev pub ReadKeepsRest : StoreState → StoreState → Type 0
@@ -77,16 +109,28 @@ pub record IsOnlyRead {T : Type 0} (old new : StoreState) (result : Result T Sto
 
 -- a vote may change any of these, and leaves the rest: the number of the newest
 abbrev pub VoteKeepsRest : StoreState → StoreState → Type 0
-VoteKeepsRest old new = new ≡ record old { list = new.list; voted = new.voted; broken = new.broken; log = new.log; faults = new.faults; read_faults = new.read_faults }
+VoteKeepsRest old new = new ≡ record old { list = new.list; voted = new.voted; begun = new.begun; broken = new.broken; log = new.log; faults = new.faults; read_faults = new.read_faults }
 
 -- a finish leaves the count of read faults
 abbrev pub FinishKeepsRest : StoreState → StoreState → Type 0
-FinishKeepsRest old new = new ≡ record old { list = new.list; voted = new.voted; newest = new.newest; broken = new.broken; log = new.log; faults = new.faults }
+FinishKeepsRest old new = new ≡ record old { list = new.list; voted = new.voted; begun = new.begun; newest = new.newest; broken = new.broken; log = new.log; faults = new.faults }
 
 -- an abort leaves both
 abbrev pub AbortKeepsRest : StoreState → StoreState → Type 0
-AbortKeepsRest old new = new ≡ record old { list = new.list; voted = new.voted; broken = new.broken; log = new.log; faults = new.faults }
+AbortKeepsRest old new = new ≡ record old { list = new.list; voted = new.voted; begun = new.begun; broken = new.broken; log = new.log; faults = new.faults }
 
 -- bytes stand for a list, or for it with one transaction more
 abbrev pub StandsForOneOf : (List ℕ → List Transaction → Type 0) → List Transaction → Transaction → List ℕ → Type 0
 StandsForOneOf stands list t bytes = stands bytes list ⊎ stands bytes (list ++ t ∷ [])
+
+-- beginning and copying a pack leave the number of the newest
+abbrev pub CopyKeepsRest : StoreState → StoreState → Type 0
+CopyKeepsRest old new = new ≡ record old { list = new.list; voted = new.voted; begun = new.begun; broken = new.broken; log = new.log; faults = new.faults; read_faults = new.read_faults }
+
+-- a switch leaves what is voted: nothing
+abbrev pub SwitchKeepsRest : StoreState → StoreState → Type 0
+SwitchKeepsRest old new = new ≡ record old { list = new.list; begun = new.begun; newest = new.newest; broken = new.broken; log = new.log; faults = new.faults; read_faults = new.read_faults }
+
+-- dropping a pack leaves all else
+abbrev pub DropKeepsRest : StoreState → StoreState → Type 0
+DropKeepsRest old new = new ≡ record old { begun = None }

@@ -4,23 +4,28 @@ ghost use Rattle.std.specs.Prelude.{◌≡◌, ℕ, ◌<◌, ◌-◌, ◌^◌, �
 ghost use Rattle.std.specs.Option.{ForSome};
 ghost use Rattle.zb_volume.specs.declared.areas.Area.{Area};
 ghost use Rattle.zb_base.specs.Counts.{HasCause};
-ghost use Rattle.zb_volume.specs.Moments.{LeavesOnly};
+ghost use Rattle.zb_volume.specs.Moments.{LeavesOnly, StaysAs};
 ghost use Rattle.zb_model.specs.Database.{newest_tid, serial_of};
 ghost use Rattle.zb_model.specs.Lists.{history_of, undo_log_of};
 ghost use Rattle.zb_model.specs.Queries.{changes_up_to, found_below, first_after, greatest_oid, pack_point, transaction_at};
-ghost use Rattle.zb_model.specs.Stores.{AbortKeepsRest, FinishKeepsRest, HasStoreCause, IsOnlyRead, RefusalKeepsRest, StandsForOneOf, UnlessFault, VoteKeepsRest};
+ghost use Rattle.zb_model.specs.Packing.{packed_by};
+ghost use Rattle.zb_model.specs.Packs.{IsCopyOf, IsCopyTurn, IsPackCount, StandsForOneOfTwo, new_pack};
+ghost use Rattle.zb_model.specs.Stores.{AbortKeepsRest, CopyKeepsRest, DropKeepsRest, FinishKeepsRest, HasStoreCause, IsOnlyRead, KeepsBegun, KeepsVoted, RefusalKeepsRest, StandsForOneOf, SwitchKeepsRest, UnlessFault, VoteKeepsRest, tid_of_begun};
 ghost use Rattle.zb_model.specs.Voting.{IsVotable, IsWellFormed, voted_of};
 
 use crate::data::Transaction;
 use crate::found::Found;
 use crate::lists::{LogLine, Revision};
 use crate::new_transaction::NewTransaction;
+use crate::oid_set::OidSet;
+use crate::packs::{Copied, Packed};
 use crate::store_error::StoreError;
 use std::alloc::Global;
 use zb_ids::{ListOf, Oid, Tid};
 use zb_volume::StoreFault;
 
-/// A list of transactions, the oldest first, and beside it the one that is voted, if one is.
+/// A list of transactions, the oldest first, and beside it the one that is voted, if one is, and the
+/// pack that is begun, if one is.
 ///
 /// Contracts see a store as its list. Where its type tells (`told`), each call's answer is that of the
 /// list. Over a volume that doesn't tell, only the clauses on faults, bounds and what stays the same
@@ -28,8 +33,9 @@ use zb_volume::StoreFault;
 ///
 /// A store whose list lies on a disk (`lasts`) says what each crash leaves: bytes of Main that stand
 /// for the list, at every moment until a call answers a store fault, and while a transaction is
-/// finished, for the list or for the list with it. After a store fault the store is broken, no call
-/// may be made, and the volume is to be opened again.
+/// finished, for the list or for the list with it; while a pack is switched, for the list or for the
+/// packed one. After a store fault the store is broken, no call but `pack_drop` may be made, and the
+/// volume is to be opened again.
 ///
 /// A store has two counts of faults, one for reading and one for the calls that change it. They never
 /// fall, and stand still at 2^64 - 1. A call moves one only where it answers a fault, so want of memory
@@ -129,10 +135,12 @@ pub trait Store {
         ensures tid { OnOk result (ForSome (state self.new).voted (λ t. t.tid ≡ new.now.tid)) }
         ensures none { OnErr result ((state self.new).voted ≡ None) }
         ensures keeps { VoteKeepsRest (state self.old) (state self.new) }
+        ensures begun { KeepsBegun told (state self.old) (state self.new) }
         ensures refused { IfErr result (RefusalKeepsRest (state self.old) (state self.new)) }
         ensures list { told → UnlessFault result ((state self.new).list ≡ (state self.old).list) }
         ensures any_moment { lasts → LeavesOnly Area.Main (λ bytes. stands bytes (state self.old).list)
             (state self.old).log (state self.new).log }
+        ensures side { lasts → StaysAs Area.Side (state self.old).log (state self.new).log }
         ensures quiet { quiet → (state self.new).log ≡ (state self.old).log }
         ensures cause { HasStoreCause (state self.old) (state self.new) result };
 
@@ -149,10 +157,12 @@ pub trait Store {
         ensures voted { OnOk result ((state self.new).voted ≡ None) }
         ensures any_moment { lasts → ForSome (state self.old).voted (λ t. LeavesOnly Area.Main
             (StandsForOneOf stands (state self.old).list t) (state self.old).log (state self.new).log) }
+        ensures side { lasts → StaysAs Area.Side (state self.old).log (state self.new).log }
         ensures quiet { quiet → (state self.new).log ≡ (state self.old).log }
         ensures cause { HasCause (state self.old).faults (state self.new).faults result }
         ensures uncounted { OnOk result ((state self.new).faults ≡ (state self.old).faults) }
-        ensures keeps { FinishKeepsRest (state self.old) (state self.new) };
+        ensures keeps { FinishKeepsRest (state self.old) (state self.new) }
+        ensures begun { KeepsBegun told (state self.old) (state self.new) };
 
     /// Drops the voted transaction. It takes no memory.
     fn abort(&mut self) -> Result<(), StoreFault>
@@ -164,10 +174,82 @@ pub trait Store {
         ensures voted { OnOk result ((state self.new).voted ≡ None) }
         ensures any_moment { lasts → LeavesOnly Area.Main (λ bytes. stands bytes (state self.old).list)
             (state self.old).log (state self.new).log }
+        ensures side { lasts → StaysAs Area.Side (state self.old).log (state self.new).log }
         ensures quiet { quiet → (state self.new).log ≡ (state self.old).log }
         ensures cause { HasCause (state self.old).faults (state self.new).faults result }
         ensures uncounted { OnOk result ((state self.new).faults ≡ (state self.old).faults) }
-        ensures keeps { AbortKeepsRest (state self.old) (state self.new) };
+        ensures keeps { AbortKeepsRest (state self.old) (state self.new) }
+        ensures begun { KeepsBegun told (state self.old) (state self.new) };
+
+    /// Begins a pack that goes over the transactions up to a tid, in place of any other that is begun:
+    /// nothing is copied yet. What is voted stays so. With an error no pack is begun.
+    fn pack_begin(&mut self, alloc: Global, tid: Tid) -> Result<(), StoreError>
+        requires { (state self.old).broken ≡ false }
+        ensures whole { UnlessFault result ((state self.new).broken ≡ false) }
+        ensures breaks { IsErrOf result StoreError.StoreFault → (state self.new).broken ≡ true }
+        ensures begun { told → OnOk result ((state self.new).begun ≡ Some (new_pack tid)) }
+        ensures tid { OnOk result (tid_of_begun (state self.new) ≡ Some tid) }
+        ensures none { OnErr result ((state self.new).begun ≡ None) }
+        ensures keeps { CopyKeepsRest (state self.old) (state self.new) }
+        ensures voted { KeepsVoted told (state self.old) (state self.new) }
+        ensures list { told → UnlessFault result ((state self.new).list ≡ (state self.old).list) }
+        ensures main { lasts → StaysAs Area.Main (state self.old).log (state self.new).log }
+        ensures quiet { quiet → (state self.new).log ≡ (state self.old).log }
+        ensures cause { HasStoreCause (state self.old) (state self.new) result };
+
+    /// Copies more of the packed list, in which just the objects of a set are kept: transaction by
+    /// transaction, each whole, and at least 64 changes in a turn where something is left behind it. The
+    /// set is the same in each call of one pack. What is voted stays so. With an error no pack is begun.
+    fn pack_copy(&mut self, alloc: Global, keep: &OidSet) -> Result<Copied, StoreError>
+        requires whole { (state self.old).broken ≡ false }
+        requires begun { IsSome (state self.old).begun }
+        requires copy { told → ForSome (state self.old).begun (IsCopyOf keep.now (state self.old).list) }
+        ensures whole { UnlessFault result ((state self.new).broken ≡ false) }
+        ensures breaks { IsErrOf result StoreError.StoreFault → (state self.new).broken ≡ true }
+        ensures tid { OnOk result (tid_of_begun (state self.new) ≡ tid_of_begun (state self.old)) }
+        ensures copied { told → IfOk result (λ copied. ForSome (state self.old).begun (λ old.
+            ForSome (state self.new).begun (λ new.
+            IsCopyTurn (packed_by old.tid keep.now (state self.old).list) old new copied))) }
+        ensures none { OnErr result ((state self.new).begun ≡ None) }
+        ensures keeps { CopyKeepsRest (state self.old) (state self.new) }
+        ensures voted { KeepsVoted told (state self.old) (state self.new) }
+        ensures list { told → UnlessFault result ((state self.new).list ≡ (state self.old).list) }
+        ensures main { lasts → StaysAs Area.Main (state self.old).log (state self.new).log }
+        ensures quiet { quiet → (state self.new).log ≡ (state self.old).log }
+        ensures cause { HasStoreCause (state self.old) (state self.new) result };
+
+    /// Copies what is left of the packed list, and puts it in the place of the list in one step. Whatever
+    /// is answered, no pack is begun behind it; with an error the list is as before, or, where it is a
+    /// store fault, a crash leaves one of the two.
+    fn pack_switch(&mut self, alloc: Global, keep: &OidSet) -> Result<Packed, StoreError>
+        requires whole { (state self.old).broken ≡ false }
+        requires free { (state self.old).voted ≡ None }
+        requires begun { IsSome (state self.old).begun }
+        requires copy { told → ForSome (state self.old).begun (IsCopyOf keep.now (state self.old).list) }
+        ensures whole { UnlessFault result ((state self.new).broken ≡ false) }
+        ensures breaks { IsErrOf result StoreError.StoreFault → (state self.new).broken ≡ true }
+        ensures list { told → OnOk result (ForSome (state self.old).begun (λ pack.
+            (state self.new).list ≡ packed_by pack.tid keep.now (state self.old).list)) }
+        ensures number { told → OnOk result ((state self.new).newest ≡ newest_tid (state self.new).list) }
+        ensures counts { told → IfOk result (λ counts.
+            IsPackCount (state self.old).list (state self.new).list counts) }
+        ensures unchanged { told → OnErr result
+            (UnlessFault result ((state self.new).list ≡ (state self.old).list)) }
+        ensures unmoved { OnErr result ((state self.new).newest ≡ (state self.old).newest) }
+        ensures none { (state self.new).begun ≡ None }
+        ensures keeps { SwitchKeepsRest (state self.old) (state self.new) }
+        ensures main { lasts → OnErr result
+            (UnlessFault result (StaysAs Area.Main (state self.old).log (state self.new).log)) }
+        ensures any_moment { lasts → ForSome (state self.old).begun (λ pack. LeavesOnly Area.Main
+            (StandsForOneOfTwo stands (state self.old).list
+            (packed_by pack.tid keep.now (state self.old).list))
+            (state self.old).log (state self.new).log) }
+        ensures quiet { quiet → (state self.new).log ≡ (state self.old).log }
+        ensures cause { HasStoreCause (state self.old) (state self.new) result };
+
+    /// Drops the pack that is begun, if one is. It calls no volume and takes no memory.
+    fn pack_drop(&mut self)
+        ensures { DropKeepsRest (state self.old) (state self.new) };
 
     /// Between calls the list is a database.
     ghost database: { (store : Self) → told → (state store).broken ≡ false → IsDatabase (state store).list };

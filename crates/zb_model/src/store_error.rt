@@ -12,9 +12,11 @@ pub enum StoreError {
     /// A write, cut, sync or replace of the volume failed, and the store counted it. Nothing more is
     /// promised of the store than what its images allow: the volume is to be opened again.
     StoreFault,
-    /// Reading the volume failed, and the store counted it. The store is as before.
+    /// Reading the volume failed, and the store counted it. The store is as before; but no pack is begun
+    /// any more where a call of a pack was refused.
     ReadFault,
-    /// There is no memory. The store is as before.
+    /// There is no memory. The store is as before; but no pack is begun any more where a call of a pack
+    /// was refused.
     Memory,
 }
 

@@ -109,3 +109,18 @@ fn a_list_answers(rt: HostRuntime) -> Result<(), Fail> {
     }
     Ok(())
 }
+
+/// A set has what was put in, each object once.
+#[test]
+fn sets_of_objects(rt: HostRuntime) -> Result<(), Fail> {
+    let mut set = OidSet::new(rt.alloc());
+    assert_eq!(rt; set.len(), 0);
+    for (oid, new) in [(7, true), (u64::MAX, true), (7, false), (0, true)] {
+        assert_eq!(rt; set.insert(Oid(oid))?, new);
+    }
+    assert_eq!(rt; set.len(), 3);
+    for (oid, there) in [(0, true), (1, false), (7, true), (u64::MAX, true)] {
+        assert_eq!(rt; set.contains(Oid(oid)), there);
+    }
+    Ok(())
+}

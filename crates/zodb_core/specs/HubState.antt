@@ -120,14 +120,16 @@ abbrev pub is_store_failed : StepOutcome → Bool
 is_store_failed StoreFailed = true
 is_store_failed _ = false
 
--- Whatever the store tells: neither count of faults has fallen, a fault is answered only where its count rose and anything else only where neither moved; the hub
--- keeps its rules; its store is broken exactly where the reply says so; and a refusal, but for a store fault, has changed no volume.
+-- Whatever the store tells: neither count of faults has fallen, a fault is answered only where its count rose and anything else only where neither moved; the count
+-- of other faults moves only where the store failed; the hub keeps its rules; its store is broken exactly where the reply says so; and a refusal, but for a store
+-- fault, has changed no volume.
 pub record StepsSafely {R F : Type 0} (reply : Reply) (old new : HubState R F) : Type 0 where
   pub resolver : new.resolver ≡ old.resolver
   pub refs : new.refs ≡ old.refs
   pub sessions : length new.sessions ≡ length old.sessions
   pub later : AreLaterCounts (counts_of old.store) (counts_of new.store)
   pub cause : IsCauseOf (counts_of old.store) (counts_of new.store) (outcome_of reply)
+  pub others : is_store_failed (outcome_of reply) ≡ false → new.store.faults ≡ old.store.faults
   pub broken : old.store.broken ≡ false → new.store.broken ≡ is_store_failed (outcome_of reply)
   pub log : may_write reply ≡ false → new.store.log ≡ old.store.log
 

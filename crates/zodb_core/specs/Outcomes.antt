@@ -45,6 +45,15 @@ abbrev pub takes_memory : Request → Bool
 takes_memory request.Front = true
 takes_memory q = reads_store q
 
+-- a request by which no store is changed, whatever it holds
+abbrev pub keeps_store : Request → Bool
+keeps_store request.Front = true
+keeps_store (request.LoadBefore oid front) = true
+keeps_store (request.NewOids count) = true
+keeps_store (request.History oid) = true
+keeps_store request.UndoLog = true
+keeps_store _ = false
+
 -- a session holds the vote, and something is to be written
 abbrev pub holds_writes : ℕ → Option MachineVote → Bool
 holds_writes n vote = option_map_or (λ v. if v.session == n then is_some v.writes else false) vote false

@@ -3,11 +3,11 @@
 ghost use Rattle.std.specs.Prelude.{◌≡◌, ◌<◌, ◌++◌, ◌∷◌, [], None, Option, Some, List, OnErr, OnOk, false, true, length, map, vec_capacity};
 ghost use Rattle.zb_base.specs.Counts.{HasCause};
 ghost use Rattle.zb_ids.specs.declared.stamp.Stamp.{Stamp};
-ghost use Rattle.zb_volume.specs.declared.areas.Area.TheVariants.{Main};
-ghost use Rattle.zb_volume.specs.Moments.{LeavesOnly};
+ghost use Rattle.zb_volume.specs.declared.areas.Area.TheVariants.{Main, Side};
+ghost use Rattle.zb_volume.specs.Moments.{LeavesOnly, StaysAs};
 ghost use Rattle.zodb_core.specs.HubState.{IsBeforeOrBehind, MakesStep, StandsForMachine, StepsSafely, has_vote, rules_of, writes_of};
 ghost use Rattle.zodb_core.specs.Machine.{Machine, is_open_in};
-ghost use Rattle.zodb_core.specs.Outcomes.{NoMemory, failed, holds_writes, outcome_of};
+ghost use Rattle.zodb_core.specs.Outcomes.{NoMemory, ReadingFailed, failed, holds_writes, outcome_of};
 ghost use Rattle.zodb_core.specs.Steps.{without_vote};
 
 use crate::hub::Hub;
@@ -51,7 +51,7 @@ fn push_entry(journal: &mut Vec<JournalEntry>, entry: JournalEntry)
 
 impl<St: Store, R: Resolver, F: Refs> Hub<St, R, F> {
     /// What the session has voted is appended to the list. It takes no memory.
-    #[tactic(auto, using(crate::proofs::Votes::finish_empty, crate::proofs::Votes::finish_committed, crate::proofs::Votes::moments_kept, crate::proofs::Votes::moments_finish))]
+    #[tactic(auto, using(crate::proofs::Votes::finish_empty, crate::proofs::Votes::finish_committed, crate::proofs::Votes::moments_kept, crate::proofs::Votes::moments_finish, zb_model::specs::StayLaws::stays_same))]
     pub(crate) fn finish(&mut self, session: u32) -> Reply
         requires whole { self.old.store.broken ≡ false }
         requires is_open { is_open_in self.old.sessions session ≡ true }
@@ -59,7 +59,9 @@ impl<St: Store, R: Resolver, F: Refs> Hub<St, R, F> {
             MakesStep (rules_of R.rules F.named self.old) m session Request.Finish
             result self.old self.new stamps stamps }
         ensures safe { StepsSafely result self.old self.new }
+        ensures side { St.lasts → StaysAs Side self.old.store.log self.new.store.log }
         ensures memory { ¬ (outcome_of result ≡ NoMemory) }
+        ensures unread { ¬ (outcome_of result ≡ ReadingFailed) }
         ensures any_moment { St.lasts → St.told → (m : Machine) → StandsForMachine self.old m →
             LeavesOnly Main (IsBeforeOrBehind St.stands (rules_of R.rules F.named self.old) m session Request.Finish)
             self.old.store.log self.new.store.log }
@@ -89,7 +91,7 @@ impl<St: Store, R: Resolver, F: Refs> Hub<St, R, F> {
     }
 
     /// What the session has voted is dropped, if it holds the vote.
-    #[tactic(auto, using(crate::proofs::Votes::dropped_none, crate::proofs::Votes::dropped_writes, crate::proofs::Votes::dropped_failed, crate::proofs::Votes::held_writes))]
+    #[tactic(auto, using(crate::proofs::Votes::dropped_none, crate::proofs::Votes::dropped_writes, crate::proofs::Votes::dropped_failed, crate::proofs::Votes::held_writes, zb_model::specs::StayLaws::stays_same))]
     fn drop_vote(&mut self, session: u32) -> Result<(), StoreFault>
         requires whole { self.old.store.broken ≡ false }
         ensures dropped { St.told → (m : Machine) → StandsForMachine self.old m →
@@ -106,6 +108,7 @@ impl<St: Store, R: Resolver, F: Refs> Hub<St, R, F> {
         ensures reads { self.new.store.read_faults ≡ self.old.store.read_faults }
         ensures cause { HasCause self.old.store.faults self.new.store.faults result }
         ensures uncounted { OnOk result (self.new.store.faults ≡ self.old.store.faults) }
+        ensures side { St.lasts → StaysAs Side self.old.store.log self.new.store.log }
         ensures any_moment { St.lasts → St.told →
             LeavesOnly Main (λ bytes. St.stands bytes self.old.store.list) self.old.store.log self.new.store.log }
     {
@@ -131,7 +134,9 @@ impl<St: Store, R: Resolver, F: Refs> Hub<St, R, F> {
             MakesStep (rules_of R.rules F.named self.old) m session Request.Abort
             result self.old self.new stamps stamps }
         ensures safe { StepsSafely result self.old self.new }
+        ensures side { St.lasts → StaysAs Side self.old.store.log self.new.store.log }
         ensures memory { ¬ (outcome_of result ≡ NoMemory) }
+        ensures unread { ¬ (outcome_of result ≡ ReadingFailed) }
         ensures any_moment { St.lasts → St.told → (m : Machine) → StandsForMachine self.old m →
             LeavesOnly Main (IsBeforeOrBehind St.stands (rules_of R.rules F.named self.old) m session Request.Abort)
             self.old.store.log self.new.store.log }
@@ -151,7 +156,9 @@ impl<St: Store, R: Resolver, F: Refs> Hub<St, R, F> {
             MakesStep (rules_of R.rules F.named self.old) m session Request.Close
             result self.old self.new stamps stamps }
         ensures safe { StepsSafely result self.old self.new }
+        ensures side { St.lasts → StaysAs Side self.old.store.log self.new.store.log }
         ensures memory { ¬ (outcome_of result ≡ NoMemory) }
+        ensures unread { ¬ (outcome_of result ≡ ReadingFailed) }
         ensures any_moment { St.lasts → St.told → (m : Machine) → StandsForMachine self.old m →
             LeavesOnly Main (IsBeforeOrBehind St.stands (rules_of R.rules F.named self.old) m session Request.Close)
             self.old.store.log self.new.store.log }

@@ -4,7 +4,7 @@ ghost use Rattle.std.specs.Prelude.{◌≡◌, ◌<◌, Option, List, false, tru
 ghost use Rattle.zb_ids.specs.declared.stamp.Stamp.{Stamp};
 ghost use Rattle.zodb_core.specs.HubState.{MakesStep, StandsForMachine, StepsSafely, rules_of};
 ghost use Rattle.zodb_core.specs.Machine.{Machine, front_of, is_open_in};
-ghost use Rattle.zodb_core.specs.Outcomes.{NoMemory, outcome_of};
+ghost use Rattle.zodb_core.specs.Outcomes.{NoMemory, ReadingFailed, StoreFailed, outcome_of};
 ghost use Rattle.zodb_core.specs.Replies.{fault_reply, loaded_reply};
 
 use crate::hub::Hub;
@@ -60,6 +60,8 @@ impl<St: Store, R: Resolver, F: Refs> Hub<St, R, F> {
             MakesStep (rules_of R.rules F.named self.old) m session Request.Front
             result self.old self.new stamps stamps }
         ensures safe { StepsSafely result self.old self.new }
+        ensures unread { ¬ (outcome_of result ≡ ReadingFailed) }
+        ensures unwritten { ¬ (outcome_of result ≡ StoreFailed) }
         ensures log { self.new.store.log ≡ self.old.store.log }
     {
         let front = self.front_tid();
@@ -92,6 +94,7 @@ impl<St: Store, R: Resolver, F: Refs> Hub<St, R, F> {
             MakesStep (rules_of R.rules F.named self.old) m session (Request.LoadBefore oid front)
             result self.old self.new stamps stamps }
         ensures safe { StepsSafely result self.old self.new }
+        ensures unwritten { ¬ (outcome_of result ≡ StoreFailed) }
         ensures log { self.new.store.log ≡ self.old.store.log }
     {
         let found = match self.store.load_before(alloc, oid, front) {
@@ -109,6 +112,7 @@ impl<St: Store, R: Resolver, F: Refs> Hub<St, R, F> {
             MakesStep (rules_of R.rules F.named self.old) m session (Request.History oid)
             result self.old self.new stamps stamps }
         ensures safe { StepsSafely result self.old self.new }
+        ensures unwritten { ¬ (outcome_of result ≡ StoreFailed) }
         ensures log { self.new.store.log ≡ self.old.store.log }
     {
         match self.store.history(alloc, oid) {
@@ -125,6 +129,7 @@ impl<St: Store, R: Resolver, F: Refs> Hub<St, R, F> {
             MakesStep (rules_of R.rules F.named self.old) m session Request.UndoLog
             result self.old self.new stamps stamps }
         ensures safe { StepsSafely result self.old self.new }
+        ensures unwritten { ¬ (outcome_of result ≡ StoreFailed) }
         ensures log { self.new.store.log ≡ self.old.store.log }
     {
         match self.store.undo_log(alloc) {
@@ -142,6 +147,8 @@ impl<St: Store, R: Resolver, F: Refs> Hub<St, R, F> {
             MakesStep (rules_of R.rules F.named self.old) m session (Request.NewOids count)
             result self.old self.new stamps stamps }
         ensures safe { StepsSafely result self.old self.new }
+        ensures unread { ¬ (outcome_of result ≡ ReadingFailed) }
+        ensures unwritten { ¬ (outcome_of result ≡ StoreFailed) }
         ensures memory { ¬ (outcome_of result ≡ NoMemory) }
         ensures log { self.new.store.log ≡ self.old.store.log }
     {

@@ -1,11 +1,11 @@
 //! One step.
 
 ghost use Rattle.std.specs.Prelude.{◌≡◌, Option, List, false, true};
-ghost use Rattle.zb_volume.specs.declared.areas.Area.TheVariants.{Main};
-ghost use Rattle.zb_volume.specs.Moments.{LeavesOnly};
+ghost use Rattle.zb_volume.specs.declared.areas.Area.TheVariants.{Main, Side};
+ghost use Rattle.zb_volume.specs.Moments.{LeavesOnly, StaysAs};
 ghost use Rattle.zodb_core.specs.HubState.{IsBeforeOrBehind, IsFitting, MakesStep, StandsForMachine, StepsSafely, rules_of};
 ghost use Rattle.zodb_core.specs.Machine.{Machine, is_open_in};
-ghost use Rattle.zodb_core.specs.Outcomes.{NoMemory, outcome_of, takes_memory};
+ghost use Rattle.zodb_core.specs.Outcomes.{NoMemory, ReadingFailed, StoreFailed, keeps_store, outcome_of, reads_store, takes_memory};
 
 use crate::hub::Hub;
 use crate::reply::Reply;
@@ -26,7 +26,7 @@ impl<St: Store, R: Resolver, F: Refs> Hub<St, R, F> {
     /// The clock is read once by each vote or undo that has changes to write, and by no other step.
     /// Where the store's list lies on a disk, each crash in a step leaves the list before it or the one
     /// behind it.
-    #[tactic(auto, using(crate::proofs::Votes::closed_failed, crate::proofs::Votes::closed_now, crate::proofs::Votes::moments_kept, crate::proofs::Votes::moments_same))]
+    #[tactic(auto, using(crate::proofs::Votes::closed_failed, crate::proofs::Votes::closed_now, crate::proofs::Votes::moments_kept, crate::proofs::Votes::moments_same, zb_model::specs::StayLaws::stays_same, zb_model::specs::StayLaws::stays_from))]
     pub fn step<C: Clock>(
         &mut self,
         alloc: Global,
@@ -39,11 +39,14 @@ impl<St: Store, R: Resolver, F: Refs> Hub<St, R, F> {
             MakesStep (rules_of R.rules F.named self.old) m session request
             result self.old self.new (C.stamps clock.old) (C.stamps clock.new) }
         ensures safe { StepsSafely result self.old self.new }
+        ensures side { St.lasts → StaysAs Side self.old.store.log self.new.store.log }
         ensures failed { self.old.store.broken ≡ true →
             (result ≡ Reply.Refused Refusal.NotOpen) × (self.new ≡ self.old) }
         ensures closed { is_open_in self.old.sessions session ≡ false →
             (result ≡ Reply.Refused Refusal.NotOpen) × (self.new ≡ self.old) }
         ensures memory { takes_memory request ≡ false → ¬ (outcome_of result ≡ NoMemory) }
+        ensures unread { reads_store request ≡ false → ¬ (outcome_of result ≡ ReadingFailed) }
+        ensures unwritten { keeps_store request ≡ true → ¬ (outcome_of result ≡ StoreFailed) }
         ensures any_moment { St.lasts → St.told → self.old.store.broken ≡ false →
             (m : Machine) → StandsForMachine self.old m →
             LeavesOnly Main (IsBeforeOrBehind St.stands (rules_of R.rules F.named self.old) m session request)

@@ -3,8 +3,8 @@
 ghost use Rattle.std.specs.Prelude.{◌≡◌, [], ◌<◌, ◌≤◌, ◌-◌, ◌^◌, None, Ok, Option, List, ℕ, IfNone, IfSome, false, true, length, map, All, nat_eq};
 ghost use Rattle.std.specs.List.{IsDistinct};
 ghost use Rattle.zb_ids.specs.declared.stamp.Stamp.{Stamp};
-ghost use Rattle.zb_volume.specs.declared.areas.Area.TheVariants.{Main};
-ghost use Rattle.zb_volume.specs.Moments.{LeavesOnly};
+ghost use Rattle.zb_volume.specs.declared.areas.Area.TheVariants.{Main, Side};
+ghost use Rattle.zb_volume.specs.Moments.{LeavesOnly, StaysAs};
 ghost use Rattle.zb_model.specs.Voting.{IsFilled, NamesRevision, voted_change};
 ghost use Rattle.zodb_core.specs.Holding.{AreShort, IsNextTid, VotesFor, held_refusal, is_fault};
 ghost use Rattle.zodb_core.specs.HubState.{IsBeforeOrBehind, MakesStep, StandsForMachine, StepsSafely, rules_of};
@@ -116,7 +116,7 @@ fn vote_reply(refusal: VoteRefusal) -> Reply
 
 impl<St: Store, R: Resolver, F: Refs> Hub<St, R, F> {
     /// What was decided is voted, and the session holds the vote.
-    #[tactic(auto, using(crate::proofs::Holding::hold_empty, crate::proofs::Holding::hold_full, crate::proofs::Holding::hold_starved, crate::proofs::Holding::hold_spent, crate::proofs::Holding::hold_voted, crate::proofs::Holding::hold_failed, crate::proofs::Holding::voted_oids))]
+    #[tactic(auto, using(crate::proofs::Holding::hold_empty, crate::proofs::Holding::hold_full, crate::proofs::Holding::hold_starved, crate::proofs::Holding::hold_spent, crate::proofs::Holding::hold_voted, crate::proofs::Holding::hold_failed, crate::proofs::Holding::voted_oids, zb_model::specs::StayLaws::stays_same))]
     fn hold<C: Clock>(
         &mut self,
         alloc: Global,
@@ -137,6 +137,7 @@ impl<St: Store, R: Resolver, F: Refs> Hub<St, R, F> {
             MakesStep (rules_of R.rules F.named self.old) m session q
             result self.old self.new (C.stamps clock.old) (C.stamps clock.new) }
         ensures safe { StepsSafely result self.old self.new }
+        ensures side { St.lasts → StaysAs Side self.old.store.log self.new.store.log }
         ensures any_moment { St.lasts → St.told →
             LeavesOnly Main (λ bytes. St.stands bytes self.old.store.list) self.old.store.log self.new.store.log }
     {
@@ -182,7 +183,7 @@ impl<St: Store, R: Resolver, F: Refs> Hub<St, R, F> {
     }
 
     /// The pending changes are voted on.
-    #[tactic(auto, using(crate::proofs::Asking::vote_early, crate::proofs::Asking::vote_refused, crate::proofs::Asking::votes_for, crate::proofs::Asking::made_later))]
+    #[tactic(auto, using(crate::proofs::Asking::vote_early, crate::proofs::Asking::vote_refused, crate::proofs::Asking::votes_for, crate::proofs::Asking::made_later, zb_model::specs::StayLaws::stays_same, zb_model::specs::StayLaws::stays_from))]
     pub(crate) fn vote<C: Clock>(
         &mut self,
         alloc: Global,
@@ -199,6 +200,7 @@ impl<St: Store, R: Resolver, F: Refs> Hub<St, R, F> {
             (Request.Vote texts.user texts.description texts.extension pending)
             result self.old self.new (C.stamps clock.old) (C.stamps clock.new) }
         ensures safe { StepsSafely result self.old self.new }
+        ensures side { St.lasts → StaysAs Side self.old.store.log self.new.store.log }
         ensures any_moment { St.lasts → St.told →
             LeavesOnly Main (λ bytes. St.stands bytes self.old.store.list) self.old.store.log self.new.store.log }
     {
@@ -213,7 +215,7 @@ impl<St: Store, R: Resolver, F: Refs> Hub<St, R, F> {
     }
 
     /// The taking back of transactions is voted on.
-    #[tactic(auto, using(crate::proofs::Asking::undo_early, crate::proofs::Asking::undo_refused, crate::proofs::Asking::undo_votes_for, crate::proofs::Asking::made_later))]
+    #[tactic(auto, using(crate::proofs::Asking::undo_early, crate::proofs::Asking::undo_refused, crate::proofs::Asking::undo_votes_for, crate::proofs::Asking::made_later, zb_model::specs::StayLaws::stays_same, zb_model::specs::StayLaws::stays_from))]
     pub(crate) fn undo<C: Clock>(
         &mut self,
         alloc: Global,
@@ -230,6 +232,7 @@ impl<St: Store, R: Resolver, F: Refs> Hub<St, R, F> {
             MakesStep (rules_of R.rules F.named self.old) m session (Request.Undo texts.user texts.description tids)
             result self.old self.new (C.stamps clock.old) (C.stamps clock.new) }
         ensures safe { StepsSafely result self.old self.new }
+        ensures side { St.lasts → StaysAs Side self.old.store.log self.new.store.log }
         ensures any_moment { St.lasts → St.told →
             LeavesOnly Main (λ bytes. St.stands bytes self.old.store.list) self.old.store.log self.new.store.log }
     {

@@ -1,5 +1,5 @@
 use Rattle.file_store.specs.Opening.{Harm, first_list}
-use Rattle.file_store.proofs.Opens.{begun_made, err_is, still_some}
+use Rattle.file_store.proofs.Opens.{begun_made, err_is, never_empty, new_file, still_some}
 use Rattle.file_store.proofs.opening.create_if_empty.Goals as goal
 
 pub returns-in_err-len-clause-makes : goal.returns-in_err-len-clause-makes
@@ -15,3 +15,9 @@ returns-clause-begun g c = λ told.
 
 pub returns-clause-fresh : goal.returns-clause-fresh
 returns-clause-fresh g c = λ told is. (c.in_ok-make.ensures.settled told, (first_list c.stamp-now.result, c.in_ok-make.ensures.made told))
+
+pub returns-clause-file : goal.returns-clause-file
+returns-clause-file g c = λ told empty. new_file c.stamp-now.result _ _ c.stamp-now.ensures.first (c.in_ok-make.ensures.file told)
+
+pub returns-then-branch-gt0-clause-file : goal.returns-then-branch-gt0-clause-file
+returns-then-branch-gt0-clause-file g c = λ told empty. never_empty _ _ _ (c.in_ok-len.ensures.value told) c.if-branch-gt0.true empty

@@ -26,3 +26,6 @@ pub returns-clause-any_moment : goal.returns-clause-any_moment
 returns-clause-any_moment g c = λ told.
     making c.args.clock (g.V.Volume.log c.args.volume.now) (g.V.Volume.log c.create.new.volume) c.as_slice.result.now
     (subst (λ (b : List ℕ). StandsFor b (first_list c.args.clock) None) (sym c.as_slice.ensures.value) c.in_ok-file.ensures.stands) (c.create.ensures.any_moment told)
+
+pub returns-clause-file : goal.returns-clause-file
+returns-clause-file g c = λ told. c.in_ok-create.ensures.content told ∙ c.as_slice.ensures.value ∙ c.in_ok-file.ensures.value

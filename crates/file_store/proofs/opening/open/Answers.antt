@@ -4,9 +4,8 @@ use Rattle.zb_volume.specs.Disk.{seen}
 use Rattle.file_store.specs.Opening.{Harm}
 use Rattle.std.specs.Prelude.{Err}
 use Rattle.fs_recovery.specs.declared.opening.Opened.{Opened}
-use Rattle.fs_recovery.specs.declared.errors.OpenError.{OpenError}
-use Rattle.fs_recovery.specs.declared.errors.OpenError.TheVariants.{Memory}
-use Rattle.file_store.proofs.Opens.{counts_memory, err_is, harm_after, keeps_after, keeps_same, made_after, makes_after, on_err, opened_after, opens_harm, stays_after, stays_still, taken_fits, taken_within, unless_written, untouched_after}
+use Rattle.fs_recovery.specs.declared.errors.OpenError.TheVariants.{StoreFault}
+use Rattle.file_store.proofs.Opens.{counts_calm, err_is, harm_after, keeps_after, keeps_same, left_new, left_there, made_after, makes_after, on_err, opened_after, opens_harm, stays_after, stays_still, taken_fits, taken_within, unless_written, untouched_after}
 use Rattle.file_store.proofs.opening.open.Goals as goal
 
 pub returns-in_err-made-clause-harm : goal.returns-in_err-made-clause-harm
@@ -47,17 +46,17 @@ returns-in_err-opened-clause-unharmed g c = λ told some.
     (g.V.Volume.read_faults c.create_if_empty.new.volume) (g.V.Volume.read_faults c.recover.new.volume) (g.V.Volume.write_faults c.args.volume.now) (g.V.Volume.write_faults c.create_if_empty.new.volume) (g.V.Volume.write_faults c.recover.new.volume)
     (c.create_if_empty.ensures.same told some) c.create_if_empty.ensures.writes_later c.in_err-opened.ensures.untouched c.in_err-opened.ensures.counts)
 
-pub returns-in_err-made-clause-memory : goal.returns-in_err-made-clause-memory
-returns-in_err-made-clause-memory g c =
-    err_is c.from_residual.result (λ e. e ≡ Memory → (g.V.Volume.read_faults c.create_if_empty.new.volume ≡ g.V.Volume.read_faults c.args.volume.now) × (g.V.Volume.write_faults c.create_if_empty.new.volume ≡ g.V.Volume.write_faults c.args.volume.now))
-    c.in_err-made.field-0.0 c.from_residual.ensures.1 (λ is. c.in_err-made.ensures.memory (ap (λ (e : OpenError). Err e) is))
+pub returns-in_err-made-clause-unfailed : goal.returns-in_err-made-clause-unfailed
+returns-in_err-made-clause-unfailed g c =
+    err_is c.from_residual.result (λ e. ¬ (e ≡ StoreFault) → (g.V.Volume.read_faults c.create_if_empty.new.volume ≡ g.V.Volume.read_faults c.args.volume.now) × (g.V.Volume.write_faults c.create_if_empty.new.volume ≡ g.V.Volume.write_faults c.args.volume.now))
+    c.in_err-made.field-0.0 c.from_residual.ensures.1 c.in_err-made.ensures.unfailed
 
-pub returns-in_err-opened-clause-memory : goal.returns-in_err-opened-clause-memory
-returns-in_err-opened-clause-memory g c =
-    err_is c.from_residual-in_err-opened.result (λ e. e ≡ Memory → (g.V.Volume.read_faults c.recover.new.volume ≡ g.V.Volume.read_faults c.args.volume.now) × (g.V.Volume.write_faults c.recover.new.volume ≡ g.V.Volume.write_faults c.args.volume.now))
+pub returns-in_err-opened-clause-unfailed : goal.returns-in_err-opened-clause-unfailed
+returns-in_err-opened-clause-unfailed g c =
+    err_is c.from_residual-in_err-opened.result (λ e. ¬ (e ≡ StoreFault) → (g.V.Volume.read_faults c.recover.new.volume ≡ g.V.Volume.read_faults c.args.volume.now) × (g.V.Volume.write_faults c.recover.new.volume ≡ g.V.Volume.write_faults c.args.volume.now))
     c.in_err-opened.field-0.0 c.from_residual-in_err-opened.ensures.1
-    (λ is. let stand = counts_memory Opened c.in_err-opened.field-0.0 (g.V.Volume.log c.create_if_empty.new.volume) (g.V.Volume.log c.recover.new.volume) (g.V.Volume.read_faults c.create_if_empty.new.volume) (g.V.Volume.read_faults c.recover.new.volume)
-    (g.V.Volume.write_faults c.create_if_empty.new.volume) (g.V.Volume.write_faults c.recover.new.volume) is c.in_err-opened.ensures.counts in (stand.0 ∙ c.in_ok-made.ensures.reads_same, stand.1 ∙ c.in_ok-made.ensures.writes_same))
+    (λ other. let stand = counts_calm Opened c.in_err-opened.field-0.0 (g.V.Volume.log c.create_if_empty.new.volume) (g.V.Volume.log c.recover.new.volume) (g.V.Volume.read_faults c.create_if_empty.new.volume) (g.V.Volume.read_faults c.recover.new.volume)
+    (g.V.Volume.write_faults c.create_if_empty.new.volume) (g.V.Volume.write_faults c.recover.new.volume) other c.in_err-opened.ensures.counts in (stand.0 ∙ c.in_ok-made.ensures.reads_same, stand.1 ∙ c.in_ok-made.ensures.writes_same))
 
 pub returns-in_err-opened-clause-side : goal.returns-in_err-opened-clause-side
 returns-in_err-opened-clause-side g c = λ told some. stays_after (g.V.Volume.log c.args.volume.now) (g.V.Volume.log c.create_if_empty.new.volume) (g.V.Volume.log c.recover.new.volume) (c.create_if_empty.ensures.same told some) (c.recover.ensures.side told)
@@ -97,3 +96,16 @@ pub returns-clause-makes : goal.returns-clause-makes
 returns-clause-makes g c = λ told.
     makes_after (g.V.Volume.log c.args.volume.now) (g.V.Volume.log c.create_if_empty.new.volume) (g.V.Volume.log c.recover.new.volume) (g.C.Clock.stamps c.args.clock.now) (g.C.Clock.stamps c.create_if_empty.new.clock)
     (c.in_ok-made.ensures.begun told) (c.recover.ensures.images told)
+
+pub returns-clause-content : goal.returns-clause-content
+returns-clause-content g c = λ told some.
+    left_there (g.V.Volume.log c.args.volume.now) (g.V.Volume.log c.create_if_empty.new.volume) (g.V.Volume.log c.recover.new.volume) c.in_ok-opened.opened c.keep.result.cut (c.create_if_empty.ensures.same told some)
+    (c.in_ok-opened.ensures.opens told) (c.in_ok-opened.ensures.content told) c.keep.ensures.cut
+
+pub returns-clause-new_file : goal.returns-clause-new_file
+returns-clause-new_file g c = λ told empty.
+    left_new (g.V.Volume.log c.create_if_empty.new.volume) (g.V.Volume.log c.recover.new.volume) (g.C.Clock.stamps c.args.clock.now) c.in_ok-opened.opened c.keep.result.cut _ (c.in_ok-opened.ensures.opens told) (c.in_ok-opened.ensures.content told)
+    c.keep.ensures.cut
+    (made_after (g.V.Volume.log c.args.volume.now) (g.V.Volume.log c.create_if_empty.new.volume) (seen (g.V.Volume.log c.recover.new.volume) Main) (g.C.Clock.stamps c.args.clock.now) (g.C.Clock.stamps c.create_if_empty.new.clock) c.in_ok-opened.opened c.keep.result.cut
+    (c.in_ok-made.ensures.begun told) (c.in_ok-opened.ensures.opens told) (c.in_ok-opened.ensures.content told) (c.in_ok-made.ensures.fits told) c.in_ok-opened.ensures.bounded.limit c.keep.ensures.cut empty)
+    (c.in_ok-made.ensures.file told empty)

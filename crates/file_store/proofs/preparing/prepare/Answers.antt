@@ -15,5 +15,5 @@ stage-requires-clause-within c =
 
 pub returns-clause-next : goal.returns-clause-next
 returns-clause-next c = λ bytes s begins index here votable.
-    subst (λ (kept : Kept). IsNext s (block_of 32 kept.entries c.args.new.now) (voted_of s.list c.args.new.now)) c.index.ensures
-    (c.in_ok-text.ensures.block bytes s begins (subst (λ (kept : Kept). IsIndexOf s kept) (sym c.index.ensures) index) (here ∙ sym c.end-end.ensures.value) votable)
+    subst (λ (kept : Kept). IsNext s (block_of 32 kept.entries c.args.new.now) (voted_of s.list c.args.new.now)) c.index.ensures.value
+    (c.in_ok-text.ensures.block bytes s begins (subst (λ (kept : Kept). IsIndexOf s kept) (sym c.index.ensures.value) index) (here ∙ sym c.end-end.ensures.value) votable)

@@ -7,6 +7,7 @@ use Rattle.fs_records.specs.Rules.{payload_size}
 use Rattle.zb_volume.specs.Disk.{main_bytes}
 use Rattle.fs_reading.specs.Standing.{data_head_at, IsContent}
 use Rattle.fs_reading.proofs.Chains.{head_within}
+use Rattle.fs_reading.proofs.Forming.{entries_more}
 use Rattle.fs_reading.proofs.Between.{StandsFrom, next, ended}
 use Rattle.fs_reading.proofs.transaction.entries_between.Goals as goal
 
@@ -49,6 +50,7 @@ loop-place-preserved g c = record {
       let small = c.ranges.end in
       let place_is : place + 42 + payload_size (data_head_at bytes place) ≡ c.saturating_add-place.result = omega (arith, reach, size_is, small, c.saturating_add-place.ensures, c.payload_size.ensures, c.saturating_add.ensures) in
       subst (λ (q : ℕ). StandsFrom bytes q c.args.end c.insert.new.self.entries ks) place_is (subst (λ (es : List (ℕ × Content)). StandsFrom bytes (place + 42 + payload_size (data_head_at bytes place)) c.args.end es ks) entries_are n.then);
+  formed = entries_more c.loop-place.entries.entries c.insert.new.self.entries c.in_ok-header.header.oid c.in_ok-content.content c.loop-place.invariant.formed c.in_ok-content.ensures.filled c.in_ok-insert.ensures.entries c.in_ok-insert.ensures.unique;
 }
 
 pub returns-clause-value : goal.returns-clause-value

@@ -2,6 +2,7 @@ use Rattle.std.proofs.Common.{◌≡◌, ◌-◌, List}
 use Rattle.fs_records.specs.Blocks.{Known}
 use Rattle.zb_volume.specs.Disk.{main_bytes}
 use Rattle.fs_reading.specs.ChangesStand.{RecordsBetween}
+use Rattle.fs_reading.specs.Formed.{AreEntries}
 use Rattle.fs_reading.proofs.Between.{StandsFrom}
 use Rattle.fs_reading.proofs.transaction.entries_between.Given as goal
 
@@ -12,6 +13,7 @@ invariant-loop-place g l = record {
   writes : g.V.Volume.write_faults l.volume ≡ g.V.Volume.write_faults l.fn.volume;
   rest : g.V.Volume.told → (ks : List Known) → RecordsBetween (main_bytes (g.V.Volume.log l.fn.volume)) l.fn.from l.fn.end ks
       → StandsFrom (main_bytes (g.V.Volume.log l.fn.volume)) l.place l.fn.end l.entries.entries ks;
+  formed : AreEntries l.entries.entries;
 }
 
 abbrev pub decreases-loop-place : goal.decreases-loop-place

@@ -1,5 +1,5 @@
 use Rattle.zb_model.specs.Database.{revisions}
-use Rattle.zb_model.proofs.Lasts.{last_serial-is}
+use Rattle.zb_model.specs.Lasts.{last_serial-is}
 use Rattle.zb_model.proofs.plain.serial_in.Goals as goal
 
 pub loop-transaction-init : goal.loop-transaction-init

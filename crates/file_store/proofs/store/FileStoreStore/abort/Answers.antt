@@ -1,4 +1,4 @@
-use Rattle.std.proofs.Common.{◌≡◌, ℕ, None, ap, length, arith}
+use Rattle.std.proofs.Common.{◌≡◌, ℕ, None, refl, ap, length, arith}
 use Rattle.zb_volume.specs.declared.areas.Area.TheVariants.{Main}
 use Rattle.zb_volume.specs.Disk.{seen}
 use Rattle.file_store.specs.declared.staged.Staged.{Staged}
@@ -6,6 +6,7 @@ use Rattle.file_store.specs.Kept.{IsVotedIn, HasRoomForTally}
 use Rattle.fs_records.specs.Places.{places_in}
 use Rattle.file_store.specs.Staging.{StagedKept}
 use Rattle.file_store.proofs.Commits.{staged_some, none_there, abort_moments, aborted}
+use Rattle.file_store.proofs.Sides.{copied_stays, keeps_begun}
 use Rattle.file_store.proofs.store.FileStoreStore.abort.Goals as goal
 
 -- what is left once what is staged is dropped
@@ -53,6 +54,7 @@ invariant_of-self-2 g c =
           (aborted (g.V.Volume.log self.volume) self.index self.numbers (self.settled told c.requires.whole) (self.kept told c.requires.whole) (g.V.Volume.log c.abort.new.volume) c.take_back.new.self s.0 c.end.result s.1
           (self.voted told c.requires.whole s.0 s.1) c.end.ensures.value (c.in_ok-abort.ensures.content told) (staged_of self.index c.take_back.new.self t) (end_of self.index c.take_back.new.self t) (newest_of self.index c.take_back.new.self t) (places_of self.index c.take_back.new.self t) (starts_of self.index c.take_back.new.self t)).0;
       voted = λ told whole. none_there Staged (λ x. IsVotedIn (seen (g.V.Volume.log c.abort.new.volume) Main) x c.take_back.new.self) c.take_back.new.self.staged (staged_of self.index c.take_back.new.self t);
+      copied = λ told whole. copied_stays (g.V.Volume.log self.volume) (g.V.Volume.log c.abort.new.volume) self.copy (c.abort.ensures.side told) (self.copied told c.requires.whole);
     }
 
 pub returns-clause-list : goal.returns-clause-list
@@ -69,3 +71,9 @@ returns-clause-any_moment g c = λ told.
     let s = staged_some self.index.staged _ c.requires.voted in
     abort_moments (g.V.Volume.log self.volume) self.index self.numbers (self.settled told c.requires.whole) (self.kept told c.requires.whole) (g.V.Volume.log c.abort.new.volume) s.0 c.end.result s.1
     (self.voted told c.requires.whole s.0 s.1) c.end.ensures.value (c.abort.ensures.any_moment told)
+
+pub returns-clause-begun : goal.returns-clause-begun
+returns-clause-begun g c = keeps_begun g.V.Volume.told (g.V.Volume.log c.args.self.now.volume) (g.V.Volume.log c.abort.new.volume) c.args.self.now.copy _ _ refl refl (λ told. c.abort.ensures.side told)
+
+pub returns-in_err-abort-clause-begun : goal.returns-in_err-abort-clause-begun
+returns-in_err-abort-clause-begun g c = keeps_begun g.V.Volume.told (g.V.Volume.log c.args.self.now.volume) (g.V.Volume.log c.abort.new.volume) c.args.self.now.copy _ _ refl refl (λ told. c.abort.ensures.side told)

@@ -1,10 +1,11 @@
-use Rattle.std.proofs.Common.{ap, length, ◌∙◌, arith}
+use Rattle.std.proofs.Common.{refl, ap, length, ◌∙◌, arith}
 use Rattle.zb_volume.specs.declared.areas.Area.TheVariants.{Main}
 use Rattle.zb_volume.specs.Disk.{seen}
 use Rattle.zb_model.specs.declared.data.Transaction.{Transaction}
 use Rattle.file_store.specs.declared.staged.Staged.{Staged}
 use Rattle.file_store.specs.Kept.{IsVotedIn, HasRoomForTally}
 use Rattle.file_store.proofs.Commits.{staged_some, some_mapped, none_there, finish_moments, finished}
+use Rattle.file_store.proofs.Sides.{copied_stays, keeps_begun}
 use Rattle.file_store.proofs.store.FileStoreStore.finish.Goals as goal
 
 pub finish-requires-clause-within : goal.finish-requires-clause-within
@@ -34,6 +35,7 @@ invariant_of-self-2 g c =
           finished (g.V.Volume.log self.volume) self.index self.numbers (self.settled told c.requires.whole) (self.kept told c.requires.whole) (g.V.Volume.log c.finish.new.volume) c.keep.new.self c.count_staged.new.numbers s.0 c.end.result s.1
           (self.voted told c.requires.whole s.0 s.1) c.end.ensures.value (c.in_ok-finish.ensures.content told) none k (c.count_staged.ensures s.0 s.1);
       voted = λ told whole. none_there Staged (λ x. IsVotedIn (seen (g.V.Volume.log c.finish.new.volume) Main) x c.keep.new.self) c.keep.new.self.staged none;
+      copied = λ told whole. copied_stays (g.V.Volume.log self.volume) (g.V.Volume.log c.finish.new.volume) self.copy (c.finish.ensures.side told) (self.copied told c.requires.whole);
     }
 
 pub returns-clause-any_moment : goal.returns-clause-any_moment
@@ -47,3 +49,9 @@ pub returns-clause-number : goal.returns-clause-number
 returns-clause-number g c = λ t is.
     let s = some_mapped Staged Transaction c.args.self.now.index.staged _ t is in
     (c.keep.ensures.kept s.0 s.1).newest ∙ ap (λ (x : Transaction). x.tid) s.2
+
+pub returns-clause-begun : goal.returns-clause-begun
+returns-clause-begun g c = keeps_begun g.V.Volume.told (g.V.Volume.log c.args.self.now.volume) (g.V.Volume.log c.finish.new.volume) c.args.self.now.copy _ _ refl refl (λ told. c.finish.ensures.side told)
+
+pub returns-in_err-finish-clause-begun : goal.returns-in_err-finish-clause-begun
+returns-in_err-finish-clause-begun g c = keeps_begun g.V.Volume.told (g.V.Volume.log c.args.self.now.volume) (g.V.Volume.log c.finish.new.volume) c.args.self.now.copy _ _ refl refl (λ told. c.finish.ensures.side told)

@@ -18,8 +18,8 @@ read_before-requires-clause-end g c = λ told.
 pub invariant_of-self : goal.invariant_of-self
 invariant_of-self g c =
     let self = c.args.self.now in
-    let k = still _ _ _ _ self.index self.numbers c.read_before.ensures.same (record { settled = self.settled; kept = self.kept; voted = self.voted }) in
-    record { room = self.room; settled = k.settled; kept = k.kept; voted = k.voted }
+    let k = still _ _ _ _ self.index self.numbers self.copy c.read_before.ensures.same (record { settled = self.settled; kept = self.kept; voted = self.voted; copied = self.copied }) in
+    record { room = self.room; settled = k.settled; kept = k.kept; voted = k.voted; copied = k.copied }
 
 pub returns-clause-found : goal.returns-clause-found
 returns-clause-found g c = λ told.

@@ -1,11 +1,13 @@
-use Rattle.std.proofs.Common.{option_map, Some, sym, ap, subst, ◌∙◌}
+use Rattle.std.proofs.Common.{refl, option_map, Some, sym, ap, subst, ◌∙◌}
 use Rattle.zb_volume.specs.declared.areas.Area.TheVariants.{Main}
 use Rattle.zb_volume.specs.Disk.{seen}
+use Rattle.zb_volume.specs.Moments.{here}
 use Rattle.fs_records.specs.Listed.{reached_in}
 use Rattle.file_store.specs.declared.staged.Staged.{Staged}
 use Rattle.file_store.specs.Kept.{IsVotedIn, voted_in}
 use Rattle.file_store.proofs.Commits.{unmoved, none_staged, some_same, room_for, vote_is, voted, moments}
 use Rattle.file_store.proofs.Writes.{Voted, staged_for}
+use Rattle.file_store.proofs.Sides.{copied_stays, keeps_begun}
 use Rattle.file_store.proofs.store.FileStoreStore.vote.Goals as goal
 
 pub returns-in_err-text-clause-any_moment : goal.returns-in_err-text-clause-any_moment
@@ -40,6 +42,7 @@ invariant_of-self-2 g c =
       settled = λ told whole. c.in-Ok.ensures.settled told;
       kept = λ told whole. (leaves g c told).kept;
       voted = λ told whole s some. subst (λ (x : Staged). IsVotedIn (seen (g.V.Volume.log c.vote.new.volume) Main) x c.prepare.new.index) (sym (some_same Staged c.prepare.new.index.staged _ s p.staged_is some)) (leaves g c told).voted;
+      copied = λ told whole. copied_stays (g.V.Volume.log self.volume) (g.V.Volume.log c.vote.new.volume) self.copy (c.vote.ensures.side told) (self.copied told c.requires.whole);
     }
 
 -- the same where the call returns
@@ -67,3 +70,12 @@ returns-clause-any_moment g c = λ told.
     moments (g.V.Volume.log self.volume) self.index self.numbers (self.settled told c.requires.whole) (self.kept told c.requires.whole) (g.V.Volume.log c.vote.new.volume)
     (c.vote.ensures.any_moment told (reached_in (seen (g.V.Volume.log self.volume) Main))
     (vote_is (g.V.Volume.log self.volume) self.index self.numbers (self.settled told c.requires.whole) (self.kept told c.requires.whole) c.prepare.new.index c.prepare.new.numbers c.args.new.now c.end.result c.in_ok-text.text c.as_slice.result.now free p (c.end.ensures.value ∙ c.prepare.ensures.end) c.as_slice.ensures.value))
+
+pub returns-clause-begun : goal.returns-clause-begun
+returns-clause-begun g c = keeps_begun g.V.Volume.told (g.V.Volume.log c.args.self.now.volume) (g.V.Volume.log c.vote.new.volume) c.args.self.now.copy _ _ refl refl (λ told. c.vote.ensures.side told)
+
+pub returns-in-Err-clause-begun : goal.returns-in-Err-clause-begun
+returns-in-Err-clause-begun g c = keeps_begun g.V.Volume.told (g.V.Volume.log c.args.self.now.volume) (g.V.Volume.log c.vote.new.volume) c.args.self.now.copy _ _ refl refl (λ told. c.vote.ensures.side told)
+
+pub returns-in_err-text-clause-side : goal.returns-in_err-text-clause-side
+returns-in_err-text-clause-side g c = λ told. here refl

@@ -1,0 +1,28 @@
+use Rattle.std.proofs.Common.{refl}
+use Rattle.zb_volume.specs.declared.areas.Area.TheVariants.{Side}
+use Rattle.zb_volume.specs.Disk.{seen}
+use Rattle.file_store.proofs.Copies.{only_copy}
+use Rattle.file_store.proofs.Sides.{keeps_voted, kept_stays, list_stays, settled_stays, voted_stays}
+use Rattle.file_store.proofs.store.FileStoreStore.pack_begin.Goals as goal
+
+pub invariant_of-self-2 : goal.invariant_of-self-2
+invariant_of-self-2 g c =
+    let self = c.args.self.now in
+    let log = g.V.Volume.log self.volume in
+    let now = g.V.Volume.log c.begin.new.volume in
+    record {
+      room = self.room;
+      settled = λ told whole. settled_stays log now (c.begin.ensures.main told) (self.settled told c.requires);
+      kept = λ told whole. kept_stays log now (c.begin.ensures.main told) self.index self.numbers (self.kept told c.requires);
+      voted = λ told whole. voted_stays log now (c.begin.ensures.main told) self.index (self.voted told c.requires);
+      copied = λ told whole x some. only_copy (seen now Side) c.in-Ok.copy x some (c.in-Ok.ensures.copied told);
+    }
+
+pub returns-in-Err-clause-voted : goal.returns-in-Err-clause-voted
+returns-in-Err-clause-voted g c = keeps_voted g.V.Volume.told (g.V.Volume.log c.args.self.now.volume) (g.V.Volume.log c.begin.new.volume) c.args.self.now.index _ _ refl refl (λ told. c.begin.ensures.main told)
+
+pub returns-clause-voted : goal.returns-clause-voted
+returns-clause-voted g c = keeps_voted g.V.Volume.told (g.V.Volume.log c.args.self.now.volume) (g.V.Volume.log c.begin.new.volume) c.args.self.now.index _ _ refl refl (λ told. c.begin.ensures.main told)
+
+pub returns-clause-list : goal.returns-clause-list
+returns-clause-list g c = λ told. list_stays (g.V.Volume.log c.args.self.now.volume) (g.V.Volume.log c.begin.new.volume) (c.begin.ensures.main told)

@@ -1,0 +1,49 @@
+use Rattle.std.proofs.Common.{refl, sym, ◌∙◌}
+use Rattle.zb_volume.specs.declared.areas.Area.TheVariants.{Side}
+use Rattle.zb_volume.specs.Disk.{seen}
+use Rattle.pack_copy.specs.Copying.{CopyKept}
+use Rattle.file_store.specs.Kept.{IsCopyKept}
+use Rattle.file_store.proofs.Commits.{none_there}
+use Rattle.file_store.proofs.Copies.{copy_is, only_copy}
+use Rattle.file_store.proofs.Sides.{keeps_voted, kept_stays, list_stays, settled_stays, voted_stays}
+use Rattle.file_store.proofs.store.FileStoreStore.pack_copy.Goals as goal
+
+pub copy_turn-requires-clause-copied : goal.copy_turn-requires-clause-copied
+copy_turn-requires-clause-copied g c = λ told.
+    let self = c.args.self.now in
+    copy_is (seen (g.V.Volume.log self.volume) Side) c.in-Some.copy (self.copied told c.requires.whole c.in-Some.copy (sym c.take.ensures.value ∙ c.in-Some.is))
+
+pub invariant_of-self-in-Ok : goal.invariant_of-self-in-Ok
+invariant_of-self-in-Ok g c =
+    let self = c.args.self.now in
+    let log = g.V.Volume.log self.volume in
+    let now = g.V.Volume.log c.copy_turn.new.volume in
+    record {
+      room = self.room;
+      settled = λ told whole. settled_stays log now (c.copy_turn.ensures.main told) (self.settled told c.requires.whole);
+      kept = λ told whole. kept_stays log now (c.copy_turn.ensures.main told) self.index self.numbers (self.kept told c.requires.whole);
+      voted = λ told whole. voted_stays log now (c.copy_turn.ensures.main told) self.index (self.voted told c.requires.whole);
+      copied = λ told whole x some. only_copy (seen now Side) c.copy_turn.new.to x some (c.in-Ok.ensures.copied told);
+    }
+
+pub invariant_of-self-in-Err : goal.invariant_of-self-in-Err
+invariant_of-self-in-Err g c =
+    let self = c.args.self.now in
+    let log = g.V.Volume.log self.volume in
+    let now = g.V.Volume.log c.copy_turn.new.volume in
+    record {
+      room = self.room;
+      settled = λ told whole. settled_stays log now (c.copy_turn.ensures.main told) (self.settled told c.requires.whole);
+      kept = λ told whole. kept_stays log now (c.copy_turn.ensures.main told) self.index self.numbers (self.kept told c.requires.whole);
+      voted = λ told whole. voted_stays log now (c.copy_turn.ensures.main told) self.index (self.voted told c.requires.whole);
+      copied = λ told whole. none_there CopyKept (λ x. IsCopyKept (seen now Side) x) c.take.new.self c.take.ensures.after;
+    }
+
+pub returns-in-Ok-clause-voted : goal.returns-in-Ok-clause-voted
+returns-in-Ok-clause-voted g c = keeps_voted g.V.Volume.told (g.V.Volume.log c.args.self.now.volume) (g.V.Volume.log c.copy_turn.new.volume) c.args.self.now.index _ _ refl refl (λ told. c.copy_turn.ensures.main told)
+
+pub returns-in-Ok-clause-list : goal.returns-in-Ok-clause-list
+returns-in-Ok-clause-list g c = λ told. list_stays (g.V.Volume.log c.args.self.now.volume) (g.V.Volume.log c.copy_turn.new.volume) (c.copy_turn.ensures.main told)
+
+pub returns-in-Err-clause-voted : goal.returns-in-Err-clause-voted
+returns-in-Err-clause-voted g c = keeps_voted g.V.Volume.told (g.V.Volume.log c.args.self.now.volume) (g.V.Volume.log c.copy_turn.new.volume) c.args.self.now.index _ _ refl refl (λ told. c.copy_turn.ensures.main told)

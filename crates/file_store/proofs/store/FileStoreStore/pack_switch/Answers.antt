@@ -1,0 +1,45 @@
+use Rattle.std.proofs.Common.{◌≡◌, false, sym, ◌∙◌}
+use Rattle.zb_volume.specs.declared.areas.Area.TheVariants.{Main, Side}
+use Rattle.zb_volume.specs.Disk.{seen}
+use Rattle.zb_volume.specs.Moments.{StaysAs}
+use Rattle.zb_model.specs.declared.packs.Packed.{Packed}
+use Rattle.pack_copy.specs.Copying.{CopyKept}
+use Rattle.pack_switch.specs.declared.switching.Switched.{Switched}
+use Rattle.file_store.specs.Kept.{IsCopyKept}
+use Rattle.file_store.proofs.Commits.{none_there}
+use Rattle.file_store.proofs.Copies.{copy_is}
+use Rattle.file_store.proofs.Packs.{unbroken, unless_less}
+use Rattle.file_store.proofs.Shown.{newest_is}
+use Rattle.file_store.proofs.Sides.{kept_stays, list_stays, settled_stays, voted_stays}
+use Rattle.file_store.proofs.store.FileStoreStore.pack_switch.Goals as goal
+
+pub pack_file-requires-clause-copied : goal.pack_file-requires-clause-copied
+pack_file-requires-clause-copied g c = λ told.
+    let self = c.args.self.now in
+    copy_is (seen (g.V.Volume.log self.volume) Side) c.in-Some.copy (self.copied told c.requires.whole c.in-Some.copy (sym c.take.ensures.value ∙ c.in-Some.is))
+
+-- Main, unless a call of the volume failed
+stays : (g : _) (c : goal.After-eq-self g) → g.V.Volume.told → c.eq-self.result ≡ false → StaysAs Main (g.V.Volume.log c.args.self.now.volume) (g.V.Volume.log c.pack_file.new.volume)
+stays g c told whole = unbroken Switched c.in-Err.error c.eq-self.result _ c.eq-self.ensures whole (c.in-Err.ensures.main told)
+
+pub invariant_of-self-in-Err : goal.invariant_of-self-in-Err
+invariant_of-self-in-Err g c =
+    let self = c.args.self.now in
+    let log = g.V.Volume.log self.volume in
+    let now = g.V.Volume.log c.pack_file.new.volume in
+    record {
+      room = self.room;
+      settled = λ told whole. settled_stays log now (stays g c told whole) (self.settled told c.requires.whole);
+      kept = λ told whole. kept_stays log now (stays g c told whole) self.index self.numbers (self.kept told c.requires.whole);
+      voted = λ told whole. voted_stays log now (stays g c told whole) self.index (self.voted told c.requires.whole);
+      copied = λ told whole. none_there CopyKept (λ x. IsCopyKept (seen now Side) x) c.take.new.self c.take.ensures.after;
+    }
+
+pub returns-in-Ok-clause-number : goal.returns-in-Ok-clause-number
+returns-in-Ok-clause-number g c = λ told.
+    let main = seen (g.V.Volume.log c.pack_file.new.volume) Main in
+    newest_is main c.keep-ready.result.index c.keep-ready.result.numbers (c.keep-ready.ensures.kept main (c.in-Ok.ensures.whole told) (c.in-Ok.ensures.fits told) (c.in-Ok.ensures.long told))
+
+pub returns-in-Err-clause-unchanged : goal.returns-in-Err-clause-unchanged
+returns-in-Err-clause-unchanged g c = λ told.
+    unless_less Switched Packed c.in-Err.error _ _ (λ stays. list_stays (g.V.Volume.log c.args.self.now.volume) (g.V.Volume.log c.pack_file.new.volume) stays) (c.in-Err.ensures.main told)

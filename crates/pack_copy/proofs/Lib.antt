@@ -1,0 +1,9 @@
+pub mod Searches
+pub mod Anew
+pub mod Wholes
+pub mod Grown
+pub mod Lefts
+pub mod Fronts
+pub mod Begun
+pub mod Keeping
+pub mod Turns

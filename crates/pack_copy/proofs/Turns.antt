@@ -1,0 +1,169 @@
+-- A transaction of Main is copied to Side.
+use Rattle.std.proofs.Common.{◌≡◌, ℕ, zero, suc, ◌+◌, ◌-◌, ◌<◌, ◌≤◌, List, [], ◌∷◌, ◌++◌, length, get_or, map, take, drop, Option, Some, None, Result, Ok, Err, OnOk, refl, sym, ap, subst, ◌∙◌, arith}
+use Rattle.std.specs.Prelude.{slice_get}
+use Rattle.std.specs.List.{cons_option, filter_map, last_or}
+use Rattle.std.specs.Option.{option_map_or}
+use Rattle.std.proofs.lemmas.List.{length-drop, length-map, get_or-drop, get_or_default, take_all}
+use Rattle.std.proofs.lemmas.Option.{slice_get_read}
+use Rattle.std.specs.Ordering.{nat_cmp}
+use Rattle.std.specs.FinSet.{FinSet}
+use Rattle.zb_volume.specs.declared.areas.Area.{Area}
+use Rattle.zb_volume.specs.Calls.{Event}
+use Rattle.zb_volume.specs.Disk.{Disk, disk, seen}
+use Rattle.zb_volume.specs.Moments.{StaysAs, here}
+use Rattle.zb_volume.specs.Runs.{along_now, joined, weaker}
+use Rattle.zb_model.specs.declared.data.Transaction.{Transaction}
+use Rattle.zb_model.specs.Database.{IsDatabase, newest_tid}
+use Rattle.zb_model.specs.Packing.{packed_by, packed_one}
+use Rattle.fs_records.specs.declared.place.Place.{Place}
+use Rattle.fs_records.specs.Blocks.{Begins, Reached}
+use Rattle.fs_records.specs.Databases.{reading_of}
+use Rattle.fs_records.specs.Listed.{listed, reached_in}
+use Rattle.fs_records.specs.Places.{Kept, IsRising}
+use Rattle.fs_reading.specs.Main.{IsStart, IsStartOf}
+use Rattle.fs_recovery.specs.Opens.{newest_kept}
+use Rattle.zb_model.specs.Packs.{IsPrefixOf}
+use Rattle.pack_copy.specs.CopiedLaws.{copied_list}
+use Rattle.pack_copy.specs.Copying.{CopyKept, IsCopied, IsSource}
+use Rattle.pack_copy.specs.Filtering.{left_by}
+use Rattle.pack_copy.specs.UpTo.{IsBelowNext, IsCopiedUpTo, IsCountUpTo}
+use Rattle.pack_copy.proofs.Fronts.{database_rises, front_is, gone_over, later, left_next, newest_same, tid_kept}
+use Rattle.pack_copy.proofs.Lefts.{left_is, source_begins, source_list}
+
+-- ---- what stays
+
+-- where no call was made
+pub stays_same : (a : Area) (old new : List Event) → new ≡ old → StaysAs a old new
+stays_same a old new same = subst (λ (l : List Event). StaysAs a old l) (sym same) (here refl)
+
+-- an area that stays reads as it did
+pub seen_same : (a : Area) (old new : List Event) → StaysAs a old new → seen new a ≡ seen old a
+seen_same a old new stays = ap (λ (d : Disk). d.now) (along_now (λ l. disk l a ≡ disk old a) old new stays)
+
+-- one run after another
+pub stays_join : (a : Area) (old mid new : List Event) → StaysAs a old mid → StaysAs a mid new → StaysAs a old new
+stays_join a old mid new first rest =
+    let same : disk mid a ≡ disk old a = along_now (λ l. disk l a ≡ disk old a) old mid first in
+    joined (λ l. disk l a ≡ disk old a) old mid new first (weaker (λ l. disk l a ≡ disk mid a) (λ l. disk l a ≡ disk old a) mid new (λ l is. is ∙ same) rest)
+
+-- ---- answers
+
+pub both_ok : {T E : Type 0} (r : Result T E) (P Q R : Type 0) → OnOk r P → OnOk r Q → (P → Q → R) → OnOk r R
+both_ok (Ok x) P Q R p q so = so p q
+both_ok (Err e) P Q R p q so = tt
+
+-- ---- the transaction at a place
+
+tid_at : (ps : List Place) (ts : List Transaction) (n : ℕ) (p : Place) (t : Transaction) → map (λ (p : Place). p.serial) ps ≡ map (λ (t : Transaction). t.tid) ts → slice_get ps n ≡ Some p → slice_get ts n ≡ Some t → p.serial ≡ t.tid
+tid_at [] ts n p t same at is = absurd cc
+tid_at (q ∷ ps) [] n p t same at is = absurd cc
+tid_at (q ∷ ps) (u ∷ ts) zero p t same at is =
+    let one : q ≡ p = cc in
+    let other : u ≡ t = cc in
+    let first : q.serial ≡ u.tid = cc in
+    ap (λ (x : Place). x.serial) (sym one) ∙ first ∙ ap (λ (x : Transaction). x.tid) other
+tid_at (q ∷ ps) (u ∷ ts) (suc n) p t same at is = let rest : map (λ (p : Place). p.serial) ps ≡ map (λ (t : Transaction). t.tid) ts = cc in tid_at ps ts n p t rest at is
+
+-- has the number that its place has
+pub with_its_tid : (bytes : List ℕ) (s : Reached) (n : ℕ) (start : Place) (t x : Transaction) → Begins bytes s → IsStartOf s n start → slice_get s.list n ≡ Some t → x ≡ record t { tid = start.serial } → slice_get s.list n ≡ Some x
+with_its_tid bytes s n start t x begins at is with =
+    let same : start.serial ≡ t.tid = tid_at s.starts s.list n start t (reading_of bytes s begins).starts at is in
+    is ∙ ap (λ (k : ℕ). Some (record t { tid = k })) (sym same) ∙ ap (λ (u : Transaction). Some u) (sym with)
+
+pub is_start : (main : List ℕ) (from : Kept) (n : ℕ) (start : Place) → IsSource main from → IsStartOf (reached_in main) n start → IsStart main start
+is_start main from n start source is = record { reached = reached_in main; number = n; begins = source_begins main from source; is = is; short = omega (arith, source.short) }
+
+-- ---- what is left of it
+
+pub source_database : (main : List ℕ) (from : Kept) → IsSource main from → IsDatabase (listed main)
+source_database main from source = subst (λ (l : List Transaction). IsDatabase l) (sym (source_list main from source)) (reading_of main (reached_in main) (source_begins main from source)).is
+
+module _ (main side : List ℕ) (from : Kept) (c : CopyKept) (keep : FinSet nat_cmp) (n t : ℕ) (x : Transaction) (source : IsSource main from) (get : slice_get (reached_in main).list n ≡ Some x) (tid : t ≡ c.tid) (upto : IsCopiedUpTo (listed main) side c keep n) where
+  listed_get : slice_get (listed main) n ≡ Some x
+  listed_get = ap (λ (l : List Transaction). slice_get l n) (source_list main from source) ∙ get
+
+  left_packed : left_by t keep from.entries x ≡ packed_one c.tid keep (listed main) x
+  left_packed = ap (λ (k : ℕ). left_by k keep from.entries x) tid ∙ left_is main from c.tid keep x source
+
+  -- it is later than all on Side
+  pub later_left : (y : Transaction) → left_by t keep from.entries x ≡ Some y → newest_tid (listed side) < y.tid
+  later_left y is =
+      subst (λ (l : List Transaction). newest_tid l < y.tid) (sym upto.left)
+      (later (packed_one c.tid keep (listed main)) (tid_kept c.tid keep (listed main)) (listed main) n x y (database_rises (listed main) (source_database main from source)) listed_get (sym left_packed ∙ is))
+
+  -- it stands there
+  pub one_more : (y : Transaction) (now : List ℕ) (d : CopyKept) → left_by t keep from.entries x ≡ Some y → IsCopied now d → d.tid ≡ c.tid → listed now ≡ listed side ++ y ∷ [] → IsCopiedUpTo (listed main) now d keep (n + 1)
+  one_more y now d is copied same list = record {
+    copied = copied;
+    left = list
+        ∙ ap (λ (l : List Transaction). l ++ y ∷ []) upto.left
+        ∙ ap (λ (o : Option Transaction). filter_map (packed_one c.tid keep (listed main)) (take n (listed main)) ++ cons_option o []) (sym (sym left_packed ∙ is))
+        ∙ sym (left_next (packed_one c.tid keep (listed main)) (listed main) n x listed_get)
+        ∙ ap (λ (k : ℕ). filter_map (packed_one k keep (listed main)) (take (n + 1) (listed main))) (sym same);
+  }
+
+  -- nothing of it is left
+  pub none_left : left_by t keep from.entries x ≡ None → IsCopiedUpTo (listed main) side c keep (n + 1)
+  none_left is = gone_over (listed main) side c keep n x listed_get (sym left_packed ∙ is) upto
+
+-- ---- a turn
+
+-- what is behind the first ones
+abbrev pub rest_of : ℕ → List Place → List Place
+rest_of first xs = take (length xs - first) (drop first xs)
+
+rest_is : (first : ℕ) (xs : List Place) → rest_of first xs ≡ drop first xs
+rest_is first xs = take_all (length xs - first) (drop first xs) (omega (arith, length-drop first xs))
+
+place_in : (xs : List Place) (first i : ℕ) (p : Place) → p ≡ get_or (rest_of first xs) i p → p ≡ get_or xs (first + i) p
+place_in xs first i p is = is ∙ ap (λ (ps : List Place). get_or ps i p) (rest_is first xs) ∙ get_or-drop first xs i p
+
+-- the place with a number among them
+pub start_is : (xs all : List Place) (first i : ℕ) (p : Place) → xs ≡ all → i < length (rest_of first xs) → p ≡ get_or (rest_of first xs) i p → slice_get all (first + i) ≡ Some p
+start_is xs all first i p same within is =
+    let long = length-drop first xs in
+    let rest = ap length (rest_is first xs) in
+    ap (λ (ps : List Place). slice_get ps (first + i)) (sym same) ∙ slice_get_read xs (length xs) (first + i) p refl (omega arith) (place_in xs first i p is)
+
+-- the next one isn't earlier
+pub next_above : (xs all : List Place) (first i newest : ℕ) (p : Place) → xs ≡ all → IsRising xs → i < length (rest_of first xs) → p ≡ get_or (rest_of first xs) i p → newest ≤ p.serial → IsBelowNext all newest (first + (i + 1))
+next_above xs all first i newest p same rising within is le =
+    subst (λ (ps : List Place). IsBelowNext ps newest (first + (i + 1))) same (λ d w.
+    let at : p ≡ get_or xs (first + i) p = place_in xs first i p is in
+    let there : get_or xs (first + i) p ≡ get_or xs (first + i) d = get_or_default xs (first + i) p d (omega arith) in
+    let up = rising.serials (first + i) (first + (i + 1)) d (omega arith) w in
+    omega (arith, le, up, ap (λ (x : Place). x.serial) (at ∙ there)))
+
+-- all were gone over
+pub all_gone : (xs all : List Place) (first i : ℕ) → xs ≡ all → first ≤ length all → length (rest_of first xs) ≤ i → i ≤ length (rest_of first xs) → first + i ≡ length all
+all_gone xs all first i same within done upto = omega (arith, length-drop first xs, ap length (rest_is first xs), ap length same)
+
+-- the last tid on Side
+pub copied_newest : (side : List ℕ) (c : CopyKept) → IsCopied side c → newest_kept c.index ≡ newest_tid (listed side)
+copied_newest side c copied =
+    let s = copied.whole.reached in
+    let same = reading_of side s copied.whole.stands.begins in
+    ap (λ (ps : List Place). option_map_or (λ (p : Place). p.serial) (last_or None ps) 0) copied.whole.index.transactions
+    ∙ newest_same s.starts s.list same.starts ∙ ap newest_tid (sym (copied_list side c copied))
+
+starts_same : (main : List ℕ) (from : Kept) → IsSource main from → map (λ p. p.serial) from.transactions ≡ map (λ t. t.tid) (listed main)
+starts_same main from source =
+    ap (λ (ps : List Place). map (λ (p : Place). p.serial) ps) source.index.transactions
+    ∙ (reading_of main (reached_in main) (source_begins main from source)).starts
+    ∙ ap (λ (l : List Transaction). map (λ (t : Transaction). t.tid) l) (sym (source_list main from source))
+
+-- a turn goes on behind what was copied
+pub goes_on : (main side : List ℕ) (from : Kept) (c : CopyKept) (keep : FinSet nat_cmp) (starts : List Place) (newest n : ℕ) → IsSource main from → (copied : IsCopied side c) → IsPrefixOf (packed_by c.tid keep (listed main)) (listed side)
+    → starts ≡ from.transactions → newest ≡ newest_kept c.index → IsCountUpTo starts newest n → IsCopiedUpTo (listed main) side c keep n
+goes_on main side from c keep starts newest n source copied front same newest_is count = record {
+  copied = copied;
+  left = front_is (packed_one c.tid keep (listed main)) (tid_kept c.tid keep (listed main)) (listed main) (listed side) front.0 starts n (database_rises (listed main) (source_database main from source))
+      (ap (λ (ps : List Place). map (λ (p : Place). p.serial) ps) same ∙ starts_same main from source)
+      (subst (λ (m : ℕ). IsCountUpTo starts m n) (newest_is ∙ copied_newest side c copied) count) front.1;
+}
+
+-- and where all was gone over the packed list stands there
+pub all_copied : (main side : List ℕ) (from : Kept) (c : CopyKept) (keep : FinSet nat_cmp) (t : ℕ) → IsSource main from → c.tid ≡ t → IsCopiedUpTo (listed main) side c keep (length from.transactions) → listed side ≡ packed_by t keep (listed main)
+all_copied main side from c keep t source tid upto =
+    let long : length (listed main) ≤ length from.transactions = omega (arith, ap length (starts_same main from source), length-map from.transactions (λ (p : Place). p.serial), length-map (listed main) (λ (t : Transaction). t.tid)) in
+    upto.left ∙ ap (filter_map (packed_one c.tid keep (listed main))) (take_all (length from.transactions) (listed main) long) ∙ ap (λ (k : ℕ). packed_by k keep (listed main)) tid

@@ -1,0 +1,51 @@
+use Rattle.std.proofs.Common.{ℕ, ◌+◌, ◌<◌, List, [], ◌∷◌, ◌++◌, ap, sym, subst, ◌∙◌}
+use Rattle.zb_volume.specs.declared.areas.Area.TheVariants.{Main, Side}
+use Rattle.zb_volume.specs.Disk.{seen}
+use Rattle.zb_model.specs.Database.{newest_tid}
+use Rattle.fs_records.specs.Listed.{listed, reached_in}
+use Rattle.pack_copy.specs.Copying.{CopyKept, IsCopied}
+use Rattle.pack_copy.specs.UpTo.{IsCopiedUpTo}
+use Rattle.pack_copy.proofs.Lefts.{source_begins}
+use Rattle.pack_copy.proofs.Turns.{both_ok, is_start, stays_same, later_left, none_left, one_more}
+use Rattle.pack_copy.proofs.turn.copy_one.Goals as goal
+
+pub read_at-requires : goal.read_at-requires
+read_at-requires g c = λ told.
+    let n = c.requires.next told in
+    is_start (seen (g.V.Volume.log c.args.volume.now) Main) c.args.from.now n.0 c.args.start (c.requires.source told) n.1
+
+pub returns-in_err-transaction-clause-main : goal.returns-in_err-transaction-clause-main
+returns-in_err-transaction-clause-main g c told = stays_same Main _ _ c.read_at.ensures.same
+
+pub append-requires-clause-copied : goal.append-requires-clause-copied
+append-requires-clause-copied g c = λ told. subst (λ (b : List ℕ). IsCopied b c.args.to.now) (ap (λ l. seen l Side) (sym c.read_at.ensures.same)) (c.requires.next told).2.copied
+
+pub append-requires-clause-later : goal.append-requires-clause-later
+append-requires-clause-later g c = λ told.
+    let main = seen (g.V.Volume.log c.args.volume.now) Main in
+    let n = c.requires.next told in
+    let x = c.in_ok-transaction.transaction in
+    let get = c.in_ok-transaction.ensures.transaction told (reached_in main) n.0 (source_begins main c.args.from.now (c.requires.source told)) n.1 in
+    subst (λ (b : List ℕ). newest_tid (listed b) < c.in-Some.left.tid) (ap (λ l. seen l Side) (sym c.read_at.ensures.same))
+    (later_left main (seen (g.V.Volume.log c.args.volume.now) Side) c.args.from.now c.args.to.now c.args.keep.now n.0 c.to.inside.tid x (c.requires.source told) get (ap (λ (k : CopyKept). k.tid) c.to.view_is) n.2 c.in-Some.left (sym c.left_of.ensures.value ∙ c.in-Some.is))
+
+pub returns-in-Some-clause-next : goal.returns-in-Some-clause-next
+returns-in-Some-clause-next g c = λ told number start upto.
+    let main = seen (g.V.Volume.log c.args.volume.now) Main in
+    let side = seen (g.V.Volume.log c.args.volume.now) Side in
+    let x = c.in_ok-transaction.transaction in
+    let get = c.in_ok-transaction.ensures.transaction told (reached_in main) number (source_begins main c.args.from.now (c.requires.source told)) start in
+    both_ok c.append.result _ _ _ (c.append.ensures.copied told) (c.append.ensures.list told)
+    (λ copied list. one_more main side c.args.from.now c.args.to.now c.args.keep.now number c.to.inside.tid x (c.requires.source told) get (ap (λ (k : CopyKept). k.tid) c.to.view_is) upto c.in-Some.left _ _
+    (sym c.left_of.ensures.value ∙ c.in-Some.is) copied c.append.ensures.tid (list ∙ ap (λ l. listed (seen l Side) ++ c.in-Some.left ∷ []) c.read_at.ensures.same))
+
+pub returns-in-None-clause-next : goal.returns-in-None-clause-next
+returns-in-None-clause-next g c = λ told number start upto.
+    let main = seen (g.V.Volume.log c.args.volume.now) Main in
+    let x = c.in_ok-transaction.transaction in
+    let get = c.in_ok-transaction.ensures.transaction told (reached_in main) number (source_begins main c.args.from.now (c.requires.source told)) start in
+    subst (λ (b : List ℕ). IsCopiedUpTo (listed main) b c.args.to.now c.args.keep.now (number + 1)) (ap (λ l. seen l Side) (sym c.read_at.ensures.same))
+    (none_left main (seen (g.V.Volume.log c.args.volume.now) Side) c.args.from.now c.args.to.now c.args.keep.now number c.to.inside.tid x (c.requires.source told) get (ap (λ (k : CopyKept). k.tid) c.to.view_is) upto (sym c.left_of.ensures.value ∙ c.in-None.is))
+
+pub returns-in-None-clause-main : goal.returns-in-None-clause-main
+returns-in-None-clause-main g c told = stays_same Main _ _ c.read_at.ensures.same

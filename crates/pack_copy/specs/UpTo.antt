@@ -1,0 +1,25 @@
+-- How far a copy has come. Source: own.
+use Rattle.std.specs.Prelude.{◌≡◌, ℕ, ◌<◌, ◌≤◌, List, length, take, slice_index_or}
+use Rattle.std.specs.List.{filter_map}
+use Rattle.std.specs.Ordering.{nat_cmp}
+use Rattle.std.specs.FinSet.{FinSet}
+use Rattle.zb_model.specs.declared.data.Transaction.{Transaction}
+use Rattle.zb_model.specs.Packing.{packed_one}
+use Rattle.fs_records.specs.declared.place.Place.{Place}
+use Rattle.fs_records.specs.Listed.{listed}
+use Rattle.pack_copy.specs.Copying.{CopyKept, IsCopied}
+
+-- on Side stands what is left of the first transactions of a list, so many
+pub record IsCopiedUpTo (list : List Transaction) (side : List ℕ) (c : CopyKept) (keep : FinSet nat_cmp) (number : ℕ) : Type 0 where
+  pub copied : IsCopied side c
+  pub left : listed side ≡ filter_map (packed_one c.tid keep list) (take number list)
+
+-- so many of these places, the first ones, are of transactions up to a tid
+pub record IsCountUpTo (starts : List Place) (tid count : ℕ) : Type 0 where
+  pub within : count ≤ length starts
+  pub before : (k : ℕ) (d : Place) → k < count → k < length starts → (slice_index_or starts k d).serial ≤ tid
+  pub above : (k : ℕ) (d : Place) → count ≤ k → k < length starts → tid < (slice_index_or starts k d).serial
+
+-- a tid isn't above the place with this number, if there is one
+abbrev pub IsBelowNext : List Place → ℕ → ℕ → Type 0
+IsBelowNext starts tid number = (d : Place) → number < length starts → tid ≤ (slice_index_or starts number d).serial

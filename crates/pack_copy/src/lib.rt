@@ -1,0 +1,18 @@
+//! The list of the file in Main, packed, is copied to Side: the objects of a given set keep their
+//! last change up to a tid, later transactions stay whole, and each content stands in full.
+#![tactic(auto)]
+
+mod beginning;
+mod filtering;
+mod growing;
+mod ready;
+mod renewing;
+mod state;
+mod turn;
+
+pub use beginning::begin;
+pub use state::{CopyState, changes_of};
+pub use turn::copy_turn;
+
+#[cfg(test)]
+mod tests;

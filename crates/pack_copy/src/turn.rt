@@ -1,0 +1,190 @@
+//! A turn of a copy.
+
+ghost use Rattle.std.specs.Prelude.{◌≡◌, ℕ, ◌+◌, ◌-◌, ◌≤◌, ◌<◌, ◌^◌, Some, true, slice_get, length, All, IfOk, OnOk};
+ghost use Rattle.zb_volume.specs.declared.areas.Area.{Area};
+ghost use Rattle.zb_volume.specs.Disk.{seen};
+ghost use Rattle.zb_volume.specs.Moments.{StaysAs};
+ghost use Rattle.zb_model.specs.declared.data.Transaction.{Transaction};
+ghost use Rattle.zb_model.specs.Packing.{packed_by};
+ghost use Rattle.zb_model.specs.Packs.{IsPrefixOf, change_count};
+ghost use Rattle.fs_records.specs.Listed.{listed, reached_in};
+ghost use Rattle.fs_records.specs.Places.{IsRising};
+ghost use Rattle.fs_records.specs.Blocks.{Reached, Begins};
+ghost use Rattle.fs_reading.specs.Main.{IsStart, IsStartOf};
+ghost use Rattle.fs_recovery.specs.Opens.{newest_kept};
+ghost use Rattle.fs_reading.specs.Formed.{IsFormed};
+ghost use Rattle.pack_copy.specs.Copying.{IsCopied, IsSource};
+ghost use Rattle.pack_copy.specs.UpTo.{IsBelowNext, IsCopiedUpTo, IsCountUpTo};
+ghost use Rattle.pack_copy.specs.InFull.{full_file};
+ghost use Rattle.pack_copy.specs.Counting.{IsCopyCounted};
+
+use crate::filtering::left_of;
+use crate::growing::append;
+use crate::state::CopyState;
+use fs_reading::read_transaction_at;
+use fs_records::{Index, Place};
+use std::alloc::Global;
+use zb_ids::Tid;
+use zb_model::{Copied, OidSet, StoreError, Transaction};
+use zb_volume::{Area, Volume};
+
+/// A transaction with this number.
+fn with_tid(transaction: Transaction, tid: Tid) -> Transaction
+    ensures { result ≡ record transaction { tid = tid } }
+{
+    let Transaction {
+        tid: _,
+        packed,
+        user,
+        description,
+        extension,
+        changes,
+    } = transaction;
+    Transaction {
+        tid,
+        packed,
+        user,
+        description,
+        extension,
+        changes,
+    }
+}
+
+/// The transaction at a place of Main, whole, with the number that its place has.
+fn read_at<V: Volume>(
+    alloc: Global,
+    volume: &mut V,
+    start: Place,
+) -> Result<Transaction, StoreError>
+    requires { V.told → IsStart (seen (V.log volume.old) Area.Main) start }
+    ensures transaction { V.told → (reached : Reached) (number : ℕ)
+        → Begins (seen (V.log volume.old) Area.Main) reached → IsStartOf reached number start
+        → IfOk result (λ t. slice_get reached.list number ≡ Some t) }
+    ensures formed { IfOk result (λ t. IsFormed t) }
+    ensures tid { IfOk result (λ t. t.tid ≡ start.serial) }
+    ensures same { V.log volume.new ≡ V.log volume.old }
+    ensures counts { IsCopyCounted (V.read_faults volume.old) (V.read_faults volume.new)
+        (V.write_faults volume.old) (V.write_faults volume.new) result }
+{
+    let tid = start.serial;
+    let transaction = read_transaction_at(alloc, volume, start)?;
+    Ok(with_tid(transaction, tid))
+}
+
+/// Copies what is left of the transaction at a place of Main, where all transactions before it were
+/// gone over.
+fn copy_one<V: Volume>(
+    alloc: Global,
+    volume: &mut V,
+    from: &Index,
+    to: &mut CopyState,
+    keep: &OidSet,
+    start: Place,
+) -> Result<(), StoreError>
+    requires above { newest_kept to.old.index ≤ start.serial }
+    requires bound { start.serial < 2 ^ 64 - 1 }
+    requires source { V.told → IsSource (seen (V.log volume.old) Area.Main) from.now }
+    requires next { V.told → (number : ℕ)
+        × IsStartOf (reached_in (seen (V.log volume.old) Area.Main)) number start
+        × IsCopiedUpTo (listed (seen (V.log volume.old) Area.Main)) (seen (V.log volume.old) Area.Side)
+        to.old keep.now number }
+    ensures next { V.told → (number : ℕ)
+        → IsStartOf (reached_in (seen (V.log volume.old) Area.Main)) number start
+        → IsCopiedUpTo (listed (seen (V.log volume.old) Area.Main)) (seen (V.log volume.old) Area.Side)
+        to.old keep.now number
+        → OnOk result (IsCopiedUpTo (listed (seen (V.log volume.old) Area.Main))
+        (seen (V.log volume.new) Area.Side) to.new keep.now (number + 1)) }
+    ensures newest { OnOk result (newest_kept to.new.index ≤ start.serial) }
+    ensures tid { to.new.tid ≡ to.old.tid }
+    ensures main { V.told → StaysAs Area.Main (V.log volume.old) (V.log volume.new) }
+    ensures counts { IsCopyCounted (V.read_faults volume.old) (V.read_faults volume.new)
+        (V.write_faults volume.old) (V.write_faults volume.new) result }
+{
+    let transaction = read_at(alloc, volume, start)?;
+    match left_of(from, to.tid, keep, transaction) {
+        Some(left) => append(alloc, volume, to, left),
+        None => Ok(()),
+    }
+}
+
+/// Copies what is left of the transactions of Main from the one with this number on, counted from 0,
+/// where all before it were gone over.
+fn copy_from<V: Volume>(
+    alloc: Global,
+    volume: &mut V,
+    from: &Index,
+    to: &mut CopyState,
+    keep: &OidSet,
+    first: usize,
+) -> Result<(), StoreError>
+    requires within { first ≤ length from.now.transactions }
+    requires above { IsBelowNext from.now.transactions (newest_kept to.old.index) first }
+    requires bound { All (λ p. p.serial < 2 ^ 64 - 1) from.now.transactions }
+    requires source { V.told → IsSource (seen (V.log volume.old) Area.Main) from.now }
+    requires up_to { V.told → IsCopiedUpTo (listed (seen (V.log volume.old) Area.Main))
+        (seen (V.log volume.old) Area.Side) to.old keep.now first }
+    ensures all { V.told → OnOk result (IsCopiedUpTo (listed (seen (V.log volume.old) Area.Main))
+        (seen (V.log volume.new) Area.Side) to.new keep.now (length from.now.transactions)) }
+    ensures tid { to.new.tid ≡ to.old.tid }
+    ensures main { V.told → StaysAs Area.Main (V.log volume.old) (V.log volume.new) }
+    ensures counts { IsCopyCounted (V.read_faults volume.old) (V.read_faults volume.new)
+        (V.write_faults volume.old) (V.write_faults volume.new) result }
+{
+    let starts = from.transactions();
+    let rest = &starts[first..];
+    'copy: for start in rest {
+        copy_one(alloc, volume, from, to, keep, *start)?;
+    }
+    Ok(())
+}
+
+/// How many of these places are of a transaction up to a tid. They are the first ones.
+fn count_up_to(starts: &[Place], tid: Tid) -> usize
+    requires { IsRising starts.now }
+    ensures { IsCountUpTo starts.now tid result }
+{
+    starts.partition_point(|p| p.serial <= tid)
+}
+
+/// Copies all that is left of Main's list, packed up to the tid of the copy, where just these objects
+/// keep their changes up to it: what stands on Side is then the whole packed list. Each content stands
+/// there in full, and that an object isn't there with back pointer 0. Side grows transaction by
+/// transaction.
+///
+/// With an error Side may hold anything, and the copy is to be dropped: `StoreFault` comes only where a
+/// write failed, `ReadFault` only where a read did, and `Memory` where neither did, also where Side would
+/// be longer than 2^63 - 1 bytes. Memory is that of the index and of one transaction at a time. Main is
+/// as it was at every moment.
+pub fn copy_turn<V: Volume>(
+    alloc: Global,
+    volume: &mut V,
+    from: &Index,
+    to: &mut CopyState,
+    keep: &OidSet,
+) -> Result<Copied, StoreError>
+    requires bound { All (λ p. p.serial < 2 ^ 64 - 1) from.now.transactions }
+    requires source { V.told → IsSource (seen (V.log volume.old) Area.Main) from.now }
+    requires copied { V.told → IsCopied (seen (V.log volume.old) Area.Side) to.old }
+    requires prefix { V.told → IsPrefixOf
+        (packed_by to.old.tid keep.now (listed (seen (V.log volume.old) Area.Main)))
+        (listed (seen (V.log volume.old) Area.Side)) }
+    ensures copied { V.told → OnOk result (IsCopied (seen (V.log volume.new) Area.Side) to.new) }
+    ensures list { V.told → OnOk result (listed (seen (V.log volume.new) Area.Side)
+        ≡ packed_by to.old.tid keep.now (listed (seen (V.log volume.old) Area.Main))) }
+    ensures text { V.told → OnOk result (seen (V.log volume.new) Area.Side
+        ≡ full_file (packed_by to.old.tid keep.now (listed (seen (V.log volume.old) Area.Main)))) }
+    ensures count { V.told → IfOk result (λ c.
+        c.count ≡ change_count (listed (seen (V.log volume.new) Area.Side))) }
+    ensures whole { IfOk result (λ c. c.whole ≡ true) }
+    ensures tid { to.new.tid ≡ to.old.tid }
+    ensures main { V.told → StaysAs Area.Main (V.log volume.old) (V.log volume.new) }
+    ensures counts { IsCopyCounted (V.read_faults volume.old) (V.read_faults volume.new)
+        (V.write_faults volume.old) (V.write_faults volume.new) result }
+{
+    let first = count_up_to(from.transactions(), to.newest());
+    copy_from(alloc, volume, from, to, keep, first)?;
+    Ok(Copied {
+        count: to.changes(),
+        whole: true,
+    })
+}

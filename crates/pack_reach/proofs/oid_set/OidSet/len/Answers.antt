@@ -1,7 +1,0 @@
-use Rattle.std.proofs.Common.{sym, ap, ◌∙◌}
-use Rattle.std.specs.FinSet.{len}
-use Rattle.pack_reach.proofs.Sets.{len_set}
-use Rattle.pack_reach.proofs.oid_set.OidSet.len.Goals as goal
-
-pub returns-clause-count : goal.returns-clause-count
-returns-clause-count c = c.len.ensures.len ∙ sym (len_set c.self.inside.oids.keys c.len.ensures.unique) ∙ ap len c.self.view_is

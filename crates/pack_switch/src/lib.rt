@@ -1,0 +1,9 @@
+//! The packed list on Side takes the place of the list in Main.
+#![tactic(auto)]
+
+mod switching;
+
+pub use switching::{Switched, switch};
+
+#[cfg(test)]
+mod tests;
