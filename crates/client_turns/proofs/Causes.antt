@@ -1,170 +1,137 @@
--- Why a turn is answered that something failed.
-use Rattle.std.proofs.Common.{◌≡◌, ℕ, true, Result, Ok, Err, sym, subst, arith}
-use Rattle.zb_base.specs.Counts.{rose_before}
+-- What lines do to the counts of faults.
+use Rattle.std.proofs.Common.{◌≡◌, ℕ, Bool, true, false, Option, Some, None, Result, Ok, Err, refl, sym, ap, subst, arith, ◌∙◌}
+use Rattle.std.specs.Prelude.{IfOk, OnErr}
+use Rattle.std.specs.declared.alloc.AllocError.{AllocError}
+use Rattle.zb_base.specs.Counts.{Rose}
 use Rattle.zb_model.specs.declared.refusal.Refusal.{Refusal}
 use Rattle.zb_model.specs.declared.refusal.Refusal.TheVariants as refusal
 use Rattle.zodb_core.specs.declared.reply.Reply.{Reply}
 use Rattle.zodb_core.specs.declared.reply.Reply.TheVariants as reply
 use Rattle.zb_script.specs.declared.answer.Answer.{Answer}
 use Rattle.zb_script.specs.declared.answer.Answer.TheVariants as answer
-use Rattle.zodb_core.specs.HubState.{IsCauseOf}
-use Rattle.zodb_core.specs.Outcomes.{AreLaterCounts, FaultCounts, outcome_of, outcome_of_refusal}
+use Rattle.zodb_core.specs.HubState.{HubState, IsCauseOf, StepsSafely, counts_of, is_store_failed}
+use Rattle.zodb_core.specs.Outcomes.{Answered, AreLaterCounts, FaultCounts, NoMemory, ReadingFailed, StepOutcome, StoreFailed, outcome_of, outcome_of_refusal}
+use Rattle.client_turns.specs.declared.errors.TurnError.{TurnError}
+use Rattle.client_turns.specs.declared.errors.TurnError.TheVariants as error
 use Rattle.client_turns.specs.declared.got.Got.{Got}
-use Rattle.client_turns.specs.Lines.{answer_of, object_of}
-use Rattle.client_turns.specs.Standing.{HasReadCause, HasTurnCause, found_or_missing, reply_read}
+use Rattle.client_turns.specs.CountLaws.{answer_outcome, object_outcome, whole_others}
+use Rattle.client_turns.specs.Lines.{IsCountedBy, answer_of, end_in, end_of, object_of, outcome_of_answer, outcome_of_end, outcome_of_error}
+use Rattle.client_turns.specs.TurnLaws.{starved_so}
+use Rattle.client_turns.specs.Standing.{HasReadCause, HasTurnCause, MakesSafely, found_or_missing, reply_read}
 
-refused_cause : (before mid now : FaultCounts) (why : Refusal) → IsCauseOf before mid (outcome_of_refusal why) → AreLaterCounts mid now → HasTurnCause before now (answer.Refused why)
-refused_cause before mid now refusal.TidsSpent cause later = tt
-refused_cause before mid now refusal.StoreFault cause later = rose_before before.others mid.others now.others cause later.others
-refused_cause before mid now (refusal.Conflict a0 a1 a2 a3) cause later = tt
-refused_cause before mid now (refusal.ReadConflict a0 a1 a2) cause later = tt
-refused_cause before mid now (refusal.TooLong a0) cause later = tt
-refused_cause before mid now (refusal.UndoUnknown a0) cause later = tt
-refused_cause before mid now (refusal.UndoPacked a0) cause later = tt
-refused_cause before mid now (refusal.UndoConflict a0 a1) cause later = tt
-refused_cause before mid now (refusal.Overtaken a0 a1) cause later = tt
-refused_cause before mid now (refusal.Unreadable a0 a1) cause later = tt
-refused_cause before mid now (refusal.PackedAlready a0) cause later = tt
-refused_cause before mid now (refusal.Missing a0 a1) cause later = tt
-refused_cause before mid now refusal.NoTransaction cause later = tt
-refused_cause before mid now refusal.InTransaction cause later = tt
-refused_cause before mid now refusal.NotVoted cause later = tt
-refused_cause before mid now refusal.Voted cause later = tt
-refused_cause before mid now (refusal.Busy a0) cause later = tt
-refused_cause before mid now (refusal.PackRunning a0) cause later = tt
-refused_cause before mid now refusal.OidsSpent cause later = tt
-refused_cause before mid now (refusal.JournalFull a0) cause later = tt
-refused_cause before mid now (refusal.TooManySessions a0) cause later = tt
-refused_cause before mid now refusal.NotOpen cause later = tt
-refused_cause before mid now (refusal.NoSavepoint a0) cause later = tt
-refused_cause before mid now (refusal.FrameTooLong a0) cause later = tt
-refused_cause before mid now refusal.BadMessage cause later = tt
-refused_cause before mid now refusal.LinkFault cause later = tt
-refused_cause before mid now refusal.Closed cause later = tt
-refused_cause before mid now (refusal.Mixed a0) cause later = tt
-refused_cause before mid now refusal.NoPack cause later = tt
-refused_cause before mid now (refusal.NotATree a0) cause later = tt
-refused_cause before mid now (refusal.NodeMissing a0) cause later = tt
-refused_cause before mid now refusal.BadKey cause later = tt
-refused_cause before mid now refusal.ReadFault cause later = rose_before before.reads mid.reads now.reads cause later.reads
-refused_cause before mid now (refusal.NothingToDelete a0 a1) cause later = tt
-refused_cause before mid now (refusal.Connected a0) cause later = tt
-refused_cause before mid now refusal.StepsSpent cause later = tt
-refused_cause before mid now refusal.Memory cause later = tt
+-- ---- steps
 
--- a step's answer, where the counts only rose behind it
-pub turn_cause : (before mid now : FaultCounts) (r : Reply) → IsCauseOf before mid (outcome_of r) → AreLaterCounts mid now → HasTurnCause before now (answer_of r)
-turn_cause before mid now (reply.Refused why) cause later = refused_cause before mid now why cause later
-turn_cause before mid now (reply.Front front news switches) cause later = tt
-turn_cause before mid now (reply.Loaded serial bytes end upto) cause later = tt
-turn_cause before mid now (reply.Nothing oid switches) cause later = tt
-turn_cause before mid now (reply.Oids first count) cause later = tt
-turn_cause before mid now reply.Voted cause later = tt
-turn_cause before mid now (reply.Committed tid) cause later = tt
-turn_cause before mid now reply.Empty cause later = tt
-turn_cause before mid now reply.Aborted cause later = tt
-turn_cause before mid now (reply.History list) cause later = tt
-turn_cause before mid now (reply.UndoLog list) cause later = tt
-turn_cause before mid now reply.Closed cause later = tt
+-- what the hub says of the counts
+pub counted_of : (before now : FaultCounts) (o : StepOutcome) → IsCauseOf before now o → (is_store_failed o ≡ false → now.others ≡ before.others) → IsCountedBy before now o
+counted_of before now Answered cause others = cause
+counted_of before now ReadingFailed cause others = (cause, others refl)
+counted_of before now NoMemory cause others = cause
+counted_of before now StoreFailed cause others = cause
 
--- counts that rose in two calls
-pub later_twice : (a b c : FaultCounts) → AreLaterCounts a b → AreLaterCounts b c → AreLaterCounts a c
-later_twice a b c one two = record { reads = omega (arith, one.reads, two.reads); others = omega (arith, one.others, two.others) }
+pub safe_of : {R F : Type 0} (r : Reply) (old new : HubState R F) → StepsSafely r old new → MakesSafely r old new
+safe_of r old new safe = record {
+  resolver = safe.resolver;
+  refs = safe.refs;
+  later = safe.later;
+  cause = counted_of (counts_of old.store) (counts_of new.store) (outcome_of r) safe.cause safe.others;
+  broken = safe.broken;
+}
 
-calm_refused : (before now : FaultCounts) (why : Refusal) → IsCauseOf before now (outcome_of_refusal why) → found_or_missing (Err why) ≡ true → now ≡ before
-calm_refused before now refusal.TidsSpent cause found = absurd cc
-calm_refused before now refusal.StoreFault cause found = absurd cc
-calm_refused before now (refusal.Conflict a0 a1 a2 a3) cause found = absurd cc
-calm_refused before now (refusal.ReadConflict a0 a1 a2) cause found = absurd cc
-calm_refused before now (refusal.TooLong a0) cause found = absurd cc
-calm_refused before now (refusal.UndoUnknown a0) cause found = absurd cc
-calm_refused before now (refusal.UndoPacked a0) cause found = absurd cc
-calm_refused before now (refusal.UndoConflict a0 a1) cause found = absurd cc
-calm_refused before now (refusal.Overtaken a0 a1) cause found = absurd cc
-calm_refused before now (refusal.Unreadable a0 a1) cause found = absurd cc
-calm_refused before now (refusal.PackedAlready a0) cause found = absurd cc
-calm_refused before now (refusal.Missing a0 a1) cause found = cause
-calm_refused before now refusal.NoTransaction cause found = absurd cc
-calm_refused before now refusal.InTransaction cause found = absurd cc
-calm_refused before now refusal.NotVoted cause found = absurd cc
-calm_refused before now refusal.Voted cause found = absurd cc
-calm_refused before now (refusal.Busy a0) cause found = absurd cc
-calm_refused before now (refusal.PackRunning a0) cause found = absurd cc
-calm_refused before now refusal.OidsSpent cause found = absurd cc
-calm_refused before now (refusal.JournalFull a0) cause found = absurd cc
-calm_refused before now (refusal.TooManySessions a0) cause found = absurd cc
-calm_refused before now refusal.NotOpen cause found = absurd cc
-calm_refused before now (refusal.NoSavepoint a0) cause found = absurd cc
-calm_refused before now (refusal.FrameTooLong a0) cause found = absurd cc
-calm_refused before now refusal.BadMessage cause found = absurd cc
-calm_refused before now refusal.LinkFault cause found = absurd cc
-calm_refused before now refusal.Closed cause found = absurd cc
-calm_refused before now (refusal.Mixed a0) cause found = absurd cc
-calm_refused before now refusal.NoPack cause found = absurd cc
-calm_refused before now (refusal.NotATree a0) cause found = absurd cc
-calm_refused before now (refusal.NodeMissing a0) cause found = absurd cc
-calm_refused before now refusal.BadKey cause found = absurd cc
-calm_refused before now refusal.ReadFault cause found = absurd cc
-calm_refused before now (refusal.NothingToDelete a0 a1) cause found = absurd cc
-calm_refused before now (refusal.Connected a0) cause found = absurd cc
-calm_refused before now refusal.StepsSpent cause found = absurd cc
-calm_refused before now refusal.Memory cause found = absurd cc
+-- a step in which nothing could fail
+pub calm_step : (before now : FaultCounts) (o : StepOutcome) → IsCountedBy before now o → ¬ (o ≡ ReadingFailed) → ¬ (o ≡ StoreFailed) → now ≡ before
+calm_step before now Answered counts read whole = counts
+calm_step before now NoMemory counts read whole = counts
+calm_step before now ReadingFailed counts read whole = absurd (read refl)
+calm_step before now StoreFailed counts read whole = absurd (whole refl)
+
+-- a step's answer, behind which no count has moved
+pub turn_cause : (before mid now : FaultCounts) (r : Reply) (a : Answer) → a ≡ answer_of r → IsCountedBy before mid (outcome_of r) → now ≡ mid → HasTurnCause before now a
+turn_cause before mid now r a is counts same =
+    subst (λ (k : FaultCounts). HasTurnCause before k a) (sym same) (subst (λ (o : StepOutcome). IsCountedBy before mid o) (sym (ap outcome_of_answer is ∙ answer_outcome r)) counts)
+
+pub later_same : (before mid now : FaultCounts) → AreLaterCounts before mid → now ≡ mid → AreLaterCounts before now
+later_same before mid now later same = subst (λ (k : FaultCounts). AreLaterCounts before k) (sym same) later
+
+-- ---- reads
+
+calm_refused : (before now : FaultCounts) (why : Refusal) → IsCountedBy before now (outcome_of_refusal why) → found_or_missing (Err why) ≡ true → now ≡ before
+calm_refused before now (refusal.Missing oid packed) counts found = counts
+calm_refused before now _ counts found = absurd cc
 
 -- a read that found something, or found it missing, moved no count
-pub calm_read : (before now : FaultCounts) (r : Reply) (switches : ℕ) → IsCauseOf before now (outcome_of r) → found_or_missing (reply_read r switches) ≡ true → now ≡ before
-calm_read before now (reply.Refused why) switches cause found = calm_refused before now why cause found
-calm_read before now (reply.Front front news packed) switches cause found = cause
-calm_read before now (reply.Loaded serial bytes end upto) switches cause found = cause
-calm_read before now (reply.Nothing oid packed) switches cause found = cause
-calm_read before now (reply.Oids first count) switches cause found = cause
-calm_read before now reply.Voted switches cause found = cause
-calm_read before now (reply.Committed tid) switches cause found = cause
-calm_read before now reply.Empty switches cause found = cause
-calm_read before now reply.Aborted switches cause found = cause
-calm_read before now (reply.History list) switches cause found = cause
-calm_read before now (reply.UndoLog list) switches cause found = cause
-calm_read before now reply.Closed switches cause found = cause
+pub calm_read : (before now : FaultCounts) (r : Reply) (switches : ℕ) → IsCountedBy before now (outcome_of r) → found_or_missing (reply_read r switches) ≡ true → now ≡ before
+calm_read before now (reply.Refused why) switches counts found = calm_refused before now why counts found
+calm_read before now _ switches counts found = counts
 
--- an answer that tells what a read was refused
-pub why_cause : (before now : FaultCounts) (why : Refusal) → HasReadCause before now (Err why) → HasTurnCause before now (answer.Refused why)
-why_cause before now refusal.TidsSpent cause = tt
-why_cause before now refusal.StoreFault cause = cause
-why_cause before now (refusal.Conflict a0 a1 a2 a3) cause = tt
-why_cause before now (refusal.ReadConflict a0 a1 a2) cause = tt
-why_cause before now (refusal.TooLong a0) cause = tt
-why_cause before now (refusal.UndoUnknown a0) cause = tt
-why_cause before now (refusal.UndoPacked a0) cause = tt
-why_cause before now (refusal.UndoConflict a0 a1) cause = tt
-why_cause before now (refusal.Overtaken a0 a1) cause = tt
-why_cause before now (refusal.Unreadable a0 a1) cause = tt
-why_cause before now (refusal.PackedAlready a0) cause = tt
-why_cause before now (refusal.Missing a0 a1) cause = tt
-why_cause before now refusal.NoTransaction cause = tt
-why_cause before now refusal.InTransaction cause = tt
-why_cause before now refusal.NotVoted cause = tt
-why_cause before now refusal.Voted cause = tt
-why_cause before now (refusal.Busy a0) cause = tt
-why_cause before now (refusal.PackRunning a0) cause = tt
-why_cause before now refusal.OidsSpent cause = tt
-why_cause before now (refusal.JournalFull a0) cause = tt
-why_cause before now (refusal.TooManySessions a0) cause = tt
-why_cause before now refusal.NotOpen cause = tt
-why_cause before now (refusal.NoSavepoint a0) cause = tt
-why_cause before now (refusal.FrameTooLong a0) cause = tt
-why_cause before now refusal.BadMessage cause = tt
-why_cause before now refusal.LinkFault cause = tt
-why_cause before now refusal.Closed cause = tt
-why_cause before now (refusal.Mixed a0) cause = tt
-why_cause before now refusal.NoPack cause = tt
-why_cause before now (refusal.NotATree a0) cause = tt
-why_cause before now (refusal.NodeMissing a0) cause = tt
-why_cause before now refusal.BadKey cause = tt
-why_cause before now refusal.ReadFault cause = cause
-why_cause before now (refusal.NothingToDelete a0 a1) cause = tt
-why_cause before now (refusal.Connected a0) cause = tt
-why_cause before now refusal.StepsSpent cause = tt
-why_cause before now refusal.Memory cause = tt
+pub read_cause : (before now : FaultCounts) (r : Reply) (switches : ℕ) (read : Result Got Refusal) → read ≡ reply_read r switches → IsCountedBy before now (outcome_of r) → HasReadCause before now read
+read_cause before now r switches read is counts = subst (HasReadCause before now) (sym is) (by_reply r counts)
+  where
+    by_reply : (r : Reply) → IsCountedBy before now (outcome_of r) → HasReadCause before now (reply_read r switches)
+    by_reply (reply.Loaded serial bytes end upto) counts = counts
+    by_reply (reply.Nothing oid packed) counts = counts
+    by_reply (reply.Refused why) counts = counts
+    by_reply _ counts = counts
 
+-- an answer that tells how a read ended
 pub object_cause : (before now : FaultCounts) (read : Result Got Refusal) (a : Answer) → a ≡ object_of read → HasReadCause before now read → HasTurnCause before now a
-object_cause before now (Ok got) a is cause = subst (HasTurnCause before now) (sym is) tt
-object_cause before now (Err why) a is cause = subst (HasTurnCause before now) (sym is) (why_cause before now why cause)
+object_cause before now read a is cause = subst (λ (o : StepOutcome). IsCountedBy before now o) (sym (ap outcome_of_answer is ∙ object_outcome read)) cause
+
+-- ---- answers of no fault
+
+pub quiet_cause : (before now : FaultCounts) (a : Answer) → outcome_of_answer a ≡ Answered → now ≡ before → HasTurnCause before now a
+quiet_cause before now a quiet same = subst (λ (o : StepOutcome). IsCountedBy before now o) (sym quiet) same
+
+pub quiet_result : (r : Result Answer AllocError) (before now : FaultCounts) → IfOk r (λ a. outcome_of_answer a ≡ Answered) → now ≡ before → IfOk r (HasTurnCause before now)
+quiet_result (Ok a) before now quiet same = quiet_cause before now a quiet same
+quiet_result (Err e) before now quiet same = tt
+
+-- ---- endings
+
+pub never_starved : (r : Reply) (a : Answer) (ended : Option TurnError) → ended ≡ end_of a → a ≡ answer_of r → ¬ (outcome_of r ≡ NoMemory) → ¬ (ended ≡ Some error.Memory)
+never_starved r a ended is answers fed = λ none. fed (starved_so r (sym (ap end_of answers) ∙ sym is ∙ none))
+
+closed_so : (before now : FaultCounts) (r : Reply) → IsCountedBy before now (outcome_of r) → ¬ (outcome_of r ≡ ReadingFailed) → IsCountedBy before now (outcome_of_end (end_of (answer_of r)))
+closed_so before now (reply.Refused why) counts read = by_refusal why counts read
+  where
+    by_refusal : (why : Refusal) → IsCountedBy before now (outcome_of_refusal why) → ¬ (outcome_of_refusal why ≡ ReadingFailed) → IsCountedBy before now (outcome_of_end (end_in why))
+    by_refusal refusal.StoreFault counts read = counts
+    by_refusal refusal.Memory counts read = counts
+    by_refusal refusal.ReadFault counts read = absurd (read refl)
+    by_refusal _ counts read = counts
+closed_so before now (reply.Nothing oid switches) counts read = counts
+closed_so before now _ counts read = counts
+
+-- how the closing of a session ends the run, by its reply
+pub closed_counts : (before now : FaultCounts) (r : Reply) (a : Answer) (ended : Option TurnError) → ended ≡ end_of a → a ≡ answer_of r → IsCountedBy before now (outcome_of r) → ¬ (outcome_of r ≡ ReadingFailed)
+    → IsCountedBy before now (outcome_of_end ended)
+closed_counts before now r a ended is answers counts read = subst (λ (e : Option TurnError). IsCountedBy before now (outcome_of_end e)) (sym (is ∙ ap end_of answers)) (closed_so before now r counts read)
+
+ended_in : (why : Refusal) (e : TurnError) → end_in why ≡ Some e → outcome_of_refusal why ≡ outcome_of_error e
+ended_in refusal.StoreFault error.StoreFault is = refl
+ended_in refusal.StoreFault error.Memory is = absurd cc
+ended_in refusal.Memory error.Memory is = refl
+ended_in refusal.Memory error.StoreFault is = absurd cc
+ended_in _ e is = absurd cc
+
+ended_so : (a : Answer) (e : TurnError) → end_of a ≡ Some e → outcome_of_answer a ≡ outcome_of_error e
+ended_so (answer.Refused why) e is = ended_in why e is
+ended_so _ e is = absurd cc
+
+-- a line that ends the run
+pub ended_counts : (before now : FaultCounts) (a : Answer) (why : TurnError) → Some why ≡ end_of a → HasTurnCause before now a → IsCountedBy before now (outcome_of_error why)
+ended_counts before now a why ends cause = subst (λ (o : StepOutcome). IsCountedBy before now o) (ended_so a why (sym ends)) cause
+
+-- a closing that ends the run, behind a line that doesn't
+pub closing_counts : (before mid now : FaultCounts) (a : Answer) (why : TurnError) (ended end : Option TurnError) → None ≡ ended → ended ≡ end_of a → HasTurnCause before mid a → end ≡ Some why → IsCountedBy mid now (outcome_of_end end) → ¬ (end ≡ Some error.Memory)
+    → IsCountedBy before now (outcome_of_error why)
+closing_counts before mid now a error.Memory ended end none is cause ends counts fed = absurd (fed ends)
+closing_counts before mid now a error.StoreFault ended end none is cause ends counts fed =
+    subst (λ (n : ℕ). Rose n now.others) (whole_others before mid a (sym (none ∙ is)) cause) (subst (λ (e : Option TurnError). IsCountedBy mid now (outcome_of_end e)) ends counts)
+
+-- and one that doesn't
+pub whole_counts : (before mid now : FaultCounts) (a : Answer) (end : Option TurnError) → HasTurnCause before mid a → end ≡ None → IsCountedBy mid now (outcome_of_end end) → HasTurnCause before now a
+whole_counts before mid now a end cause none counts = subst (λ (k : FaultCounts). HasTurnCause before k a) (sym (subst (λ (e : Option TurnError). IsCountedBy mid now (outcome_of_end e)) none counts)) cause
+
+pub starved_behind : (r : Result Answer AllocError) (found : Bool) (before now : FaultCounts) → OnErr r (found ≡ true) → (found ≡ true → now ≡ before) → OnErr r (now ≡ before)
+starved_behind (Ok a) found before now failed calm = tt
+starved_behind (Err e) found before now failed calm = calm failed

@@ -6,18 +6,20 @@ use Rattle.zb_volume.specs.declared.areas.Area.TheVariants.{Main}
 use Rattle.zb_volume.specs.Moments.{Leaves, LeavesOnly, here}
 use Rattle.zb_volume.specs.Runs.{joined, weaker}
 use Rattle.zb_model.specs.declared.data.Transaction.{Transaction}
-use Rattle.zb_model.specs.declared.refusal.Refusal.{Refusal}
 use Rattle.zodb_core.specs.declared.request.Request.{Request}
 use Rattle.zodb_core.specs.declared.request.Request.TheVariants as request
 use Rattle.zodb_core.specs.HubState.{IsBeforeOrBehind, is_store_failed}
 use Rattle.zodb_core.specs.Machine.{Machine, MachineVote, Rules}
 use Rattle.zodb_core.specs.Outcomes.{outcome_of}
-use Rattle.zodb_core.specs.Steps.{Stepped, early_refusal, request_step, step_of, unless_early}
+use Rattle.zodb_core.specs.Steps.{step_of}
 use Rattle.zodb_core.specs.declared.reply.Reply.{Reply}
 use Rattle.zodb_core.specs.declared.reply.Reply.TheVariants as reply
-use Rattle.client_turns.specs.Lines.{is_committed}
-use Rattle.client_turns.specs.TurnLaws.{KeepsOrVoted, kept, step_list, voted}
-use Rattle.client_turns.specs.Standing.{IsListAround, IsVotedBehind, keeps_list}
+use Rattle.zb_script.specs.declared.line.Line.{Line}
+use Rattle.zb_script.specs.declared.line.Line.TheVariants as line
+use Rattle.client_turns.specs.declared.client.Changes.{Changes}
+use Rattle.client_turns.specs.Lines.{is_committed, is_finish, pending_in, request_of}
+use Rattle.client_turns.specs.TurnLaws.{KeepsOrVoted, kept, quiet_list, same_request, step_list, voted}
+use Rattle.client_turns.specs.Standing.{IsListAround, IsListFor, IsListIn, IsVotedBehind, keeps_list}
 
 -- ---- what a crash leaves around a list
 
@@ -54,22 +56,6 @@ step_moments stands rules m n q old new only = leaves_weaker (IsBeforeOrBehind s
 
 -- ---- a step that keeps the list
 
-early_same : (o : Option Refusal) (m : Machine) (made : Stepped) → made.machine.list ≡ m.list → (unless_early o m made).machine.list ≡ m.list
-early_same None m made is = is
-early_same (Some r) m made is = refl
-
-quiet_list : (rules : Rules) (m : Machine) (n : ℕ) (q : Request) (stamp : ℕ) → keeps_list q ≡ true → (step_of rules m n q stamp).machine.list ≡ m.list
-quiet_list rules m n request.Front stamp quiet = early_same (early_refusal m n request.Front) m (request_step rules m n request.Front stamp) refl
-quiet_list rules m n (request.LoadBefore oid front) stamp quiet = early_same (early_refusal m n (request.LoadBefore oid front)) m (request_step rules m n (request.LoadBefore oid front) stamp) refl
-quiet_list rules m n request.Close stamp quiet = early_same (early_refusal m n request.Close) m (request_step rules m n request.Close stamp) refl
-quiet_list rules m n (request.NewOids count) stamp quiet = absurd cc
-quiet_list rules m n (request.Vote user description extension pending) stamp quiet = absurd cc
-quiet_list rules m n (request.Undo user description tids) stamp quiet = absurd cc
-quiet_list rules m n request.Finish stamp quiet = absurd cc
-quiet_list rules m n request.Abort stamp quiet = absurd cc
-quiet_list rules m n (request.History oid) stamp quiet = absurd cc
-quiet_list rules m n request.UndoLog stamp quiet = absurd cc
-
 quiet_left : (stands : List ℕ → List Transaction → Type 0) (rules : Rules) (m : Machine) (n : ℕ) (q : Request) (bytes : List ℕ) → keeps_list q ≡ true → IsBeforeOrBehind stands rules m n q bytes → stands bytes m.list
 quiet_left stands rules m n q bytes quiet (inl before) = before
 quiet_left stands rules m n q bytes quiet (inr behind) = subst (stands bytes) (quiet_list rules m n q 0 quiet) (behind 0)
@@ -82,10 +68,6 @@ quiet_moments stands rules m n q old new quiet only = leaves_weaker (IsBeforeOrB
 pub around_moments : (stands : List ℕ → List Transaction → Type 0) (m b : Machine) (old new : List Event) → KeepsOrVoted m b.list → LeavesOnly Main (λ bytes. stands bytes b.list) old new → LeavesOnly Main (IsListAround stands m) old new
 around_moments stands m b old new is only = leaves_weaker (λ bytes. stands bytes b.list) (IsListAround stands m) old new (λ bytes left. around_of stands m b.list bytes is left) only
 
--- one call behind another
-pub joined_moments : (stands : List ℕ → List Transaction → Type 0) (m : Machine) (old mid new : List Event) → LeavesOnly Main (IsListAround stands m) old mid → LeavesOnly Main (IsListAround stands m) mid new → LeavesOnly Main (IsListAround stands m) old new
-joined_moments stands m old mid new one other = joined (Leaves Main (IsListAround stands m)) old mid new one other
-
 -- nothing was done
 pub unmoved : (P : List ℕ → Type 0) (old new : List Event) → new ≡ old → Leaves Main P old → LeavesOnly Main P old new
 unmoved P old new is leaves = subst (LeavesOnly Main P old) (sym is) (here leaves)
@@ -95,10 +77,9 @@ pub around_kept : (stands : List ℕ → List Transaction → Type 0) (m : Machi
 around_kept stands m old new only = around_moments stands m m old new (kept refl) only
 
 -- a commit, and the front behind it, if there is one
-pub step_and_told : (stands : List ℕ → List Transaction → Type 0) (m : Machine) (committed : Bool) (old mid new : List Event) → LeavesOnly Main (IsListAround stands m) old mid → (committed ≡ false → new ≡ mid)
-    → (committed ≡ true → LeavesOnly Main (IsListAround stands m) mid new) → LeavesOnly Main (IsListAround stands m) old new
-step_and_told stands m false old mid new step untold told = subst (LeavesOnly Main (IsListAround stands m) old) (sym (untold refl)) step
-step_and_told stands m true old mid new step untold told = joined_moments stands m old mid new step (told refl)
+pub step_and_told : (P : List ℕ → Type 0) (committed : Bool) (old mid new : List Event) → LeavesOnly Main P old mid → (committed ≡ false → new ≡ mid) → (committed ≡ true → LeavesOnly Main P mid new) → LeavesOnly Main P old new
+step_and_told P false old mid new step untold told = subst (LeavesOnly Main P old) (sym (untold refl)) step
+step_and_told P true old mid new step untold told = joined (Leaves Main P) old mid new step (told refl)
 
 -- a store that committed hasn't failed
 pub committed_whole : (r : Reply) → is_committed r ≡ true → is_store_failed (outcome_of r) ≡ false
@@ -115,10 +96,52 @@ committed_whole (reply.UndoLog list) is = absurd cc
 committed_whole reply.Closed is = absurd cc
 committed_whole (reply.Refused why) is = absurd cc
 
-pub unmoved_around : (stands : List ℕ → List Transaction → Type 0) (m : Machine) (old new : List Event) → new ≡ old → Leaves Main (λ bytes. stands bytes m.list) old → LeavesOnly Main (IsListAround stands m) old new
-unmoved_around stands m old new is leaves = around_kept stands m old new (unmoved (λ bytes. stands bytes m.list) old new is leaves)
+-- ---- by the request and by the line
+
+-- only a finish shows what is voted
+pub for_moments : (stands : List ℕ → List Transaction → Type 0) (m : Machine) (q : Request) (old new : List Event) → LeavesOnly Main (IsListAround stands m) old new
+    → (keeps_list q ≡ true → LeavesOnly Main (λ bytes. stands bytes m.list) old new) → LeavesOnly Main (IsListFor stands m q) old new
+for_moments stands m request.Finish old new around quiet = around
+for_moments stands m _ old new around quiet = quiet refl
+
+-- the same list, by another name
+pub list_moments : (stands : List ℕ → List Transaction → Type 0) (a b : List Transaction) (old new : List Event) → b ≡ a → LeavesOnly Main (λ bytes. stands bytes b) old new → LeavesOnly Main (λ bytes. stands bytes a) old new
+list_moments stands a b old new is only = subst (λ (l : List Transaction). LeavesOnly Main (λ bytes. stands bytes l) old new) is only
+
+-- a list that only was as it was may be seen in each line
+pub in_kept : (stands : List ℕ → List Transaction → Type 0) (m : Machine) (l : Line) (old new : List Event) → LeavesOnly Main (λ bytes. stands bytes m.list) old new → LeavesOnly Main (IsListIn stands m l) old new
+in_kept stands m line.Finish old new only = around_kept stands m old new only
+in_kept stands m _ old new only = only
+
+pub unmoved_in : (stands : List ℕ → List Transaction → Type 0) (m : Machine) (l : Line) (old new : List Event) → new ≡ old → Leaves Main (λ bytes. stands bytes m.list) old → LeavesOnly Main (IsListIn stands m l) old new
+unmoved_in stands m l old new is leaves = in_kept stands m l old new (unmoved (λ bytes. stands bytes m.list) old new is leaves)
+
+-- what is seen in a step is seen in its line
+pub in_step : (stands : List ℕ → List Transaction → Type 0) (m : Machine) (ch : Option Changes) (l : Line) (q : Request) (old new : List Event) → Some q ≡ request_of ch l → LeavesOnly Main (IsListFor stands m q) old new
+    → LeavesOnly Main (IsListIn stands m l) old new
+in_step stands m ch line.Open q old new asks only = absurd cc
+in_step stands m ch line.Begin q old new asks only = subst (λ (x : Request). LeavesOnly Main (IsListFor stands m x) old new) (same_request q request.Front asks) only
+in_step stands m ch (line.Load oid) q old new asks only = absurd cc
+in_step stands m ch (line.Get oid) q old new asks only = absurd cc
+in_step stands m ch (line.Store oid base bytes) q old new asks only = absurd cc
+in_step stands m ch (line.Put oid bytes) q old new asks only = absurd cc
+in_step stands m ch (line.Check oid serial) q old new asks only = absurd cc
+in_step stands m ch line.New q old new asks only = subst (λ (x : Request). LeavesOnly Main (IsListFor stands m x) old new) (same_request q (request.NewOids 1) asks) only
+in_step stands m ch (line.Vote user description) q old new asks only = subst (λ (x : Request). LeavesOnly Main (IsListFor stands m x) old new) (same_request q (request.Vote user description [] (pending_in ch)) asks) only
+in_step stands m ch (line.Undo user description tids) q old new asks only = subst (λ (x : Request). LeavesOnly Main (IsListFor stands m x) old new) (same_request q (request.Undo user description tids) asks) only
+in_step stands m ch line.Finish q old new asks only = subst (λ (x : Request). LeavesOnly Main (IsListFor stands m x) old new) (same_request q request.Finish asks) only
+in_step stands m ch line.Abort q old new asks only = subst (λ (x : Request). LeavesOnly Main (IsListFor stands m x) old new) (same_request q request.Abort asks) only
+in_step stands m ch (line.History oid) q old new asks only = subst (λ (x : Request). LeavesOnly Main (IsListFor stands m x) old new) (same_request q (request.History oid) asks) only
+in_step stands m ch line.UndoLog q old new asks only = subst (λ (x : Request). LeavesOnly Main (IsListFor stands m x) old new) (same_request q request.UndoLog asks) only
+in_step stands m ch line.Close q old new asks only = subst (λ (x : Request). LeavesOnly Main (IsListFor stands m x) old new) (same_request q request.Close asks) only
+
+-- what stands for the list that a line leaves may be seen in it
+in_of : (stands : List ℕ → List Transaction → Type 0) (m : Machine) (l : Line) (list : List Transaction) (bytes : List ℕ) → KeepsOrVoted m list → (is_finish l ≡ false → list ≡ m.list) → stands bytes list → IsListIn stands m l bytes
+in_of stands m line.Finish list bytes keeps quiet left = around_of stands m list bytes keeps left
+in_of stands m _ list bytes keeps quiet left = subst (stands bytes) (quiet refl) left
 
 -- a line, and the closing behind it
-pub turn_moments : (stands : List ℕ → List Transaction → Type 0) (m b : Machine) (old mid new : List Event) → LeavesOnly Main (IsListAround stands m) old mid → KeepsOrVoted m b.list
-    → LeavesOnly Main (λ bytes. stands bytes b.list) mid new → LeavesOnly Main (IsListAround stands m) old new
-turn_moments stands m b old mid new line is closing = joined_moments stands m old mid new line (around_moments stands m b mid new is closing)
+pub turn_moments : (stands : List ℕ → List Transaction → Type 0) (m b : Machine) (l : Line) (old mid new : List Event) → LeavesOnly Main (IsListIn stands m l) old mid → KeepsOrVoted m b.list → (is_finish l ≡ false → b.list ≡ m.list)
+    → LeavesOnly Main (λ bytes. stands bytes b.list) mid new → LeavesOnly Main (IsListIn stands m l) old new
+turn_moments stands m b l old mid new line_only is quiet closing =
+    joined (Leaves Main (IsListIn stands m l)) old mid new line_only (leaves_weaker (λ bytes. stands bytes b.list) (IsListIn stands m l) mid new (λ bytes. in_of stands m l b.list bytes is quiet) closing)

@@ -14,7 +14,7 @@ use Rattle.zb_model.specs.Queries.{end_of, found_as, found_below, found_of}
 use Rattle.zodb_core.specs.declared.reply.Reply.{Reply}
 use Rattle.zodb_core.specs.declared.reply.Reply.TheVariants as reply
 use Rattle.zodb_core.specs.declared.request.Request.TheVariants as request
-use Rattle.zodb_core.specs.HubState.{HasTicked, IsCauseOf, counts_of}
+use Rattle.zodb_core.specs.HubState.{HasTicked, counts_of}
 use Rattle.zodb_core.specs.Machine.{Machine, Rules, is_open_in, switches_of}
 use Rattle.zodb_core.specs.Outcomes.{Answered, EndsFor, FaultCounts, NoMemory, ReadingFailed, StepOutcome, StoreFailed, machine_left, outcome_of, outcome_of_refusal}
 use Rattle.zodb_core.specs.Steps.{Stepped, loaded, refuse_if, replied, step_of, unless_early}
@@ -23,6 +23,7 @@ use Rattle.client_turns.specs.declared.client.Work.{Work}
 use Rattle.client_turns.specs.declared.got.Got.{Got}
 use Rattle.client_turns.specs.Clients.{Moment, OpenTransaction}
 use Rattle.client_turns.specs.Clients as clients
+use Rattle.client_turns.specs.Lines.{IsCountedBy, outcome_of_read}
 use Rattle.client_turns.specs.Reads.{EndsReading, Reads, got_as, got_of}
 use Rattle.client_turns.specs.Standing.{ClientsState, IsReadIn, IsReadOf, IsWorkOf, IsWorkOfIfSome, LeadsTo, MayReadAt, Shows, StandsForMoment, reply_read}
 use Rattle.client_turns.specs.Turns.{IsReadAt, IsStepAt}
@@ -207,12 +208,19 @@ moment_is m now machine others stamps =
     ∙ ap (λ (x : List clients.Client). let n : Moment = record { machine = m.machine; clients = x; stamps = now.stamps; counts = now.counts } in n) others
     ∙ ap (λ (x : Option (List Stamp)). let n : Moment = record { machine = m.machine; clients = m.clients; stamps = x; counts = now.counts } in n) stamps
 
+read_outcome : (r : Reply) (switches : ℕ) → outcome_of_read (reply_read r switches) ≡ outcome_of r
+read_outcome (reply.Loaded serial bytes end upto) switches = refl
+read_outcome (reply.Nothing oid packed) switches = refl
+read_outcome (reply.Refused why) switches = refl
+read_outcome _ switches = refl
+
 -- a load in an open session is a read in a view that the list still shows
 step_reads : (rules : Rules) (m : Moment) (n oid : ℕ) (v : View) (r : Reply) (now : Moment) → Shows m.machine v → is_open_in m.machine.sessions n ≡ true
     → (outcome_of r ≡ NoMemory → now.counts ≡ m.counts) → IsStepAt rules m n (request.LoadBefore oid v.front) r now → IsReadAt m v oid (reply_read r v.switches) now
 step_reads rules m n oid v r now shows is_open calm step = record {
   later = step.made.later;
   ends = reply_ends rules m n oid step.stamp v (record { reply = r; machine = now.machine; ticks = step.ticks }) now.counts shows is_open r refl calm step.made.cause;
+  counts = subst (λ (o : StepOutcome). IsCountedBy m.counts now.counts o) (sym (read_outcome r v.switches)) step.counts;
   rest = moment_is m now
       (step.made.left ∙ load_left rules m.machine n oid v.front step.stamp (record { reply = r; machine = now.machine; ticks = step.ticks }) m.counts now.counts (outcome_of r) is_open step.made.cause)
       step.clients
@@ -232,7 +240,7 @@ never_without m at old before stands may tells =
     no_work m.machine k.kept.transaction may.0.transaction (sym (tells k.kept k.there)) may.3 k.is.transaction
 
 -- where memory ran out no count has moved
-pub calm_of : (before now : FaultCounts) (o : StepOutcome) → IsCauseOf before now o → o ≡ NoMemory → now ≡ before
+pub calm_of : (before now : FaultCounts) (o : StepOutcome) → IsCountedBy before now o → o ≡ NoMemory → now ≡ before
 calm_of before now NoMemory cause is = cause
 calm_of before now Answered cause is = absurd cc
 calm_of before now ReadingFailed cause is = absurd cc

@@ -10,6 +10,7 @@ use Rattle.client_turns.specs.declared.client.Client.{Client}
 use Rattle.client_turns.specs.declared.client.Work.{Work}
 use Rattle.client_turns.specs.Clients.{Moment, OpenTransaction, first_moment}
 use Rattle.client_turns.specs.Clients as clients
+use Rattle.client_turns.specs.Lines.{IsCountedBy}
 use Rattle.client_turns.specs.Standing.{AreClientsOf, ClientsState, IsLater, IsWorkOfIfSome, LeadsTo, StandsForMoment}
 use Rattle.client_turns.specs.Turns.{IsStepAt, IsTold}
 use Rattle.client_turns.proofs.Growing.{left_later, shows_later}
@@ -44,8 +45,8 @@ first_stands seen list left none stands = record {
 -- ---- a step
 
 pub step_leads : {R F : Type 0} (rules : Rules) (m : Moment) (n : ℕ) (q : Request) (r : Reply) (old new : ClientsState R F) (before after : Option (List Stamp))
-    → StandsForMoment old before m → MakesStep rules m.machine n q r old.hub new.hub before after → new.clients ≡ old.clients → LeadsTo (IsStepAt rules m n q r) new after
-step_leads rules m n q r old new before after stands made same =
+    → StandsForMoment old before m → MakesStep rules m.machine n q r old.hub new.hub before after → IsCountedBy (counts_of old.hub.store) (counts_of new.hub.store) (outcome_of r) → new.clients ≡ old.clients → LeadsTo (IsStepAt rules m n q r) new after
+step_leads rules m n q r old new before after stands made cause same =
     let later : IsLater m.machine made.left =
     subst (IsLater m.machine) (sym made.made.left) (left_later rules m.machine n q made.stamp (outcome_of r) stands.vote) in
     record {
@@ -54,6 +55,7 @@ step_leads rules m n q r old new before after stands made same =
         stamp = made.stamp;
         ticks = made.ticks;
         made = subst (λ (c : FaultCounts). IsStepMade rules m.machine n q made.stamp (record { reply = r; machine = made.left; ticks = made.ticks }) c (counts_of new.hub.store)) (sym stands.counts) made.made;
+        counts = subst (λ (k : FaultCounts). IsCountedBy k (counts_of new.hub.store) (outcome_of r)) (sym stands.counts) cause;
         clock = subst (λ (s : Option (List Stamp)). HasTicked made.ticks made.stamp s after) (sym stands.stamps) made.clock;
         clients = refl;
       };
@@ -73,9 +75,10 @@ untold rules m n true seen left is stands = absurd cc
 
 -- the same of a hub that is seen as this
 pub step_seen : {R F : Type 0} (rules : HubState R F → Rules) (m : Moment) (n : ℕ) (q : Request) (r : Reply) (old new : ClientsState R F) (hub : HubState R F) (before after : Option (List Stamp))
-    → old.hub ≡ hub → StandsForMoment old before m → (StandsForMachine hub m.machine → MakesStep (rules hub) m.machine n q r hub new.hub before after) → new.clients ≡ old.clients
+    → old.hub ≡ hub → StandsForMoment old before m → (StandsForMachine hub m.machine → MakesStep (rules hub) m.machine n q r hub new.hub before after) → IsCountedBy (counts_of hub.store) (counts_of new.hub.store) (outcome_of r)
+    → new.clients ≡ old.clients
     → LeadsTo (IsStepAt (rules old.hub) m n q r) new after
-step_seen {R} {F} rules m n q r old new hub before after seen stands made same =
+step_seen {R} {F} rules m n q r old new hub before after seen stands made cause same =
     let step : StandsForMachine old.hub m.machine → MakesStep (rules old.hub) m.machine n q r old.hub new.hub before after =
     subst (λ (h : HubState R F). StandsForMachine h m.machine → MakesStep (rules h) m.machine n q r h new.hub before after) (sym seen) made in
-    step_leads (rules old.hub) m n q r old new before after stands (step stands.hub) same
+    step_leads (rules old.hub) m n q r old new before after stands (step stands.hub) (subst (λ (h : HubState R F). IsCountedBy (counts_of h.store) (counts_of new.hub.store) (outcome_of r)) (sym seen) cause) same

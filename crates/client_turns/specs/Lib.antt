@@ -8,3 +8,4 @@ pub mod Turns
 pub mod Output
 pub mod Standing
 pub mod TurnLaws
+pub mod CountLaws

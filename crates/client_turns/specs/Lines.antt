@@ -1,6 +1,7 @@
 -- What a line asks of the machine, and what it is answered and leaves. Source: connections and transactions of ZODB.
-use Rattle.std.specs.Prelude.{ℕ, List, [], ◌∷◌, ◌++◌, Option, Some, None, Result, Ok, Err, Bool, true, false}
+use Rattle.std.specs.Prelude.{◌≡◌, ℕ, List, [], ◌∷◌, ◌++◌, Option, Some, None, Result, Ok, Err, Bool, true, false}
 use Rattle.std.specs.Option.{option_map, option_map_or}
+use Rattle.zb_base.specs.Counts.{Rose}
 use Rattle.zb_model.specs.declared.refusal.Refusal.{Refusal}
 use Rattle.zb_model.specs.declared.refusal.Refusal.TheVariants as refusal
 use Rattle.zb_model.specs.declared.pending.PendingStore.{PendingStore}
@@ -15,6 +16,7 @@ use Rattle.zodb_core.specs.declared.reply.Reply.TheVariants as reply
 use Rattle.zodb_core.specs.declared.request.Request.{Request}
 use Rattle.zodb_core.specs.declared.request.Request.TheVariants as request
 use Rattle.zodb_core.specs.Machine.{Machine}
+use Rattle.zodb_core.specs.Outcomes.{Answered, FaultCounts, NoMemory, ReadingFailed, StepOutcome, StoreFailed, outcome_of_refusal}
 use Rattle.client_turns.specs.declared.client.Changes.{Changes}
 use Rattle.client_turns.specs.declared.errors.TurnError.{TurnError}
 use Rattle.client_turns.specs.declared.errors.TurnError.TheVariants as error
@@ -40,6 +42,11 @@ request_of changes (line.History oid) = Some (request.History oid)
 request_of changes line.UndoLog = Some request.UndoLog
 request_of changes line.Close = Some request.Close
 request_of changes _ = None
+
+-- the line that appends what is voted
+abbrev pub is_finish : Line → Bool
+is_finish line.Finish = true
+is_finish _ = false
 
 -- what the line is answered; none of them asks for a load
 abbrev pub answer_of : Reply → Answer
@@ -88,6 +95,35 @@ end_in _ = None
 abbrev pub end_of : Answer → Option TurnError
 end_of (answer.Refused why) = end_in why
 end_of _ = None
+
+-- what a step did to the counts of faults, by how it ended: a count rose where something failed, and no other has moved; where the store failed, that of failed
+-- reads may have risen too
+abbrev pub IsCountedBy : FaultCounts → FaultCounts → StepOutcome → Type 0
+IsCountedBy before now ReadingFailed = Rose before.reads now.reads × (now.others ≡ before.others)
+IsCountedBy before now StoreFailed = Rose before.others now.others
+IsCountedBy before now _ = now ≡ before
+
+-- how a read ended, and a line, as it says: with an answer, or since something failed
+abbrev pub outcome_of_read : Result Got Refusal → StepOutcome
+outcome_of_read (Ok got) = Answered
+outcome_of_read (Err why) = outcome_of_refusal why
+
+abbrev pub outcome_of_answer : Answer → StepOutcome
+outcome_of_answer (answer.Refused why) = outcome_of_refusal why
+outcome_of_answer _ = Answered
+
+abbrev pub outcome_of_error : TurnError → StepOutcome
+outcome_of_error error.Memory = NoMemory
+outcome_of_error error.StoreFault = StoreFailed
+
+-- how a turn ended, and the closing behind it, which may end the run
+abbrev pub outcome_of_turn : Result Answer TurnError → StepOutcome
+outcome_of_turn (Ok a) = outcome_of_answer a
+outcome_of_turn (Err why) = outcome_of_error why
+
+abbrev pub outcome_of_end : Option TurnError → StepOutcome
+outcome_of_end None = Answered
+outcome_of_end (Some why) = outcome_of_error why
 
 -- ---- lines that the client answers by itself
 

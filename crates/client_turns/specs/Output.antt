@@ -1,7 +1,9 @@
 -- What scripts are answered. Own.
 use Rattle.std.specs.Prelude.{◌≡◌, ℕ, List, [], ◌∷◌, ◌++◌, Ok, Bool, true, false, not, bytes_eq}
 use Rattle.std.specs.List.{list_any}
+use Rattle.zb_model.specs.declared.refusal.Refusal.TheVariants as refusal
 use Rattle.zb_script.specs.declared.answer.Answer.{Answer}
+use Rattle.zb_script.specs.declared.answer.Answer.TheVariants as answer
 use Rattle.zb_script.specs.declared.line.Turn.{Turn}
 use Rattle.zodb_core.specs.Machine.{Rules}
 use Rattle.client_turns.specs.declared.errors.TurnError.{TurnError}
@@ -33,6 +35,15 @@ has name names = list_any (λ n. bytes_eq n name) names
 abbrev pub with_name : List (List ℕ) → List ℕ → Bool → List (List ℕ)
 with_name names name true = names ++ name ∷ []
 with_name names name false = names
+
+-- an answer says that reading failed
+abbrev pub is_read_fault : Answer → Bool
+is_read_fault (answer.Refused refusal.ReadFault) = true
+is_read_fault _ = false
+
+-- and so does one of these
+abbrev pub has_read_fault : List TurnAnswer → Bool
+has_read_fault answers = list_any (λ o. is_read_fault o.answer) answers
 
 -- The turns are answered so, one after another, and lead from one moment to another; `later` are the turns behind them, which aren't taken yet. So it
 -- speaks of all turns of a script, or of a front of them.

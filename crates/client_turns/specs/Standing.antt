@@ -11,15 +11,16 @@ use Rattle.zb_model.specs.Database.{newest_tid}
 use Rattle.zb_script.specs.declared.answer.Answer.{Answer}
 use Rattle.zb_script.specs.declared.answer.Answer.TheVariants as answer
 use Rattle.zb_script.specs.declared.line.Line.{Line}
+use Rattle.zb_script.specs.declared.line.Line.TheVariants as line
 use Rattle.zodb_core.specs.declared.reply.Reply.{Reply}
 use Rattle.zodb_core.specs.declared.reply.Reply.TheVariants as reply
 use Rattle.zodb_core.specs.declared.request.Request.{Request}
 use Rattle.zodb_core.specs.declared.request.Request.TheVariants as request
 use Rattle.zodb_core.specs.declared.session.Session.{Session}
 use Rattle.zodb_core.specs.Steps.{refuse_if}
-use Rattle.zodb_core.specs.HubState.{HubState, IsCauseOf, StandsForMachine, counts_of, is_store_failed}
+use Rattle.zodb_core.specs.HubState.{HubState, StandsForMachine, counts_of, is_store_failed}
 use Rattle.zodb_core.specs.Machine.{Machine, MachineVote, Rules, front_of, is_open_in, switches_of}
-use Rattle.zodb_core.specs.Outcomes.{AreLaterCounts, FaultCounts, outcome_of}
+use Rattle.zodb_core.specs.Outcomes.{Answered, AreLaterCounts, FaultCounts, outcome_of, outcome_of_refusal}
 use Rattle.client_turns.specs.declared.client.Changes.{Changes}
 use Rattle.client_turns.specs.declared.client.Client.{Client}
 use Rattle.client_turns.specs.declared.client.Work.{Work}
@@ -27,7 +28,7 @@ use Rattle.client_turns.specs.declared.errors.TurnError.{TurnError}
 use Rattle.client_turns.specs.declared.got.Got.{Got}
 use Rattle.client_turns.specs.Clients.{Moment, OpenTransaction, no_changes, place_of_client}
 use Rattle.client_turns.specs.Clients as clients
-use Rattle.client_turns.specs.Lines.{Changed, answer_of, end_of}
+use Rattle.client_turns.specs.Lines.{Changed, IsCountedBy, answer_of, end_of, outcome_of_answer, outcome_of_read}
 use Rattle.client_turns.specs.Refusing.{line_refusal}
 use Rattle.client_turns.specs.Reads.{held_below}
 use Rattle.client_turns.specs.Turns.{IsClosingAt, IsOwnLine, IsReadAt, IsStepLine}
@@ -163,19 +164,18 @@ refusal_kept sessions x l = option_or (refuse_if (not (is_open_in sessions x.ses
 
 -- ---- what holds whatever the store tells
 
--- the reply says that the store failed, or that reading failed, only where that count rose; neither count has fallen, and rules and references stay
+-- The counts are as the reply says: a count rose where something failed, and no other has moved, but where the store failed. Rules and references stay.
 pub record MakesSafely {R F : Type 0} (r : Reply) (old new : HubState R F) : Type 0 where
   pub resolver : new.resolver ≡ old.resolver
   pub refs : new.refs ≡ old.refs
   pub later : AreLaterCounts (counts_of old.store) (counts_of new.store)
-  pub cause : IsCauseOf (counts_of old.store) (counts_of new.store) (outcome_of r)
+  pub cause : IsCountedBy (counts_of old.store) (counts_of new.store) (outcome_of r)
   pub broken : old.store.broken ≡ false → new.store.broken ≡ is_store_failed (outcome_of r)
 
--- an answer that says that the store failed, or that reading failed, comes only where that count rose
+-- an answer that says that the store failed, or that reading failed, comes only where that count rose, and any other, want of memory too, only where neither has
+-- moved
 abbrev pub HasTurnCause : FaultCounts → FaultCounts → Answer → Type 0
-HasTurnCause before now (answer.Refused refusal.StoreFault) = Rose before.others now.others
-HasTurnCause before now (answer.Refused refusal.ReadFault) = Rose before.reads now.reads
-HasTurnCause before now a = Unit {0}
+HasTurnCause before now a = IsCountedBy before now (outcome_of_answer a)
 
 -- a read that found the object, or found it missing
 abbrev pub found_or_missing : Result Got Refusal → Bool
@@ -196,11 +196,9 @@ IsReadOf m at oid result now = (c : clients.Client) × (slice_get m.clients at �
 abbrev pub MayReadAt : Moment → ℕ → Type 0
 MayReadAt m at = (c : clients.Client) × (slice_get m.clients at ≡ Some c) × (is_open_in m.machine.sessions c.session ≡ true) × IsSome c.transaction
 
--- a read that says that reading failed, or that the store did, comes only where that count rose
+-- and so of a read
 abbrev pub HasReadCause : FaultCounts → FaultCounts → Result Got Refusal → Type 0
-HasReadCause before now (Err refusal.StoreFault) = Rose before.others now.others
-HasReadCause before now (Err refusal.ReadFault) = Rose before.reads now.reads
-HasReadCause before now result = Unit {0}
+HasReadCause before now result = IsCountedBy before now (outcome_of_read result)
 
 -- ---- what a crash leaves
 
@@ -213,13 +211,21 @@ IsVotedBehind stands list (Some v) bytes = IsSomeAnd v.writes (λ t. stands byte
 abbrev pub IsListAround : (List ℕ → List Transaction → Type 0) → Machine → List ℕ → Type 0
 IsListAround stands m bytes = stands bytes m.list ⊎ IsVotedBehind stands m.list m.vote bytes
 
+-- In a step bytes stand for the machine's list; where it is a finish, they may stand for that with what is voted behind it.
+abbrev pub IsListFor : (List ℕ → List Transaction → Type 0) → Machine → Request → List ℕ → Type 0
+IsListFor stands m request.Finish = IsListAround stands m
+IsListFor stands m _ = λ bytes. stands bytes m.list
+
+-- In a line bytes stand for the machine's list; where it is `finish`, they may stand for that with what is voted behind it.
+abbrev pub IsListIn : (List ℕ → List Transaction → Type 0) → Machine → Line → List ℕ → Type 0
+IsListIn stands m line.Finish = IsListAround stands m
+IsListIn stands m _ = λ bytes. stands bytes m.list
+
 -- a refusal that says nothing of a fault
 abbrev pub IsQuiet : Refusal → Type 0
-IsQuiet why = (before now : FaultCounts) → HasTurnCause before now (answer.Refused why)
+IsQuiet why = outcome_of_refusal why ≡ Answered
 
--- a request that a client makes beside its lines, behind which the list is as it was
+-- a request behind which the list is as it was: any but a finish
 abbrev pub keeps_list : Request → Bool
-keeps_list request.Front = true
-keeps_list (request.LoadBefore oid front) = true
-keeps_list request.Close = true
-keeps_list _ = false
+keeps_list request.Finish = false
+keeps_list _ = true

@@ -1,8 +1,11 @@
 -- What turns leave of the list, and that it stays whole. For the proofs of those who follow turns.
-use Rattle.std.proofs.Common.{◌≡◌, ℕ, Bool, true, false, List, [], ◌∷◌, ◌++◌, length, Option, Some, None, if◌then◌else◌, nat_lt, refl, sym, ap, subst, ◌∙◌}
+use Rattle.std.proofs.Common.{◌≡◌, ℕ, ◌+◌, ◌-◌, ◌^◌, Bool, true, false, cond, List, [], ◌∷◌, ◌++◌, length, Option, Some, None, Result, Ok, Err, if◌then◌else◌, nat_lt, refl, sym, ap, subst, ◌∙◌}
+use Rattle.zb_ids.specs.Tids.{tid_after}
+use Rattle.zb_model.specs.declared.data.Change.{Change}
 use Rattle.zb_model.specs.declared.data.Transaction.{Transaction}
 use Rattle.zb_model.specs.declared.pending.PendingStore.{PendingStore}
 use Rattle.zb_model.specs.declared.refusal.Refusal.{Refusal}
+use Rattle.zb_model.specs.Database.{newest_tid}
 use Rattle.zb_script.specs.declared.answer.Answer.{Answer}
 use Rattle.zb_script.specs.declared.answer.Answer.TheVariants as answer
 use Rattle.zb_script.specs.declared.line.Line.{Line}
@@ -13,15 +16,19 @@ use Rattle.zodb_core.specs.declared.reply.Reply.{Reply}
 use Rattle.zodb_core.specs.declared.reply.Reply.TheVariants as reply
 use Rattle.zb_model.specs.declared.refusal.Refusal.TheVariants as refusal
 use Rattle.zodb_core.specs.declared.request.Request.{Request}
+use Rattle.zodb_core.specs.declared.texts.Texts.{Texts}
 use Rattle.zodb_core.specs.declared.request.Request.TheVariants as request
 use Rattle.zodb_core.specs.Machine.{Machine, MachineVote, Rules, with_session}
 use Rattle.zodb_core.specs.Outcomes.{Answered, EndsFor, FaultCounts, NoMemory, ReadingFailed, StepOutcome, StoreFailed, machine_left, outcome_of, outcome_of_refusal}
 use Rattle.zodb_core.specs.Sound.{IsDistinctRequest}
 use Rattle.zodb_core.specs.StepCases.{StepCases, by_step}
-use Rattle.zodb_core.specs.Steps.{Stepped, early_refusal, request_step, step_of, unless_early}
+use Rattle.zodb_core.specs.Steps.{Stepped, changes_in_journal, early_refusal, journal_limit, replied_refusal, request_step, step_of, transaction_with, unless_early, vote_at, vote_step, with_vote}
 use Rattle.client_turns.specs.Clients.{Client, Moment, OpenTransaction, changes_of, place_of_client}
-use Rattle.client_turns.specs.Lines.{answer_of, end_of, is_committed, request_of}
+use Rattle.client_turns.specs.declared.client.Changes.{Changes}
+use Rattle.client_turns.specs.declared.errors.TurnError.TheVariants as error
+use Rattle.client_turns.specs.Lines.{answer_of, end_in, end_of, is_committed, is_finish, pending_in, request_of}
 use Rattle.client_turns.specs.Refusing.{connection_refusal}
+use Rattle.client_turns.specs.Standing.{keeps_list}
 use Rattle.client_turns.specs.Turns.{IsAnswered, IsClosed, IsClosing, IsGet, IsLine, IsLineOf, IsLineTaken, IsLineUnless, IsOpening, IsOwnLine, IsPut, IsStepAt, IsStepLine, IsTold, IsWithin, Opening}
 use Rattle.client_turns.specs.Views.{View}
 
@@ -166,7 +173,7 @@ refused_fine (refusal.Connected a0) ends is = absurd cc
 refused_fine refusal.StepsSpent ends is = absurd cc
 refused_fine refusal.Memory ends is = absurd cc
 
-reply_fine : (r : Reply) → end_of (answer_of r) ≡ None → outcome_of r ≡ StoreFailed → ⊥
+pub reply_fine : (r : Reply) → end_of (answer_of r) ≡ None → outcome_of r ≡ StoreFailed → ⊥
 reply_fine (reply.Refused why) ends is = refused_fine why ends is
 reply_fine (reply.Front front news switches) ends is = absurd cc
 reply_fine (reply.Loaded serial bytes end upto) ends is = absurd cc
@@ -179,6 +186,17 @@ reply_fine reply.Aborted ends is = absurd cc
 reply_fine (reply.History list) ends is = absurd cc
 reply_fine (reply.UndoLog list) ends is = absurd cc
 reply_fine reply.Closed ends is = absurd cc
+
+starved_in : (why : Refusal) → end_in why ≡ Some error.Memory → outcome_of_refusal why ≡ NoMemory
+starved_in refusal.Memory is = refl
+starved_in refusal.StoreFault is = absurd cc
+starved_in _ is = absurd cc
+
+-- a reply ends the run for want of memory only where it says so
+pub starved_so : (r : Reply) → end_of (answer_of r) ≡ Some error.Memory → outcome_of r ≡ NoMemory
+starved_so (reply.Refused why) is = starved_in why is
+starved_so (reply.Nothing oid switches) is = absurd cc
+starved_so _ is = absurd cc
 
 -- ---- a line
 
@@ -295,3 +313,84 @@ turn_whole rules m now t last a is =
     let line : LeavesWhole m is.behind a = line_whole rules m is.behind t.client t.line a is.line in
     let closing : (now.machine.list ≡ is.behind.machine.list) × (now.machine.failed ≡ is.behind.machine.failed) = closing_whole rules is.behind now t.client last is.closing in
     record { list = subst (KeepsOrVoted m.machine) (sym closing.0) line.list; whole = λ ends whole. closing.1 ∙ line.whole ends whole }
+
+-- ---- a line that is no finish keeps the list
+
+at_kept : (m : Machine) (n : ℕ) (texts : Texts) (changes : List Change) (tid : ℕ) (b : Bool)
+    → (cond {A = Stepped} b (record { reply = reply.Voted; machine = with_vote m n (Some (transaction_with tid texts changes)); ticks = true }) (record { reply = reply.Refused refusal.TidsSpent; machine = m; ticks = true })).machine.list ≡ m.list
+at_kept m n texts changes tid true = refl
+at_kept m n texts changes tid false = refl
+
+counted_kept : (m : Machine) (n : ℕ) (texts : Texts) (changes : List Change) (tid count : ℕ) (b : Bool) → (cond {A = Stepped} b (replied_refusal m (refusal.JournalFull count)) (vote_at m n texts changes tid)).machine.list ≡ m.list
+counted_kept m n texts changes tid count true = refl
+counted_kept m n texts changes tid count false = at_kept m n texts changes tid (nat_lt tid (2 ^ 64 - 1))
+
+vote_kept : (m : Machine) (n : ℕ) (texts : Texts) (stamp : ℕ) (decided : Result (List Change) Refusal) → (vote_step m n texts stamp decided).machine.list ≡ m.list
+vote_kept m n texts stamp (Err r) = refl
+vote_kept m n texts stamp (Ok []) = refl
+vote_kept m n texts stamp (Ok (c ∷ changes)) =
+    counted_kept m n texts (c ∷ changes) (tid_after (newest_tid m.list) stamp) (changes_in_journal m.journal + length (c ∷ changes)) (nat_lt journal_limit (changes_in_journal m.journal + length (c ∷ changes)))
+
+request_kept : (rules : Rules) (m : Machine) (n : ℕ) (q : Request) (stamp : ℕ) → keeps_list q ≡ true → (request_step rules m n q stamp).machine.list ≡ m.list
+request_kept rules m n request.Front stamp quiet = refl
+request_kept rules m n (request.LoadBefore oid front) stamp quiet = refl
+request_kept rules m n (request.NewOids count) stamp quiet = refl
+request_kept rules m n (request.Vote user description extension pending) stamp quiet =
+    vote_kept m n (record { user = user; description = description; extension = extension }) stamp _
+request_kept rules m n (request.Undo user description tids) stamp quiet =
+    vote_kept m n (record { user = user; description = description; extension = [] }) stamp _
+request_kept rules m n request.Finish stamp quiet = absurd cc
+request_kept rules m n request.Abort stamp quiet = refl
+request_kept rules m n (request.History oid) stamp quiet = refl
+request_kept rules m n request.UndoLog stamp quiet = refl
+request_kept rules m n request.Close stamp quiet = refl
+
+pub quiet_list : (rules : Rules) (m : Machine) (n : ℕ) (q : Request) (stamp : ℕ) → keeps_list q ≡ true → (step_of rules m n q stamp).machine.list ≡ m.list
+quiet_list rules m n q stamp quiet = early_same (early_refusal m n q) m (request_step rules m n q stamp) (request_kept rules m n q stamp quiet)
+
+left_quiet : (rules : Rules) (m : Machine) (n : ℕ) (q : Request) (stamp : ℕ) (o : StepOutcome) → keeps_list q ≡ true → (machine_left rules m n q stamp o).list ≡ m.list
+left_quiet rules m n q stamp Answered quiet = quiet_list rules m n q stamp quiet
+left_quiet rules m n q stamp ReadingFailed quiet = refl
+left_quiet rules m n q stamp NoMemory quiet = refl
+left_quiet rules m n q stamp StoreFailed quiet = refl
+
+pub step_at_quiet : (rules : Rules) (m : Moment) (n : ℕ) (q : Request) (r : Reply) (now : Moment) → keeps_list q ≡ true → IsStepAt rules m n q r now → now.machine.list ≡ m.machine.list
+step_at_quiet rules m n q r now quiet step = ap (λ (x : Machine). x.list) step.made.left ∙ left_quiet rules m.machine n q step.stamp (outcome_of r) quiet
+
+pub same_request : (a b : Request) → Some a ≡ Some b → a ≡ b
+same_request a b e = cc
+
+asked_quiet : (ch : Option Changes) (l : Line) (q : Request) → request_of ch l ≡ Some q → is_finish l ≡ false → keeps_list q ≡ true
+asked_quiet ch line.Open q asks fine = absurd cc
+asked_quiet ch line.Begin q asks fine = subst (λ (x : Request). keeps_list x ≡ true) (same_request request.Front q asks) refl
+asked_quiet ch (line.Load oid) q asks fine = absurd cc
+asked_quiet ch (line.Get oid) q asks fine = absurd cc
+asked_quiet ch (line.Store oid base bytes) q asks fine = absurd cc
+asked_quiet ch (line.Put oid bytes) q asks fine = absurd cc
+asked_quiet ch (line.Check oid serial) q asks fine = absurd cc
+asked_quiet ch line.New q asks fine = subst (λ (x : Request). keeps_list x ≡ true) (same_request (request.NewOids 1) q asks) refl
+asked_quiet ch (line.Vote user description) q asks fine = subst (λ (x : Request). keeps_list x ≡ true) (same_request (request.Vote user description [] (pending_in ch)) q asks) refl
+asked_quiet ch (line.Undo user description tids) q asks fine = subst (λ (x : Request). keeps_list x ≡ true) (same_request (request.Undo user description tids) q asks) refl
+asked_quiet ch line.Finish q asks fine = absurd cc
+asked_quiet ch line.Abort q asks fine = subst (λ (x : Request). keeps_list x ≡ true) (same_request request.Abort q asks) refl
+asked_quiet ch (line.History oid) q asks fine = subst (λ (x : Request). keeps_list x ≡ true) (same_request (request.History oid) q asks) refl
+asked_quiet ch line.UndoLog q asks fine = subst (λ (x : Request). keeps_list x ≡ true) (same_request request.UndoLog q asks) refl
+asked_quiet ch line.Close q asks fine = subst (λ (x : Request). keeps_list x ≡ true) (same_request request.Close q asks) refl
+
+taken_quiet : (rules : Rules) (m now : Moment) (at : ℕ) (c : Client) (l : Line) (q : Option Request) (a : Answer) → request_of (changes_of c) l ≡ q → is_finish l ≡ false → IsLineTaken rules m at c l q a now → now.machine.list ≡ m.machine.list
+taken_quiet rules m now at c l (Some q) a asks fine is =
+    ap (λ (x : Moment). x.machine.list) is.left ∙ told_list rules is.behind is.told c.session (is_committed is.reply) is.front ∙ step_at_quiet rules m c.session q is.reply is.behind (asked_quiet (changes_of c) l q asks fine) is.step
+taken_quiet rules m now at c l None a asks fine is = ap (λ (x : Machine). x.list) (own_same m now at c c.transaction l a is)
+
+unless_quiet : (rules : Rules) (m now : Moment) (at : ℕ) (c : Client) (l : Line) (r : Option Refusal) (a : Answer) → is_finish l ≡ false → IsLineUnless rules m at c l r a now → now.machine.list ≡ m.machine.list
+unless_quiet rules m now at c l (Some why) a fine is = ap (λ (x : Moment). x.machine.list) is.1
+unless_quiet rules m now at c l None a fine is = taken_quiet rules m now at c l (request_of (changes_of c) l) a refl fine is
+
+line_of_quiet : (rules : Rules) (m now : Moment) (at : Option ℕ) (l : Line) (a : Answer) → is_finish l ≡ false → IsLineOf rules m at l a now → now.machine.list ≡ m.machine.list
+line_of_quiet rules m now None l a fine is = ap (λ (x : Moment). x.machine.list) is.1
+line_of_quiet rules m now (Some at) l a fine is = unless_quiet rules m now at is.0 l (connection_refusal m.machine is.0 l) a fine is.2
+
+pub line_quiet : (rules : Rules) (m now : Moment) (name : List ℕ) (l : Line) (a : Answer) → IsLine rules m name l a now → is_finish l ≡ false → now.machine.list ≡ m.machine.list
+line_quiet rules m now name l a is =
+    by_name rules m now name l a (is_finish l ≡ false → now.machine.list ≡ m.machine.list)
+    (λ opens fine. ap (λ (o : Opening). o.moment.machine.list) opens ∙ opened_list m name (nat_lt (length m.machine.sessions) 64)) (λ named fine. line_of_quiet rules m now (place_of_client name m.clients) l a fine named) is

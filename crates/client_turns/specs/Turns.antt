@@ -13,31 +13,34 @@ use Rattle.zodb_core.specs.declared.request.Request.{Request}
 use Rattle.zodb_core.specs.declared.request.Request.TheVariants as request
 use Rattle.zodb_core.specs.HubState.{HasTicked}
 use Rattle.zodb_core.specs.Machine.{Rules, session_limit, with_session}
-use Rattle.zodb_core.specs.Outcomes.{AreLaterCounts, IsStepMade}
+use Rattle.zodb_core.specs.Outcomes.{AreLaterCounts, IsStepMade, outcome_of}
 use Rattle.client_turns.specs.declared.errors.TurnError.{TurnError}
 use Rattle.client_turns.specs.declared.errors.TurnError.TheVariants as error
 use Rattle.client_turns.specs.declared.got.Got.{Got}
 use Rattle.commit_phases.specs.Pending.{pending_of}
 use Rattle.client_turns.specs.Clients.{Client, Moment, OpenTransaction, changes_of, place_of_client, with_client}
-use Rattle.client_turns.specs.Lines.{Changed, answer_of, checked, client_left, data_of, end_of, is_committed, object_of, object_pending, put, request_of, stored, with_changes}
+use Rattle.client_turns.specs.Lines.{Changed, IsCountedBy, answer_of, checked, client_left, data_of, end_of, is_committed, object_of, object_pending, outcome_of_read, put, request_of, stored, with_changes}
 use Rattle.client_turns.specs.Reads.{EndsReading}
 use Rattle.client_turns.specs.Refusing.{connection_refusal}
 use Rattle.client_turns.specs.Views.{View}
 
 -- ---- steps and reads at a moment
 
--- A step of session n leads from one moment to another. Only the machine, the clock, where it was read, and the counts have changed.
+-- A step of session n leads from one moment to another. Only the machine, the clock, where it was read, and the counts have changed, and these as the reply says: a
+-- count rose where something failed, and else none has moved.
 pub record IsStepAt (rules : Rules) (m : Moment) (n : ℕ) (q : Request) (r : Reply) (now : Moment) : Type 0 where
   pub stamp : ℕ
   pub ticks : Bool
   pub made : IsStepMade rules m.machine n q stamp (record { reply = r; machine = now.machine; ticks = ticks }) m.counts now.counts
+  pub counts : IsCountedBy m.counts now.counts (outcome_of r)
   pub clock : HasTicked ticks stamp m.stamps now.stamps
   pub clients : now.clients ≡ m.clients
 
--- A read of an object in a view leads from one moment to another, where just the counts may have risen.
+-- A read of an object in a view leads from one moment to another, where just the counts may have risen, and that of failed reads alone where it says so.
 pub record IsReadAt (m : Moment) (v : View) (oid : ℕ) (result : Result Got Refusal) (now : Moment) : Type 0 where
   pub later : AreLaterCounts m.counts now.counts
   pub ends : EndsReading m.machine v oid m.counts now.counts result
+  pub counts : IsCountedBy m.counts now.counts (outcome_of_read result)
   pub rest : now ≡ record m { counts = now.counts }
 
 -- a refusal leaves all as it is

@@ -1,9 +1,9 @@
 //! Lines that change what waits for the vote.
 
-ghost use Rattle.std.specs.Prelude.{◌≡◌, ◌<◌, IfOk, OnErr, Some, length, slice_get, true};
-ghost use Rattle.zodb_core.specs.Outcomes.{FaultCounts};
+ghost use Rattle.std.specs.Prelude.{◌≡◌, ◌<◌, IfOk, IsSome, OnErr, Some, length, slice_get, true};
+ghost use Rattle.zodb_core.specs.Outcomes.{Answered, FaultCounts};
 ghost use Rattle.client_turns.specs.declared.client.Client.{Client};
-ghost use Rattle.client_turns.specs.Lines.{checked, put, stored};
+ghost use Rattle.client_turns.specs.Lines.{checked, outcome_of_answer, put, stored};
 ghost use Rattle.client_turns.specs.Standing.{HasReadCause, HasTurnCause, IsChangedAt, IsChangedBy, found_or_missing};
 
 use crate::client::{Changes, Client, Work};
@@ -19,7 +19,7 @@ fn store(changes: &mut Changes, oid: Oid, base: Tid, bytes: Text8) -> Result<Ans
     requires filled { 0 < length bytes }
     ensures stored { IfOk result (λ a. record { answer = a; changes = changes.new }
         ≡ stored changes.old (record { oid = oid; base = base; bytes = bytes })) }
-    ensures quiet { IfOk result (λ a. (before now : FaultCounts) → HasTurnCause before now a) }
+    ensures quiet { IfOk result (λ a. outcome_of_answer a ≡ Answered) }
     ensures err { OnErr result (changes.new ≡ changes.old) }
 {
     match changes.pending.store(oid, base, bytes) {
@@ -31,7 +31,7 @@ fn store(changes: &mut Changes, oid: Oid, base: Tid, bytes: Text8) -> Result<Ans
 
 /// An object's new record waits for the vote: its base is the serial of what was read, or 0 where there
 /// was none.
-#[tactic(auto, using(crate::proofs::Causes::why_cause))]
+#[tactic(auto, using(crate::proofs::Causes::quiet_result))]
 fn put(
     changes: &mut Changes,
     oid: Oid,
@@ -62,7 +62,7 @@ fn put(
 fn check(changes: &mut Changes, oid: Oid, serial: Tid) -> Result<Answer, AllocError>
     ensures checked { IfOk result (λ a. record { answer = a; changes = changes.new }
         ≡ checked changes.old (record { oid = oid; serial = serial })) }
-    ensures quiet { IfOk result (λ a. (before now : FaultCounts) → HasTurnCause before now a) }
+    ensures quiet { IfOk result (λ a. outcome_of_answer a ≡ Answered) }
     ensures err { OnErr result (changes.new ≡ changes.old) }
 {
     changes.pending.check(oid, serial)?;
@@ -79,7 +79,7 @@ fn store_in(
     requires filled { 0 < length bytes }
     ensures changed { IfOk result (λ a. IsChangedBy (λ t. stored t (record { oid = oid; base = base; bytes = bytes }))
         work.old a work.new) }
-    ensures quiet { IfOk result (λ a. (before now : FaultCounts) → HasTurnCause before now a) }
+    ensures quiet { IfOk result (λ a. outcome_of_answer a ≡ Answered) }
     ensures err { OnErr result (work.new ≡ work.old) }
 {
     match work {
@@ -97,7 +97,7 @@ fn put_in(
 ) -> Result<Answer, AllocError>
     requires filled { 0 < length bytes }
     ensures changed { IfOk result (λ a. IsChangedBy (λ t. put t oid bytes read) work.old a work.new) }
-    ensures cause { (before now : FaultCounts) → HasReadCause before now read →
+    ensures cause { IsSome work.old → (before now : FaultCounts) → HasReadCause before now read →
         IfOk result (HasTurnCause before now) }
     ensures failed { OnErr result (found_or_missing read ≡ true) }
     ensures err { OnErr result (work.new ≡ work.old) }
@@ -112,7 +112,7 @@ fn put_in(
 fn check_in(work: &mut Option<Work>, oid: Oid, serial: Tid) -> Result<Answer, AllocError>
     ensures changed { IfOk result (λ a. IsChangedBy (λ t. checked t (record { oid = oid; serial = serial }))
         work.old a work.new) }
-    ensures quiet { IfOk result (λ a. (before now : FaultCounts) → HasTurnCause before now a) }
+    ensures quiet { IfOk result (λ a. outcome_of_answer a ≡ Answered) }
     ensures err { OnErr result (work.new ≡ work.old) }
 {
     match work {
@@ -134,7 +134,7 @@ pub(crate) fn store_at(
     ensures changed { (x : Client) → slice_get clients.old.items at ≡ Some x → IfOk result (λ a.
         IsChangedAt (λ t. stored t (record { oid = oid; base = base; bytes = bytes }))
         clients.old.items at x a clients.new.items) }
-    ensures quiet { IfOk result (λ a. (before now : FaultCounts) → HasTurnCause before now a) }
+    ensures quiet { IfOk result (λ a. outcome_of_answer a ≡ Answered) }
     ensures err { OnErr result (clients.new.items ≡ clients.old.items) }
     ensures kept { length clients.new.items ≡ length clients.old.items }
 {
@@ -154,7 +154,8 @@ pub(crate) fn put_at(
     requires filled { 0 < length bytes }
     ensures changed { (x : Client) → slice_get clients.old.items at ≡ Some x → IfOk result (λ a.
         IsChangedAt (λ t. put t oid bytes read) clients.old.items at x a clients.new.items) }
-    ensures cause { (before now : FaultCounts) → HasReadCause before now read →
+    ensures cause { (x : Client) → slice_get clients.old.items at ≡ Some x → IsSome x.transaction →
+        (before now : FaultCounts) → HasReadCause before now read →
         IfOk result (HasTurnCause before now) }
     ensures failed { OnErr result (found_or_missing read ≡ true) }
     ensures err { OnErr result (clients.new.items ≡ clients.old.items) }
@@ -174,7 +175,7 @@ pub(crate) fn check_at(
     ensures changed { (x : Client) → slice_get clients.old.items at ≡ Some x → IfOk result (λ a.
         IsChangedAt (λ t. checked t (record { oid = oid; serial = serial }))
         clients.old.items at x a clients.new.items) }
-    ensures quiet { IfOk result (λ a. (before now : FaultCounts) → HasTurnCause before now a) }
+    ensures quiet { IfOk result (λ a. outcome_of_answer a ≡ Answered) }
     ensures err { OnErr result (clients.new.items ≡ clients.old.items) }
     ensures kept { length clients.new.items ≡ length clients.old.items }
 {

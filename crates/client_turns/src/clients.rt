@@ -2,10 +2,10 @@
 
 ghost use Rattle.std.specs.Prelude.{◌≡◌, None, Option, List, false, true};
 ghost use Rattle.zb_ids.specs.declared.stamp.Stamp.{Stamp};
-ghost use Rattle.zb_volume.specs.declared.areas.Area.TheVariants.{Main};
-ghost use Rattle.zb_volume.specs.Moments.{Leaves, LeavesOnly};
+ghost use Rattle.zb_volume.specs.declared.areas.Area.TheVariants.{Main, Side};
+ghost use Rattle.zb_volume.specs.Moments.{Leaves, LeavesOnly, StaysAs};
 ghost use Rattle.zodb_core.specs.HubState.{IsFitting, counts_of, rules_of};
-ghost use Rattle.zodb_core.specs.Outcomes.{AreLaterCounts};
+ghost use Rattle.zodb_core.specs.Outcomes.{NoMemory, ReadingFailed, StoreFailed, keeps_store, outcome_of, reads_store, takes_memory};
 ghost use Rattle.client_turns.specs.Clients.{Moment, first_moment};
 ghost use Rattle.client_turns.specs.Standing.{IsListAround, LeadsTo, MakesSafely, StandsForMoment, keeps_list};
 ghost use Rattle.client_turns.specs.Turns.{IsStepAt, IsTold};
@@ -62,7 +62,7 @@ impl<St: Store, R: Resolver, F: Refs> Clients<St, R, F> {
     }
 
     /// A step of a session.
-    #[tactic(auto, using(crate::proofs::Stepping::step_leads))]
+    #[tactic(auto, using(crate::proofs::Stepping::step_leads, crate::proofs::Causes::safe_of))]
     pub(crate) fn step<C: Clock>(
         &mut self,
         alloc: Global,
@@ -80,14 +80,18 @@ impl<St: Store, R: Resolver, F: Refs> Clients<St, R, F> {
         ensures quiet { keeps_list request ≡ true → St.lasts → St.told → self.old.hub.store.broken ≡ false →
             (m : Moment) → StandsForMoment self.old (C.stamps clock.old) m →
             LeavesOnly Main (λ bytes. St.stands bytes m.machine.list) self.old.hub.store.log self.new.hub.store.log }
+        ensures side { St.lasts → StaysAs Side self.old.hub.store.log self.new.hub.store.log }
         ensures safe { MakesSafely result self.old.hub self.new.hub }
+        ensures memory { takes_memory request ≡ false → ¬ (outcome_of result ≡ NoMemory) }
+        ensures unread { reads_store request ≡ false → ¬ (outcome_of result ≡ ReadingFailed) }
+        ensures unwritten { keeps_store request ≡ true → ¬ (outcome_of result ≡ StoreFailed) }
         ensures clients { self.new.clients ≡ self.old.clients }
     {
         self.hub.step(alloc, session, request, clock)
     }
 
     /// Behind a commit a session takes a Front step, whatever that is answered.
-    #[tactic(auto, using(crate::proofs::Stepping::untold))]
+    #[tactic(auto, using(crate::proofs::Stepping::untold, crate::proofs::Causes::calm_step, zb_model::specs::StayLaws::stays_same))]
     pub(crate) fn tell<C: Clock>(
         &mut self,
         alloc: Global,
@@ -102,9 +106,10 @@ impl<St: Store, R: Resolver, F: Refs> Clients<St, R, F> {
         ensures quiet { committed ≡ true → St.lasts → St.told → self.old.hub.store.broken ≡ false →
             (m : Moment) → StandsForMoment self.old (C.stamps clock.old) m →
             LeavesOnly Main (λ bytes. St.stands bytes m.machine.list) self.old.hub.store.log self.new.hub.store.log }
+        ensures side { St.lasts → StaysAs Side self.old.hub.store.log self.new.hub.store.log }
         ensures resolver { self.new.hub.resolver ≡ self.old.hub.resolver }
         ensures refs { self.new.hub.refs ≡ self.old.hub.refs }
-        ensures later { AreLaterCounts (counts_of self.old.hub.store) (counts_of self.new.hub.store) }
+        ensures calm { counts_of self.new.hub.store ≡ counts_of self.old.hub.store }
         ensures clients { self.new.clients ≡ self.old.clients }
     {
         if !committed {

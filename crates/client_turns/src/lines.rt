@@ -1,8 +1,8 @@
 //! Lines that the client answers by itself.
 
-ghost use Rattle.std.specs.Prelude.{◌≡◌, ◌<◌, IfOk, false, length, true};
-ghost use Rattle.zb_volume.specs.declared.areas.Area.TheVariants.{Main};
-ghost use Rattle.zb_volume.specs.Moments.{Leaves, LeavesOnly};
+ghost use Rattle.std.specs.Prelude.{◌≡◌, ◌<◌, IfOk, OnErr, false, length, true};
+ghost use Rattle.zb_volume.specs.declared.areas.Area.TheVariants.{Main, Side};
+ghost use Rattle.zb_volume.specs.Moments.{Leaves, LeavesOnly, StaysAs};
 ghost use Rattle.zodb_core.specs.HubState.{counts_of};
 ghost use Rattle.zodb_core.specs.Outcomes.{AreLaterCounts};
 ghost use Rattle.client_turns.specs.Clients.{Moment};
@@ -22,7 +22,7 @@ use zodb_core::Request;
 
 impl<St: Store, R: Resolver, F: Refs> Clients<St, R, F> {
     /// Reads an object in the view of the client at a place, whose session is open.
-    #[tactic(auto, using(crate::proofs::Causes::calm_read, crate::proofs::Crashes::unmoved))]
+    #[tactic(auto, using(crate::proofs::Causes::calm_read, crate::proofs::Causes::read_cause, crate::proofs::Crashes::unmoved, zb_model::specs::StayLaws::stays_same))]
     fn read<C: Clock>(
         &mut self,
         alloc: Global,
@@ -37,6 +37,7 @@ impl<St: Store, R: Resolver, F: Refs> Clients<St, R, F> {
             (m : Moment) → StandsForMoment self.old (C.stamps clock.old) m →
             Leaves Main (λ bytes. St.stands bytes m.machine.list) self.old.hub.store.log →
             LeavesOnly Main (λ bytes. St.stands bytes m.machine.list) self.old.hub.store.log self.new.hub.store.log }
+        ensures side { St.lasts → StaysAs Side self.old.hub.store.log self.new.hub.store.log }
         ensures resolver { self.new.hub.resolver ≡ self.old.hub.resolver }
         ensures refs { self.new.hub.refs ≡ self.old.hub.refs }
         ensures later { AreLaterCounts (counts_of self.old.hub.store) (counts_of self.new.hub.store) }
@@ -71,17 +72,19 @@ impl<St: Store, R: Resolver, F: Refs> Clients<St, R, F> {
             (m : Moment) → StandsForMoment self.old (C.stamps clock.old) m →
             Leaves Main (λ bytes. St.stands bytes m.machine.list) self.old.hub.store.log →
             LeavesOnly Main (λ bytes. St.stands bytes m.machine.list) self.old.hub.store.log self.new.hub.store.log }
+        ensures side { St.lasts → StaysAs Side self.old.hub.store.log self.new.hub.store.log }
         ensures resolver { self.new.hub.resolver ≡ self.old.hub.resolver }
         ensures refs { self.new.hub.refs ≡ self.old.hub.refs }
         ensures later { AreLaterCounts (counts_of self.old.hub.store) (counts_of self.new.hub.store) }
         ensures cause { IfOk result (HasTurnCause (counts_of self.old.hub.store) (counts_of self.new.hub.store)) }
+        ensures starved { OnErr result (counts_of self.new.hub.store ≡ counts_of self.old.hub.store) }
         ensures kept { length self.new.clients ≡ length self.old.clients }
     {
         Ok(data_of(self.read(alloc, at, oid, clock)))
     }
 
     /// `get`: what waits for the object, or else what a read answers.
-    #[tactic(auto, using(crate::proofs::Causes::object_cause, crate::proofs::Crashes::unmoved))]
+    #[tactic(auto, using(crate::proofs::Causes::object_cause, crate::proofs::Crashes::unmoved, zb_model::specs::StayLaws::stays_same))]
     fn get<C: Clock>(
         &mut self,
         alloc: Global,
@@ -97,10 +100,12 @@ impl<St: Store, R: Resolver, F: Refs> Clients<St, R, F> {
             (m : Moment) → StandsForMoment self.old (C.stamps clock.old) m →
             Leaves Main (λ bytes. St.stands bytes m.machine.list) self.old.hub.store.log →
             LeavesOnly Main (λ bytes. St.stands bytes m.machine.list) self.old.hub.store.log self.new.hub.store.log }
+        ensures side { St.lasts → StaysAs Side self.old.hub.store.log self.new.hub.store.log }
         ensures resolver { self.new.hub.resolver ≡ self.old.hub.resolver }
         ensures refs { self.new.hub.refs ≡ self.old.hub.refs }
         ensures later { AreLaterCounts (counts_of self.old.hub.store) (counts_of self.new.hub.store) }
         ensures cause { IfOk result (HasTurnCause (counts_of self.old.hub.store) (counts_of self.new.hub.store)) }
+        ensures starved { OnErr result (counts_of self.new.hub.store ≡ counts_of self.old.hub.store) }
         ensures kept { length self.new.clients ≡ length self.old.clients }
     {
         let Some(work) = work_at(self.clients.as_slice(), at) else {
@@ -113,7 +118,7 @@ impl<St: Store, R: Resolver, F: Refs> Clients<St, R, F> {
     }
 
     /// `put`: a store that waits keeps its base, else the base is the serial that a read answers.
-    #[tactic(auto, using(crate::proofs::Crashes::unmoved))]
+    #[tactic(auto, using(crate::proofs::Crashes::unmoved, crate::proofs::Causes::quiet_result, zb_model::specs::StayLaws::stays_same))]
     fn put<C: Clock>(
         &mut self,
         alloc: Global,
@@ -131,10 +136,12 @@ impl<St: Store, R: Resolver, F: Refs> Clients<St, R, F> {
             (m : Moment) → StandsForMoment self.old (C.stamps clock.old) m →
             Leaves Main (λ bytes. St.stands bytes m.machine.list) self.old.hub.store.log →
             LeavesOnly Main (λ bytes. St.stands bytes m.machine.list) self.old.hub.store.log self.new.hub.store.log }
+        ensures side { St.lasts → StaysAs Side self.old.hub.store.log self.new.hub.store.log }
         ensures resolver { self.new.hub.resolver ≡ self.old.hub.resolver }
         ensures refs { self.new.hub.refs ≡ self.old.hub.refs }
         ensures later { AreLaterCounts (counts_of self.old.hub.store) (counts_of self.new.hub.store) }
         ensures cause { IfOk result (HasTurnCause (counts_of self.old.hub.store) (counts_of self.new.hub.store)) }
+        ensures starved { OnErr result (counts_of self.new.hub.store ≡ counts_of self.old.hub.store) }
         ensures kept { length self.new.clients ≡ length self.old.clients }
     {
         let Some(work) = work_at(self.clients.as_slice(), at) else {
@@ -148,7 +155,7 @@ impl<St: Store, R: Resolver, F: Refs> Clients<St, R, F> {
     }
 
     /// A line of an open transaction that is no step.
-    #[tactic(auto, using(crate::proofs::Crashes::unmoved))]
+    #[tactic(auto, using(crate::proofs::Crashes::unmoved, crate::proofs::Causes::quiet_result, zb_model::specs::StayLaws::stays_same))]
     pub(crate) fn own_line<C: Clock>(
         &mut self,
         alloc: Global,
@@ -164,10 +171,12 @@ impl<St: Store, R: Resolver, F: Refs> Clients<St, R, F> {
             (m : Moment) → StandsForMoment self.old (C.stamps clock.old) m →
             Leaves Main (λ bytes. St.stands bytes m.machine.list) self.old.hub.store.log →
             LeavesOnly Main (λ bytes. St.stands bytes m.machine.list) self.old.hub.store.log self.new.hub.store.log }
+        ensures side { St.lasts → StaysAs Side self.old.hub.store.log self.new.hub.store.log }
         ensures resolver { self.new.hub.resolver ≡ self.old.hub.resolver }
         ensures refs { self.new.hub.refs ≡ self.old.hub.refs }
         ensures later { AreLaterCounts (counts_of self.old.hub.store) (counts_of self.new.hub.store) }
         ensures cause { IfOk result (HasTurnCause (counts_of self.old.hub.store) (counts_of self.new.hub.store)) }
+        ensures starved { OnErr result (counts_of self.new.hub.store ≡ counts_of self.old.hub.store) }
         ensures kept { length self.new.clients ≡ length self.old.clients }
     {
         match line {

@@ -1,12 +1,12 @@
 //! Lines that are one step of the hub.
 
 ghost use Rattle.std.specs.Prelude.{◌≡◌, ◌<◌, false, length};
-ghost use Rattle.zb_volume.specs.declared.areas.Area.TheVariants.{Main};
-ghost use Rattle.zb_volume.specs.Moments.{LeavesOnly};
+ghost use Rattle.zb_volume.specs.declared.areas.Area.TheVariants.{Main, Side};
+ghost use Rattle.zb_volume.specs.Moments.{LeavesOnly, StaysAs};
 ghost use Rattle.zodb_core.specs.HubState.{IsFitting, counts_of, rules_of};
 ghost use Rattle.zodb_core.specs.Outcomes.{AreLaterCounts};
 ghost use Rattle.client_turns.specs.Clients.{Moment};
-ghost use Rattle.client_turns.specs.Standing.{HasTurnCause, IsListAround, IsStepOf, LeadsTo, StandsForMoment};
+ghost use Rattle.client_turns.specs.Standing.{HasTurnCause, IsListFor, IsStepOf, LeadsTo, StandsForMoment};
 
 use crate::client::session_at;
 use crate::clients::Clients;
@@ -20,6 +20,7 @@ use zodb_core::Request;
 
 impl<St: Store, R: Resolver, F: Refs> Clients<St, R, F> {
     /// A line of the client at a place that is one step, with the Front step behind it where it commits.
+    #[tactic(auto, using(zb_model::specs::StayLaws::stays_then))]
     pub(crate) fn take_step<C: Clock>(
         &mut self,
         alloc: Global,
@@ -34,7 +35,8 @@ impl<St: Store, R: Resolver, F: Refs> Clients<St, R, F> {
             self.new (C.stamps clock.new) }
         ensures any_moment { St.lasts → St.told → self.old.hub.store.broken ≡ false →
             (m : Moment) → StandsForMoment self.old (C.stamps clock.old) m →
-            LeavesOnly Main (IsListAround St.stands m.machine) self.old.hub.store.log self.new.hub.store.log }
+            LeavesOnly Main (IsListFor St.stands m.machine request) self.old.hub.store.log self.new.hub.store.log }
+        ensures side { St.lasts → StaysAs Side self.old.hub.store.log self.new.hub.store.log }
         ensures resolver { self.new.hub.resolver ≡ self.old.hub.resolver }
         ensures refs { self.new.hub.refs ≡ self.old.hub.refs }
         ensures later { AreLaterCounts (counts_of self.old.hub.store) (counts_of self.new.hub.store) }

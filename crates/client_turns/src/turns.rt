@@ -1,16 +1,17 @@
 //! Turns.
 
-ghost use Rattle.std.specs.Prelude.{◌≡◌, ◌<◌, ◌∷◌, ◌++◌, [], List, Option, Some, IfOk, IfSome, IsErrOf, Ok, false, length, slice_get, vec_capacity};
+ghost use Rattle.std.specs.Prelude.{◌≡◌, ◌<◌, ◌∷◌, ◌++◌, [], List, Option, Some, IfOk, IfSome, IsErrOf, None, OnErr, false, length, slice_get, vec_capacity};
 ghost use Rattle.zb_base.specs.Counts.{Rose};
 ghost use Rattle.zb_ids.specs.declared.stamp.Stamp.{Stamp};
-ghost use Rattle.zb_volume.specs.declared.areas.Area.TheVariants.{Main};
-ghost use Rattle.zb_volume.specs.Moments.{Leaves, LeavesOnly};
+ghost use Rattle.zb_volume.specs.declared.areas.Area.TheVariants.{Main, Side};
+ghost use Rattle.zb_volume.specs.Moments.{Leaves, LeavesOnly, StaysAs};
 ghost use Rattle.zodb_core.specs.HubState.{counts_of, rules_of, sessions_with};
 ghost use Rattle.zodb_core.specs.Outcomes.{AreLaterCounts};
 ghost use Rattle.client_turns.specs.declared.client.Client.{Client};
 ghost use Rattle.client_turns.specs.Clients.{Moment, place_of_client};
+ghost use Rattle.client_turns.specs.Lines.{IsCountedBy, end_of, outcome_of_end, outcome_of_turn};
 ghost use Rattle.client_turns.specs.Refusing.{IsFittingLine, opens_session};
-ghost use Rattle.client_turns.specs.Standing.{ClosesAs, ClosesIf, HasTurnCause, IsListAround, IsQuiet, LeadsTo, OrAsBefore, StandsForMoment, refusal_kept};
+ghost use Rattle.client_turns.specs.Standing.{ClosesAs, ClosesIf, HasTurnCause, IsListIn, IsQuiet, LeadsTo, OrAsBefore, StandsForMoment, refusal_kept};
 ghost use Rattle.client_turns.specs.Turns.{IsLine, IsLineAt, IsOpening, IsTurn};
 
 use crate::client::{Client, changes_at, place_of, session_at};
@@ -85,7 +86,7 @@ impl<St: Store, R: Resolver, F: Refs> Clients<St, R, F> {
     }
 
     /// A line of the client at a place.
-    #[tactic(auto, using(crate::proofs::Crashes::unmoved_around, crate::proofs::Crashes::around_kept))]
+    #[tactic(auto, using(crate::proofs::Crashes::unmoved_in, crate::proofs::Crashes::in_kept, zb_model::specs::StayLaws::stays_same))]
     fn take_line<C: Clock>(
         &mut self,
         alloc: Global,
@@ -102,11 +103,13 @@ impl<St: Store, R: Resolver, F: Refs> Clients<St, R, F> {
         ensures any_moment { St.lasts → St.told → self.old.hub.store.broken ≡ false →
             (m : Moment) → StandsForMoment self.old (C.stamps clock.old) m →
             Leaves Main (λ bytes. St.stands bytes m.machine.list) self.old.hub.store.log →
-            LeavesOnly Main (IsListAround St.stands m.machine) self.old.hub.store.log self.new.hub.store.log }
+            LeavesOnly Main (IsListIn St.stands m.machine line.now) self.old.hub.store.log self.new.hub.store.log }
+        ensures side { St.lasts → StaysAs Side self.old.hub.store.log self.new.hub.store.log }
         ensures resolver { self.new.hub.resolver ≡ self.old.hub.resolver }
         ensures refs { self.new.hub.refs ≡ self.old.hub.refs }
         ensures later { AreLaterCounts (counts_of self.old.hub.store) (counts_of self.new.hub.store) }
         ensures cause { IfOk result (HasTurnCause (counts_of self.old.hub.store) (counts_of self.new.hub.store)) }
+        ensures starved { OnErr result (counts_of self.new.hub.store ≡ counts_of self.old.hub.store) }
     {
         if let Some(why) = self.refusal_at(at, line) {
             return Ok(Answer::Refused(why));
@@ -118,7 +121,7 @@ impl<St: Store, R: Resolver, F: Refs> Clients<St, R, F> {
     }
 
     /// A line of a client, by its name.
-    #[tactic(auto, using(crate::proofs::Crashes::unmoved_around))]
+    #[tactic(auto, using(crate::proofs::Crashes::unmoved_in, zb_model::specs::StayLaws::stays_same))]
     fn line<C: Clock>(
         &mut self,
         alloc: Global,
@@ -133,11 +136,13 @@ impl<St: Store, R: Resolver, F: Refs> Clients<St, R, F> {
         ensures any_moment { St.lasts → St.told → self.old.hub.store.broken ≡ false →
             (m : Moment) → StandsForMoment self.old (C.stamps clock.old) m →
             Leaves Main (λ bytes. St.stands bytes m.machine.list) self.old.hub.store.log →
-            LeavesOnly Main (IsListAround St.stands m.machine) self.old.hub.store.log self.new.hub.store.log }
+            LeavesOnly Main (IsListIn St.stands m.machine line.now) self.old.hub.store.log self.new.hub.store.log }
+        ensures side { St.lasts → StaysAs Side self.old.hub.store.log self.new.hub.store.log }
         ensures resolver { self.new.hub.resolver ≡ self.old.hub.resolver }
         ensures refs { self.new.hub.refs ≡ self.old.hub.refs }
         ensures later { AreLaterCounts (counts_of self.old.hub.store) (counts_of self.new.hub.store) }
         ensures cause { IfOk result (HasTurnCause (counts_of self.old.hub.store) (counts_of self.new.hub.store)) }
+        ensures starved { OnErr result (counts_of self.new.hub.store ≡ counts_of self.old.hub.store) }
     {
         if opens_session(line) {
             return self.open(name);
@@ -149,7 +154,7 @@ impl<St: Store, R: Resolver, F: Refs> Clients<St, R, F> {
     }
 
     /// The closing of a client's session, where it has one, and how that ends the run, if it does.
-    #[tactic(auto, using(crate::proofs::Crashes::unmoved))]
+    #[tactic(auto, using(crate::proofs::Crashes::unmoved, crate::proofs::Causes::never_starved, crate::proofs::Causes::closed_counts, zb_model::specs::StayLaws::stays_same))]
     fn close<C: Clock>(&mut self, alloc: Global, name: &Name, clock: &mut C) -> Option<TurnError>
         ensures closing { St.told → (m : Moment) → StandsForMoment self.old (C.stamps clock.old) m →
             LeadsTo (ClosesAs (rules_of R.rules F.named self.old.hub) m (place_of_client name.now m.clients) result)
@@ -158,11 +163,12 @@ impl<St: Store, R: Resolver, F: Refs> Clients<St, R, F> {
             (m : Moment) → StandsForMoment self.old (C.stamps clock.old) m →
             Leaves Main (λ bytes. St.stands bytes m.machine.list) self.old.hub.store.log →
             LeavesOnly Main (λ bytes. St.stands bytes m.machine.list) self.old.hub.store.log self.new.hub.store.log }
+        ensures side { St.lasts → StaysAs Side self.old.hub.store.log self.new.hub.store.log }
         ensures resolver { self.new.hub.resolver ≡ self.old.hub.resolver }
         ensures refs { self.new.hub.refs ≡ self.old.hub.refs }
         ensures later { AreLaterCounts (counts_of self.old.hub.store) (counts_of self.new.hub.store) }
-        ensures failed { result ≡ Some TurnError.StoreFault →
-            Rose self.old.hub.store.faults self.new.hub.store.faults }
+        ensures counts { IsCountedBy (counts_of self.old.hub.store) (counts_of self.new.hub.store) (outcome_of_end result) }
+        ensures fed { ¬ (result ≡ Some TurnError.Memory) }
     {
         let Some(at) = place_of(self.clients.as_slice(), name) else {
             return None;
@@ -173,7 +179,7 @@ impl<St: Store, R: Resolver, F: Refs> Clients<St, R, F> {
     }
 
     /// Behind a client's last line its session is closed; how that ends the run, if it does.
-    #[tactic(auto, using(crate::proofs::Taking::unclosed, crate::proofs::Taking::closes_last, crate::proofs::Crashes::unmoved))]
+    #[tactic(auto, using(crate::proofs::Taking::unclosed, crate::proofs::Taking::closes_last, crate::proofs::Crashes::unmoved, zb_model::specs::StayLaws::stays_same))]
     fn close_if<C: Clock>(
         &mut self,
         alloc: Global,
@@ -188,11 +194,12 @@ impl<St: Store, R: Resolver, F: Refs> Clients<St, R, F> {
             (m : Moment) → StandsForMoment self.old (C.stamps clock.old) m →
             Leaves Main (λ bytes. St.stands bytes m.machine.list) self.old.hub.store.log →
             LeavesOnly Main (λ bytes. St.stands bytes m.machine.list) self.old.hub.store.log self.new.hub.store.log }
+        ensures side { St.lasts → StaysAs Side self.old.hub.store.log self.new.hub.store.log }
         ensures resolver { self.new.hub.resolver ≡ self.old.hub.resolver }
         ensures refs { self.new.hub.refs ≡ self.old.hub.refs }
         ensures later { AreLaterCounts (counts_of self.old.hub.store) (counts_of self.new.hub.store) }
-        ensures failed { result ≡ Some TurnError.StoreFault →
-            Rose self.old.hub.store.faults self.new.hub.store.faults }
+        ensures counts { IsCountedBy (counts_of self.old.hub.store) (counts_of self.new.hub.store) (outcome_of_end result) }
+        ensures fed { ¬ (result ≡ Some TurnError.Memory) }
     {
         if !is_last {
             return None;
@@ -201,7 +208,9 @@ impl<St: Store, R: Resolver, F: Refs> Clients<St, R, F> {
     }
 
     /// Takes a turn: a line of a client, and, where it is the client's last, the closing of its session.
-    /// `TurnError` ends the run: the turn isn't answered.
+    /// `TurnError` ends the run: the turn isn't answered. `Memory` comes only where no call of the store
+    /// has failed in this turn, and an answer only where none has, but for a read of which the answer tells.
+    #[tactic(auto, using(crate::proofs::Causes::ended_counts, crate::proofs::Causes::closing_counts, crate::proofs::Causes::whole_counts, zb_model::specs::StayLaws::stays_then))]
     pub fn take_turn<C: Clock>(
         &mut self,
         alloc: Global,
@@ -215,14 +224,15 @@ impl<St: Store, R: Resolver, F: Refs> Clients<St, R, F> {
             self.new (C.stamps clock.new) }
         ensures any_moment { St.lasts → St.told → self.old.hub.store.broken ≡ false →
             (m : Moment) → StandsForMoment self.old (C.stamps clock.old) m →
-            LeavesOnly Main (IsListAround St.stands m.machine) self.old.hub.store.log self.new.hub.store.log }
+            LeavesOnly Main (IsListIn St.stands m.machine turn.now.line) self.old.hub.store.log self.new.hub.store.log }
+        ensures side { St.lasts → StaysAs Side self.old.hub.store.log self.new.hub.store.log }
         ensures resolver { self.new.hub.resolver ≡ self.old.hub.resolver }
         ensures refs { self.new.hub.refs ≡ self.old.hub.refs }
         ensures later { AreLaterCounts (counts_of self.old.hub.store) (counts_of self.new.hub.store) }
         ensures failed { IsErrOf result TurnError.StoreFault →
             Rose self.old.hub.store.faults self.new.hub.store.faults }
-        ensures read_failed { result ≡ Ok (Answer.Refused Refusal.ReadFault) →
-            Rose self.old.hub.store.read_faults self.new.hub.store.read_faults }
+        ensures goes_on { IfOk result (λ answer. end_of answer ≡ None) }
+        ensures counts { IsCountedBy (counts_of self.old.hub.store) (counts_of self.new.hub.store) (outcome_of_turn result) }
     {
         self.lasting();
         let answer = self.line(alloc, turn.client, &turn.line, clock)?;

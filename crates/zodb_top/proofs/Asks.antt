@@ -23,7 +23,7 @@ use Rattle.zodb_core.specs.declared.request.Request.TheVariants as request
 use Rattle.zodb_core.specs.DecisionLaws.{AnswersIfSome, IsOrdinary}
 use Rattle.zodb_core.specs.HubState.{HasTicked, HubState, IsCauseOf, MakesStep, StandsForMachine, StepsSafely, counts_of, is_store_failed, may_write}
 use Rattle.zodb_core.specs.Machine.{Machine, Rules, front_of, machine_over, with_session}
-use Rattle.zodb_core.specs.Outcomes.{Answered, EndsFor, FaultCounts, IsStepMade, NoMemory, ReadingFailed, StepOutcome, StoreFailed, changes_store, machine_left, outcome_of, outcome_of_refusal}
+use Rattle.zodb_core.specs.Outcomes.{Answered, EndsFor, FaultCounts, IsStepMade, NoMemory, ReadingFailed, StepOutcome, StoreFailed, changes_store, keeps_store, machine_left, outcome_of, outcome_of_refusal}
 use Rattle.zodb_core.specs.StepCases.{early_answers}
 use Rattle.zodb_core.specs.Steps.{Stepped, early_refusal, front_step, loaded, replied, request_step, step_of, unless_early}
 use Rattle.zodb_top.specs.Asked.{digested, last_of, shown}
@@ -213,3 +213,36 @@ failed_by before now r e says cause is = rose_for before now r e says is cause
 pub ok_map : {A E : Type 0} (r : Result A E) (P Q : A → Type 0) → IfOk r P → ((a : A) → P a → Q a) → IfOk r Q
 ok_map (Ok a) P Q holds then = then a holds
 ok_map (Err e) P Q holds then = tt
+
+-- ---- counts
+
+calm_outcome : (before now : FaultCounts) (o : StepOutcome) → ¬ (o ≡ StoreFailed) → ¬ (o ≡ ReadingFailed) → IsCauseOf before now o → now ≡ before
+calm_outcome before now Answered whole read cause = cause
+calm_outcome before now NoMemory whole read cause = cause
+calm_outcome before now ReadingFailed whole read cause = absurd (read refl)
+calm_outcome before now StoreFailed whole read cause = absurd (whole refl)
+
+unread_by : (r : Reply) (o : Option AskError) → ask_refusal r ≡ o → ¬ (o ≡ Some error.ReadFault) → ¬ (outcome_of r ≡ ReadingFailed)
+unread_by (reply.Refused refusal.ReadFault) o says other = absurd (other (sym says))
+unread_by (reply.Refused _) o says other = λ is. absurd cc
+unread_by _ o says other = λ is. absurd cc
+
+-- a request that only reads changes no store
+keeps_by : (q : Request) → only_reads q ≡ true → keeps_store q ≡ true
+keeps_by request.Front reads = refl
+keeps_by (request.LoadBefore oid front) reads = refl
+keeps_by (request.History oid) reads = refl
+keeps_by request.UndoLog reads = refl
+keeps_by _ reads = absurd cc
+
+failed_so : (o : StepOutcome) → ¬ (o ≡ StoreFailed) → is_store_failed o ≡ false
+failed_so StoreFailed whole = absurd (whole refl)
+failed_so _ whole = refl
+
+-- so its step moves no count, unless reading failed, and that of other faults never
+pub reading_calm : (q : Request) (r : Reply) (o : Option AskError) (before now : FaultCounts) → only_reads q ≡ true → (keeps_store q ≡ true → ¬ (outcome_of r ≡ StoreFailed)) → IsCauseOf before now (outcome_of r) → ask_refusal r ≡ o
+    → ¬ (o ≡ Some error.ReadFault) → now ≡ before
+reading_calm q r o before now reads whole cause says other = calm_outcome before now (outcome_of r) (whole (keeps_by q reads)) (unread_by r o says other) cause
+
+pub whole_by : (q : Request) (r : Reply) (P : Type 0) → only_reads q ≡ true → (keeps_store q ≡ true → ¬ (outcome_of r ≡ StoreFailed)) → (is_store_failed (outcome_of r) ≡ false → P) → P
+whole_by q r P reads whole then = then (failed_so (outcome_of r) (whole (keeps_by q reads)))

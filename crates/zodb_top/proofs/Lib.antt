@@ -1,9 +1,11 @@
 pub mod Digits
 pub mod Written
 pub mod Said
+pub mod Sides
 pub mod Prefixes
 pub mod Keeping
 pub mod Turning
+pub mod Nexts
 pub mod Replies
 pub mod Stores
 pub mod Files

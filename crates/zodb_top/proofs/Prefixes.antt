@@ -1,4 +1,5 @@
 -- Prefixes of texts that stand one behind another.
+use Rattle.std.specs.Prelude.{Result, Ok, Err, OnOk}
 use Rattle.std.proofs.Common.{◌≡◌, ℕ, List, [], ◌++◌, Option, append-nil, append_assoc, refl, sym, ap, subst, ◌∙◌}
 use Rattle.std.proofs.KnownBytes.{Appends-trans}
 use Rattle.std.proofs.lemmas.Grind.{flat_map-append}
@@ -35,3 +36,8 @@ first_prefix a b lines more front = subst (AppendsPrefix a b) (sym (joined-appen
 
 pub second_prefix : (a b c : Option (List ℕ)) (lines more : List (List ℕ)) → Appends a b (joined lines) → AppendsPrefix b c (joined more) → AppendsPrefix a c (joined (lines ++ more))
 second_prefix a b c lines more first front = subst (AppendsPrefix a c) (sym (joined-append lines more)) (behind_prefix a b c (joined lines) (joined more) first front)
+
+-- lines that were written, and then, where that went well, more
+pub both_ok : {T E : Type 0} (r : Result T E) (a b c : Option (List ℕ)) (lines more : List (List ℕ)) → Appends a b (joined lines) → OnOk r (Appends b c (joined more)) → OnOk r (Appends a c (joined (lines ++ more)))
+both_ok (Ok x) a b c lines more first second = both_lines a b c lines more first second
+both_ok (Err e) a b c lines more first second = tt

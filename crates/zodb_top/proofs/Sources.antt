@@ -46,7 +46,7 @@ of_read (Some bytes) all turns P is input holds = (turns, subst (λ (b : List �
 pub run_of_input : (s : Status) (told unread : Type 0) (left : Option (List ℕ)) (all : List ℕ) (turns : List Turn) (before after : Outside) → IfSome left (λ input. all ≡ input) → IsInput all turns
     → FileSays s told turns before after → RunSays s told unread left before after
 run_of_input status.Done told unread left all turns before after is input o = of_read left all turns (λ ts. told → RanWhole ts before after) is input o
-run_of_input status.NoMemory told unread left all turns before after is input (inl (nothing, unopened)) = inl (nothing, inr unopened)
+run_of_input status.NoMemory told unread left all turns before after is input (inl (nothing, unopened, unfailed)) = inl (nothing, inr (unopened, unfailed))
 run_of_input status.NoMemory told unread left all turns before after is input (inr o) =
     inr (of_read left all turns (λ ts. told → RanInPart ts None before after ⊎ RanInPart ts (Some Memory) before after) is input o)
 run_of_input status.SinkFault told unread left all turns before after is input o = (o.0, of_read left all turns (λ ts. told → RanInPart ts None before after) is input o.1)

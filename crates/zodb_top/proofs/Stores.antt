@@ -27,6 +27,7 @@ use Rattle.zodb_top.specs.Came.{BreaksOff, Came, IsMainBy, IsOfRun, answers_text
 use Rattle.zodb_top.specs.Running.{RanAllOver, RanOver, RunsOn, SaysStopped, Stops, StoreSays, broke_of}
 use Rattle.zodb_top.specs.Texts.{cut_lines, joined, store_fault_line}
 use Rattle.zodb_top.specs.Written.{IsWritten}
+use Rattle.zodb_top.proofs.Nexts.{next_kept}
 use Rattle.zodb_top.proofs.Prefixes.{behind_prefix, prefix_before}
 use Rattle.zodb_top.proofs.Turning.{BrokenKeeps, broken_keeps, out_keeps}
 
@@ -77,7 +78,7 @@ module _ (lasts : Type 0) (stands : List ℕ → List Transaction → Type 0) wh
         stamps = refl;
         counts = refl;
         images = lasting;
-        moments = λ known. here (λ image left. record { taken = []; later = turns; parts = refl; answers = []; at = m; answered = refl; list = inl (lasting known image left) });
+        moments = λ known. here (λ image left. record { taken = []; later = turns; parts = refl; answers = []; at = m; answered = refl; list = next_kept stands m.machine turns image (lasting known image left) });
       }
 
   -- no memory for a line, or the sink took a prefix of it
@@ -151,7 +152,7 @@ module _ (lasts : Type 0) (stands : List ℕ → List Transaction → Type 0) wh
       text = says _ (Appends-trans taken mid new (joined (cut_lines cut)) (answers_text s.came.answers) first s.text);
       stamps = sym s.stands_for.stamps;
       counts = counts_so s.now s.stands_for;
-      images = λ known. subst (λ (x : StoreState). Leaves Main (IsMainBy stands (Some turn_error.StoreFault) s.came.behind.machine) x.log) (sym kept) (s.around refl known);
+      images = λ known. subst (λ (x : StoreState). Leaves Main (IsMainBy stands (Some turn_error.StoreFault) s.came.behind.machine s.came.later) x.log) (sym kept) (s.around refl known);
       moments = λ known. moments_so (s.moments known);
     }
 

@@ -3,7 +3,7 @@ use Rattle.std.proofs.Common.{◌≡◌, ◌≢◌, ◌⊎◌, ℕ, ◌≤◌, L
 use Rattle.std.specs.Prelude.{IfSome, IsSome, slice_get}
 use Rattle.std.specs.Io.KnownBytes.{Appends}
 use Rattle.file_store.specs.Kept.{StandsForList}
-use Rattle.file_store.specs.Opening.{Harm, IsMade, IsNewOr, KeepsList, MakesList, SomeRose, first_list}
+use Rattle.file_store.specs.Opening.{Harm, IsMade, IsNewFile, IsNewOr, IsUnlessWritten, KeepsList, MakesList, SomeRose, first_list, without_tail}
 use Rattle.fs_records.specs.File.{StandsFor}
 use Rattle.fs_recovery.specs.Opens.{IsNoList}
 use Rattle.fs_recovery.specs.declared.errors.OpenError.{OpenError}
@@ -27,99 +27,120 @@ use Rattle.client_turns.specs.Clients.{Moment}
 use Rattle.zodb_top.specs.declared.status.Status.{Status}
 use Rattle.zodb_top.specs.declared.status.Status.TheVariants as status
 use Rattle.zodb_top.specs.Came.{IsCalm, IsMainOf, IsOfRun, IsOfRunOrEmpty, RanWhole, Reached, began, stock}
-use Rattle.zodb_top.specs.Opened.{IsLeft, OpensAs, made, there}
+use Rattle.zodb_top.specs.Opened.{IsLeft, IsUnfailed, KeepsBytes, OpensAs, bytes_cut, bytes_failed, bytes_same, made, there}
 use Rattle.zodb_top.specs.Outside.{Outside, main_of}
 use Rattle.zodb_top.specs.Running.{FileSays, RanAllOver, RanOver, StoreSays}
 use Rattle.zodb_top.specs.Texts.{cut_lines, joined, store_fault_line}
 use Rattle.zodb_top.specs.Unopened.{SaysUnopened}
 use Rattle.zodb_top.specs.Written.{IsWritten}
 use Rattle.zodb_top.proofs.Files.{opens_as, refused}
+use Rattle.zodb_top.proofs.Nexts.{counts_left, next_kept}
 use Rattle.zodb_top.proofs.Turning.{out_keeps}
+
+-- where it isn't for a fault that the file isn't open, no call has failed
+pub unfailed : (e : OpenError) (before after : Outside) → ¬ (e ≡ error.StoreFault) → (¬ (e ≡ error.StoreFault) → (after.read_faults ≡ before.read_faults) × (after.write_faults ≡ before.write_faults)) → IsUnfailed before after
+unfailed e before after other calm = let both = calm other in record { reads = both.0; writes = both.1 }
+
+-- what is left of Main's bytes, where it isn't opened
+pub bytes_unless : (before after : Outside) → IsUnlessWritten before.log after.log before.write_faults after.write_faults → KeepsBytes before after
+bytes_unless before after (inl is) = bytes_same (ap (λ (l : List Event). seen l Main) is)
+bytes_unless before after (inr rose) = bytes_failed rose
+
+-- and where it is
+pub bytes_open : (before after : Outside) (left : Option (List Stamp)) (list : List Transaction) (cut : Option ℕ) → OpensAs (main_of before) before.stamps left list cut → main_of before ≢ [] → main_of after ≡ without_tail (main_of before) cut → KeepsBytes before after
+bytes_open before after left list None opens some is = bytes_same is
+bytes_open before after left list (Some at) (there whole stands kept) some is = bytes_cut list at stands is
+bytes_open before after left list (Some at) (made empty is_made given) some is = absurd (some empty)
 
 -- the file wasn't opened
 pub unopened : (s : Status) (e : OpenError) (told : Type 0) (turns : List Turn) (before after : Outside) → SaysUnopened s e before.taken after.taken before.sink_faults after.sink_faults
     → (told → Harm (main_of before) e) → (e ≡ error.StoreFault → SomeRose before.read_faults after.read_faults before.write_faults after.write_faults)
-    → (told → IsNoList (main_of before) → after.log ≡ before.log) → IsLeft told before after → FileSays s told turns before after
-unopened status.StoreFault e told turns before after said harm rose same left = inl (record { rose = rose said.0; written = said.1; left = left })
-unopened status.Damaged e told turns before after (text, names, wrote) harm rose same left = refused e told before after text names wrote harm same left
-unopened status.NoMemory e told turns before after said harm rose same left = inl (said.1, left)
-unopened _ e told turns before after said harm rose same left = absurd said
+    → (told → IsNoList (main_of before) → after.log ≡ before.log) → (¬ (e ≡ error.StoreFault) → (after.read_faults ≡ before.read_faults) × (after.write_faults ≡ before.write_faults)) → IsLeft told before after
+    → FileSays s told turns before after
+unopened status.StoreFault e told turns before after said harm rose same calm left = inl (record { rose = rose said.0; written = said.1; left = left })
+unopened status.Damaged e told turns before after (text, names, wrote) harm rose same calm left = refused e told before after text names wrote harm same left
+unopened status.NoMemory e told turns before after said harm rose same calm left = inl (said.1, left, unfailed e before after said.0 calm)
+unopened _ e told turns before after said harm rose same calm left = absurd said
 
 -- what there is of Main while it is opened, before the first turn
 module _ (before : Outside) (state : StoreState) (left : Option (List Stamp)) (cut : Option ℕ) (opens : OpensAs (main_of before) before.stamps left state.list cut)
     (keeps : KeepsList before.log state.log) (makes : IfSome before.stamps (λ stamps. (stamp : Stamp) → slice_get stamps 0 ≡ Some stamp → MakesList stamp before.log state.log)) where
-  of_start : (turns : List Turn) (bytes : List ℕ) → StandsForList bytes state.list → IsOfRun StandsForList (began state.list left before.read_faults state.faults) turns bytes
-  of_start turns bytes is = record { taken = []; later = turns; parts = refl; answers = []; at = began state.list left before.read_faults state.faults; answered = refl; list = inl is }
+  of_start : (turns : List Turn) (bytes : List ℕ) → StandsForList bytes state.list → IsOfRun StandsForList (began state.list left before.read_faults before.write_faults) turns bytes
+  of_start turns bytes is = record { taken = []; later = turns; parts = refl; answers = []; at = began state.list left before.read_faults before.write_faults; answered = refl; list = next_kept StandsForList (began state.list left before.read_faults before.write_faults).machine turns bytes is }
 
   told_stamps : (P : List Stamp → Type 0) (o : Option (List Stamp)) → IsSome o → IfSome o P → (stamps : List Stamp) × (o ≡ Some stamps) × P stamps
   told_stamps P None some holds = absurd cc
   told_stamps P (Some stamps) some holds = (stamps, refl, holds)
 
   made_so : (turns : List Turn) (is : IsMade before.stamps state.list cut) → main_of before ≡ [] → IsCalm before
-      → LeavesOnly Main (IsOfRunOrEmpty (main_of before) (began state.list left before.read_faults state.faults) turns) before.log state.log
+      → LeavesOnly Main (IsOfRunOrEmpty (main_of before) (began state.list left before.read_faults before.write_faults) turns) before.log state.log
   made_so turns is empty calm =
       let told = told_stamps (λ stamps. (stamp : Stamp) → slice_get stamps 0 ≡ Some stamp → MakesList stamp before.log state.log) before.stamps (calm.clock empty) makes in
       let first : slice_get told.0 0 ≡ Some is.stamp = subst (λ (o : Option (List Stamp)). IfSome o (λ stamps. slice_get stamps 0 ≡ Some is.stamp)) told.1 is.first in
-      leaves_less Main (IsNewOr is.stamp) (IsOfRunOrEmpty (main_of before) (began state.list left before.read_faults state.faults) turns) before.log state.log
+      leaves_less Main (IsNewOr is.stamp) (IsOfRunOrEmpty (main_of before) (began state.list left before.read_faults before.write_faults) turns) before.log state.log
       (λ bytes either. elim either [
         | inl none ↦ inr (empty, none)
         | inr new ↦ inl (of_start turns bytes (subst (λ (list : List Transaction). StandsForList bytes list) (sym is.list_is) new))
       ])
       (told.2 is.stamp first empty calm.settled)
 
-  pub opening_moments : (turns : List Turn) → IsCalm before → LeavesOnly Main (IsOfRunOrEmpty (main_of before) (began state.list left before.read_faults state.faults) turns) before.log state.log
+  pub opening_moments : (turns : List Turn) → IsCalm before → LeavesOnly Main (IsOfRunOrEmpty (main_of before) (began state.list left before.read_faults before.write_faults) turns) before.log state.log
   opening_moments turns calm = by_opening opens
     where
-      by_opening : OpensAs (main_of before) before.stamps left state.list cut → LeavesOnly Main (IsOfRunOrEmpty (main_of before) (began state.list left before.read_faults state.faults) turns) before.log state.log
+      by_opening : OpensAs (main_of before) before.stamps left state.list cut → LeavesOnly Main (IsOfRunOrEmpty (main_of before) (began state.list left before.read_faults before.write_faults) turns) before.log state.log
       by_opening (there some stands same) =
-          leaves_less Main (λ bytes. StandsForList bytes state.list) (IsOfRunOrEmpty (main_of before) (began state.list left before.read_faults state.faults) turns) before.log state.log
+          leaves_less Main (λ bytes. StandsForList bytes state.list) (IsOfRunOrEmpty (main_of before) (began state.list left before.read_faults before.write_faults) turns) before.log state.log
           (λ bytes is. inl (of_start turns bytes is)) (keeps state.list cut some stands calm.settled)
       by_opening (made empty is given) = made_so turns is empty calm
 
   -- ---- turns over the file
 
-  module _ (turns : List Turn) (after : Outside) (state' : StoreState) (le : before.write_faults ≤ state.faults) (first : state.read_faults ≡ before.read_faults)
+  module _ (turns : List Turn) (after : Outside) (state' : StoreState) (whole : state.faults ≡ before.write_faults) (first : state.read_faults ≡ before.read_faults)
       (log : after.log ≡ state'.log) (reads : after.read_faults ≡ state'.read_faults) (faults : after.write_faults ≡ state'.faults)
       (shown : CrashLeaves after.log Main (main_of after)) (lasts : Type 0) (lasting : lasts) where
-    abbrev reached_so : (broke : Option TurnError) (written : List ℕ → Type 0) → RanOver lasts StandsForList (began state.list left before.read_faults state.faults) cut turns broke written state state' after.stamps
+    abbrev reached_so : (broke : Option TurnError) (written : List ℕ → Type 0) → RanOver lasts StandsForList (began state.list left before.read_faults before.write_faults) cut turns broke written state state' after.stamps
         → Reached turns broke written before after
     reached_so broke written ran =
-        let images : Leaves Main (IsMainOf broke ran.came.behind.machine) after.log = subst (λ (l : List Event). Leaves Main (IsMainOf broke ran.came.behind.machine) l) (sym log) (ran.images lasting) in record {
+        let images : Leaves Main (IsMainOf broke ran.came.behind.machine ran.came.later) after.log = subst (λ (l : List Event). Leaves Main (IsMainOf broke ran.came.behind.machine ran.came.later) l) (sym log) (ran.images lasting) in
+        let reads_left : after.read_faults ≡ ran.now.counts.reads = reads ∙ ap (λ (c : FaultCounts). c.reads) ran.counts in
+        let faults_left : after.write_faults ≡ ran.now.counts.others = faults ∙ ap (λ (c : FaultCounts). c.others) ran.counts in record {
           list = state.list;
           cut = cut;
           stamps = left;
-          faults = state.faults;
           opens = opens;
-          later = le;
           now = ran.now;
           came = ran.came;
           text = ran.text;
           stamps_left = ran.stamps;
-          reads_left = reads ∙ ap (λ (c : FaultCounts). c.reads) ran.counts;
-          faults_left = faults ∙ ap (λ (c : FaultCounts). c.others) ran.counts;
+          reads_left = reads_left;
+          faults_left = faults_left;
+          counts = counts_left (began state.list left before.read_faults before.write_faults) turns broke ran.now ran.came before after reads_left faults_left refl;
           main = images (main_of after) shown;
           images = images;
-          acknowledged = (out_keeps stock (began state.list left before.read_faults state.faults) ran.came.taken ran.came.later ran.came.answers ran.came.behind ran.came.answered).committed;
+          acknowledged = (out_keeps stock (began state.list left before.read_faults before.write_faults) ran.came.taken ran.came.later ran.came.answers ran.came.behind ran.came.answered).committed;
           moments = λ calm.
-              subst (λ (l : List Event). LeavesOnly Main (IsOfRunOrEmpty (main_of before) (began state.list left before.read_faults state.faults) turns) before.log l) (sym log)
-              (along_joined (Leaves Main (IsOfRunOrEmpty (main_of before) (began state.list left before.read_faults state.faults) turns)) before.log state.log state'.log (opening_moments turns calm)
-              (leaves_less Main (IsOfRun StandsForList (began state.list left before.read_faults state.faults) turns) (IsOfRunOrEmpty (main_of before) (began state.list left before.read_faults state.faults) turns) state.log state'.log
+              subst (λ (l : List Event). LeavesOnly Main (IsOfRunOrEmpty (main_of before) (began state.list left before.read_faults before.write_faults) turns) before.log l) (sym log)
+              (along_joined (Leaves Main (IsOfRunOrEmpty (main_of before) (began state.list left before.read_faults before.write_faults) turns)) before.log state.log state'.log (opening_moments turns calm)
+              (leaves_less Main (IsOfRun StandsForList (began state.list left before.read_faults before.write_faults) turns) (IsOfRunOrEmpty (main_of before) (began state.list left before.read_faults before.write_faults) turns) state.log state'.log
               (λ bytes is. inl is) (ran.moments lasting)));
         }
 
     pub reached : (broke : Option TurnError) (written : List ℕ → Type 0) → RanOver lasts StandsForList (began state.list left state.read_faults state.faults) cut turns broke written state state' after.stamps
         → Reached turns broke written before after
     reached broke written ran =
-        reached_so broke written (subst (λ (n : ℕ). RanOver lasts StandsForList (began state.list left n state.faults) cut turns broke written state state' after.stamps) first ran)
+        reached_so broke written
+        (subst (λ (n : ℕ). RanOver lasts StandsForList (began state.list left before.read_faults n) cut turns broke written state state' after.stamps) whole
+        (subst (λ (n : ℕ). RanOver lasts StandsForList (began state.list left n state.faults) cut turns broke written state state' after.stamps) first ran))
 
-    whole_so : (written : List ℕ → Type 0) → RanAllOver lasts StandsForList (began state.list left before.read_faults state.faults) cut turns written state state' after.stamps
+    whole_so : (written : List ℕ → Type 0) → RanAllOver lasts StandsForList (began state.list left before.read_faults before.write_faults) cut turns written state state' after.stamps
         → (r : Reached turns None written before after) × (r.came.later ≡ [])
     whole_so written ran = (reached_so None written ran.ran, ran.all)
 
     pub reached_whole : RanAllOver lasts StandsForList (began state.list left state.read_faults state.faults) cut turns (Appends before.taken after.taken) state state' after.stamps → RanWhole turns before after
     reached_whole ran =
         let r = whole_so (Appends before.taken after.taken)
-        (subst (λ (n : ℕ). RanAllOver lasts StandsForList (began state.list left n state.faults) cut turns (Appends before.taken after.taken) state state' after.stamps) first ran) in
+        (subst (λ (n : ℕ). RanAllOver lasts StandsForList (began state.list left before.read_faults n) cut turns (Appends before.taken after.taken) state state' after.stamps) whole
+        (subst (λ (n : ℕ). RanAllOver lasts StandsForList (began state.list left n state.faults) cut turns (Appends before.taken after.taken) state state' after.stamps) first ran)) in
         record { reached = r.0; all = r.1 }
 
 -- what is known of the file where the volume tells
@@ -128,24 +149,26 @@ pub record IsOpen (before after : Outside) (state : StoreState) (left : Option (
   pub keeps : KeepsList before.log state.log
   pub makes : IfSome before.stamps (λ stamps. (stamp : Stamp) → slice_get stamps 0 ≡ Some stamp → MakesList stamp before.log state.log)
   pub shown : CrashLeaves after.log Main (main_of after)
+  pub bytes : main_of before ≢ [] → seen state.log Main ≡ without_tail (main_of before) cut
+  pub new_file : main_of before ≡ [] → IsNewFile before.stamps (seen state.log Main)
 
 pub over_file : (s : Status) (told : Type 0) (turns : List Turn) (before after : Outside) (state state' : StoreState) (left : Option (List Stamp)) (cut : Option ℕ) → (told → IsOpen before after state left cut)
-    → before.write_faults ≤ state.faults → state.read_faults ≡ before.read_faults → after.log ≡ state'.log → after.read_faults ≡ state'.read_faults → after.write_faults ≡ state'.faults
+    → state.faults ≡ before.write_faults → state.read_faults ≡ before.read_faults → after.log ≡ state'.log → after.read_faults ≡ state'.read_faults → after.write_faults ≡ state'.faults
     → StoreSays s told told StandsForList (began state.list left state.read_faults state.faults) cut turns before.taken after.taken before.sink_faults after.sink_faults state state' after.stamps
     → FileSays s told turns before after
-over_file status.Done told turns before after state state' left cut is le first log reads faults says =
-    λ here. let o = is here in reached_whole before state left cut o.opens o.keeps o.makes turns after state' le first log reads faults o.shown told here (says here)
-over_file status.NoMemory told turns before after state state' left cut is le first log reads faults says =
+over_file status.Done told turns before after state state' left cut is whole first log reads faults says =
+    λ here. let o = is here in reached_whole before state left cut o.opens o.keeps o.makes turns after state' whole first log reads faults o.shown told here (says here)
+over_file status.NoMemory told turns before after state state' left cut is whole first log reads faults says =
     inr (λ here. let o = is here in elim (says here) [
-      | inl ran ↦ inl (reached before state left cut o.opens o.keeps o.makes turns after state' le first log reads faults o.shown told here None (AppendsPrefix before.taken after.taken) ran)
-      | inr ran ↦ inr (reached before state left cut o.opens o.keeps o.makes turns after state' le first log reads faults o.shown told here (Some turn_error.Memory) (AppendsPrefix before.taken after.taken) ran)
+      | inl ran ↦ inl (reached before state left cut o.opens o.keeps o.makes turns after state' whole first log reads faults o.shown told here None (AppendsPrefix before.taken after.taken) ran)
+      | inr ran ↦ inr (reached before state left cut o.opens o.keeps o.makes turns after state' whole first log reads faults o.shown told here (Some turn_error.Memory) (AppendsPrefix before.taken after.taken) ran)
     ])
-over_file status.SinkFault told turns before after state state' left cut is le first log reads faults says =
-    (says.0, λ here. let o = is here in reached before state left cut o.opens o.keeps o.makes turns after state' le first log reads faults o.shown told here None (AppendsPrefix before.taken after.taken) (says.1 here))
-over_file status.StoreFault told turns before after state state' left cut is le first log reads faults says =
+over_file status.SinkFault told turns before after state state' left cut is whole first log reads faults says =
+    (says.0, λ here. let o = is here in reached before state left cut o.opens o.keeps o.makes turns after state' whole first log reads faults o.shown told here None (AppendsPrefix before.taken after.taken) (says.1 here))
+over_file status.StoreFault told turns before after state state' left cut is whole first log reads faults says =
     inr (
-      rw faults (rose_after before.write_faults state.faults state'.faults le says.0),
-      λ here. let o = is here in reached before state left cut o.opens o.keeps o.makes turns after state' le first log reads faults o.shown told here (Some turn_error.StoreFault)
+      rw faults (subst (λ (n : ℕ). Rose n state'.faults) whole says.0),
+      λ here. let o = is here in reached before state left cut o.opens o.keeps o.makes turns after state' whole first log reads faults o.shown told here (Some turn_error.StoreFault)
           (λ text. IsWritten before.taken after.taken before.sink_faults after.sink_faults (text ++ store_fault_line)) (says.1 here),
     )
-over_file _ told turns before after state state' left cut is le first log reads faults says = absurd says
+over_file _ told turns before after state state' left cut is whole first log reads faults says = absurd says

@@ -1,7 +1,8 @@
 -- What the commands that take no script are answered. Own; the lists are those of the storage interfaces of ZODB.
-use Rattle.std.specs.Prelude.{◌≡◌, ◌⊎◌, ℕ, List, [], ◌∷◌, ◌++◌, Option, map}
+use Rattle.std.specs.Prelude.{◌≡◌, ◌≢◌, ◌⊎◌, ℕ, List, [], ◌∷◌, ◌++◌, Option, map}
 use Rattle.std.specs.Io.KnownBytes.{Appends}
 use Rattle.file_store.specs.Kept.{StandsForList}
+use Rattle.file_store.specs.Opening.{IsNewFile, without_tail}
 use Rattle.zb_base.specs.Counts.{Rose}
 use Rattle.zb_model.specs.declared.data.Transaction.{Transaction}
 use Rattle.zb_model.specs.declared.found.Found.{Found}
@@ -18,7 +19,7 @@ use Rattle.zodb_top.specs.declared.command.Asked.{Asked}
 use Rattle.zodb_top.specs.declared.command.Asked.TheVariants.{UndoLog, History, Show, Digest}
 use Rattle.zodb_top.specs.declared.status.Status.{Status}
 use Rattle.zodb_top.specs.declared.status.Status.TheVariants as status
-use Rattle.zodb_top.specs.Opened.{FailedToOpen, IsLeft, IsRefused, OpensAs}
+use Rattle.zodb_top.specs.Opened.{FailedToOpen, IsRefused, IsUnfailed, OpensAs}
 use Rattle.zodb_top.specs.Outside.{Outside, main_of}
 use Rattle.zodb_top.specs.Texts.{cut_lines, digest_line, joined, missing_line, refused_line}
 
@@ -49,12 +50,14 @@ abbrev pub IsSaid : List Transaction → Option ℕ → Asked → Type 0 → Lis
 IsSaid list cut asked unread lines = (lines ≡ cut_lines cut ++ lines_of asked list) ⊎ (unread × (lines ≡ cut_lines cut ++ refused_line ∷ []))
 
 -- The lines are what is said of the list that Main stood for, or of that of a new database where Main was empty; and Main stands for that list, as it is and
--- whatever a crash leaves.
+-- whatever a crash leaves. Its bytes are what they were, without the tail; where it was empty, the file of a new database.
 pub record IsAnswer (asked : Asked) (before after : Outside) (lines : List (List ℕ)) : Type 0 where
   pub list : List Transaction
   pub cut : Option ℕ
   pub opens : OpensAs (main_of before) before.stamps after.stamps list cut
   pub says : IsSaid list cut asked (Rose before.read_faults after.read_faults) lines
+  pub bytes : main_of before ≢ [] → main_of after ≡ without_tail (main_of before) cut
+  pub new_file : main_of before ≡ [] → IsNewFile before.stamps (main_of after)
   pub main : StandsForList (main_of after) list
   pub images : Leaves Main (λ bytes. StandsForList bytes list) after.log
 
@@ -62,7 +65,7 @@ pub record IsAnswer (asked : Asked) (before after : Outside) (lines : List (List
 abbrev pub AskSays : Status → Asked → Type 0 → Outside → Outside → Type 0
 AskSays status.Done asked told before after =
     (lines : List (List ℕ)) × (told → IsAnswer asked before after lines) × Appends before.taken after.taken (joined lines)
-AskSays status.NoMemory asked told before after = after.taken ≡ before.taken
+AskSays status.NoMemory asked told before after = (after.taken ≡ before.taken) × IsUnfailed before after
 AskSays status.SinkFault asked told before after =
     Rose before.sink_faults after.sink_faults × ((lines : List (List ℕ)) × (told → IsAnswer asked before after lines) × AppendsPrefix before.taken after.taken (joined lines))
 AskSays status.StoreFault asked told before after = FailedToOpen told before after

@@ -13,16 +13,17 @@ use Rattle.zodb_core.specs.declared.reply.Reply.{Reply}
 use Rattle.zodb_core.specs.declared.reply.Reply.TheVariants as reply
 use Rattle.zodb_core.specs.declared.request.Request.{Request}
 use Rattle.zodb_core.specs.declared.request.Request.TheVariants as request
-use Rattle.zodb_core.specs.HubState.{HubState, StandsForMachine}
+use Rattle.zodb_core.specs.HubState.{HubState, StandsForMachine, counts_of}
 use Rattle.zodb_core.specs.Machine.{Machine}
 use Rattle.zodb_core.specs.Steps.{step_of}
 use Rattle.zodb_top.specs.declared.asking.AskError.{AskError}
 use Rattle.zodb_top.specs.declared.asking.AskError.TheVariants as error
 use Rattle.zodb_top.specs.declared.status.Status.{Status}
 use Rattle.zodb_top.specs.declared.status.Status.TheVariants as status
-use Rattle.zodb_top.specs.Asked.{digested, last_of, shown}
+use Rattle.zodb_top.specs.declared.command.Asked.{Asked}
+use Rattle.zodb_top.specs.Asked.{IsSaid, digested, last_of, shown}
 use Rattle.zodb_top.specs.Came.{stock}
-use Rattle.zodb_top.specs.Texts.{cut_lines, digest_line, joined, missing_line, refused_line}
+use Rattle.zodb_top.specs.Texts.{digest_line, joined, missing_line, refused_line}
 
 -- a request that only reads
 abbrev pub only_reads : Request → Bool
@@ -74,15 +75,24 @@ pub record IsLast (oid : ℕ) (list : List Transaction) (r : Reply) : Type 0 whe
   pub shown : shown_reply r ≡ shown (last_of oid list)
   pub digested : digested_reply r ≡ digested (last_of oid list)
 
--- the lines of the tail that was cut off and of an answer, or the one that says that reading failed, have this to do with what was written
-abbrev pub WritesAnswer : (List ℕ → Type 0) → Option ℕ → Result (List (List ℕ)) AskError → Type 0
-WritesAnswer written cut (Ok lines) = written (joined (cut_lines cut ++ lines))
-WritesAnswer written cut (Err error.ReadFault) = written (joined (cut_lines cut ++ refused_line ∷ []))
-WritesAnswer written cut (Err error.Memory) = ⊥
+-- some lines and those of an answer, or the one that says that reading failed, have this to do with what was written
+abbrev pub WritesAnswer : (List ℕ → Type 0) → List (List ℕ) → Result (List (List ℕ)) AskError → Type 0
+WritesAnswer written first (Ok lines) = written (joined (first ++ lines))
+WritesAnswer written first (Err error.ReadFault) = written (joined (first ++ refused_line ∷ []))
+WritesAnswer written first (Err error.Memory) = ⊥
 
--- What each status says of an answer.
-abbrev pub AnswerSays : Status → Option ℕ → Result (List (List ℕ)) AskError → Option (List ℕ) → Option (List ℕ) → ℕ → ℕ → Type 0
-AnswerSays status.Done cut answer old new before now = WritesAnswer (Appends old new) cut answer
-AnswerSays status.NoMemory cut answer old new before now = new ≡ old
-AnswerSays status.SinkFault cut answer old new before now = Rose before now × WritesAnswer (AppendsPrefix old new) cut answer
-AnswerSays _ cut answer old new before now = ⊥
+-- What each status says of an answer that is written behind some lines.
+abbrev pub AnswerSays : Status → List (List ℕ) → Result (List (List ℕ)) AskError → Option (List ℕ) → Option (List ℕ) → ℕ → ℕ → Type 0
+AnswerSays status.Done first answer old new before now = WritesAnswer (Appends old new) first answer
+AnswerSays status.NoMemory first answer old new before now = (new ≡ old) × (answer ≡ Err error.Memory)
+AnswerSays status.SinkFault first answer old new before now = Rose before now × WritesAnswer (AppendsPrefix old new) first answer
+AnswerSays _ first answer old new before now = ⊥
+
+-- What each status says of what is asked of a store.
+abbrev pub StoreAnswers : Status → Asked → Type 0 → Option ℕ → Option (List ℕ) → Option (List ℕ) → ℕ → ℕ → StoreState → StoreState → Type 0
+StoreAnswers status.Done asked told cut taken taken' before now old new =
+    (lines : List (List ℕ)) × (told → IsSaid old.list cut asked (Rose old.read_faults new.read_faults) lines) × Appends taken taken' (joined lines)
+StoreAnswers status.NoMemory asked told cut taken taken' before now old new = (taken' ≡ taken) × (counts_of new ≡ counts_of old)
+StoreAnswers status.SinkFault asked told cut taken taken' before now old new =
+    Rose before now × ((lines : List (List ℕ)) × (told → IsSaid old.list cut asked (Rose old.read_faults new.read_faults) lines) × AppendsPrefix taken taken' (joined lines))
+StoreAnswers _ asked told cut taken taken' before now old new = ⊥

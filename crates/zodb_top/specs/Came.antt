@@ -1,5 +1,5 @@
 -- How far a run came. Own.
-use Rattle.std.specs.Prelude.{◌≡◌, ◌≢◌, ◌⊎◌, ℕ, ◌≤◌, List, [], ◌∷◌, ◌++◌, Option, Some, None, IsSome}
+use Rattle.std.specs.Prelude.{◌≡◌, ◌≢◌, ◌⊎◌, ℕ, List, [], ◌∷◌, ◌++◌, Option, Some, None, false, IsSome}
 use Rattle.std.specs.List.{flat_map}
 use Rattle.std.specs.Io.KnownBytes.{Appends}
 use Rattle.file_store.specs.Kept.{StandsForList}
@@ -18,8 +18,8 @@ use Rattle.zodb_core.specs.Outcomes.{FaultCounts}
 use Rattle.client_turns.specs.declared.errors.TurnError.{TurnError}
 use Rattle.client_turns.specs.declared.errors.TurnError.TheVariants.{Memory, StoreFault}
 use Rattle.client_turns.specs.Clients.{Moment, first_moment}
-use Rattle.client_turns.specs.Output.{Out, TurnAnswer, is_last}
-use Rattle.client_turns.specs.Standing.{IsListAround}
+use Rattle.client_turns.specs.Output.{Out, TurnAnswer, has_read_fault, is_last}
+use Rattle.client_turns.specs.Standing.{IsListIn}
 use Rattle.client_turns.specs.Turns.{IsBroken}
 use Rattle.zodb_top.specs.Committed.{HasCommitted}
 use Rattle.zodb_top.specs.Opened.{OpensAs}
@@ -56,15 +56,25 @@ pub record Came (m : Moment) (turns : List Turn) (broke : Option TurnError) (now
 abbrev pub began : List Transaction → Option (List Stamp) → ℕ → ℕ → Moment
 began list stamps reads others = first_moment list stamps (record { reads = reads; others = others })
 
--- bytes stand for the list of a machine; where the store failed, for that or for what the failing step would have left
-abbrev pub IsMainBy : (List ℕ → List Transaction → Type 0) → Option TurnError → Machine → List ℕ → Type 0
-IsMainBy stands (Some StoreFault) m bytes = IsListAround stands m bytes
-IsMainBy stands _ m bytes = stands bytes m.list
+-- Before these turns bytes stand for the machine's list; where the first of them is a `finish`, they may stand for that with what is voted behind it.
+abbrev pub IsListNext : (List ℕ → List Transaction → Type 0) → Machine → List Turn → List ℕ → Type 0
+IsListNext stands m [] = λ bytes. stands bytes m.list
+IsListNext stands m (t ∷ later) = IsListIn stands m t.line
 
-abbrev pub IsMainOf : Option TurnError → Machine → List ℕ → Type 0
-IsMainOf broke m bytes = IsMainBy StandsForList broke m bytes
+-- bytes stand for the list of a machine; where the store failed in the first of these turns, for that or for what its line would have left
+abbrev pub IsMainBy : (List ℕ → List Transaction → Type 0) → Option TurnError → Machine → List Turn → List ℕ → Type 0
+IsMainBy stands (Some StoreFault) m later bytes = IsListNext stands m later bytes
+IsMainBy stands _ m later bytes = stands bytes m.list
 
--- Bytes stand for the list at some moment of the run, behind some front of its turns; or for what the step made there would leave.
+abbrev pub IsMainOf : Option TurnError → Machine → List Turn → List ℕ → Type 0
+IsMainOf broke m later bytes = IsMainBy StandsForList broke m later bytes
+
+-- Unless the store failed, no call of the volume has failed but reads, and none of these unless a turn was answered that one did.
+abbrev pub CountsLeft : Option TurnError → List TurnAnswer → Outside → Outside → Type 0
+CountsLeft (Some StoreFault) answers before after = Unit {0}
+CountsLeft _ answers before after = (after.write_faults ≡ before.write_faults) × (has_read_fault answers ≡ false → after.read_faults ≡ before.read_faults)
+
+-- Bytes stand for the list at some moment of the run, behind some front of its turns; or, where the next one is a `finish`, for what that would leave.
 pub record IsOfRun (stands : List ℕ → List Transaction → Type 0) (m : Moment) (turns : List Turn) (bytes : List ℕ) : Type 0 where
   pub taken : List Turn
   pub later : List Turn
@@ -72,7 +82,7 @@ pub record IsOfRun (stands : List ℕ → List Transaction → Type 0) (m : Mome
   pub answers : List TurnAnswer
   pub at : Moment
   pub answered : Out stock m taken later answers at
-  pub list : IsListAround stands at.machine bytes
+  pub list : IsListNext stands at.machine later bytes
 
 -- before the first turn the file of a new database may not be there yet
 abbrev pub IsOfRunOrEmpty : List ℕ → Moment → List Turn → List ℕ → Type 0
@@ -83,26 +93,25 @@ pub record IsCalm (before : Outside) : Type 0 where
   pub settled : IsSettled before.log Main
   pub clock : main_of before ≡ [] → IsSome before.stamps
 
--- The file was opened, the turns came so far over its list, and what was written has this to do with the line of the tail that was cut off and the replies. The
--- clock and the volume's counts are those of the moment. Main stands for its list, as it is and whatever a crash leaves, and that list has each transaction that
+-- The file was opened, where no call failed, the turns came so far over its list, and what was written has this to do with the line of the tail that was cut off
+-- and the replies. The clock and the volume's counts are those of the moment. Main stands for its list, as it is and whatever a crash leaves, and that list has each transaction that
 -- was answered as committed. Whatever a crash at any moment of the call leaves stands for the list at some moment of the run.
 pub record Reached (turns : List Turn) (broke : Option TurnError) (written : List ℕ → Type 0) (before after : Outside) : Type 0 where
   pub list : List Transaction
   pub cut : Option ℕ
   pub stamps : Option (List Stamp)
-  pub faults : ℕ
   pub opens : OpensAs (main_of before) before.stamps stamps list cut
-  pub later : before.write_faults ≤ faults
   pub now : Moment
-  pub came : Came (began list stamps before.read_faults faults) turns broke now
+  pub came : Came (began list stamps before.read_faults before.write_faults) turns broke now
   pub text : written (joined (cut_lines cut) ++ answers_text came.answers)
   pub stamps_left : after.stamps ≡ now.stamps
   pub reads_left : after.read_faults ≡ now.counts.reads
   pub faults_left : after.write_faults ≡ now.counts.others
-  pub main : IsMainOf broke came.behind.machine (main_of after)
-  pub images : Leaves Main (IsMainOf broke came.behind.machine) after.log
+  pub counts : CountsLeft broke came.answers before after
+  pub main : IsMainOf broke came.behind.machine came.later (main_of after)
+  pub images : Leaves Main (IsMainOf broke came.behind.machine came.later) after.log
   pub acknowledged : HasCommitted came.answers came.behind.machine.list
-  pub moments : IsCalm before → LeavesOnly Main (IsOfRunOrEmpty (main_of before) (began list stamps before.read_faults faults) turns) before.log after.log
+  pub moments : IsCalm before → LeavesOnly Main (IsOfRunOrEmpty (main_of before) (began list stamps before.read_faults before.write_faults) turns) before.log after.log
 
 -- all turns were answered, and all that was written
 pub record RanWhole (turns : List Turn) (before after : Outside) : Type 0 where

@@ -1,11 +1,14 @@
 -- What opening the file gives, and what is left where it isn't opened. Own.
-use Rattle.std.specs.Prelude.{◌≡◌, ◌≢◌, ℕ, List, [], Option, Some, IfSome, slice_get}
+use Rattle.std.specs.Prelude.{◌≡◌, ◌≢◌, ℕ, List, [], Option, Some, IfSome, slice_get, take}
 use Rattle.std.specs.Option.{option_map}
 use Rattle.file_store.specs.Opening.{GaveAtMostOne, IsMade, KeepsList, MakesList, SomeRose}
 use Rattle.fs_records.specs.File.{StandsFor}
+use Rattle.zb_base.specs.Counts.{Rose}
 use Rattle.zb_ids.specs.declared.stamp.Stamp.{Stamp}
 use Rattle.zb_model.specs.declared.data.Transaction.{Transaction}
 use Rattle.zb_outside.specs.Stamps.{stamps_after}
+use Rattle.zb_volume.specs.declared.areas.Area.TheVariants.{Side}
+use Rattle.zb_volume.specs.Moments.{StaysAs}
 use Rattle.zodb_top.specs.Damage.{NamesDamage}
 use Rattle.zodb_top.specs.Outside.{Outside, main_of}
 use Rattle.zodb_top.specs.Texts.{store_fault_line}
@@ -25,12 +28,26 @@ pub record IsUnopened (before after : Outside) : Type 0 where
   pub read_faults : after.read_faults ≡ before.read_faults
   pub write_faults : after.write_faults ≡ before.write_faults
 
+-- no call of the volume has failed
+pub record IsUnfailed (before after : Outside) : Type 0 where
+  pub reads : after.read_faults ≡ before.read_faults
+  pub writes : after.write_faults ≡ before.write_faults
+
+-- Main's bytes are as they were, or without the tail that they had; or a call failed that would have changed the volume
+pub data KeepsBytes (before after : Outside) : Type 0 where
+  bytes_same : main_of after ≡ main_of before → KeepsBytes before after
+  bytes_cut : (list : List Transaction) (at : ℕ) → StandsFor (main_of before) list (Some at) → main_of after ≡ take at (main_of before) → KeepsBytes before after
+  bytes_failed : Rose before.write_faults after.write_faults → KeepsBytes before after
+
 -- Main is as it was, but for a tail, or was made, in whole or in part. The clock was read at most once, and not where
--- Main had bytes. Where nothing of Main was pending, all that a crash at any moment leaves of it stands for the list
--- that it stood for, or, where it was empty, for the empty list or the first transaction alone.
+-- Main had bytes; then its bytes are kept, and nothing was done to Side. Where nothing of Main was pending, all that a
+-- crash at any moment leaves of it stands for the list that it stood for, or, where it was empty, for the empty list or
+-- the first transaction alone.
 pub record IsLeft (told : Type 0) (before after : Outside) : Type 0 where
   pub stamps : GaveAtMostOne before.stamps after.stamps
   pub kept : told → main_of before ≢ [] → after.stamps ≡ before.stamps
+  pub bytes : told → main_of before ≢ [] → KeepsBytes before after
+  pub side : told → main_of before ≢ [] → StaysAs Side before.log after.log
   pub keeps : told → KeepsList before.log after.log
   pub makes : told → IfSome before.stamps (λ stamps. (stamp : Stamp) → slice_get stamps 0 ≡ Some stamp → MakesList stamp before.log after.log)
 

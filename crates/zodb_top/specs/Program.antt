@@ -9,7 +9,7 @@ use Rattle.client_turns.specs.declared.errors.TurnError.TheVariants.{Memory}
 use Rattle.zodb_top.specs.declared.status.Status.{Status}
 use Rattle.zodb_top.specs.declared.status.Status.TheVariants.{Done, NoMemory, SourceFault, SinkFault, StoreFault, Damaged, BadLine, Limit as LimitPassed}
 use Rattle.zodb_top.specs.Came.{RanInPart, RanToFault, RanWhole}
-use Rattle.zodb_top.specs.Opened.{FailedToOpen, IsLeft, IsRefused, IsUnopened}
+use Rattle.zodb_top.specs.Opened.{FailedToOpen, IsLeft, IsRefused, IsUnfailed, IsUnopened}
 use Rattle.zodb_top.specs.Outside.{Outside}
 use Rattle.zodb_top.specs.Texts.{bad_line, limit_line, read_fault_line}
 use Rattle.zodb_top.specs.Written.{IsWritten}
@@ -38,7 +38,7 @@ pub record HasBadLine (left : Option (List ℕ)) (before after : Outside) : Type
 abbrev pub RunSays : Status → Type 0 → Type 0 → Option (List ℕ) → Outside → Outside → Type 0
 RunSays Done told unread left before after = OfInput left (λ turns. told → RanWhole turns before after)
 RunSays NoMemory told unread left before after =
-    ((after.taken ≡ before.taken) × (IsUnopened before after ⊎ IsLeft told before after))
+    ((after.taken ≡ before.taken) × (IsUnopened before after ⊎ (IsLeft told before after × IsUnfailed before after)))
     ⊎ OfInput left (λ turns. told → RanInPart turns None before after ⊎ RanInPart turns (Some Memory) before after)
 RunSays SourceFault told unread left before after =
     unread × IsUnopened before after × IsWritten before.taken after.taken before.sink_faults after.sink_faults read_fault_line

@@ -18,14 +18,14 @@ use Rattle.client_turns.specs.declared.errors.TurnError.{TurnError}
 use Rattle.client_turns.specs.declared.errors.TurnError.TheVariants as turn_error
 use Rattle.client_turns.specs.Clients.{Moment, first_moment}
 use Rattle.client_turns.specs.Output.{Out, TurnAnswer}
-use Rattle.client_turns.specs.Standing.{ClientsState, IsListAround, StandsForMoment}
+use Rattle.client_turns.specs.Standing.{ClientsState, StandsForMoment}
 use Rattle.client_turns.specs.Turns.{IsTurn}
 use Rattle.zodb_top.specs.declared.replying.RunError.{RunError}
 use Rattle.zodb_top.specs.declared.replying.RunError.TheVariants as errors
 use Rattle.zodb_top.specs.declared.status.Status.{Status}
 use Rattle.zodb_top.specs.declared.status.Status.TheVariants as status
-use Rattle.zodb_top.specs.Came.{Came, IsMainBy, IsOfRun, RanInPart, RanToFault, RanWhole, answers_text, stock}
-use Rattle.zodb_top.specs.Opened.{FailedToOpen, IsLeft, IsRefused}
+use Rattle.zodb_top.specs.Came.{Came, IsListNext, IsMainBy, IsOfRun, RanInPart, RanToFault, RanWhole, answers_text, stock}
+use Rattle.zodb_top.specs.Opened.{FailedToOpen, IsLeft, IsRefused, IsUnfailed}
 use Rattle.zodb_top.specs.Outside.{Outside}
 use Rattle.zodb_top.specs.Texts.{cut_lines, joined, store_fault_line}
 use Rattle.zodb_top.specs.Written.{IsWritten}
@@ -78,7 +78,7 @@ pub record Stops {R F : Type 0} (lasts : Type 0) (stands : List ℕ → List Tra
   pub came : Came m turns broke now
   pub text : IsWrittenOf broke old new (answers_text came.answers)
   pub stands_for : StandsForMoment clients left now
-  pub around : broke ≡ Some turn_error.StoreFault → lasts → Leaves Main (IsListAround stands came.behind.machine) clients.hub.store.log
+  pub around : broke ≡ Some turn_error.StoreFault → lasts → Leaves Main (IsListNext stands came.behind.machine came.later) clients.hub.store.log
   pub moments : lasts → LeavesOnly Main (IsOfRun stands m turns) log clients.hub.store.log
 
 -- ---- a store
@@ -90,7 +90,7 @@ pub record RanOver (lasts : Type 0) (stands : List ℕ → List Transaction → 
   pub text : written (joined (cut_lines cut) ++ answers_text came.answers)
   pub stamps : left ≡ now.stamps
   pub counts : counts_of new ≡ now.counts
-  pub images : lasts → Leaves Main (IsMainBy stands broke came.behind.machine) new.log
+  pub images : lasts → Leaves Main (IsMainBy stands broke came.behind.machine came.later) new.log
   pub moments : lasts → LeavesOnly Main (IsOfRun stands m turns) old.log new.log
 
 pub record RanAllOver (lasts : Type 0) (stands : List ℕ → List Transaction → Type 0) (m : Moment) (cut : Option ℕ) (turns : List Turn) (written : List ℕ → Type 0) (old new : StoreState) (left : Option (List Stamp)) : Type 0 where
@@ -122,7 +122,7 @@ SaysStopped errors.SinkFault s old new before now = (s ≡ status.SinkFault) × 
 abbrev pub FileSays : Status → Type 0 → List Turn → Outside → Outside → Type 0
 FileSays status.Done told turns before after = told → RanWhole turns before after
 FileSays status.NoMemory told turns before after =
-    ((after.taken ≡ before.taken) × IsLeft told before after) ⊎ (told → RanInPart turns None before after ⊎ RanInPart turns (Some turn_error.Memory) before after)
+    ((after.taken ≡ before.taken) × IsLeft told before after × IsUnfailed before after) ⊎ (told → RanInPart turns None before after ⊎ RanInPart turns (Some turn_error.Memory) before after)
 FileSays status.SinkFault told turns before after = Rose before.sink_faults after.sink_faults × (told → RanInPart turns None before after)
 FileSays status.StoreFault told turns before after =
     FailedToOpen told before after ⊎ (Rose before.write_faults after.write_faults × (told → RanToFault turns before after))

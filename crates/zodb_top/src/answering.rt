@@ -1,14 +1,17 @@
 //! What is asked of the file in Main is answered.
 
-ghost use Rattle.std.specs.Prelude.{◌≡◌, ◌++◌, ◌∷◌, ◌≤◌, [], ℕ, List, Option, Ok, Err, IfOk, OnErr, OnOk};
+ghost use Rattle.std.specs.Prelude.{◌≡◌, ◌++◌, ◌∷◌, ◌≤◌, [], None, OnErr, OnOk, false};
 ghost use Rattle.std.specs.Io.KnownBytes.{Appends};
 ghost use Rattle.fs_recovery.specs.Opens.{IsNoList};
 ghost use Rattle.zb_base.specs.Counts.{Rose};
 ghost use Rattle.zb_outside.specs.Written.{AppendsPrefix};
 ghost use Rattle.zb_volume.specs.declared.areas.Area.TheVariants.{Main};
 ghost use Rattle.zb_volume.specs.Disk.{seen};
+ghost use Rattle.zb_volume.specs.Moments.{Leaves};
+ghost use Rattle.zodb_core.specs.HubState.{counts_of};
+ghost use Rattle.zodb_core.specs.Outcomes.{AreLaterCounts};
 ghost use Rattle.zodb_top.specs.Asked.{AskSays};
-ghost use Rattle.zodb_top.specs.Asking.{AnswerSays};
+ghost use Rattle.zodb_top.specs.Asking.{AnswerSays, KeepsStore, StoreAnswers};
 ghost use Rattle.zodb_top.specs.Opened.{IsLeft};
 ghost use Rattle.zodb_top.specs.Outside.{outside};
 ghost use Rattle.zodb_top.specs.Texts.{joined, refused_line};
@@ -18,30 +21,11 @@ use crate::command::Asked;
 use crate::saying::{cut_lines, say_unopened, write_lines};
 use crate::status::Status;
 use file_store::FileStore;
-use std::alloc::{AllocError, Global};
+use std::alloc::Global;
 use zb_ids::{ListOf, Text8};
-use zb_outside::{Clock, Failed, Sink};
+use zb_model::Store;
+use zb_outside::{Clock, Failed, Sink, write_all};
 use zb_volume::Volume;
-
-/// The lines of an answer, or the one that says that reading failed.
-fn or_refused(
-    alloc: Global,
-    answer: Result<ListOf<Text8>, AskError>,
-) -> Result<ListOf<Text8>, AllocError>
-    ensures answered { (lines : List (List ℕ)) → answer ≡ Ok lines → IfOk result (λ all. all ≡ lines) }
-    ensures failed { answer ≡ Err AskError.ReadFault → IfOk result (λ all. all ≡ refused_line ∷ []) }
-    ensures memory { answer ≡ Err AskError.Memory → OnOk result ⊥ }
-{
-    match answer {
-        Ok(lines) => Ok(lines),
-        Err(AskError::ReadFault) => {
-            let mut lines = ListOf::new(alloc);
-            lines.push(Text8::from_slice(alloc, b"refused ReadFault\n")?)?;
-            Ok(lines)
-        }
-        Err(AskError::Memory) => Err(AllocError),
-    }
-}
 
 /// Writes lines, and then more.
 #[tactic(auto, using(crate::proofs::Prefixes::both_lines, crate::proofs::Prefixes::first_prefix, crate::proofs::Prefixes::second_prefix))]
@@ -55,26 +39,65 @@ fn write_both<K: Sink>(sink: &mut K, lines: &[Text8], more: &[Text8]) -> Result<
     write_lines(sink, more)
 }
 
-/// Writes the line of a tail that was cut off, where one was, and those of an answer.
+/// Writes lines, and then that reading failed, which takes no memory.
+#[tactic(auto, using(crate::proofs::Prefixes::both_lines, crate::proofs::Prefixes::first_prefix, crate::proofs::Prefixes::second_prefix))]
+fn write_refused<K: Sink>(sink: &mut K, lines: &[Text8]) -> Result<(), Failed>
+    ensures ok { OnOk result (Appends (K.taken sink.old) (K.taken sink.new) (joined (lines.now ++ refused_line ∷ []))) }
+    ensures err { OnErr result (AppendsPrefix (K.taken sink.old) (K.taken sink.new) (joined (lines.now ++ refused_line ∷ []))) }
+    ensures failed { OnErr result (Rose (K.faults sink.old) (K.faults sink.new)) }
+    ensures counted { K.faults sink.old ≤ K.faults sink.new }
+{
+    write_lines(sink, lines)?;
+    write_all(sink, b"refused ReadFault\n")
+}
+
+/// Writes an answer behind some lines. It takes no memory, so that a failed read is told where there is none.
 fn write_answer<K: Sink>(
-    alloc: Global,
-    cut: Option<u64>,
+    lines: &[Text8],
     answer: Result<ListOf<Text8>, AskError>,
     sink: &mut K,
 ) -> Status
-    ensures says { AnswerSays result cut answer (K.taken sink.old) (K.taken sink.new) (K.faults sink.old) (K.faults sink.new) }
+    ensures says { AnswerSays result lines.now answer (K.taken sink.old) (K.taken sink.new) (K.faults sink.old) (K.faults sink.new) }
     ensures counted { K.faults sink.old ≤ K.faults sink.new }
 {
-    let Ok(cut) = cut_lines(alloc, cut) else {
-        return Status::NoMemory;
-    };
-    let Ok(lines) = or_refused(alloc, answer) else {
-        return Status::NoMemory;
-    };
-    match write_both(sink, cut.as_slice(), lines.as_slice()) {
-        Ok(()) => Status::Done,
-        Err(Failed) => Status::SinkFault,
+    match answer {
+        Ok(more) => match write_both(sink, lines, more.as_slice()) {
+            Ok(()) => Status::Done,
+            Err(Failed) => Status::SinkFault,
+        },
+        Err(AskError::ReadFault) => match write_refused(sink, lines) {
+            Ok(()) => Status::Done,
+            Err(Failed) => Status::SinkFault,
+        },
+        Err(AskError::Memory) => Status::NoMemory,
     }
+}
+
+/// Answers what is asked of a store, behind the line of a tail that was cut off, where one was, and hands
+/// it back.
+fn answer_store<St: Store, K: Sink, C: Clock>(
+    alloc: Global,
+    store: St,
+    cut: Option<u64>,
+    asked: Asked,
+    sink: &mut K,
+    clock: &mut C,
+) -> (Status, St)
+    requires whole { (St.state store).broken ≡ false }
+    requires free { (St.state store).voted ≡ None }
+    ensures says { StoreAnswers result.0 asked St.told cut (K.taken sink.old) (K.taken sink.new) (K.faults sink.old) (K.faults sink.new) (St.state store) (St.state result.1) }
+    ensures keeps { St.told → KeepsStore (St.state store) (St.state result.1) (C.stamps clock.old) (C.stamps clock.new) }
+    ensures images { St.lasts → (St.state result.1).broken ≡ false →
+        Leaves Main (λ bytes. St.stands bytes (St.state result.1).list) (St.state result.1).log }
+    ensures later { AreLaterCounts (counts_of (St.state store)) (counts_of (St.state result.1)) }
+    ensures others { (St.state result.1).faults ≡ (St.state store).faults }
+    ensures counted { K.faults sink.old ≤ K.faults sink.new }
+{
+    let Ok(lines) = cut_lines(alloc, cut) else {
+        return (Status::NoMemory, store);
+    };
+    let (answer, store) = store_lines(alloc, store, asked, clock);
+    (write_answer(lines.as_slice(), answer, sink), store)
 }
 
 /// Opens the file in Main, which is made first where Main is empty, and answers what is asked of it.
@@ -92,14 +115,14 @@ pub(crate) fn answer_file<K: Sink, V: Volume + Drop, C: Clock>(
         (outside (K.taken sink.old) (K.faults sink.old) (C.stamps clock.old) (V.log volume) (V.read_faults volume) (V.write_faults volume))
         (outside (K.taken sink.new) (K.faults sink.new) (C.stamps clock.new) (V.log result.1) (V.read_faults result.1) (V.write_faults result.1)) }
     ensures harmed { V.told → IsNoList (seen (V.log volume) Main) → V.log result.1 ≡ V.log volume }
+    ensures others { ¬ (result.0 ≡ Status.StoreFault) → V.write_faults result.1 ≡ V.write_faults volume }
     ensures sink_counted { K.faults sink.old ≤ K.faults sink.new }
     ensures read_counted { V.read_faults volume ≤ V.read_faults result.1 }
     ensures counted { V.write_faults volume ≤ V.write_faults result.1 }
 {
     match FileStore::create_or_open(alloc, volume, clock) {
         Ok((store, cut)) => {
-            let (lines, store) = store_lines(alloc, store, asked, clock);
-            let status = write_answer(alloc, cut, lines, sink);
+            let (status, store) = answer_store(alloc, store, cut, asked, sink, clock);
             (status, store.into_volume())
         }
         Err((error, volume)) => (say_unopened(alloc, sink, error), volume),

@@ -67,6 +67,8 @@ fn ask<St: Store, C: Clock>(
     ensures reply { St.told → (m : Machine) → StandsForMachine hub.old m → IfOk result (λ r. IsStepped m session request r) }
     ensures keeps { St.told → (m : Machine) → StandsForMachine hub.old m → hub.old.store.broken ≡ false → KeepsList m hub.old hub.new (C.stamps clock.old) (C.stamps clock.new) }
     ensures failed { IsErrOf result AskError.ReadFault → Rose hub.old.store.read_faults hub.new.store.read_faults }
+    ensures calm { ¬ IsErrOf result AskError.ReadFault → counts_of hub.new.store ≡ counts_of hub.old.store }
+    ensures others { hub.new.store.faults ≡ hub.old.store.faults }
     ensures later { AreLaterCounts (counts_of hub.old.store) (counts_of hub.new.store) }
 {
     let reply = hub.step(alloc, session, request, clock);
@@ -149,6 +151,8 @@ fn front<St: Store, C: Clock>(
     ensures front { St.told → (m : Machine) → StandsForMachine hub.old m → IfOk result (λ f. f ≡ front_of m.list) }
     ensures keeps { St.told → (m : Machine) → StandsForMachine hub.old m → hub.old.store.broken ≡ false → KeepsList m hub.old hub.new (C.stamps clock.old) (C.stamps clock.new) }
     ensures failed { IsErrOf result AskError.ReadFault → Rose hub.old.store.read_faults hub.new.store.read_faults }
+    ensures calm { ¬ IsErrOf result AskError.ReadFault → counts_of hub.new.store ≡ counts_of hub.old.store }
+    ensures others { hub.new.store.faults ≡ hub.old.store.faults }
     ensures later { AreLaterCounts (counts_of hub.old.store) (counts_of hub.new.store) }
 {
     match ask(alloc, hub, session, Request::Front, clock)? {
@@ -168,6 +172,8 @@ fn load_last<St: Store, C: Clock>(
     ensures last { St.told → (m : Machine) → StandsForMachine hub.old m → hub.old.store.broken ≡ false → IfOk result (IsLast oid m.list) }
     ensures keeps { St.told → (m : Machine) → StandsForMachine hub.old m → hub.old.store.broken ≡ false → KeepsList m hub.old hub.new (C.stamps clock.old) (C.stamps clock.new) }
     ensures failed { IsErrOf result AskError.ReadFault → Rose hub.old.store.read_faults hub.new.store.read_faults }
+    ensures calm { ¬ IsErrOf result AskError.ReadFault → counts_of hub.new.store ≡ counts_of hub.old.store }
+    ensures others { hub.new.store.faults ≡ hub.old.store.faults }
     ensures later { AreLaterCounts (counts_of hub.old.store) (counts_of hub.new.store) }
 {
     let front = front(alloc, hub, session, clock)?;
@@ -189,6 +195,8 @@ fn undo_log<St: Store, C: Clock>(
     ensures lines { St.told → (m : Machine) → StandsForMachine hub.old m → IfOk result (λ lines. lines ≡ map log_text (undo_log_of m.list)) }
     ensures keeps { St.told → (m : Machine) → StandsForMachine hub.old m → hub.old.store.broken ≡ false → KeepsList m hub.old hub.new (C.stamps clock.old) (C.stamps clock.new) }
     ensures failed { IsErrOf result AskError.ReadFault → Rose hub.old.store.read_faults hub.new.store.read_faults }
+    ensures calm { ¬ IsErrOf result AskError.ReadFault → counts_of hub.new.store ≡ counts_of hub.old.store }
+    ensures others { hub.new.store.faults ≡ hub.old.store.faults }
     ensures later { AreLaterCounts (counts_of hub.old.store) (counts_of hub.new.store) }
 {
     match ask(alloc, hub, session, Request::UndoLog, clock)? {
@@ -207,6 +215,8 @@ fn history<St: Store, C: Clock>(
     ensures lines { St.told → (m : Machine) → StandsForMachine hub.old m → IfOk result (λ lines. lines ≡ map revision_text (history_of oid m.list)) }
     ensures keeps { St.told → (m : Machine) → StandsForMachine hub.old m → hub.old.store.broken ≡ false → KeepsList m hub.old hub.new (C.stamps clock.old) (C.stamps clock.new) }
     ensures failed { IsErrOf result AskError.ReadFault → Rose hub.old.store.read_faults hub.new.store.read_faults }
+    ensures calm { ¬ IsErrOf result AskError.ReadFault → counts_of hub.new.store ≡ counts_of hub.old.store }
+    ensures others { hub.new.store.faults ≡ hub.old.store.faults }
     ensures later { AreLaterCounts (counts_of hub.old.store) (counts_of hub.new.store) }
 {
     match ask(alloc, hub, session, Request::History { oid }, clock)? {
@@ -225,6 +235,8 @@ fn show<St: Store, C: Clock>(
     ensures lines { St.told → (m : Machine) → StandsForMachine hub.old m → hub.old.store.broken ≡ false → IfOk result (λ lines. lines ≡ shown (last_of oid m.list) ∷ []) }
     ensures keeps { St.told → (m : Machine) → StandsForMachine hub.old m → hub.old.store.broken ≡ false → KeepsList m hub.old hub.new (C.stamps clock.old) (C.stamps clock.new) }
     ensures failed { IsErrOf result AskError.ReadFault → Rose hub.old.store.read_faults hub.new.store.read_faults }
+    ensures calm { ¬ IsErrOf result AskError.ReadFault → counts_of hub.new.store ≡ counts_of hub.old.store }
+    ensures others { hub.new.store.faults ≡ hub.old.store.faults }
     ensures later { AreLaterCounts (counts_of hub.old.store) (counts_of hub.new.store) }
 {
     let reply = load_last(alloc, hub, session, oid, clock)?;
@@ -241,6 +253,8 @@ fn digest<St: Store, C: Clock>(
     ensures lines { St.told → (m : Machine) → StandsForMachine hub.old m → hub.old.store.broken ≡ false → IfOk result (λ lines. lines ≡ digested (last_of oid m.list) ∷ []) }
     ensures keeps { St.told → (m : Machine) → StandsForMachine hub.old m → hub.old.store.broken ≡ false → KeepsList m hub.old hub.new (C.stamps clock.old) (C.stamps clock.new) }
     ensures failed { IsErrOf result AskError.ReadFault → Rose hub.old.store.read_faults hub.new.store.read_faults }
+    ensures calm { ¬ IsErrOf result AskError.ReadFault → counts_of hub.new.store ≡ counts_of hub.old.store }
+    ensures others { hub.new.store.faults ≡ hub.old.store.faults }
     ensures later { AreLaterCounts (counts_of hub.old.store) (counts_of hub.new.store) }
 {
     let reply = load_last(alloc, hub, session, oid, clock)?;
@@ -258,6 +272,8 @@ fn session_lines<St: Store, C: Clock>(
     ensures lines { St.told → (m : Machine) → StandsForMachine hub.old m → hub.old.store.broken ≡ false → IfOk result (λ lines. lines ≡ lines_of asked m.list) }
     ensures keeps { St.told → (m : Machine) → StandsForMachine hub.old m → hub.old.store.broken ≡ false → KeepsList m hub.old hub.new (C.stamps clock.old) (C.stamps clock.new) }
     ensures failed { IsErrOf result AskError.ReadFault → Rose hub.old.store.read_faults hub.new.store.read_faults }
+    ensures calm { ¬ IsErrOf result AskError.ReadFault → counts_of hub.new.store ≡ counts_of hub.old.store }
+    ensures others { hub.new.store.faults ≡ hub.old.store.faults }
     ensures later { AreLaterCounts (counts_of hub.old.store) (counts_of hub.new.store) }
 {
     match asked {
@@ -278,6 +294,8 @@ fn hub_lines<St: Store, C: Clock>(
     ensures lines { St.told → (m : Machine) → StandsForMachine hub.old m → hub.old.store.broken ≡ false → IfOk result (λ lines. lines ≡ lines_of asked m.list) }
     ensures keeps { St.told → (m : Machine) → StandsForMachine hub.old m → hub.old.store.broken ≡ false → KeepsList m hub.old hub.new (C.stamps clock.old) (C.stamps clock.new) }
     ensures failed { IsErrOf result AskError.ReadFault → Rose hub.old.store.read_faults hub.new.store.read_faults }
+    ensures calm { ¬ IsErrOf result AskError.ReadFault → counts_of hub.new.store ≡ counts_of hub.old.store }
+    ensures others { hub.new.store.faults ≡ hub.old.store.faults }
     ensures later { AreLaterCounts (counts_of hub.old.store) (counts_of hub.new.store) }
 {
     match hub.open_session() {
@@ -300,6 +318,8 @@ pub(crate) fn store_lines<St: Store, C: Clock>(
     ensures images { St.lasts → (St.state result.1).broken ≡ false →
         Leaves Main (λ bytes. St.stands bytes (St.state result.1).list) (St.state result.1).log }
     ensures failed { IsErrOf result.0 AskError.ReadFault → Rose (St.state store).read_faults (St.state result.1).read_faults }
+    ensures calm { ¬ IsErrOf result.0 AskError.ReadFault → counts_of (St.state result.1) ≡ counts_of (St.state store) }
+    ensures others { (St.state result.1).faults ≡ (St.state store).faults }
     ensures later { AreLaterCounts (counts_of (St.state store)) (counts_of (St.state result.1)) }
 {
     let mut hub = Hub::new(alloc, store, StockResolver, StockRefs);

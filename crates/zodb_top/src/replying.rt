@@ -4,13 +4,13 @@ ghost use Rattle.std.specs.Prelude.{◌≡◌, ◌<◌, ◌≤◌, [], Some, fal
 ghost use Rattle.std.specs.List.{AllByRecursion};
 ghost use Rattle.std.specs.Io.KnownBytes.{Appends};
 ghost use Rattle.zb_base.specs.Counts.{Rose};
-ghost use Rattle.zb_volume.specs.declared.areas.Area.TheVariants.{Main};
-ghost use Rattle.zb_volume.specs.Moments.{Leaves, LeavesOnly};
+ghost use Rattle.zb_volume.specs.declared.areas.Area.TheVariants.{Main, Side};
+ghost use Rattle.zb_volume.specs.Moments.{Leaves, LeavesOnly, StaysAs};
 ghost use Rattle.client_turns.specs.declared.errors.TurnError.TheVariants.{StoreFault};
 ghost use Rattle.client_turns.specs.Clients.{Moment};
 ghost use Rattle.client_turns.specs.Output.{last_flags};
 ghost use Rattle.client_turns.specs.Refusing.{IsFittingLine};
-ghost use Rattle.client_turns.specs.Standing.{IsListAround, LeadsTo, StandsForMoment};
+ghost use Rattle.client_turns.specs.Standing.{IsListIn, LeadsTo, StandsForMoment};
 ghost use Rattle.zodb_top.specs.Running.{IsReplied, IsStopped, RunsOn, Stops, broke_of};
 
 use crate::saying::write_lines;
@@ -36,7 +36,7 @@ pub(crate) enum RunError {
 }
 
 /// Takes a turn and writes its reply, each line by a write of its own.
-#[tactic(auto, using(crate::proofs::Replies::replied, crate::proofs::Replies::unanswered))]
+#[tactic(auto, using(crate::proofs::Replies::replied, crate::proofs::Replies::unanswered, crate::proofs::Nexts::answered_others, crate::proofs::Nexts::broken_others))]
 fn reply<St: Store, K: Sink, C: Clock>(
     alloc: Global,
     clients: &mut Clients<St, StockResolver, StockRefs>,
@@ -51,9 +51,11 @@ fn reply<St: Store, K: Sink, C: Clock>(
     ensures err { St.told → (m : Moment) → StandsForMoment clients.old (C.stamps clock.old) m → IfErr result (λ e.
         LeadsTo (IsStopped e m turn.now is_last (K.taken sink.old) (K.taken sink.new)) clients.new (C.stamps clock.new)) }
     ensures moments { St.lasts → St.told → clients.old.hub.store.broken ≡ false → (m : Moment) → StandsForMoment clients.old (C.stamps clock.old) m →
-        LeavesOnly Main (IsListAround St.stands m.machine) clients.old.hub.store.log clients.new.hub.store.log }
+        LeavesOnly Main (IsListIn St.stands m.machine turn.now.line) clients.old.hub.store.log clients.new.hub.store.log }
+    ensures side { St.lasts → StaysAs Side clients.old.hub.store.log clients.new.hub.store.log }
     ensures sink_failed { IsErrOf result RunError.SinkFault → Rose (K.faults sink.old) (K.faults sink.new) }
     ensures store_failed { IsErrOf result (RunError.Turn StoreFault) → Rose clients.old.hub.store.faults clients.new.hub.store.faults }
+    ensures others { ¬ IsErrOf result (RunError.Turn StoreFault) → clients.new.hub.store.faults ≡ clients.old.hub.store.faults }
     ensures sink_counted { K.faults sink.old ≤ K.faults sink.new }
     ensures read_counted { clients.old.hub.store.read_faults ≤ clients.new.hub.store.read_faults }
     ensures counted { clients.old.hub.store.faults ≤ clients.new.hub.store.faults }
@@ -96,8 +98,10 @@ pub(crate) fn take_turns<St: Store, K: Sink, C: Clock>(
         (RunsOn St.lasts St.stands m turns.now turns.now [] (K.taken sink.old) (K.taken sink.new) clients.old.hub.store.log clients.new (C.stamps clock.new)) }
     ensures err { St.told → (m : Moment) → StandsForMoment clients.old (C.stamps clock.old) m → m.machine.failed ≡ false → IfErr result (λ e.
         Stops St.lasts St.stands (broke_of e) m turns.now (K.taken sink.old) (K.taken sink.new) clients.old.hub.store.log clients.new (C.stamps clock.new)) }
+    ensures side { St.lasts → StaysAs Side clients.old.hub.store.log clients.new.hub.store.log }
     ensures sink_failed { IsErrOf result RunError.SinkFault → Rose (K.faults sink.old) (K.faults sink.new) }
     ensures store_failed { IsErrOf result (RunError.Turn StoreFault) → Rose clients.old.hub.store.faults clients.new.hub.store.faults }
+    ensures others { ¬ IsErrOf result (RunError.Turn StoreFault) → clients.new.hub.store.faults ≡ clients.old.hub.store.faults }
     ensures sink_counted { K.faults sink.old ≤ K.faults sink.new }
     ensures read_counted { clients.old.hub.store.read_faults ≤ clients.new.hub.store.read_faults }
     ensures counted { clients.old.hub.store.faults ≤ clients.new.hub.store.faults }

@@ -1,12 +1,13 @@
 //! The turns of a script over a store, and over the file in Main.
 
-ghost use Rattle.std.specs.Prelude.{◌≡◌, ◌≤◌, ℕ, List, Option, None, false};
+ghost use Rattle.std.specs.Prelude.{◌≡◌, ◌≢◌, ◌≤◌, ℕ, List, [], Option, None, false};
 ghost use Rattle.std.specs.List.{AllByRecursion};
 ghost use Rattle.fs_records.specs.File.{StandsFor};
 ghost use Rattle.fs_recovery.specs.Opens.{IsNoList};
 ghost use Rattle.zb_base.specs.Counts.{Rose};
 ghost use Rattle.zb_model.specs.declared.data.Transaction.{Transaction};
-ghost use Rattle.zb_volume.specs.declared.areas.Area.TheVariants.{Main};
+ghost use Rattle.zb_volume.specs.declared.areas.Area.TheVariants.{Main, Side};
+ghost use Rattle.zb_volume.specs.Moments.{StaysAs};
 ghost use Rattle.zb_volume.specs.Disk.{seen};
 ghost use Rattle.client_turns.specs.Refusing.{IsFittingLine};
 ghost use Rattle.zodb_top.specs.Came.{began};
@@ -41,6 +42,7 @@ fn say_stopped<K: Sink>(sink: &mut K, error: RunError) -> Status
 
 /// Writes the line of a tail that was cut off, where one was, takes the turns over a store, and hands
 /// it back.
+#[tactic(auto, using(zb_model::specs::StayLaws::stays_same, crate::proofs::Sides::ran_over))]
 fn run_store<St: Store, K: Sink, C: Clock>(
     alloc: Global,
     store: St,
@@ -56,6 +58,8 @@ fn run_store<St: Store, K: Sink, C: Clock>(
         (began (St.state store).list (C.stamps clock.old) (St.state store).read_faults (St.state store).faults) cut turns.now
         (K.taken sink.old) (K.taken sink.new) (K.faults sink.old) (K.faults sink.new) (St.state store) (St.state result.1) (C.stamps clock.new) }
     ensures complete { ¬ Rose (St.state store).faults (St.state result.1).faults → ¬ Rose (K.faults sink.old) (K.faults sink.new) → IsUnlessMemory result.0 Status.Done }
+    ensures others { ¬ (result.0 ≡ Status.StoreFault) → (St.state result.1).faults ≡ (St.state store).faults }
+    ensures side { St.lasts → StaysAs Side (St.state store).log (St.state result.1).log }
     ensures sink_counted { K.faults sink.old ≤ K.faults sink.new }
     ensures read_counted { (St.state store).read_faults ≤ (St.state result.1).read_faults }
     ensures counted { (St.state store).faults ≤ (St.state result.1).faults }
@@ -80,6 +84,7 @@ fn run_store<St: Store, K: Sink, C: Clock>(
 }
 
 /// Opens the file in Main, which is made first where Main is empty, and takes the turns over it.
+#[tactic(auto, using(crate::proofs::Sides::over_file))]
 pub(crate) fn run_file<K: Sink, V: Volume + Drop, C: Clock>(
     alloc: Global,
     turns: &[Turn],
@@ -96,6 +101,8 @@ pub(crate) fn run_file<K: Sink, V: Volume + Drop, C: Clock>(
     ensures damaged { V.told → ¬ Rose (V.read_faults volume) (V.read_faults result.1) → ¬ Rose (V.write_faults volume) (V.write_faults result.1)
         → IsNoList (seen (V.log volume) Main) → IsUnlessMemory result.0 Status.Damaged }
     ensures harmed { V.told → IsNoList (seen (V.log volume) Main) → V.log result.1 ≡ V.log volume }
+    ensures others { ¬ (result.0 ≡ Status.StoreFault) → V.write_faults result.1 ≡ V.write_faults volume }
+    ensures side { V.told → seen (V.log volume) Main ≢ [] → StaysAs Side (V.log volume) (V.log result.1) }
     ensures sink_counted { K.faults sink.old ≤ K.faults sink.new }
     ensures read_counted { V.read_faults volume ≤ V.read_faults result.1 }
     ensures counted { V.write_faults volume ≤ V.write_faults result.1 }

@@ -1,6 +1,6 @@
 //! The script that the source has.
 
-ghost use Rattle.std.specs.Prelude.{◌≡◌, ◌≤◌, ◌+◌, ℕ, List, None, Option, Some, IfErr, IfOk, IfSome, IsErr, IsTrue, OnOk, length};
+ghost use Rattle.std.specs.Prelude.{◌≡◌, ◌≢◌, ◌≤◌, ◌+◌, ℕ, List, [], None, Option, Some, IfErr, IfOk, IfSome, IsErr, IsTrue, OnOk, length};
 ghost use Rattle.std.specs.List.{AllByRecursion};
 ghost use Rattle.std.specs.Io.KnownBytes.{Consumes, IsAtEnd};
 ghost use Rattle.fs_records.specs.File.{StandsFor};
@@ -11,7 +11,8 @@ ghost use Rattle.zb_script.specs.declared.limits.Limit.{Limit as WhichLimit};
 ghost use Rattle.zb_script.specs.declared.line.Turn.{Turn};
 ghost use Rattle.zb_script.specs.Limits.{first_limit};
 ghost use Rattle.zb_script.specs.Script.{IsBadLine, IsScript};
-ghost use Rattle.zb_volume.specs.declared.areas.Area.TheVariants.{Main};
+ghost use Rattle.zb_volume.specs.declared.areas.Area.TheVariants.{Main, Side};
+ghost use Rattle.zb_volume.specs.Moments.{StaysAs};
 ghost use Rattle.zb_volume.specs.Disk.{seen};
 ghost use Rattle.client_turns.specs.Refusing.{IsFittingLine};
 ghost use Rattle.zodb_top.specs.Inputs.{InputSays, SaysBadLine, SaysLimit, most_bytes};
@@ -76,6 +77,7 @@ fn turns_of<K: Sink>(alloc: Global, input: &[u8], sink: &mut K) -> Result<ListOf
 
 /// Reads the script that the source has, to its end or past its limit, and runs it over the file in
 /// Main.
+#[tactic(auto, using(zb_model::specs::StayLaws::stays_same))]
 pub(crate) fn run_source<S: Source, K: Sink, V: Volume + Drop, C: Clock>(
     alloc: Global,
     source: &mut S,
@@ -99,6 +101,8 @@ pub(crate) fn run_source<S: Source, K: Sink, V: Volume + Drop, C: Clock>(
     ensures limit { IfSome (S.left source.old) (λ input. (l : WhichLimit) → first_limit input ≡ Some l
         → ¬ Rose (S.faults source.old) (S.faults source.new) → IsUnlessMemory result.0 Status.Limit) }
     ensures harmed { V.told → IsNoList (seen (V.log volume) Main) → V.log result.1 ≡ V.log volume }
+    ensures others { ¬ (result.0 ≡ Status.StoreFault) → V.write_faults result.1 ≡ V.write_faults volume }
+    ensures side { V.told → seen (V.log volume) Main ≢ [] → StaysAs Side (V.log volume) (V.log result.1) }
     ensures source_counted { S.faults source.old ≤ S.faults source.new }
     ensures sink_counted { K.faults sink.old ≤ K.faults sink.new }
     ensures read_counted { V.read_faults volume ≤ V.read_faults result.1 }

@@ -1,6 +1,6 @@
 //! The top call.
 
-ghost use Rattle.std.specs.Prelude.{◌≡◌, ◌≤◌, ◌+◌, ◌↔◌, ℕ, List, Option, Some, None, map, length, string_bytes, IfSome, IsTrue};
+ghost use Rattle.std.specs.Prelude.{◌≡◌, ◌≢◌, ◌≤◌, ◌+◌, ◌↔◌, ℕ, List, [], Option, Some, None, map, length, string_bytes, IfSome, IsTrue};
 ghost use Rattle.std.specs.Io.KnownBytes.{Consumes, IsAtEnd};
 ghost use Rattle.fs_records.specs.File.{StandsFor};
 ghost use Rattle.fs_recovery.specs.Opens.{IsNoList};
@@ -10,7 +10,8 @@ ghost use Rattle.zb_script.specs.declared.limits.Limit.{Limit as WhichLimit};
 ghost use Rattle.zb_script.specs.declared.line.Turn.{Turn};
 ghost use Rattle.zb_script.specs.Limits.{first_limit};
 ghost use Rattle.zb_script.specs.Script.{IsBadLine};
-ghost use Rattle.zb_volume.specs.declared.areas.Area.TheVariants.{Main};
+ghost use Rattle.zb_volume.specs.declared.areas.Area.TheVariants.{Main, Side};
+ghost use Rattle.zb_volume.specs.Moments.{StaysAs};
 ghost use Rattle.zb_volume.specs.Disk.{seen};
 ghost use Rattle.zodb_top.specs.declared.command.Asked.{Asked};
 ghost use Rattle.zodb_top.specs.declared.command.Command.TheVariants.{Run, Ask};
@@ -38,6 +39,7 @@ use zb_volume::Volume;
 ///
 /// `outside` is what is seen at the call and at the return: what the sink has taken, its count of faults,
 /// the clock's stamps, and of the volume its log and its counts of failed reads and of other failed calls.
+#[tactic(auto, using(zb_model::specs::StayLaws::stays_same, crate::proofs::Sides::left_side))]
 pub fn zodb_main<S: Source, K: Sink, V: Volume + Drop, C: Clock>(
     alloc: Global,
     words: &[String],
@@ -66,7 +68,7 @@ pub fn zodb_main<S: Source, K: Sink, V: Volume + Drop, C: Clock>(
         (outside (K.taken sink.old) (K.faults sink.old) (C.stamps clock.old) (V.log volume) (V.read_faults volume) (V.write_faults volume))
         (outside (K.taken sink.new) (K.faults sink.new) (C.stamps clock.new) (V.log result.1) (V.read_faults result.1) (V.write_faults result.1)) }
 
-    // They leave the list as it was, at every moment and whatever their status.
+    // They leave the list as it was, at every moment and whatever their status, and Main's bytes, but for a tail.
     ensures left { (asked : Asked) → command_of (map string_bytes words.now) ≡ Some (Ask asked) → V.told → IsLeft V.told
         (outside (K.taken sink.old) (K.faults sink.old) (C.stamps clock.old) (V.log volume) (V.read_faults volume) (V.write_faults volume))
         (outside (K.taken sink.new) (K.faults sink.new) (C.stamps clock.new) (V.log result.1) (V.read_faults result.1) (V.write_faults result.1)) }
@@ -100,6 +102,12 @@ pub fn zodb_main<S: Source, K: Sink, V: Volume + Drop, C: Clock>(
     ensures damaged { (asked : Asked) → command_of (map string_bytes words.now) ≡ Some (Ask asked) → V.told
         → ¬ Rose (V.read_faults volume) (V.read_faults result.1) → ¬ Rose (V.write_faults volume) (V.write_faults result.1)
         → IsNoList (seen (V.log volume) Main) → IsUnlessMemory result.0 Status.Damaged }
+
+    // No call that would change the volume has failed, unless the status says so.
+    ensures written { ¬ (result.0 ≡ Status.StoreFault) → V.write_faults result.1 ≡ V.write_faults volume }
+
+    // Side is as it was, at every moment and whatever the status, unless Main was empty, so that the file had to be made.
+    ensures side { V.told → seen (V.log volume) Main ≢ [] → StaysAs Side (V.log volume) (V.log result.1) }
 
     // The counts of faults never fall.
     ensures source_counted { S.faults source.old ≤ S.faults source.new }

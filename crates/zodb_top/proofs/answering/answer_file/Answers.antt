@@ -1,14 +1,15 @@
-use Rattle.std.proofs.Common.{refl, sym}
+use Rattle.std.proofs.Common.{refl, sym, ◌∙◌}
 use Rattle.std.specs.Option.{option_map}
 use Rattle.fs_records.specs.Listed.{listed}
-use Rattle.file_store.specs.Kept.{voted_in}
-use Rattle.zb_base.specs.Counts.{Rose}
+use Rattle.file_store.specs.Kept.{copied_in, voted_in}
 use Rattle.zb_model.specs.Stores.{StoreState}
-use Rattle.zb_volume.specs.declared.areas.Area.TheVariants.{Main}
+use Rattle.zb_volume.specs.declared.areas.Area.TheVariants.{Main, Side}
 use Rattle.zb_volume.specs.Disk.{seen}
 use Rattle.zodb_top.specs.Outside.{Outside, outside}
-use Rattle.zodb_top.proofs.Commands.{answered, left_open, rose_so, unopened}
+use Rattle.zodb_top.proofs.Commands.{answered, left_open, unopened}
 use Rattle.zodb_top.proofs.Files.{opened_none, opens_as}
+use Rattle.zodb_top.proofs.Nexts.{unopened_other}
+use Rattle.zodb_top.proofs.Volumes.{bytes_unless}
 use Rattle.zodb_top.proofs.answering.answer_file.Goals as goal
 
 pub returns-in-Ok-clause-outcome : goal.returns-in-Ok-clause-outcome
@@ -17,12 +18,13 @@ returns-in-Ok-clause-outcome g c =
     let K = g.K.Sink in
     let C = g.C.Clock in
     let before : Outside = outside (K.taken c.args.sink.now) (K.faults c.args.sink.now) (C.stamps c.args.clock.now) (V.log c.args.volume) (V.read_faults c.args.volume) (V.write_faults c.args.volume) in
-    let after : Outside = outside (K.taken c.write_answer-status.new.sink) (K.faults c.write_answer-status.new.sink) (C.stamps c.store_lines-lines.new.clock) (V.log c.into_volume.result) (V.read_faults c.into_volume.result) (V.write_faults c.into_volume.result) in
+    let after : Outside = outside (K.taken c.answer_store-status.new.sink) (K.faults c.answer_store-status.new.sink) (C.stamps c.answer_store-status.new.clock) (V.log c.into_volume.result) (V.read_faults c.into_volume.result) (V.write_faults c.into_volume.result) in
     let s = c.in-Ok.store in
-    let t = c.store_lines-lines.result.1 in
+    let t = c.answer_store-status.result.1 in
     let state : StoreState = record {
       list = listed (seen (V.log s.volume) Main);
       voted = option_map (λ x. voted_in x.tid s.index.end (seen (V.log s.volume) Main)) s.index.staged;
+      begun = option_map (λ x. copied_in x.tid (seen (V.log s.volume) Side)) s.copy;
       newest = s.index.newest;
       broken = s.broken;
       log = V.log s.volume;
@@ -32,26 +34,27 @@ returns-in-Ok-clause-outcome g c =
     let state' : StoreState = record {
       list = listed (seen (V.log t.volume) Main);
       voted = option_map (λ x. voted_in x.tid t.index.end (seen (V.log t.volume) Main)) t.index.staged;
+      begun = option_map (λ x. copied_in x.tid (seen (V.log t.volume) Side)) t.copy;
       newest = t.index.newest;
       broken = t.broken;
       log = V.log t.volume;
       faults = V.write_faults t.volume;
       read_faults = V.read_faults t.volume;
     } in
-    answered c.args.asked V.told before after state state' (C.stamps c.create_or_open.new.clock) c.in-Ok.cut c.into_volume.ensures.log
-    (λ rose. rose_so _ _ _ _ c.in-Ok.ensures.read_faults c.into_volume.ensures.read_faults rose) c.write_answer-status.result c.store_lines-lines.result.0 c.write_answer-status.ensures.says
+    answered c.args.asked V.told before after state state' (C.stamps c.create_or_open.new.clock) c.in-Ok.cut c.into_volume.ensures.log c.in-Ok.ensures.read_faults c.in-Ok.ensures.faults c.into_volume.ensures.read_faults c.into_volume.ensures.faults
+    c.answer_store-status.result.0 c.answer_store-status.ensures.says
     (λ told. record {
       file = record {
         opens = opens_as _ _ _ _ _ (c.in-Ok.ensures.opened told) (c.in-Ok.ensures.made told) (c.in-Ok.ensures.stamps_kept told) (c.in-Ok.ensures.stamps_left told);
         keeps = c.in-Ok.ensures.keeps told;
         makes = c.in-Ok.ensures.makes told;
         shown = g.met.V.Volume.seen_is_left c.into_volume.result Main told;
+        bytes = c.in-Ok.ensures.content told;
+        new_file = c.in-Ok.ensures.new_file told;
       };
-      lines = c.store_lines-lines.ensures.lines told;
-      keeps = c.store_lines-lines.ensures.keeps told;
-      images = c.store_lines-lines.ensures.images told (c.store_lines-lines.ensures.keeps told).whole;
+      keeps = c.answer_store-status.ensures.keeps told;
+      images = c.answer_store-status.ensures.images told (c.answer_store-status.ensures.keeps told).whole;
     })
-    c.store_lines-lines.ensures.failed
 
 pub returns-in-Ok-clause-left : goal.returns-in-Ok-clause-left
 returns-in-Ok-clause-left g c = λ told.
@@ -59,12 +62,13 @@ returns-in-Ok-clause-left g c = λ told.
     let K = g.K.Sink in
     let C = g.C.Clock in
     let before : Outside = outside (K.taken c.args.sink.now) (K.faults c.args.sink.now) (C.stamps c.args.clock.now) (V.log c.args.volume) (V.read_faults c.args.volume) (V.write_faults c.args.volume) in
-    let after : Outside = outside (K.taken c.write_answer-status.new.sink) (K.faults c.write_answer-status.new.sink) (C.stamps c.store_lines-lines.new.clock) (V.log c.into_volume.result) (V.read_faults c.into_volume.result) (V.write_faults c.into_volume.result) in
+    let after : Outside = outside (K.taken c.answer_store-status.new.sink) (K.faults c.answer_store-status.new.sink) (C.stamps c.answer_store-status.new.clock) (V.log c.into_volume.result) (V.read_faults c.into_volume.result) (V.write_faults c.into_volume.result) in
     let s = c.in-Ok.store in
-    let t = c.store_lines-lines.result.1 in
+    let t = c.answer_store-status.result.1 in
     let state : StoreState = record {
       list = listed (seen (V.log s.volume) Main);
       voted = option_map (λ x. voted_in x.tid s.index.end (seen (V.log s.volume) Main)) s.index.staged;
+      begun = option_map (λ x. copied_in x.tid (seen (V.log s.volume) Side)) s.copy;
       newest = s.index.newest;
       broken = s.broken;
       log = V.log s.volume;
@@ -74,24 +78,44 @@ returns-in-Ok-clause-left g c = λ told.
     let state' : StoreState = record {
       list = listed (seen (V.log t.volume) Main);
       voted = option_map (λ x. voted_in x.tid t.index.end (seen (V.log t.volume) Main)) t.index.staged;
+      begun = option_map (λ x. copied_in x.tid (seen (V.log t.volume) Side)) t.copy;
       newest = t.index.newest;
       broken = t.broken;
       log = V.log t.volume;
       faults = V.write_faults t.volume;
       read_faults = V.read_faults t.volume;
     } in
-    left_open V.told before after state state' (C.stamps c.create_or_open.new.clock) (c.store_lines-lines.ensures.keeps told) c.into_volume.ensures.log
-    (record { stamps = c.in-Ok.ensures.stamps_given; kept = c.in-Ok.ensures.stamps_kept; keeps = c.in-Ok.ensures.keeps; makes = c.in-Ok.ensures.makes })
+    left_open V.told before after state state' (C.stamps c.create_or_open.new.clock) (c.answer_store-status.ensures.keeps told) c.into_volume.ensures.log state.list c.in-Ok.cut
+    (λ here some. opens_as _ _ _ _ _ (c.in-Ok.ensures.opened here) (c.in-Ok.ensures.made here) (c.in-Ok.ensures.stamps_kept here) (c.in-Ok.ensures.stamps_left here)) c.in-Ok.ensures.content
+    (record { stamps = c.in-Ok.ensures.stamps_given; kept = c.in-Ok.ensures.stamps_kept; side = c.in-Ok.ensures.side; keeps = c.in-Ok.ensures.keeps; makes = c.in-Ok.ensures.makes })
 
 pub returns-in-Ok-clause-harmed : goal.returns-in-Ok-clause-harmed
 returns-in-Ok-clause-harmed g c = λ told none. opened_none g.V.Volume.told _ _ _ c.in-Ok.cut c.in-Ok.ensures.opened told none
 
 pub returns-in-Err-clause-outcome : goal.returns-in-Err-clause-outcome
 returns-in-Err-clause-outcome g c =
-    unopened c.say_unopened.result c.in-Err.error c.args.asked g.V.Volume.told _ _ c.say_unopened.ensures.said c.in-Err.ensures.harm c.in-Err.ensures.fault c.in-Err.ensures.untouched
+    unopened c.say_unopened.result c.in-Err.error c.args.asked g.V.Volume.told _ _ c.say_unopened.ensures.said c.in-Err.ensures.harm c.in-Err.ensures.fault c.in-Err.ensures.untouched c.in-Err.ensures.unfailed
     (record {
       stamps = c.in-Err.ensures.stamps_given;
       kept = c.in-Err.ensures.stamps_kept;
+      bytes = λ told some. bytes_unless _ _ (c.in-Err.ensures.unharmed told some);
+      side = c.in-Err.ensures.side_refused;
       keeps = c.in-Err.ensures.keeps_refused;
       makes = c.in-Err.ensures.makes_refused;
     })
+
+pub returns-in-Err-clause-left : goal.returns-in-Err-clause-left
+returns-in-Err-clause-left g c = λ told. record {
+  stamps = c.in-Err.ensures.stamps_given;
+  kept = c.in-Err.ensures.stamps_kept;
+  bytes = λ told some. bytes_unless _ _ (c.in-Err.ensures.unharmed told some);
+  side = c.in-Err.ensures.side_refused;
+  keeps = c.in-Err.ensures.keeps_refused;
+  makes = c.in-Err.ensures.makes_refused;
+}
+
+pub returns-in-Ok-clause-others : goal.returns-in-Ok-clause-others
+returns-in-Ok-clause-others g c = λ other. c.into_volume.ensures.faults ∙ c.answer_store-status.ensures.others ∙ c.in-Ok.ensures.faults
+
+pub returns-in-Err-clause-others : goal.returns-in-Err-clause-others
+returns-in-Err-clause-others g c = λ other. (c.in-Err.ensures.unfailed (unopened_other _ _ _ _ _ _ c.say_unopened.ensures.said other)).1

@@ -1,4 +1,5 @@
 use Rattle.std.proofs.Common.{ap, ◌∙◌}
+use Rattle.zodb_core.specs.HubState.{counts_of}
 use Rattle.zodb_core.specs.Machine.{machine_over}
 use Rattle.zodb_top.proofs.Asks.{store_kept}
 use Rattle.zodb_top.proofs.asking.store_lines.Goals as goal
@@ -11,3 +12,9 @@ pub returns-clause-keeps : goal.returns-clause-keeps
 returns-clause-keeps g c = λ told.
     store_kept (g.St.Store.state c.args.store) (g.St.Store.state c.into_store.result) c.new-hub.result c.hub_lines-lines.new.hub _ _ c.new-hub.ensures.store c.into_store.ensures
     (c.hub_lines-lines.ensures.keeps told (machine_over (g.St.Store.state c.args.store).list) (c.new-hub.ensures.stands told) (ap (λ s. s.broken) c.new-hub.ensures.store ∙ c.requires.whole))
+
+pub returns-clause-calm : goal.returns-clause-calm
+returns-clause-calm g c = λ other. ap counts_of c.into_store.ensures ∙ c.hub_lines-lines.ensures.calm other ∙ ap counts_of c.new-hub.ensures.store
+
+pub returns-clause-others : goal.returns-clause-others
+returns-clause-others g c = ap (λ s. s.faults) c.into_store.ensures ∙ c.hub_lines-lines.ensures.others ∙ ap (λ s. s.faults) c.new-hub.ensures.store

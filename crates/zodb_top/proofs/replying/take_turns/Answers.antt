@@ -1,5 +1,7 @@
 use Rattle.std.proofs.Common.{◌≡◌, ◌+◌, ◌<◌, Bool, List, Some, arith, ap, false, length, refl, sym, subst, ◌∙◌}
 use Rattle.std.specs.Prelude.{slice_get}
+use Rattle.zb_volume.specs.declared.areas.Area.TheVariants.{Side}
+use Rattle.zb_model.specs.StayLaws.{stays_same, stays_then}
 use Rattle.client_turns.specs.Output.{last_flags}
 use Rattle.zodb_top.proofs.Replies.{all_taken, flags_length, start_run, turn_last, turn_more}
 use Rattle.zodb_top.proofs.replying.take_turns.Goals as goal
@@ -10,6 +12,8 @@ loop-at-init g c = record {
   sink_counted = omega arith;
   read_counted = omega arith;
   counted = omega arith;
+  others = refl;
+  side = λ lasts. stays_same Side c.args.clients.now.hub.store.log c.args.clients.now.hub.store.log refl;
 }
 
 pub flag_at-is_last-requires : goal.flag_at-is_last-requires
@@ -26,6 +30,8 @@ loop-at-preserved g c = record {
   sink_counted = omega (arith, c.loop-at.invariant.sink_counted, c.reply.ensures.sink_counted);
   read_counted = omega (arith, c.loop-at.invariant.read_counted, c.reply.ensures.read_counted);
   counted = omega (arith, c.loop-at.invariant.counted, c.reply.ensures.counted);
+  others = c.in-Ok.ensures.others (λ never. absurd cc) ∙ c.loop-at.invariant.others;
+  side = λ lasts. stays_then Side c.args.clients.now.hub.store.log c.loop-at.clients.hub.store.log c.reply.new.clients.hub.store.log (c.loop-at.invariant.side lasts) (c.reply.ensures.side lasts);
 }
 
 pub returns-in-Err-clause-err : goal.returns-in-Err-clause-err
@@ -40,3 +46,9 @@ pub returns-clause-ok : goal.returns-clause-ok
 returns-clause-ok g c = λ told m stands whole.
     all_taken g.St.Store.lasts g.St.Store.stands m c.args.turns.now c.loop-at.at (g.K.Sink.taken c.args.sink.now) (g.K.Sink.taken c.loop-at.sink) c.args.clients.now.hub.store.log c.loop-at.clients (g.C.Clock.stamps c.loop-at.clock)
     c.loop-at-test.false (c.loop-at.invariant.runs told m stands whole)
+
+pub returns-in-Err-clause-others : goal.returns-in-Err-clause-others
+returns-in-Err-clause-others g c = λ other. c.in-Err.ensures.others other ∙ c.loop-at.invariant.others
+
+pub returns-in-Err-clause-side : goal.returns-in-Err-clause-side
+returns-in-Err-clause-side g c = λ lasts. stays_then Side c.args.clients.now.hub.store.log c.loop-at.clients.hub.store.log c.reply.new.clients.hub.store.log (c.loop-at.invariant.side lasts) (c.reply.ensures.side lasts)

@@ -1,4 +1,6 @@
 use Rattle.std.proofs.Common.{◌≡◌, ◌≤◌, false, take, drop}
+use Rattle.zb_volume.specs.declared.areas.Area.TheVariants.{Side}
+use Rattle.zb_volume.specs.Moments.{StaysAs}
 use Rattle.client_turns.specs.Clients.{Moment}
 use Rattle.client_turns.specs.Standing.{StandsForMoment}
 use Rattle.zodb_top.specs.Running.{RunsOn}
@@ -15,4 +17,6 @@ invariant-loop-at g l =
       sink_counted : K.faults l.fn.sink ≤ K.faults l.sink;
       read_counted : l.fn.clients.hub.store.read_faults ≤ l.clients.hub.store.read_faults;
       counted : l.fn.clients.hub.store.faults ≤ l.clients.hub.store.faults;
+      others : l.clients.hub.store.faults ≡ l.fn.clients.hub.store.faults;
+      side : St.lasts → StaysAs Side l.fn.clients.hub.store.log l.clients.hub.store.log;
     }

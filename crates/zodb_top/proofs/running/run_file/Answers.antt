@@ -1,13 +1,14 @@
-use Rattle.std.proofs.Common.{arith, refl, sym}
+use Rattle.std.proofs.Common.{arith, refl, sym, ◌∙◌}
 use Rattle.std.specs.Option.{option_map}
 use Rattle.fs_records.specs.Listed.{listed}
-use Rattle.file_store.specs.Kept.{voted_in}
+use Rattle.file_store.specs.Kept.{copied_in, voted_in}
 use Rattle.zb_model.specs.Stores.{StoreState}
-use Rattle.zb_volume.specs.declared.areas.Area.TheVariants.{Main}
+use Rattle.zb_volume.specs.declared.areas.Area.TheVariants.{Main, Side}
 use Rattle.zb_volume.specs.Disk.{seen}
 use Rattle.zodb_top.specs.Outside.{Outside, outside}
 use Rattle.zodb_top.proofs.Files.{opened_none, opens_as, unopened_done}
-use Rattle.zodb_top.proofs.Volumes.{over_file, unopened}
+use Rattle.zodb_top.proofs.Nexts.{unopened_other}
+use Rattle.zodb_top.proofs.Volumes.{bytes_unless, over_file, unopened}
 use Rattle.zodb_top.proofs.running.run_file.Goals as goal
 
 pub returns-in-Ok-clause-outcome : goal.returns-in-Ok-clause-outcome
@@ -22,6 +23,7 @@ returns-in-Ok-clause-outcome g c =
     let state : StoreState = record {
       list = listed (seen (V.log s.volume) Main);
       voted = option_map (λ x. voted_in x.tid s.index.end (seen (V.log s.volume) Main)) s.index.staged;
+      begun = option_map (λ x. copied_in x.tid (seen (V.log s.volume) Side)) s.copy;
       newest = s.index.newest;
       broken = s.broken;
       log = V.log s.volume;
@@ -31,6 +33,7 @@ returns-in-Ok-clause-outcome g c =
     let state' : StoreState = record {
       list = listed (seen (V.log t.volume) Main);
       voted = option_map (λ x. voted_in x.tid t.index.end (seen (V.log t.volume) Main)) t.index.staged;
+      begun = option_map (λ x. copied_in x.tid (seen (V.log t.volume) Side)) t.copy;
       newest = t.index.newest;
       broken = t.broken;
       log = V.log t.volume;
@@ -43,6 +46,8 @@ returns-in-Ok-clause-outcome g c =
       keeps = c.in-Ok.ensures.keeps told;
       makes = c.in-Ok.ensures.makes told;
       shown = g.met.V.Volume.seen_is_left c.into_volume.result Main told;
+      bytes = c.in-Ok.ensures.content told;
+      new_file = c.in-Ok.ensures.new_file told;
     })
     c.in-Ok.ensures.faults c.in-Ok.ensures.read_faults c.into_volume.ensures.log c.into_volume.ensures.read_faults c.into_volume.ensures.faults c.run_store-status.ensures.outcome
 
@@ -54,10 +59,12 @@ returns-in-Ok-clause-harmed g c = λ told none. opened_none g.V.Volume.told _ _ 
 
 pub returns-in-Err-clause-outcome : goal.returns-in-Err-clause-outcome
 returns-in-Err-clause-outcome g c =
-    unopened c.say_unopened.result c.in-Err.error g.V.Volume.told c.args.turns.now _ _ c.say_unopened.ensures.said c.in-Err.ensures.harm c.in-Err.ensures.fault c.in-Err.ensures.untouched
+    unopened c.say_unopened.result c.in-Err.error g.V.Volume.told c.args.turns.now _ _ c.say_unopened.ensures.said c.in-Err.ensures.harm c.in-Err.ensures.fault c.in-Err.ensures.untouched c.in-Err.ensures.unfailed
     (record {
       stamps = c.in-Err.ensures.stamps_given;
       kept = c.in-Err.ensures.stamps_kept;
+      bytes = λ told some. bytes_unless _ _ (c.in-Err.ensures.unharmed told some);
+      side = c.in-Err.ensures.side_refused;
       keeps = c.in-Err.ensures.keeps_refused;
       makes = c.in-Err.ensures.makes_refused;
     })
@@ -65,3 +72,9 @@ returns-in-Err-clause-outcome g c =
 pub returns-in-Err-clause-complete : goal.returns-in-Err-clause-complete
 returns-in-Err-clause-complete g c = λ told reads writes sinks list cut stands.
     unopened_done c.say_unopened.result c.in-Err.error _ list cut _ _ _ _ _ _ _ _ c.say_unopened.ensures.said (c.in-Err.ensures.harm told) c.in-Err.ensures.fault reads writes stands
+
+pub returns-in-Ok-clause-others : goal.returns-in-Ok-clause-others
+returns-in-Ok-clause-others g c = λ other. c.into_volume.ensures.faults ∙ c.run_store-status.ensures.others other ∙ c.in-Ok.ensures.faults
+
+pub returns-in-Err-clause-others : goal.returns-in-Err-clause-others
+returns-in-Err-clause-others g c = λ other. (c.in-Err.ensures.unfailed (unopened_other _ _ _ _ _ _ c.say_unopened.ensures.said other)).1

@@ -5,6 +5,7 @@ use Rattle.zb_model.specs.Stores.{StoreState}
 use Rattle.zodb_top.specs.Came.{began}
 use Rattle.zodb_top.specs.Running.{RunsOn, Stops, broke_of}
 use Rattle.zodb_top.specs.Texts.{joined}
+use Rattle.zodb_top.proofs.Nexts.{stopped_other}
 use Rattle.zodb_top.proofs.Stores.{cut_prefix, nothing_written, ran_all, stopped}
 use Rattle.zodb_top.proofs.running.run_store.Goals as goal
 
@@ -59,3 +60,11 @@ returns-clause-outcome g c =
     refl
     (λ told. subst (λ (s : StoreState). Stops St.lasts St.stands (broke_of c.in-Err-ran.error) m c.args.turns.now (K.taken c.write_lines.new.sink) (K.taken c.take_turns-ran.new.sink) s.log c.take_turns-ran.new.clients (C.stamps c.take_turns-ran.new.clock))
     c.new-clients.ensures.store (c.in-Err-ran.ensures.err told m (c.new-clients.ensures.moment told (C.stamps c.args.clock.now)) refl))
+
+pub returns-in-Ok-ran-clause-others : goal.returns-in-Ok-ran-clause-others
+returns-in-Ok-ran-clause-others g c = λ other.
+    ap (λ (s : StoreState). s.faults) c.into_store-store.ensures.store ∙ c.in-Ok-ran.ensures.others (λ never. absurd cc) ∙ ap (λ (s : StoreState). s.faults) c.new-clients.ensures.store
+
+pub returns-clause-others : goal.returns-clause-others
+returns-clause-others g c = λ other.
+    ap (λ (s : StoreState). s.faults) c.into_store-store.ensures.store ∙ c.in-Err-ran.ensures.others (λ is. stopped_other c.in-Err-ran.error c.say_stopped.result (g.K.Sink.taken c.take_turns-ran.new.sink) (g.K.Sink.taken c.say_stopped.new.sink) (g.K.Sink.faults c.take_turns-ran.new.sink) (g.K.Sink.faults c.say_stopped.new.sink) c.say_stopped.ensures.said other cc) ∙ ap (λ (s : StoreState). s.faults) c.new-clients.ensures.store

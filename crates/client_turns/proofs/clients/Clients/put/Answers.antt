@@ -1,6 +1,6 @@
 -- `put`.
-use Rattle.std.proofs.Common.{◌≡◌, ◌∙◌, List, Some, ap, subst, sym}
-use Rattle.std.specs.Prelude.{IfOk, OnErr, slice_get}
+use Rattle.std.proofs.Common.{◌≡◌, ◌∙◌, List, Option, Some, ap, refl, subst, sym}
+use Rattle.std.specs.Prelude.{IfOk, IsSome, OnErr, slice_get}
 use Rattle.std.specs.Option.{option_copied, option_map}
 use Rattle.zb_model.specs.declared.pending.PendingStore.{PendingStore}
 use Rattle.commit_phases.specs.Pending.{pending_of}
@@ -11,7 +11,9 @@ use Rattle.zb_volume.specs.Moments.{LeavesOnly}
 use Rattle.zodb_core.specs.HubState.{counts_of}
 use Rattle.client_turns.specs.Lines.{put, stored}
 use Rattle.client_turns.specs.Standing.{HasTurnCause, IsChangedAt}
+use Rattle.client_turns.proofs.Causes.{starved_behind}
 use Rattle.client_turns.proofs.Loading.{never_without}
+use Rattle.client_turns.proofs.Placing.{there_at}
 use Rattle.client_turns.proofs.Owning.{put_result, put_waiting_result}
 use Rattle.client_turns.proofs.clients.Clients.put.Goals as goal
 
@@ -50,8 +52,17 @@ returns-clause-line g c = λ told m stands may.
 
 pub returns-clause-cause : goal.returns-clause-cause
 returns-clause-cause g c =
-    subst (λ s. IfOk c.put_at.result (HasTurnCause (counts_of c.args.self.now.hub.store) (counts_of s.hub.store))) (sym c.self-2.view_is) (c.put_at.ensures.cause _ _ c.read-read.ensures.cause)
+    let x : (y : Client) × (slice_get c.args.self.now.clients c.args.at ≡ Some y) = there_at c.args.self.now.clients c.args.at c.requires.place in
+    let work : Some c.in-Some.work.now ≡ x.0.transaction =
+    sym (ap option_copied c.in-Some.is) ∙ c.work_at.ensures.work x.0 (ap (λ (xs : List Client). slice_get xs c.args.at) (c.as_slice.ensures.value ∙ ap (λ s. s.clients) c.self.view_is) ∙ x.1) in
+    subst (λ s. IfOk c.put_at.result (HasTurnCause (counts_of c.args.self.now.hub.store) (counts_of s.hub.store))) (sym c.self-2.view_is)
+    (c.put_at.ensures.cause x.0 (ap (λ s. slice_get s.clients c.args.at) c.self-2.view_is ∙ ap (λ (xs : List Client). slice_get xs c.args.at) c.read-read.ensures.clients ∙ x.1)
+    (subst (λ (o : Option Work). IsSome o) work refl) (counts_of c.args.self.now.hub.store) (counts_of c.read-read.new.self.hub.store) c.read-read.ensures.cause)
 
 pub returns-clause-any_moment : goal.returns-clause-any_moment
 returns-clause-any_moment g c = λ lasts told whole m stands leaves.
     subst (λ s. LeavesOnly Main (λ bytes. g.St.Store.stands bytes m.machine.list) c.args.self.now.hub.store.log s.hub.store.log) (sym c.self-2.view_is) (c.read-read.ensures.any_moment lasts told whole m stands leaves)
+
+pub returns-clause-starved : goal.returns-clause-starved
+returns-clause-starved g c =
+    subst (λ s. OnErr c.put_at.result (counts_of s.hub.store ≡ counts_of c.args.self.now.hub.store)) (sym c.self-2.view_is) (starved_behind c.put_at.result _ _ _ c.put_at.ensures.failed c.read-read.ensures.calm)

@@ -5,13 +5,14 @@ use Rattle.zb_volume.specs.declared.areas.Area.TheVariants.{Main}
 use Rattle.zb_volume.specs.Moments.{LeavesOnly}
 use Rattle.zodb_core.specs.HubState.{StandsForMachine, rules_of}
 use Rattle.client_turns.specs.Standing.{IsListAround}
+use Rattle.client_turns.proofs.Causes.{counted_of}
 use Rattle.client_turns.proofs.Crashes.{quiet_moments, step_moments}
 use Rattle.client_turns.proofs.Stepping.{step_seen}
 use Rattle.client_turns.proofs.clients.Clients.step.Goals as goal
 
 pub returns-clause-step : goal.returns-clause-step
 returns-clause-step g c = λ told m stands.
-    step_seen (rules_of g.R.Resolver.rules g.F.Refs.named) m _ _ _ c.args.self.now _ _ _ _ (sym (ap (λ s. s.hub) c.self.view_is)) stands (c.step.ensures.step told m.machine) (ap (λ s. s.clients) c.self.view_is)
+    step_seen (rules_of g.R.Resolver.rules g.F.Refs.named) m _ _ _ c.args.self.now _ _ _ _ (sym (ap (λ s. s.hub) c.self.view_is)) stands (c.step.ensures.step told m.machine) (counted_of _ _ _ c.step.ensures.safe.cause c.step.ensures.safe.others) (ap (λ s. s.clients) c.self.view_is)
 
 pub returns-clause-any_moment : goal.returns-clause-any_moment
 returns-clause-any_moment g c = λ lasts told whole m stands.

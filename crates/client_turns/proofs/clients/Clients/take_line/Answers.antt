@@ -1,9 +1,14 @@
 -- A line of the client at a place.
-use Rattle.std.proofs.Common.{◌∙◌, List, Option, ap, sym}
+use Rattle.std.proofs.Common.{◌∙◌, List, Option, ap, refl, sym}
 use Rattle.std.specs.Prelude.{slice_get}
+use Rattle.std.specs.Option.{option_copied}
+use Rattle.zb_script.specs.declared.answer.Answer.TheVariants as answer
+use Rattle.zodb_core.specs.HubState.{counts_of}
 use Rattle.client_turns.specs.declared.client.Changes.{Changes}
 use Rattle.client_turns.specs.declared.client.Client.{Client}
 use Rattle.client_turns.specs.Lines.{request_of}
+use Rattle.client_turns.proofs.Causes.{quiet_cause}
+use Rattle.client_turns.proofs.Crashes.{in_step}
 use Rattle.client_turns.proofs.Taking.{line_own, line_refused, line_step}
 use Rattle.client_turns.proofs.clients.Clients.take_line.Goals as goal
 
@@ -26,4 +31,8 @@ returns-in-None-clause-line g c = λ told m stands.
     (c.own_line.ensures.line told m stands)
 
 pub returns-in-Some-clause-cause : goal.returns-in-Some-clause-cause
-returns-in-Some-clause-cause g c = c.in-Some.ensures.quiet _ _
+returns-in-Some-clause-cause g c = quiet_cause (counts_of c.args.self.now.hub.store) (counts_of c.args.self.now.hub.store) (answer.Refused c.in-Some.why) c.in-Some.ensures.quiet refl
+
+pub returns-in-Some-2-clause-any_moment : goal.returns-in-Some-2-clause-any_moment
+returns-in-Some-2-clause-any_moment g c = λ lasts told whole m stands leaves.
+    in_step g.St.Store.stands m.machine (option_copied c.changes_at.result) c.args.line.now c.in-Some-2.request _ _ (sym c.in-Some-2.is ∙ c.in_ok-request.ensures.request) (c.take_step.ensures.any_moment lasts told whole m stands)

@@ -6,10 +6,10 @@ use Rattle.zb_volume.specs.declared.areas.Area.TheVariants.{Main}
 use Rattle.zb_volume.specs.Moments.{LeavesOnly}
 use Rattle.zodb_core.specs.HubState.{counts_of}
 use Rattle.zodb_core.specs.Outcomes.{AreLaterCounts}
-use Rattle.client_turns.specs.Standing.{HasTurnCause, IsListAround, with_work, work_left}
-use Rattle.client_turns.proofs.Causes.{later_twice, turn_cause}
-use Rattle.client_turns.specs.TurnLaws.{step_at_list}
-use Rattle.client_turns.proofs.Crashes.{around_moments, committed_whole, step_and_told}
+use Rattle.client_turns.specs.Standing.{HasTurnCause, IsListAround, IsListFor, with_work, work_left}
+use Rattle.client_turns.proofs.Causes.{later_same, turn_cause}
+use Rattle.client_turns.specs.TurnLaws.{step_at_list, step_at_quiet}
+use Rattle.client_turns.proofs.Crashes.{around_moments, committed_whole, for_moments, list_moments, step_and_told}
 use Rattle.client_turns.proofs.Ending.{rules_same, step_line}
 use Rattle.client_turns.proofs.clients.Clients.take_step.Goals as goal
 
@@ -25,13 +25,11 @@ returns-clause-line g c = λ told m stands.
     (λ x there. c.leave.ensures.left x (ap (λ s. slice_get s.clients c.args.at) c.self-2.view_is ∙ there) ∙ ap (λ (xs : List Client). slice_set xs c.args.at (with_work x (work_left x.transaction c.step-reply.result))) (ap (λ s. s.clients) c.self-2.view_is))
 
 pub returns-clause-later : goal.returns-clause-later
-returns-clause-later g c = subst (λ s. AreLaterCounts (counts_of c.args.self.now.hub.store) (counts_of s.hub.store)) (sym c.self-2.view_is) (later_twice _ _ _ c.step-reply.ensures.safe.later c.tell.ensures.later)
+returns-clause-later g c = subst (λ s. AreLaterCounts (counts_of c.args.self.now.hub.store) (counts_of s.hub.store)) (sym c.self-2.view_is) (later_same _ _ _ c.step-reply.ensures.safe.later c.tell.ensures.calm)
 
 pub returns-clause-cause : goal.returns-clause-cause
 returns-clause-cause g c =
-    subst (λ s. HasTurnCause (counts_of c.args.self.now.hub.store) (counts_of s.hub.store) c.answer_of.result) (sym c.self-2.view_is)
-    (subst (HasTurnCause (counts_of c.args.self.now.hub.store) (counts_of c.tell.new.self.hub.store)) (sym c.answer_of.ensures)
-    (turn_cause _ _ _ _ c.step-reply.ensures.safe.cause c.tell.ensures.later))
+    subst (λ s. HasTurnCause (counts_of c.args.self.now.hub.store) (counts_of s.hub.store) c.answer_of.result) (sym c.self-2.view_is) (turn_cause _ _ _ _ _ c.answer_of.ensures c.step-reply.ensures.safe.cause c.tell.ensures.calm)
 
 pub returns-clause-kept : goal.returns-clause-kept
 returns-clause-kept g c =
@@ -40,8 +38,9 @@ returns-clause-kept g c =
 pub returns-clause-any_moment : goal.returns-clause-any_moment
 returns-clause-any_moment g c = λ lasts told whole m stands.
     let first = c.step-reply.ensures.step told m stands in
-    subst (λ s. LeavesOnly Main (IsListAround g.St.Store.stands m.machine) c.args.self.now.hub.store.log s.hub.store.log) (sym c.self-2.view_is)
-    (step_and_told g.St.Store.stands m.machine c.is_committed.result _ _ _ (c.step-reply.ensures.any_moment lasts told whole m stands)
-    (λ none. ap (λ h. h.store.log) (c.tell.ensures.untold none))
-    (λ some. around_moments g.St.Store.stands m.machine first.now.machine _ _ (step_at_list _ m _ _ _ first.now first.holds)
-    (c.tell.ensures.quiet some lasts told (c.step-reply.ensures.safe.broken whole ∙ committed_whole c.step-reply.result (sym c.is_committed.ensures ∙ some)) first.now first.stands)))
+    subst (λ s. LeavesOnly Main (IsListFor g.St.Store.stands m.machine c.args.request) c.args.self.now.hub.store.log s.hub.store.log) (sym c.self-2.view_is)
+    (for_moments g.St.Store.stands m.machine c.args.request _ _
+    (step_and_told (IsListAround g.St.Store.stands m.machine) c.is_committed.result _ _ _ (c.step-reply.ensures.any_moment lasts told whole m stands) (λ none. ap (λ h. h.store.log) (c.tell.ensures.untold none))
+    (λ some. around_moments g.St.Store.stands m.machine first.now.machine _ _ (step_at_list _ m _ _ _ first.now first.holds) (c.tell.ensures.quiet some lasts told (c.step-reply.ensures.safe.broken whole ∙ committed_whole c.step-reply.result (sym c.is_committed.ensures ∙ some)) first.now first.stands)))
+    (λ keeps. step_and_told (λ bytes. g.St.Store.stands bytes m.machine.list) c.is_committed.result _ _ _ (c.step-reply.ensures.quiet keeps lasts told whole m stands) (λ none. ap (λ h. h.store.log) (c.tell.ensures.untold none))
+    (λ some. list_moments g.St.Store.stands m.machine.list first.now.machine.list _ _ (step_at_quiet _ m _ _ _ first.now keeps first.holds) (c.tell.ensures.quiet some lasts told (c.step-reply.ensures.safe.broken whole ∙ committed_whole c.step-reply.result (sym c.is_committed.ensures ∙ some)) first.now first.stands))))

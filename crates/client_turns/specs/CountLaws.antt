@@ -1,0 +1,296 @@
+-- What turns leave of the counts of faults. For the proofs of those who follow turns.
+use Rattle.std.proofs.Common.{◌≡◌, ℕ, Bool, true, false, not, ◌||◌, List, [], ◌∷◌, ◌++◌, length, Option, Some, None, Result, Ok, Err, if◌then◌else◌, nat_lt, refl, sym, ap, subst, ◌∙◌}
+use Rattle.std.specs.Prelude.{IfOk, IsErrOf}
+use Rattle.zb_model.specs.declared.pending.PendingStore.{PendingStore}
+use Rattle.zb_model.specs.declared.refusal.Refusal.{Refusal}
+use Rattle.zb_model.specs.declared.refusal.Refusal.TheVariants as refusal
+use Rattle.zb_script.specs.declared.answer.Answer.{Answer}
+use Rattle.zb_script.specs.declared.answer.Answer.TheVariants as answer
+use Rattle.zb_script.specs.declared.line.Line.{Line}
+use Rattle.zb_script.specs.declared.line.Line.TheVariants as line
+use Rattle.zb_script.specs.declared.line.Turn.{Turn}
+use Rattle.commit_phases.specs.Pending.{excess_with, pending_of}
+use Rattle.zodb_core.specs.declared.reply.Reply.{Reply}
+use Rattle.zodb_core.specs.declared.reply.Reply.TheVariants as reply
+use Rattle.zodb_core.specs.declared.request.Request.{Request}
+use Rattle.zodb_core.specs.declared.request.Request.TheVariants as request
+use Rattle.zodb_core.specs.DecisionLaws.{AnswersIfSome, answers_or}
+use Rattle.zodb_core.specs.Machine.{Machine, Rules, is_open_in, with_session}
+use Rattle.zodb_core.specs.Outcomes.{Answered, EndsFor, FaultCounts, NoMemory, ReadingFailed, StepOutcome, StoreFailed, outcome_of, outcome_of_refusal}
+use Rattle.zodb_core.specs.Steps.{Stepped, refuse_if}
+use Rattle.client_turns.specs.declared.client.Changes.{Changes}
+use Rattle.client_turns.specs.declared.errors.TurnError.{TurnError}
+use Rattle.client_turns.specs.declared.errors.TurnError.TheVariants as error
+use Rattle.client_turns.specs.declared.got.Got.{Got}
+use Rattle.client_turns.specs.Clients.{Client, Moment, OpenTransaction, changes_of, place_of_client}
+use Rattle.client_turns.specs.Lines.{Changed, IsCountedBy, answer_of, data_of, end_in, end_of, is_committed, object_of, outcome_of_answer, outcome_of_read, outcome_of_turn, put, request_of, store_unless, stored}
+use Rattle.client_turns.specs.Output.{Out, TurnAnswer, has_read_fault, is_last, is_read_fault}
+use Rattle.client_turns.specs.Refusing.{connection_refusal, line_refusal, mixed, pending_count, refusal_within, transaction_refusal}
+use Rattle.client_turns.specs.Turns.{IsAnswered, IsBroken, IsChange, IsClosed, IsClosing, IsGet, IsLine, IsLineOf, IsLineTaken, IsLineUnless, IsOpening, IsOwnLine, IsPut, IsReadLine, IsStepAt, IsStepLine, IsTold, IsWithin, Opening, by_closing, by_line, by_memory}
+use Rattle.client_turns.specs.TurnLaws.{by_name, reply_fine, starved_so}
+use Rattle.client_turns.specs.Views.{View}
+
+-- ---- steps beside a line
+
+false_true : false ≡ true → ⊥
+false_true e = absurd cc
+
+-- a front moves no count
+calm_front : (rules : Rules) (m : Machine) (n stamp : ℕ) (made : Stepped) (before now : FaultCounts) (o : StepOutcome) → EndsFor rules m n request.Front stamp made before now o → IsCountedBy before now o → now ≡ before
+calm_front rules m n stamp made before now Answered ends cause = cause
+calm_front rules m n stamp made before now NoMemory ends cause = cause
+calm_front rules m n stamp made before now ReadingFailed ends cause = absurd (false_true ends.0.one)
+calm_front rules m n stamp made before now StoreFailed ends cause = absurd (false_true ends.0.one)
+
+told_calm : (rules : Rules) (b t : Moment) (n : ℕ) (committed : Bool) → IsTold rules committed b n t → t.counts ≡ b.counts
+told_calm rules b t n false told = ap (λ (x : Moment). x.counts) told
+told_calm rules b t n true told = calm_front rules b.machine n told.1.stamp _ b.counts t.counts (outcome_of told.0) told.1.made.cause told.1.counts
+
+-- a closing that doesn't end the run moves none
+calm_close : (rules : Rules) (m : Machine) (n stamp : ℕ) (made : Stepped) (before now : FaultCounts) (o : StepOutcome) → EndsFor rules m n request.Close stamp made before now o → IsCountedBy before now o → ¬ (o ≡ StoreFailed) → now ≡ before
+calm_close rules m n stamp made before now Answered ends cause fine = cause
+calm_close rules m n stamp made before now NoMemory ends cause fine = cause
+calm_close rules m n stamp made before now ReadingFailed ends cause fine = absurd (false_true ends.0.one)
+calm_close rules m n stamp made before now StoreFailed ends cause fine = absurd (fine refl)
+
+close_at : (rules : Rules) (m : Moment) (n : ℕ) (r : Reply) (now : Moment) → IsStepAt rules m n request.Close r now → end_of (answer_of r) ≡ None → now.counts ≡ m.counts
+close_at rules m n r now step ends = calm_close rules m.machine n step.stamp _ m.counts now.counts (outcome_of r) step.made.cause step.counts (reply_fine r ends)
+
+-- and none ends the run for want of memory
+fed_close : (rules : Rules) (m : Machine) (n stamp : ℕ) (made : Stepped) (before now : FaultCounts) (o : StepOutcome) → EndsFor rules m n request.Close stamp made before now o → o ≡ NoMemory → ⊥
+fed_close rules m n stamp made before now NoMemory ends is = false_true ends.one
+fed_close rules m n stamp made before now Answered ends is = absurd cc
+fed_close rules m n stamp made before now ReadingFailed ends is = absurd cc
+fed_close rules m n stamp made before now StoreFailed ends is = absurd cc
+
+close_fed : (rules : Rules) (m : Moment) (n : ℕ) (r : Reply) (now : Moment) → IsStepAt rules m n request.Close r now → end_of (answer_of r) ≡ Some error.Memory → ⊥
+close_fed rules m n r now step ends = fed_close rules m.machine n step.stamp _ m.counts now.counts (outcome_of r) step.made.cause (starved_so r ends)
+
+-- ---- what is refused by a connection
+
+refused_if : (b : Bool) (r : Refusal) → AnswersIfSome (Some r) → AnswersIfSome (refuse_if b r)
+refused_if true r is = is
+refused_if false r is = tt
+
+transaction_answers : (t : Changes) (l : Line) → AnswersIfSome (transaction_refusal t l)
+transaction_answers t (line.Store oid base bytes) = refused_if t.is_voted refusal.Voted (refl, refl)
+transaction_answers t (line.Put oid bytes) = refused_if t.is_voted refusal.Voted (refl, refl)
+transaction_answers t (line.Check oid serial) = refused_if t.is_voted refusal.Voted (refl, refl)
+transaction_answers t (line.Vote user description) = refused_if t.is_voted refusal.Voted (refl, refl)
+transaction_answers t (line.Undo user description tids) =
+    answers_or (refuse_if t.is_voted refusal.Voted) (mixed t.pending) (refused_if t.is_voted refusal.Voted (refl, refl)) (refused_if (nat_lt 0 (pending_count t.pending)) (refusal.Mixed (pending_count t.pending)) (refl, refl))
+transaction_answers t _ = tt
+
+within_answers : (t : Option Changes) (l : Line) → AnswersIfSome (refusal_within t l)
+within_answers None l = (refl, refl)
+within_answers (Some t) l = transaction_answers t l
+
+line_answers : (t : Option Changes) (l : Line) → AnswersIfSome (line_refusal t l)
+line_answers t line.Open = tt
+line_answers None line.Begin = tt
+line_answers (Some t) line.Begin = (refl, refl)
+line_answers t line.New = tt
+line_answers t (line.History oid) = tt
+line_answers t line.UndoLog = tt
+line_answers t line.Close = tt
+line_answers t (line.Load oid) = within_answers t (line.Load oid)
+line_answers t (line.Get oid) = within_answers t (line.Get oid)
+line_answers t (line.Store oid base bytes) = within_answers t (line.Store oid base bytes)
+line_answers t (line.Put oid bytes) = within_answers t (line.Put oid bytes)
+line_answers t (line.Check oid serial) = within_answers t (line.Check oid serial)
+line_answers t (line.Vote user description) = within_answers t (line.Vote user description)
+line_answers t (line.Undo user description tids) = within_answers t (line.Undo user description tids)
+line_answers t line.Finish = within_answers t line.Finish
+line_answers t line.Abort = within_answers t line.Abort
+
+connection_answers : (m : Machine) (c : Client) (l : Line) → AnswersIfSome (connection_refusal m c l)
+connection_answers m c l =
+    answers_or (refuse_if (not (is_open_in m.sessions c.session)) refusal.NotOpen) (line_refusal (changes_of c) l) (refused_if (not (is_open_in m.sessions c.session)) refusal.NotOpen (refl, refl)) (line_answers (changes_of c) l)
+
+-- ---- a line
+
+-- what a line did to the counts, by its answer
+abbrev pub CountsBy : Moment → Answer → Moment → Type 0
+CountsBy m a now = IsCountedBy m.counts now.counts (outcome_of_answer a)
+
+-- an answer that tells of no fault, where no count has moved
+calm_by : (m : Moment) (a b : Answer) (now : Moment) → a ≡ b → outcome_of_answer b ≡ Answered → now.counts ≡ m.counts → CountsBy m a now
+calm_by m a b now is answered same = subst (λ (o : StepOutcome). IsCountedBy m.counts now.counts o) (sym (ap outcome_of_answer is ∙ answered)) same
+
+refused_by : (m : Moment) (why : Refusal) (a : Answer) (now : Moment) → outcome_of_refusal why ≡ Answered → (a ≡ answer.Refused why) × (now ≡ m) → CountsBy m a now
+refused_by m why a now answered is = calm_by m a (answer.Refused why) now is.0 answered (ap (λ (x : Moment). x.counts) is.1)
+
+pub answer_outcome : (r : Reply) → outcome_of_answer (answer_of r) ≡ outcome_of r
+answer_outcome (reply.Front front news switches) = refl
+answer_outcome (reply.Loaded serial bytes end upto) = refl
+answer_outcome (reply.Nothing oid switches) = refl
+answer_outcome (reply.Oids first count) = refl
+answer_outcome reply.Voted = refl
+answer_outcome (reply.Committed tid) = refl
+answer_outcome reply.Empty = refl
+answer_outcome reply.Aborted = refl
+answer_outcome (reply.History list) = refl
+answer_outcome (reply.UndoLog list) = refl
+answer_outcome reply.Closed = refl
+answer_outcome (reply.Refused why) = refl
+
+step_by : (rules : Rules) (m now : Moment) (at : ℕ) (c : Client) (q : Request) (a : Answer) → IsStepLine rules m at c q a now → CountsBy m a now
+step_by rules m now at c q a is =
+    subst (λ (k : FaultCounts). IsCountedBy m.counts k (outcome_of_answer a)) (sym (ap (λ (x : Moment). x.counts) is.left ∙ told_calm rules is.behind is.told c.session (is_committed is.reply) is.front))
+    (subst (λ (o : StepOutcome). IsCountedBy m.counts is.behind.counts o) (sym (ap outcome_of_answer is.answer ∙ answer_outcome is.reply)) is.step.counts)
+
+data_outcome : (r : Result Got Refusal) → outcome_of_answer (data_of r) ≡ outcome_of_read r
+data_outcome (Ok got) = refl
+data_outcome (Err why) = refl
+
+pub object_outcome : (r : Result Got Refusal) → outcome_of_answer (object_of r) ≡ outcome_of_read r
+object_outcome (Ok got) = refl
+object_outcome (Err why) = refl
+
+store_outcome : (t : Changes) (p : PendingStore) (excess : Option ℕ) → outcome_of_answer (store_unless t p excess).answer ≡ Answered
+store_outcome t p None = refl
+store_outcome t p (Some n) = refl
+
+put_outcome : (t : Changes) (oid : ℕ) (bytes : List ℕ) (r : Result Got Refusal) → outcome_of_answer (put t oid bytes r).answer ≡ outcome_of_read r
+put_outcome t oid bytes (Ok got) = store_outcome t (record { oid = oid; base = got.serial; bytes = bytes }) (excess_with t.pending.stores (record { oid = oid; base = got.serial; bytes = bytes }))
+put_outcome t oid bytes (Err (refusal.Missing o false)) = store_outcome t (record { oid = oid; base = 0; bytes = bytes }) (excess_with t.pending.stores (record { oid = oid; base = 0; bytes = bytes }))
+put_outcome t oid bytes (Err (refusal.Missing o true)) = refl
+put_outcome t oid bytes (Err _) = refl
+
+-- an answer that tells how a read ended
+read_by : (m : Moment) (a b : Answer) (r : Result Got Refusal) (now : Moment) → a ≡ b → outcome_of_answer b ≡ outcome_of_read r → IsCountedBy m.counts now.counts (outcome_of_read r) → CountsBy m a now
+read_by m a b r now is tells counts = subst (λ (o : StepOutcome). IsCountedBy m.counts now.counts o) (sym (ap outcome_of_answer is ∙ tells)) counts
+
+get_by : (m now : Moment) (v : View) (oid : ℕ) (o : Option PendingStore) (a : Answer) → IsGet m v oid o a now → CountsBy m a now
+get_by m now v oid (Some p) a is = calm_by m a _ now is.0 refl (ap (λ (x : Moment). x.counts) is.1)
+get_by m now v oid None a is = read_by m a (object_of is.0) is.0 now is.2 (object_outcome is.0) is.1.counts
+
+change_by : (m now : Moment) (at : ℕ) (c : Client) (t : OpenTransaction) (w : Changed) (a : Answer) → outcome_of_answer w.answer ≡ Answered → IsChange m at c t w a now → CountsBy m a now
+change_by m now at c t w a answered is = calm_by m a w.answer now is.0 answered (ap (λ (x : Moment). x.counts) is.1)
+
+put_by : (m now : Moment) (at : ℕ) (c : Client) (t : OpenTransaction) (oid : ℕ) (bytes : List ℕ) (o : Option PendingStore) (a : Answer) → IsPut m at c t oid bytes o a now → CountsBy m a now
+put_by m now at c t oid bytes (Some p) a is =
+    change_by m now at c t (stored t.changes (record { oid = oid; base = p.base; bytes = bytes })) a
+    (store_outcome t.changes (record { oid = oid; base = p.base; bytes = bytes }) (excess_with t.changes.pending.stores (record { oid = oid; base = p.base; bytes = bytes }))) is
+put_by m now at c t oid bytes None a is =
+    read_by m a (put t.changes oid bytes is.0).answer is.0 now is.3.0 (put_outcome t.changes oid bytes is.0)
+    (subst (λ (k : FaultCounts). IsCountedBy m.counts k (outcome_of_read is.0)) (sym (ap (λ (x : Moment). x.counts) is.3.1)) is.2.counts)
+
+within_by : (m now : Moment) (at : ℕ) (c : Client) (t : OpenTransaction) (l : Line) (a : Answer) → IsWithin m at c t l a now → CountsBy m a now
+within_by m now at c t (line.Load oid) a is = read_by m a (data_of is.0) is.0 now is.2 (data_outcome is.0) is.1.counts
+within_by m now at c t (line.Get oid) a is = get_by m now t.view oid (pending_of t.changes.pending.stores oid) a is
+within_by m now at c t (line.Store oid base bytes) a is =
+    change_by m now at c t (stored t.changes (record { oid = oid; base = base; bytes = bytes })) a
+    (store_outcome t.changes (record { oid = oid; base = base; bytes = bytes }) (excess_with t.changes.pending.stores (record { oid = oid; base = base; bytes = bytes }))) is
+within_by m now at c t (line.Put oid bytes) a is = put_by m now at c t oid bytes (pending_of t.changes.pending.stores oid) a is
+within_by m now at c t (line.Check oid serial) a is = calm_by m a answer.Checked now is.0 refl (ap (λ (x : Moment). x.counts) is.1)
+within_by m now at c t _ a is = refused_by m refusal.NoTransaction a now refl is
+
+own_by : (m now : Moment) (at : ℕ) (c : Client) (t : Option OpenTransaction) (l : Line) (a : Answer) → IsOwnLine m at c t l a now → CountsBy m a now
+own_by m now at c None l a is = refused_by m refusal.NoTransaction a now refl is
+own_by m now at c (Some t) l a is = within_by m now at c t l a is
+
+taken_by : (rules : Rules) (m now : Moment) (at : ℕ) (c : Client) (l : Line) (q : Option Request) (a : Answer) → IsLineTaken rules m at c l q a now → CountsBy m a now
+taken_by rules m now at c l (Some q) a is = step_by rules m now at c q a is
+taken_by rules m now at c l None a is = own_by m now at c c.transaction l a is
+
+unless_by : (rules : Rules) (m now : Moment) (at : ℕ) (c : Client) (l : Line) (r : Option Refusal) (a : Answer) → AnswersIfSome r → IsLineUnless rules m at c l r a now → CountsBy m a now
+unless_by rules m now at c l (Some why) a answers is = refused_by m why a now answers.0 is
+unless_by rules m now at c l None a answers is = taken_by rules m now at c l (request_of (changes_of c) l) a is
+
+line_of_by : (rules : Rules) (m now : Moment) (at : Option ℕ) (l : Line) (a : Answer) → IsLineOf rules m at l a now → CountsBy m a now
+line_of_by rules m now None l a is = refused_by m refusal.NotOpen a now refl is
+line_of_by rules m now (Some at) l a is = unless_by rules m now at is.0 l (connection_refusal m.machine is.0 l) a (connection_answers m.machine is.0 l) is.2
+
+opened_by : (m : Moment) (name : List ℕ) (b : Bool) → (o : Opening) → o ≡ (if b then (let x : Opening = record { answer = answer.Opened (length m.machine.sessions); moment = record { machine = with_session m.machine; clients = m.clients ++ record { name = name; session = length m.machine.sessions; transaction = None } ∷ []; stamps = m.stamps; counts = m.counts } } in x)
+    else (let x : Opening = record { answer = answer.Refused (refusal.TooManySessions (length m.machine.sessions)); moment = m } in x)) → CountsBy m o.answer o.moment
+opened_by m name true o is = calm_by m o.answer (answer.Opened (length m.machine.sessions)) o.moment (ap (λ (x : Opening). x.answer) is) refl (ap (λ (x : Opening). x.moment.counts) is)
+opened_by m name false o is = calm_by m o.answer (answer.Refused (refusal.TooManySessions (length m.machine.sessions))) o.moment (ap (λ (x : Opening). x.answer) is) refl (ap (λ (x : Opening). x.moment.counts) is)
+
+opening_by : (m now : Moment) (name : List ℕ) (a : Answer) → IsOpening m name a now → CountsBy m a now
+opening_by m now name a is = opened_by m name (nat_lt (length m.machine.sessions) 64) (record { answer = a; moment = now }) is
+
+pub line_by : (rules : Rules) (m now : Moment) (name : List ℕ) (l : Line) (a : Answer) → IsLine rules m name l a now → CountsBy m a now
+line_by rules m now name l a is = by_name rules m now name l a (CountsBy m a now) (opening_by m now name a) (line_of_by rules m now (place_of_client name m.clients) l a) is
+
+-- ---- a turn
+
+closed_calm : (rules : Rules) (m now : Moment) (at : Option ℕ) → IsClosed rules m at now → now.counts ≡ m.counts
+closed_calm rules m now None is = ap (λ (x : Moment). x.counts) is
+closed_calm rules m now (Some at) is = close_at rules m is.1.0.session is.0 now is.1.2 is.2
+
+closing_calm : (rules : Rules) (m now : Moment) (name : List ℕ) (last : Bool) → IsClosing rules m name last now → now.counts ≡ m.counts
+closing_calm rules m now name false is = ap (λ (x : Moment). x.counts) is
+closing_calm rules m now name true is = closed_calm rules m now (place_of_client name m.clients) is
+
+-- an answered turn moved no count, unless it says that reading failed, and then that of failed reads rose
+pub turn_by : (rules : Rules) (m now : Moment) (t : Turn) (last : Bool) (a : Answer) → IsAnswered rules m t last a now → CountsBy m a now
+turn_by rules m now t last a is =
+    subst (λ (k : FaultCounts). IsCountedBy m.counts k (outcome_of_answer a)) (sym (closing_calm rules is.behind now t.client last is.closing)) (line_by rules m is.behind t.client t.line a is.line)
+
+starved_outcome : (why : Refusal) → end_in why ≡ Some error.Memory → outcome_of_refusal why ≡ NoMemory
+starved_outcome refusal.Memory ends = refl
+starved_outcome refusal.StoreFault ends = absurd cc
+starved_outcome _ ends = absurd cc
+
+starved_by : (m : Moment) (a : Answer) (now : Moment) → end_of a ≡ Some error.Memory → CountsBy m a now → now.counts ≡ m.counts
+starved_by m (answer.Refused why) now ends counts = subst (λ (o : StepOutcome). IsCountedBy m.counts now.counts o) (starved_outcome why ends) counts
+starved_by m _ now ends counts = absurd cc
+
+broken_so : (rules : Rules) (m now : Moment) (t : Turn) (last : Bool) (why : TurnError) → why ≡ error.Memory → IsBroken rules m t last why now → now.counts ≡ m.counts
+broken_so rules m now t last why is (by_line a l ends) = starved_by m a now (ends ∙ ap Some is) (line_by rules m now t.client t.line a l)
+broken_so rules m now t last why is (by_closing a behind at r closes l whole place closing ends) = absurd (close_fed rules behind closing.0.session r now closing.2 (ends ∙ ap Some is))
+broken_so rules m now t last why is (by_memory memory same) = ap (λ (x : Moment). x.counts) same
+
+-- a turn that broke off for want of memory moved none
+pub broken_calm : (rules : Rules) (m now : Moment) (t : Turn) (last : Bool) → IsBroken rules m t last error.Memory now → now.counts ≡ m.counts
+broken_calm rules m now t last is = broken_so rules m now t last error.Memory refl is
+
+-- ---- turns one after another
+
+calm_answer : (m : Moment) (a : Answer) (now : Moment) → is_read_fault a ≡ false → end_of a ≡ None → CountsBy m a now → now.counts ≡ m.counts
+calm_answer m (answer.Refused why) now fine whole counts = by_refusal why fine whole counts
+  where
+    by_refusal : (why : Refusal) → is_read_fault (answer.Refused why) ≡ false → end_in why ≡ None → IsCountedBy m.counts now.counts (outcome_of_refusal why) → now.counts ≡ m.counts
+    by_refusal refusal.ReadFault fine whole counts = absurd cc
+    by_refusal refusal.StoreFault fine whole counts = absurd cc
+    by_refusal refusal.Memory fine whole counts = counts
+    by_refusal _ fine whole counts = counts
+calm_answer m _ now fine whole counts = counts
+
+first_fine : (a b : Bool) → a || b ≡ false → (a ≡ false) × (b ≡ false)
+first_fine true b none = absurd cc
+first_fine false b none = (refl, none)
+
+-- answered turns moved no count, where none says that reading failed
+pub out_calm : (rules : Rules) (m : Moment) (turns later : List Turn) (answers : List TurnAnswer) (now : Moment) → Out rules m turns later answers now → has_read_fault answers ≡ false → now.counts ≡ m.counts
+out_calm rules m [] later [] now out fine = ap (λ (x : Moment). x.counts) out
+out_calm rules m [] later (o ∷ answers) now out fine = absurd out
+out_calm rules m (t ∷ turns) later [] now out fine = absurd out
+out_calm rules m (t ∷ turns) later (o ∷ answers) now (next, named, turn, rest) fine =
+    let both = first_fine (is_read_fault o.answer) (has_read_fault answers) fine in
+    out_calm rules next turns later answers now rest both.1 ∙ calm_answer m o.answer next both.0 turn.whole (turn_by rules m next t (is_last t (turns ++ later)) o.answer turn)
+
+-- an answer with which the run goes on left the count of other faults as it was
+pub whole_others : (before now : FaultCounts) (a : Answer) → end_of a ≡ None → IsCountedBy before now (outcome_of_answer a) → now.others ≡ before.others
+whole_others before now (answer.Refused why) whole counts = by_refusal why whole counts
+  where
+    by_refusal : (why : Refusal) → end_in why ≡ None → IsCountedBy before now (outcome_of_refusal why) → now.others ≡ before.others
+    by_refusal refusal.ReadFault whole counts = counts.1
+    by_refusal refusal.StoreFault whole counts = absurd cc
+    by_refusal refusal.Memory whole counts = absurd cc
+    by_refusal _ whole counts = ap (λ (k : FaultCounts). k.others) counts
+whole_others before now _ whole counts = ap (λ (k : FaultCounts). k.others) counts
+
+-- and so did a turn, unless the store failed in it
+pub turn_others : (before now : FaultCounts) (r : Result Answer TurnError) → IfOk r (λ a. end_of a ≡ None) → IsCountedBy before now (outcome_of_turn r) → ¬ IsErrOf r error.StoreFault → now.others ≡ before.others
+turn_others before now (Ok a) whole counts other = whole_others before now a whole counts
+turn_others before now (Err error.Memory) whole counts other = ap (λ (k : FaultCounts). k.others) counts
+turn_others before now (Err error.StoreFault) whole counts other = absurd (other refl)
+
+pub out_others : (rules : Rules) (m : Moment) (turns later : List Turn) (answers : List TurnAnswer) (now : Moment) → Out rules m turns later answers now → now.counts.others ≡ m.counts.others
+out_others rules m [] later [] now out = ap (λ (x : Moment). x.counts.others) out
+out_others rules m [] later (o ∷ answers) now out = absurd out
+out_others rules m (t ∷ turns) later [] now out = absurd out
+out_others rules m (t ∷ turns) later (o ∷ answers) now (next, named, turn, rest) =
+    out_others rules next turns later answers now rest ∙ whole_others m.counts next.counts o.answer turn.whole (turn_by rules m next t (is_last t (turns ++ later)) o.answer turn)
