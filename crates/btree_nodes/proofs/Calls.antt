@@ -5,13 +5,13 @@ use Rattle.btree_family.specs.declared.key.Key.{Key}
 use Rattle.btree_family.specs.declared.bucket.Item.{Item}
 use Rattle.btree_family.specs.Classes.{Class}
 use Rattle.btree_family.specs.Families.{key_fits}
-use Rattle.btree_nodes.specs.declared.error.TreeError.{TreeError}
-use Rattle.btree_nodes.specs.declared.error.TreeError.TheVariants.{NotATree, NodeMissing, BadKey, Refused, Memory}
+use Rattle.btree_shapes.specs.declared.error.TreeError.{TreeError}
+use Rattle.btree_shapes.specs.declared.error.TreeError.TheVariants.{NotATree, NodeMissing, BadKey, Refused, Memory}
 use Rattle.btree_nodes.specs.declared.span.Span.{Span}
 use Rattle.btree_nodes.specs.declared.span.Span.TheVariants.{All, Within}
-use Rattle.btree_nodes.specs.Nodes.{Held, Nothing, Foreign, class_held, objects_of}
-use Rattle.btree_nodes.specs.Reading.{IsReadError}
-use Rattle.btree_nodes.specs.Ways.{IsRefusal, Answers, family_key}
+use Rattle.btree_shapes.specs.Nodes.{Held, Nothing, Foreign, class_held, objects_of}
+use Rattle.btree_shapes.specs.Reading.{IsReadError}
+use Rattle.btree_shapes.specs.Ways.{IsRefusal, Answers, family_key}
 use Rattle.btree_nodes.specs.Visits.{visit, visit_held, visited, items_under, range_under}
 use Rattle.btree_nodes.proofs.Walks.{visit_suc}
 

@@ -1,5 +1,4 @@
-pub mod Entries
-pub mod Goings
+pub mod Values
 pub mod Walks
 pub mod Spans
 pub mod Reversed

@@ -4,16 +4,16 @@ use Rattle.std.specs.Prelude.{map, IfOk}
 use Rattle.btree_family.specs.declared.key.Key.{Key}
 use Rattle.btree_family.specs.declared.bucket.Item.{Item}
 use Rattle.btree_family.specs.Keys.{rank_of}
-use Rattle.btree_nodes.specs.declared.error.TreeError.{TreeError}
-use Rattle.btree_nodes.specs.declared.node.Node.{Node}
-use Rattle.btree_nodes.specs.declared.node.Node.TheVariants as node
-use Rattle.btree_nodes.specs.declared.path.Step.{Step}
-use Rattle.btree_nodes.specs.declared.way.Found.{Found}
-use Rattle.btree_nodes.specs.declared.space.Call.{Call}
-use Rattle.btree_nodes.specs.Nodes.{Held, value_in, class_held, objects_of}
-use Rattle.btree_nodes.specs.Ways.{step_oid, way_for, Answers, family_key, key_way, value_found, value_under, reads_of, TookReads}
-use Rattle.btree_nodes.specs.Shapes.{Shape, mapping_of, nodes_in, IsSound, IsLone, IsTree}
-use Rattle.btree_nodes.proofs.Goings.{root_lone}
+use Rattle.btree_shapes.specs.declared.error.TreeError.{TreeError}
+use Rattle.btree_shapes.specs.declared.node.Node.{Node}
+use Rattle.btree_shapes.specs.declared.node.Node.TheVariants as node
+use Rattle.btree_shapes.specs.declared.path.Step.{Step}
+use Rattle.btree_shapes.specs.declared.way.Found.{Found}
+use Rattle.btree_shapes.specs.declared.space.Call.{Call}
+use Rattle.btree_shapes.specs.Nodes.{Held, value_in, class_held, objects_of}
+use Rattle.btree_shapes.specs.Ways.{step_oid, way_for, Answers, family_key, key_way, value_found, value_under, reads_of, TookReads}
+use Rattle.btree_shapes.specs.Shapes.{Shape, mapping_of, nodes_in, IsSound, IsLone, IsTree}
+use Rattle.btree_shapes.specs.Steps.{root_lone}
 use Rattle.btree_nodes.proofs.Reaching.{WayTo, way_shape, held_as, items_kind}
 
 way_of_shape : (objects : ℕ → Held) (root kind h : ℕ) (s : Shape h) (key : Key) → rank_of key ≡ kind → IsSound (nodes_in objects) root kind h s → WayTo key h (mapping_of h s) (way_for true key objects root)

@@ -7,8 +7,8 @@ use Rattle.std.proofs.lemmas.Cmp.{tied_itself}
 use Rattle.btree_family.specs.declared.key.Key.{Key}
 use Rattle.btree_family.specs.Keys.{key_cmp, key_eq}
 use Rattle.btree_family.specs.KeyLaws.{key_cmp-total, key_cmp-same}
-use Rattle.btree_nodes.specs.Keys.{is_below}
-use Rattle.btree_nodes.specs.Shapes.{IsFrom, IsUpTo}
+use Rattle.btree_shapes.specs.Keys.{is_below}
+use Rattle.btree_shapes.specs.Shapes.{IsFrom, IsUpTo}
 
 is_less : (o : Ordering) → is_lt o ≡ true → o ≡ Less
 is_less Less e = refl

@@ -9,19 +9,19 @@ use Rattle.btree_family.specs.Keys.{rank_of}
 use Rattle.btree_family.specs.Buckets.{keys_of}
 use Rattle.bucket_state.specs.declared.tree.Inner.{Inner}
 use Rattle.bucket_state.specs.Trees.{separators_of}
-use Rattle.btree_nodes.specs.declared.error.TreeError.{TreeError}
-use Rattle.btree_nodes.specs.declared.error.TreeError.TheVariants.{NotATree, BadKey}
-use Rattle.btree_nodes.specs.declared.node.Node.{Node}
-use Rattle.btree_nodes.specs.declared.node.Node.TheVariants as node
-use Rattle.btree_nodes.specs.declared.path.Step.{Step}
-use Rattle.btree_nodes.specs.declared.way.Found.{Found}
-use Rattle.btree_nodes.specs.Keys.{is_kind_of}
-use Rattle.btree_nodes.specs.Nodes.{Held, Nothing, Foreign, Holds, node_suits, child_for, items_in, value_in}
-use Rattle.btree_nodes.specs.Ways.{stands_in, below_step, down_node, down_held, way_from}
-use Rattle.btree_nodes.specs.Shapes.{Shape, Limb, oid_of, branch_of, EachChild, EachLimb, joined, IsFrom, IsUpTo, AreOfKind, Parted, Bounded, OfKind, mapping_of, node_held, nodes_in, Stands}
+use Rattle.btree_shapes.specs.declared.error.TreeError.{TreeError}
+use Rattle.btree_shapes.specs.declared.error.TreeError.TheVariants.{NotATree, BadKey}
+use Rattle.btree_shapes.specs.declared.node.Node.{Node}
+use Rattle.btree_shapes.specs.declared.node.Node.TheVariants as node
+use Rattle.btree_shapes.specs.declared.path.Step.{Step}
+use Rattle.btree_shapes.specs.declared.way.Found.{Found}
+use Rattle.btree_shapes.specs.Keys.{is_kind_of}
+use Rattle.btree_shapes.specs.Nodes.{Held, Nothing, Foreign, Holds, node_suits, child_for, items_in, value_in}
+use Rattle.btree_shapes.specs.Ways.{stands_in, below_step, down_node, down_held, way_from}
+use Rattle.btree_shapes.specs.Shapes.{Shape, Limb, oid_of, branch_of, EachChild, EachLimb, joined, IsFrom, IsUpTo, AreOfKind, Parted, Bounded, OfKind, mapping_of, node_held, nodes_in, Stands}
 use Rattle.btree_nodes.proofs.Orders.{below_or}
 use Rattle.btree_nodes.proofs.Mappings.{within-mapping, within-joined, value_front, value_back}
-use Rattle.btree_nodes.proofs.Goings.{way_suc}
+use Rattle.btree_shapes.specs.Steps.{way_suc}
 
 -- ---- no object of a sound tree stands twice on a way
 

@@ -6,17 +6,18 @@ use Rattle.btree_family.specs.declared.key.Key.{Key}
 use Rattle.btree_family.specs.declared.bucket.Item.{Item}
 use Rattle.btree_family.specs.Keys.{rank_of}
 use Rattle.bucket_state.specs.declared.tree.Inner.{Inner}
-use Rattle.btree_nodes.specs.declared.error.TreeError.{TreeError}
-use Rattle.btree_nodes.specs.declared.error.TreeError.TheVariants.{NotATree, BadKey}
-use Rattle.btree_nodes.specs.declared.node.Node.{Node}
-use Rattle.btree_nodes.specs.declared.node.Node.TheVariants as node
+use Rattle.btree_shapes.specs.declared.error.TreeError.{TreeError}
+use Rattle.btree_shapes.specs.declared.error.TreeError.TheVariants.{NotATree, BadKey}
+use Rattle.btree_shapes.specs.declared.node.Node.{Node}
+use Rattle.btree_shapes.specs.declared.node.Node.TheVariants as node
 use Rattle.btree_nodes.specs.declared.span.Span.{Span}
 use Rattle.btree_nodes.specs.declared.span.Span.TheVariants.{All, Within}
-use Rattle.btree_nodes.specs.Keys.{is_below}
-use Rattle.btree_nodes.specs.Nodes.{Held, Holds, class_held, objects_of}
-use Rattle.btree_nodes.specs.Ways.{stands_in, Answers, family_key}
-use Rattle.btree_nodes.specs.Visits.{ends_suit, takes, items_within, place_for, child_of, and_then, in_turn, visit_node, visit_held, visit, visited, items_under, range_under}
-use Rattle.btree_nodes.specs.Shapes.{Shape, Limb, oid_of, branch_of, EachChild, EachLimb, joined, AreWithin, Parted, Bounded, OfKind, mapping_of, nodes_in, Stands, IsTree}
+use Rattle.btree_shapes.specs.Keys.{is_below}
+use Rattle.btree_shapes.specs.Nodes.{Held, Holds, class_held, objects_of}
+use Rattle.btree_shapes.specs.Ways.{stands_in, Answers, family_key}
+use Rattle.btree_nodes.specs.Visits.{ends_suit, takes, items_within, child_of, and_then, in_turn, visit_node, visit_held, visit, visited, items_under, range_under}
+use Rattle.btree_shapes.specs.Nodes.{place_for}
+use Rattle.btree_shapes.specs.Shapes.{Shape, Limb, oid_of, branch_of, EachChild, EachLimb, joined, AreWithin, Parted, Bounded, OfKind, mapping_of, nodes_in, Stands, IsTree}
 use Rattle.btree_nodes.proofs.Orders.{below_or, below_from}
 use Rattle.btree_nodes.proofs.Mappings.{within-mapping, within-joined}
 use Rattle.btree_nodes.proofs.Walks.{visit_suc}

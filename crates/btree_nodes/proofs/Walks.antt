@@ -3,18 +3,15 @@ use Rattle.std.proofs.Common.{◌≡◌, ℕ, ◌+◌, ◌-◌, ◌<◌, ◌^◌
 use Rattle.std.specs.Prelude.{if◌then◌else◌, ◌&&◌, MatchOption}
 use Rattle.pickle_value.specs.Graph.{Graph}
 use Rattle.btree_family.specs.declared.bucket.Item.{Item}
-use Rattle.btree_nodes.specs.declared.error.TreeError.{TreeError}
-use Rattle.btree_nodes.specs.declared.error.TreeError.TheVariants.{NotATree, NodeMissing, BadKey, Refused, Memory}
-use Rattle.btree_nodes.specs.declared.node.Node.{Node}
-use Rattle.btree_nodes.specs.declared.node.Node.TheVariants as node
+use Rattle.btree_shapes.specs.declared.error.TreeError.{TreeError}
+use Rattle.btree_shapes.specs.declared.error.TreeError.TheVariants.{NotATree, NodeMissing, BadKey, Refused, Memory}
+use Rattle.btree_shapes.specs.declared.node.Node.{Node}
+use Rattle.btree_shapes.specs.declared.node.Node.TheVariants as node
 use Rattle.btree_nodes.specs.declared.span.Span.{Span}
 use Rattle.btree_nodes.specs.declared.walk.Walk.{Walk}
-use Rattle.btree_nodes.specs.declared.space.Call.{Call}
-use Rattle.btree_nodes.specs.declared.space.Call.TheVariants.{Read}
-use Rattle.btree_nodes.specs.Spaces.{IsLogged}
-use Rattle.btree_nodes.specs.Nodes.{Held, Nothing, Foreign, Holds}
-use Rattle.btree_nodes.specs.Reading.{IsReadError}
-use Rattle.btree_nodes.specs.Ways.{stands_in, IsRefusal, OnlyReads, reads}
+use Rattle.btree_shapes.specs.Nodes.{Held, Nothing, Foreign, Holds}
+use Rattle.btree_shapes.specs.Reading.{IsReadError}
+use Rattle.btree_shapes.specs.Ways.{stands_in, IsRefusal}
 use Rattle.btree_nodes.specs.Visits.{and_then, in_turn, visit_node, visit_held, visit, visited, rest_of, left_of, entering, entered, children_in, cost, cost_of, total, children_within, items_within, ends_suit, SameLength}
 
 pub and_then_assoc : (p q r : Result (List Item) TreeError) → and_then (and_then p q) r ≡ and_then p (and_then q r)
@@ -159,32 +156,6 @@ finish fits span objects (p ∷ ps) lefts e = rw e refl
 
 pub and_then_end : (fits : Bool) (span : Span) (objects : ℕ → Held) (way : List ℕ) (lefts : List (List ℕ)) (xs : List Item) → lefts ≡ [] → and_then (Ok xs) (rest_of fits span objects way lefts) ≡ Ok xs
 and_then_end fits span objects way lefts xs e = ap (and_then (Ok xs)) (finish fits span objects way lefts e) ∙ ap Ok (append-nil xs)
-
--- ---- what was read
-
-reads_append : (xs ys : List ℕ) → reads (xs ++ ys) ≡ reads xs ++ reads ys
-reads_append [] ys = refl
-reads_append (x ∷ xs) ys = ap (λ zs. Read x ∷ zs) (reads_append xs ys)
-
-pub only_none : (log : List Call) → OnlyReads log log
-only_none log = record { oids = []; grown = sym (append-nil log) }
-
-pub only_same : (log log' : List Call) → log' ≡ log → OnlyReads log log'
-only_same log log' e = record { oids = []; grown = e ∙ sym (append-nil log) }
-
-pub only_one : (log log' : List Call) (oid : ℕ) → log' ≡ log ++ Read oid ∷ [] → OnlyReads log log'
-only_one log log' oid e = record { oids = oid ∷ []; grown = e }
-
-pub only_read : (log log' : List Call) (oid : ℕ) (b : Bool) → IsLogged oid b log log' → OnlyReads log log'
-only_read log log' oid true (inl e) = only_same log log' e
-only_read log log' oid true (inr e) = only_one log log' oid e
-only_read log log' oid false e = only_one log log' oid e
-
-pub only_more : (a b c : List Call) → OnlyReads a b → OnlyReads b c → OnlyReads a c
-only_more a b c x y = record {
-  oids = x.oids ++ y.oids;
-  grown = y.grown ∙ ap (λ l. l ++ reads y.oids) x.grown ∙ append_assoc a (reads x.oids) (reads y.oids) ∙ ap (λ l. a ++ l) (sym (reads_append x.oids y.oids));
-}
 
 -- ---- what is left is popped
 

@@ -1,9 +1,2 @@
-pub mod Spaces
-pub mod Classes
-pub mod Keys
-pub mod Nodes
-pub mod Reading
-pub mod Ways
 pub mod Visits
-pub mod Shapes
 pub mod Tested

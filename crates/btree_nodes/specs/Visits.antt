@@ -3,16 +3,16 @@ use Rattle.std.specs.Prelude.{◌≡◌, ℕ, zero, suc, ◌+◌, ◌-◌, ◌^�
 use Rattle.btree_family.specs.declared.key.Key.{Key}
 use Rattle.btree_family.specs.declared.bucket.Item.{Item}
 use Rattle.bucket_state.specs.declared.tree.Branch.{Branch}
-use Rattle.btree_nodes.specs.declared.error.TreeError.{TreeError}
-use Rattle.btree_nodes.specs.declared.error.TreeError.TheVariants.{NotATree, NodeMissing, BadKey}
-use Rattle.btree_nodes.specs.declared.node.Node.{Node}
-use Rattle.btree_nodes.specs.declared.node.Node.TheVariants as node
+use Rattle.btree_shapes.specs.declared.error.TreeError.{TreeError}
+use Rattle.btree_shapes.specs.declared.error.TreeError.TheVariants.{NotATree, NodeMissing, BadKey}
+use Rattle.btree_shapes.specs.declared.node.Node.{Node}
+use Rattle.btree_shapes.specs.declared.node.Node.TheVariants as node
 use Rattle.btree_nodes.specs.declared.span.Span.{Span}
 use Rattle.btree_nodes.specs.declared.span.Span.TheVariants.{All, Within}
 use Rattle.btree_nodes.specs.declared.walk.Walk.{Walk}
-use Rattle.btree_nodes.specs.Keys.{is_below}
-use Rattle.btree_nodes.specs.Nodes.{Held, Nothing, Foreign, Holds, node_suits, class_held, objects_of}
-use Rattle.btree_nodes.specs.Ways.{stands_in, family_key}
+use Rattle.btree_shapes.specs.Keys.{is_below}
+use Rattle.btree_shapes.specs.Nodes.{Held, Nothing, Foreign, Holds, node_suits, place_for, class_held, objects_of}
+use Rattle.btree_shapes.specs.Ways.{stands_in, family_key}
 
 -- ---- what is taken
 
@@ -30,11 +30,6 @@ takes (Within low high) key = not (is_below key low) && not (is_below high key)
 abbrev pub items_within : Span → List Item → List Item
 items_within span [] = []
 items_within span (item ∷ items) = if takes span item.key then item ∷ items_within span items else items_within span items
-
--- how many branches stand before the first whose separator is above the key
-abbrev pub place_for : List Branch → Key → ℕ
-place_for [] key = 0
-place_for (branch ∷ branches) key = if is_below key branch.key then 0 else suc (place_for branches key)
 
 abbrev pub child_of : Branch → ℕ
 child_of branch = branch.child

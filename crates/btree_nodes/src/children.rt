@@ -1,7 +1,7 @@
 //! Numbers of objects, seen the newest first.
 
 ghost use Rattle.std.specs.Prelude.{◌≡◌, ◌∷◌, [], ◌<◌, ◌^◌, length, OnOk, MatchOption};
-ghost use Rattle.btree_nodes.specs.Ways.{stands_in};
+ghost use Rattle.btree_shapes.specs.Ways.{stands_in};
 
 use std::alloc::{AllocError, Global};
 use std::marker::Model;

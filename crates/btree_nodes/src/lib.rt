@@ -2,20 +2,11 @@
 #![tactic(auto)]
 
 mod children;
-mod class;
-mod error;
-mod key;
-mod node;
-mod path;
-mod reading;
-mod space;
 mod span;
 mod tree;
 mod walk;
-mod way;
 
-pub use error::TreeError;
-pub use space::{Call, Space, SpaceError};
+pub use btree_shapes::{Call, Space, SpaceError, TreeError};
 pub use tree::Tree;
 
 #[cfg(test)]

@@ -1,13 +1,12 @@
 //! Which keys a walk takes.
 
 ghost use Rattle.std.specs.Prelude.{◌≡◌, ◌+◌, ◌≤◌, ◌&&◌, ◌∷◌, IfOk, map, length, drop, take};
-ghost use Rattle.btree_nodes.specs.Visits.{ends_suit, takes, place_for, child_of, children_within};
+ghost use Rattle.btree_nodes.specs.Visits.{ends_suit, takes, child_of, children_within};
 
 use crate::children::Children;
-use crate::key::is_below;
-use crate::node::{Node, suits};
 use btree_family::Key;
-use bucket_state::{Branch, Inner};
+use btree_shapes::{Node, is_below, place_for, suits};
+use bucket_state::Inner;
 use std::alloc::{AllocError, Global};
 
 /// The keys that a walk takes.
@@ -46,19 +45,6 @@ impl Span {
             Span::Within { low, high } => !is_below(key, low) && !is_below(high, key),
         }
     }
-}
-
-/// How many branches stand before the first whose separator is above a key.
-pub(crate) fn place_for(branches: &[Branch], key: &Key) -> usize
-    ensures is { result ≡ place_for branches.now key.now }
-    ensures within { result ≤ length branches.now }
-{
-    for (place, branch) in branches.iter().enumerate() {
-        if is_below(key, &branch.key) {
-            return place;
-        }
-    }
-    branches.len()
 }
 
 /// The children from one place to before another, seen the first one first. The child without a separator is at

@@ -1,7 +1,9 @@
 //! Trees over a space in memory.
 
+mod grown;
 mod memory;
 mod records;
+mod setting;
 
 use super::*;
 use btree_family::{Item, Key};

@@ -4,20 +4,18 @@ ghost use Rattle.std.specs.Prelude.{◌≡◌, ℕ, suc, ◌++◌, true, List, O
 ghost use Rattle.btree_family.specs.declared.bucket.Item.{Item};
 ghost use Rattle.btree_family.specs.Keys.{rank_of};
 ghost use Rattle.btree_nodes.specs.declared.span.Span.TheVariants.{Within};
-ghost use Rattle.btree_nodes.specs.Spaces.{handed_on};
-ghost use Rattle.btree_nodes.specs.Nodes.{class_held, objects_of, items_in, value_in};
-ghost use Rattle.btree_nodes.specs.Ways.{Answers, OnlyReads, TookReads, family_key, key_way, value_under, reads_of};
+ghost use Rattle.btree_shapes.specs.Spaces.{handed_on};
+ghost use Rattle.btree_shapes.specs.Nodes.{class_held, objects_of, items_in, value_in};
+ghost use Rattle.btree_shapes.specs.Ways.{Answers, OnlyReads, TookReads, family_key, key_way, value_under, reads_of};
 ghost use Rattle.btree_nodes.specs.Visits.{items_under, range_under, items_within};
-ghost use Rattle.btree_nodes.specs.Shapes.{Shape, IsSound, IsTree, nodes_in};
+ghost use Rattle.btree_shapes.specs.Shapes.{Shape, IsSound, IsTree, nodes_in};
+ghost use Rattle.btree_setting.specs.Ends.{Sets};
 
-use crate::error::TreeError;
-use crate::node::{Node, value_in};
-use crate::reading::read_root;
-use crate::space::Space;
 use crate::span::Span;
 use crate::walk::walk_all;
-use crate::way::{Found, follow_root};
 use btree_family::{Item, Key, key_fits};
+use btree_setting::{Sizes, set};
+use btree_shapes::{Node, Space, TreeError, find, read_root, value_in};
 use std::alloc::{AllocError, Global};
 use zb_ids::{ListOf, Oid, Text8};
 
@@ -47,22 +45,8 @@ fn value_of(alloc: Global, node: &Node, key: &Key) -> Result<Option<Text8>, Allo
 }
 
 impl<const LEAF: usize, const INNER: usize> Tree<LEAF, INNER> {
-    /// The object in which a key is to be looked up.
-    #[tactic(auto, using(crate::proofs::Goings::way_is_call, crate::proofs::Goings::root_unread))]
-    fn find<S: Space>(&self, alloc: Global, space: &mut S, key: &Key) -> Result<Found, TreeError>
-        ensures answer { Answers result (key_way (S.contents space.old) self.now.root key.now) }
-        ensures log { IfOk result (λ found. S.told → S.log space.new ≡ S.log space.old ++ reads_of (Ok found)) }
-        ensures only { S.told → OnlyReads (S.log space.old) (S.log space.new) }
-        ensures contents { S.contents space.new ≡ S.contents space.old }
-        ensures refusals { S.told → S.refusals space.new ≡ S.refusals space.old ++ handed_on result }
-    {
-        let (tree, entry) = read_root(alloc, space, self.root)?;
-        let fits = key_fits(tree.row.key, key);
-        follow_root(alloc, space, &tree, fits, key, entry)
-    }
-
     /// What stands under a key, by its way.
-    #[tactic(auto, using(crate::proofs::Goings::value_of_way, crate::proofs::Goings::refusal_of_way, crate::proofs::Goings::reads_found))]
+    #[tactic(auto, using(crate::proofs::Values::value_of_way, crate::proofs::Values::refusal_of_way, crate::proofs::Values::reads_found))]
     fn look_up<S: Space>(
         &self,
         alloc: Global,
@@ -76,7 +60,7 @@ impl<const LEAF: usize, const INNER: usize> Tree<LEAF, INNER> {
         ensures contents { S.contents space.new ≡ S.contents space.old }
         ensures refusals { S.told → S.refusals space.new ≡ S.refusals space.old ++ handed_on result }
     {
-        let found = self.find(alloc, space, key)?;
+        let found = find(alloc, space, self.root, key)?;
         let value = value_of(alloc, &found.node, key)?;
         Ok(value)
     }
@@ -110,8 +94,45 @@ impl<const LEAF: usize, const INNER: usize> Tree<LEAF, INNER> {
         self.look_up(alloc, space, key)
     }
 
+    /// Sets what stands under a key: the spelling of its value, or `None` in a set. Where the key has that very
+    /// spelling already, nothing is drawn or put.
+    ///
+    /// The objects on the way are each read once, from the root on; then, from the root down, the children besides
+    /// the way of which a split needs the first leaves. An object on the way, or such a child, is refused as the
+    /// type says; `BadKey` also where the value is not of the family. Then all records that are to be put are tried,
+    /// with 0 for each number that is to be drawn: `BadKey` where one can't be written or doesn't read back. Then a
+    /// number is drawn for each new object: for leaves first, and then for each level above. Last the objects that
+    /// change are put, in rising order of their numbers, of several with one number the new ones first.
+    ///
+    /// A leaf with more than LEAF items is split: the first half, rounded down, stays, the others go into a new leaf,
+    /// which takes over the link to the next one, and the first key of the new leaf goes into the object above as
+    /// the separator before it. A leaf that is no object of its own is split into two new leaves. An object with
+    /// more than INNER children is split in the same way, and the separator between its halves moves up; a root
+    /// keeps two new objects with its halves. A bucket or a set that stands alone is never split.
+    ///
+    /// Refusals of the space, and want of memory, may come at each of its calls. What was put before is then the
+    /// first of the puts. A record that is refused with the numbers that were drawn, though it was not with 0, would
+    /// be answered as want of memory.
+    pub fn set<S: Space>(
+        &self,
+        alloc: Global,
+        space: &mut S,
+        key: Key,
+        value: Option<Text8>,
+    ) -> Result<(), TreeError>
+        ensures ways { Sets S.told (S.contents space.old) (S.contents space.new) (S.log space.old) (S.log space.new)
+            self.now.root (record { leaf = LEAF; inner = INNER }) key value result }
+        ensures refusals { S.told → S.refusals space.new ≡ S.refusals space.old ++ handed_on result }
+    {
+        let sizes = Sizes {
+            leaf: LEAF,
+            inner: INNER,
+        };
+        set(alloc, space, self.root, sizes, key, value)
+    }
+
     /// All items, by a walk.
-    #[tactic(auto, using(crate::proofs::Calls::items_unread, crate::proofs::Walks::only_read, crate::proofs::Walks::only_more))]
+    #[tactic(auto, using(crate::proofs::Calls::items_unread, btree_shapes::specs::Logs::only_read, btree_shapes::specs::Logs::only_more))]
     fn all_items<S: Space>(&self, alloc: Global, space: &mut S) -> Result<ListOf<Item>, TreeError>
         ensures answer { Answers result (items_under (S.contents space.old) self.now.root) }
         ensures contents { S.contents space.new ≡ S.contents space.old }
@@ -123,7 +144,7 @@ impl<const LEAF: usize, const INNER: usize> Tree<LEAF, INNER> {
     }
 
     /// The items from one key to another, by a walk.
-    #[tactic(auto, using(crate::proofs::Calls::range_unread, crate::proofs::Calls::range_walk, crate::proofs::Walks::only_none, crate::proofs::Walks::only_read, crate::proofs::Walks::only_more))]
+    #[tactic(auto, using(crate::proofs::Calls::range_unread, crate::proofs::Calls::range_walk, btree_shapes::specs::Logs::only_none, btree_shapes::specs::Logs::only_read, btree_shapes::specs::Logs::only_more))]
     fn items_between<S: Space>(
         &self,
         alloc: Global,

@@ -1,20 +1,17 @@
 //! A walk over the leaves of a tree.
 
 ghost use Rattle.std.specs.Prelude.{◌≡◌, ◌+◌, ◌-◌, ◌++◌, ◌∷◌, [], ◌<◌, ◌^◌, length, OnOk, IfOk, IfErr, MatchOption};
-ghost use Rattle.btree_nodes.specs.Reading.{IsRooted};
-ghost use Rattle.btree_nodes.specs.Spaces.{handed_on};
-ghost use Rattle.btree_nodes.specs.Ways.{OnlyReads};
-ghost use Rattle.btree_nodes.specs.Nodes.{objects_of, Holds};
-ghost use Rattle.btree_nodes.specs.Ways.{Answers, IsRefusal};
+ghost use Rattle.btree_shapes.specs.Reading.{IsRooted};
+ghost use Rattle.btree_shapes.specs.Spaces.{handed_on};
+ghost use Rattle.btree_shapes.specs.Ways.{OnlyReads};
+ghost use Rattle.btree_shapes.specs.Nodes.{objects_of, Holds};
+ghost use Rattle.btree_shapes.specs.Ways.{Answers, IsRefusal};
 ghost use Rattle.btree_nodes.specs.Visits.{items_within, entered, left_of, entering, visited, cost, cost_of, SameLength};
 
 use crate::children::Children;
-use crate::error::TreeError;
-use crate::node::Node;
-use crate::reading::{Entry, Rooted, read_entry};
-use crate::space::Space;
 use crate::span::{Span, children_within};
 use btree_family::Item;
+use btree_shapes::{Entry, Node, Rooted, Space, TreeError, read_entry};
 use std::alloc::{AllocError, Global};
 use std::marker::Model;
 use zb_ids::{ListOf, Oid};
@@ -116,7 +113,7 @@ fn enter_node(
 }
 
 /// Reads one more object, and visits it.
-#[tactic(auto, using(crate::proofs::Walks::enter_twice, crate::proofs::Walks::enter_unread, crate::proofs::Walks::enter_bad_key, crate::proofs::Walks::enter_gives, crate::proofs::Walks::enter_less, crate::proofs::Walks::enter_same, crate::proofs::Walks::only_read))]
+#[tactic(auto, using(crate::proofs::Walks::enter_twice, crate::proofs::Walks::enter_unread, crate::proofs::Walks::enter_bad_key, crate::proofs::Walks::enter_gives, crate::proofs::Walks::enter_less, crate::proofs::Walks::enter_same, btree_shapes::specs::Logs::only_read))]
 fn enter<S: Space>(
     alloc: Global,
     space: &mut S,
@@ -154,7 +151,7 @@ fn enter<S: Space>(
 }
 
 /// The items of a tree whose root was read.
-#[tactic(auto, using(crate::proofs::Walks::start_gives, crate::proofs::Walks::start_same, crate::proofs::Walks::start_bad_key, crate::proofs::Walks::and_then_end, crate::proofs::Walks::rest_child, crate::proofs::Walks::rest_none, crate::proofs::Walks::cost_child, crate::proofs::Walks::cost_none, crate::proofs::Walks::finish, crate::proofs::Walks::only_none, crate::proofs::Walks::only_more))]
+#[tactic(auto, using(crate::proofs::Walks::start_gives, crate::proofs::Walks::start_same, crate::proofs::Walks::start_bad_key, crate::proofs::Walks::and_then_end, crate::proofs::Walks::rest_child, crate::proofs::Walks::rest_none, crate::proofs::Walks::cost_child, crate::proofs::Walks::cost_none, crate::proofs::Walks::finish, btree_shapes::specs::Logs::only_none, btree_shapes::specs::Logs::only_more))]
 pub(crate) fn walk_all<S: Space>(
     alloc: Global,
     space: &mut S,

@@ -2,10 +2,10 @@
 
 ghost use Rattle.std.specs.Prelude.{◌≡◌, ◌∷◌, [], Some, OnOk, OnErr};
 ghost use Rattle.std.specs.Option.{option_copied};
-ghost use Rattle.btree_nodes.specs.Spaces.{IsContentOf, refused};
+ghost use Rattle.btree_shapes.specs.Spaces.{IsContentOf, refused};
 ghost use Rattle.btree_nodes.specs.Tested.{bytes_at};
 
-use crate::space::{Call, Space, SpaceError};
+use btree_shapes::{Call, Space, SpaceError};
 use std::alloc::{AllocError, Global};
 use zb_ids::{Oid, Text8};
 use zb_record::{ObjectRecord, RecordError, read_record, write_record};

@@ -1,6 +1,6 @@
 use Rattle.std.proofs.Common.{◌≡◌, true, false}
 use Rattle.std.specs.Prelude.{◌&&◌}
-use Rattle.btree_nodes.specs.Ways.{stands_in}
+use Rattle.btree_shapes.specs.Ways.{stands_in}
 use Rattle.btree_nodes.specs.Visits.{ends_suit}
 use Rattle.btree_nodes.proofs.Walks.{enter_bad_key, enter_gives, enter_less}
 use Rattle.btree_nodes.proofs.walk.enter.Goals as goal

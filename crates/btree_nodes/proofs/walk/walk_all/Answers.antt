@@ -1,7 +1,8 @@
 use Rattle.std.proofs.Common.{◌≡◌, ◌∙◌, true, false, refl, append-nil}
 use Rattle.std.specs.Prelude.{◌&&◌}
 use Rattle.btree_nodes.specs.Visits.{ends_suit}
-use Rattle.btree_nodes.proofs.Walks.{start_bad_key, start_gives, start_same, only_none, only_more, loop_child, loop_none, room_none, same_none}
+use Rattle.btree_nodes.proofs.Walks.{start_bad_key, start_gives, start_same, loop_child, loop_none, room_none, same_none}
+use Rattle.btree_shapes.specs.Logs.{only_none, only_more}
 use Rattle.btree_nodes.proofs.walk.walk_all.Goals as goal
 
 pub returns-then-not-suits-clause-answer : goal.returns-then-not-suits-clause-answer

@@ -1,6 +1,6 @@
 use Rattle.std.proofs.Common.{◌≡◌, ◌^◌, ◌<◌, length}
-use Rattle.btree_nodes.specs.Nodes.{objects_of}
-use Rattle.btree_nodes.specs.Ways.{OnlyReads}
+use Rattle.btree_shapes.specs.Nodes.{objects_of}
+use Rattle.btree_shapes.specs.Ways.{OnlyReads}
 use Rattle.btree_nodes.specs.Visits.{left_of, cost_of, visited, SameLength}
 use Rattle.btree_nodes.proofs.walk.walk_all.Given as goal
 

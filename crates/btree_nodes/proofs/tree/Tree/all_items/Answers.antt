@@ -1,4 +1,4 @@
-use Rattle.btree_nodes.proofs.Walks.{only_read, only_more}
+use Rattle.btree_shapes.specs.Logs.{only_read, only_more}
 use Rattle.btree_nodes.proofs.tree.Tree.all_items.Goals as goal
 
 pub returns-clause-only : goal.returns-clause-only

@@ -1,6 +1,0 @@
-use Rattle.std.proofs.Common.{◌≡◌, ◌+◌, drop}
-use Rattle.btree_nodes.specs.Visits.{place_for}
-use Rattle.btree_nodes.proofs.span.place_for.Given as goal
-
-abbrev pub invariant-loop-place : goal.invariant-loop-place
-invariant-loop-place l = l.place + place_for (drop l.place l.branches) l.fn.key ≡ place_for l.branches l.fn.key

@@ -1,0 +1,159 @@
+-- What a set answers.
+use Rattle.std.proofs.Common.{◌≡◌, ℕ, Bool, true, false, List, [], ◌∷◌, ◌++◌, Option, Some, None, Result, Ok, Err, refl, sym, ◌∙◌, ap, subst, append_assoc, append-nil, inl, inr, ◌⊎◌}
+use Rattle.std.specs.Prelude.{◌&&◌, map}
+use Rattle.std.specs.Option.{option_map}
+use Rattle.pickle_value.specs.Graph.{Graph}
+use Rattle.btree_family.specs.declared.key.Key.{Key}
+use Rattle.btree_family.specs.Classes.{Class, classes, leaf_in}
+use Rattle.btree_family.specs.Families.{key_fits}
+use Rattle.btree_shapes.specs.declared.error.TreeError.{TreeError}
+use Rattle.btree_shapes.specs.declared.error.TreeError.TheVariants.{NotATree, NodeMissing, BadKey, Refused, Memory}
+use Rattle.btree_shapes.specs.declared.node.Node.{Node}
+use Rattle.btree_shapes.specs.declared.way.Found.{Found}
+use Rattle.btree_shapes.specs.declared.space.Call.{Call}
+use Rattle.btree_shapes.specs.declared.space.Call.TheVariants.{Drew}
+use Rattle.btree_shapes.specs.Nodes.{Held, Nothing, Foreign, Holds, node_suits, class_held, objects_of}
+use Rattle.btree_shapes.specs.Reading.{IsReadError}
+use Rattle.btree_shapes.specs.Ways.{way_for, IsRefusal, OnlyReads, family_key, reads, reads_of}
+use Rattle.btree_shapes.specs.Steps.{above_root, root_bad_key}
+use Rattle.btree_setting.specs.declared.change.Put.{Put}
+use Rattle.btree_setting.specs.declared.growing.Terms.{Terms}
+use Rattle.btree_setting.specs.declared.preparing.Sizes.{Sizes}
+use Rattle.btree_setting.specs.declared.preparing.Task.{Task}
+use Rattle.btree_setting.specs.Values.{fits_class, has_leaf, family_value}
+use Rattle.btree_setting.specs.Tasks.{fits_tree, set_way, task_found, task_by, task_under, asked_found, reads_by, reads_under}
+use Rattle.btree_setting.specs.Sets.{IsFree, IsStored, IsStoredFront, DrewSome, terms_of, Fails, Passes, IsPlan, Plans, IsWritten, IsBrokenOff, IsUnwritten, IsUnwritable, Writes}
+use Rattle.btree_setting.specs.Ends.{HasTask, HasNone, IsRefusedBefore, Sets}
+
+-- ---- writing
+
+drew_nothing : (log : List Call) → DrewSome log log
+drew_nothing log = record { oids = []; grown = sym (append-nil log) }
+
+-- nothing was put
+pub unwritten : (told : Type 0) (class leaf : Class) (sizes : Sizes) (key : Key) (task : Task) (f f' : ℕ → Option (List ℕ)) (log log' : List Call) (e : TreeError) → IsFree e → f' ≡ f → (told → DrewSome log log') → Writes told class leaf sizes key task f f' log log' (Err e)
+unwritten told class leaf sizes key task f f' log log' (NotATree oid) free c l = absurd free
+unwritten told class leaf sizes key task f f' log log' (NodeMissing oid) free c l = absurd free
+unwritten told class leaf sizes key task f f' log log' BadKey free c l = absurd free
+unwritten told class leaf sizes key task f f' log log' (Refused refusal) free c l = inl (record { contents = c; log = l })
+unwritten told class leaf sizes key task f f' log log' Memory free c l = inl (record { contents = c; log = l })
+
+pub starved : (told : Type 0) (class leaf : Class) (sizes : Sizes) (key : Key) (task : Task) (f : ℕ → Option (List ℕ)) (log : List Call) → Writes told class leaf sizes key task f f log log (Err Memory)
+starved told class leaf sizes key task f log = inl (record { contents = refl; log = λ t. drew_nothing log })
+
+pub no_terms : (told : Type 0) (class leaf : Class) (sizes : Sizes) (key : Key) (task : Task) (f : ℕ → Option (List ℕ)) (log : List Call) → terms_of class leaf sizes key ≡ None → Writes told class leaf sizes key task f f log log (Err BadKey)
+no_terms told class leaf sizes key task f log e = record { fails = inl e; contents = refl; log = λ t. refl }
+
+pub not_kept : (told : Type 0) (class leaf : Class) (sizes : Sizes) (key : Key) (task : Task) (terms : Terms) (f : ℕ → Option (List ℕ)) (log : List Call) → terms_of class leaf sizes key ≡ Some terms → Fails class leaf terms task → Writes told class leaf sizes key task f f log log (Err BadKey)
+not_kept told class leaf sizes key task terms f log e x = record { fails = inr (terms, e, x); contents = refl; log = λ t. refl }
+
+pub plans : (told : Type 0) (class leaf : Class) (sizes : Sizes) (key : Key) (task : Task) (terms : Terms) (count : ℕ) (puts : List Put) (log log' : List Call) → terms_of class leaf sizes key ≡ Some terms → Passes class leaf terms task count → IsPlan told terms task puts log log' → Plans told class leaf sizes key task puts log log'
+plans told class leaf sizes key task terms count puts log log' e p i = record { terms = terms; terms_are = e; count = count; passes = p; plan = i }
+
+pub written : (told : Type 0) (class leaf : Class) (sizes : Sizes) (key : Key) (task : Task) (puts : List Put) (f f' : ℕ → Option (List ℕ)) (log middle log' : List Call) → Plans told class leaf sizes key task puts log middle → IsStored told class leaf puts f f' middle log' → Writes told class leaf sizes key task f f' log log' (Ok tt)
+written told class leaf sizes key task puts f f' log middle log' p s = record { puts = puts; middle = middle; plan = p; stored = s }
+
+pub broken_off : (told : Type 0) (class leaf : Class) (sizes : Sizes) (key : Key) (task : Task) (puts : List Put) (f f' : ℕ → Option (List ℕ)) (log middle log' : List Call) (e : TreeError) → IsFree e → Plans told class leaf sizes key task puts log middle → IsStoredFront told class leaf puts f f' middle log' → Writes told class leaf sizes key task f f' log log' (Err e)
+broken_off told class leaf sizes key task puts f f' log middle log' (NotATree oid) free p s = absurd free
+broken_off told class leaf sizes key task puts f f' log middle log' (NodeMissing oid) free p s = absurd free
+broken_off told class leaf sizes key task puts f f' log middle log' BadKey free p s = absurd free
+broken_off told class leaf sizes key task puts f f' log middle log' (Refused refusal) free p s = inr (record { puts = puts; middle = middle; plan = p; stored = s })
+broken_off told class leaf sizes key task puts f f' log middle log' Memory free p s = inr (record { puts = puts; middle = middle; plan = p; stored = s })
+
+-- ---- the way
+
+refused_task : (objects : ℕ → Held) (fits : Bool) (sizes : Sizes) (key : Key) (value : Option (List ℕ)) (way : Result Found TreeError) (e : TreeError) → IsRefusal e way → IsRefusal e (task_by objects fits sizes key value way)
+refused_task objects fits sizes key value way (NotATree oid) h = ap (task_by objects fits sizes key value) h
+refused_task objects fits sizes key value way (NodeMissing oid) h = ap (task_by objects fits sizes key value) h
+refused_task objects fits sizes key value way BadKey h = ap (task_by objects fits sizes key value) h
+refused_task objects fits sizes key value way (Refused refusal) h = tt
+refused_task objects fits sizes key value way Memory h = tt
+
+way_unread : (fits : Bool) (key : Key) (objects : ℕ → Held) (root : ℕ) (e : TreeError) → IsReadError (objects root) root e → IsRefusal e (way_for fits key objects root)
+way_unread fits key objects root (NotATree other) (o, h) = above_root fits key objects root Foreign h ∙ ap (λ x. Err (NotATree x)) (sym o)
+way_unread fits key objects root (NodeMissing other) (o, h) = above_root fits key objects root Nothing h ∙ ap (λ x. Err (NodeMissing x)) (sym o)
+way_unread fits key objects root BadKey h = absurd h
+way_unread fits key objects root (Refused refusal) h = tt
+way_unread fits key objects root Memory h = tt
+
+pub root_unread : (f : ℕ → Option (List ℕ)) (root : ℕ) (sizes : Sizes) (key : Key) (value : Option (List ℕ)) (e : TreeError) → IsReadError (objects_of f root root) root e → IsRefusal e (task_under f root sizes key value)
+root_unread f root sizes key value e h =
+    refused_task (objects_of f root) (fits_tree (class_held (f root)) key value) sizes key value (set_way f root key value) e
+    (way_unread (fits_tree (class_held (f root)) key value) key (objects_of f root) root e h)
+
+and_false : (b : Bool) → (b && false) ≡ false
+and_false true = refl
+and_false false = refl
+
+-- a key or a value that is not of the family is refused at the root
+bad_here : (f : ℕ → Option (List ℕ)) (root : ℕ) (sizes : Sizes) (key : Key) (value : Option (List ℕ)) (own : Graph) (node : Node) → objects_of f root root ≡ Holds own node → fits_tree (class_held (f root)) key value ≡ false → task_under f root sizes key value ≡ Err BadKey
+bad_here f root sizes key value own node h e =
+    ap (task_by (objects_of f root) (fits_tree (class_held (f root)) key value) sizes key value)
+    (root_bad_key (fits_tree (class_held (f root)) key value) key (objects_of f root) root own node h (ap (λ b. b && node_suits key node) e))
+
+leaf_none : (found : Option Class) → found ≡ None → has_leaf found ≡ false
+leaf_none found e = ap has_leaf e
+
+pub no_leaf : (f : ℕ → Option (List ℕ)) (root : ℕ) (sizes : Sizes) (key : Key) (value : Option (List ℕ)) (own : Graph) (node : Node) (class : Class) → objects_of f root root ≡ Holds own node → class_held (f root) ≡ Some class → leaf_in classes class ≡ None → task_under f root sizes key value ≡ Err BadKey
+no_leaf f root sizes key value own node class h c l =
+    bad_here f root sizes key value own node h
+    (ap (λ x. fits_tree x key value) c ∙ ap (λ x. key_fits class.key key && (has_leaf x && fits_class class value)) l ∙ and_false (key_fits class.key key))
+
+pub no_key : (f : ℕ → Option (List ℕ)) (root : ℕ) (sizes : Sizes) (key : Key) (value : Option (List ℕ)) (own : Graph) (node : Node) (class : Class) → objects_of f root root ≡ Holds own node → class_held (f root) ≡ Some class → key_fits class.key key ≡ false → task_under f root sizes key value ≡ Err BadKey
+no_key f root sizes key value own node class h c l =
+    bad_here f root sizes key value own node h
+    (ap (λ x. fits_tree x key value) c ∙ ap (λ b. b && family_value (Some class) value) l)
+
+pub no_value : (f : ℕ → Option (List ℕ)) (root : ℕ) (sizes : Sizes) (key : Key) (value : Option (List ℕ)) (own : Graph) (node : Node) (class : Class) → objects_of f root root ≡ Holds own node → class_held (f root) ≡ Some class → fits_class class value ≡ false → task_under f root sizes key value ≡ Err BadKey
+no_value f root sizes key value own node class h c l =
+    bad_here f root sizes key value own node h
+    (ap (λ x. fits_tree x key value) c
+    ∙ ap (λ b. key_fits class.key key && (has_leaf (leaf_in classes class) && b)) l
+    ∙ ap (λ b. key_fits class.key key && b) (and_false (has_leaf (leaf_in classes class)))
+    ∙ and_false (key_fits class.key key))
+
+-- both are of the family
+pub fits_all : (f : ℕ → Option (List ℕ)) (root : ℕ) (key : Key) (value : Option (List ℕ)) (class leaf : Class) → class_held (f root) ≡ Some class → leaf_in classes class ≡ Some leaf → key_fits class.key key ≡ true → fits_class class value ≡ true → fits_tree (class_held (f root)) key value ≡ true
+fits_all f root key value class leaf c l k v =
+    ap (λ x. fits_tree x key value) c
+    ∙ ap (λ b. b && (has_leaf (leaf_in classes class) && fits_class class value)) k
+    ∙ ap (λ x. has_leaf x && fits_class class value) l
+    ∙ v
+
+task_so : (f : ℕ → Option (List ℕ)) (root : ℕ) (sizes : Sizes) (key : Key) (value : Option (List ℕ)) → fits_tree (class_held (f root)) key value ≡ true → task_under f root sizes key value ≡ task_by (objects_of f root) true sizes key value (way_for true key (objects_of f root) root)
+task_so f root sizes key value e = ap (λ b. task_by (objects_of f root) b sizes key value (way_for b key (objects_of f root) root)) e
+
+pub way_refused : (f : ℕ → Option (List ℕ)) (root : ℕ) (sizes : Sizes) (key : Key) (value : Option (List ℕ)) (e : TreeError) → fits_tree (class_held (f root)) key value ≡ true → IsRefusal e (way_for true key (objects_of f root) root) → IsRefusal e (task_under f root sizes key value)
+way_refused f root sizes key value e t h =
+    subst (IsRefusal e) (sym (task_so f root sizes key value t)) (refused_task (objects_of f root) true sizes key value (way_for true key (objects_of f root) root) e h)
+
+pub task_is_found : (f : ℕ → Option (List ℕ)) (root : ℕ) (sizes : Sizes) (key : Key) (value : Option (List ℕ)) (found : Found) → fits_tree (class_held (f root)) key value ≡ true → way_for true key (objects_of f root) root ≡ Ok found → task_under f root sizes key value ≡ task_found (objects_of f root) true sizes key value found
+task_is_found f root sizes key value found t h = task_so f root sizes key value t ∙ ap (task_by (objects_of f root) true sizes key value) h
+
+pub found_refused : (f : ℕ → Option (List ℕ)) (root : ℕ) (sizes : Sizes) (key : Key) (value : Option (List ℕ)) (found : Found) (e : TreeError) → fits_tree (class_held (f root)) key value ≡ true → way_for true key (objects_of f root) root ≡ Ok found → IsRefusal e (task_found (objects_of f root) true sizes key value found) → IsRefusal e (task_under f root sizes key value)
+found_refused f root sizes key value found e t h r = subst (IsRefusal e) (sym (task_is_found f root sizes key value found t h)) r
+
+pub way_is_refused : (f : ℕ → Option (List ℕ)) (root : ℕ) (sizes : Sizes) (key : Key) (value : Option (List ℕ)) (e : TreeError) (class leaf : Class) → class_held (f root) ≡ Some class → leaf_in classes class ≡ Some leaf → key_fits class.key key ≡ true → fits_class class value ≡ true → IsRefusal e (way_for true key (objects_of f root) root) → IsRefusal e (task_under f root sizes key value)
+way_is_refused f root sizes key value e class leaf c l k v h = way_refused f root sizes key value e (fits_all f root key value class leaf c l k v) h
+
+pub task_is_refused : (f : ℕ → Option (List ℕ)) (root : ℕ) (sizes : Sizes) (key : Key) (value : Option (List ℕ)) (found : Found) (e : TreeError) (class leaf : Class) → class_held (f root) ≡ Some class → leaf_in classes class ≡ Some leaf → key_fits class.key key ≡ true → fits_class class value ≡ true → way_for true key (objects_of f root) root ≡ Ok found → IsRefusal e (task_found (objects_of f root) true sizes key value found) → IsRefusal e (task_under f root sizes key value)
+task_is_refused f root sizes key value found e class leaf c l k v w h = found_refused f root sizes key value found e (fits_all f root key value class leaf c l k v) w h
+
+-- what was read is what the definition reads
+pub all_reads : (f : ℕ → Option (List ℕ)) (root : ℕ) (sizes : Sizes) (key : Key) (value : Option (List ℕ)) (found : Found) (log middle log' : List Call) → fits_tree (class_held (f root)) key value ≡ true → way_for true key (objects_of f root) root ≡ Ok found → middle ≡ log ++ reads_of (Ok found) → log' ≡ middle ++ reads (asked_found sizes key value found) → log' ≡ log ++ reads_under f root sizes key value
+all_reads f root sizes key value found log middle log' t h m l =
+    l ∙ ap (λ x. x ++ reads (asked_found sizes key value found)) m
+    ∙ append_assoc log (reads_of (Ok found)) (reads (asked_found sizes key value found))
+    ∙ ap (λ w. log ++ reads_by sizes key value w) (sym (ap (λ b. way_for b key (objects_of f root) root) t ∙ h))
+
+-- ---- answers
+
+pub refused_before : (told : Type 0) (f f' : ℕ → Option (List ℕ)) (log log' : List Call) (root : ℕ) (sizes : Sizes) (key : Key) (value : Option (List ℕ)) (e : TreeError) → IsRefusal e (task_under f root sizes key value) → f' ≡ f → (told → OnlyReads log log') → Sets told f f' log log' root sizes key value (Err e)
+refused_before told f f' log log' root sizes key value e r c l = inl (record { refusal = r; contents = c; log = l })
+
+pub has_none : (told : Type 0) (f f' : ℕ → Option (List ℕ)) (log log' : List Call) (root : ℕ) (sizes : Sizes) (key : Key) (value : Option (List ℕ)) → task_under f root sizes key value ≡ Ok None → f' ≡ f → (told → log' ≡ log ++ reads_under f root sizes key value) → Sets told f f' log log' root sizes key value (Ok tt)
+has_none told f f' log log' root sizes key value r c l = inl (record { none = r; contents = c; log = l })
+
+pub has_task : (told : Type 0) (f f' : ℕ → Option (List ℕ)) (log middle log' : List Call) (root : ℕ) (sizes : Sizes) (key : Key) (value : Option (List ℕ)) (class leaf : Class) (task : Task) (result : Result (Unit {0}) TreeError) → class_held (f root) ≡ Some class → leaf_in classes class ≡ Some leaf → task_under f root sizes key value ≡ Ok (Some task) → (told → middle ≡ log ++ reads_under f root sizes key value) → Writes told class leaf sizes key task f f' middle log' result → Sets told f f' log log' root sizes key value result
+has_task told f f' log middle log' root sizes key value class leaf task (Ok u) c l t m w = inr (record { class = class; class_is = c; leaf = leaf; leaf_is = l; task = task; task_is = t; middle = middle; reads = m; writes = w })
+has_task told f f' log middle log' root sizes key value class leaf task (Err e) c l t m w = inr (record { class = class; class_is = c; leaf = leaf; leaf_is = l; task = task; task_is = t; middle = middle; reads = m; writes = w })

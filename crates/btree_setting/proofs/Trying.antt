@@ -1,0 +1,76 @@
+-- Trying the records of a set, and its numbers.
+use Rattle.std.proofs.Common.{◌≡◌, ℕ, ◌+◌, Bool, true, false, List, [], ◌∷◌, ◌++◌, Option, Some, None, refl, arith, sym, ◌∙◌, ap, subst, length, zero, suc, append-nil}
+use Rattle.std.specs.Prelude.{◌&&◌, map, Result, Ok, Err, IfErr}
+use Rattle.btree_family.specs.Classes.{Class}
+use Rattle.btree_shapes.specs.declared.space.Call.{Call}
+use Rattle.btree_shapes.specs.declared.space.Call.TheVariants.{Drew}
+use Rattle.btree_setting.specs.declared.change.Put.{Put}
+use Rattle.btree_setting.specs.declared.change.Change.{Change}
+use Rattle.btree_setting.specs.declared.growing.Terms.{Terms}
+use Rattle.btree_setting.specs.declared.preparing.Task.{Task}
+use Rattle.btree_setting.specs.Puts.{put_oid, sort_puts, all_keep}
+use Rattle.btree_setting.specs.Changes.{AreDrawn, IsRootSet}
+use Rattle.btree_setting.specs.Sets.{AreZero, DrewSome, IsTrial, change_keeps, Fails, Passes, puts_of, drew_news, IsPlan}
+
+pub zero_push : (oids : List ℕ) → AreZero oids → AreZero (oids ++ 0 ∷ [])
+zero_push [] z = (refl, tt)
+zero_push (x ∷ xs) z = (z.0, zero_push xs z.1)
+
+zero_front : (xs ys : List ℕ) → AreZero (xs ++ ys) → AreZero xs
+zero_front [] ys z = tt
+zero_front (x ∷ xs) ys z = (z.0, zero_front xs ys z.1)
+
+zero_news : (oids : List ℕ) (news : List Put) → AreZero oids → AreDrawn oids news → AreZero (map put_oid news)
+zero_news oids news z d = zero_front (map put_oid news) d.rest (subst AreZero d.cut z)
+
+pub is_trial : (terms : Terms) (task : Task) (change : Change) (oids : List ℕ) → AreZero oids → AreDrawn oids change.news → IsRootSet terms task.bottom task.rungs change → IsTrial terms task change
+is_trial terms task change oids z d s = record { set = s; zero = zero_news oids change.news z d }
+
+pub trial_passes : (class leaf : Class) (terms : Terms) (task : Task) (change : Change) (count : ℕ) → IsTrial terms task change → all_keep class leaf change.news ≡ true → all_keep class leaf change.olds ≡ true → count ≡ length change.news → Passes class leaf terms task count
+trial_passes class leaf terms task change count t n o c = record {
+  change = change;
+  trial = t;
+  kept = ap (λ b. b && all_keep class leaf change.olds) n ∙ o;
+  counted = c;
+}
+
+pub news_fail : (class leaf : Class) (terms : Terms) (task : Task) (change : Change) → IsTrial terms task change → all_keep class leaf change.news ≡ false → Fails class leaf terms task
+news_fail class leaf terms task change t n = record { change = change; trial = t; fails = ap (λ b. b && all_keep class leaf change.olds) n }
+
+pub olds_fail : (class leaf : Class) (terms : Terms) (task : Task) (change : Change) → IsTrial terms task change → all_keep class leaf change.news ≡ true → all_keep class leaf change.olds ≡ false → Fails class leaf terms task
+olds_fail class leaf terms task change t n o = record { change = change; trial = t; fails = ap (λ b. b && all_keep class leaf change.olds) n ∙ o }
+
+-- where as many were drawn as there are new objects, each has its own
+length_append : (xs ys : List ℕ) → length (xs ++ ys) ≡ length xs + length ys
+length_append [] ys = omega arith
+length_append (x ∷ xs) ys = let r = length_append xs ys in omega (arith, r)
+
+length_oids : (news : List Put) → length (map put_oid news) ≡ length news
+length_oids [] = refl
+length_oids (x ∷ xs) = ap suc (length_oids xs)
+
+none_left : (rest : List ℕ) → length rest ≡ 0 → rest ≡ []
+none_left [] e = refl
+none_left (x ∷ xs) e = absurd (omega (arith, e))
+
+pub all_drawn : (oids : List ℕ) (news : List Put) → AreDrawn oids news → length news ≡ length oids → oids ≡ map put_oid news
+all_drawn oids news d e =
+    let a : length oids ≡ length (map put_oid news) + length d.rest = ap length d.cut ∙ length_append (map put_oid news) d.rest in
+    let b : length (map put_oid news) ≡ length news = length_oids news in
+    let r : d.rest ≡ [] = none_left d.rest (omega (arith, a, b, e)) in
+    d.cut ∙ ap (λ xs. map put_oid news ++ xs) r ∙ append-nil (map put_oid news)
+
+pub is_plan : (told : Type 0) (terms : Terms) (task : Task) (change : Change) (puts : List Put) (oids : List ℕ) (log log' : List Call) → IsRootSet terms task.bottom task.rungs change → puts ≡ sort_puts (change.news ++ change.olds) → AreDrawn oids change.news → length change.news ≡ length oids → (told → log' ≡ log ++ map Drew oids) → IsPlan told terms task puts log log'
+is_plan told terms task change puts oids log log' s p d e l = record {
+  change = change;
+  set = s;
+  puts_are = p;
+  drawn = λ t. l t ∙ ap (λ xs. log ++ map Drew xs) (all_drawn oids change.news d e);
+}
+
+pub any_err : {X E : Type 0} (r : Result X E) (P : Type 0) → P → IfErr r (λ e. P)
+any_err (Ok x) P p = tt
+any_err (Err e) P p = p
+
+pub drew_all : (log log' : List Call) (oids : List ℕ) → log' ≡ log ++ map Drew oids → DrewSome log log'
+drew_all log log' oids e = record { oids = oids; grown = e }

@@ -1,0 +1,29 @@
+use Rattle.std.proofs.Common.{◌≡◌, ◌∙◌, refl, sym, ap, append-nil}
+use Rattle.btree_shapes.specs.Nodes.{objects_of}
+use Rattle.btree_shapes.specs.Logs.{only_none, only_more}
+use Rattle.btree_setting.specs.Rungs.{settled}
+use Rattle.btree_setting.proofs.Beside.{settle_start, settle_step, read_start, read_step}
+use Rattle.btree_setting.proofs.settling.settle.Goals as goal
+
+pub down-init : goal.down-init
+down-init g c = record {
+  settled = settle_start _ _ _ _ _ _ c.new-known.ensures c.new-above.ensures;
+  contents = refl;
+  read = λ t. read_start _ _;
+  only = λ t. only_none _;
+  refusals = λ t. refl;
+}
+
+pub down-preserved : goal.down-preserved
+down-preserved g c = record {
+  settled =
+      settle_step _ _ _ _ _ _ _ _ _ _ c.in-Some.rung c.in_ok-rung.rung c.down.invariant.settled c.in-Some.ensures c.in_ok-push.ensures.ok
+      (ap (λ f. settled (objects_of f c.args.tree.now.root) c.args.fits c.args.key.now c.push.new.self c.in-Some.rung) (sym c.down.invariant.contents)
+      ∙ ap (λ xs. settled (objects_of (g.S.Space.contents c.down.space) c.args.tree.now.root) c.args.fits c.args.key.now xs c.in-Some.rung) (sym c.as_slice.ensures)
+      ∙ c.in_ok-rung.ensures.answer)
+      c.in_ok-put_below.ensures;
+  contents = c.in_ok-rung.ensures.contents ∙ c.down.invariant.contents;
+  read = λ t. read_step _ _ _ _ _ _ c.in-Some.rung (c.down.invariant.read t) c.in-Some.ensures (c.in_ok-rung.ensures.log t);
+  only = λ t. only_more _ _ _ (c.down.invariant.only t) (c.in_ok-rung.ensures.only t);
+  refusals = λ t. c.in_ok-rung.ensures.refusals t ∙ append-nil _ ∙ c.down.invariant.refusals t;
+}

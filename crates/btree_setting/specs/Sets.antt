@@ -1,0 +1,174 @@
+-- What a set draws and puts, on every tree. Own.
+use Rattle.std.specs.Prelude.{◌≡◌, ℕ, Bool, true, false, List, [], ◌∷◌, ◌++◌, length, map, Option, Some, None, Result, Ok, Err, ◌&&◌, ◌⊎◌}
+use Rattle.pickle_value.specs.Graph.{Graph}
+use Rattle.btree_family.specs.declared.key.Key.{Key}
+use Rattle.btree_family.specs.Classes.{Class}
+use Rattle.zb_record.specs.declared.record.ObjectRecord.{ObjectRecord}
+use Rattle.zb_record.specs.Class.{is_class}
+use Rattle.zb_record.specs.Records.{object_text}
+use Rattle.btree_shapes.specs.declared.error.TreeError.{TreeError}
+use Rattle.btree_shapes.specs.declared.error.TreeError.TheVariants.{NotATree, NodeMissing, BadKey, Refused, Memory}
+use Rattle.btree_shapes.specs.declared.space.Call.{Call}
+use Rattle.btree_shapes.specs.declared.space.Call.TheVariants.{Drew, Wrote}
+use Rattle.btree_setting.specs.declared.change.Put.{Put}
+use Rattle.btree_setting.specs.declared.change.Change.{Change}
+use Rattle.btree_setting.specs.declared.growing.Plain.{Plain}
+use Rattle.btree_setting.specs.declared.growing.Terms.{Terms}
+use Rattle.btree_setting.specs.declared.preparing.Sizes.{Sizes}
+use Rattle.btree_setting.specs.declared.preparing.Task.{Task}
+use Rattle.btree_setting.specs.Writing.{node_state, plain_class}
+use Rattle.btree_setting.specs.Puts.{put_oid, sort_puts, keeps, all_keep, text_reads_as, put_all}
+use Rattle.btree_setting.specs.Changes.{IsRootSet}
+
+-- a refusal of the space, or want of memory
+abbrev pub IsFree : TreeError → Type 0
+IsFree (NotATree oid) = ⊥
+IsFree (NodeMissing oid) = ⊥
+IsFree BadKey = ⊥
+IsFree (Refused refusal) = Unit {0}
+IsFree Memory = Unit {0}
+
+-- ---- one put
+
+-- a record with the class and the state of a put
+pub record IsRecordFor (class leaf : Class) (put : Put) (object : ObjectRecord) : Type 0 where
+  pub class_same : object.class ≡ put.class
+  pub class_is : is_class put.class ≡ true
+  pub state_is : node_state class leaf put.leaves put.node ≡ Some object.state
+
+-- a record that can be written and reads back as the put
+pub record IsKept (class leaf : Class) (put : Put) (object : ObjectRecord) : Type 0 where
+  pub is_for : IsRecordFor class leaf put object
+  pub reads : text_reads_as class put (object_text object.class object.state) ≡ true
+  pub keeps : keeps class leaf put ≡ true
+
+-- ---- puts in a row
+
+abbrev pub wrote : Put → Call
+wrote put = Wrote put.oid
+
+-- these puts were done, in this order
+pub record IsStored (told : Type 0) (class leaf : Class) (puts : List Put) (before after : ℕ → Option (List ℕ)) (calls calls' : List Call) : Type 0 where
+  pub kept : all_keep class leaf puts ≡ true
+  pub contents : after ≡ put_all class leaf puts before
+  pub log : told → calls' ≡ calls ++ map wrote puts
+
+-- the first of them were done
+pub record IsStoredFront (told : Type 0) (class leaf : Class) (puts : List Put) (before after : ℕ → Option (List ℕ)) (calls calls' : List Call) : Type 0 where
+  pub front : List Put
+  pub behind : List Put
+  pub cut : puts ≡ front ++ behind
+  pub stored : IsStored told class leaf front before after calls calls'
+
+-- ---- drawing
+
+abbrev pub AreZero : List ℕ → Type 0
+AreZero [] = Unit {0}
+AreZero (oid ∷ oids) = (oid ≡ 0) × AreZero oids
+
+-- some numbers were drawn, and nothing else was done
+pub record DrewSome (calls calls' : List Call) : Type 0 where
+  pub oids : List ℕ
+  pub grown : calls' ≡ calls ++ map Drew oids
+
+-- ---- the terms of a set
+
+abbrev pub plain_of : Option Graph → Option Graph → Option Plain
+plain_of None inner = None
+plain_of (Some leaf) None = None
+plain_of (Some leaf) (Some inner) = Some (record { leaf = leaf; inner = inner })
+
+abbrev pub terms_with : Sizes → Key → Option Plain → Option Terms
+terms_with sizes key None = None
+terms_with sizes key (Some plain) = Some (record { leaf = sizes.leaf; inner = sizes.inner; key = key; plain = plain })
+
+-- how many items and children there may be, the key, and the classes of new objects, where these can be written
+abbrev pub terms_of : Class → Class → Sizes → Key → Option Terms
+terms_of class leaf sizes key = terms_with sizes key (plain_of (plain_class leaf) (plain_class class))
+
+-- what a set would change where each number that is drawn were 0
+pub record IsTrial (terms : Terms) (task : Task) (change : Change) : Type 0 where
+  pub set : IsRootSet terms task.bottom task.rungs change
+  pub zero : AreZero (map put_oid change.news)
+
+abbrev pub change_keeps : Class → Class → Change → Bool
+change_keeps class leaf change = all_keep class leaf change.news && all_keep class leaf change.olds
+
+-- a record of that can't be written, or doesn't read back
+pub record Fails (class leaf : Class) (terms : Terms) (task : Task) : Type 0 where
+  pub change : Change
+  pub trial : IsTrial terms task change
+  pub fails : change_keeps class leaf change ≡ false
+
+-- they all can be written and read back, with so many new ones among them
+pub record Passes (class leaf : Class) (terms : Terms) (task : Task) (count : ℕ) : Type 0 where
+  pub change : Change
+  pub trial : IsTrial terms task change
+  pub kept : change_keeps class leaf change ≡ true
+  pub counted : count ≡ length change.news
+
+abbrev pub Tried : Class → Class → Terms → Task → Option ℕ → Type 0
+Tried class leaf terms task None = Fails class leaf terms task
+Tried class leaf terms task (Some count) = Passes class leaf terms task count
+
+-- ---- a plan
+
+-- the puts of a change, in rising order of their numbers, of several with one number the new ones first
+abbrev pub puts_of : Change → List Put
+puts_of change = sort_puts (change.news ++ change.olds)
+
+abbrev pub drew_news : Change → List Call
+drew_news change = map Drew (map put_oid change.news)
+
+-- the numbers of new objects are drawn, and these are the puts
+pub record IsPlan (told : Type 0) (terms : Terms) (task : Task) (puts : List Put) (calls calls' : List Call) : Type 0 where
+  pub change : Change
+  pub set : IsRootSet terms task.bottom task.rungs change
+  pub puts_are : puts ≡ puts_of change
+  pub drawn : told → calls' ≡ calls ++ drew_news change
+
+-- ---- the whole
+
+-- the records were tried, the numbers were drawn, and the puts follow
+pub record Plans (told : Type 0) (class leaf : Class) (sizes : Sizes) (key : Key) (task : Task) (puts : List Put) (calls calls' : List Call) : Type 0 where
+  pub terms : Terms
+  pub terms_are : terms_of class leaf sizes key ≡ Some terms
+  pub count : ℕ
+  pub passes : Passes class leaf terms task count
+  pub plan : IsPlan told terms task puts calls calls'
+
+-- all puts of the plan were done
+pub record IsWritten (told : Type 0) (class leaf : Class) (sizes : Sizes) (key : Key) (task : Task) (before after : ℕ → Option (List ℕ)) (calls calls' : List Call) : Type 0 where
+  pub puts : List Put
+  pub middle : List Call
+  pub plan : Plans told class leaf sizes key task puts calls middle
+  pub stored : IsStored told class leaf puts before after middle calls'
+
+-- the first puts of the plan were done
+pub record IsBrokenOff (told : Type 0) (class leaf : Class) (sizes : Sizes) (key : Key) (task : Task) (before after : ℕ → Option (List ℕ)) (calls calls' : List Call) : Type 0 where
+  pub puts : List Put
+  pub middle : List Call
+  pub plan : Plans told class leaf sizes key task puts calls middle
+  pub stored : IsStoredFront told class leaf puts before after middle calls'
+
+-- nothing was put
+pub record IsUnwritten (told : Type 0) (before after : ℕ → Option (List ℕ)) (calls calls' : List Call) : Type 0 where
+  pub contents : after ≡ before
+  pub log : told → DrewSome calls calls'
+
+-- no record was put and no number drawn, since a record can't be written or doesn't read back
+pub record IsUnwritable (told : Type 0) (class leaf : Class) (sizes : Sizes) (key : Key) (task : Task) (before after : ℕ → Option (List ℕ)) (calls calls' : List Call) : Type 0 where
+  pub fails : (terms_of class leaf sizes key ≡ None) ⊎ ((terms : Terms) × (terms_of class leaf sizes key ≡ Some terms) × Fails class leaf terms task)
+  pub contents : after ≡ before
+  pub log : told → calls' ≡ calls
+
+-- what a set answers that has found what it is to change
+abbrev pub Writes : Type 0 → Class → Class → Sizes → Key → Task → (ℕ → Option (List ℕ)) → (ℕ → Option (List ℕ)) → List Call → List Call → Result (Unit {0}) TreeError → Type 0
+Writes told class leaf sizes key task before after calls calls' (Ok u) = IsWritten told class leaf sizes key task before after calls calls'
+Writes told class leaf sizes key task before after calls calls' (Err (NotATree oid)) = ⊥
+Writes told class leaf sizes key task before after calls calls' (Err (NodeMissing oid)) = ⊥
+Writes told class leaf sizes key task before after calls calls' (Err BadKey) = IsUnwritable told class leaf sizes key task before after calls calls'
+Writes told class leaf sizes key task before after calls calls' (Err (Refused refusal)) =
+    IsUnwritten told before after calls calls' ⊎ IsBrokenOff told class leaf sizes key task before after calls calls'
+Writes told class leaf sizes key task before after calls calls' (Err Memory) =
+    IsUnwritten told before after calls calls' ⊎ IsBrokenOff told class leaf sizes key task before after calls calls'

@@ -1,0 +1,21 @@
+//! Setting what stands under a key of a tree of the BTrees package: what is read for it, which objects change and how,
+//! and that they are put.
+#![tactic(auto)]
+
+mod bottom;
+mod change;
+mod copying;
+mod drawing;
+mod growing;
+mod items;
+mod planning;
+mod preparing;
+mod rung;
+mod setting;
+mod settling;
+mod storing;
+mod value;
+mod writing;
+
+pub use preparing::Sizes;
+pub use setting::set;

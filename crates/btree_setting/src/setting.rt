@@ -1,0 +1,185 @@
+//! Setting what stands under a key.
+
+ghost use Rattle.std.specs.Prelude.{◌≡◌, ◌++◌, IfOk, IfErr, IfSome, OnErr};
+ghost use Rattle.pickle_value.specs.Graph.{IsGlobal};
+ghost use Rattle.btree_family.specs.Classes.{class_seen};
+ghost use Rattle.btree_shapes.specs.Spaces.{handed_on};
+ghost use Rattle.btree_setting.specs.Sets.{IsFree, DrewSome, terms_of, Tried, IsPlan, Writes};
+ghost use Rattle.btree_shapes.specs.Ways.{IsRefusal, OnlyReads};
+ghost use Rattle.btree_setting.specs.Tasks.{task_under, reads_under};
+ghost use Rattle.btree_setting.specs.Ends.{IsFinding, Sets};
+
+use crate::change::{Puts, in_order};
+use crate::drawing::{draw_all, stand_ins};
+use crate::growing::{Plain, Terms};
+use crate::planning::plan;
+use crate::preparing::{Sizes, Task, prepare};
+use crate::storing::{all_keep, store_all};
+use crate::value::fits_class;
+use crate::writing::{Family, plain_class};
+use btree_family::{Key, key_fits, leaf_of};
+use btree_shapes::{Space, TreeError, follow_root, read_root};
+use std::alloc::{AllocError, Global};
+use zb_ids::{Oid, Text8};
+
+/// How many items and children there may be, the key, and the classes of new objects, where these can be written.
+fn terms_of(
+    alloc: Global,
+    family: &Family,
+    sizes: Sizes,
+    key: Key,
+) -> Result<Option<Terms>, AllocError>
+    ensures { IfOk result (λ terms. terms
+        ≡ terms_of (class_seen family.now.row.now) (class_seen family.now.leaf.now) sizes key) }
+{
+    let Some(leaf) = plain_class(alloc, family.leaf)? else {
+        return Ok(None);
+    };
+    let Some(inner) = plain_class(alloc, family.row)? else {
+        return Ok(None);
+    };
+    Ok(Some(Terms {
+        leaf: sizes.leaf,
+        inner: sizes.inner,
+        key,
+        plain: Plain { leaf, inner },
+    }))
+}
+
+/// How many numbers a set draws, where all records that it puts can be written and read back. They are tried with 0 for
+/// each number.
+#[tactic(auto, using(crate::proofs::Trying::is_trial, crate::proofs::Trying::trial_passes, crate::proofs::Trying::news_fail, crate::proofs::Trying::olds_fail))]
+fn try_out(
+    alloc: Global,
+    family: &Family,
+    terms: &Terms,
+    task: &Task,
+) -> Result<Option<usize>, AllocError>
+    requires { IsGlobal family.now.leaf.now.module.now family.now.leaf.now.name.now }
+    ensures { IfOk result
+        (Tried (class_seen family.now.row.now) (class_seen family.now.leaf.now) terms.now task.now) }
+{
+    let oids = stand_ins(alloc, task.rungs.len())?;
+    let change = plan(alloc, terms, &task.bottom, &task.rungs, oids.as_slice())?;
+    if all_keep(alloc, family, &change.news)? && all_keep(alloc, family, &change.olds)? {
+        return Ok(Some(change.news.len()));
+    }
+    Ok(None)
+}
+
+/// Draws so many numbers, and gives the puts of the change with these.
+#[tactic(auto, using(crate::proofs::Trying::drew_all, crate::proofs::Trying::is_plan))]
+fn draw_and_plan<S: Space>(
+    alloc: Global,
+    space: &mut S,
+    terms: &Terms,
+    task: &Task,
+    count: usize,
+) -> Result<Puts, TreeError>
+    ensures ok { IfOk result (λ puts. IsPlan S.told terms.now task.now puts (S.log space.old) (S.log space.new)) }
+    ensures err { OnErr result (S.told → DrewSome (S.log space.old) (S.log space.new)) }
+    ensures free { IfErr result IsFree }
+    ensures contents { S.contents space.new ≡ S.contents space.old }
+    ensures refusals { S.told → S.refusals space.new ≡ S.refusals space.old ++ handed_on result }
+{
+    let oids = draw_all(alloc, space, count)?;
+    let change = plan(alloc, terms, &task.bottom, &task.rungs, oids.as_slice())?;
+    if change.news.len() != oids.len() {
+        return Err(TreeError::Memory);
+    }
+    Ok(in_order(alloc, change.news, change.olds)?)
+}
+
+/// Tries the records that a set puts, draws the numbers of new objects, and puts all.
+fn write<S: Space>(
+    alloc: Global,
+    space: &mut S,
+    family: &Family,
+    sizes: Sizes,
+    key: Key,
+    task: &Task,
+) -> Result<(), TreeError>
+    requires { IsGlobal family.now.leaf.now.module.now family.now.leaf.now.name.now }
+    ensures writes { Writes S.told (class_seen family.now.row.now) (class_seen family.now.leaf.now) sizes key task.now
+        (S.contents space.old) (S.contents space.new) (S.log space.old) (S.log space.new) result }
+    ensures refusals { S.told → S.refusals space.new ≡ S.refusals space.old ++ handed_on result }
+{
+    let Some(terms) = terms_of(alloc, family, sizes, key)? else {
+        return Err(TreeError::BadKey);
+    };
+    let Some(count) = try_out(alloc, family, &terms, task)? else {
+        return Err(TreeError::BadKey);
+    };
+    let puts = draw_and_plan(alloc, space, &terms, task, count)?;
+    store_all(alloc, space, family, puts)?;
+    Ok(())
+}
+
+/// What a set is to change, and the classes of the tree.
+#[derive(Drop)]
+struct Finding {
+    family: Family,
+    task: Task,
+}
+
+/// What a set is to change in the tree with this root: nothing, where the key has the value already.
+#[tactic(auto, using(crate::proofs::Answering::root_unread, crate::proofs::Answering::no_leaf, crate::proofs::Answering::no_key, crate::proofs::Answering::no_value, crate::proofs::Answering::way_is_refused, crate::proofs::Answering::task_is_refused, btree_shapes::specs::Logs::only_read, btree_shapes::specs::Logs::only_more))]
+fn find_task<S: Space>(
+    alloc: Global,
+    space: &mut S,
+    root: Oid,
+    sizes: Sizes,
+    key: &Key,
+    value: Option<Text8>,
+) -> Result<Option<Finding>, TreeError>
+    ensures err { IfErr result (λ e. IsRefusal e (task_under (S.contents space.old) root sizes key.now value)) }
+    ensures ok { IfOk result (λ found. IsFinding (S.contents space.old) root sizes key.now value found) }
+    ensures global { IfOk result (λ found. IfSome found
+        (λ x. IsGlobal x.family.leaf.now.module.now x.family.leaf.now.name.now)) }
+    ensures contents { S.contents space.new ≡ S.contents space.old }
+    ensures log { IfOk result (λ found. S.told
+        → S.log space.new ≡ S.log space.old ++ reads_under (S.contents space.old) root sizes key.now value) }
+    ensures only { S.told → OnlyReads (S.log space.old) (S.log space.new) }
+    ensures refusals { S.told → S.refusals space.new ≡ S.refusals space.old ++ handed_on result }
+{
+    let (tree, entry) = read_root(alloc, space, root)?;
+    let Some(leaf) = leaf_of(tree.row) else {
+        return Err(TreeError::BadKey);
+    };
+    if !key_fits(tree.row.key, key) {
+        return Err(TreeError::BadKey);
+    }
+    if !fits_class(alloc, tree.row, &value)? {
+        return Err(TreeError::BadKey);
+    }
+    let found = follow_root(alloc, space, &tree, true, key, entry)?;
+    let Some(task) = prepare(alloc, space, &tree, sizes, key, value, found)? else {
+        return Ok(None);
+    };
+    let family = Family {
+        row: tree.row,
+        leaf,
+    };
+    Ok(Some(Finding { family, task }))
+}
+
+/// Sets what stands under a key in the tree with this root.
+#[tactic(auto, using(crate::proofs::Answering::refused_before))]
+pub fn set<S: Space>(
+    alloc: Global,
+    space: &mut S,
+    root: Oid,
+    sizes: Sizes,
+    key: Key,
+    value: Option<Text8>,
+) -> Result<(), TreeError>
+    ensures ways { Sets S.told (S.contents space.old) (S.contents space.new) (S.log space.old) (S.log space.new)
+        root sizes key value result }
+    ensures refusals { S.told → S.refusals space.new ≡ S.refusals space.old ++ handed_on result }
+{
+    match find_task(alloc, space, root, sizes, &key, value) {
+        Err(error) => Err(error),
+        Ok(None) => Ok(()),
+        Ok(Some(finding)) => write(alloc, space, &finding.family, sizes, key, &finding.task),
+    }
+}

@@ -1,0 +1,77 @@
+use Rattle.std.proofs.Common.{◌≡◌, ◌∙◌, true, false, append-nil, arith}
+use Rattle.std.specs.Prelude.{map, ◌&&◌}
+use Rattle.btree_shapes.specs.declared.node.Node.TheVariants as node
+use Rattle.btree_shapes.specs.declared.path.Step.{Step}
+use Rattle.btree_shapes.specs.Nodes.{Holds, node_suits, objects_of}
+use Rattle.btree_shapes.specs.Ways.{stands_in, step_oid}
+use Rattle.btree_shapes.proofs.Goings.{twice, bad_key, ends_lone, ends_leaf, onward, read_last, reads_onward}
+use Rattle.btree_shapes.specs.Logs.{only_one, only_read, only_more}
+use Rattle.btree_shapes.proofs.way.follow.Goals as goal
+
+pub returns-then-contains-clause-answer : goal.returns-then-contains-clause-answer
+returns-then-contains-clause-answer g c =
+    let s : stands_in (map step_oid c.down.path) c.down.oid ≡ true = cc in
+    twice _ _ _ _ _ _ c.down.invariant.gives c.down.invariant.room s
+
+pub returns-then-not-suits-clause-answer : goal.returns-then-not-suits-clause-answer
+returns-then-not-suits-clause-answer g c =
+    let s : stands_in (map step_oid c.down.path) c.down.oid ≡ false = cc in
+    let t : (c.args.fits && node_suits c.args.key.now c.in_ok-class.field-0.node) ≡ false = cc in
+    let h = rw c.down.invariant.contents at c.in_ok-class.ensures.entry in
+    bad_key _ _ _ _ _ _ _ _ c.down.invariant.gives c.down.invariant.room s h t
+
+pub down-preserved : goal.down-preserved
+down-preserved g c =
+    let s : stands_in (map step_oid c.down.path) c.down.oid ≡ false = cc in
+    let t : (c.args.fits && node_suits c.args.key.now (node.Inner c.in-Inner.inner)) ≡ true = cc in
+    let h : objects_of (g.S.Space.contents c.args.space.now) c.args.tree.now.root c.down.oid ≡ Holds c.in_ok-class.field-0.class (node.Inner c.in-Inner.inner) =
+    cc (rw c.down.invariant.contents at c.in_ok-class.ensures.entry) in
+    let step : Step = record { oid = c.down.oid; class = c.in_ok-class.field-0.class; inner = c.in-Inner.inner } in
+    let pushed = c.in_ok-push-in-Inner.ensures.ok in
+    record {
+      room = let r = c.in_ok-push-in-Inner.ensures.room in omega (arith, r);
+      gives = onward _ _ _ _ _ _ _ _ _ _ c.down.invariant.gives c.down.invariant.room s h t c.child_for-next.ensures pushed;
+      log = λ t base e. reads_onward base _ _ _ _ step (c.down.invariant.log t base e) (c.in_ok-class.ensures.log t) pushed;
+      only = λ t. only_more _ _ _ (c.down.invariant.only t) (only_one _ _ _ (c.in_ok-class.ensures.log t));
+      contents = c.in_ok-class.ensures.contents ∙ c.down.invariant.contents;
+      refusals = λ t. c.in_ok-class.ensures.refusals t ∙ append-nil _ ∙ c.down.invariant.refusals t;
+    }
+
+pub returns-in-Lone-clause-answer : goal.returns-in-Lone-clause-answer
+returns-in-Lone-clause-answer g c =
+    let s : stands_in (map step_oid c.down.path) c.down.oid ≡ false = cc in
+    let t : (c.args.fits && node_suits c.args.key.now (node.Lone c.in-Lone.bucket)) ≡ true = cc in
+    let h : objects_of (g.S.Space.contents c.args.space.now) c.args.tree.now.root c.down.oid ≡ Holds c.in_ok-class.field-0.class (node.Lone c.in-Lone.bucket) =
+    cc (rw c.down.invariant.contents at c.in_ok-class.ensures.entry) in
+    let e = ends_lone _ _ _ _ _ _ _ _ c.down.invariant.gives c.down.invariant.room s h t in
+    cc (e, c.in_ok-class.class-is)
+
+pub returns-in-Lone-clause-log : goal.returns-in-Lone-clause-log
+returns-in-Lone-clause-log g c = λ t base e. read_last base _ _ _ _ (c.down.invariant.log t base e) (c.in_ok-class.ensures.log t)
+
+pub returns-in-Leaf-clause-answer : goal.returns-in-Leaf-clause-answer
+returns-in-Leaf-clause-answer g c =
+    let s : stands_in (map step_oid c.down.path) c.down.oid ≡ false = cc in
+    let t : (c.args.fits && node_suits c.args.key.now (node.Leaf c.in-Leaf.bucket)) ≡ true = cc in
+    let h : objects_of (g.S.Space.contents c.args.space.now) c.args.tree.now.root c.down.oid ≡ Holds c.in_ok-class.field-0.class (node.Leaf c.in-Leaf.bucket) =
+    cc (rw c.down.invariant.contents at c.in_ok-class.ensures.entry) in
+    let e = ends_leaf _ _ _ _ _ _ _ _ c.down.invariant.gives c.down.invariant.room s h t in
+    cc (e, c.in_ok-class.class-is)
+
+pub returns-in-Leaf-clause-log : goal.returns-in-Leaf-clause-log
+returns-in-Leaf-clause-log g c = λ t base e. read_last base _ _ _ _ (c.down.invariant.log t base e) (c.in_ok-class.ensures.log t)
+
+pub returns-in_err-class-clause-only : goal.returns-in_err-class-clause-only
+returns-in_err-class-clause-only g c = λ t. only_more _ _ _ (c.down.invariant.only t) (only_read _ _ _ _ (c.in_err-class.ensures.log t))
+
+pub returns-then-not-suits-clause-only : goal.returns-then-not-suits-clause-only
+returns-then-not-suits-clause-only g c = λ t. only_more _ _ _ (c.down.invariant.only t) (only_one _ _ _ (c.in_ok-class.ensures.log t))
+
+pub returns-in_err-push-in-Inner-clause-only : goal.returns-in_err-push-in-Inner-clause-only
+returns-in_err-push-in-Inner-clause-only g c = λ t. only_more _ _ _ (c.down.invariant.only t) (only_one _ _ _ (c.in_ok-class.ensures.log t))
+
+pub returns-in-Lone-clause-only : goal.returns-in-Lone-clause-only
+returns-in-Lone-clause-only g c = λ t. only_more _ _ _ (c.down.invariant.only t) (only_one _ _ _ (c.in_ok-class.ensures.log t))
+
+pub returns-in-Leaf-clause-only : goal.returns-in-Leaf-clause-only
+returns-in-Leaf-clause-only g c = λ t. only_more _ _ _ (c.down.invariant.only t) (only_one _ _ _ (c.in_ok-class.ensures.log t))

@@ -1,0 +1,36 @@
+use Rattle.std.proofs.Common.{◌≡◌, ◌∙◌, [], ◌∷◌, ◌++◌, true, false, Ok, sym, ap, subst}
+use Rattle.std.specs.Prelude.{◌&&◌}
+use Rattle.btree_shapes.specs.declared.node.Node.TheVariants as node
+use Rattle.btree_shapes.specs.declared.path.Step.{Step}
+use Rattle.btree_shapes.specs.Nodes.{Holds, node_suits, objects_of}
+use Rattle.btree_shapes.specs.Ways.{Answers}
+use Rattle.btree_shapes.specs.Steps.{root_bad_key, root_lone, root_leaf}
+use Rattle.btree_shapes.proofs.Goings.{root_inner}
+use Rattle.btree_shapes.proofs.way.follow_root.Goals as goal
+
+pub returns-then-not-suits-clause-answer : goal.returns-then-not-suits-clause-answer
+returns-then-not-suits-clause-answer g c =
+    let t : (c.args.fits && node_suits c.args.key.now c.args.entry.node) ≡ false = cc in
+    root_bad_key _ _ _ _ _ _ c.requires.entry t
+
+pub returns-in_ok-push-in-Inner-clause-answer : goal.returns-in_ok-push-in-Inner-clause-answer
+returns-in_ok-push-in-Inner-clause-answer g c =
+    let t : (c.args.fits && node_suits c.args.key.now (node.Inner c.in-Inner.inner)) ≡ true = cc in
+    let h : objects_of (g.S.Space.contents c.args.space.now) c.args.tree.now.root c.args.tree.now.root ≡ Holds c.args.entry.class (node.Inner c.in-Inner.inner) = cc c.requires.entry in
+    let step : Step = record { oid = c.args.tree.now.root; class = c.args.entry.class; inner = c.in-Inner.inner } in
+    let path = c.in_ok-push-in-Inner.ensures.ok ∙ ap (λ steps. steps ++ step ∷ []) c.new-path.ensures in
+    subst (Answers c.follow.result) (root_inner _ _ _ _ _ _ _ _ h t c.child_for-next.ensures path) c.follow.ensures.answer
+
+pub returns-in-Lone-clause-answer : goal.returns-in-Lone-clause-answer
+returns-in-Lone-clause-answer g c =
+    let t : (c.args.fits && node_suits c.args.key.now (node.Lone c.in-Lone.bucket)) ≡ true = cc in
+    let h : objects_of (g.S.Space.contents c.args.space.now) c.args.tree.now.root c.args.tree.now.root ≡ Holds c.args.entry.class (node.Lone c.in-Lone.bucket) = cc c.requires.entry in
+    root_lone c.args.fits c.args.key.now (objects_of (g.S.Space.contents c.args.space.now) c.args.tree.now.root) c.args.tree.now.root c.args.entry.class c.in-Lone.bucket h t
+    ∙ ap (λ steps. Ok (record { path = steps; oid = c.args.tree.now.root; class = c.args.entry.class; node = node.Lone c.in-Lone.bucket })) (sym c.new-path.ensures)
+
+pub returns-in-Leaf-clause-answer : goal.returns-in-Leaf-clause-answer
+returns-in-Leaf-clause-answer g c =
+    let t : (c.args.fits && node_suits c.args.key.now (node.Leaf c.in-Leaf.bucket)) ≡ true = cc in
+    let h : objects_of (g.S.Space.contents c.args.space.now) c.args.tree.now.root c.args.tree.now.root ≡ Holds c.args.entry.class (node.Leaf c.in-Leaf.bucket) = cc c.requires.entry in
+    root_leaf c.args.fits c.args.key.now (objects_of (g.S.Space.contents c.args.space.now) c.args.tree.now.root) c.args.tree.now.root c.args.entry.class c.in-Leaf.bucket h t
+    ∙ ap (λ steps. Ok (record { path = steps; oid = c.args.tree.now.root; class = c.args.entry.class; node = node.Leaf c.in-Leaf.bucket })) (sym c.new-path.ensures)

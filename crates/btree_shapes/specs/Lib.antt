@@ -1,0 +1,9 @@
+pub mod Spaces
+pub mod Classes
+pub mod Keys
+pub mod Nodes
+pub mod Reading
+pub mod Ways
+pub mod Logs
+pub mod Steps
+pub mod Shapes

@@ -1,0 +1,108 @@
+//! Reading the objects of a tree.
+
+ghost use Rattle.std.specs.Prelude.{◌≡◌, ◌++◌, [], IfOk, IfErr};
+ghost use Rattle.btree_family.specs.Classes.{class_seen};
+ghost use Rattle.btree_shapes.specs.Spaces.{handed_on, out_of_memory, IsLogged};
+ghost use Rattle.btree_shapes.specs.Nodes.{held_node, node_of, objects_of};
+ghost use Rattle.btree_shapes.specs.Reading.{IsUnread, HoldsRecord, IsEntry, IsRooted, IsRoot};
+
+use crate::class::class_of;
+use crate::error::TreeError;
+use crate::node::{Node, read_node};
+use crate::space::{Space, SpaceError};
+use btree_family::ClassRow;
+use bucket_state::StateError;
+use pickle_value::Pickle;
+use std::alloc::Global;
+use zb_ids::Oid;
+use zb_record::ObjectRecord;
+
+/// An object of a tree: its class and what it holds.
+#[derive(Drop)]
+pub struct Entry {
+    pub class: Pickle,
+    pub node: Node,
+}
+
+/// The root of a tree, and its class of BTrees.
+#[derive(Clone, Copy)]
+pub struct Rooted {
+    pub root: Oid,
+    pub row: &'static ClassRow,
+}
+
+/// The record of an object.
+fn read_object<S: Space>(space: &mut S, oid: Oid) -> Result<ObjectRecord, TreeError>
+    ensures ok { IfOk result (λ entry. HoldsRecord (S.contents space.old oid) entry.class entry.state) }
+    ensures err { IfErr result (λ e. IsUnread (S.contents space.old oid) oid e) }
+    ensures contents { S.contents space.new ≡ S.contents space.old }
+    ensures log { S.told → IsLogged oid (out_of_memory result) (S.log space.old) (S.log space.new) }
+    ensures refusals { S.told → S.refusals space.new ≡ S.refusals space.old ++ handed_on result }
+{
+    match space.node(oid) {
+        Ok(entry) => Ok(entry),
+        Err(SpaceError::NoNode) => Err(TreeError::NodeMissing { oid }),
+        Err(SpaceError::NoRecord) => Err(TreeError::NotATree { oid }),
+        Err(SpaceError::Refused(refusal)) => Err(TreeError::Refused(refusal)),
+        Err(SpaceError::Memory) => Err(TreeError::Memory),
+    }
+}
+
+/// What a record holds as an object of the tree.
+fn entry_of(
+    alloc: Global,
+    row: &ClassRow,
+    oid: Oid,
+    object: ObjectRecord,
+) -> Result<Entry, TreeError>
+    ensures entry { IsEntry (held_node object.class (node_of (class_seen row.now) object.class object.state)) oid
+        result }
+    ensures own { handed_on result ≡ [] }
+{
+    match read_node(alloc, row, &object) {
+        Ok(node) => Ok(Entry {
+            class: object.class,
+            node,
+        }),
+        Err(StateError::BadState) => Err(TreeError::NotATree { oid }),
+        Err(StateError::Memory) => Err(TreeError::Memory),
+    }
+}
+
+/// An object of a tree.
+#[tactic(auto, using(crate::proofs::Entries::logged_more, crate::proofs::Entries::entry_read, crate::proofs::Entries::entry_unread))]
+pub fn read_entry<S: Space>(
+    alloc: Global,
+    space: &mut S,
+    tree: &Rooted,
+    oid: Oid,
+) -> Result<Entry, TreeError>
+    requires rooted { IsRooted (S.contents space.old) tree.now }
+    ensures entry { IsEntry (objects_of (S.contents space.old) tree.now.root oid) oid result }
+    ensures contents { S.contents space.new ≡ S.contents space.old }
+    ensures log { S.told → IsLogged oid (out_of_memory result) (S.log space.old) (S.log space.new) }
+    ensures refusals { S.told → S.refusals space.new ≡ S.refusals space.old ++ handed_on result }
+{
+    let object = read_object(space, oid)?;
+    entry_of(alloc, tree.row, oid, object)
+}
+
+/// The root of a tree.
+#[tactic(auto, using(crate::proofs::Entries::logged_more, crate::proofs::Entries::root_read, crate::proofs::Entries::root_unread, crate::proofs::Entries::root_classless, crate::proofs::Entries::class_read))]
+pub fn read_root<S: Space>(
+    alloc: Global,
+    space: &mut S,
+    root: Oid,
+) -> Result<(Rooted, Entry), TreeError>
+    ensures root { IsRoot (S.contents space.old) root result }
+    ensures contents { S.contents space.new ≡ S.contents space.old }
+    ensures log { S.told → IsLogged root (out_of_memory result) (S.log space.old) (S.log space.new) }
+    ensures refusals { S.told → S.refusals space.new ≡ S.refusals space.old ++ handed_on result }
+{
+    let object = read_object(space, root)?;
+    let Some(row) = class_of(&object.class) else {
+        return Err(TreeError::NotATree { oid: root });
+    };
+    let entry = entry_of(alloc, row, root, object)?;
+    Ok((Rooted { root, row }, entry))
+}
