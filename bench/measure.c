@@ -1,4 +1,5 @@
-/* Runs a command some times and prints the least seconds that it took and its greatest resident set in KiB.
+/* Runs a command some times and prints the least seconds that it took, its greatest resident set in KiB, and the least
+   seconds that it had a processor, which say more where the machine has other work.
    measure TIMES INPUT COMMAND WORD.. : standard input is the file INPUT, what is written is dropped. */
 #include <fcntl.h>
 #include <stdio.h>
@@ -8,6 +9,8 @@
 #include <time.h>
 #include <unistd.h>
 
+static double seconds(struct timeval t) { return t.tv_sec + t.tv_usec / 1e6; }
+
 static double now(void) {
     struct timespec t;
     clock_gettime(CLOCK_MONOTONIC, &t);
@@ -16,7 +19,7 @@ static double now(void) {
 
 int main(int argc, char **argv) {
     if (argc < 4) return 2;
-    double least = 1e9;
+    double least = 1e9, least_used = 1e9;
     long resident = 0;
     for (int i = 0; i < atoi(argv[1]); i++) {
         double start = now();
@@ -35,9 +38,11 @@ int main(int argc, char **argv) {
             return 1;
         }
         double took = now() - start;
+        double worked = seconds(used.ru_utime) + seconds(used.ru_stime);
         if (took < least) least = took;
+        if (worked < least_used) least_used = worked;
         if (used.ru_maxrss > resident) resident = used.ru_maxrss;
     }
-    printf("%.4f %ld\n", least, resident);
+    printf("%.4f %ld %.4f\n", least, resident, least_used);
     return 0;
 }

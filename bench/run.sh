@@ -7,6 +7,9 @@
 #
 # It needs bash, awk, head and cc; sqlite3, strace and Python's BTrees package where they are there. What isn't there is skipped, and it says so. Sizes
 # can be set: TRANSACTIONS (1300000), COMMITS (300), LOADS (20000), LINES (100000), TIMES (3, of which the least is taken).
+#
+# A row has the seconds that each of the two took, the seconds that each had a processor, and both ratios. Where the machine
+# has other work, the second ratio is the one to read, but for commits, which wait for the disk.
 set -u
 program=$(realpath "${1:?the built program}")
 folder=$(mktemp -d "${2:-/tmp}/zodb-bench.XXXXXX")
@@ -19,15 +22,27 @@ done
 cd "$folder" || exit 1
 : >empty
 
-# seconds and KiB of a command with a file as its standard input
+# seconds, KiB and processor seconds of a command with a file as its standard input
 cost() { ./measure "$times" "$@"; }
-row() { awk -v name="$1" -v ours="$2" -v than="$3" -v theirs="$4" 'BEGIN {
-    split(ours, a, " "); split(theirs, b, " ");
-    printf "%-38s %9.3f s   %-34s %9.3f s   %6.2f\n", name, a[1], than, b[1], a[1] / (b[1] > 0 ? b[1] : 0.0001) }'; }
+# the same of a run of a script over a file that isn't there yet
+cost_anew() { # FILE SCRIPT
+    local made
+    for made in $(seq "$times"); do
+        rm -f "$1" "$1.side"
+        ./measure 1 "$2" "$program" "$1" run
+    done | least
+}
+# the least of each column, and of the second the greatest
+least() {
+    awk 'NR == 1 || $1 < wall { wall = $1 } $2 > room { room = $2 } NR == 1 || $3 < work { work = $3 } END { print wall, room, work }'
+}
+row() { awk -v name="$1" -v ours="$2" -v than="$3" -v theirs="$4" 'function ratio(one, other) { return one / (other > 0.0001 ? other : 0.0001) }
+    BEGIN { split(ours, a, " "); split(theirs, b, " ");
+    printf "%-38s %8.3f %8.3f   %-34s %8.3f %8.3f   %7.2f %7.2f\n", name, a[1], a[3], than, b[1], b[3], ratio(a[1], b[1]), ratio(a[3], b[3]) }'; }
 skipped() { printf '%-38s skipped: %s\n' "$1" "$2"; }
 
 echo "load: $(cut -d' ' -f1-3 /proc/loadavg), processors: $(nproc)"
-printf '%-38s %11s   %-34s %11s   %6s\n' "ours" "" "against" "" "ratio"
+printf '%-38s %8s %8s   %-34s %8s %8s   %7s %7s\n' "ours" seconds worked "against" seconds worked ratio "of work"
 
 # opening by a scan
 ./make_file many.fs "$transactions" 1 3
@@ -51,22 +66,15 @@ content=$(head -c 1024 /dev/zero | tr '\0' a | od -An -tx1 -v | tr -d ' \n')
 awk -v commits="$commits" -v content="$content" 'BEGIN {
     print "a open local"
     for (i = 1; i <= commits; i++) printf "a begin\na store %016x 0000000000000000 %s\na vote \"\" \"\"\na finish\n", i, content }' >commits.txt
-best=
-for _ in $(seq "$times"); do
-    rm -f commits.fs
-    took=$(./measure 1 commits.txt "$program" commits.fs run)
-    best=$(printf '%s\n%s\n' "${best:-$took}" "$took" | sort -g | head -1)
-done
+best=$(cost_anew commits.fs commits.txt)
 row "$commits commits of 1 KiB" "$best" "C, pwrite and fsync twice each" "$(cost empty ./pairs pairs.bin "$commits")"
 if command -v sqlite3 >/dev/null; then
     { echo "PRAGMA synchronous=FULL; CREATE TABLE o (k INTEGER PRIMARY KEY, v BLOB);"
       for i in $(seq "$commits"); do echo "INSERT INTO o VALUES ($i, x'$content');"; done; } >commits.sql
-    best_sql=
-    for _ in $(seq "$times"); do
+    best_sql=$(for _ in $(seq "$times"); do
         rm -f commits.db
-        took=$(./measure 1 commits.sql sqlite3 commits.db)
-        best_sql=$(printf '%s\n%s\n' "${best_sql:-$took}" "$took" | sort -g | head -1)
-    done
+        ./measure 1 commits.sql sqlite3 commits.db
+    done | least)
     row "$commits commits of 1 KiB" "$best" "sqlite3, synchronous=FULL" "$best_sql"
 else
     skipped "commits against sqlite3" "it isn't there"
@@ -84,30 +92,37 @@ awk -v lines="$lines" 'BEGIN { print "a open local"
     for (i = 1; i < lines; i++) print "a new" }' >new.txt
 row "$lines lines, all but one new" "$(cost new.txt "$program" new.fs run)" "cat of the script" "$(cost new.txt cat)"
 
-# two writers of one bucket, who both commit: merges of three buckets of so many items, with the script read and the commits
+# two writers of one bucket, who both commit: merges of three buckets of so many items, with the script read and the
+# commits. The script of the row below has the same puts and commits, one behind the other, so that nothing is merged.
 python=
 for each in python3 /usr/bin/python3; do
     if [ -z "$python" ] && "$each" -c 'import BTrees' 2>/dev/null; then python=$each; fi
 done
-merges() { # MERGES ITEMS
-    awk -v merges="$1" -v items="$2" 'function put(c, k,  n) { printf "%s put 0000000000000001 <BTrees.IIBTree:IIBucket> ((", c
+merge_script() { # MERGES ITEMS APART
+    awk -v merges="$1" -v items="$2" -v apart="$3" 'function put(c, k,  n) { printf "%s put 0000000000000001 <BTrees.IIBTree:IIBucket> ((", c
             for (n = 0; n < items; n++) printf "%s%d,%d", (n ? "," : ""), 10 * n, (n == k ? round : value[n])
             print "),)" }
         BEGIN { print "a open local"; print "b open local"; print "a begin"; put("a", -1); print "a vote \"\" \"\""; print "a finish"
             for (round = 1; round <= merges; round++) {
-                print "a begin"; print "b begin"
                 one = round % items; other = (round + int(items / 2)) % items
-                put("a", one); put("b", other)
-                print "a vote \"\" \"\""; print "a finish"; print "b vote \"\" \"\""; print "b finish"
-                value[one] = round; value[other] = round } }' >merges.txt
-    rm -f merges.fs
-    local ours
-    ours=$(./measure 1 merges.txt "$program" merges.fs run)
+                print "a begin"; if (!apart) print "b begin"
+                put("a", one); if (!apart) put("b", other)
+                print "a vote \"\" \"\""; print "a finish"; value[one] = round
+                if (apart) { print "b begin"; put("b", other) }
+                print "b vote \"\" \"\""; print "b finish"; value[other] = round } }'
+}
+merges() { # MERGES ITEMS
+    local ours alone
+    merge_script "$1" "$2" 0 >merges.txt
+    merge_script "$1" "$2" 1 >apart.txt
+    ours=$(cost_anew merges.fs merges.txt)
+    alone=$(cost_anew merges.fs apart.txt)
     if [ -n "$python" ]; then
         row "$1 merges of $2 items" "$ours" "BTrees of Python, merges alone" "$(cost empty "$python" "$here/merges.py" "$1" "$2")"
     else
         row "$1 merges of $2 items" "$ours" "cat of the script" "$(cost merges.txt cat)"
     fi
+    row "$1 merges of $2 items" "$ours" "ours, the same without a merge" "$alone"
 }
 merges 300 30
 merges 10 10000
