@@ -130,7 +130,8 @@ short_line_takes bytes l e =
     begun_takes (codes "load ") bytes (numbered_at lines.Load) _ l e (λ rest. numbered_takes (codes "load ") rest lines.Load (λ n text is. is) l) (λ e.
     begun_takes (codes "get ") bytes (numbered_at lines.Get) _ l e (λ rest. numbered_takes (codes "get ") rest lines.Get (λ n text is. is) l) (λ e.
     begun_takes (codes "history ") bytes (numbered_at lines.History) _ l e (λ rest. numbered_takes (codes "history ") rest lines.History (λ n text is. is) l) (λ e.
-    words_take bytes l e)))
+    begun_takes (codes "pack ") bytes (numbered_at lines.Pack) _ l e (λ rest. numbered_takes (codes "pack ") rest lines.Pack (λ n text is. is) l) (λ e.
+    words_take bytes l e))))
 
 line_takes : Exact → (bytes : List ℕ) (l : Line) → line_at bytes ≡ Some l → IsLineText bytes l
 unfolding line_at
@@ -158,6 +159,10 @@ get_again oid h = rw (number_again oid h) refl
 history_again : (oid : ℕ) → oid < 2 ^ 64 → IsRead (codes "history " ++ hex_number oid) (lines.History oid)
 unfolding line_at behind_word short_line_at numbered_at
 history_again oid h = rw (number_again oid h) refl
+
+pack_again : (tid : ℕ) → tid < 2 ^ 64 → IsRead (codes "pack " ++ hex_number tid) (lines.Pack tid)
+unfolding line_at behind_word short_line_at numbered_at
+pack_again tid h = rw (number_again tid h) refl
 
 store_again : (text : List ℕ) (oid base : ℕ) (bytes : List ℕ) (h : IsStore text oid base bytes) → IsRead (codes "store " ++ (hex_number oid ++ 32 ∷ (hex_number base ++ 32 ∷ hex_text bytes))) (lines.Store oid base bytes)
 unfolding line_at behind_word store_at
@@ -232,6 +237,7 @@ line_again exact text lines.Finish h = word_again lines.Finish text _ h finish_a
 line_again exact text lines.Abort h = word_again lines.Abort text _ h abort_again
 line_again exact text (lines.History oid) h = word_again (lines.History oid) text _ h.is (history_again oid h.small)
 line_again exact text lines.UndoLog h = word_again lines.UndoLog text _ h undolog_again
+line_again exact text (lines.Pack tid) h = word_again (lines.Pack tid) text _ h.is (pack_again tid h.small)
 line_again exact text lines.Close h = word_again lines.Close text _ h close_again
 
 -- ---- whole lines
@@ -301,6 +307,7 @@ line_from lines.Finish text h = subst (From 32) (sym h) (from_test 32 (codes "fi
 line_from lines.Abort text h = subst (From 32) (sym h) (from_test 32 (codes "abort") refl)
 line_from (lines.History oid) text h = numbered_from (codes "history ") oid text (from_test 32 (codes "history ") refl) h
 line_from lines.UndoLog text h = subst (From 32) (sym h) (from_test 32 (codes "undolog") refl)
+line_from (lines.Pack tid) text h = numbered_from (codes "pack ") tid text (from_test 32 (codes "pack ") refl) h
 line_from lines.Close text h = subst (From 32) (sym h) (from_test 32 (codes "close") refl)
 
 pub turn_lacks : (text : List ℕ) (t : Turn) → IsTurnText text t → Lacks 10 text
@@ -333,6 +340,7 @@ line_is lines.Finish text h = tt
 line_is lines.Abort text h = tt
 line_is (lines.History oid) text h = h.small
 line_is lines.UndoLog text h = tt
+line_is (lines.Pack tid) text h = h.small
 line_is lines.Close text h = tt
 
 pub turns_are : (texts : List (List ℕ)) (turns : List Turn) → AreTurnTexts texts turns → AllByRecursion IsTurn turns

@@ -22,6 +22,7 @@ answer_text answer.Aborted = codes "aborted"
 answer_text (answer.Oid oid) = codes "oid " ++ hex_number oid
 answer_text (answer.History list) = codes "history " ++ decimal (length list)
 answer_text (answer.UndoLog list) = codes "undolog " ++ decimal (length list)
+answer_text (answer.Packed kept dropped) = codes "packed " ++ (decimal kept ++ 32 ∷ decimal dropped)
 answer_text answer.Closed = codes "closed"
 answer_text (answer.Refused why) = codes "refused " ++ refusal_text why
 

@@ -188,7 +188,8 @@ unfoldable pub short_line_at : List ℕ → Option Line
 short_line_at bytes =
     if_some (behind_word (codes "load ") bytes) (numbered_at lines.Load)
     (if_some (behind_word (codes "get ") bytes) (numbered_at lines.Get)
-    (if_some (behind_word (codes "history ") bytes) (numbered_at lines.History) (words_at bytes)))
+    (if_some (behind_word (codes "history ") bytes) (numbered_at lines.History)
+    (if_some (behind_word (codes "pack ") bytes) (numbered_at lines.Pack) (words_at bytes))))
 
 unfoldable pub line_at : List ℕ → Option Line
 line_at bytes =

@@ -97,6 +97,7 @@ IsLineText text lines.Finish = text ≡ codes "finish"
 IsLineText text lines.Abort = text ≡ codes "abort"
 IsLineText text (lines.History oid) = IsNumbered text (codes "history ") oid
 IsLineText text lines.UndoLog = text ≡ codes "undolog"
+IsLineText text (lines.Pack tid) = IsNumbered text (codes "pack ") tid
 IsLineText text lines.Close = text ≡ codes "close"
 
 -- the client's name, a blank, and what it does
@@ -124,6 +125,7 @@ IsLine (lines.Check oid serial) = (oid < 2 ^ 64) × (serial < 2 ^ 64)
 IsLine (lines.Vote user description) = IsShort user × IsShort description
 IsLine (lines.Undo user description tids) = IsShort user × IsShort description × AreTids tids
 IsLine (lines.History oid) = oid < 2 ^ 64
+IsLine (lines.Pack tid) = tid < 2 ^ 64
 IsLine _ = Unit {0}
 
 abbrev pub IsTurn : Turn → Type 0

@@ -70,6 +70,13 @@ pub enum Answer {
         /// They, the newest first.
         list: ListOf<LogLine>,
     },
+    /// The list is packed.
+    Packed {
+        /// How many changes the packed list has.
+        kept: u64,
+        /// How many changes went.
+        dropped: u64,
+    },
     /// The session is closed.
     Closed,
     /// The turn is refused.
@@ -101,12 +108,26 @@ fn push_answer(out: &mut Vec<u8>, answer: &Answer) -> Result<(), AllocError>
         Answer::Oid { oid } => push_numbered(out, b"oid ", oid.0),
         Answer::History { list } => push_counted(out, b"history ", list.len() as u64),
         Answer::UndoLog { list } => push_counted(out, b"undolog ", list.len() as u64),
+        Answer::Packed { kept, dropped } => {
+            push_counted(out, b"packed ", *kept)?;
+            push_counted(out, b" ", *dropped)
+        }
         Answer::Closed => out.extend_from_slice(b"closed"),
         Answer::Refused(refusal) => {
             out.extend_from_slice(b"refused ")?;
             push_refusal(out, refusal)
         }
     }
+}
+
+/// The first line of an answer, without a client's name.
+pub fn answer_line(alloc: Global, answer: &Answer) -> Result<Text8, AllocError>
+    ensures { IfOk result (λ text. text ≡ answer_text answer.now ++ 10 ∷ []) }
+{
+    let mut out = Vec::new(alloc);
+    push_answer(&mut out, answer)?;
+    out.push(b'\n')?;
+    Ok(Text8::from_vec(out))
 }
 
 /// What each line begins with: the client's name and a blank.

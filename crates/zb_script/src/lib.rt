@@ -20,7 +20,7 @@ mod stored;
 mod voting;
 mod words;
 
-pub use answer::{Answer, answer_lines};
+pub use answer::{Answer, answer_line, answer_lines};
 pub use errors::ScriptError;
 pub use limits::Limit;
 pub use line::{Line, Turn};

@@ -73,6 +73,11 @@ pub enum Line {
     },
     /// `undolog`: lists the transactions that may be undone.
     UndoLog,
+    /// `pack TID`: drops what no reader of this moment or a later one needs.
+    Pack {
+        /// The moment: what was committed up to it is packed.
+        tid: Tid,
+    },
     /// `close`: ends the session.
     Close,
 }

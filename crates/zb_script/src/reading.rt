@@ -47,6 +47,14 @@ fn history_of(bytes: &[u8]) -> Result<Line, ReadError>
     Ok(Line::History { oid: Oid(oid) })
 }
 
+#[tactic(auto, unfolding(crate::specs::Reading::numbered_at))]
+fn pack_of(bytes: &[u8]) -> Result<Line, ReadError>
+    ensures { ReadsAs (λ line. line) result (numbered_at lines.Pack bytes.now) }
+{
+    let tid = number_of(bytes)?;
+    Ok(Line::Pack { tid: Tid(tid) })
+}
+
 #[tactic(auto, unfolding(crate::specs::Reading::store_at))]
 fn store_of(alloc: Global, bytes: &[u8]) -> Result<Line, ReadError>
     ensures { ReadsAs (λ line. line) result (store_at bytes.now) }
@@ -143,6 +151,8 @@ fn short_line_of(bytes: &[u8]) -> Result<Line, ReadError>
         get_of(rest)
     } else if let Some(rest) = bytes.strip_prefix(b"history ") {
         history_of(rest)
+    } else if let Some(rest) = bytes.strip_prefix(b"pack ") {
+        pack_of(rest)
     } else {
         words_of(bytes)
     }

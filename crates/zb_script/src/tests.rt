@@ -22,6 +22,7 @@ second2 abort
 t1 history 0000000000000004
 second2 undolog
 second2 close
+second2 pack 03f58e0000000003
 ";
 
 /// A line without a field.
@@ -51,11 +52,12 @@ fn object(line: &Line) -> Option<(u8, Oid)> {
     }
 }
 
-/// The base of a store, or the serial of a check.
+/// The base of a store, the serial of a check, or the moment of a pack.
 fn serial(line: &Line) -> Option<Tid> {
     match line {
         Line::Store { base, .. } => Some(*base),
         Line::Check { serial, .. } => Some(*serial),
+        Line::Pack { tid } => Some(*tid),
         _ => None,
     }
 }
@@ -115,7 +117,7 @@ const OBJECTS: [(usize, u8, u64); 6] = [
 #[test]
 fn each_line_is_read(rt: HostRuntime) -> Result<(), Fail> {
     let turns = read_script(rt.alloc(), SCRIPT)?;
-    assert_eq!(rt; turns.len(), 16);
+    assert_eq!(rt; turns.len(), 17);
     for (place, word) in PLAIN {
         let turn = turns.get(place).ok_or("no turn")?;
         assert_eq!(rt; plain(&turn.line), word);
@@ -146,11 +148,13 @@ fn fields_are_read(rt: HostRuntime) -> Result<(), Fail> {
     let undo = turns.get(10).ok_or("no turn")?;
     assert!(rt; texts(&undo.line) == (b"".as_slice(), b"\xc3\xa9 x".as_slice()));
     assert!(rt; undone(&undo.line) == [Tid(tid.0 + 1), tid].as_slice());
+    let pack = turns.get(16).ok_or("no turn")?;
+    assert_eq!(rt; serial(&pack.line), Some(Tid(tid.0 + 2)));
     Ok(())
 }
 
 /// Scripts, and how many turns they have.
-const GOOD: [(&[u8], usize); 14] = [
+const GOOD: [(&[u8], usize); 15] = [
     (b"", 0),
     (b"a open local", 1),
     (b"abcdefgh open local\nz7654321 open local\n", 2),
@@ -189,10 +193,11 @@ const GOOD: [(&[u8], usize); 14] = [
         b"a open local\na check ffffffffffffffff 0000000000000000\n",
         2,
     ),
+    (b"a open local\na pack ffffffffffffffff\n", 2),
 ];
 
 /// Scripts, and the number of the first line that is none or can't stand in its place.
-const BAD: [(&[u8], u64); 58] = [
+const BAD: [(&[u8], u64); 61] = [
     (b"\n", 1),
     (b"a\n", 1),
     (b"a open\n", 1),
@@ -227,6 +232,9 @@ const BAD: [(&[u8], u64); 58] = [
     (b"a open local\na new 0000000000000001\n", 2),
     (b"a open local\na history 1\n", 2),
     (b"a open local\na undolog \n", 2),
+    (b"a open local\na pack\n", 2),
+    (b"a open local\na pack 1\n", 2),
+    (b"a open local\na pack 2024-01-01T00:00:00\n", 2),
     (
         b"a open local\na store 0000000000000001 0000000000000001 616\n",
         2,

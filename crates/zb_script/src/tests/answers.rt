@@ -51,7 +51,7 @@ fn answers_of_one_line(rt: HostRuntime) -> Result<(), Fail> {
         oid: Oid(u64::MAX),
         packed: true,
     };
-    let rows: [(Answer, &[u8]); 23] = [
+    let rows: [(Answer, &[u8]); 27] = [
         (
             Answer::Opened { session: u32::MAX },
             b"b12 opened 4294967295\n",
@@ -72,7 +72,32 @@ fn answers_of_one_line(rt: HostRuntime) -> Result<(), Fail> {
         (Answer::Empty, b"b12 empty\n"),
         (Answer::Aborted, b"b12 aborted\n"),
         (Answer::Oid { oid: Oid(160) }, b"b12 oid 00000000000000a0\n"),
+        (
+            Answer::Packed {
+                kept: 4,
+                dropped: 0,
+            },
+            b"b12 packed 4 0\n",
+        ),
+        (
+            Answer::Packed {
+                kept: u64::MAX,
+                dropped: 10,
+            },
+            b"b12 packed 18446744073709551615 10\n",
+        ),
         (Answer::Closed, b"b12 closed\n"),
+        (
+            Answer::Refused(Refusal::PackedAlready { packed: TID }),
+            b"b12 refused PackedAlready 03f58e0000000001\n",
+        ),
+        (
+            Answer::Refused(Refusal::Unreadable {
+                oid: Oid(1),
+                tid: TID,
+            }),
+            b"b12 refused Unreadable 0000000000000001 03f58e0000000001\n",
+        ),
         (
             Answer::Refused(unmerged),
             b"b12 refused Conflict 0000000000000001 0000000000000000 03f58e0000000001 NoRule\n",
