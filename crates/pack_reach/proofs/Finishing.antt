@@ -18,8 +18,8 @@ use Rattle.pack_reach.specs.Reach.{IsLeastUnreadable, IsReached, IsUnreadable, c
 use Rattle.pack_reach.specs.Reached.{reached, unreadable}
 use Rattle.pack_reach.proofs.Growing.{mark_only, mark_sound, mark_there}
 use Rattle.pack_reach.proofs.Least.{computed_least, one_least, pair_either}
-use Rattle.pack_reach.proofs.Members.{in_either}
-use Rattle.pack_reach.proofs.Reaching.{is_all}
+use Rattle.pack_reach.specs.MemberLaws.{in_either}
+use Rattle.pack_reach.specs.ReachLaws.{is_all}
 use Rattle.pack_reach.proofs.Seeing.{grown_marking}
 
 -- each transaction above the pack's tid is read

@@ -15,7 +15,7 @@ use Rattle.pack_reach.specs.Marking.{IsFollowed, IsFoundRead, IsMarking, IsRead,
 use Rattle.pack_reach.specs.Reach.{IsReached, is_in, is_pair_in, references_of, unreadable_in, unreadable_up_to}
 use Rattle.pack_reach.proofs.Growing.{absent_read, transaction_carried}
 use Rattle.pack_reach.proofs.Least.{in_content}
-use Rattle.pack_reach.proofs.Members.{each_implies}
+use Rattle.pack_reach.specs.MemberLaws.{each_implies}
 use Rattle.pack_reach.proofs.Seeing.{followed_carried}
 
 -- ---- what a store finds below the number behind the pack's tid is the last revision up to that tid

@@ -16,7 +16,7 @@ use Rattle.pack_reach.specs.Marking.{IsChangeRead, IsFoundRead, IsNoted, IsPartl
 use Rattle.pack_reach.specs.Reach.{IsReached, IsUnreadable, is_at_most, is_in, is_pair_in, references_of, unreadable_in}
 use Rattle.pack_reach.specs.Reached.{lesser}
 use Rattle.pack_reach.proofs.Least.{at_most_other, at_most_self, at_most_through, first_pair, same_pair}
-use Rattle.pack_reach.proofs.Members.{each_implies, each_of_all, in_back, in_either, in_front}
+use Rattle.pack_reach.specs.MemberLaws.{each_implies, each_of_all, in_back, in_either, in_front}
 use Rattle.zb_model.specs.SetLaws.{in_inserted}
 
 -- ---- a new marker

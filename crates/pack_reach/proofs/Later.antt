@@ -14,8 +14,8 @@ use Rattle.zb_model.specs.SerialLaws.{RisesTo, database_rises}
 use Rattle.pack_reach.specs.Marking.{IsFollowed, IsMarking, IsRead, IsTransactionRead, MarkerState, MayMark}
 use Rattle.pack_reach.specs.Reach.{IsReached, IsUnreadable, is_in, is_pair_in, references_in, references_of, unreadable_in, unreadable_of}
 use Rattle.pack_reach.proofs.Least.{pair_back, pair_either, pair_front}
-use Rattle.pack_reach.proofs.Members.{each_of_all, in_back, in_either, in_front}
-use Rattle.pack_reach.proofs.Reaching.{revision_has, revisions_have}
+use Rattle.pack_reach.specs.MemberLaws.{each_of_all, in_back, in_either, in_front}
+use Rattle.pack_reach.specs.ReachLaws.{revision_has, revisions_have}
 use Rattle.pack_reach.proofs.Seeing.{rises_above, rises_bounded}
 
 -- ---- what is after t stays after t

@@ -10,7 +10,7 @@ use Rattle.zb_model.specs.declared.data.Transaction.{Transaction}
 use Rattle.zb_model.specs.Database.{ObjectRevision, revision_below}
 use Rattle.pack_reach.specs.Reach.{IsLeastUnreadable, IsReached, IsUnreadable, is_at_most, is_in, is_pair_in, unreadable_after, unreadable_in, unreadable_up_to}
 use Rattle.pack_reach.specs.Reached.{least, lesser, reached_oids, unreadable}
-use Rattle.pack_reach.proofs.Reaching.{computed_reached, reached_computed}
+use Rattle.pack_reach.specs.ReachLaws.{computed_reached, reached_computed}
 
 -- ---- the order of pairs
 

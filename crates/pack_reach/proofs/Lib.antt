@@ -2,9 +2,5 @@ pub mod Finishing
 pub mod Following
 pub mod Growing
 pub mod Later
-pub mod Leading
 pub mod Least
-pub mod Members
-pub mod Packing
-pub mod Reaching
 pub mod Seeing

@@ -13,7 +13,7 @@ use Rattle.pack_reach.specs.Marking.{IsFollowed, IsMarking, IsNoted, IsRead, IsS
 use Rattle.pack_reach.specs.Reach.{IsReached, IsUnreadable, is_in, is_pair_in, references_in, references_of, unreadable_in, unreadable_of}
 use Rattle.pack_reach.proofs.Growing.{read_carried, transaction_carried, waits_in}
 use Rattle.pack_reach.proofs.Least.{pair_back, pair_front}
-use Rattle.pack_reach.proofs.Members.{each_implies, each_in, in_back, in_front}
+use Rattle.pack_reach.specs.MemberLaws.{each_implies, each_in, in_back, in_front}
 
 -- ---- marks stand while more is marked
 

@@ -1,6 +1,10 @@
+pub mod KeepingLaws
 pub mod Laws
+pub mod LeadingLaws
 pub mod Marking
+pub mod MemberLaws
 pub mod Outcomes
 pub mod Packed
 pub mod Reach
+pub mod ReachLaws
 pub mod Reached

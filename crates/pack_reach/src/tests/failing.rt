@@ -14,13 +14,16 @@ use zb_model::{
 };
 use zb_volume::StoreFault;
 
-/// A store that tells nothing and is only read: it counts the reads, and the one of a number fails.
+/// A store that tells nothing and is only read: it counts the reads, and the one of a number fails. It would
+/// drop what is voted, and a begun pack.
 #[derive(Drop)]
 struct FailingReads {
     list: MappingStore,
     failing: u64,
     reads: u64,
     faults: u64,
+    voted: bool,
+    begun: bool,
 }
 
 impl FailingReads {
@@ -29,6 +32,8 @@ impl FailingReads {
         ensures later { self.old.faults ≤ self.new.faults }
         ensures rose { result ≡ true → Rose self.old.faults self.new.faults }
         ensures same { result ≡ false → self.new.faults ≡ self.old.faults }
+        ensures voted { self.new.voted ≡ self.old.voted }
+        ensures begun { self.new.begun ≡ self.old.begun }
     {
         self.reads = self.reads.saturating_add(1);
         if self.reads != self.failing {
@@ -40,7 +45,7 @@ impl FailingReads {
 }
 
 impl Store for FailingReads {
-    ghost use Rattle.std.specs.Prelude.{[], None, false};
+    ghost use Rattle.std.specs.Prelude.{[], Some, None, false, if◌then◌else◌};
 
     ghost told = { ⊥ };
 
@@ -52,8 +57,8 @@ impl Store for FailingReads {
 
     ghost state = { λ store. record {
       list = [];
-      voted = None;
-      begun = None;
+      voted = if store.voted then Some (record { tid = 0; packed = false; user = []; description = []; extension = []; changes = [] }) else None;
+      begun = if store.begun then Some (record { tid = 0; copied = [] }) else None;
       newest = 0;
       broken = false;
       log = [];
@@ -126,26 +131,33 @@ impl Store for FailingReads {
     }
 
     fn finish(&mut self) -> Result<(), StoreFault> {
+        self.voted = false;
         Ok(())
     }
 
     fn abort(&mut self) -> Result<(), StoreFault> {
+        self.voted = false;
         Ok(())
     }
 
     fn pack_begin(&mut self, _alloc: Global, _tid: Tid) -> Result<(), StoreError> {
+        self.begun = false;
         Err(StoreError::Memory)
     }
 
     fn pack_copy(&mut self, _alloc: Global, _keep: &OidSet) -> Result<Copied, StoreError> {
+        self.begun = false;
         Err(StoreError::Memory)
     }
 
     fn pack_switch(&mut self, _alloc: Global, _keep: &OidSet) -> Result<Packed, StoreError> {
+        self.begun = false;
         Err(StoreError::Memory)
     }
 
-    fn pack_drop(&mut self) {}
+    fn pack_drop(&mut self) {
+        self.begun = false;
+    }
 }
 
 /// The transactions. The pack goes up to the first one: from object 0 it reaches 1, 2 and 3, and from
@@ -193,6 +205,8 @@ fn each_read_fails_in_turn(rt: HostRuntime) -> Result<(), Fail> {
             failing,
             reads: 0,
             faults: 0,
+            voted: false,
+            begun: false,
         };
         let mut marker = Marker::new(alloc, Tid(T0 + 1))?;
         let first = marker.mark_turn(alloc, &mut store, &ByteRefs);

@@ -1,4 +1,4 @@
-use Rattle.pack_reach.proofs.Packing.{records_stand}
+use Rattle.pack_reach.specs.KeepingLaws.{records_stand}
 use Rattle.pack_reach.proofs.laws.packed_records_stand.Goals as goal
 
 pub returns : goal.returns

@@ -1,4 +1,4 @@
-use Rattle.pack_reach.proofs.Packing.{contents_kept}
+use Rattle.pack_reach.specs.KeepingLaws.{contents_kept}
 use Rattle.pack_reach.proofs.laws.packs_keep_contents.Goals as goal
 
 pub returns : goal.returns

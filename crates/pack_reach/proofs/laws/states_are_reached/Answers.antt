@@ -1,4 +1,4 @@
-use Rattle.pack_reach.proofs.Leading.{led_to_is_reached}
+use Rattle.pack_reach.specs.LeadingLaws.{led_to_is_reached}
 use Rattle.pack_reach.proofs.laws.states_are_reached.Goals as goal
 
 pub returns : goal.returns

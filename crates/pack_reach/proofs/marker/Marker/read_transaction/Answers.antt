@@ -2,7 +2,7 @@ use Rattle.std.proofs.Common.{◌≡◌, ◌<◌, ℕ, List, length, get_or, tak
 use Rattle.zb_model.specs.declared.data.Change.{Change}
 use Rattle.pack_reach.specs.Marking.{IsChangeRead, MayReadChange}
 use Rattle.pack_reach.proofs.Growing.{change_kept, each_at, each_more, only_then, sound_then}
-use Rattle.pack_reach.proofs.Members.{each_implies}
+use Rattle.pack_reach.specs.MemberLaws.{each_implies}
 use Rattle.pack_reach.proofs.marker.Marker.read_transaction.Goals as goal
 
 pub returns-in_err-read_change-clause-sound : goal.returns-in_err-read_change-clause-sound

@@ -1,4 +1,4 @@
--- What references lead to from the root, in a state above the pack's tid, is reached.
+-- What references lead to from the root, in a state above the pack's tid, is reached. For the proofs of those who follow a pack.
 use Rattle.std.proofs.Common.{◌≡◌, ℕ, ◌+◌, ◌<◌, ◌≤◌, ◌⊎◌, inl, inr, ⊎_elim, true, false, ltb, List, [], ◌∷◌, filter, Option, Some, None, refl, sym, ap, subst, ◌∙◌, arith}
 use Rattle.std.specs.Prelude.{IfSome, unwrap_or}
 use Rattle.std.specs.List.{AllByRecursion, last_or}
@@ -10,8 +10,8 @@ use Rattle.zb_model.specs.declared.data.Transaction.{Transaction}
 use Rattle.zb_model.specs.Database.{ObjectRevision, is_below, revision_below, revision_in, revisions}
 use Rattle.pack_reach.specs.Laws.{IsLedTo}
 use Rattle.pack_reach.specs.Reach.{IsReached, is_in, named_after, references_in, references_of}
-use Rattle.pack_reach.proofs.Members.{each_implies, each_in, in_back, in_front, last_has}
-use Rattle.pack_reach.proofs.Reaching.{revision_has, revisions_have}
+use Rattle.pack_reach.specs.MemberLaws.{each_implies, each_in, in_back, in_front, last_has}
+use Rattle.pack_reach.specs.ReachLaws.{revision_has, revisions_have}
 
 -- ---- the last revision below a front, where it isn't above t, is the last up to t
 

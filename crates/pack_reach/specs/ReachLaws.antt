@@ -1,4 +1,4 @@
--- The objects that are computed are those at the end of a path.
+-- The objects that are computed are those at the end of a path. For the proofs of those who follow a pack.
 use Rattle.std.proofs.Common.{◌≡◌, ℕ, zero, suc, ◌+◌, ◌<◌, ◌≤◌, ◌⊎◌, inl, inr, ⊎_elim, Bool, true, false, not, eqb, List, [], ◌∷◌, ◌++◌, length, filter, Option, Some, None, refl, sym, ap, subst, ◌∙◌, ◌||◌, arith}
 use Rattle.std.specs.Prelude.{IfSome, IsTrue, ◌↔◌}
 use Rattle.std.specs.List.{AllByRecursion, cons_option, flat_map, list_all}
@@ -10,7 +10,7 @@ use Rattle.zb_model.specs.declared.data.Transaction.{Transaction}
 use Rattle.zb_model.specs.Database.{ObjectRevision, change_in, is_below, is_change_of, revision_below, revision_in, revisions}
 use Rattle.pack_reach.specs.Reach.{IsReached, changed_after, is_in, named_after, references_in, references_of, references_up_to}
 use Rattle.pack_reach.specs.Reached.{one_step_on, reached, reached_oids, starts, steps_on}
-use Rattle.pack_reach.proofs.Members.{AnyOf, each_in, each_implies, last_has, in_either, in_all, in_front, in_back, in_new, in_old, nothing_new, all_pass, one_fails, in_some}
+use Rattle.pack_reach.specs.MemberLaws.{AnyOf, each_in, each_implies, last_has, in_either, in_all, in_front, in_back, in_new, in_old, nothing_new, all_pass, one_fails, in_some}
 
 -- ---- what each revision has that a transaction makes
 

@@ -1,4 +1,4 @@
--- What packing leaves of an object.
+-- What packing leaves of an object. For the proofs of those who follow a pack.
 use Rattle.std.proofs.Common.{◌≡◌, ℕ, ◌+◌, ◌<◌, ◌≤◌, ◌⊎◌, inl, inr, ⊎_elim, Bool, true, false, cond, ◌&&◌, eqb, ltb, leb, nat_eq, List, [], ◌∷◌, ◌++◌, map, filter, Option, Some, None, refl, sym, ap, subst, ◌∙◌, arith}
 use Rattle.std.specs.Prelude.{IfSome, unwrap_or}
 use Rattle.std.specs.List.{AllByRecursion, IsDistinct, cons_option, filter_map, find, last_or}
@@ -22,9 +22,9 @@ use Rattle.zb_model.specs.Packing.{is_held, packed_by, packed_form, packed_one, 
 use Rattle.pack_reach.specs.Packed.{packed_of}
 use Rattle.pack_reach.specs.Reach.{IsReached}
 use Rattle.pack_reach.specs.Reached.{reached}
-use Rattle.pack_reach.proofs.Leading.{up_to_is}
-use Rattle.pack_reach.proofs.Members.{each_implies, last_has, last_passes}
-use Rattle.pack_reach.proofs.Reaching.{is_all}
+use Rattle.pack_reach.specs.LeadingLaws.{up_to_is}
+use Rattle.pack_reach.specs.MemberLaws.{each_implies, last_has, last_passes}
+use Rattle.pack_reach.specs.ReachLaws.{is_all}
 
 -- ---- an object's change among the changes that pass a test
 
