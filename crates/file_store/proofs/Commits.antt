@@ -25,7 +25,7 @@ use Rattle.file_store.specs.KeptLaws.{kept_stands, kept_for, kept_leaves, list_r
 use Rattle.fs_recovery.specs.Numbers.{NumbersKept, AreNumbersOf}
 use Rattle.file_store.specs.Preparing.{IsPrepared, begin_of}
 use Rattle.file_store.specs.Staging.{StagedKept, IsWith}
-use Rattle.file_store.proofs.Placing.{length_placed}
+use Rattle.fs_records.specs.PlacingLaws.{length_placed}
 use Rattle.zb_volume.specs.Lasting.{written_end}
 use Rattle.file_store.proofs.Writes.{Voted, staged_for, voted_kept, finished_kept, aborted_kept}
 

@@ -15,7 +15,7 @@ use Rattle.fs_records.specs.StatusLaws.{status_set}
 use Rattle.fs_records.specs.WriteLaws.{block_stands}
 use Rattle.fs_records.specs.Writing.{IsNext, block_of}
 use Rattle.file_store.specs.First.{as_new, file_with}
-use Rattle.file_store.proofs.Sizes.{text_long}
+use Rattle.fs_records.specs.PlacingLaws.{text_long}
 
 -- what a transaction's text says that is written as the first one
 abbrev pub Nexts : Kept → NewTransaction → Type 0

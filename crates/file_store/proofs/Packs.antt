@@ -25,8 +25,8 @@ use Rattle.fs_records.specs.File.{a_file}
 use Rattle.fs_records.specs.Listed.{listed, reached_in, reading_stands}
 use Rattle.fs_recovery.specs.Numbers.{NumbersKept}
 use Rattle.pack_copy.specs.CopiedLaws.{copied_stands}
-use Rattle.pack_copy.specs.Copying.{CopyKept, IsCopied, IsSource}
-use Rattle.file_store.specs.Kept.{IsKept, StandsForList, copied_in, cut_of}
+use Rattle.pack_copy.specs.Copying.{CopyKept, IsCopied, IsSource, copied_in}
+use Rattle.file_store.specs.Kept.{IsKept, StandsForList, cut_of}
 use Rattle.file_store.specs.KeptLaws.{list_read}
 use Rattle.file_store.specs.Staging.{StagedKept}
 use Rattle.file_store.proofs.Sides.{begun_of, seen_stays, settled_stays}

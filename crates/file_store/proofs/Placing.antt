@@ -1,99 +1,17 @@
 -- The places of a transaction that is voted, and an index with them.
-use Rattle.std.proofs.Common.{◌≡◌, ℕ, suc, ◌+◌, ◌-◌, ◌<◌, ◌≤◌, ◌^◌, Bool, true, false, cond, eqb, List, [], ◌∷◌, ◌++◌, length, get_or, take, drop, map, filter, All, Option, Some, None, refl, sym, ap, subst, ◌∙◌, arith}
+use Rattle.std.proofs.Common.{◌≡◌, ℕ, ◌-◌, ◌<◌, ◌≤◌, ◌^◌, List, [], ◌∷◌, ◌++◌, map, All, Option, Some, None, refl, sym, ap, subst, ◌∙◌, arith}
 use Rattle.std.specs.Prelude.{nat_eq}
 use Rattle.std.specs.List.{IsDistinct}
 use Rattle.std.specs.Option.{ForSome}
-use Rattle.std.proofs.lemmas.Grind.{common_steps}
-use Rattle.std.proofs.lemmas.List.{take_all, take-append-drop}
-use Rattle.std.proofs.lemmas.List.Elements.{All-weaker, All-nil, All-cons, All-append, All-head, All-tail}
+use Rattle.std.proofs.lemmas.List.Elements.{All-nil, All-cons, All-append}
 use Rattle.zb_model.specs.declared.new_transaction.NewChange.{NewChange}
-use Rattle.zb_model.specs.declared.new_transaction.NewContent.{NewContent}
-use Rattle.zb_model.specs.declared.new_transaction.NewContent.TheVariants as new_content
 use Rattle.fs_records.specs.declared.place.Place.{Place}
 use Rattle.fs_records.specs.declared.place.Placed.{Placed}
-use Rattle.fs_records.specs.Places.{Kept, places_in, is_placed, placed_of, oids_placed, HasRoomFor, IsBefore, StandBehind}
-use Rattle.fs_records.specs.Writing.{record_size}
-use Rattle.file_store.specs.Staging.{placed_from, placed_end, StagedKept, IsAllBefore, IsRecordOf, IsAhead, IsStagedIndex, IsWith}
+use Rattle.fs_records.specs.Places.{Kept, places_in, placed_of, oids_placed, HasRoomFor, IsBefore, StandBehind}
+use Rattle.fs_records.specs.Placing.{placed_from, placed_end}
+use Rattle.fs_records.specs.PlacingLaws.{IsRecordOf, end_behind, further, oids_from, placed_before, placed_behind, records_between}
+use Rattle.file_store.specs.Staging.{StagedKept, IsAllBefore, IsAhead, IsStagedIndex, IsWith}
 use Rattle.file_store.specs.declared.staged.Staged.{Staged}
-
--- ---- the places of some changes
-
-placed_from-push : (tid q : ℕ) (cs : List NewChange) (c : NewChange) → placed_from tid q (cs ++ c ∷ []) ≡ placed_from tid q cs ++ record { oid = c.oid; place = record { serial = tid; at = placed_end q cs } } ∷ []
-placed_from-push tid q [] c = refl
-placed_from-push tid q (x ∷ cs) c = ap (λ (ps : List Placed). record { oid = x.oid; place = record { serial = tid; at = q } } ∷ ps) (placed_from-push tid (q + record_size x.content) cs c)
-
-placed_end-push : (q : ℕ) (cs : List NewChange) (c : NewChange) → placed_end q (cs ++ c ∷ []) ≡ placed_end q cs + record_size c.content
-placed_end-push q [] c = refl
-placed_end-push q (x ∷ cs) c = placed_end-push (q + record_size x.content) cs c
-
-placed_end-append : (q : ℕ) (cs ds : List NewChange) → placed_end q (cs ++ ds) ≡ placed_end (placed_end q cs) ds
-placed_end-append q [] ds = refl
-placed_end-append q (x ∷ cs) ds = placed_end-append (q + record_size x.content) cs ds
-
-placed_end-behind : (q : ℕ) (cs : List NewChange) → q ≤ placed_end q cs
-placed_end-behind q [] = omega arith
-placed_end-behind q (c ∷ cs) = omega (arith, placed_end-behind (q + record_size c.content) cs)
-
--- they are of the objects that change
-pub oids_from : (tid q : ℕ) (cs : List NewChange) → oids_placed (placed_from tid q cs) ≡ map (λ (c : NewChange). c.oid) cs
-oids_from tid q [] = refl
-oids_from tid q (c ∷ cs) = ap (λ (oids : List ℕ). c.oid ∷ oids) (oids_from tid (q + record_size c.content) cs)
-
-pub length_placed : (tid q : ℕ) (cs : List NewChange) → length (placed_from tid q cs) ≡ length cs
-length_placed tid q [] = refl
-length_placed tid q (c ∷ cs) = ap (λ (n : ℕ). suc n) (length_placed tid (q + record_size c.content) cs)
-
-grows : (content : NewContent) → 0 < record_size content
-grows (new_content.Bytes bytes) = omega arith
-grows new_content.Absent = omega arith
-grows (new_content.AsOf serial) = omega arith
-
--- and lie between two places
-records_between : (tid from to q : ℕ) (cs : List NewChange) → from ≤ q → placed_end q cs ≤ to → All (IsRecordOf tid from to) (placed_from tid q cs)
-records_between tid from to q [] behind within = All-nil (IsRecordOf tid from to)
-records_between tid from to q (c ∷ cs) behind within =
-    All-cons (IsRecordOf tid from to) (record { oid = c.oid; place = record { serial = tid; at = q } }) (placed_from tid (q + record_size c.content) cs)
-    (refl, behind, omega (arith, grows c.content, placed_end-behind (q + record_size c.content) cs, within)) (records_between tid from to (q + record_size c.content) cs (omega (arith, behind)) within)
-
-next_take : (i : ℕ) (xs : List NewChange) (x : NewChange) → i < length xs → x ≡ get_or xs i x → take (i + 1) xs ≡ take i xs ++ x ∷ []
-next_take i xs x within is = grind (arith, common_steps)
-
--- the places of the first i changes
-pub record PlacedSoFar (tid from at i : ℕ) (changes : List NewChange) (placed : List Placed) : Type 0 where
-  pub at_is : at ≡ placed_end from (take i changes)
-  pub placed_is : placed ≡ placed_from tid from (take i changes)
-
-pub none_placed : (tid from : ℕ) (changes : List NewChange) → PlacedSoFar tid from from 0 changes []
-none_placed tid from changes = record { at_is = refl; placed_is = refl }
-
-pub one_placed : (tid from at i : ℕ) (changes : List NewChange) (placed : List Placed) (c : NewChange) → i < length changes → c ≡ get_or changes i c → PlacedSoFar tid from at i changes placed
-    → PlacedSoFar tid from (at + record_size c.content) (i + 1) changes (placed ++ record { oid = c.oid; place = record { serial = tid; at = at } } ∷ [])
-one_placed tid from at i changes placed c within is so_far =
-    let upto = next_take i changes c within is in
-    let front = take i changes in
-    record {
-      at_is = ap (λ (n : ℕ). n + record_size c.content) so_far.at_is ∙ sym (ap (placed_end from) upto ∙ placed_end-push from front c);
-      placed_is = ap (λ (ps : List Placed). ps ++ record { oid = c.oid; place = record { serial = tid; at = at } } ∷ []) so_far.placed_is
-          ∙ ap (λ (n : ℕ). placed_from tid from front ++ record { oid = c.oid; place = record { serial = tid; at = n } } ∷ []) so_far.at_is
-          ∙ sym (ap (placed_from tid from) upto ∙ placed_from-push tid from front c);
-    }
-
-pub all_placed : (tid from at i : ℕ) (changes : List NewChange) (placed : List Placed) → length changes ≤ i → PlacedSoFar tid from at i changes placed → placed ≡ placed_from tid from changes
-all_placed tid from at i changes placed done so_far = so_far.placed_is ∙ ap (placed_from tid from) (take_all i changes done)
-
--- where the next record ends
-pub next_within : (from at i : ℕ) (changes : List NewChange) (c : NewChange) → i < length changes → c ≡ get_or changes i c → at ≡ placed_end from (take i changes) → at + record_size c.content ≤ placed_end from changes
-next_within from at i changes c within is at_is =
-    let upto = next_take i changes c within is in
-    let split : take (i + 1) changes ++ drop (i + 1) changes ≡ changes = take-append-drop (i + 1) changes in
-    omega (
-      arith,
-      ap (placed_end from) split,
-      placed_end-append from (take (i + 1) changes) (drop (i + 1) changes),
-      placed_end-behind (placed_end from (take (i + 1) changes)) (drop (i + 1) changes),
-      ap (placed_end from) upto,
-      placed_end-push from (take i changes) c,
-    )
 
 -- ---- a transaction is staged
 
@@ -138,7 +56,7 @@ index_staged was tid from to changes placed old new newest end sound above bound
     ahead = record {
       above = above;
       bound = bound;
-      behind = omega (arith, further, within, placed_end-behind from changes);
+      behind = omega (arith, further, within, end_behind from changes);
       limit = limit;
       distinct = subst (λ (oids : List ℕ). IsDistinct nat_eq oids) (sym (ap oids_placed is ∙ oids_from tid from changes)) distinct;
       records = subst (λ (ps : List Placed). All (IsRecordOf tid end to) ps) (sym is) (records_between tid end to from changes (omega (arith, further)) within);
@@ -147,27 +65,13 @@ index_staged was tid from to changes placed old new newest end sound above bound
 
 -- ---- and put into the index
 
-further : (newest end tid to : ℕ) (ps : List Place) → newest ≤ tid → end ≤ to → All (IsBefore newest end) ps → All (IsBefore tid to) ps
-further newest end tid to ps above behind all = All-weaker (IsBefore newest end) (IsBefore tid to) (λ p h. (omega (arith, h.0, above), omega (arith, h.1, behind))) ps all
-
 -- its own place stands behind
 pub start_behind : (s : Staged) (kept : Kept) (newest end : ℕ) → IsAllBefore kept newest end → IsAhead s kept newest end → All (IsBefore s.tid end) kept.transactions
 start_behind s kept newest end up_to ahead = further newest end s.tid end kept.transactions (omega (arith, ahead.above)) (omega arith) up_to.transactions
 
 -- and so do those of its records
 pub records_behind : (s : Staged) (kept : Kept) (newest end : ℕ) → IsAllBefore kept newest end → IsAhead s kept newest end → StandBehind kept.entries s.records
-records_behind s kept newest end up_to ahead =
-    All-weaker (IsRecordOf s.tid end s.end) (λ (p : Placed). All (IsBefore p.place.serial p.place.at) (places_in kept.entries p.oid))
-    (λ p h. further newest end p.place.serial p.place.at (places_in kept.entries p.oid) (omega (arith, h.0, ahead.above)) h.1 (up_to.records p.oid)) s.records ahead.records
-
--- those of one object lie before the end
-placed_before : (oid tid from to : ℕ) (ps : List Placed) → All (IsRecordOf tid from to) ps → All (IsBefore tid to) (placed_of oid ps)
-placed_before oid tid from to [] all = All-nil (IsBefore tid to)
-placed_before oid tid from to (p ∷ ps) all = by_cases (eqb oid p.oid) (placed_before oid tid from to ps (All-tail (IsRecordOf tid from to) p ps all))
-  where
-    by_cases : (b : Bool) → All (IsBefore tid to) (placed_of oid ps) → All (IsBefore tid to) (map (λ (q : Placed). q.place) (cond b (p ∷ filter (is_placed oid) ps) (filter (is_placed oid) ps)))
-    by_cases true rest = let h = All-head (IsRecordOf tid from to) p ps all in All-cons (IsBefore tid to) p.place (placed_of oid ps) (omega (arith, h.0), h.2) rest
-    by_cases false rest = rest
+records_behind s kept newest end up_to ahead = placed_behind kept.entries newest end s.tid s.end s.records (omega (arith, ahead.above)) up_to.records ahead.records
 
 -- the index with it is sound
 pub index_with : (s : Staged) (old new : Kept) (newest end : ℕ) → IsStagedIndex (Some s) old newest end → ((oid : ℕ) → places_in new.entries oid ≡ places_in old.entries oid ++ placed_of oid s.records)

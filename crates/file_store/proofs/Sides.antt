@@ -12,9 +12,9 @@ use Rattle.zb_model.specs.Packs.{new_pack}
 use Rattle.zb_model.specs.Stores.{BegunPack, KeepsBegun, KeepsVoted, StoreState}
 use Rattle.fs_records.specs.Listed.{listed}
 use Rattle.fs_recovery.specs.Numbers.{NumbersKept}
-use Rattle.pack_copy.specs.Copying.{CopyKept}
+use Rattle.pack_copy.specs.Copying.{CopyKept, copied_in}
 use Rattle.file_store.specs.declared.staged.Staged.{Staged}
-use Rattle.file_store.specs.Kept.{IsCopyKept, IsKept, IsVotedIn, copied_in, voted_in}
+use Rattle.file_store.specs.Kept.{IsCopyKept, IsKept, IsVotedIn, voted_in}
 use Rattle.file_store.specs.Staging.{StagedKept}
 
 pub seen_stays : (a : Area) (old new : List Event) → StaysAs a old new → seen new a ≡ seen old a

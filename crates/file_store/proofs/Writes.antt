@@ -8,6 +8,8 @@ use Rattle.zb_model.specs.declared.data.Transaction.{Transaction}
 use Rattle.zb_model.specs.declared.new_transaction.NewTransaction.{NewTransaction}
 use Rattle.zb_model.specs.Voting.{IsVotable, voted_of}
 use Rattle.zb_model.specs.VotingLaws.{oids_kept}
+use Rattle.fs_records.specs.Placing.{placed_from}
+use Rattle.fs_records.specs.PlacingLaws.{oids_from, places_read, text_long}
 use Rattle.fs_records.specs.declared.place.Place.{Place}
 use Rattle.zb_base.specs.Lists.{last_or_push}
 use Rattle.zb_base.specs.Bytes.{AreBytes, AreBytes-take}
@@ -23,9 +25,7 @@ use Rattle.file_store.specs.Kept.{IsKept, IsVotedIn, done, voted_in, nothing, cu
 use Rattle.file_store.specs.KeptLaws.{kept_stands, list_read}
 use Rattle.fs_recovery.specs.Numbers.{NumbersKept, AreNumbersOf}
 use Rattle.file_store.specs.Preparing.{IsPrepared, begin_of}
-use Rattle.file_store.specs.Staging.{StagedKept, IsWith, placed_from}
-use Rattle.file_store.proofs.Placing.{oids_from}
-use Rattle.file_store.proofs.Sizes.{places_read, text_long}
+use Rattle.file_store.specs.Staging.{StagedKept, IsWith}
 
 -- ---- bytes
 

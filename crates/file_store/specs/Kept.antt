@@ -2,7 +2,6 @@
 use Rattle.std.specs.Prelude.{◌≡◌, ℕ, ◌+◌, ◌<◌, ◌≤◌, ◌^◌, false, List, [], ◌∷◌, ◌++◌, Option, Some, None, length, map, slice_index, slice_set, unwrap_or, option_map}
 use Rattle.std.specs.List.{last_or}
 use Rattle.zb_model.specs.declared.data.Transaction.{Transaction}
-use Rattle.zb_model.specs.Stores.{BegunPack}
 use Rattle.zb_base.specs.Bytes.{AreBytes}
 use Rattle.fs_records.specs.Blocks.{file_start}
 use Rattle.fs_records.specs.Listed.{listed, reached_in, reading_in}
@@ -24,10 +23,6 @@ nothing = record { tid = 0; packed = false; user = []; description = []; extensi
 -- the transaction that is voted at this end: the last one of the list once it is finished, where there is one, with this tid, which is its own where one was voted
 abbrev pub voted_in : ℕ → ℕ → List ℕ → Transaction
 voted_in tid end bytes = record (unwrap_or (last_or None (listed (done end bytes))) nothing) { tid = tid }
-
--- a begun pack, of which these bytes are what is copied
-abbrev pub copied_in : ℕ → List ℕ → BegunPack
-copied_in tid bytes = record { tid = tid; copied = listed bytes }
 
 -- where a tail begins: at the end, where a transaction is voted there
 abbrev pub cut_of : StagedKept → Option ℕ

@@ -2,10 +2,11 @@
 use Rattle.std.specs.Prelude.{◌≡◌, ℕ, ◌+◌, ◌<◌, ◌^◌, List, Some, length}
 use Rattle.zb_model.specs.declared.new_transaction.NewTransaction.{NewTransaction}
 use Rattle.fs_records.specs.Blocks.{block_text, records_from}
+use Rattle.fs_records.specs.Placing.{placed_from}
 use Rattle.fs_records.specs.Writing.{block_of}
 use Rattle.fs_recovery.specs.Numbers.{NumbersKept}
 use Rattle.file_store.specs.Kept.{HasRoomForTally}
-use Rattle.file_store.specs.Staging.{StagedKept, placed_from}
+use Rattle.file_store.specs.Staging.{StagedKept}
 
 -- where the data records of a new transaction begin that is written at the end
 abbrev pub begin_of : StagedKept → NewTransaction → ℕ

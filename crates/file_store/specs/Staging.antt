@@ -1,22 +1,10 @@
 -- The places of a transaction that is voted, apart from the index of the list. Source: own.
-use Rattle.std.specs.Prelude.{◌≡◌, ℕ, ◌+◌, ◌-◌, ◌^◌, ◌<◌, ◌≤◌, List, [], ◌∷◌, ◌++◌, Option, nat_eq, All}
+use Rattle.std.specs.Prelude.{◌≡◌, ℕ, ◌-◌, ◌^◌, ◌<◌, [], ◌∷◌, ◌++◌, Option, nat_eq, All}
 use Rattle.std.specs.List.{IsDistinct}
 use Rattle.std.specs.Option.{ForSome}
-use Rattle.zb_model.specs.declared.new_transaction.NewChange.{NewChange}
-use Rattle.fs_records.specs.declared.place.Placed.{Placed}
 use Rattle.fs_records.specs.Places.{Kept, places_in, placed_of, oids_placed, HasRoomFor, IsBefore, AreBefore}
-use Rattle.fs_records.specs.Writing.{record_size}
+use Rattle.fs_records.specs.PlacingLaws.{IsRecordOf}
 use Rattle.file_store.specs.declared.staged.Staged.{Staged}
-
--- where the data records of some changes stand, one behind another from q on
-abbrev pub placed_from : ℕ → ℕ → List NewChange → List Placed
-placed_from tid q [] = []
-placed_from tid q (c ∷ cs) = record { oid = c.oid; place = record { serial = tid; at = q } } ∷ placed_from tid (q + record_size c.content) cs
-
--- the place behind these records
-abbrev pub placed_end : ℕ → List NewChange → ℕ
-placed_end q [] = q
-placed_end q (c ∷ cs) = placed_end (q + record_size c.content) cs
 
 -- What contracts see of an index with a transaction that may be staged: the index, what is staged, and the tid and the end of the index.
 pub record StagedKept : Type 0 where
@@ -29,10 +17,6 @@ pub record StagedKept : Type 0 where
 pub record IsAllBefore (kept : Kept) (tid at : ℕ) : Type 0 where
   pub records : AreBefore kept.entries tid at
   pub transactions : All (IsBefore tid at) kept.transactions
-
--- a data record of this transaction, between two places
-abbrev pub IsRecordOf : ℕ → ℕ → ℕ → Placed → Type 0
-IsRecordOf tid from to p = (p.place.serial ≡ tid) × (from ≤ p.place.at) × (p.place.at < to)
 
 -- what is staged stands behind what is kept, with one record of each object, and there is room for it
 pub record IsAhead (s : Staged) (kept : Kept) (newest end : ℕ) : Type 0 where

@@ -17,7 +17,7 @@ ghost use Rattle.file_store.specs.Kept.{StandsForList};
 
 use crate::staging::StagedIndex;
 use fs_recovery::Numbers;
-use pack_copy::{CopyState, copy_turn};
+use pack_copy::{CopyState, copy_rest};
 use pack_switch::{Switched, switch};
 use std::alloc::Global;
 use zb_model::{OidSet, StoreError};
@@ -61,7 +61,7 @@ pub(crate) fn pack_file<V: Volume>(
     ensures faults { IsCopyCounted (V.read_faults volume.old) (V.read_faults volume.new)
         (V.write_faults volume.old) (V.write_faults volume.new) result }
 {
-    copy_turn(alloc, volume, index.index(), &mut copy, keep)?;
+    copy_rest(alloc, volume, index.index(), &mut copy, keep)?;
     match switch(volume, numbers, copy) {
         Ok(switched) => Ok(switched),
         Err(StoreFault) => Err(StoreError::StoreFault),

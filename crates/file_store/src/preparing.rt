@@ -21,7 +21,7 @@ use zb_model::NewTransaction;
 /// The greatest length of a file.
 const MOST: u64 = (1 << 63) - 1;
 
-#[tactic(auto, using(crate::proofs::Sizes::text_end, crate::proofs::Sizes::begins_at))]
+#[tactic(auto, using(fs_records::specs::PlacingLaws::text_end, fs_records::specs::PlacingLaws::begins_at))]
 /// Makes a vote ready: the text that is to be written at the index's end, its places staged, and room
 /// in the index and in the numbers for all that its finish adds. The one error is want of memory, also
 /// where the file would be longer than 2^63 - 1 bytes, and then nothing is staged.

@@ -1,16 +1,17 @@
 //! An index, and beside it the places of a voted transaction, with all the room that its finish needs.
 
-ghost use Rattle.std.specs.Prelude.{◌≡◌, ℕ, ◌-◌, ◌^◌, ◌<◌, ◌≤◌, None, Some, map, nat_eq, All, IfOk, OnOk, OnErr};
+ghost use Rattle.std.specs.Prelude.{◌≡◌, ℕ, ◌-◌, ◌^◌, ◌<◌, ◌≤◌, None, Some, map, nat_eq, All, OnOk, OnErr};
 ghost use Rattle.std.specs.List.{IsDistinct};
 ghost use Rattle.std.specs.Option.{ForSome, option_copied};
 ghost use Rattle.fs_records.specs.Places.{HasRoomFor, IsRising, places_in};
-ghost use Rattle.file_store.specs.Staging.{IsAllBefore, IsWith, placed_end, placed_from};
+ghost use Rattle.fs_records.specs.Placing.{placed_end, placed_from};
+ghost use Rattle.file_store.specs.Staging.{IsAllBefore, IsWith};
 
 use crate::staged::Staged;
-use fs_records::{Index, Place, Placed, record_length};
+use fs_records::{Index, Place, placed_records};
 use std::alloc::{AllocError, Global};
 use std::marker::Model;
-use zb_ids::{ListOf, Oid, Tid};
+use zb_ids::{Oid, Tid};
 use zb_model::NewChange;
 
 /// An index of what stands in a file up to an end, and apart from it, where one is staged, the places
@@ -33,30 +34,6 @@ impl Model for StagedIndex {
     ghost view = { λ a. record { kept = a.index; staged = a.staged; newest = a.newest; end = a.end } };
 
     ghost invariant = { λ a. IsStagedIndex a.staged a.index a.newest a.end };
-}
-
-/// Where the data records of some changes stand, one behind another from a place on. The one error is
-/// want of memory.
-fn records_from(
-    alloc: Global,
-    tid: Tid,
-    from: u64,
-    changes: &[NewChange],
-) -> Result<ListOf<Placed>, AllocError>
-    requires { placed_end from changes.now < 2 ^ 63 }
-    ensures { IfOk result (λ placed. placed ≡ placed_from tid from changes.now) }
-{
-    let mut placed = Vec::with_capacity(alloc, changes.len())?;
-    let mut at = from;
-    'place: for (count, change) in changes.iter().enumerate() {
-        let place = Place { serial: tid, at };
-        placed.push(Placed {
-            oid: change.oid,
-            place,
-        })?;
-        at += record_length(&change.content);
-    }
-    Ok(ListOf::from_vec(placed))
 }
 
 impl StagedIndex {
@@ -152,7 +129,7 @@ impl StagedIndex {
         ensures newest { self.new.newest ≡ self.old.newest }
         ensures end { self.new.end ≡ self.old.end }
     {
-        let records = records_from(alloc, tid, from, changes)?;
+        let records = placed_records(alloc, tid, from, changes)?;
         self.index.reserve(records.as_slice())?;
         self.staged = Some(Staged { tid, end, records });
         Ok(())

@@ -161,7 +161,8 @@ impl<V: Volume + Drop> Store for FileStore<V> {
     ghost use Rattle.zb_volume.specs.declared.areas.Area.TheVariants.{Main, Side};
     ghost use Rattle.zb_volume.specs.Disk.{seen};
     ghost use Rattle.fs_records.specs.Listed.{listed};
-    ghost use Rattle.file_store.specs.Kept.{StandsForList, copied_in, voted_in};
+    ghost use Rattle.pack_copy.specs.Copying.{copied_in};
+    ghost use Rattle.file_store.specs.Kept.{StandsForList, voted_in};
     ghost use Rattle.file_store.specs.KeptLaws.{kept_database, kept_leaves};
 
     ghost told = { V.told };

@@ -8,7 +8,7 @@ use Rattle.std.specs.Option.{option_map_or}
 use Rattle.std.specs.Ordering.{nat_cmp}
 use Rattle.std.specs.FinSet.{FinSet}
 use Rattle.std.proofs.lemmas.Bool.{le-leb, lt-leb}
-use Rattle.std.proofs.lemmas.List.{append-nil, take-append-drop}
+use Rattle.std.proofs.lemmas.List.{append-nil, take-append-drop, take_all}
 use Rattle.std.proofs.lemmas.List.Elements.{filter-append, filter_map-append}
 use Rattle.zb_model.specs.declared.data.Change.{Change}
 use Rattle.zb_model.specs.declared.data.Transaction.{Transaction}
@@ -112,6 +112,20 @@ gone_over list side c keep n x is none upto = record {
   left = upto.left ∙ sym (left_next (packed_one c.tid keep list) list n x is ∙ ap (λ (o : Option Transaction). filter_map (packed_one c.tid keep list) (take n list) ++ cons_option o []) none ∙ append-nil (filter_map (packed_one c.tid keep list) (take n list)));
 }
 
+-- something is left of it
+pub some_left : (F : Transaction → Option Transaction) (ts : List Transaction) (n : ℕ) (x y : Transaction) → slice_get ts n ≡ Some x → F x ≡ Some y → filter_map F (take n ts) ≡ filter_map F ts → ⊥
+some_left F [] n x y is left same = absurd cc
+some_left F (t ∷ ts) zero x y is left same =
+    let one : t ≡ x = cc in
+    let here : F t ≡ Some y = ap F one ∙ left in
+    let all : [] ≡ y ∷ filter_map F ts = same ∙ ap (λ (o : Option Transaction). cons_option o (filter_map F ts)) here in
+    absurd cc
+some_left F (t ∷ ts) (suc n) x y is left same = by_cases (F t) (λ rest. some_left F ts n x y is left rest) same
+  where
+    by_cases : (o : Option Transaction) → (filter_map F (take n ts) ≡ filter_map F ts → ⊥) → cons_option o (filter_map F (take n ts)) ≡ cons_option o (filter_map F ts) → ⊥
+    by_cases None never e = never e
+    by_cases (Some z) never e = let rest : filter_map F (take n ts) ≡ filter_map F ts = cc in never rest
+
 -- ---- where a copy goes on
 
 all_first : (P : ℕ → Type 0) (starts : List Place) (ts : List Transaction) (n : ℕ) → map (λ (p : Place). p.serial) starts ≡ map tid_of ts → ((k : ℕ) (d : Place) → k < n → k < length starts → P (get_or starts k d).serial) → AllByRecursion (λ (t : Transaction). P t.tid) (take n ts)
@@ -206,3 +220,18 @@ all_up_to last low o (t ∷ ts) bound h =
 
 pub all_changes : (list : List Transaction) → IsDatabase list → changes_up_to (2 ^ 64 - 1) list ≡ change_count list
 all_changes list is = ap (λ (ts : List Transaction). sum_by (λ (t : Transaction). length t.changes) ts) (all_up_to (2 ^ 64 - 1) 0 None list is.bounded (database_rises list is))
+
+-- ---- what more was copied
+
+take_more : (n m : ℕ) (ts : List Transaction) → take (n + m) ts ≡ take n ts ++ take m (drop n ts)
+take_more zero m ts = let e : zero + m ≡ m = omega arith in ap (λ (k : ℕ). take k ts) e
+take_more (suc n) m [] = take_all (suc n + m) [] (omega arith) ∙ sym (take_all m [] (omega arith))
+take_more (suc n) m (t ∷ ts) =
+    let e : suc n + m ≡ suc (n + m) = omega arith in
+    ap (λ (k : ℕ). take k (t ∷ ts)) e ∙ ap (λ (xs : List Transaction). t ∷ xs) (take_more n m ts)
+
+pub left_more : (F : Transaction → Option Transaction) (n m : ℕ) (ts : List Transaction) → filter_map F (take (n + m) ts) ≡ filter_map F (take n ts) ++ filter_map F (take m (drop n ts))
+left_more F n m ts = ap (filter_map F) (take_more n m ts) ∙ filter_map-append F (take n ts) (take m (drop n ts))
+
+pub left_parts : (F : Transaction → Option Transaction) (n : ℕ) (ts : List Transaction) → filter_map F ts ≡ filter_map F (take n ts) ++ filter_map F (drop n ts)
+left_parts F n ts = ap (filter_map F) (sym (take-append-drop n ts)) ∙ filter_map-append F (take n ts) (drop n ts)

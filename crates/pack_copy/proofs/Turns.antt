@@ -1,9 +1,10 @@
 -- A transaction of Main is copied to Side.
-use Rattle.std.proofs.Common.{◌≡◌, ℕ, zero, suc, ◌+◌, ◌-◌, ◌<◌, ◌≤◌, List, [], ◌∷◌, ◌++◌, length, get_or, map, take, drop, Option, Some, None, Result, Ok, Err, OnOk, refl, sym, ap, subst, ◌∙◌, arith}
+use Rattle.std.proofs.Common.{◌≡◌, ℕ, zero, suc, ◌+◌, ◌-◌, ◌<◌, ◌≤◌, Bool, true, false, List, [], ◌∷◌, ◌++◌, length, get_or, map, take, drop, Option, Some, None, Result, Ok, Err, OnOk, refl, sym, ap, subst, ◌∙◌, arith}
 use Rattle.std.specs.Prelude.{slice_get}
 use Rattle.std.specs.List.{cons_option, filter_map, last_or}
 use Rattle.std.specs.Option.{option_map_or}
 use Rattle.std.proofs.lemmas.List.{length-drop, length-map, get_or-drop, get_or_default, take_all}
+use Rattle.std.proofs.lemmas.List.Sums.{sum_by-append}
 use Rattle.std.proofs.lemmas.Option.{slice_get_read}
 use Rattle.std.specs.Ordering.{nat_cmp}
 use Rattle.std.specs.FinSet.{FinSet}
@@ -22,12 +23,12 @@ use Rattle.fs_records.specs.Listed.{listed, reached_in}
 use Rattle.fs_records.specs.Places.{Kept, IsRising}
 use Rattle.fs_reading.specs.Main.{IsStart, IsStartOf}
 use Rattle.fs_recovery.specs.Opens.{newest_kept}
-use Rattle.zb_model.specs.Packs.{IsPrefixOf}
+use Rattle.zb_model.specs.Packs.{IsAllOrATurn, IsCopyTurn, IsPrefixOf, change_count, changes_a_turn}
 use Rattle.pack_copy.specs.CopiedLaws.{copied_list}
-use Rattle.pack_copy.specs.Copying.{CopyKept, IsCopied, IsSource}
+use Rattle.pack_copy.specs.Copying.{CopyKept, IsCopied, IsSource, copied_in}
 use Rattle.pack_copy.specs.Filtering.{left_by}
-use Rattle.pack_copy.specs.UpTo.{IsBelowNext, IsCopiedUpTo, IsCountUpTo}
-use Rattle.pack_copy.proofs.Fronts.{database_rises, front_is, gone_over, later, left_next, newest_same, tid_kept}
+use Rattle.pack_copy.specs.UpTo.{Ends, IsAllOrMore, IsBelowNext, IsCopiedUpTo, IsCountUpTo, IsSomeLeft}
+use Rattle.pack_copy.proofs.Fronts.{database_rises, front_is, gone_over, later, left_more, left_next, left_parts, newest_same, some_left, tid_kept}
 use Rattle.pack_copy.proofs.Lefts.{left_is, source_begins, source_list}
 
 -- ---- what stays
@@ -102,6 +103,10 @@ module _ (main side : List ℕ) (from : Kept) (c : CopyKept) (keep : FinSet nat_
         ∙ ap (λ (k : ℕ). filter_map (packed_one k keep (listed main)) (take (n + 1) (listed main))) (sym same);
   }
 
+  -- something of it is left
+  pub more_left : (y : Transaction) → left_by t keep from.entries x ≡ Some y → IsSomeLeft c.tid keep (listed main) n
+  more_left y is = some_left (packed_one c.tid keep (listed main)) (listed main) n x y listed_get (sym left_packed ∙ is)
+
   -- nothing of it is left
   pub none_left : left_by t keep from.entries x ≡ None → IsCopiedUpTo (listed main) side c keep (n + 1)
   none_left is = gone_over (listed main) side c keep n x listed_get (sym left_packed ∙ is) upto
@@ -152,6 +157,10 @@ starts_same main from source =
     ∙ (reading_of main (reached_in main) (source_begins main from source)).starts
     ∙ ap (λ (l : List Transaction). map (λ (t : Transaction). t.tid) l) (sym (source_list main from source))
 
+-- so many transactions has Main
+all_long : (main : List ℕ) (from : Kept) → IsSource main from → length (listed main) ≤ length from.transactions
+all_long main from source = omega (arith, ap length (starts_same main from source), length-map from.transactions (λ (p : Place). p.serial), length-map (listed main) (λ (t : Transaction). t.tid))
+
 -- a turn goes on behind what was copied
 pub goes_on : (main side : List ℕ) (from : Kept) (c : CopyKept) (keep : FinSet nat_cmp) (starts : List Place) (newest n : ℕ) → IsSource main from → (copied : IsCopied side c) → IsPrefixOf (packed_by c.tid keep (listed main)) (listed side)
     → starts ≡ from.transactions → newest ≡ newest_kept c.index → IsCountUpTo starts newest n → IsCopiedUpTo (listed main) side c keep n
@@ -165,5 +174,49 @@ goes_on main side from c keep starts newest n source copied front same newest_is
 -- and where all was gone over the packed list stands there
 pub all_copied : (main side : List ℕ) (from : Kept) (c : CopyKept) (keep : FinSet nat_cmp) (t : ℕ) → IsSource main from → c.tid ≡ t → IsCopiedUpTo (listed main) side c keep (length from.transactions) → listed side ≡ packed_by t keep (listed main)
 all_copied main side from c keep t source tid upto =
-    let long : length (listed main) ≤ length from.transactions = omega (arith, ap length (starts_same main from source), length-map from.transactions (λ (p : Place). p.serial), length-map (listed main) (λ (t : Transaction). t.tid)) in
-    upto.left ∙ ap (filter_map (packed_one c.tid keep (listed main))) (take_all (length from.transactions) (listed main) long) ∙ ap (λ (k : ℕ). packed_by k keep (listed main)) tid
+    upto.left ∙ ap (filter_map (packed_one c.tid keep (listed main))) (take_all (length from.transactions) (listed main) (all_long main from source)) ∙ ap (λ (k : ℕ). packed_by k keep (listed main)) tid
+
+-- a copy that went to the end
+pub to_the_end : (list : List Transaction) (side : List ℕ) (c : CopyKept) (keep : FinSet nat_cmp) (first total : ℕ) (whole : Bool) → whole ≡ true → Ends list side c keep first total whole → IsCopiedUpTo list side c keep total
+to_the_end list side c keep first total true is ends = subst (λ (n : ℕ). IsCopiedUpTo list side c keep n) ends.end ends.up_to
+to_the_end list side c keep first total false is ends = absurd cc
+
+-- ---- what a turn copied
+
+module _ (main was now : List ℕ) (from : Kept) (old new : CopyKept) (keep : FinSet nat_cmp) (first : ℕ) (source : IsSource main from) (tid : new.tid ≡ old.tid)
+    (before : IsCopiedUpTo (listed main) was old keep first) (count : ℕ) (count_is : count ≡ change_count (listed now)) where
+  abbrev F : Transaction → Option Transaction
+  F = packed_one old.tid keep (listed main)
+
+  abbrev behind : ℕ → List Transaction
+  behind more = filter_map F (take more (drop first (listed main)))
+
+  now_is : (more : ℕ) → IsCopiedUpTo (listed main) now new keep (first + more) → listed now ≡ filter_map F (take (first + more) (listed main))
+  now_is more upto = upto.left ∙ ap (λ (k : ℕ). filter_map (packed_one k keep (listed main)) (take (first + more) (listed main))) tid
+
+  grown : (more : ℕ) → IsCopiedUpTo (listed main) now new keep (first + more) → listed now ≡ listed was ++ behind more
+  grown more upto = now_is more upto ∙ left_more F first more (listed main) ∙ ap (λ (l : List Transaction). l ++ behind more) (sym before.left)
+
+  as_much : (more : ℕ) → IsCopiedUpTo (listed main) now new keep (first + more) → change_count (listed was) + changes_a_turn ≤ change_count (listed now) → changes_a_turn ≤ change_count (behind more)
+  as_much more upto enough =
+      let parts : change_count (listed now) ≡ change_count (listed was) + change_count (behind more) = ap change_count (grown more upto) ∙ sum_by-append (λ (x : Transaction). length x.changes) (listed was) (behind more) in
+      omega (arith, enough, parts)
+
+  turn_so : (whole : Bool) (more : ℕ) → IsCopiedUpTo (listed main) now new keep (first + more) → IsAllOrMore new.tid keep (listed main) (length from.transactions) (first + more) whole
+      → (whole ≡ false → change_count (listed was) + changes_a_turn ≤ change_count (listed now)) → IsAllOrATurn (packed_by old.tid keep (listed main)) (listed now) (behind more) whole
+  turn_so true more upto all enough = now_is more upto ∙ ap (filter_map F) (take_all (first + more) (listed main) (omega (arith, all, all_long main from source)))
+  turn_so false more upto some enough = (
+    λ all. some (ap (λ (k : ℕ). filter_map (packed_one k keep (listed main)) (take (first + more) (listed main))) tid ∙ sym (now_is more upto) ∙ all ∙ ap (λ (k : ℕ). packed_by k keep (listed main)) (sym tid)),
+    as_much more upto (enough refl),
+  )
+
+  pub turn_is : (whole : Bool) → Ends (listed main) now new keep first (length from.transactions) whole → (whole ≡ false → change_count (listed was) + changes_a_turn ≤ change_count (listed now))
+      → IsCopyTurn (packed_by old.tid keep (listed main)) (copied_in old.tid was) (copied_in new.tid now) (record { count = count; whole = whole })
+  turn_is whole ends enough = record {
+    more = behind ends.more;
+    tid = tid;
+    grown = grown ends.more ends.up_to;
+    prefix = (filter_map F (drop (first + ends.more) (listed main)), left_parts F (first + ends.more) (listed main) ∙ ap (λ (l : List Transaction). l ++ filter_map F (drop (first + ends.more) (listed main))) (sym (now_is ends.more ends.up_to)));
+    count = count_is;
+    whole = turn_so whole ends.more ends.up_to ends.end enough;
+  }

@@ -1,8 +1,9 @@
 -- What stands on Side of a list that is packed. Source: own.
 use Rattle.std.specs.Prelude.{◌≡◌, ℕ, ◌<◌, ◌^◌, List, Option, Some, None, length}
 use Rattle.zb_base.specs.Bytes.{AreBytes}
+use Rattle.zb_model.specs.Stores.{BegunPack}
 use Rattle.fs_records.specs.Blocks.{file_start}
-use Rattle.fs_records.specs.Listed.{reached_in, reading_in}
+use Rattle.fs_records.specs.Listed.{listed, reached_in, reading_in}
 use Rattle.fs_records.specs.Places.{Kept, IsIndexOf}
 use Rattle.fs_recovery.specs.declared.opening.Opened.{Opened}
 use Rattle.fs_recovery.specs.Numbers.{NumbersKept}
@@ -35,3 +36,7 @@ pub record IsSource (bytes : List ℕ) (from : Kept) : Type 0 where
   pub reading : reading_in bytes ≡ Some (reached_in bytes, cut)
   pub index : IsIndexOf (reached_in bytes) from
   pub short : length bytes < 2 ^ 64
+
+-- a begun pack, of which these bytes are what is copied
+abbrev pub copied_in : ℕ → List ℕ → BegunPack
+copied_in tid bytes = record { tid = tid; copied = listed bytes }

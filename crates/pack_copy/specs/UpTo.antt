@@ -1,5 +1,5 @@
 -- How far a copy has come. Source: own.
-use Rattle.std.specs.Prelude.{◌≡◌, ℕ, ◌<◌, ◌≤◌, List, length, take, slice_index_or}
+use Rattle.std.specs.Prelude.{◌≡◌, ℕ, ◌+◌, ◌<◌, ◌≤◌, Bool, true, false, List, length, take, slice_index_or}
 use Rattle.std.specs.List.{filter_map}
 use Rattle.std.specs.Ordering.{nat_cmp}
 use Rattle.std.specs.FinSet.{FinSet}
@@ -23,3 +23,23 @@ pub record IsCountUpTo (starts : List Place) (tid count : ℕ) : Type 0 where
 -- a tid isn't above the place with this number, if there is one
 abbrev pub IsBelowNext : List Place → ℕ → ℕ → Type 0
 IsBelowNext starts tid number = (d : Place) → number < length starts → tid ≤ (slice_index_or starts number d).serial
+
+-- something is left of a transaction behind the first ones, so many
+abbrev pub IsSomeLeft : ℕ → FinSet nat_cmp → List Transaction → ℕ → Type 0
+IsSomeLeft tid keep list number = filter_map (packed_one tid keep list) (take number list) ≡ filter_map (packed_one tid keep list) list → ⊥
+
+-- the transaction with a number was gone over, or it wasn't, and something is left there
+abbrev pub GoesOn : List Transaction → List ℕ → CopyKept → FinSet nat_cmp → ℕ → Bool → Type 0
+GoesOn list side c keep number true = IsCopiedUpTo list side c keep (number + 1)
+GoesOn list side c keep number false = IsSomeLeft c.tid keep list number
+
+-- all of a list was gone over, or something is left of it
+abbrev pub IsAllOrMore : ℕ → FinSet nat_cmp → List Transaction → ℕ → ℕ → Bool → Type 0
+IsAllOrMore tid keep list total number true = number ≡ total
+IsAllOrMore tid keep list total number false = IsSomeLeft tid keep list number
+
+-- a copy went on behind the first transactions of a list with so many, to the end or not
+pub record Ends (list : List Transaction) (side : List ℕ) (c : CopyKept) (keep : FinSet nat_cmp) (first total : ℕ) (whole : Bool) : Type 0 where
+  pub more : ℕ
+  pub up_to : IsCopiedUpTo list side c keep (first + more)
+  pub end : IsAllOrMore c.tid keep list total (first + more) whole

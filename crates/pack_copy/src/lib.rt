@@ -12,7 +12,7 @@ mod turn;
 
 pub use beginning::begin;
 pub use state::{CopyState, changes_of};
-pub use turn::copy_turn;
+pub use turn::{copy_rest, copy_turn};
 
 #[cfg(test)]
 mod tests;

@@ -1,20 +1,20 @@
 //! A turn of a copy.
 
-ghost use Rattle.std.specs.Prelude.{◌≡◌, ℕ, ◌+◌, ◌-◌, ◌≤◌, ◌<◌, ◌^◌, Some, true, slice_get, length, All, IfOk, OnOk};
+ghost use Rattle.std.specs.Prelude.{◌≡◌, ℕ, ◌+◌, ◌-◌, ◌≤◌, ◌<◌, ◌^◌, Some, false, true, slice_get, length, All, IfOk, IsTrue, OnOk};
 ghost use Rattle.zb_volume.specs.declared.areas.Area.{Area};
 ghost use Rattle.zb_volume.specs.Disk.{seen};
 ghost use Rattle.zb_volume.specs.Moments.{StaysAs};
 ghost use Rattle.zb_model.specs.declared.data.Transaction.{Transaction};
 ghost use Rattle.zb_model.specs.Packing.{packed_by};
-ghost use Rattle.zb_model.specs.Packs.{IsPrefixOf, change_count};
+ghost use Rattle.zb_model.specs.Packs.{IsCopyTurn, IsPrefixOf, change_count, changes_a_turn};
 ghost use Rattle.fs_records.specs.Listed.{listed, reached_in};
 ghost use Rattle.fs_records.specs.Places.{IsRising};
 ghost use Rattle.fs_records.specs.Blocks.{Reached, Begins};
 ghost use Rattle.fs_reading.specs.Main.{IsStart, IsStartOf};
 ghost use Rattle.fs_recovery.specs.Opens.{newest_kept};
 ghost use Rattle.fs_reading.specs.Formed.{IsFormed};
-ghost use Rattle.pack_copy.specs.Copying.{IsCopied, IsSource};
-ghost use Rattle.pack_copy.specs.UpTo.{IsBelowNext, IsCopiedUpTo, IsCountUpTo};
+ghost use Rattle.pack_copy.specs.Copying.{IsCopied, IsSource, copied_in};
+ghost use Rattle.pack_copy.specs.UpTo.{Ends, GoesOn, IsBelowNext, IsCopiedUpTo, IsCountUpTo};
 ghost use Rattle.pack_copy.specs.InFull.{full_file};
 ghost use Rattle.pack_copy.specs.Counting.{IsCopyCounted};
 
@@ -71,8 +71,32 @@ fn read_at<V: Volume>(
     Ok(with_tid(transaction, tid))
 }
 
+/// How many changes a turn copies at least, where something is left behind it.
+const CHANGES_A_TURN: u64 = 64;
+
+/// How far a copy goes on.
+#[derive(Clone, Copy, PartialEq, Eq)]
+enum Extent {
+    /// Until that many changes more are copied than these.
+    Turn(u64),
+    /// To the end.
+    Rest,
+}
+
+/// Whether a turn has copied enough, where so many changes are copied in all.
+fn is_over(extent: Extent, changes: u64) -> bool
+    ensures turn { (before : ℕ) → extent ≡ Extent.Turn before → IsTrue result → before + changes_a_turn ≤ changes }
+    ensures rest { extent ≡ Extent.Rest → result ≡ false }
+{
+    match extent {
+        Extent::Turn(before) => changes.saturating_sub(before) >= CHANGES_A_TURN,
+        Extent::Rest => false,
+    }
+}
+
 /// Copies what is left of the transaction at a place of Main, where all transactions before it were
-/// gone over.
+/// gone over, unless a turn has copied enough. The answer is whether it was gone over: something is left
+/// of one that wasn't.
 fn copy_one<V: Volume>(
     alloc: Global,
     volume: &mut V,
@@ -80,7 +104,8 @@ fn copy_one<V: Volume>(
     to: &mut CopyState,
     keep: &OidSet,
     start: Place,
-) -> Result<(), StoreError>
+    enough: bool,
+) -> Result<bool, StoreError>
     requires above { newest_kept to.old.index ≤ start.serial }
     requires bound { start.serial < 2 ^ 64 - 1 }
     requires source { V.told → IsSource (seen (V.log volume.old) Area.Main) from.now }
@@ -92,23 +117,31 @@ fn copy_one<V: Volume>(
         → IsStartOf (reached_in (seen (V.log volume.old) Area.Main)) number start
         → IsCopiedUpTo (listed (seen (V.log volume.old) Area.Main)) (seen (V.log volume.old) Area.Side)
         to.old keep.now number
-        → OnOk result (IsCopiedUpTo (listed (seen (V.log volume.old) Area.Main))
-        (seen (V.log volume.new) Area.Side) to.new keep.now (number + 1)) }
+        → IfOk result (GoesOn (listed (seen (V.log volume.old) Area.Main))
+        (seen (V.log volume.new) Area.Side) to.new keep.now number) }
+    ensures enough { IfOk result (λ over. over ≡ false → enough ≡ true) }
     ensures newest { OnOk result (newest_kept to.new.index ≤ start.serial) }
     ensures tid { to.new.tid ≡ to.old.tid }
+    ensures unmoved { IfOk result (λ over. over ≡ false → (V.log volume.new ≡ V.log volume.old) × (to.new ≡ to.old)) }
     ensures main { V.told → StaysAs Area.Main (V.log volume.old) (V.log volume.new) }
     ensures counts { IsCopyCounted (V.read_faults volume.old) (V.read_faults volume.new)
         (V.write_faults volume.old) (V.write_faults volume.new) result }
 {
     let transaction = read_at(alloc, volume, start)?;
     match left_of(from, to.tid, keep, transaction) {
-        Some(left) => append(alloc, volume, to, left),
-        None => Ok(()),
+        Some(left) => {
+            if enough {
+                return Ok(false);
+            }
+            append(alloc, volume, to, left)?;
+            Ok(true)
+        }
+        None => Ok(true),
     }
 }
 
 /// Copies what is left of the transactions of Main from the one with this number on, counted from 0,
-/// where all before it were gone over.
+/// where all before it were gone over: a turn of it, or all. The answer is whether all is copied.
 fn copy_from<V: Volume>(
     alloc: Global,
     volume: &mut V,
@@ -116,15 +149,19 @@ fn copy_from<V: Volume>(
     to: &mut CopyState,
     keep: &OidSet,
     first: usize,
-) -> Result<(), StoreError>
+    extent: Extent,
+) -> Result<bool, StoreError>
     requires within { first ≤ length from.now.transactions }
     requires above { IsBelowNext from.now.transactions (newest_kept to.old.index) first }
     requires bound { All (λ p. p.serial < 2 ^ 64 - 1) from.now.transactions }
     requires source { V.told → IsSource (seen (V.log volume.old) Area.Main) from.now }
     requires up_to { V.told → IsCopiedUpTo (listed (seen (V.log volume.old) Area.Main))
         (seen (V.log volume.old) Area.Side) to.old keep.now first }
-    ensures all { V.told → OnOk result (IsCopiedUpTo (listed (seen (V.log volume.old) Area.Main))
-        (seen (V.log volume.new) Area.Side) to.new keep.now (length from.now.transactions)) }
+    ensures ends { V.told → IfOk result (Ends (listed (seen (V.log volume.old) Area.Main))
+        (seen (V.log volume.new) Area.Side) to.new keep.now first (length from.now.transactions)) }
+    ensures turn { V.told → (before : ℕ) → extent ≡ Extent.Turn before → IfOk result (λ whole.
+        whole ≡ false → before + changes_a_turn ≤ change_count (listed (seen (V.log volume.new) Area.Side))) }
+    ensures rest { extent ≡ Extent.Rest → IfOk result (λ whole. whole ≡ true) }
     ensures tid { to.new.tid ≡ to.old.tid }
     ensures main { V.told → StaysAs Area.Main (V.log volume.old) (V.log volume.new) }
     ensures counts { IsCopyCounted (V.read_faults volume.old) (V.read_faults volume.new)
@@ -133,9 +170,13 @@ fn copy_from<V: Volume>(
     let starts = from.transactions();
     let rest = &starts[first..];
     'copy: for start in rest {
-        copy_one(alloc, volume, from, to, keep, *start)?;
+        let enough = is_over(extent, to.changes());
+        let over = copy_one(alloc, volume, from, to, keep, *start, enough)?;
+        if !over {
+            return Ok(false);
+        }
     }
-    Ok(())
+    Ok(true)
 }
 
 /// How many of these places are of a transaction up to a tid. They are the first ones.
@@ -146,10 +187,10 @@ fn count_up_to(starts: &[Place], tid: Tid) -> usize
     starts.partition_point(|p| p.serial <= tid)
 }
 
-/// Copies all that is left of Main's list, packed up to the tid of the copy, where just these objects
-/// keep their changes up to it: what stands on Side is then the whole packed list. Each content stands
-/// there in full, and that an object isn't there with back pointer 0. Side grows transaction by
-/// transaction.
+/// Copies more of what is left of Main's list, packed up to the tid of the copy, where just these objects
+/// keep their changes up to it: transaction by transaction, each whole, until 64 changes or more are copied
+/// or nothing is left. The answer is how many are copied in all, and whether that is the whole packed list.
+/// Each content stands on Side in full, and that an object isn't there with back pointer 0.
 ///
 /// With an error Side may hold anything, and the copy is to be dropped: `StoreFault` comes only where a
 /// write failed, `ReadFault` only where a read did, and `Memory` where neither did, also where Side would
@@ -169,22 +210,50 @@ pub fn copy_turn<V: Volume>(
         (packed_by to.old.tid keep.now (listed (seen (V.log volume.old) Area.Main)))
         (listed (seen (V.log volume.old) Area.Side)) }
     ensures copied { V.told → OnOk result (IsCopied (seen (V.log volume.new) Area.Side) to.new) }
-    ensures list { V.told → OnOk result (listed (seen (V.log volume.new) Area.Side)
-        ≡ packed_by to.old.tid keep.now (listed (seen (V.log volume.old) Area.Main))) }
-    ensures text { V.told → OnOk result (seen (V.log volume.new) Area.Side
-        ≡ full_file (packed_by to.old.tid keep.now (listed (seen (V.log volume.old) Area.Main)))) }
-    ensures count { V.told → IfOk result (λ c.
-        c.count ≡ change_count (listed (seen (V.log volume.new) Area.Side))) }
-    ensures whole { IfOk result (λ c. c.whole ≡ true) }
+    ensures turn { V.told → IfOk result (IsCopyTurn
+        (packed_by to.old.tid keep.now (listed (seen (V.log volume.old) Area.Main)))
+        (copied_in to.old.tid (seen (V.log volume.old) Area.Side))
+        (copied_in to.new.tid (seen (V.log volume.new) Area.Side))) }
     ensures tid { to.new.tid ≡ to.old.tid }
     ensures main { V.told → StaysAs Area.Main (V.log volume.old) (V.log volume.new) }
     ensures counts { IsCopyCounted (V.read_faults volume.old) (V.read_faults volume.new)
         (V.write_faults volume.old) (V.write_faults volume.new) result }
 {
     let first = count_up_to(from.transactions(), to.newest());
-    copy_from(alloc, volume, from, to, keep, first)?;
+    let turn = Extent::Turn(to.changes());
+    let whole = copy_from(alloc, volume, from, to, keep, first, turn)?;
     Ok(Copied {
         count: to.changes(),
-        whole: true,
+        whole,
     })
+}
+
+/// Copies all that is left of the packed list, as `copy_turn` does in turns: what stands on Side is then
+/// the whole packed list, and its text is a function of it.
+pub fn copy_rest<V: Volume>(
+    alloc: Global,
+    volume: &mut V,
+    from: &Index,
+    to: &mut CopyState,
+    keep: &OidSet,
+) -> Result<(), StoreError>
+    requires bound { All (λ p. p.serial < 2 ^ 64 - 1) from.now.transactions }
+    requires source { V.told → IsSource (seen (V.log volume.old) Area.Main) from.now }
+    requires copied { V.told → IsCopied (seen (V.log volume.old) Area.Side) to.old }
+    requires prefix { V.told → IsPrefixOf
+        (packed_by to.old.tid keep.now (listed (seen (V.log volume.old) Area.Main)))
+        (listed (seen (V.log volume.old) Area.Side)) }
+    ensures copied { V.told → OnOk result (IsCopied (seen (V.log volume.new) Area.Side) to.new) }
+    ensures list { V.told → OnOk result (listed (seen (V.log volume.new) Area.Side)
+        ≡ packed_by to.old.tid keep.now (listed (seen (V.log volume.old) Area.Main))) }
+    ensures text { V.told → OnOk result (seen (V.log volume.new) Area.Side
+        ≡ full_file (packed_by to.old.tid keep.now (listed (seen (V.log volume.old) Area.Main)))) }
+    ensures tid { to.new.tid ≡ to.old.tid }
+    ensures main { V.told → StaysAs Area.Main (V.log volume.old) (V.log volume.new) }
+    ensures counts { IsCopyCounted (V.read_faults volume.old) (V.read_faults volume.new)
+        (V.write_faults volume.old) (V.write_faults volume.new) result }
+{
+    let first = count_up_to(from.transactions(), to.newest());
+    let _ = copy_from(alloc, volume, from, to, keep, first, Extent::Rest)?;
+    Ok(())
 }

@@ -1,4 +1,4 @@
-use Rattle.std.proofs.Common.{◌≡◌, ◌∙◌, ap, inl}
+use Rattle.std.proofs.Common.{◌≡◌, ◌∙◌, inl}
 use Rattle.zb_volume.specs.declared.areas.Area.TheVariants.{Main}
 use Rattle.zb_volume.specs.Disk.{seen}
 use Rattle.file_store.specs.Opening.{Harm}

@@ -10,32 +10,32 @@ use Rattle.file_store.proofs.Packs.{copy_moments, counted_pack, pack_moments}
 use Rattle.file_store.proofs.Sides.{seen_stays}
 use Rattle.file_store.proofs.packing.pack_file.Goals as goal
 
-pub copy_turn-requires-clause-source : goal.copy_turn-requires-clause-source
-copy_turn-requires-clause-source g c = λ told. subst (λ (k : Kept). IsSource (seen (g.V.Volume.log c.args.volume.now) Main) k) (sym c.index.ensures.value) (c.requires.source told)
+pub copy_rest-requires-clause-source : goal.copy_rest-requires-clause-source
+copy_rest-requires-clause-source g c = λ told. subst (λ (k : Kept). IsSource (seen (g.V.Volume.log c.args.volume.now) Main) k) (sym c.index.ensures.value) (c.requires.source told)
 
 pub switch-requires-clause-counted : goal.switch-requires-clause-counted
-switch-requires-clause-counted g c = λ told. subst (λ (b : List ℕ). AreNumbersOf (listed b) c.args.numbers.now) (sym (seen_stays Main (g.V.Volume.log c.args.volume.now) (g.V.Volume.log c.copy_turn.new.volume) (c.copy_turn.ensures.main told))) (c.requires.counted told)
+switch-requires-clause-counted g c = λ told. subst (λ (b : List ℕ). AreNumbersOf (listed b) c.args.numbers.now) (sym (seen_stays Main (g.V.Volume.log c.args.volume.now) (g.V.Volume.log c.copy_rest.new.volume) (c.copy_rest.ensures.main told))) (c.requires.counted told)
 
-pub returns-in_err-copy_turn-clause-any_moment : goal.returns-in_err-copy_turn-clause-any_moment
-returns-in_err-copy_turn-clause-any_moment g c = λ told.
+pub returns-in_err-copy_rest-clause-any_moment : goal.returns-in_err-copy_rest-clause-any_moment
+returns-in_err-copy_rest-clause-any_moment g c = λ told.
     let log = g.V.Volume.log c.args.volume.now in
-    copy_moments log (g.V.Volume.log c.copy_turn.new.volume) (c.copy_turn.ensures.main told) (c.requires.settled told) (packed_by c.args.copy.tid c.args.keep.now (listed (seen log Main))) c.args.index.now.kept (c.requires.source told)
+    copy_moments log (g.V.Volume.log c.copy_rest.new.volume) (c.copy_rest.ensures.main told) (c.requires.settled told) (packed_by c.args.copy.tid c.args.keep.now (listed (seen log Main))) c.args.index.now.kept (c.requires.source told)
 
 pub returns-in-Ok-clause-counts : goal.returns-in-Ok-clause-counts
 returns-in-Ok-clause-counts g c = λ told.
     let log = g.V.Volume.log c.args.volume.now in
-    let mid = g.V.Volume.log c.copy_turn.new.volume in
-    counted_pack c.args.copy.tid c.args.keep.now (listed (seen log Main)) (listed (seen mid Main)) (listed (seen mid Side)) _ _ (ap listed (seen_stays Main log mid (c.copy_turn.ensures.main told)))
-    (c.in-Ok.ensures.list told) (c.in_ok-copy_turn.ensures.list told) (c.in-Ok.ensures.kept told) (c.in-Ok.ensures.dropped told)
+    let mid = g.V.Volume.log c.copy_rest.new.volume in
+    counted_pack c.args.copy.tid c.args.keep.now (listed (seen log Main)) (listed (seen mid Main)) (listed (seen mid Side)) _ _ (ap listed (seen_stays Main log mid (c.copy_rest.ensures.main told)))
+    (c.in-Ok.ensures.list told) (c.in_ok-copy_rest.ensures.list told) (c.in-Ok.ensures.kept told) (c.in-Ok.ensures.dropped told)
 
 pub returns-in-Ok-clause-any_moment : goal.returns-in-Ok-clause-any_moment
 returns-in-Ok-clause-any_moment g c = λ told.
     let log = g.V.Volume.log c.args.volume.now in
-    pack_moments log (g.V.Volume.log c.copy_turn.new.volume) (c.copy_turn.ensures.main told) (c.requires.settled told) (packed_by c.args.copy.tid c.args.keep.now (listed (seen log Main))) c.args.index.now.kept (g.V.Volume.log c.switch.new.volume) c.copy_turn.new.to
-    (c.requires.source told) (c.in_ok-copy_turn.ensures.copied told) (c.in_ok-copy_turn.ensures.list told) (c.switch.ensures.any_moment told)
+    pack_moments log (g.V.Volume.log c.copy_rest.new.volume) (c.copy_rest.ensures.main told) (c.requires.settled told) (packed_by c.args.copy.tid c.args.keep.now (listed (seen log Main))) c.args.index.now.kept (g.V.Volume.log c.switch.new.volume) c.copy_rest.new.to
+    (c.requires.source told) (c.in_ok-copy_rest.ensures.copied told) (c.in_ok-copy_rest.ensures.list told) (c.switch.ensures.any_moment told)
 
 pub returns-in-Err-clause-any_moment : goal.returns-in-Err-clause-any_moment
 returns-in-Err-clause-any_moment g c = λ told.
     let log = g.V.Volume.log c.args.volume.now in
-    pack_moments log (g.V.Volume.log c.copy_turn.new.volume) (c.copy_turn.ensures.main told) (c.requires.settled told) (packed_by c.args.copy.tid c.args.keep.now (listed (seen log Main))) c.args.index.now.kept (g.V.Volume.log c.switch.new.volume) c.copy_turn.new.to
-    (c.requires.source told) (c.in_ok-copy_turn.ensures.copied told) (c.in_ok-copy_turn.ensures.list told) (c.switch.ensures.any_moment told)
+    pack_moments log (g.V.Volume.log c.copy_rest.new.volume) (c.copy_rest.ensures.main told) (c.requires.settled told) (packed_by c.args.copy.tid c.args.keep.now (listed (seen log Main))) c.args.index.now.kept (g.V.Volume.log c.switch.new.volume) c.copy_rest.new.to
+    (c.requires.source told) (c.in_ok-copy_rest.ensures.copied told) (c.in_ok-copy_rest.ensures.list told) (c.switch.ensures.any_moment told)

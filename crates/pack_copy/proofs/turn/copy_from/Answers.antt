@@ -1,13 +1,18 @@
-use Rattle.std.proofs.Common.{◌≡◌, ℕ, ◌+◌, List, refl, sym, subst, ◌∙◌, arith}
+use Rattle.std.proofs.Common.{◌≡◌, ◌≤◌, ℕ, Bool, ◌+◌, List, refl, sym, subst, ◌∙◌, arith}
 use Rattle.zb_volume.specs.declared.areas.Area.TheVariants.{Main, Side}
+use Rattle.zb_volume.specs.Calls.{Event}
 use Rattle.zb_volume.specs.Disk.{seen}
 use Rattle.zb_volume.specs.Moments.{here}
+use Rattle.zb_model.specs.Packs.{change_count, changes_a_turn}
 use Rattle.fs_records.specs.Listed.{listed, reached_in}
 use Rattle.fs_recovery.specs.Opens.{newest_kept}
 use Rattle.fs_reading.specs.Main.{IsStartOf}
-use Rattle.pack_copy.specs.UpTo.{IsBelowNext, IsCopiedUpTo}
+use Rattle.pack_copy.specs.CopiedLaws.{copied_counts}
+use Rattle.pack_copy.specs.Copying.{CopyKept, IsSource}
+use Rattle.pack_copy.specs.UpTo.{GoesOn, IsBelowNext, IsCopiedUpTo}
 use Rattle.pack_copy.proofs.Turns.{all_gone, next_above, seen_same, start_is, stays_join}
 use Rattle.pack_copy.proofs.turn.copy_from.Goals as goal
+use Rattle.pack_copy.proofs.turn.copy_from.Goals.{In_ok-over}
 
 pub copy-init : goal.copy-init
 copy-init g c =
@@ -20,6 +25,9 @@ copy-init g c =
       counts = record { reads_same = refl; writes_same = refl };
     }
 
+pub copy_one-requires-clause-source : goal.copy_one-requires-clause-source
+copy_one-requires-clause-source g c = λ told. subst (λ (m : List ℕ). IsSource m c.args.from.now) (sym (seen_same Main _ _ (c.copy.invariant.main told))) (c.requires.source told)
+
 pub copy_one-requires-clause-next : goal.copy_one-requires-clause-next
 copy_one-requires-clause-next g c = λ told.
     let main = seen (g.V.Volume.log c.args.volume.now) Main in
@@ -31,33 +39,62 @@ copy_one-requires-clause-next g c = λ told.
       subst (λ (m : List ℕ). IsCopiedUpTo (listed m) (seen (g.V.Volume.log c.copy.volume) Side) c.copy.to c.args.keep.now (c.args.first + c.copy.start-index)) same (c.copy.invariant.up_to told),
     )
 
-pub returns-in_err-copy_one-clause-main : goal.returns-in_err-copy_one-clause-main
-returns-in_err-copy_one-clause-main g c = λ told. stays_join Main _ _ _ (c.copy.invariant.main told) (c.copy_one.ensures.main told)
+pub returns-in_err-over-clause-main : goal.returns-in_err-over-clause-main
+returns-in_err-over-clause-main g c = λ told. stays_join Main _ _ _ (c.copy.invariant.main told) (c.copy_one.ensures.main told)
+
+-- how the next transaction was gone over
+next : (g : _) (c : In_ok-over g) → g.V.Volume.told
+    → GoesOn (listed (seen (g.V.Volume.log c.args.volume.now) Main)) (seen (g.V.Volume.log c.copy_one.new.volume) Side) c.copy_one.new.to c.args.keep.now (c.args.first + c.copy.start-index) c.in_ok-over.over
+next g c told =
+    let main = seen (g.V.Volume.log c.args.volume.now) Main in
+    let same : main ≡ seen (g.V.Volume.log c.copy.volume) Main = sym (seen_same Main _ _ (c.copy.invariant.main told)) in
+    let source = c.requires.source told in
+    let start = start_is c.transactions-starts.result.now (reached_in main).starts c.args.first c.copy.start-index c.start-item.result (c.transactions-starts.ensures.value ∙ source.index.transactions) c.copy-test.true c.start-item.is in
+    subst (λ (m : List ℕ). GoesOn (listed m) (seen (g.V.Volume.log c.copy_one.new.volume) Side) c.copy_one.new.to c.args.keep.now (c.args.first + c.copy.start-index) c.in_ok-over.over) (sym same)
+    (c.in_ok-over.ensures.next told (c.args.first + c.copy.start-index)
+    (subst (λ (m : List ℕ). IsStartOf (reached_in m) (c.args.first + c.copy.start-index) c.start-item.result) same start)
+    (subst (λ (m : List ℕ). IsCopiedUpTo (listed m) (seen (g.V.Volume.log c.copy.volume) Side) c.copy.to c.args.keep.now (c.args.first + c.copy.start-index)) same (c.copy.invariant.up_to told)))
 
 pub copy-preserved : goal.copy-preserved
 copy-preserved g c =
     let main = seen (g.V.Volume.log c.args.volume.now) Main in
-    let next : (c.args.first + c.copy.start-index) + 1 ≡ c.args.first + (c.copy.start-index + 1) = omega arith in
+    let after : (c.args.first + c.copy.start-index) + 1 ≡ c.args.first + (c.copy.start-index + 1) = omega arith in
     record {
       main = λ told. stays_join Main _ _ _ (c.copy.invariant.main told) (c.copy_one.ensures.main told);
       up_to = λ told.
-          let same : main ≡ seen (g.V.Volume.log c.copy.volume) Main = sym (seen_same Main _ _ (c.copy.invariant.main told)) in
-          let source = c.requires.source told in
-          let start = start_is c.transactions-starts.result.now (reached_in main).starts c.args.first c.copy.start-index c.start-item.result (c.transactions-starts.ensures.value ∙ source.index.transactions) c.copy-test.true c.start-item.is in
-          subst (λ (m : List ℕ). IsCopiedUpTo (listed m) (seen (g.V.Volume.log c.copy_one.new.volume) Side) c.copy_one.new.to c.args.keep.now (c.args.first + (c.copy.start-index + 1))) (sym same)
-          (subst (λ (n : ℕ). IsCopiedUpTo (listed (seen (g.V.Volume.log c.copy.volume) Main)) (seen (g.V.Volume.log c.copy_one.new.volume) Side) c.copy_one.new.to c.args.keep.now n) next
-          (c.in_ok-copy_one.ensures.next told (c.args.first + c.copy.start-index)
-          (subst (λ (m : List ℕ). IsStartOf (reached_in m) (c.args.first + c.copy.start-index) c.start-item.result) same start)
-          (subst (λ (m : List ℕ). IsCopiedUpTo (listed m) (seen (g.V.Volume.log c.copy.volume) Side) c.copy.to c.args.keep.now (c.args.first + c.copy.start-index)) same (c.copy.invariant.up_to told))));
-      above = next_above c.transactions-starts.result.now c.args.from.now.transactions c.args.first c.copy.start-index (newest_kept c.copy_one.new.to.index) c.start-item.result c.transactions-starts.ensures.value c.transactions-starts.ensures.rising c.copy-test.true c.start-item.is c.in_ok-copy_one.ensures.newest;
+          subst (λ (n : ℕ). IsCopiedUpTo (listed main) (seen (g.V.Volume.log c.copy_one.new.volume) Side) c.copy_one.new.to c.args.keep.now n) after
+          (subst (λ (b : Bool). GoesOn (listed main) (seen (g.V.Volume.log c.copy_one.new.volume) Side) c.copy_one.new.to c.args.keep.now (c.args.first + c.copy.start-index) b) c.if-not-over.false (next g c.before told));
+      above = next_above c.transactions-starts.result.now c.args.from.now.transactions c.args.first c.copy.start-index (newest_kept c.copy_one.new.to.index) c.start-item.result c.transactions-starts.ensures.value c.transactions-starts.ensures.rising c.copy-test.true c.start-item.is c.in_ok-over.ensures.newest;
       tid = c.copy_one.ensures.tid ∙ c.copy.invariant.tid;
       counts = record {
-        reads_same = c.in_ok-copy_one.ensures.counts.reads_same ∙ c.copy.invariant.counts.reads_same;
-        writes_same = c.in_ok-copy_one.ensures.counts.writes_same ∙ c.copy.invariant.counts.writes_same;
+        reads_same = c.in_ok-over.ensures.counts.reads_same ∙ c.copy.invariant.counts.reads_same;
+        writes_same = c.in_ok-over.ensures.counts.writes_same ∙ c.copy.invariant.counts.writes_same;
       };
     }
 
-pub returns-clause-all : goal.returns-clause-all
-returns-clause-all g c = λ told.
-    let all = all_gone c.transactions-starts.result.now c.args.from.now.transactions c.args.first c.copy.start-index c.transactions-starts.ensures.value c.requires.within c.copy-test.false c.copy.auto.start-index-end in
-    subst (λ (n : ℕ). IsCopiedUpTo (listed (seen (g.V.Volume.log c.args.volume.now) Main)) (seen (g.V.Volume.log c.copy.volume) Side) c.copy.to c.args.keep.now n) all (c.copy.invariant.up_to told)
+pub returns-then-not-over-clause-ends : goal.returns-then-not-over-clause-ends
+returns-then-not-over-clause-ends g c = λ told.
+    let main = seen (g.V.Volume.log c.args.volume.now) Main in
+    let still = c.in_ok-over.ensures.unmoved c.if-not-over.true in
+    record {
+      more = c.copy.start-index;
+      up_to = subst (λ (k : CopyKept). IsCopiedUpTo (listed main) (seen (g.V.Volume.log c.copy_one.new.volume) Side) k c.args.keep.now (c.args.first + c.copy.start-index)) (sym still.1)
+          (subst (λ (l : List Event). IsCopiedUpTo (listed main) (seen l Side) c.copy.to c.args.keep.now (c.args.first + c.copy.start-index)) (sym still.0) (c.copy.invariant.up_to told));
+      end = subst (λ (b : Bool). GoesOn (listed main) (seen (g.V.Volume.log c.copy_one.new.volume) Side) c.copy_one.new.to c.args.keep.now (c.args.first + c.copy.start-index) b) c.if-not-over.true (next g c.before told);
+    }
+
+pub returns-then-not-over-clause-turn : goal.returns-then-not-over-clause-turn
+returns-then-not-over-clause-turn g c = λ told before is none.
+    let side = seen (g.V.Volume.log c.copy.volume) Side in
+    let k = copied_counts side c.copy.to (c.copy.invariant.up_to told).copied in
+    let changes = c.changes.ensures (listed side) k.0 k.1 in
+    let still = c.in_ok-over.ensures.unmoved c.if-not-over.true in
+    let passed = c.is_over-enough.ensures.turn before is (c.in_ok-over.ensures.enough c.if-not-over.true) in
+    subst (λ (l : List Event). before + changes_a_turn ≤ change_count (listed (seen l Side))) (sym still.0) (omega (arith, passed, changes))
+
+pub returns-clause-ends : goal.returns-clause-ends
+returns-clause-ends g c = λ told. record {
+  more = c.copy.start-index;
+  up_to = c.copy.invariant.up_to told;
+  end = all_gone c.transactions-starts.result.now c.args.from.now.transactions c.args.first c.copy.start-index c.transactions-starts.ensures.value c.requires.within c.copy-test.false c.copy.auto.start-index-end;
+}

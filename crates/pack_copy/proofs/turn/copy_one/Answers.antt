@@ -6,7 +6,7 @@ use Rattle.fs_records.specs.Listed.{listed, reached_in}
 use Rattle.pack_copy.specs.Copying.{CopyKept, IsCopied}
 use Rattle.pack_copy.specs.UpTo.{IsCopiedUpTo}
 use Rattle.pack_copy.proofs.Lefts.{source_begins}
-use Rattle.pack_copy.proofs.Turns.{both_ok, is_start, stays_same, later_left, none_left, one_more}
+use Rattle.pack_copy.proofs.Turns.{is_start, stays_same, later_left, more_left, none_left, one_more}
 use Rattle.pack_copy.proofs.turn.copy_one.Goals as goal
 
 pub read_at-requires : goal.read_at-requires
@@ -29,15 +29,24 @@ append-requires-clause-later g c = λ told.
     subst (λ (b : List ℕ). newest_tid (listed b) < c.in-Some.left.tid) (ap (λ l. seen l Side) (sym c.read_at.ensures.same))
     (later_left main (seen (g.V.Volume.log c.args.volume.now) Side) c.args.from.now c.args.to.now c.args.keep.now n.0 c.to.inside.tid x (c.requires.source told) get (ap (λ (k : CopyKept). k.tid) c.to.view_is) n.2 c.in-Some.left (sym c.left_of.ensures.value ∙ c.in-Some.is))
 
-pub returns-in-Some-clause-next : goal.returns-in-Some-clause-next
-returns-in-Some-clause-next g c = λ told number start upto.
+pub returns-in_ok-append-in-Some-clause-next : goal.returns-in_ok-append-in-Some-clause-next
+returns-in_ok-append-in-Some-clause-next g c = λ told number start upto.
     let main = seen (g.V.Volume.log c.args.volume.now) Main in
     let side = seen (g.V.Volume.log c.args.volume.now) Side in
     let x = c.in_ok-transaction.transaction in
     let get = c.in_ok-transaction.ensures.transaction told (reached_in main) number (source_begins main c.args.from.now (c.requires.source told)) start in
-    both_ok c.append.result _ _ _ (c.append.ensures.copied told) (c.append.ensures.list told)
-    (λ copied list. one_more main side c.args.from.now c.args.to.now c.args.keep.now number c.to.inside.tid x (c.requires.source told) get (ap (λ (k : CopyKept). k.tid) c.to.view_is) upto c.in-Some.left _ _
-    (sym c.left_of.ensures.value ∙ c.in-Some.is) copied c.append.ensures.tid (list ∙ ap (λ l. listed (seen l Side) ++ c.in-Some.left ∷ []) c.read_at.ensures.same))
+    one_more main side c.args.from.now c.args.to.now c.args.keep.now number c.to.inside.tid x (c.requires.source told) get (ap (λ (k : CopyKept). k.tid) c.to.view_is) upto c.in-Some.left _ _
+    (sym c.left_of.ensures.value ∙ c.in-Some.is) (c.in_ok-append-in-Some.ensures.copied told) c.append.ensures.tid (c.in_ok-append-in-Some.ensures.list told ∙ ap (λ l. listed (seen l Side) ++ c.in-Some.left ∷ []) c.read_at.ensures.same)
+
+pub returns-then-enough-clause-next : goal.returns-then-enough-clause-next
+returns-then-enough-clause-next g c = λ told number start upto.
+    let main = seen (g.V.Volume.log c.args.volume.now) Main in
+    let x = c.in_ok-transaction.transaction in
+    let get = c.in_ok-transaction.ensures.transaction told (reached_in main) number (source_begins main c.args.from.now (c.requires.source told)) start in
+    more_left main (seen (g.V.Volume.log c.args.volume.now) Side) c.args.from.now c.args.to.now c.args.keep.now number c.to.inside.tid x (c.requires.source told) get (ap (λ (k : CopyKept). k.tid) c.to.view_is) upto c.in-Some.left (sym c.left_of.ensures.value ∙ c.in-Some.is)
+
+pub returns-then-enough-clause-main : goal.returns-then-enough-clause-main
+returns-then-enough-clause-main g c told = stays_same Main _ _ c.read_at.ensures.same
 
 pub returns-in-None-clause-next : goal.returns-in-None-clause-next
 returns-in-None-clause-next g c = λ told number start upto.
