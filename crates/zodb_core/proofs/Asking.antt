@@ -88,7 +88,7 @@ held_answered n None r is = absurd cc
 held_answered n (Some v) r is = by_holder-answered (v.session == n) v.session r is
 
 -- a request that may not vote is refused at once
-refused_at_once : {R F : Type 0} (rules : Rules) (m : Machine) (n : ℕ) (q : Request) (r : Refusal) (hub : HubState R F) (stamps : Option (List Stamp)) → StandsForMachine hub m
+pub refused_at_once : {R F : Type 0} (rules : Rules) (m : Machine) (n : ℕ) (q : Request) (r : Refusal) (hub : HubState R F) (stamps : Option (List Stamp)) → StandsForMachine hub m
     → early_refusal m n q ≡ Some r → outcome_of (reply.Refused r) ≡ Answered → MakesStep rules m n q (reply.Refused r) hub hub stamps stamps
 refused_at_once rules m n q r hub stamps stands early is =
     answered rules m n q (reply.Refused r) m hub hub stamps (record { reads = omega arith; others = omega arith }) is

@@ -14,6 +14,7 @@ use Rattle.zb_model.specs.Database.{newest_tid}
 use Rattle.zb_model.specs.Queries.{found_below}
 use Rattle.commit_phases.specs.Decision.{vote_decision}
 use Rattle.undo_records.specs.Undone.{undone_of}
+use Rattle.pack_reach.specs.Reached.{unreadable}
 use Rattle.zodb_core.specs.declared.reply.Reply.TheVariants as reply
 use Rattle.zodb_core.specs.declared.request.Request.{Request}
 use Rattle.zodb_core.specs.declared.request.Request.TheVariants as request
@@ -23,7 +24,7 @@ use Rattle.zodb_core.specs.Laws.{JournalIsFull, OverfillsJournal, changes_asked}
 use Rattle.zodb_core.specs.Machine.{Machine, MachineVote, Rules}
 use Rattle.zodb_core.specs.Sound.{IsDistinctRequest}
 use Rattle.zodb_core.specs.StepCases.{early_answers}
-use Rattle.zodb_core.specs.Steps.{Stepped, changes_in_journal, changes_undone, early_refusal, finish_gives, finish_step, journal_limit, loaded, replied_refusal, request_step, step_of, unless_early, vote_at, vote_counted, vote_step, with_vote, transaction_with}
+use Rattle.zodb_core.specs.Steps.{Stepped, changes_in_journal, changes_undone, early_refusal, finish_gives, finish_step, journal_limit, loaded, pack_tid, replied_refusal, request_step, step_of, switch_unless, unless_early, vote_at, vote_counted, vote_step, with_vote, transaction_with}
 
 -- the reply says that the journal is full, with this count
 abbrev IsFullReply : ℕ → Stepped → Type 0
@@ -83,6 +84,10 @@ finish_full : (m : Machine) (n count : ℕ) (vote : Option MachineVote) → IsFu
 finish_full m n count None is = cc
 finish_full m n count (Some v) is = writes_full m n count v.writes is
 
+pack_full : (named : List ℕ → Option (List ℕ)) (m : Machine) (t count : ℕ) (w : Option (ℕ × ℕ)) → IsFullReply count (switch_unless named m t w) → ⊥
+pack_full named m t count (Some w) is = cc
+pack_full named m t count None is = cc
+
 request_full : (rules : Rules) (m : Machine) (n : ℕ) (q : Request) (stamp count : ℕ) → IsFullReply count (request_step rules m n q stamp) → OverfillsJournal m (changes_asked rules m q) count
 request_full rules m n request.Front stamp count is = absurd cc
 request_full rules m n (request.LoadBefore oid front) stamp count is = absurd (loaded_full m oid count (found_below oid front m.list) is)
@@ -97,6 +102,7 @@ request_full rules m n request.Finish stamp count is = absurd (finish_full m n c
 request_full rules m n request.Abort stamp count is = absurd cc
 request_full rules m n (request.History oid) stamp count is = absurd cc
 request_full rules m n request.UndoLog stamp count is = absurd cc
+request_full rules m n (request.Pack tid) stamp count is = absurd (pack_full rules.named m (pack_tid tid m.list) count (unreadable rules.named (pack_tid tid m.list) m.list) is)
 request_full rules m n request.Close stamp count is = absurd cc
 
 early_full : (m : Machine) (count : ℕ) (early : Option Refusal) (made : Stepped) → AnswersIfSome early → IsFullReply count (unless_early early m made) → (early ≡ None) × IsFullReply count made
@@ -139,6 +145,7 @@ request_says rules m n request.Finish stamp count much = none_says m count (requ
 request_says rules m n request.Abort stamp count much = none_says m count (request_step rules m n request.Abort stamp) much
 request_says rules m n (request.History oid) stamp count much = none_says m count (request_step rules m n (request.History oid) stamp) much
 request_says rules m n request.UndoLog stamp count much = none_says m count (request_step rules m n request.UndoLog stamp) much
+request_says rules m n (request.Pack tid) stamp count much = none_says m count (request_step rules m n (request.Pack tid) stamp) much
 request_says rules m n request.Close stamp count much = none_says m count (request_step rules m n request.Close stamp) much
 
 says_full : (rules : Rules) (m : Machine) (n : ℕ) (q : Request) (stamp count : ℕ) → (early_refusal m n q ≡ None) × OverfillsJournal m (changes_asked rules m q) count → IsFullReply count (step_of rules m n q stamp)

@@ -1,8 +1,9 @@
 -- Laws of the machine, each as it is stated.
 use Rattle.zodb_core.specs.HistoryLaws.{entry_numbers, fronts_rise, history_counts, left_greatest, numbers_new, step_answered}
-use Rattle.zodb_core.specs.Laws.{CountsNeverFall, EndingsKeepSound, FrontsNeverFall, GreatestNeverFalls, HistoriesKeepSound, HistoriesOnlyGrow, ListsOnlyGrow, ListsStayDatabases, MachineStartsSound, NewNumbersAreNew, NewestNeverFalls, NumbersComeBehindGreatest, OpeningsKeepSound, StatesBelowFrontsStay, StepsAreAnswered, StepsKeepSound}
+use Rattle.zodb_core.specs.Laws.{CountsNeverFall, EndingsKeepSound, FrontsNeverFall, GreatestNeverFalls, HistoriesKeepSound, HistoriesOnlyGrow, HistoriesComeTo, ListsOnlyGrow, ListsStayDatabases, MachineStartsSound, NewNumbersAreNew, NewestNeverFalls, NumbersComeBehindGreatest, OpeningsKeepSound, PacksKeepFronts, PacksKeepViews, RecordsBelowFrontsStood, StatesBelowFrontsStay, StepsAreAnswered, StepsGrowOrPack, StepsKeepSound}
 use Rattle.zodb_core.specs.Machine.{machine_over}
-use Rattle.zodb_core.specs.SoundLaws.{content_grown, front_grown, history_grows, history_sound, left_grows, left_sound, newest_grown, opened_sound, over_sound, revision_grown, step_sound}
+use Rattle.zodb_core.specs.SoundLaws.{content_grown, front_come, history_grows, history_comes, history_sound, left_becomes, left_grows, left_sound, newest_come, opened_sound, over_sound, revision_grown, step_sound}
+use Rattle.zodb_core.specs.SwitchLaws.{front_packed, pack_keeps, record_come}
 
 pub starts_sound : MachineStartsSound
 starts_sound list is = over_sound list is
@@ -22,17 +23,32 @@ histories_sound rules m entries sound distinct = history_sound rules m entries s
 pub stay_databases : ListsStayDatabases
 stay_databases rules list counts entries is distinct legal = (history_sound rules (machine_over list) entries (over_sound list is) distinct).database
 
+pub steps_become : StepsGrowOrPack
+steps_become rules m n q stamp outcome sound = left_becomes rules m n q stamp outcome sound
+
 pub lists_grow : ListsOnlyGrow
-lists_grow rules m n q stamp outcome sound = left_grows rules m n q stamp outcome sound
+lists_grow rules m n q stamp outcome not sound = left_grows rules m n q stamp outcome not sound
+
+pub histories_come : HistoriesComeTo
+histories_come rules m entries sound distinct = history_comes rules m entries sound distinct
 
 pub histories_grow : HistoriesOnlyGrow
-histories_grow rules m entries sound distinct = history_grows rules m entries sound distinct
+histories_grow rules m entries sound distinct none = history_grows rules m entries sound distinct none
 
 pub newest_rises : NewestNeverFalls
-newest_rises list grown grows = (newest_grown list grown grows, front_grown list grown grows)
+newest_rises list now leads = (newest_come list now leads, front_come list now leads)
 
 pub states_stay : StatesBelowFrontsStay
 states_stay oid front list grown grows up = (revision_grown oid front list grown grows up, content_grown oid front list grown grows up)
+
+pub records_stood : RecordsBelowFrontsStood
+records_stood oid front serial bytes list now leads up is = record_come oid front serial bytes list now leads up is
+
+pub views_kept : PacksKeepViews
+views_kept rules m n tid stamp is = pack_keeps rules m n tid stamp is
+
+pub fronts_kept : PacksKeepFronts
+fronts_kept rules m n tid stamp = front_packed rules m n tid stamp
 
 pub fronts_never : FrontsNeverFall
 fronts_never rules m counts entries sound distinct legal = fronts_rise rules m counts entries sound distinct legal

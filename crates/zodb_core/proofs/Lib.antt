@@ -5,4 +5,5 @@ pub mod Late
 pub mod Lawful
 pub mod Legal
 pub mod Stepping
+pub mod Switching
 pub mod Votes

@@ -15,8 +15,8 @@ use Rattle.zodb_core.specs.History.{Entry, HistoryStep, IsLegal, IsNextEntry, Ma
 use Rattle.zodb_core.specs.Laws.{AreNewNumbers, ComeBehindGreatest}
 use Rattle.zodb_core.specs.Machine.{Machine, Rules, front_of}
 use Rattle.zodb_core.specs.Outcomes.{Answered, AreLaterCounts, EndsFor, FaultCounts, NoMemory, ReadingFailed, StepOutcome, StoreFailed, machine_left, outcome_of}
-use Rattle.zodb_core.specs.Sound.{AreDistinctRequests, IsDistinctRequest, IsSoundMachine}
-use Rattle.zodb_core.specs.SoundLaws.{behind_grows, behind_sound, front_later, history_sound}
+use Rattle.zodb_core.specs.Sound.{AreDistinctRequests, IsSoundMachine}
+use Rattle.zodb_core.specs.SoundLaws.{behind_becomes, behind_sound, front_later, history_sound}
 use Rattle.zodb_core.specs.StepCases.{StepCases, by_ending, by_step}
 use Rattle.zodb_core.specs.Steps.{Stepped, loaded, step_of}
 
@@ -27,8 +27,8 @@ found_answered m oid (found.Held serial bytes end) = refl
 found_answered m oid (found.Absent serial) = refl
 found_answered m oid found.Nothing = refl
 
-answered_cases : (m : Machine) (n : ℕ) (distinct : Type 0) → StepCases (λ s. outcome_of s.reply ≡ Answered) m n distinct
-answered_cases m n distinct = record {
+answered_cases : (m : Machine) (n : ℕ) (q : Request) → StepCases (λ s. outcome_of s.reply ≡ Answered) m n q
+answered_cases m n q = record {
   refused = λ r is. is.0;
   full = λ count. refl;
   spent = refl;
@@ -42,11 +42,12 @@ answered_cases m n distinct = record {
   dropped = refl;
   listed = λ revisions. refl;
   logged = λ lines. refl;
+  packed = λ is t keep free below. refl;
   closed = refl;
 }
 
 pub step_answered : (rules : Rules) (m : Machine) (n : ℕ) (q : Request) (stamp : ℕ) → outcome_of (step_of rules m n q stamp).reply ≡ Answered
-step_answered rules m n q stamp = by_step (λ s. outcome_of s.reply ≡ Answered) rules m n q stamp (answered_cases m n (IsDistinctRequest q))
+step_answered rules m n q stamp = by_step (λ s. outcome_of s.reply ≡ Answered) rules m n q stamp (answered_cases m n q)
 
 -- a step that was made and is answered is the machine's
 made_as : (rules : Rules) (m : Machine) (n : ℕ) (q : Request) (stamp : ℕ) (made : Stepped) (a b : FaultCounts) (o : StepOutcome) → o ≡ Answered → EndsFor rules m n q stamp made a b o → made ≡ step_of rules m n q stamp
@@ -69,8 +70,8 @@ no_front m oid (found.Held serial bytes end) f e = absurd cc
 no_front m oid (found.Absent serial) f e = absurd cc
 no_front m oid found.Nothing f e = absurd cc
 
-front_cases : (m : Machine) (n : ℕ) (distinct : Type 0) → StepCases (TellsFront m) m n distinct
-front_cases m n distinct = record {
+front_cases : (m : Machine) (n : ℕ) (q : Request) → StepCases (TellsFront m) m n q
+front_cases m n q = record {
   refused = λ r is f e. absurd cc;
   full = λ count f e. absurd cc;
   spent = λ f e. absurd cc;
@@ -84,12 +85,13 @@ front_cases m n distinct = record {
   dropped = λ f e. absurd cc;
   listed = λ revisions f e. absurd cc;
   logged = λ lines f e. absurd cc;
+  packed = λ is t keep free below f e. absurd cc;
   closed = λ f e. absurd cc;
 }
 
 -- a front that is told is the list's
 pub step_front : (rules : Rules) (m : Machine) (n : ℕ) (q : Request) (stamp f : ℕ) → front_in (step_of rules m n q stamp).reply ≡ Some f → f ≡ front_of m.list
-step_front rules m n q stamp f e = by_step (TellsFront m) rules m n q stamp (front_cases m n (IsDistinctRequest q)) f e
+step_front rules m n q stamp f e = by_step (TellsFront m) rules m n q stamp (front_cases m n q) f e
 
 front_answered : (r : Reply) (f : ℕ) → front_in r ≡ Some f → outcome_of r ≡ Answered
 front_answered (reply.Front front news switches) f e = refl
@@ -102,6 +104,7 @@ front_answered reply.Empty f e = absurd cc
 front_answered reply.Aborted f e = absurd cc
 front_answered (reply.History list) f e = absurd cc
 front_answered (reply.UndoLog list) f e = absurd cc
+front_answered (reply.Packed kept dropped) f e = absurd cc
 front_answered reply.Closed f e = absurd cc
 front_answered (reply.Refused r) f e = absurd cc
 
@@ -118,7 +121,7 @@ fronts_from rules m counts [] low sound distinct legal up = tt
 fronts_from rules m counts (e ∷ entries) low sound distinct legal up =
     by_cases (front_told e) refl
     (fronts_from rules (machine_behind rules m e) (counts_behind counts e) entries low (behind_sound rules m e sound distinct.0) distinct.1 legal.1
-    (omega (arith, up, front_later m.list (machine_behind rules m e).list (behind_grows rules m e sound))))
+    (omega (arith, up, front_later m.list (machine_behind rules m e).list (behind_becomes rules m e sound))))
   where
     by_cases : (o : Option ℕ) → front_told e ≡ o → AllByRecursion (λ f. low ≤ f) (fronts_told entries) → AllByRecursion (λ f. low ≤ f) (filter_map front_told (e ∷ entries))
     by_cases None is rest = rw is rest
@@ -136,7 +139,7 @@ fronts_rise rules m counts (e ∷ entries) sound distinct legal =
     rest_from : (f : ℕ) → front_told e ≡ Some f → AllByRecursion (λ g. f ≤ g) (fronts_told entries)
     rest_from f is =
         fronts_from rules (machine_behind rules m e) (counts_behind counts e) entries f (behind_sound rules m e sound distinct.0) distinct.1 legal.1
-        (omega (arith, entry_front rules m counts e f legal.0 is, front_later m.list (machine_behind rules m e).list (behind_grows rules m e sound)))
+        (omega (arith, entry_front rules m counts e f legal.0 is, front_later m.list (machine_behind rules m e).list (behind_becomes rules m e sound)))
 
     by_cases : (o : Option ℕ) → front_told e ≡ o → AllPairs (λ earlier later. earlier ≤ later) (fronts_told entries) → AllPairs (λ earlier later. earlier ≤ later) (filter_map front_told (e ∷ entries))
     by_cases None is rest = rw is rest
@@ -145,8 +148,8 @@ fronts_rise rules m counts (e ∷ entries) sound distinct legal =
 
 -- ---- new numbers
 
-greatest_cases : (m : Machine) (n : ℕ) (distinct : Type 0) → StepCases (λ s. m.greatest ≤ s.machine.greatest) m n distinct
-greatest_cases m n distinct = record {
+greatest_cases : (m : Machine) (n : ℕ) (q : Request) → StepCases (λ s. m.greatest ≤ s.machine.greatest) m n q
+greatest_cases m n q = record {
   refused = λ r is. omega arith;
   full = λ count. omega arith;
   spent = omega arith;
@@ -160,11 +163,12 @@ greatest_cases m n distinct = record {
   dropped = omega arith;
   listed = λ revisions. omega arith;
   logged = λ lines. omega arith;
+  packed = λ is t keep free below. omega arith;
   closed = omega arith;
 }
 
 pub left_greatest : (rules : Rules) (m : Machine) (n : ℕ) (q : Request) (stamp : ℕ) (outcome : StepOutcome) → m.greatest ≤ (machine_left rules m n q stamp outcome).greatest
-left_greatest rules m n q stamp outcome = by_ending (λ x. m.greatest ≤ x.greatest) rules m n q stamp outcome (omega arith) (omega arith) (greatest_cases m n (IsDistinctRequest q))
+left_greatest rules m n q stamp outcome = by_ending (λ x. m.greatest ≤ x.greatest) rules m n q stamp outcome (omega arith) (omega arith) (greatest_cases m n q)
 
 pub behind_greatest : (rules : Rules) (m : Machine) (e : Entry) → m.greatest ≤ (machine_behind rules m e).greatest
 behind_greatest rules m (Opened n) = omega arith
@@ -188,8 +192,8 @@ new_numbers m count range e =
     let is : given ≡ range = same_Some given range e in
     (sym (ap (λ (r : NumberRange). r.first) is), omega (arith, ap (λ (r : NumberRange). r.first) is, ap (λ (r : NumberRange). r.count) is))
 
-numbers_cases : (m : Machine) (n : ℕ) (distinct : Type 0) → StepCases (HandsBehind m) m n distinct
-numbers_cases m n distinct = record {
+numbers_cases : (m : Machine) (n : ℕ) (q : Request) → StepCases (HandsBehind m) m n q
+numbers_cases m n q = record {
   refused = λ r is range e. absurd cc;
   full = λ count range e. absurd cc;
   spent = λ range e. absurd cc;
@@ -203,12 +207,13 @@ numbers_cases m n distinct = record {
   dropped = λ range e. absurd cc;
   listed = λ revisions range e. absurd cc;
   logged = λ lines range e. absurd cc;
+  packed = λ is t keep free below range e. absurd cc;
   closed = λ range e. absurd cc;
 }
 
 pub step_numbers : (rules : Rules) (m : Machine) (n : ℕ) (q : Request) (stamp : ℕ) (range : NumberRange) → numbers_in (step_of rules m n q stamp).reply ≡ Some range
     → (range.first ≡ m.greatest + 1) × ((step_of rules m n q stamp).machine.greatest + 1 ≡ end_of_range range)
-step_numbers rules m n q stamp range e = by_step (HandsBehind m) rules m n q stamp (numbers_cases m n (IsDistinctRequest q)) range e
+step_numbers rules m n q stamp range e = by_step (HandsBehind m) rules m n q stamp (numbers_cases m n q) range e
 
 numbers_answered : (r : Reply) (range : NumberRange) → numbers_in r ≡ Some range → outcome_of r ≡ Answered
 numbers_answered (reply.Front front news switches) range e = refl
@@ -221,6 +226,7 @@ numbers_answered reply.Empty range e = refl
 numbers_answered reply.Aborted range e = refl
 numbers_answered (reply.History list) range e = refl
 numbers_answered (reply.UndoLog list) range e = refl
+numbers_answered (reply.Packed kept dropped) range e = refl
 numbers_answered reply.Closed range e = refl
 numbers_answered (reply.Refused r) range e = absurd cc
 

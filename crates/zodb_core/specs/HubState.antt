@@ -106,14 +106,18 @@ pub record MakesStep {R F : Type 0} (rules : Rules) (m : Machine) (n : ℕ) (q :
   pub clock : HasTicked ticks stamp before after
   pub stands : StandsForMachine new left
 
--- replies of steps that may have changed the store's volume; any other reply, each refusal but a store fault among them, leaves it
-abbrev pub may_write : Reply → Bool
-may_write reply.Voted = true
-may_write (reply.Committed tid) = true
-may_write reply.Aborted = true
-may_write reply.Closed = true
-may_write (reply.Refused refusal.StoreFault) = true
-may_write _ = false
+-- Replies of steps that may have changed the store's volume; any other reply, each refusal but a store fault among them, leaves it. But a pack that isn't made for a
+-- failed read or for want of memory may have been copied in part.
+abbrev pub may_write : Bool → Reply → Bool
+may_write packs reply.Voted = true
+may_write packs (reply.Committed tid) = true
+may_write packs reply.Aborted = true
+may_write packs (reply.Packed kept dropped) = true
+may_write packs reply.Closed = true
+may_write packs (reply.Refused refusal.StoreFault) = true
+may_write packs (reply.Refused refusal.ReadFault) = packs
+may_write packs (reply.Refused refusal.Memory) = packs
+may_write packs _ = false
 
 -- the store failed
 abbrev pub is_store_failed : StepOutcome → Bool
@@ -122,8 +126,8 @@ is_store_failed _ = false
 
 -- Whatever the store tells: neither count of faults has fallen, a fault is answered only where its count rose and anything else only where neither moved; the count
 -- of other faults moves only where the store failed; the hub keeps its rules; its store is broken exactly where the reply says so; and a refusal, but for a store
--- fault, has changed no volume.
-pub record StepsSafely {R F : Type 0} (reply : Reply) (old new : HubState R F) : Type 0 where
+-- fault, has changed no volume, unless it is one of a pack.
+pub record StepsSafely {R F : Type 0} (packs : Bool) (reply : Reply) (old new : HubState R F) : Type 0 where
   pub resolver : new.resolver ≡ old.resolver
   pub refs : new.refs ≡ old.refs
   pub sessions : length new.sessions ≡ length old.sessions
@@ -131,7 +135,7 @@ pub record StepsSafely {R F : Type 0} (reply : Reply) (old new : HubState R F) :
   pub cause : IsCauseOf (counts_of old.store) (counts_of new.store) (outcome_of reply)
   pub others : is_store_failed (outcome_of reply) ≡ false → new.store.faults ≡ old.store.faults
   pub broken : old.store.broken ≡ false → new.store.broken ≡ is_store_failed (outcome_of reply)
-  pub log : may_write reply ≡ false → new.store.log ≡ old.store.log
+  pub log : may_write packs reply ≡ false → new.store.log ≡ old.store.log
 
 -- bytes stand for the list before a step, or for the one behind it
 abbrev pub IsBeforeOrBehind : (List ℕ → List Transaction → Type 0) → Rules → Machine → ℕ → Request → List ℕ → Type 0

@@ -1,8 +1,9 @@
 -- Laws of the machine: what holds of every step and of every history, over whatever rules. Own.
-use Rattle.std.specs.Prelude.{◌↔◌, ◌≡◌, ℕ, ◌<◌, ◌≤◌, ◌+◌, List, [], ◌∷◌, ◌++◌, Some, All, None, length, Option}
+use Rattle.std.specs.Prelude.{◌↔◌, ◌≡◌, ℕ, ◌<◌, ◌≤◌, ◌+◌, List, [], ◌∷◌, ◌++◌, Some, All, None, length, Option, false}
 use Rattle.std.specs.List.{AllPairs}
 use Rattle.std.specs.Result.{result_ok}
 use Rattle.zb_model.specs.declared.data.Change.{Change}
+use Rattle.zb_model.specs.declared.data.Content.TheVariants.{Held}
 use Rattle.zb_model.specs.declared.data.Transaction.{Transaction}
 use Rattle.zb_model.specs.declared.refusal.Refusal.TheVariants as refusal
 use Rattle.zb_model.specs.Database.{IsDatabase, content_below, newest_tid, revision_below}
@@ -15,8 +16,9 @@ use Rattle.zodb_core.specs.declared.request.Request.TheVariants as request
 use Rattle.zodb_core.specs.Handed.{NumberRange, all_numbers, end_of_range, fronts_told, numbers_handed}
 use Rattle.zodb_core.specs.History.{Entry, IsLegal, IsLegalOver, counts_after, machine_after, machine_behind}
 use Rattle.zodb_core.specs.Machine.{Machine, Rules, front_of, machine_over, with_session}
-use Rattle.zodb_core.specs.Outcomes.{Answered, AreLaterCounts, FaultCounts, StepOutcome, machine_left, outcome_of}
-use Rattle.zodb_core.specs.Sound.{AreDistinctRequests, GrowsByOne, GrowsTo, IsDistinctRequest, IsSoundMachine}
+use Rattle.zodb_core.specs.Outcomes.{Answered, AreLaterCounts, FaultCounts, StepOutcome, is_pack, machine_left, outcome_of}
+use Rattle.zodb_core.specs.Seen.{KeepsSeen}
+use Rattle.zodb_core.specs.Sound.{AreDistinctRequests, Becomes, GrowsByOne, GrowsTo, HasNoPack, IsDistinctRequest, IsSoundMachine, ComesTo}
 use Rattle.zodb_core.specs.Steps.{changes_in_journal, changes_undone, early_refusal, journal_limit, step_of}
 
 -- ---- the machine stays sound
@@ -47,24 +49,48 @@ abbrev pub ListsStayDatabases : Type 0
 ListsStayDatabases = (rules : Rules) (list : List Transaction) (counts : FaultCounts) (entries : List Entry)
     → IsDatabase list → AreDistinctRequests entries → IsLegalOver rules list counts entries → IsDatabase (machine_after rules (machine_over list) entries).list
 
--- ---- its list only grows
+-- ---- its list only grows, but for packs
 
--- a step leaves the list, or puts one later transaction behind it, however it ends
+-- a step leaves the list, puts one later transaction behind it, or packs it, however it ends
+abbrev pub StepsGrowOrPack : Type 0
+StepsGrowOrPack = (rules : Rules) (m : Machine) (n : ℕ) (q : Request) (stamp : ℕ) (outcome : StepOutcome) → IsSoundMachine m → Becomes m.list (machine_left rules m n q stamp outcome).list
+
+-- only a request to pack packs it
 abbrev pub ListsOnlyGrow : Type 0
-ListsOnlyGrow = (rules : Rules) (m : Machine) (n : ℕ) (q : Request) (stamp : ℕ) (outcome : StepOutcome) → IsSoundMachine m → GrowsByOne m.list (machine_left rules m n q stamp outcome).list
+ListsOnlyGrow = (rules : Rules) (m : Machine) (n : ℕ) (q : Request) (stamp : ℕ) (outcome : StepOutcome) → is_pack q ≡ false → IsSoundMachine m → GrowsByOne m.list (machine_left rules m n q stamp outcome).list
 
--- a history puts later transactions behind it
+-- a history makes of it what such steps make
+abbrev pub HistoriesComeTo : Type 0
+HistoriesComeTo = (rules : Rules) (m : Machine) (entries : List Entry) → IsSoundMachine m → AreDistinctRequests entries → ComesTo m.list (machine_after rules m entries).list
+
+-- and where none of it is a request to pack, it puts later transactions behind the list
 abbrev pub HistoriesOnlyGrow : Type 0
-HistoriesOnlyGrow = (rules : Rules) (m : Machine) (entries : List Entry) → IsSoundMachine m → AreDistinctRequests entries → GrowsTo m.list (machine_after rules m entries).list
+HistoriesOnlyGrow = (rules : Rules) (m : Machine) (entries : List Entry) → IsSoundMachine m → AreDistinctRequests entries → HasNoPack entries → GrowsTo m.list (machine_after rules m entries).list
 
--- no list that grew has an older newest transaction, nor a lower front
+-- no list that steps made of another has an older newest transaction, nor a lower front
 abbrev pub NewestNeverFalls : Type 0
-NewestNeverFalls = (list grown : List Transaction) → GrowsTo list grown → (newest_tid list ≤ newest_tid grown) × (front_of list ≤ front_of grown)
+NewestNeverFalls = (list now : List Transaction) → ComesTo list now → (newest_tid list ≤ newest_tid now) × (front_of list ≤ front_of now)
 
--- and every state below a front that the list had reached is as it was
+-- every state below a front that a list had reached is as it was, once it has grown
 abbrev pub StatesBelowFrontsStay : Type 0
 StatesBelowFrontsStay = (oid front : ℕ) (list grown : List Transaction) → GrowsTo list grown → front ≤ front_of list
     → (revision_below oid front grown ≡ revision_below oid front list) × (content_below oid front grown ≡ content_below oid front list)
+
+-- and each record that stands below such a front, whatever steps made of the list, stood there before
+abbrev pub RecordsBelowFrontsStood : Type 0
+RecordsBelowFrontsStood = (oid front serial : ℕ) (bytes : List ℕ) (list now : List Transaction) → ComesTo list now → front ≤ front_of list
+    → revision_below oid front now ≡ Some (record { serial = serial; content = Held bytes }) → revision_below oid front list ≡ Some (record { serial = serial; content = Held bytes })
+
+-- ---- packs keep what views see
+
+-- a pack keeps what views above its tid see
+abbrev pub PacksKeepViews : Type 0
+PacksKeepViews = (rules : Rules) (m : Machine) (n tid stamp : ℕ) → IsDatabase m.list
+    → KeepsSeen rules.named (request.Pack tid) (step_of rules m n (request.Pack tid) stamp).reply m.list (step_of rules m n (request.Pack tid) stamp).machine.list
+
+-- and it leaves the front
+abbrev pub PacksKeepFronts : Type 0
+PacksKeepFronts = (rules : Rules) (m : Machine) (n tid stamp : ℕ) → front_of (step_of rules m n (request.Pack tid) stamp).machine.list ≡ front_of m.list
 
 -- ---- fronts never fall
 

@@ -8,9 +8,13 @@ pub mod HubState
 pub mod Laws
 pub mod Machine
 pub mod Outcomes
+pub mod PackLaws
+pub mod Packing
 pub mod Replies
+pub mod Seen
 pub mod Sound
 pub mod SoundLaws
 pub mod Stamps
 pub mod StepCases
 pub mod Steps
+pub mod SwitchLaws

@@ -38,6 +38,7 @@ reads_store (request.Vote user description extension pending) = true
 reads_store (request.Undo user description tids) = true
 reads_store (request.History oid) = true
 reads_store request.UndoLog = true
+reads_store (request.Pack tid) = true
 reads_store _ = false
 
 -- a request that takes memory: one for which the store is read, and the news of a front
@@ -54,17 +55,28 @@ keeps_store (request.History oid) = true
 keeps_store request.UndoLog = true
 keeps_store _ = false
 
+-- a request to pack
+abbrev pub is_pack : Request → Bool
+is_pack (request.Pack tid) = true
+is_pack _ = false
+
+-- the list was packed
+abbrev pub is_packed : Reply → Bool
+is_packed (reply.Packed kept dropped) = true
+is_packed _ = false
+
 -- a session holds the vote, and something is to be written
 abbrev pub holds_writes : ℕ → Option MachineVote → Bool
 holds_writes n vote = option_map_or (λ v. if v.session == n then is_some v.writes else false) vote false
 
--- a step that changes the store: one by which something is voted, or by which what was voted is appended or dropped
+-- a step that changes the store: one by which something is voted, or by which what was voted is appended or dropped, or by which the list is packed
 abbrev pub changes_store : Machine → ℕ → Request → Stepped → Bool
 changes_store m n (request.Vote user description extension pending) made = holds_writes n made.machine.vote
 changes_store m n (request.Undo user description tids) made = holds_writes n made.machine.vote
 changes_store m n request.Finish made = holds_writes n m.vote
 changes_store m n request.Abort made = holds_writes n m.vote
 changes_store m n request.Close made = holds_writes n m.vote
+changes_store m n (request.Pack tid) made = is_packed made.reply
 changes_store m n _ made = false
 
 -- ---- what is left

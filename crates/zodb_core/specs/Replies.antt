@@ -9,6 +9,8 @@ use Rattle.commit_phases.specs.declared.errors.VoteRefusal.{VoteRefusal}
 use Rattle.commit_phases.specs.declared.errors.VoteRefusal.TheVariants as vote_refusal
 use Rattle.undo_records.specs.declared.refusal.UndoRefusal.{UndoRefusal}
 use Rattle.undo_records.specs.declared.refusal.UndoRefusal.TheVariants as undo_refusal
+use Rattle.pack_reach.specs.declared.refusal.PackRefusal.{PackRefusal}
+use Rattle.pack_reach.specs.declared.refusal.PackRefusal.TheVariants as pack_refusal
 use Rattle.zodb_core.specs.declared.reply.Reply.{Reply}
 use Rattle.zodb_core.specs.declared.reply.Reply.TheVariants as reply
 
@@ -39,3 +41,9 @@ undo_reply (undo_refusal.UndoPacked tid) = reply.Refused (refusal.UndoPacked tid
 undo_reply (undo_refusal.UndoConflict oid later) = reply.Refused (refusal.UndoConflict oid later)
 undo_reply undo_refusal.ReadFault = reply.Refused refusal.ReadFault
 undo_reply undo_refusal.Memory = reply.Refused refusal.Memory
+
+-- where the marks of a pack are refused
+abbrev pub pack_reply : PackRefusal → Reply
+pack_reply (pack_refusal.Unreadable oid tid) = reply.Refused (refusal.Unreadable oid tid)
+pack_reply pack_refusal.ReadFault = reply.Refused refusal.ReadFault
+pack_reply pack_refusal.Memory = reply.Refused refusal.Memory

@@ -1,14 +1,18 @@
--- What holds of every machine that sessions lead to, and how its list grows. Own.
+-- What holds of every machine that sessions lead to, and how its list grows and is packed. Own.
 use Rattle.std.specs.Prelude.{◌≡◌, ℕ, ◌<◌, ◌≤◌, ◌-◌, ◌^◌, ◌⊎◌, List, [], ◌∷◌, ◌++◌, Option, Some, None, false, length, map, nat_eq}
 use Rattle.std.specs.List.{AllByRecursion, IsDistinct}
+use Rattle.std.specs.Ordering.{nat_cmp}
+use Rattle.std.specs.FinSet.{FinSet}
 use Rattle.zb_model.specs.declared.data.Transaction.{Transaction}
 use Rattle.zb_model.specs.Database.{IsDatabase, newest_tid}
+use Rattle.zb_model.specs.Packing.{packed_by}
 use Rattle.zb_model.specs.Queries.{greatest_oid, oids_of}
 use Rattle.zodb_core.specs.declared.request.Request.{Request}
 use Rattle.zodb_core.specs.declared.request.Request.TheVariants as request
 use Rattle.zodb_core.specs.declared.session.Session.{Session}
 use Rattle.zodb_core.specs.History.{Entry, Made, Opened}
-use Rattle.zodb_core.specs.Machine.{Machine, MachineVote}
+use Rattle.zodb_core.specs.Machine.{Machine, MachineVote, switches_of}
+use Rattle.zodb_core.specs.Outcomes.{is_pack}
 
 -- a transaction may be the next of a list: it is later, its number has one after it, it names each object once, and no pack went over it
 pub record IsNextTransaction (list : List Transaction) (t : Transaction) : Type 0 where
@@ -52,6 +56,14 @@ IsDistinctEntry (Made e) = IsDistinctRequest e.request
 abbrev pub AreDistinctRequests : List Entry → Type 0
 AreDistinctRequests entries = AllByRecursion IsDistinctEntry entries
 
+-- an entry that is no request to pack
+abbrev pub IsNoPack : Entry → Type 0
+IsNoPack (Opened n) = Unit {0}
+IsNoPack (Made e) = is_pack e.request ≡ false
+
+abbrev pub HasNoPack : List Entry → Type 0
+HasNoPack entries = AllByRecursion IsNoPack entries
+
 -- ---- how a list grows
 
 -- a list with one transaction behind it, which is later
@@ -63,6 +75,32 @@ pub record HasOneMore (list grown : List Transaction) : Type 0 where
 -- a list as it was, or with one transaction more
 abbrev pub GrowsByOne : List Transaction → List Transaction → Type 0
 GrowsByOne list grown = (grown ≡ list) ⊎ HasOneMore list grown
+
+-- a list that is packed, up to a tid below its newest transaction
+pub record IsPackOf (list packed : List Transaction) : Type 0 where
+  pub tid : ℕ
+  pub keep : FinSet nat_cmp
+  pub below : tid < newest_tid list
+  pub is : packed ≡ packed_by tid keep list
+
+-- what a step makes of a list: it is as it was, or has one transaction more, or is packed
+abbrev pub Becomes : List Transaction → List Transaction → Type 0
+Becomes list now = GrowsByOne list now ⊎ IsPackOf list now
+
+-- a list that steps made of another, which was a database at each of them
+pub data ComesTo (list : List Transaction) : List Transaction → Type 0 where
+  unmoved : ComesTo list list
+  moved : (mid now : List Transaction) → ComesTo list mid → IsDatabase mid → Becomes mid now → ComesTo list now
+
+-- a machine behind a step of another: the number of packs has not fallen, and where it is the same, the list has only grown
+pub record GoesOnTo (m now : Machine) : Type 0 where
+  pub becomes : Becomes m.list now.list
+  pub switches : switches_of m.journal ≤ switches_of now.journal
+  pub grows : switches_of now.journal ≡ switches_of m.journal → GrowsByOne m.list now.list
+
+-- what is voted is later than the list
+abbrev pub VotesLater : List Transaction → Option MachineVote → Type 0
+VotesLater list vote = (v : MachineVote) (t : Transaction) → vote ≡ Some v → v.writes ≡ Some t → newest_tid list < t.tid
 
 -- a list with transactions behind it, each of which is later than the newest
 pub record GrowsTo (list grown : List Transaction) : Type 0 where

@@ -1,26 +1,35 @@
--- Steps and histories keep a machine sound, and its list only grows. For the proofs of those who follow the machine.
-use Rattle.std.proofs.Common.{◌≡◌, ℕ, ◌<◌, ◌≤◌, inl, inr, max, Bool, true, false, cond, List, [], ◌∷◌, ◌++◌, length, map, Option, Some, None, refl, sym, ap, subst, ◌∙◌, arith}
+-- Steps and histories keep a machine sound, and its list only grows and is packed. For the proofs of those who follow the machine.
+use Rattle.std.proofs.Common.{◌≡◌, ℕ, ◌+◌, ◌<◌, ◌≤◌, ◌⊎◌, inl, inr, max, Bool, true, false, cond, List, [], ◌∷◌, ◌++◌, length, map, Option, Some, None, refl, sym, ap, subst, ◌∙◌, arith}
 use Rattle.std.specs.Prelude.{slice_set}
 use Rattle.std.specs.List.{AllByRecursion, flat_map, last_or}
 use Rattle.std.specs.Option.{option_map_or}
+use Rattle.std.specs.Ordering.{nat_cmp}
+use Rattle.std.specs.FinSet.{FinSet}
+use Rattle.std.proofs.lemmas.Bool.{true≢false}
 use Rattle.std.proofs.lemmas.Grind.{flat_map-append}
 use Rattle.std.proofs.lemmas.List.{append-nil, append_assoc, length-append}
+use Rattle.std.proofs.lemmas.List.Sums.{sum_by-append}
 use Rattle.std.proofs.lemmas.List.Elements.{All-from_recursion, All-set, recursion_from_All}
 use Rattle.zb_base.specs.Lists.{each_more, last_or_append}
 use Rattle.zb_model.specs.declared.data.Transaction.{Transaction}
 use Rattle.zb_model.specs.Database.{IsDatabase, content_below, newest_tid, revision_below}
+use Rattle.zb_model.specs.Packing.{packed_by}
+use Rattle.zb_model.specs.PackingLaws.{packed_database}
 use Rattle.zb_model.specs.Queries.{greatest_of, greatest_oid, oids_of}
 use Rattle.zb_model.specs.QueryLaws.{greatest-append}
 use Rattle.zb_model.specs.VotingLaws.{database-push, newest-push}
+use Rattle.zodb_core.specs.declared.journal.JournalEntry.{JournalEntry}
+use Rattle.zodb_core.specs.declared.journal.JournalEntry.TheVariants as journal
 use Rattle.zodb_core.specs.declared.request.Request.{Request}
 use Rattle.zodb_core.specs.declared.session.Session.{Session}
 use Rattle.zodb_core.specs.GrowthLaws.{content_kept, revision_kept}
 use Rattle.zodb_core.specs.History.{Entry, Made, Opened, machine_after, machine_behind, stamp_of_step}
-use Rattle.zodb_core.specs.Machine.{Machine, MachineVote, Rules, front_of, holds_vote, machine_over, new_session, with_session}
-use Rattle.zodb_core.specs.Outcomes.{StepOutcome, closed_session, failed, machine_left, outcome_of, FaultCounts, IsStepMade}
-use Rattle.zodb_core.specs.Sound.{AreDistinctRequests, GrowsByOne, GrowsTo, HasOneMore, IsDistinctEntry, IsDistinctRequest, IsNextIfSome, IsNextTransaction, IsSoundMachine, IsSoundVote, IsToldWithin}
+use Rattle.zodb_core.specs.Machine.{Machine, MachineVote, Rules, front_of, holds_vote, is_switch, machine_over, new_session, switches_of, with_session}
+use Rattle.zodb_core.specs.Outcomes.{StepOutcome, closed_session, failed, is_pack, machine_left, outcome_of, FaultCounts, IsStepMade}
+use Rattle.zodb_core.specs.PackLaws.{greatest_packed, newest_packed}
+use Rattle.zodb_core.specs.Sound.{AreDistinctRequests, Becomes, GoesOnTo, GrowsByOne, GrowsTo, HasNoPack, HasOneMore, IsDistinctEntry, IsDistinctRequest, IsNextIfSome, IsNextTransaction, IsNoPack, IsPackOf, IsSoundMachine, IsSoundVote, IsToldWithin, ComesTo, VotesLater, moved, unmoved}
 use Rattle.zodb_core.specs.StepCases.{StepCases, by_ending, by_step}
-use Rattle.zodb_core.specs.Steps.{Stepped, entry_of, step_of, with_commit, without_vote}
+use Rattle.zodb_core.specs.Steps.{Stepped, entry_of, step_of, with_commit, with_switch, without_vote}
 
 -- ---- a machine that is sound
 
@@ -78,8 +87,17 @@ committed_sound m n v t sound is writes =
       told = told_more (length m.journal) (length (m.journal ++ entry_of n t ∷ [])) m.sessions (omega (arith, length-append m.journal (entry_of n t ∷ []))) sound.told;
     }
 
-sound_cases : (m : Machine) (n : ℕ) (distinct : Type 0) → IsSoundMachine m → distinct → StepCases (λ s. IsSoundMachine s.machine) m n distinct
-sound_cases m n distinct sound once = record {
+-- a packed list, where no vote is held
+packed_sound : (m : Machine) (t : ℕ) (keep : FinSet nat_cmp) → IsSoundMachine m → m.vote ≡ None → t < newest_tid m.list → IsSoundMachine (with_switch m t (packed_by t keep m.list))
+packed_sound m t keep sound free below = record {
+  database = packed_database t keep m.list sound.database;
+  next = subst (IsSoundVote (packed_by t keep m.list)) (sym free) tt;
+  numbered = omega (arith, greatest_packed t keep m.list, sound.numbered);
+  told = told_more (length m.journal) (length (m.journal ++ journal.Packed t ∷ [])) m.sessions (omega (arith, length-append m.journal (journal.Packed t ∷ []))) sound.told;
+}
+
+sound_cases : (m : Machine) (n : ℕ) (q : Request) → IsSoundMachine m → IsDistinctRequest q → StepCases (λ s. IsSoundMachine s.machine) m n q
+sound_cases m n q sound once = record {
   refused = λ r is. sound;
   full = λ count. sound;
   spent = sound;
@@ -94,6 +112,7 @@ sound_cases m n distinct sound once = record {
   dropped = dropped_sound m n sound;
   listed = λ revisions. sound;
   logged = λ lines. sound;
+  packed = λ is t keep free below. packed_sound m t keep sound free below;
   closed = record {
     database = sound.database;
     next = next_dropped m.list m.vote (holds_vote n m.vote) sound.next;
@@ -103,11 +122,11 @@ sound_cases m n distinct sound once = record {
 }
 
 pub step_sound : (rules : Rules) (m : Machine) (n : ℕ) (q : Request) (stamp : ℕ) → IsSoundMachine m → IsDistinctRequest q → IsSoundMachine (step_of rules m n q stamp).machine
-step_sound rules m n q stamp sound distinct = by_step (λ s. IsSoundMachine s.machine) rules m n q stamp (sound_cases m n (IsDistinctRequest q) sound distinct)
+step_sound rules m n q stamp sound distinct = by_step (λ s. IsSoundMachine s.machine) rules m n q stamp (sound_cases m n q sound distinct)
 
 pub left_sound : (rules : Rules) (m : Machine) (n : ℕ) (q : Request) (stamp : ℕ) (outcome : StepOutcome) → IsSoundMachine m → IsDistinctRequest q → IsSoundMachine (machine_left rules m n q stamp outcome)
 left_sound rules m n q stamp outcome sound distinct =
-    by_ending IsSoundMachine rules m n q stamp outcome sound (failed_sound m sound) (sound_cases m n (IsDistinctRequest q) sound distinct)
+    by_ending IsSoundMachine rules m n q stamp outcome sound (failed_sound m sound) (sound_cases m n q sound distinct)
 
 -- and so a step that was made
 pub made_sound : (rules : Rules) (m : Machine) (n : ℕ) (q : Request) (stamp : ℕ) (made : Stepped) (before now : FaultCounts)
@@ -122,50 +141,154 @@ pub history_sound : (rules : Rules) (m : Machine) (entries : List Entry) → IsS
 history_sound rules m [] sound distinct = sound
 history_sound rules m (e ∷ entries) sound distinct = history_sound rules (machine_behind rules m e) entries (behind_sound rules m e sound distinct.0) distinct.1
 
--- ---- a list that grows
+-- ---- a list that grows or is packed
 
-one_more : (list : List Transaction) (t : Transaction) → newest_tid list < t.tid → HasOneMore list (list ++ t ∷ [])
+pub one_more : (list : List Transaction) (t : Transaction) → newest_tid list < t.tid → HasOneMore list (list ++ t ∷ [])
 one_more list t later = record { newest = t; behind = refl; later = later }
 
-grown_cases : (m : Machine) (n : ℕ) (distinct : Type 0) → IsSoundMachine m → StepCases (λ s. GrowsByOne m.list s.machine.list) m n distinct
-grown_cases m n distinct sound = record {
-  refused = λ r is. inl refl;
-  full = λ count. inl refl;
-  spent = inl refl;
-  told = inl refl;
-  found = λ oid f. inl refl;
-  numbers = λ count. inl refl;
-  nothing = inl refl;
-  written = λ texts changes tid each later bounded. inl refl;
-  emptied = inl refl;
-  committed = λ v t is writes. inr (one_more m.list t (next_of m.list m.vote v t sound.next is writes).later);
-  dropped = inl refl;
-  listed = λ revisions. inl refl;
-  logged = λ lines. inl refl;
-  closed = inl refl;
+-- the list, unless a request to pack was made, is as it was or has one transaction more
+abbrev BecomesFor : Bool → List Transaction → List Transaction → Type 0
+BecomesFor packs list now = GrowsByOne list now ⊎ ((packs ≡ true) × IsPackOf list now)
+
+become_cases : (m : Machine) (n : ℕ) (q : Request) → IsSoundMachine m → StepCases (λ s. BecomesFor (is_pack q) m.list s.machine.list) m n q
+become_cases m n q sound = record {
+  refused = λ r is. inl (inl refl);
+  full = λ count. inl (inl refl);
+  spent = inl (inl refl);
+  told = inl (inl refl);
+  found = λ oid f. inl (inl refl);
+  numbers = λ count. inl (inl refl);
+  nothing = inl (inl refl);
+  written = λ texts changes tid each later bounded. inl (inl refl);
+  emptied = inl (inl refl);
+  committed = λ v t is writes. inl (inr (one_more m.list t (next_of m.list m.vote v t sound.next is writes).later));
+  dropped = inl (inl refl);
+  listed = λ revisions. inl (inl refl);
+  logged = λ lines. inl (inl refl);
+  packed = λ is t keep free below. inr (is, record { tid = t; keep = keep; below = below; is = refl });
+  closed = inl (inl refl);
 }
 
-pub step_grows : (rules : Rules) (m : Machine) (n : ℕ) (q : Request) (stamp : ℕ) → IsSoundMachine m → GrowsByOne m.list (step_of rules m n q stamp).machine.list
-step_grows rules m n q stamp sound = by_step (λ s. GrowsByOne m.list s.machine.list) rules m n q stamp (grown_cases m n (IsDistinctRequest q) sound)
+becomes_of : (packs : Bool) (list now : List Transaction) → BecomesFor packs list now → Becomes list now
+becomes_of packs list now (inl grows) = inl grows
+becomes_of packs list now (inr pack) = inr pack.1
 
-pub left_grows : (rules : Rules) (m : Machine) (n : ℕ) (q : Request) (stamp : ℕ) (outcome : StepOutcome) → IsSoundMachine m → GrowsByOne m.list (machine_left rules m n q stamp outcome).list
-left_grows rules m n q stamp outcome sound = by_ending (λ x. GrowsByOne m.list x.list) rules m n q stamp outcome (inl refl) (inl refl) (grown_cases m n (IsDistinctRequest q) sound)
+grows_of : (packs : Bool) (list now : List Transaction) → packs ≡ false → BecomesFor packs list now → GrowsByOne list now
+grows_of packs list now not (inl grows) = grows
+grows_of packs list now not (inr pack) = absurd (true≢false (sym pack.0 ∙ not))
+
+left_becomes_for : (rules : Rules) (m : Machine) (n : ℕ) (q : Request) (stamp : ℕ) (outcome : StepOutcome) → IsSoundMachine m → BecomesFor (is_pack q) m.list (machine_left rules m n q stamp outcome).list
+left_becomes_for rules m n q stamp outcome sound = by_ending (λ x. BecomesFor (is_pack q) m.list x.list) rules m n q stamp outcome (inl (inl refl)) (inl (inl refl)) (become_cases m n q sound)
+
+-- a step leaves the list, puts one transaction behind it, or packs it, however it ends
+pub left_becomes : (rules : Rules) (m : Machine) (n : ℕ) (q : Request) (stamp : ℕ) (outcome : StepOutcome) → IsSoundMachine m → Becomes m.list (machine_left rules m n q stamp outcome).list
+left_becomes rules m n q stamp outcome sound = becomes_of (is_pack q) m.list (machine_left rules m n q stamp outcome).list (left_becomes_for rules m n q stamp outcome sound)
+
+-- and one that is no pack never packs it
+pub left_grows : (rules : Rules) (m : Machine) (n : ℕ) (q : Request) (stamp : ℕ) (outcome : StepOutcome) → is_pack q ≡ false → IsSoundMachine m → GrowsByOne m.list (machine_left rules m n q stamp outcome).list
+left_grows rules m n q stamp outcome not sound = grows_of (is_pack q) m.list (machine_left rules m n q stamp outcome).list not (left_becomes_for rules m n q stamp outcome sound)
+
+pub made_becomes : (rules : Rules) (m : Machine) (n : ℕ) (q : Request) (stamp : ℕ) (made : Stepped) (before now : FaultCounts)
+    → IsStepMade rules m n q stamp made before now → IsSoundMachine m → Becomes m.list made.machine.list
+made_becomes rules m n q stamp made before now step sound = subst (λ (x : Machine). Becomes m.list x.list) (sym step.left) (left_becomes rules m n q stamp (outcome_of made.reply) sound)
 
 pub made_grows : (rules : Rules) (m : Machine) (n : ℕ) (q : Request) (stamp : ℕ) (made : Stepped) (before now : FaultCounts)
-    → IsStepMade rules m n q stamp made before now → IsSoundMachine m → GrowsByOne m.list made.machine.list
-made_grows rules m n q stamp made before now step sound = subst (λ (x : Machine). GrowsByOne m.list x.list) (sym step.left) (left_grows rules m n q stamp (outcome_of made.reply) sound)
+    → IsStepMade rules m n q stamp made before now → is_pack q ≡ false → IsSoundMachine m → GrowsByOne m.list made.machine.list
+made_grows rules m n q stamp made before now step not sound = subst (λ (x : Machine). GrowsByOne m.list x.list) (sym step.left) (left_grows rules m n q stamp (outcome_of made.reply) not sound)
 
-pub behind_grows : (rules : Rules) (m : Machine) (e : Entry) → IsSoundMachine m → GrowsByOne m.list (machine_behind rules m e).list
-behind_grows rules m (Opened n) sound = inl refl
-behind_grows rules m (Made e) sound = left_grows rules m e.session e.request (stamp_of_step e) (outcome_of e.reply) sound
+pub behind_becomes : (rules : Rules) (m : Machine) (e : Entry) → IsSoundMachine m → Becomes m.list (machine_behind rules m e).list
+behind_becomes rules m (Opened n) sound = inl (inl refl)
+behind_becomes rules m (Made e) sound = left_becomes rules m e.session e.request (stamp_of_step e) (outcome_of e.reply) sound
+
+-- ---- packs are counted
+
+-- an entry of a commit is no switch, and one of a pack is
+pub no_switch : (entries : List JournalEntry) (n tid : ℕ) (oids : List ℕ) → switches_of (entries ++ journal.Commit n tid oids ∷ []) ≡ switches_of entries
+no_switch entries n tid oids = omega (arith, sum_by-append (λ (e : JournalEntry). cond (is_switch e) 1 0) entries (journal.Commit n tid oids ∷ []))
+
+pub one_switch : (entries : List JournalEntry) (t : ℕ) → switches_of (entries ++ journal.Packed t ∷ []) ≡ switches_of entries + 1
+one_switch entries t = omega (arith, sum_by-append (λ (e : JournalEntry). cond (is_switch e) 1 0) entries (journal.Packed t ∷ []))
+
+-- a machine with the same list and journal
+pub goes_same : (m now : Machine) → now.list ≡ m.list → now.journal ≡ m.journal → GoesOnTo m now
+goes_same m now list entries = record { becomes = inl (inl list); switches = omega (arith, ap switches_of entries); grows = λ _. inl list }
+
+goes_cases : (m : Machine) (n : ℕ) (q : Request) → VotesLater m.list m.vote → StepCases (λ s. GoesOnTo m s.machine) m n q
+goes_cases m n q later = record {
+  refused = λ r is. goes_same m m refl refl;
+  full = λ count. goes_same m m refl refl;
+  spent = goes_same m m refl refl;
+  told = goes_same m _ refl refl;
+  found = λ oid f. goes_same m m refl refl;
+  numbers = λ count. goes_same m _ refl refl;
+  nothing = goes_same m _ refl refl;
+  written = λ texts changes tid each above bounded. goes_same m _ refl refl;
+  emptied = goes_same m _ refl refl;
+  committed = λ v t is writes. record {
+    becomes = inl (inr (one_more m.list t (later v t is writes)));
+    switches = omega (arith, no_switch m.journal n t.tid (oids_of t));
+    grows = λ _. inr (one_more m.list t (later v t is writes));
+  };
+  dropped = goes_same m _ refl refl;
+  listed = λ revisions. goes_same m m refl refl;
+  logged = λ lines. goes_same m m refl refl;
+  packed = λ is t keep free below. record {
+    becomes = inr (record { tid = t; keep = keep; below = below; is = refl });
+    switches = omega (arith, one_switch m.journal t);
+    grows = λ unpacked. absurd (omega (arith, unpacked, one_switch m.journal t));
+  };
+  closed = goes_same m _ refl refl;
+}
+
+-- a step counts a pack, and else its list only grows, however it ends
+pub left_goes_on : (rules : Rules) (m : Machine) (n : ℕ) (q : Request) (stamp : ℕ) (outcome : StepOutcome) → VotesLater m.list m.vote → GoesOnTo m (machine_left rules m n q stamp outcome)
+left_goes_on rules m n q stamp outcome later = by_ending (GoesOnTo m) rules m n q stamp outcome (goes_same m m refl refl) (goes_same m _ refl refl) (goes_cases m n q later)
+
+-- what a sound machine has voted is later
+pub sound_later : (m : Machine) → IsSoundMachine m → VotesLater m.list m.vote
+sound_later m sound v t is writes = (next_of m.list m.vote v t sound.next is writes).later
 
 -- the newest is no older, and the front no lower
-pub newest_later : (list grown : List Transaction) → GrowsByOne list grown → newest_tid list ≤ newest_tid grown
-newest_later list grown (inl same) = omega (arith, ap newest_tid same)
-newest_later list grown (inr more) = omega (arith, ap newest_tid more.behind, newest-push list more.newest, more.later)
+pub grown_later : (list grown : List Transaction) → GrowsByOne list grown → newest_tid list ≤ newest_tid grown
+grown_later list grown (inl same) = omega (arith, ap newest_tid same)
+grown_later list grown (inr more) = omega (arith, ap newest_tid more.behind, newest-push list more.newest, more.later)
 
-pub front_later : (list grown : List Transaction) → GrowsByOne list grown → front_of list ≤ front_of grown
-front_later list grown grows = omega (arith, newest_later list grown grows)
+pub newest_later : (list now : List Transaction) → Becomes list now → newest_tid list ≤ newest_tid now
+newest_later list now (inl grows) = grown_later list now grows
+newest_later list now (inr pack) = omega (arith, ap newest_tid pack.is, newest_packed pack.tid pack.keep list pack.below)
+
+pub front_later : (list now : List Transaction) → Becomes list now → front_of list ≤ front_of now
+front_later list now becomes = omega (arith, newest_later list now becomes)
+
+-- ---- a list that histories lead to
+
+comes_on : (list mid now : List Transaction) → ComesTo list mid → ComesTo mid now → ComesTo list now
+comes_on list mid _ first unmoved = first
+comes_on list mid _ first (moved half now before is becomes) = moved half now (comes_on list mid half first before) is becomes
+
+-- one step, and then others
+pub comes_from : (list mid now : List Transaction) → IsDatabase list → Becomes list mid → ComesTo mid now → ComesTo list now
+comes_from list mid now is becomes on = comes_on list mid now (moved list mid unmoved is becomes) on
+
+pub comes_twice : (list mid now : List Transaction) → ComesTo list mid → ComesTo mid now → ComesTo list now
+comes_twice list mid now first on = comes_on list mid now first on
+
+pub history_comes : (rules : Rules) (m : Machine) (entries : List Entry) → IsSoundMachine m → AreDistinctRequests entries → ComesTo m.list (machine_after rules m entries).list
+history_comes rules m [] sound distinct = unmoved
+history_comes rules m (e ∷ entries) sound distinct =
+    comes_from m.list (machine_behind rules m e).list (machine_after rules m (e ∷ entries)).list sound.database (behind_becomes rules m e sound)
+    (history_comes rules (machine_behind rules m e) entries (behind_sound rules m e sound distinct.0) distinct.1)
+
+-- the newest is no older, and the front no lower
+pub newest_come : (list now : List Transaction) → ComesTo list now → newest_tid list ≤ newest_tid now
+newest_come list _ unmoved = omega arith
+newest_come list _ (moved mid now before is becomes) = omega (arith, newest_come list mid before, newest_later mid now becomes)
+
+pub front_come : (list now : List Transaction) → ComesTo list now → front_of list ≤ front_of now
+front_come list now leads = omega (arith, newest_come list now leads)
+
+pub history_newest : (rules : Rules) (m : Machine) (entries : List Entry) → IsSoundMachine m → AreDistinctRequests entries → newest_tid m.list ≤ newest_tid (machine_after rules m entries).list
+history_newest rules m entries sound distinct = newest_come m.list (machine_after rules m entries).list (history_comes rules m entries sound distinct)
 
 -- ---- a list that grew over a history
 
@@ -178,7 +301,7 @@ grows_on list mid grown (inl same) on = subst (λ (l : List Transaction). GrowsT
 grows_on list mid grown (inr more) on = record {
   more = more.newest ∷ on.more;
   behind = on.behind ∙ ap (λ (l : List Transaction). l ++ on.more) more.behind ∙ append_assoc list (more.newest ∷ []) on.more;
-  later = (more.later, later_all (newest_tid list) (newest_tid mid) on.more (newest_later list mid (inr more)) on.later);
+  later = (more.later, later_all (newest_tid list) (newest_tid mid) on.more (grown_later list mid (inr more)) on.later);
 }
 
 -- a list that didn't grow, and one that grew twice
@@ -189,19 +312,15 @@ later_both : (low : ℕ) (more further : List Transaction) → AllByRecursion (�
 later_both low [] further one two = two
 later_both low (t ∷ more) further one two = (one.0, later_both low more further one.1 two)
 
-pub history_grows : (rules : Rules) (m : Machine) (entries : List Entry) → IsSoundMachine m → AreDistinctRequests entries → GrowsTo m.list (machine_after rules m entries).list
-history_grows rules m [] sound distinct = grows_not m.list
-history_grows rules m (e ∷ entries) sound distinct =
-    grows_on m.list (machine_behind rules m e).list (machine_after rules m (e ∷ entries)).list (behind_grows rules m e sound)
-    (history_grows rules (machine_behind rules m e) entries (behind_sound rules m e sound distinct.0) distinct.1)
+behind_grows : (rules : Rules) (m : Machine) (e : Entry) → IsNoPack e → IsSoundMachine m → GrowsByOne m.list (machine_behind rules m e).list
+behind_grows rules m (Opened n) not sound = inl refl
+behind_grows rules m (Made e) not sound = left_grows rules m e.session e.request (stamp_of_step e) (outcome_of e.reply) not sound
 
-pub history_newest : (rules : Rules) (m : Machine) (entries : List Entry) → IsSoundMachine m → AreDistinctRequests entries → newest_tid m.list ≤ newest_tid (machine_after rules m entries).list
-history_newest rules m [] sound distinct = omega arith
-history_newest rules m (e ∷ entries) sound distinct =
-    let first : newest_tid m.list ≤ newest_tid (machine_behind rules m e).list = newest_later m.list (machine_behind rules m e).list (behind_grows rules m e sound) in
-    let rest : newest_tid (machine_behind rules m e).list ≤ newest_tid (machine_after rules m (e ∷ entries)).list =
-    history_newest rules (machine_behind rules m e) entries (behind_sound rules m e sound distinct.0) distinct.1 in
-    omega (arith, first, rest)
+pub history_grows : (rules : Rules) (m : Machine) (entries : List Entry) → IsSoundMachine m → AreDistinctRequests entries → HasNoPack entries → GrowsTo m.list (machine_after rules m entries).list
+history_grows rules m [] sound distinct none = grows_not m.list
+history_grows rules m (e ∷ entries) sound distinct none =
+    grows_on m.list (machine_behind rules m e).list (machine_after rules m (e ∷ entries)).list (behind_grows rules m e none.0 sound)
+    (history_grows rules (machine_behind rules m e) entries (behind_sound rules m e sound distinct.0) distinct.1 none.1)
 
 -- one transaction more is one of several
 pub grows_to : (list grown : List Transaction) → GrowsByOne list grown → GrowsTo list grown

@@ -1,5 +1,5 @@
--- A step of the machine: what a session is answered, and what is left. Source: the storage interfaces of ZODB and ZEO; the order of the refusals is own.
-use Rattle.std.specs.Prelude.{ℕ, ◌+◌, ◌-◌, ◌^◌, List, [], ◌∷◌, ◌++◌, Option, Some, None, Result, Ok, Err, Bool, true, false, not, ◌==◌, nat_lt, if◌then◌else◌, length, map, max, slice_set}
+-- A step of the machine: what a session is answered, and what is left. Source: the storage interfaces of ZODB and ZEO; the order of the refusals is own, and so is the mark of a pack.
+use Rattle.std.specs.Prelude.{ℕ, ◌+◌, ◌-◌, ◌^◌, List, [], ◌∷◌, ◌++◌, Option, Some, None, Result, Ok, Err, Bool, true, false, not, ◌==◌, nat_le, nat_lt, if◌then◌else◌, length, map, max, min, slice_set}
 use Rattle.std.specs.List.{sum_by}
 use Rattle.std.specs.Option.{option_or}
 use Rattle.zb_ids.specs.Tids.{tid_after}
@@ -12,10 +12,13 @@ use Rattle.zb_model.specs.declared.refusal.Refusal.{Refusal}
 use Rattle.zb_model.specs.declared.refusal.Refusal.TheVariants as refusal
 use Rattle.zb_model.specs.Database.{newest_tid}
 use Rattle.zb_model.specs.Lists.{history_of, undo_log_of}
-use Rattle.zb_model.specs.Queries.{found_below, greatest_of, oids_of}
+use Rattle.zb_model.specs.Packs.{change_count}
+use Rattle.zb_model.specs.Queries.{found_below, greatest_of, oids_of, pack_point}
 use Rattle.zb_model.specs.Voting.{voted_change}
 use Rattle.commit_phases.specs.Decision.{vote_decision}
 use Rattle.undo_records.specs.Undone.{undone_of}
+use Rattle.pack_reach.specs.Packed.{packed_of}
+use Rattle.pack_reach.specs.Reached.{unreadable}
 use Rattle.zodb_core.specs.declared.journal.JournalEntry.{JournalEntry}
 use Rattle.zodb_core.specs.declared.journal.JournalEntry.TheVariants as journal
 use Rattle.zodb_core.specs.declared.reply.Reply.{Reply}
@@ -23,7 +26,7 @@ use Rattle.zodb_core.specs.declared.reply.Reply.TheVariants as reply
 use Rattle.zodb_core.specs.declared.request.Request.{Request}
 use Rattle.zodb_core.specs.declared.request.Request.TheVariants as request
 use Rattle.zodb_core.specs.declared.texts.Texts.{Texts}
-use Rattle.zodb_core.specs.Machine.{Machine, MachineVote, Rules, front_of, has_pack, holds_vote, is_open_in, news_of, switches_of, untold}
+use Rattle.zodb_core.specs.Machine.{Machine, MachineVote, OpenPack, Rules, front_of, has_pack, holds_vote, is_open_in, news_of, switches_of, untold}
 
 -- what a step gives: the reply, the machine that it leaves, and whether it read the clock
 pub record Stepped : Type 0 where
@@ -53,12 +56,35 @@ busy_for n (Some v) = refuse_if (not (v.session == n)) (refusal.Busy v.session)
 abbrev pub vote_refusal : ℕ → Option MachineVote → Option Refusal
 vote_refusal n vote = option_or (refuse_if (holds_vote n vote) refusal.Voted) (busy_for n vote)
 
+-- any session holds the vote
+abbrev pub busy_for_all : Option MachineVote → Option Refusal
+busy_for_all None = None
+busy_for_all (Some v) = Some (refusal.Busy v.session)
+
+-- any session has a pack open
+abbrev pub pack_running : Option OpenPack → Option Refusal
+pack_running None = None
+pack_running (Some p) = Some (refusal.PackRunning p.session)
+
+-- how far a pack goes that is asked to go up to a tid: never over the newest transaction
+abbrev pub pack_tid : ℕ → List Transaction → ℕ
+pack_tid tid list = min tid (newest_tid list - 1)
+
+-- a pack would go no further than an earlier one
+abbrev pub packed_already : ℕ → ℕ → Option Refusal
+packed_already t point = refuse_if (nat_le t point) (refusal.PackedAlready point)
+
+-- a pack up to a tid: one is open, or a vote is held, or one went as far already
+abbrev pub pack_refusal : Machine → ℕ → Option Refusal
+pack_refusal m tid = option_or (pack_running m.pack) (option_or (busy_for_all m.vote) (packed_already (pack_tid tid m.list) (pack_point m.list)))
+
 -- what an open session is refused before anything is read
 abbrev pub request_refusal : Machine → ℕ → Request → Option Refusal
 request_refusal m n (request.NewOids count) = refuse_if (nat_lt (2 ^ 64 - 1) (m.greatest + count)) refusal.OidsSpent
 request_refusal m n (request.Vote user description extension pending) = vote_refusal n m.vote
 request_refusal m n (request.Undo user description tids) = vote_refusal n m.vote
 request_refusal m n request.Finish = refuse_if (not (holds_vote n m.vote)) refusal.NotVoted
+request_refusal m n (request.Pack tid) = pack_refusal m tid
 request_refusal m n _ = None
 
 abbrev pub early_refusal : Machine → ℕ → Request → Option Refusal
@@ -151,6 +177,23 @@ without_session m n = record (without_vote m n) {
   sessions = slice_set m.sessions n (record { is_open = false; told = length m.journal });
 }
 
+-- the packed list is the list from then on
+abbrev pub with_switch : Machine → ℕ → List Transaction → Machine
+with_switch m t list = record m { list = list; journal = m.journal ++ journal.Packed t ∷ []; pack = None }
+
+-- and the reply counts the changes that stay and those that go
+abbrev pub switched : Machine → ℕ → List Transaction → Stepped
+switched m t list = replied (with_switch m t list) (reply.Packed (change_count list) (change_count m.list - change_count list))
+
+-- unless a record that the reach follows can't be read
+abbrev pub switch_unless : (List ℕ → Option (List ℕ)) → Machine → ℕ → Option (ℕ × ℕ) → Stepped
+switch_unless named m t (Some w) = replied_refusal m (refusal.Unreadable w.0 w.1)
+switch_unless named m t None = switched m t (packed_of named t m.list)
+
+-- Pack: the reached objects are marked, what stays is copied, and the copy is put in the place of the list, all in one step
+abbrev pub pack_step : (List ℕ → Option (List ℕ)) → Machine → ℕ → Stepped
+pack_step named m t = switch_unless named m t (unreadable named t m.list)
+
 -- ---- a step
 
 -- what undo writes, each new change seen over the list
@@ -171,6 +214,7 @@ request_step rules m n request.Finish stamp = finish_step m n m.vote
 request_step rules m n request.Abort stamp = replied (without_vote m n) reply.Aborted
 request_step rules m n (request.History oid) stamp = replied m (reply.History (history_of oid m.list))
 request_step rules m n request.UndoLog stamp = replied m (reply.UndoLog (undo_log_of m.list))
+request_step rules m n (request.Pack tid) stamp = pack_step rules.named m (pack_tid tid m.list)
 request_step rules m n request.Close stamp = replied (without_session m n) reply.Closed
 
 abbrev pub unless_early : Option Refusal → Machine → Stepped → Stepped

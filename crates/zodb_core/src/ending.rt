@@ -42,7 +42,7 @@ fn take_writes(vote: &mut Option<HubVote>) -> Option<VotedEntry>
 }
 
 /// Puts an entry behind the others, for which there is room.
-fn push_entry(journal: &mut Vec<JournalEntry>, entry: JournalEntry)
+pub(crate) fn push_entry(journal: &mut Vec<JournalEntry>, entry: JournalEntry)
     requires room { length journal.old.items < vec_capacity journal.old }
     ensures { journal.new.items ≡ journal.old.items ++ entry ∷ [] }
 {
@@ -51,14 +51,15 @@ fn push_entry(journal: &mut Vec<JournalEntry>, entry: JournalEntry)
 
 impl<St: Store, R: Resolver, F: Refs> Hub<St, R, F> {
     /// What the session has voted is appended to the list. It takes no memory.
-    #[tactic(auto, using(crate::proofs::Votes::finish_empty, crate::proofs::Votes::finish_committed, crate::proofs::Votes::moments_kept, crate::proofs::Votes::moments_finish, zb_model::specs::StayLaws::stays_same))]
+    #[tactic(auto, using(crate::proofs::Votes::finish_empty, crate::proofs::Votes::finish_committed, crate::proofs::Votes::moments_kept, crate::proofs::Votes::moments_finish, crate::proofs::Switching::begun_none, zb_model::specs::StayLaws::stays_same))]
     pub(crate) fn finish(&mut self, session: u32) -> Reply
         requires whole { self.old.store.broken ≡ false }
         requires is_open { is_open_in self.old.sessions session ≡ true }
         ensures step { St.told → (m : Machine) → StandsForMachine self.old m → (stamps : Option (List Stamp)) →
             MakesStep (rules_of R.rules F.named self.old) m session Request.Finish
             result self.old self.new stamps stamps }
-        ensures safe { StepsSafely result self.old self.new }
+        ensures safe { StepsSafely false result self.old self.new }
+        ensures begun { self.old.store.begun ≡ None → self.new.store.begun ≡ None }
         ensures side { St.lasts → StaysAs Side self.old.store.log self.new.store.log }
         ensures memory { ¬ (outcome_of result ≡ NoMemory) }
         ensures unread { ¬ (outcome_of result ≡ ReadingFailed) }
@@ -91,7 +92,7 @@ impl<St: Store, R: Resolver, F: Refs> Hub<St, R, F> {
     }
 
     /// What the session has voted is dropped, if it holds the vote.
-    #[tactic(auto, using(crate::proofs::Votes::dropped_none, crate::proofs::Votes::dropped_writes, crate::proofs::Votes::dropped_failed, crate::proofs::Votes::held_writes, zb_model::specs::StayLaws::stays_same))]
+    #[tactic(auto, using(crate::proofs::Votes::dropped_none, crate::proofs::Votes::dropped_writes, crate::proofs::Votes::dropped_failed, crate::proofs::Votes::held_writes, crate::proofs::Switching::begun_none, zb_model::specs::StayLaws::stays_same))]
     fn drop_vote(&mut self, session: u32) -> Result<(), StoreFault>
         requires whole { self.old.store.broken ≡ false }
         ensures dropped { St.told → (m : Machine) → StandsForMachine self.old m →
@@ -106,6 +107,7 @@ impl<St: Store, R: Resolver, F: Refs> Hub<St, R, F> {
         ensures refs { self.new.refs ≡ self.old.refs }
         ensures sessions { self.new.sessions ≡ self.old.sessions }
         ensures reads { self.new.store.read_faults ≡ self.old.store.read_faults }
+        ensures begun { self.old.store.begun ≡ None → self.new.store.begun ≡ None }
         ensures cause { HasCause self.old.store.faults self.new.store.faults result }
         ensures uncounted { OnOk result (self.new.store.faults ≡ self.old.store.faults) }
         ensures side { St.lasts → StaysAs Side self.old.store.log self.new.store.log }
@@ -133,7 +135,8 @@ impl<St: Store, R: Resolver, F: Refs> Hub<St, R, F> {
         ensures step { St.told → (m : Machine) → StandsForMachine self.old m → (stamps : Option (List Stamp)) →
             MakesStep (rules_of R.rules F.named self.old) m session Request.Abort
             result self.old self.new stamps stamps }
-        ensures safe { StepsSafely result self.old self.new }
+        ensures safe { StepsSafely false result self.old self.new }
+        ensures begun { self.old.store.begun ≡ None → self.new.store.begun ≡ None }
         ensures side { St.lasts → StaysAs Side self.old.store.log self.new.store.log }
         ensures memory { ¬ (outcome_of result ≡ NoMemory) }
         ensures unread { ¬ (outcome_of result ≡ ReadingFailed) }
@@ -155,7 +158,8 @@ impl<St: Store, R: Resolver, F: Refs> Hub<St, R, F> {
         ensures step { St.told → (m : Machine) → StandsForMachine self.old m → (stamps : Option (List Stamp)) →
             MakesStep (rules_of R.rules F.named self.old) m session Request.Close
             result self.old self.new stamps stamps }
-        ensures safe { StepsSafely result self.old self.new }
+        ensures safe { StepsSafely false result self.old self.new }
+        ensures begun { self.old.store.begun ≡ None → self.new.store.begun ≡ None }
         ensures side { St.lasts → StaysAs Side self.old.store.log self.new.store.log }
         ensures memory { ¬ (outcome_of result ≡ NoMemory) }
         ensures unread { ¬ (outcome_of result ≡ ReadingFailed) }

@@ -2,11 +2,11 @@
 
 ghost use Rattle.zodb_core.specs.History.{PrefixesAreLegal, RepliesAreOne};
 ghost use Rattle.zodb_core.specs.Laws.{CountsNeverFall, EndingsKeepSound, FrontsNeverFall};
-ghost use Rattle.zodb_core.specs.Laws.{GreatestNeverFalls, HistoriesKeepSound, HistoriesOnlyGrow};
+ghost use Rattle.zodb_core.specs.Laws.{GreatestNeverFalls, HistoriesKeepSound, HistoriesComeTo, HistoriesOnlyGrow};
 ghost use Rattle.zodb_core.specs.Laws.{JournalIsFull, ListsOnlyGrow, ListsStayDatabases, MachineStartsSound};
 ghost use Rattle.zodb_core.specs.Laws.{NewNumbersAreNew, NewestNeverFalls, NumbersComeBehindGreatest};
-ghost use Rattle.zodb_core.specs.Laws.{OpeningsKeepSound, StatesBelowFrontsStay, StepsAreAnswered};
-ghost use Rattle.zodb_core.specs.Laws.{StepsKeepSound};
+ghost use Rattle.zodb_core.specs.Laws.{OpeningsKeepSound, PacksKeepFronts, PacksKeepViews, RecordsBelowFrontsStood};
+ghost use Rattle.zodb_core.specs.Laws.{StatesBelowFrontsStay, StepsAreAnswered, StepsGrowOrPack, StepsKeepSound};
 
 /// What a legal history begins with is legal.
 #[tactic(auto, using(crate::proofs::Legal::prefixes))]
@@ -31,14 +31,24 @@ pub fn machines_stay_sound()
     ensures databases { ListsStayDatabases }
 {}
 
-/// A step leaves the list as it was, or puts one later transaction behind it, and a history puts later
-/// ones behind it. So the newest is never older, the front never lower, and what stood below a front that
-/// the list had reached stays as it was.
+/// A step leaves the list as it was, puts one later transaction behind it, or, where it was asked to pack,
+/// packs it. So the newest is never older and the front never lower. Without a pack what stood below a
+/// front that the list had reached stays as it was; with packs no record stands there that didn't before.
 pub fn lists_only_grow()
-    ensures step { ListsOnlyGrow }
-    ensures history { HistoriesOnlyGrow }
+    ensures step { StepsGrowOrPack }
+    ensures unpacked { ListsOnlyGrow }
+    ensures histories { HistoriesComeTo }
+    ensures growing { HistoriesOnlyGrow }
     ensures newest { NewestNeverFalls }
     ensures states { StatesBelowFrontsStay }
+    ensures records { RecordsBelowFrontsStood }
+{}
+
+/// A pack keeps what views above its tid see: every object that references lead to from the root has the
+/// content that it had. And it leaves the front.
+pub fn packs_keep_views()
+    ensures views { PacksKeepViews }
+    ensures fronts { PacksKeepFronts }
 {}
 
 /// No front that a session is told is below one that any session was told before.

@@ -9,6 +9,7 @@ mod journal;
 mod laws;
 mod news;
 mod oids;
+mod packing;
 mod reading;
 mod reply;
 mod request;
@@ -23,7 +24,8 @@ pub use hub::{Hub, SESSION_LIMIT};
 pub use journal::JournalEntry;
 pub use laws::{
     counts_never_fall, fronts_never_fall, histories_begin, journal_is_full, lists_only_grow,
-    machines_stay_sound, new_numbers_are_new, replies_are_one, steps_are_answered,
+    machines_stay_sound, new_numbers_are_new, packs_keep_views, replies_are_one,
+    steps_are_answered,
 };
 pub use reply::Reply;
 pub use request::Request;

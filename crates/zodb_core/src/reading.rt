@@ -1,6 +1,6 @@
 //! The requests that read, and those that change the hub alone.
 
-ghost use Rattle.std.specs.Prelude.{◌≡◌, ◌<◌, Option, List, false, true};
+ghost use Rattle.std.specs.Prelude.{◌≡◌, ◌<◌, Option, List, None, false, true};
 ghost use Rattle.zb_ids.specs.declared.stamp.Stamp.{Stamp};
 ghost use Rattle.zodb_core.specs.HubState.{MakesStep, StandsForMachine, StepsSafely, rules_of};
 ghost use Rattle.zodb_core.specs.Machine.{Machine, front_of, is_open_in};
@@ -59,7 +59,8 @@ impl<St: Store, R: Resolver, F: Refs> Hub<St, R, F> {
         ensures step { St.told → (m : Machine) → StandsForMachine self.old m → (stamps : Option (List Stamp)) →
             MakesStep (rules_of R.rules F.named self.old) m session Request.Front
             result self.old self.new stamps stamps }
-        ensures safe { StepsSafely result self.old self.new }
+        ensures safe { StepsSafely false result self.old self.new }
+        ensures begun { self.old.store.begun ≡ None → self.new.store.begun ≡ None }
         ensures unread { ¬ (outcome_of result ≡ ReadingFailed) }
         ensures unwritten { ¬ (outcome_of result ≡ StoreFailed) }
         ensures log { self.new.store.log ≡ self.old.store.log }
@@ -93,7 +94,8 @@ impl<St: Store, R: Resolver, F: Refs> Hub<St, R, F> {
         ensures step { St.told → (m : Machine) → StandsForMachine self.old m → (stamps : Option (List Stamp)) →
             MakesStep (rules_of R.rules F.named self.old) m session (Request.LoadBefore oid front)
             result self.old self.new stamps stamps }
-        ensures safe { StepsSafely result self.old self.new }
+        ensures safe { StepsSafely false result self.old self.new }
+        ensures begun { self.old.store.begun ≡ None → self.new.store.begun ≡ None }
         ensures unwritten { ¬ (outcome_of result ≡ StoreFailed) }
         ensures log { self.new.store.log ≡ self.old.store.log }
     {
@@ -111,7 +113,8 @@ impl<St: Store, R: Resolver, F: Refs> Hub<St, R, F> {
         ensures step { St.told → (m : Machine) → StandsForMachine self.old m → (stamps : Option (List Stamp)) →
             MakesStep (rules_of R.rules F.named self.old) m session (Request.History oid)
             result self.old self.new stamps stamps }
-        ensures safe { StepsSafely result self.old self.new }
+        ensures safe { StepsSafely false result self.old self.new }
+        ensures begun { self.old.store.begun ≡ None → self.new.store.begun ≡ None }
         ensures unwritten { ¬ (outcome_of result ≡ StoreFailed) }
         ensures log { self.new.store.log ≡ self.old.store.log }
     {
@@ -128,7 +131,8 @@ impl<St: Store, R: Resolver, F: Refs> Hub<St, R, F> {
         ensures step { St.told → (m : Machine) → StandsForMachine self.old m → (stamps : Option (List Stamp)) →
             MakesStep (rules_of R.rules F.named self.old) m session Request.UndoLog
             result self.old self.new stamps stamps }
-        ensures safe { StepsSafely result self.old self.new }
+        ensures safe { StepsSafely false result self.old self.new }
+        ensures begun { self.old.store.begun ≡ None → self.new.store.begun ≡ None }
         ensures unwritten { ¬ (outcome_of result ≡ StoreFailed) }
         ensures log { self.new.store.log ≡ self.old.store.log }
     {
@@ -146,7 +150,8 @@ impl<St: Store, R: Resolver, F: Refs> Hub<St, R, F> {
         ensures step { St.told → (m : Machine) → StandsForMachine self.old m → (stamps : Option (List Stamp)) →
             MakesStep (rules_of R.rules F.named self.old) m session (Request.NewOids count)
             result self.old self.new stamps stamps }
-        ensures safe { StepsSafely result self.old self.new }
+        ensures safe { StepsSafely false result self.old self.new }
+        ensures begun { self.old.store.begun ≡ None → self.new.store.begun ≡ None }
         ensures unread { ¬ (outcome_of result ≡ ReadingFailed) }
         ensures unwritten { ¬ (outcome_of result ≡ StoreFailed) }
         ensures memory { ¬ (outcome_of result ≡ NoMemory) }

@@ -61,6 +61,13 @@ pub enum Reply {
         /// The transactions, the newest first.
         list: ListOf<LogLine>,
     },
+    /// The list is the packed one from now on.
+    Packed {
+        /// How many changes it has.
+        kept: u64,
+        /// How many changes went.
+        dropped: u64,
+    },
     /// The session is closed.
     Closed,
     /// The step was refused.

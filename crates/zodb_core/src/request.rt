@@ -51,6 +51,11 @@ pub enum Request {
     },
     /// Every transaction that may be undone, the newest first.
     UndoLog,
+    /// The list is packed: what no view above a tid needs is dropped.
+    Pack {
+        /// Up to this tid, but never over the newest transaction.
+        tid: Tid,
+    },
     /// The end of the session; what it has voted is dropped.
     Close,
 }

@@ -1,11 +1,13 @@
 //! One step.
 
-ghost use Rattle.std.specs.Prelude.{◌≡◌, Option, List, false, true};
+ghost use Rattle.std.specs.Prelude.{◌≡◌, Option, List, None, false, true};
 ghost use Rattle.zb_volume.specs.declared.areas.Area.TheVariants.{Main, Side};
 ghost use Rattle.zb_volume.specs.Moments.{LeavesOnly, StaysAs};
-ghost use Rattle.zodb_core.specs.HubState.{IsBeforeOrBehind, IsFitting, MakesStep, StandsForMachine, StepsSafely, rules_of};
+ghost use Rattle.zb_model.specs.Database.{IsDatabase};
+ghost use Rattle.zodb_core.specs.HubState.{IsBeforeOrBehind, IsFitting, MakesStep, StandsForMachine, StepsSafely, may_write, rules_of};
 ghost use Rattle.zodb_core.specs.Machine.{Machine, is_open_in};
-ghost use Rattle.zodb_core.specs.Outcomes.{NoMemory, ReadingFailed, StoreFailed, keeps_store, outcome_of, reads_store, takes_memory};
+ghost use Rattle.zodb_core.specs.Outcomes.{NoMemory, ReadingFailed, StoreFailed, is_pack, keeps_store, outcome_of, reads_store, takes_memory};
+ghost use Rattle.zodb_core.specs.Seen.{KeepsSeen};
 
 use crate::hub::Hub;
 use crate::reply::Reply;
@@ -26,7 +28,7 @@ impl<St: Store, R: Resolver, F: Refs> Hub<St, R, F> {
     /// The clock is read once by each vote or undo that has changes to write, and by no other step.
     /// Where the store's list lies on a disk, each crash in a step leaves the list before it or the one
     /// behind it.
-    #[tactic(auto, using(crate::proofs::Votes::closed_failed, crate::proofs::Votes::closed_now, crate::proofs::Votes::moments_kept, crate::proofs::Votes::moments_same, zb_model::specs::StayLaws::stays_same, zb_model::specs::StayLaws::stays_from))]
+    #[tactic(auto, using(crate::proofs::Votes::closed_failed, crate::proofs::Votes::closed_now, crate::proofs::Votes::moments_kept, crate::proofs::Votes::moments_same, zb_model::specs::StayLaws::stays_same, zb_model::specs::StayLaws::stays_from, crate::specs::SwitchLaws::unpacked_keeps))]
     pub fn step<C: Clock>(
         &mut self,
         alloc: Global,
@@ -38,8 +40,14 @@ impl<St: Store, R: Resolver, F: Refs> Hub<St, R, F> {
         ensures step { St.told → (m : Machine) → StandsForMachine self.old m →
             MakesStep (rules_of R.rules F.named self.old) m session request
             result self.old self.new (C.stamps clock.old) (C.stamps clock.new) }
-        ensures safe { StepsSafely result self.old self.new }
-        ensures side { St.lasts → StaysAs Side self.old.store.log self.new.store.log }
+        ensures safe { StepsSafely (is_pack request) result self.old self.new }
+        ensures side { St.lasts → is_pack request ≡ false → StaysAs Side self.old.store.log self.new.store.log }
+        ensures main { St.lasts → is_pack request ≡ true → may_write false result ≡ false →
+            StaysAs Main self.old.store.log self.new.store.log }
+        ensures views { St.told → KeepsSeen (F.named self.old.refs) request result
+            self.old.store.list self.new.store.list }
+        ensures database { St.told → self.old.store.broken ≡ false → IsDatabase self.old.store.list }
+        ensures begun { self.old.store.begun ≡ None → self.new.store.begun ≡ None }
         ensures failed { self.old.store.broken ≡ true →
             (result ≡ Reply.Refused Refusal.NotOpen) × (self.new ≡ self.old) }
         ensures closed { is_open_in self.old.sessions session ≡ false →
@@ -91,6 +99,7 @@ impl<St: Store, R: Resolver, F: Refs> Hub<St, R, F> {
             Request::Abort => self.abort(session),
             Request::History { oid } => self.history(alloc, session, oid),
             Request::UndoLog => self.undo_log(alloc, session),
+            Request::Pack { tid } => self.pack(alloc, session, tid),
             Request::Close => self.close(session),
         }
     }
