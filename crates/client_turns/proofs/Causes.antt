@@ -1,5 +1,5 @@
 -- What lines do to the counts of faults.
-use Rattle.std.proofs.Common.{◌≡◌, ℕ, Bool, true, false, Option, Some, None, Result, Ok, Err, refl, sym, ap, subst, arith, ◌∙◌}
+use Rattle.std.proofs.Common.{◌≡◌, ℕ, Bool, true, false, Option, Some, None, Result, Ok, Err, refl, sym, ap, subst, ◌∙◌}
 use Rattle.std.specs.Prelude.{IfOk, OnErr}
 use Rattle.std.specs.declared.alloc.AllocError.{AllocError}
 use Rattle.zb_base.specs.Counts.{Rose}
@@ -28,8 +28,8 @@ counted_of before now ReadingFailed cause others = (cause, others refl)
 counted_of before now NoMemory cause others = cause
 counted_of before now StoreFailed cause others = cause
 
-pub safe_of : {R F : Type 0} (r : Reply) (old new : HubState R F) → StepsSafely r old new → MakesSafely r old new
-safe_of r old new safe = record {
+pub safe_of : {R F : Type 0} (packs : Bool) (r : Reply) (old new : HubState R F) → StepsSafely packs r old new → MakesSafely r old new
+safe_of packs r old new safe = record {
   resolver = safe.resolver;
   refs = safe.refs;
   later = safe.later;

@@ -1,13 +1,12 @@
 -- A refusal has its cause.
-use Rattle.std.proofs.Common.{◌≡◌, ℕ, ◌+◌, ◌≤◌, Bool, true, false, List, [], ◌∷◌, ◌++◌, length, nat_lt, if◌then◌else◌, not, cond, Option, Some, None, Result, Ok, Err, refl, sym, ap, subst, ◌∙◌, arith}
+use Rattle.std.proofs.Common.{◌≡◌, ℕ, ◌≤◌, Bool, true, false, List, [], ◌∷◌, ◌++◌, length, nat_lt, if◌then◌else◌, not, Option, Some, None, Result, Ok, Err, refl, sym, ap, subst, ◌∙◌, arith}
 use Rattle.std.specs.Option.{option_map, option_or}
 use Rattle.std.specs.Prelude.{slice_get}
 use Rattle.std.proofs.lemmas.Bool.{ltb-false}
-use Rattle.zb_base.specs.Counts.{Rose, rose_before}
+use Rattle.zb_base.specs.Counts.{rose_before}
 use Rattle.zb_model.specs.declared.pending.PendingStore.{PendingStore}
 use Rattle.zb_model.specs.declared.refusal.Refusal.{Refusal}
 use Rattle.zb_model.specs.declared.refusal.Refusal.TheVariants as refusal
-use Rattle.zb_script.specs.declared.answer.Answer.{Answer}
 use Rattle.zb_script.specs.declared.answer.Answer.TheVariants as answer
 use Rattle.zb_script.specs.declared.line.Line.{Line}
 use Rattle.zb_script.specs.declared.line.Line.TheVariants as line
@@ -16,18 +15,16 @@ use Rattle.commit_phases.specs.Pending.{excess_with, pending_of}
 use Rattle.zodb_core.specs.declared.reply.Reply.{Reply}
 use Rattle.zodb_core.specs.declared.reply.Reply.TheVariants as reply
 use Rattle.zodb_core.specs.declared.request.Request.{Request}
-use Rattle.zodb_core.specs.Machine.{Machine, Rules, is_open_in, session_limit, with_session}
-use Rattle.zodb_core.specs.Outcomes.{Answered, EndsFor, FaultCounts, NoMemory, ReadingFailed, StepOutcome, StoreFailed, outcome_of}
-use Rattle.zodb_core.specs.Steps.{Stepped, refuse_if, step_of}
-use Rattle.client_turns.specs.declared.client.Changes.{Changes}
+use Rattle.zodb_core.specs.Machine.{Rules, is_open_in, with_session}
+use Rattle.zodb_core.specs.Outcomes.{Answered, EndsFor, NoMemory, ReadingFailed, StepOutcome, StoreFailed, outcome_of}
+use Rattle.zodb_core.specs.Steps.{Stepped, refuse_if}
 use Rattle.client_turns.specs.declared.got.Got.{Got}
 use Rattle.client_turns.specs.Clients.{Client, Moment, OpenTransaction, changes_of, place_of_client}
 use Rattle.client_turns.specs.Laws.{HasOpen, IsNamed, IsRefusedFor, RefusalsHaveTheirCause, by_connection, by_length, by_reading, by_step, by_view, crowded, unnamed}
-use Rattle.client_turns.specs.Lines.{answer_of, data_of, end_in, is_committed, object_of, put, request_of, store_unless, stored}
+use Rattle.client_turns.specs.Lines.{answer_of, data_of, end_in, is_committed, object_of, put, request_of, store_unless}
 use Rattle.client_turns.specs.Reads.{EndsReading}
 use Rattle.client_turns.specs.Refusing.{connection_refusal, line_refusal, opens_session}
-use Rattle.client_turns.specs.Turns.{IsClosed, IsClosing, IsGet, IsLine, IsLineOf, IsLineTaken, IsLineUnless, IsOpening, IsOwnLine, IsPut, IsReadLine, IsStepLine, IsTold, IsWithin, Opening}
-use Rattle.client_turns.specs.Views.{View}
+use Rattle.client_turns.specs.Turns.{IsClosed, IsClosing, IsGet, IsLine, IsLineOf, IsLineTaken, IsLineUnless, IsOpening, IsOwnLine, IsPut, IsStepLine, IsTold, IsWithin, Opening}
 use Rattle.client_turns.proofs.Data.{asks_no_load, is_loaded, step_unread}
 
 -- ---- refusals by their outcome
@@ -194,6 +191,7 @@ reply_refused rules m behind t c q stamp reply.Empty ticks why named asks whole 
 reply_refused rules m behind t c q stamp reply.Aborted ticks why named asks whole ends is = absurd cc
 reply_refused rules m behind t c q stamp (reply.History list) ticks why named asks whole ends is = absurd cc
 reply_refused rules m behind t c q stamp (reply.UndoLog list) ticks why named asks whole ends is = absurd cc
+reply_refused rules m behind t c q stamp (reply.Packed kept dropped) ticks why named asks whole ends is = absurd cc
 reply_refused rules m behind t c q stamp reply.Closed ticks why named asks whole ends is = absurd cc
 
 -- behind a step that is refused nothing is told
@@ -208,6 +206,7 @@ untold rules b x n reply.Empty why is told = omega (arith, ap (λ (y : Moment). 
 untold rules b x n reply.Aborted why is told = omega (arith, ap (λ (y : Moment). y.counts.reads) told)
 untold rules b x n (reply.History list) why is told = omega (arith, ap (λ (y : Moment). y.counts.reads) told)
 untold rules b x n (reply.UndoLog list) why is told = omega (arith, ap (λ (y : Moment). y.counts.reads) told)
+untold rules b x n (reply.Packed kept dropped) why is told = omega (arith, ap (λ (y : Moment). y.counts.reads) told)
 untold rules b x n reply.Closed why is told = omega (arith, ap (λ (y : Moment). y.counts.reads) told)
 untold rules b x n (reply.Refused w) why is told = omega (arith, ap (λ (y : Moment). y.counts.reads) told)
 
@@ -352,6 +351,7 @@ within_refused rules m now t at c o line.Finish why has whole opens asks is = ab
 within_refused rules m now t at c o line.Abort why has whole opens asks is = absurd cc
 within_refused rules m now t at c o (line.History oid) why has whole opens asks is = absurd cc
 within_refused rules m now t at c o line.UndoLog why has whole opens asks is = absurd cc
+within_refused rules m now t at c o (line.Pack tid) why has whole opens asks is = absurd cc
 within_refused rules m now t at c o line.Close why has whole opens asks is = absurd cc
 
 -- without a transaction the connection refuses it
@@ -383,7 +383,9 @@ closed_not X false line.Abort opens asks passes = absurd cc
 closed_not X true (line.History oid) opens asks passes = absurd cc
 closed_not X false (line.History oid) opens asks passes = absurd cc
 closed_not X true line.UndoLog opens asks passes = absurd cc
+closed_not X true (line.Pack tid) opens asks passes = absurd cc
 closed_not X false line.UndoLog opens asks passes = absurd cc
+closed_not X false (line.Pack tid) opens asks passes = absurd cc
 closed_not X true line.Close opens asks passes = absurd cc
 closed_not X false line.Close opens asks passes = absurd cc
 
@@ -442,6 +444,7 @@ line_refused rules m now t line.Finish why said whole is = named_refused rules m
 line_refused rules m now t line.Abort why said whole is = named_refused rules m now t line.Abort why said refl whole is
 line_refused rules m now t (line.History oid) why said whole is = named_refused rules m now t (line.History oid) why said refl whole is
 line_refused rules m now t line.UndoLog why said whole is = named_refused rules m now t line.UndoLog why said refl whole is
+line_refused rules m now t (line.Pack tid) why said whole is = named_refused rules m now t (line.Pack tid) why said refl whole is
 line_refused rules m now t line.Close why said whole is = named_refused rules m now t line.Close why said refl whole is
 
 closed_later : (rules : Rules) (m now : Moment) (at : Option ℕ) → IsClosed rules m at now → m.counts.reads ≤ now.counts.reads

@@ -28,7 +28,8 @@ use Rattle.zodb_core.specs.declared.request.Request.TheVariants as request
 use Rattle.zodb_core.specs.declared.texts.Texts.{Texts}
 use Rattle.zodb_core.specs.Machine.{Machine, MachineVote, Rules, with_session}
 use Rattle.zodb_core.specs.Outcomes.{EndsFor, FaultCounts, outcome_of}
-use Rattle.zodb_core.specs.Steps.{Stepped, changes_in_journal, early_refusal, finish_gives, finish_step, journal_limit, replied_refusal, request_step, step_of, transaction_with, unless_early, vote_at, vote_counted, vote_step, with_vote}
+use Rattle.pack_reach.specs.Reached.{unreadable}
+use Rattle.zodb_core.specs.Steps.{Stepped, changes_in_journal, early_refusal, finish_gives, finish_step, journal_limit, pack_tid, replied_refusal, request_step, step_of, switch_unless, transaction_with, unless_early, vote_at, vote_counted, vote_step, with_vote}
 use Rattle.client_turns.specs.declared.client.Changes.{Changes}
 use Rattle.client_turns.specs.declared.got.Got.{Got}
 use Rattle.client_turns.specs.Clients.{Client, Moment, OpenTransaction, changes_of, place_of_client}
@@ -78,6 +79,10 @@ finish_unread m n (Some v) = by_writes v.writes
     by_writes None = refl
     by_writes (Some t) = refl
 
+pack_unread : (named : List ℕ → Option (List ℕ)) (m : Machine) (t : ℕ) (w : Option (ℕ × ℕ)) → Unread (switch_unless named m t w)
+pack_unread named m t None = refl
+pack_unread named m t (Some w) = refl
+
 abbrev pub AsksNoLoad : Request → Type 0
 AsksNoLoad (request.LoadBefore oid front) = ⊥
 AsksNoLoad _ = Unit {0}
@@ -94,6 +99,7 @@ request_unread rules m n request.Finish stamp not = finish_unread m n m.vote
 request_unread rules m n request.Abort stamp not = refl
 request_unread rules m n (request.History oid) stamp not = refl
 request_unread rules m n request.UndoLog stamp not = refl
+request_unread rules m n (request.Pack tid) stamp not = pack_unread rules.named m (pack_tid tid m.list) (unreadable rules.named (pack_tid tid m.list) m.list)
 request_unread rules m n request.Close stamp not = refl
 
 unless_unread : (early : Option Refusal) (m : Machine) (made : Stepped) → Unread made → Unread (unless_early early m made)
@@ -122,6 +128,7 @@ reply_data rules m n q stamp reply.Empty left ticks a b not made = refl
 reply_data rules m n q stamp reply.Aborted left ticks a b not made = refl
 reply_data rules m n q stamp (reply.History list) left ticks a b not made = refl
 reply_data rules m n q stamp (reply.UndoLog list) left ticks a b not made = refl
+reply_data rules m n q stamp (reply.Packed kept dropped) left ticks a b not made = refl
 reply_data rules m n q stamp reply.Closed left ticks a b not made = refl
 reply_data rules m n q stamp (reply.Refused why) left ticks a b not made = refl
 
@@ -140,6 +147,7 @@ asks_no_load ch line.Finish q is = subst AsksNoLoad (same_Some request.Finish q 
 asks_no_load ch line.Abort q is = subst AsksNoLoad (same_Some request.Abort q is) tt
 asks_no_load ch (line.History oid) q is = subst AsksNoLoad (same_Some (request.History oid) q is) tt
 asks_no_load ch line.UndoLog q is = subst AsksNoLoad (same_Some request.UndoLog q is) tt
+asks_no_load ch (line.Pack tid) q is = subst AsksNoLoad (same_Some (request.Pack tid) q is) tt
 asks_no_load ch line.Close q is = subst AsksNoLoad (same_Some request.Close q is) tt
 
 store_data : (t : Changes) (p : PendingStore) (o : Option ℕ) → is_data (store_unless t p o).answer ≡ false
@@ -279,6 +287,7 @@ within_reads m now at c t line.Finish serial bytes is = not_data (ReadsWithin t 
 within_reads m now at c t line.Abort serial bytes is = not_data (ReadsWithin t line.Abort serial bytes) (answer.Data serial bytes) refl (ap is_data is.0)
 within_reads m now at c t (line.History oid) serial bytes is = not_data (ReadsWithin t (line.History oid) serial bytes) (answer.Data serial bytes) refl (ap is_data is.0)
 within_reads m now at c t line.UndoLog serial bytes is = not_data (ReadsWithin t line.UndoLog serial bytes) (answer.Data serial bytes) refl (ap is_data is.0)
+within_reads m now at c t (line.Pack tid) serial bytes is = not_data (ReadsWithin t (line.Pack tid) serial bytes) (answer.Data serial bytes) refl (ap is_data is.0)
 within_reads m now at c t line.Close serial bytes is = not_data (ReadsWithin t line.Close serial bytes) (answer.Data serial bytes) refl (ap is_data is.0)
 
 -- what a client's line reads

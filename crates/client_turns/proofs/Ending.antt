@@ -12,7 +12,6 @@ use Rattle.zodb_core.specs.declared.request.Request.{Request}
 use Rattle.zodb_core.specs.HubState.{HubState, StandsForMachine, counts_of, rules_of}
 use Rattle.zodb_core.specs.Machine.{Machine, Rules, front_of, switches_of}
 use Rattle.zodb_core.specs.Outcomes.{EndsFor, FaultCounts, outcome_of}
-use Rattle.zodb_core.specs.Sound.{IsDistinctRequest}
 use Rattle.zodb_core.specs.StepCases.{StepCases, by_step}
 use Rattle.zodb_core.specs.Steps.{Stepped, loaded, step_of}
 use Rattle.client_turns.specs.declared.client.Changes.{Changes}
@@ -37,8 +36,8 @@ found_no_front m oid (found.Held serial bytes end) = tt
 found_no_front m oid (found.Absent serial) = tt
 found_no_front m oid found.Nothing = tt
 
-front_cases : (m : Machine) (n : ℕ) (distinct : Type 0) → StepCases (λ s. ShowsFront s.machine s.reply) m n distinct
-front_cases m n distinct = record {
+front_cases : (m : Machine) (n : ℕ) (q : Request) → StepCases (λ s. ShowsFront s.machine s.reply) m n q
+front_cases m n q = record {
   refused = λ r is. tt;
   full = λ count. tt;
   spent = tt;
@@ -52,12 +51,13 @@ front_cases m n distinct = record {
   dropped = tt;
   listed = λ revisions. tt;
   logged = λ lines. tt;
+  packed = λ is t keep free below. tt;
   closed = tt;
 }
 
 answered_front : (rules : Rules) (m : Machine) (n : ℕ) (q : Request) (stamp : ℕ) (made : Stepped) → made ≡ step_of rules m n q stamp → ShowsFront made.machine made.reply
 answered_front rules m n q stamp made is =
-    subst (λ (s : Stepped). ShowsFront s.machine s.reply) (sym is) (by_step (λ s. ShowsFront s.machine s.reply) rules m n q stamp (front_cases m n (IsDistinctRequest q)))
+    subst (λ (s : Stepped). ShowsFront s.machine s.reply) (sym is) (by_step (λ s. ShowsFront s.machine s.reply) rules m n q stamp (front_cases m n q))
 
 made_front : (rules : Rules) (m left : Machine) (n : ℕ) (q : Request) (stamp : ℕ) (ticks : Bool) (r : Reply) (before now : FaultCounts)
     → EndsFor rules m n q stamp (record { reply = r; machine = left; ticks = ticks }) before now (outcome_of r) → ShowsFront left r
@@ -71,6 +71,7 @@ made_front rules m left n q stamp ticks reply.Empty before now ends = tt
 made_front rules m left n q stamp ticks reply.Aborted before now ends = tt
 made_front rules m left n q stamp ticks (reply.History list) before now ends = tt
 made_front rules m left n q stamp ticks (reply.UndoLog list) before now ends = tt
+made_front rules m left n q stamp ticks (reply.Packed kept dropped) before now ends = tt
 made_front rules m left n q stamp ticks reply.Closed before now ends = tt
 made_front rules m left n q stamp ticks (reply.Refused why) before now ends = tt
 
@@ -86,6 +87,7 @@ told_front rules b t n reply.Empty told shows = tt
 told_front rules b t n reply.Aborted told shows = tt
 told_front rules b t n (reply.History list) told shows = tt
 told_front rules b t n (reply.UndoLog list) told shows = tt
+told_front rules b t n (reply.Packed kept dropped) told shows = tt
 told_front rules b t n reply.Closed told shows = tt
 told_front rules b t n (reply.Refused why) told shows = tt
 
@@ -115,6 +117,7 @@ left_is m w t (reply.Nothing oid switches) shows is = is
 left_is m w t (reply.Oids first count) shows is = is
 left_is m w t (reply.History list) shows is = is
 left_is m w t (reply.UndoLog list) shows is = is
+left_is m w t (reply.Packed kept dropped) shows is = is
 left_is m w t (reply.Refused why) shows is = is
 
 -- ---- a line that is one step

@@ -1,4 +1,4 @@
--- Turns keep a moment sound, and its list only grows.
+-- Turns keep a moment sound, and its list only grows and is packed.
 use Rattle.std.proofs.Common.{◌≡◌, ℕ, zero, suc, Bool, true, false, List, [], ◌∷◌, ◌++◌, length, Option, Some, None, Result, Ok, Err, if◌then◌else◌, nat_lt, refl, sym, ap, subst, ◌∙◌, arith}
 use Rattle.std.specs.Prelude.{IfSome, nat_eq, slice_get, slice_set}
 use Rattle.std.specs.List.{AllByRecursion, IsDistinct}
@@ -21,8 +21,8 @@ use Rattle.zodb_core.specs.DecisionLaws.{pending_once}
 use Rattle.zodb_core.specs.HistoryLaws.{left_greatest}
 use Rattle.zodb_core.specs.Machine.{Machine, Rules, with_session}
 use Rattle.zodb_core.specs.Outcomes.{machine_left, outcome_of}
-use Rattle.zodb_core.specs.Sound.{IsDistinctRequest, IsSoundMachine}
-use Rattle.zodb_core.specs.SoundLaws.{grows_not, grows_to, grows_twice, left_grows, left_sound, opened_sound}
+use Rattle.zodb_core.specs.Sound.{GoesOnTo, IsDistinctRequest, IsSoundMachine, moved, unmoved}
+use Rattle.zodb_core.specs.SoundLaws.{comes_twice, grows_not, grows_to, grows_twice, left_goes_on, left_sound, opened_sound, sound_later}
 use Rattle.client_turns.specs.declared.client.Changes.{Changes}
 use Rattle.client_turns.specs.declared.got.Got.{Got}
 use Rattle.client_turns.specs.Clients.{Client, Moment, OpenTransaction, changes_of, place_of_client}
@@ -36,27 +36,38 @@ use Rattle.client_turns.specs.Views.{View}
 -- ---- machines that steps lead to
 
 follows_same : (m : Machine) → IsSoundMachine m → Follows m m
-follows_same m sound = record { sound = sound; grows = grows_not m.list; greatest = omega arith }
+follows_same m sound = record { sound = sound; comes = unmoved; switches = omega arith; grows = λ _. grows_not m.list; greatest = omega arith }
 
 follows_as : (m now : Machine) → IsSoundMachine m → now ≡ m → Follows m now
 follows_as m now sound is = subst (Follows m) (sym is) (follows_same m sound)
 
 pub follows_twice : (m b now : Machine) → Follows m b → Follows b now → Follows m now
-follows_twice m b now one two = record { sound = two.sound; grows = grows_twice m.list b.list now.list one.grows two.grows; greatest = omega (arith, one.greatest, two.greatest) }
+follows_twice m b now one two = record {
+  sound = two.sound;
+  comes = comes_twice m.list b.list now.list one.comes two.comes;
+  switches = omega (arith, one.switches, two.switches);
+  grows = λ still. grows_twice m.list b.list now.list (one.grows (omega (arith, still, one.switches, two.switches))) (two.grows (omega (arith, still, one.switches, two.switches)));
+  greatest = omega (arith, one.greatest, two.greatest);
+}
 
 step_follows : (rules : Rules) (m : Moment) (n : ℕ) (q : Request) (r : Reply) (now : Moment) → IsSoundMachine m.machine → IsDistinctRequest q → IsStepAt rules m n q r now → Follows m.machine now.machine
-step_follows rules m n q r now sound once step = subst (Follows m.machine) (sym step.made.left) (record {
-  sound = left_sound rules m.machine n q step.stamp (outcome_of r) sound once;
-  grows = grows_to m.machine.list (machine_left rules m.machine n q step.stamp (outcome_of r)).list (left_grows rules m.machine n q step.stamp (outcome_of r) sound);
-  greatest = left_greatest rules m.machine n q step.stamp (outcome_of r);
-})
+step_follows rules m n q r now sound once step =
+    let left : Machine = machine_left rules m.machine n q step.stamp (outcome_of r) in
+    let goes : GoesOnTo m.machine left = left_goes_on rules m.machine n q step.stamp (outcome_of r) (sound_later m.machine sound) in
+    subst (Follows m.machine) (sym step.made.left) (record {
+      sound = left_sound rules m.machine n q step.stamp (outcome_of r) sound once;
+      comes = moved m.machine.list left.list unmoved sound.database goes.becomes;
+      switches = goes.switches;
+      grows = λ still. grows_to m.machine.list left.list (goes.grows still);
+      greatest = left_greatest rules m.machine n q step.stamp (outcome_of r);
+    })
 
 told_follows : (rules : Rules) (b t : Moment) (n : ℕ) (committed : Bool) → IsSoundMachine b.machine → IsTold rules committed b n t → Follows b.machine t.machine
 told_follows rules b t n false sound told = follows_as b.machine t.machine sound (ap (λ (x : Moment). x.machine) told)
 told_follows rules b t n true sound told = step_follows rules b n request.Front told.0 t sound tt told.1
 
 opened_follows : (m : Machine) → IsSoundMachine m → Follows m (with_session m)
-opened_follows m sound = record { sound = opened_sound m sound; grows = grows_not m.list; greatest = omega arith }
+opened_follows m sound = record { sound = opened_sound m sound; comes = unmoved; switches = omega arith; grows = λ _. grows_not m.list; greatest = omega arith }
 
 -- ---- what waits names each object once
 
@@ -80,6 +91,7 @@ left_once m t (reply.Nothing oid switches) once = once
 left_once m t (reply.Oids first count) once = once
 left_once m t (reply.History list) once = once
 left_once m t (reply.UndoLog list) once = once
+left_once m t (reply.Packed kept dropped) once = once
 left_once m t (reply.Refused why) once = once
 
 stored_once : (t : Changes) (p : PendingStore) (o : Option ℕ) → AreOnce t → AreOnce (store_unless t p o).changes
@@ -158,6 +170,7 @@ asked_once ch line.Finish q once is = subst IsDistinctRequest (same_request requ
 asked_once ch line.Abort q once is = subst IsDistinctRequest (same_request request.Abort q is) tt
 asked_once ch (line.History oid) q once is = subst IsDistinctRequest (same_request (request.History oid) q is) tt
 asked_once ch line.UndoLog q once is = subst IsDistinctRequest (same_request request.UndoLog q is) tt
+asked_once ch (line.Pack tid) q once is = subst IsDistinctRequest (same_request (request.Pack tid) q is) tt
 asked_once ch line.Close q once is = subst IsDistinctRequest (same_request request.Close q is) tt
 asked_once None (line.Vote user description) q once is = subst IsDistinctRequest (same_request (request.Vote user description [] (record { stores = []; checks = [] })) q is) none_once
 asked_once (Some t) (line.Vote user description) q once is = subst IsDistinctRequest (same_request (request.Vote user description [] t.pending) q is) once
@@ -209,6 +222,7 @@ within_once m now at c t line.Finish a all once is = subst (AllByRecursion IsOnc
 within_once m now at c t line.Abort a all once is = subst (AllByRecursion IsOnceClient) (sym (ap (λ (x : Moment). x.clients) is.1)) all
 within_once m now at c t (line.History oid) a all once is = subst (AllByRecursion IsOnceClient) (sym (ap (λ (x : Moment). x.clients) is.1)) all
 within_once m now at c t line.UndoLog a all once is = subst (AllByRecursion IsOnceClient) (sym (ap (λ (x : Moment). x.clients) is.1)) all
+within_once m now at c t (line.Pack tid) a all once is = subst (AllByRecursion IsOnceClient) (sym (ap (λ (x : Moment). x.clients) is.1)) all
 within_once m now at c t line.Close a all once is = subst (AllByRecursion IsOnceClient) (sym (ap (λ (x : Moment). x.clients) is.1)) all
 
 own_once : (m now : Moment) (at : ℕ) (c : Client) (t : Option OpenTransaction) (l : Line) (a : Answer) → AllByRecursion IsOnceClient m.clients → OnceIfSome t → IsOwnLine m at c t l a now → AllByRecursion IsOnceClient now.clients

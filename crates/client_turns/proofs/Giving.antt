@@ -26,7 +26,8 @@ use Rattle.zodb_core.specs.Handed.{NumberRange, front_in, numbers_in}
 use Rattle.zodb_core.specs.HistoryLaws.{left_greatest, step_front, step_numbers}
 use Rattle.zodb_core.specs.Machine.{Machine, MachineVote, Rules, front_of, with_session}
 use Rattle.zodb_core.specs.Outcomes.{EndsFor, FaultCounts, outcome_of}
-use Rattle.zodb_core.specs.Steps.{Stepped, changes_in_journal, early_refusal, finish_gives, finish_step, journal_limit, loaded, replied_refusal, request_step, step_of, transaction_with, unless_early, vote_at, vote_counted, vote_step, with_vote}
+use Rattle.pack_reach.specs.Reached.{unreadable}
+use Rattle.zodb_core.specs.Steps.{Stepped, changes_in_journal, early_refusal, finish_gives, finish_step, journal_limit, loaded, pack_tid, replied_refusal, request_step, step_of, switch_unless, transaction_with, unless_early, vote_at, vote_counted, vote_step, with_vote}
 use Rattle.client_turns.specs.declared.client.Changes.{Changes}
 use Rattle.client_turns.specs.declared.got.Got.{Got}
 use Rattle.client_turns.specs.Clients.{Client, Moment, OpenTransaction, changes_of, place_of_client}
@@ -86,6 +87,10 @@ new_single m count range one e =
     let is : given ≡ range = same_Some given range e in
     sym (ap (λ (r : NumberRange). r.count) is) ∙ one
 
+pack_single : (named : List ℕ → Option (List ℕ)) (m : Machine) (t : ℕ) (w : Option (ℕ × ℕ)) → Single (switch_unless named m t w)
+pack_single named m t None = λ range e. absurd cc
+pack_single named m t (Some w) = λ range e. absurd cc
+
 request_single : (rules : Rules) (m : Machine) (n : ℕ) (q : Request) (stamp : ℕ) → AsksOne q → Single (request_step rules m n q stamp)
 request_single rules m n request.Front stamp one = λ range e. absurd cc
 request_single rules m n (request.LoadBefore oid front) stamp one = found_single m oid (found_below oid front m.list)
@@ -98,6 +103,7 @@ request_single rules m n request.Finish stamp one = finish_single m n m.vote
 request_single rules m n request.Abort stamp one = λ range e. absurd cc
 request_single rules m n (request.History oid) stamp one = λ range e. absurd cc
 request_single rules m n request.UndoLog stamp one = λ range e. absurd cc
+request_single rules m n (request.Pack tid) stamp one = pack_single rules.named m (pack_tid tid m.list) (unreadable rules.named (pack_tid tid m.list) m.list)
 request_single rules m n request.Close stamp one = λ range e. absurd cc
 
 unless_single : (early : Option Refusal) (m : Machine) (made : Stepped) → Single made → Single (unless_early early m made)
@@ -132,6 +138,7 @@ reply_front rules m n q stamp reply.Empty left ticks a b f made is = absurd cc
 reply_front rules m n q stamp reply.Aborted left ticks a b f made is = absurd cc
 reply_front rules m n q stamp (reply.History list) left ticks a b f made is = absurd cc
 reply_front rules m n q stamp (reply.UndoLog list) left ticks a b f made is = absurd cc
+reply_front rules m n q stamp (reply.Packed kept dropped) left ticks a b f made is = absurd cc
 reply_front rules m n q stamp reply.Closed left ticks a b f made is = absurd cc
 reply_front rules m n q stamp (reply.Refused why) left ticks a b f made is = absurd cc
 
@@ -157,6 +164,7 @@ reply_number rules m n q stamp reply.Empty left ticks a b x one made is = absurd
 reply_number rules m n q stamp reply.Aborted left ticks a b x one made is = absurd cc
 reply_number rules m n q stamp (reply.History list) left ticks a b x one made is = absurd cc
 reply_number rules m n q stamp (reply.UndoLog list) left ticks a b x one made is = absurd cc
+reply_number rules m n q stamp (reply.Packed kept dropped) left ticks a b x one made is = absurd cc
 reply_number rules m n q stamp reply.Closed left ticks a b x one made is = absurd cc
 reply_number rules m n q stamp (reply.Refused why) left ticks a b x one made is = absurd cc
 
@@ -259,6 +267,7 @@ within_gives m now at c t line.Finish a is = refused_gives m.machine now.machine
 within_gives m now at c t line.Abort a is = refused_gives m.machine now.machine a refusal.NoTransaction is.0
 within_gives m now at c t (line.History oid) a is = refused_gives m.machine now.machine a refusal.NoTransaction is.0
 within_gives m now at c t line.UndoLog a is = refused_gives m.machine now.machine a refusal.NoTransaction is.0
+within_gives m now at c t (line.Pack tid) a is = refused_gives m.machine now.machine a refusal.NoTransaction is.0
 within_gives m now at c t line.Close a is = refused_gives m.machine now.machine a refusal.NoTransaction is.0
 
 own_gives : (m now : Moment) (at : ℕ) (c : Client) (t : Option OpenTransaction) (l : Line) (a : Answer) → IsOwnLine m at c t l a now → Gives m.machine now.machine a
@@ -281,6 +290,7 @@ asks_one ch line.Finish q is = subst AsksOne (same_Some request.Finish q is) tt
 asks_one ch line.Abort q is = subst AsksOne (same_Some request.Abort q is) tt
 asks_one ch (line.History oid) q is = subst AsksOne (same_Some (request.History oid) q is) tt
 asks_one ch line.UndoLog q is = subst AsksOne (same_Some request.UndoLog q is) tt
+asks_one ch (line.Pack tid) q is = subst AsksOne (same_Some (request.Pack tid) q is) tt
 asks_one ch line.Close q is = subst AsksOne (same_Some request.Close q is) tt
 
 told_up : (rules : Rules) (b t : Moment) (n : ℕ) (committed : Bool) → IsTold rules committed b n t → b.machine.greatest ≤ t.machine.greatest

@@ -11,7 +11,7 @@ use Rattle.zb_script.specs.declared.answer.Answer.{Answer}
 use Rattle.zb_script.specs.declared.line.Turn.{Turn}
 use Rattle.zodb_core.specs.Machine.{Rules, front_of}
 use Rattle.zodb_core.specs.Outcomes.{FaultCounts}
-use Rattle.zodb_core.specs.SoundLaws.{front_grown, over_sound}
+use Rattle.zodb_core.specs.SoundLaws.{front_come, over_sound}
 use Rattle.client_turns.specs.Clients.{Moment, first_moment}
 use Rattle.client_turns.specs.Laws.{FrontsNeverFall, IsSoundMoment, NumbersAreNew, TheListStaysADatabase, front_given, fronts_given, number_given, numbers_given}
 use Rattle.client_turns.specs.Output.{Out, TurnAnswer, is_last}
@@ -34,7 +34,7 @@ first_sound list stamps counts is = record { machine = over_sound list is; once 
 pub list_stays : TheListStaysADatabase
 list_stays rules list stamps counts turns later out now is output =
     let all : FollowsMoment (first_moment list stamps counts) now = out_follows rules (first_moment list stamps counts) now turns later out (first_sound list stamps counts is) output in
-    (all.machine.sound.database, all.machine.grows)
+    record { database = all.machine.sound.database; comes = all.machine.comes; grows = all.machine.grows }
 
 -- ---- what turns are given
 
@@ -53,7 +53,7 @@ abbrev answer_number : TurnAnswer → Option ℕ
 answer_number o = number_given o.answer
 
 front_up : (m now : Moment) → FollowsMoment m now → front_of m.machine.list ≤ front_of now.machine.list
-front_up m now follows = front_grown m.machine.list now.machine.list follows.machine.grows
+front_up m now follows = front_come m.machine.list now.machine.list follows.machine.comes
 
 -- fronts that turns are given are no lower than a bound that the list's front has reached
 fronts_from : (rules : Rules) (m now : Moment) (turns later : List Turn) (out : List TurnAnswer) (low : ℕ) → IsSoundMoment m → Out rules m turns later out now → low ≤ front_of m.machine.list

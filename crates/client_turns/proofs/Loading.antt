@@ -178,6 +178,7 @@ module _ (rules : Rules) (m : Moment) (n oid stamp : ℕ) (v : View) (made : Ste
   reply_ends reply.Aborted is calm ends = absurd (other_reply _ (λ serial bytes end upto e. absurd cc) (λ o packed e. absurd cc) is ends)
   reply_ends (reply.History list) is calm ends = absurd (other_reply _ (λ serial bytes end upto e. absurd cc) (λ o packed e. absurd cc) is ends)
   reply_ends (reply.UndoLog list) is calm ends = absurd (other_reply _ (λ serial bytes end upto e. absurd cc) (λ o packed e. absurd cc) is ends)
+  reply_ends (reply.Packed kept dropped) is calm ends = absurd (other_reply _ (λ serial bytes end upto e. absurd cc) (λ o packed e. absurd cc) is ends)
   reply_ends reply.Closed is calm ends = absurd (other_reply _ (λ serial bytes end upto e. absurd cc) (λ o packed e. absurd cc) is ends)
 
 -- the machine is as it was

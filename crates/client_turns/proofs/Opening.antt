@@ -17,7 +17,7 @@ use Rattle.client_turns.specs.declared.client.Client.{Client}
 use Rattle.client_turns.specs.declared.errors.TurnError.{TurnError}
 use Rattle.client_turns.specs.Clients.{Moment, place_of_client}
 use Rattle.client_turns.specs.Lines.{answer_of, end_of}
-use Rattle.client_turns.specs.Standing.{AreClientsOf, ClientsState, ClosesAs, IsLater, LeadsTo, OrAsBefore, StandsForMoment, same}
+use Rattle.client_turns.specs.Standing.{AreClientsOf, ClientsState, ClosesAs, LeadsTo, OrAsBefore, StandsForMoment}
 use Rattle.client_turns.specs.Turns.{IsClosingAt, IsOpening, IsStepAt, Opening, opened}
 use Rattle.client_turns.proofs.Placing.{IsClientAt, client_at, push_at, same_place, there_at}
 use Rattle.client_turns.proofs.Stepping.{clients_later}
@@ -51,7 +51,6 @@ pub open_leads : {R F : Type 0} (m : Moment) (name : List ℕ) (n : ℕ) (old ne
     → LeadsTo (OrAsBefore (IsOpening m name) m (Ok (answer.Opened n))) new left
 open_leads m name n old new left stands number room hub store pushed =
     let all : length m.machine.sessions ≡ length old.hub.sessions = sessions_of old.hub m.machine stands.hub in
-    let later : IsLater m.machine (with_session m.machine) = record { list = same refl; switches = refl; vote = stands.vote } in
     record {
       now = record { machine = with_session m.machine; clients = m.clients ++ record { name = name; session = n; transaction = None } ∷ []; stamps = m.stamps; counts = m.counts };
       holds = opens m name n (number ∙ sym all) (omega (arith, all, room));
@@ -60,7 +59,7 @@ open_leads m name n old new left stands number room hub store pushed =
         vote = stands.vote;
         clients = subst (λ (xs : List Client). AreClientsOf (with_session m.machine) xs (m.clients ++ record { name = name; session = n; transaction = None } ∷ [])) (sym pushed)
             (push_at (with_session m.machine) old.clients m.clients (record { name = name; session = n; transaction = None }) (record { name = name; session = n; transaction = None })
-            (clients_later m.machine (with_session m.machine) later old.clients m.clients stands.clients) (record { name = refl; session = refl; transaction = tt }));
+            (clients_later m.machine (with_session m.machine) (λ v shows. record { front = shows.front; switches = shows.switches; same = shows.same; held = shows.held }) old.clients m.clients stands.clients) (record { name = refl; session = refl; transaction = tt }));
         counts = stands.counts ∙ ap counts_of (sym store);
         stamps = stands.stamps;
       };

@@ -1,29 +1,36 @@
 -- How a step of a hub leads its clients from one moment to another.
-use Rattle.std.proofs.Common.{◌≡◌, ℕ, Bool, true, false, List, [], ◌∷◌, Option, Some, None, refl, sym, subst}
+use Rattle.std.proofs.Common.{◌≡◌, ℕ, Bool, true, false, List, [], ◌∷◌, Option, Some, None, refl, sym, ap, subst, ◌∙◌}
+use Rattle.std.proofs.lemmas.Bool.{true≢false}
 use Rattle.zb_ids.specs.declared.stamp.Stamp.{Stamp}
+use Rattle.zb_model.specs.declared.refusal.Refusal.TheVariants as refusal
+use Rattle.zb_model.specs.Database.{IsDatabase}
 use Rattle.zodb_core.specs.declared.reply.Reply.{Reply}
+use Rattle.zodb_core.specs.declared.reply.Reply.TheVariants as reply
 use Rattle.zodb_core.specs.declared.request.Request.{Request}
 use Rattle.zodb_core.specs.HubState.{HasTicked, HubState, MakesStep, StandsForMachine, counts_of}
 use Rattle.zodb_core.specs.Machine.{Machine, Rules, machine_over}
-use Rattle.zodb_core.specs.Outcomes.{FaultCounts, IsStepMade, outcome_of}
+use Rattle.zodb_core.specs.Outcomes.{FaultCounts, IsStepMade, is_packed, outcome_of}
+use Rattle.zodb_core.specs.Steps.{Stepped}
 use Rattle.client_turns.specs.declared.client.Client.{Client}
 use Rattle.client_turns.specs.declared.client.Work.{Work}
 use Rattle.client_turns.specs.Clients.{Moment, OpenTransaction, first_moment}
 use Rattle.client_turns.specs.Clients as clients
 use Rattle.client_turns.specs.Lines.{IsCountedBy}
-use Rattle.client_turns.specs.Standing.{AreClientsOf, ClientsState, IsLater, IsWorkOfIfSome, LeadsTo, StandsForMoment}
+use Rattle.client_turns.specs.Standing.{AreClientsOf, ClientsState, IsWorkOfIfSome, LeadsTo, Shows, StandsForMoment, WritesLater}
 use Rattle.client_turns.specs.Turns.{IsStepAt, IsTold}
-use Rattle.client_turns.proofs.Growing.{left_later, shows_later}
+use Rattle.client_turns.specs.Views.{View}
+use Rattle.client_turns.proofs.Growing.{left_writes, made_shows}
 
 -- ---- clients over a later machine
 
-work_later : (m now : Machine) → IsLater m now → (w : Option Work) (t : Option OpenTransaction) → IsWorkOfIfSome m w t → IsWorkOfIfSome now w t
+work_later : (m now : Machine) → ((v : View) → Shows m v → Shows now v) → (w : Option Work) (t : Option OpenTransaction) → IsWorkOfIfSome m w t → IsWorkOfIfSome now w t
 work_later m now later None None is = tt
 work_later m now later None (Some t) is = absurd is
 work_later m now later (Some w) None is = absurd is
-work_later m now later (Some w) (Some t) is = record { front = is.front; switches = is.switches; changes = is.changes; shows = shows_later m now t.view later is.shows }
+work_later m now later (Some w) (Some t) is = record { front = is.front; switches = is.switches; changes = is.changes; shows = later t.view is.shows }
 
-pub clients_later : (m now : Machine) → IsLater m now → (xs : List Client) (cs : List clients.Client) → AreClientsOf m xs cs → AreClientsOf now xs cs
+-- each of their views is still shown
+pub clients_later : (m now : Machine) → ((v : View) → Shows m v → Shows now v) → (xs : List Client) (cs : List clients.Client) → AreClientsOf m xs cs → AreClientsOf now xs cs
 clients_later m now later [] [] are = tt
 clients_later m now later [] (c ∷ cs) are = absurd are
 clients_later m now later (x ∷ xs) [] are = absurd are
@@ -45,24 +52,24 @@ first_stands seen list left none stands = record {
 -- ---- a step
 
 pub step_leads : {R F : Type 0} (rules : Rules) (m : Moment) (n : ℕ) (q : Request) (r : Reply) (old new : ClientsState R F) (before after : Option (List Stamp))
-    → StandsForMoment old before m → MakesStep rules m.machine n q r old.hub new.hub before after → IsCountedBy (counts_of old.hub.store) (counts_of new.hub.store) (outcome_of r) → new.clients ≡ old.clients → LeadsTo (IsStepAt rules m n q r) new after
-step_leads rules m n q r old new before after stands made cause same =
-    let later : IsLater m.machine made.left =
-    subst (IsLater m.machine) (sym made.made.left) (left_later rules m.machine n q made.stamp (outcome_of r) stands.vote) in
+    → StandsForMoment old before m → (is_packed r ≡ true → IsDatabase m.machine.list) → MakesStep rules m.machine n q r old.hub new.hub before after → IsCountedBy (counts_of old.hub.store) (counts_of new.hub.store) (outcome_of r) → new.clients ≡ old.clients → LeadsTo (IsStepAt rules m n q r) new after
+step_leads rules m n q r old new before after stands database made cause same =
+    let given : Stepped = record { reply = r; machine = made.left; ticks = made.ticks } in
     record {
       now = record { machine = made.left; clients = m.clients; stamps = after; counts = counts_of new.hub.store };
       holds = record {
         stamp = made.stamp;
         ticks = made.ticks;
-        made = subst (λ (c : FaultCounts). IsStepMade rules m.machine n q made.stamp (record { reply = r; machine = made.left; ticks = made.ticks }) c (counts_of new.hub.store)) (sym stands.counts) made.made;
+        made = subst (λ (c : FaultCounts). IsStepMade rules m.machine n q made.stamp given c (counts_of new.hub.store)) (sym stands.counts) made.made;
         counts = subst (λ (k : FaultCounts). IsCountedBy k (counts_of new.hub.store) (outcome_of r)) (sym stands.counts) cause;
         clock = subst (λ (s : Option (List Stamp)). HasTicked made.ticks made.stamp s after) (sym stands.stamps) made.clock;
         clients = refl;
       };
       stands = record {
         hub = made.stands;
-        vote = later.vote;
-        clients = subst (λ (xs : List Client). AreClientsOf made.left xs m.clients) (sym same) (clients_later m.machine made.left later old.clients m.clients stands.clients);
+        vote = subst (λ (x : Machine). WritesLater x.list x.vote) (sym made.made.left) (left_writes rules m.machine n q made.stamp (outcome_of r) stands.vote);
+        clients = subst (λ (xs : List Client). AreClientsOf made.left xs m.clients) (sym same)
+            (clients_later m.machine made.left (λ v. made_shows rules m.machine n q made.stamp given (counts_of old.hub.store) (counts_of new.hub.store) v stands.vote database made.made) old.clients m.clients stands.clients);
         counts = refl;
         stamps = refl;
       };
@@ -73,12 +80,20 @@ pub untold : {R F : Type 0} (rules : Rules) (m : Moment) (n : ℕ) (b : Bool) (s
 untold rules m n false seen left is stands = record { now = m; holds = refl; stands = stands }
 untold rules m n true seen left is stands = absurd cc
 
+-- a step that packed was one of a database: the store that failed packs nothing
+pub packed_of_database : {R F : Type 0} (hub : HubState R F) (m : Machine) (r : Reply) → StandsForMachine hub m → (hub.store.broken ≡ true → r ≡ reply.Refused refusal.NotOpen) → (hub.store.broken ≡ false → IsDatabase hub.store.list) → is_packed r ≡ true → IsDatabase m.list
+packed_of_database hub m r stands failed database packed = by_broken hub.store.broken refl
+  where
+    by_broken : (b : Bool) → hub.store.broken ≡ b → IsDatabase m.list
+    by_broken true is = absurd (true≢false (sym packed ∙ ap is_packed (failed is)))
+    by_broken false is = subst IsDatabase (sym (stands.list is)) (database is)
+
 -- the same of a hub that is seen as this
 pub step_seen : {R F : Type 0} (rules : HubState R F → Rules) (m : Moment) (n : ℕ) (q : Request) (r : Reply) (old new : ClientsState R F) (hub : HubState R F) (before after : Option (List Stamp))
-    → old.hub ≡ hub → StandsForMoment old before m → (StandsForMachine hub m.machine → MakesStep (rules hub) m.machine n q r hub new.hub before after) → IsCountedBy (counts_of hub.store) (counts_of new.hub.store) (outcome_of r)
+    → old.hub ≡ hub → StandsForMoment old before m → (is_packed r ≡ true → IsDatabase m.machine.list) → (StandsForMachine hub m.machine → MakesStep (rules hub) m.machine n q r hub new.hub before after) → IsCountedBy (counts_of hub.store) (counts_of new.hub.store) (outcome_of r)
     → new.clients ≡ old.clients
     → LeadsTo (IsStepAt (rules old.hub) m n q r) new after
-step_seen {R} {F} rules m n q r old new hub before after seen stands made cause same =
+step_seen {R} {F} rules m n q r old new hub before after seen stands database made cause same =
     let step : StandsForMachine old.hub m.machine → MakesStep (rules old.hub) m.machine n q r old.hub new.hub before after =
     subst (λ (h : HubState R F). StandsForMachine h m.machine → MakesStep (rules h) m.machine n q r h new.hub before after) (sym seen) made in
-    step_leads (rules old.hub) m n q r old new before after stands (step stands.hub) (subst (λ (h : HubState R F). IsCountedBy (counts_of h.store) (counts_of new.hub.store) (outcome_of r)) (sym seen) cause) same
+    step_leads (rules old.hub) m n q r old new before after stands database (step stands.hub) (subst (λ (h : HubState R F). IsCountedBy (counts_of h.store) (counts_of new.hub.store) (outcome_of r)) (sym seen) cause) same

@@ -68,6 +68,7 @@ has_changes ch line.Finish opened allowed asks = absurd cc
 has_changes ch line.Abort opened allowed asks = absurd cc
 has_changes ch (line.History oid) opened allowed asks = absurd cc
 has_changes ch line.UndoLog opened allowed asks = absurd cc
+has_changes ch (line.Pack tid) opened allowed asks = absurd cc
 has_changes ch line.Close opened allowed asks = absurd cc
 
 has_transaction : (t : Option OpenTransaction) → IsSome (option_map (λ (o : OpenTransaction). o.changes) t) → IsSome t
@@ -172,6 +173,7 @@ line_by_name rules m name line.Finish a now opened is = is
 line_by_name rules m name line.Abort a now opened is = is
 line_by_name rules m name (line.History oid) a now opened is = is
 line_by_name rules m name line.UndoLog a now opened is = is
+line_by_name rules m name (line.Pack tid) a now opened is = is
 line_by_name rules m name line.Close a now opened is = is
 
 named_result : (rules : Rules) (m : Moment) (name : List ℕ) (at : ℕ) (l : Line) (result : Result Answer AllocError) (now : Moment) → opens_session l ≡ false → Some at ≡ place_of_client name m.clients
@@ -214,6 +216,7 @@ opens_is line.Finish is = absurd cc
 opens_is line.Abort is = absurd cc
 opens_is (line.History oid) is = absurd cc
 opens_is line.UndoLog is = absurd cc
+opens_is (line.Pack tid) is = absurd cc
 opens_is line.Close is = absurd cc
 opens_is line.Begin is = absurd cc
 

@@ -26,7 +26,7 @@ use Rattle.client_turns.specs.Clients.{Client, Moment, OpenTransaction, changes_
 use Rattle.client_turns.specs.Lines.{Changed, IsCountedBy, answer_of, data_of, end_in, end_of, is_committed, object_of, outcome_of_answer, outcome_of_read, outcome_of_turn, put, request_of, store_unless, stored}
 use Rattle.client_turns.specs.Output.{Out, TurnAnswer, has_read_fault, is_last, is_read_fault}
 use Rattle.client_turns.specs.Refusing.{connection_refusal, line_refusal, mixed, pending_count, refusal_within, transaction_refusal}
-use Rattle.client_turns.specs.Turns.{IsAnswered, IsBroken, IsChange, IsClosed, IsClosing, IsGet, IsLine, IsLineOf, IsLineTaken, IsLineUnless, IsOpening, IsOwnLine, IsPut, IsReadLine, IsStepAt, IsStepLine, IsTold, IsWithin, Opening, by_closing, by_line, by_memory}
+use Rattle.client_turns.specs.Turns.{IsAnswered, IsBroken, IsChange, IsClosed, IsClosing, IsGet, IsLine, IsLineOf, IsLineTaken, IsLineUnless, IsOpening, IsOwnLine, IsPut, IsStepAt, IsStepLine, IsTold, IsWithin, Opening, by_closing, by_line, by_memory}
 use Rattle.client_turns.specs.TurnLaws.{by_name, reply_fine, starved_so}
 use Rattle.client_turns.specs.Views.{View}
 
@@ -92,6 +92,7 @@ line_answers (Some t) line.Begin = (refl, refl)
 line_answers t line.New = tt
 line_answers t (line.History oid) = tt
 line_answers t line.UndoLog = tt
+line_answers t (line.Pack tid) = tt
 line_answers t line.Close = tt
 line_answers t (line.Load oid) = within_answers t (line.Load oid)
 line_answers t (line.Get oid) = within_answers t (line.Get oid)
@@ -131,6 +132,7 @@ answer_outcome reply.Empty = refl
 answer_outcome reply.Aborted = refl
 answer_outcome (reply.History list) = refl
 answer_outcome (reply.UndoLog list) = refl
+answer_outcome (reply.Packed kept dropped) = refl
 answer_outcome reply.Closed = refl
 answer_outcome (reply.Refused why) = refl
 

@@ -17,9 +17,9 @@ use Rattle.zb_script.specs.declared.line.Turn.{Turn}
 use Rattle.commit_phases.specs.Pending.{excess_with}
 use Rattle.zodb_core.specs.declared.reply.Reply.TheVariants as reply
 use Rattle.zodb_core.specs.declared.request.Request.{Request}
-use Rattle.zodb_core.specs.Machine.{Machine, Rules, session_limit}
+use Rattle.zodb_core.specs.Machine.{Machine, Rules, session_limit, switches_of}
 use Rattle.zodb_core.specs.Outcomes.{FaultCounts}
-use Rattle.zodb_core.specs.Sound.{GrowsTo, IsSoundMachine}
+use Rattle.zodb_core.specs.Sound.{ComesTo, GrowsTo, IsSoundMachine}
 use Rattle.zodb_core.specs.Steps.{step_of}
 use Rattle.client_turns.specs.declared.client.Changes.{Changes}
 use Rattle.client_turns.specs.Clients.{Client, Moment, OpenTransaction, changes_of, first_moment, place_of_client}
@@ -43,10 +43,13 @@ pub record IsSoundMoment (m : Moment) : Type 0 where
   pub machine : IsSoundMachine m.machine
   pub once : AllByRecursion IsOnceClient m.clients
 
--- a machine that steps led to: its list has only grown, by later transactions, and the greatest number never fell
+-- A machine that steps led to: its list has only grown, by later transactions, or was packed; neither the number of packs nor the greatest number fell; and where
+-- there was no pack, the list has only grown.
 pub record Follows (m now : Machine) : Type 0 where
   pub sound : IsSoundMachine now
-  pub grows : GrowsTo m.list now.list
+  pub comes : ComesTo m.list now.list
+  pub switches : switches_of m.journal ≤ switches_of now.journal
+  pub grows : switches_of now.journal ≡ switches_of m.journal → GrowsTo m.list now.list
   pub greatest : m.greatest ≤ now.greatest
 
 -- the front that an answer gives, if it gives one, and the number of a new object
@@ -67,10 +70,15 @@ numbers_given out = filter_map (λ (o : TurnAnswer). number_given o.answer) out
 
 -- ---- the list
 
--- the list that turns leave is a database, and begins with the one that they found
+-- what turns leave of a list: a database, which came of it by later transactions and by packs; and where there was no pack, it begins with the list
+pub record LeavesDatabase (list : List Transaction) (now : Machine) : Type 0 where
+  pub database : IsDatabase now.list
+  pub comes : ComesTo list now.list
+  pub grows : switches_of now.journal ≡ 0 → GrowsTo list now.list
+
 abbrev pub TheListStaysADatabase : Type 0
 TheListStaysADatabase = (rules : Rules) (list : List Transaction) (stamps : Option (List Stamp)) (counts : FaultCounts) (turns later : List Turn) (out : List TurnAnswer) (now : Moment)
-    → IsDatabase list → Out rules (first_moment list stamps counts) turns later out now → IsDatabase now.machine.list × GrowsTo list now.machine.list
+    → IsDatabase list → Out rules (first_moment list stamps counts) turns later out now → LeavesDatabase list now.machine
 
 -- ---- fronts
 

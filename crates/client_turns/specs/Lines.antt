@@ -40,13 +40,9 @@ request_of changes line.Finish = Some request.Finish
 request_of changes line.Abort = Some request.Abort
 request_of changes (line.History oid) = Some (request.History oid)
 request_of changes line.UndoLog = Some request.UndoLog
+request_of changes (line.Pack tid) = Some (request.Pack tid)
 request_of changes line.Close = Some request.Close
 request_of changes _ = None
-
--- the line that appends what is voted
-abbrev pub is_finish : Line → Bool
-is_finish line.Finish = true
-is_finish _ = false
 
 -- what the line is answered; none of them asks for a load
 abbrev pub answer_of : Reply → Answer
@@ -60,6 +56,7 @@ answer_of reply.Empty = answer.Empty
 answer_of reply.Aborted = answer.Aborted
 answer_of (reply.History list) = answer.History list
 answer_of (reply.UndoLog list) = answer.UndoLog list
+answer_of (reply.Packed kept dropped) = answer.Packed kept dropped
 answer_of reply.Closed = answer.Closed
 answer_of (reply.Refused why) = answer.Refused why
 

@@ -40,6 +40,7 @@ line_refusal t line.Begin = refuse_if (is_some t) refusal.InTransaction
 line_refusal t line.New = None
 line_refusal t (line.History oid) = None
 line_refusal t line.UndoLog = None
+line_refusal t (line.Pack tid) = None
 line_refusal t line.Close = None
 line_refusal t l = refusal_within t l
 

@@ -2,7 +2,6 @@
 use Rattle.std.specs.Prelude.{◌≡◌, ◌⊎◌, ℕ, ◌<◌, ◌≤◌, List, [], ◌∷◌, ◌++◌, Option, Some, None, Result, Ok, Err, Bool, true, false, IfSome, IsSome, nat_lt, not, slice_get, slice_set}
 use Rattle.std.specs.Option.{IsSomeAnd, option_map, option_or}
 use Rattle.std.specs.declared.alloc.AllocError.{AllocError}
-use Rattle.zb_base.specs.Counts.{Rose}
 use Rattle.zb_ids.specs.declared.stamp.Stamp.{Stamp}
 use Rattle.zb_model.specs.declared.data.Transaction.{Transaction}
 use Rattle.zb_model.specs.declared.refusal.Refusal.{Refusal}
@@ -17,7 +16,8 @@ use Rattle.zodb_core.specs.declared.reply.Reply.TheVariants as reply
 use Rattle.zodb_core.specs.declared.request.Request.{Request}
 use Rattle.zodb_core.specs.declared.request.Request.TheVariants as request
 use Rattle.zodb_core.specs.declared.session.Session.{Session}
-use Rattle.zodb_core.specs.Steps.{refuse_if}
+use Rattle.pack_reach.specs.Packed.{packed_of}
+use Rattle.zodb_core.specs.Steps.{pack_tid, refuse_if}
 use Rattle.zodb_core.specs.HubState.{HubState, StandsForMachine, counts_of, is_store_failed}
 use Rattle.zodb_core.specs.Machine.{Machine, MachineVote, Rules, front_of, is_open_in, switches_of}
 use Rattle.zodb_core.specs.Outcomes.{Answered, AreLaterCounts, FaultCounts, outcome_of, outcome_of_refusal}
@@ -47,21 +47,10 @@ pub record Shows (m : Machine) (v : View) : Type 0 where
   pub same : v.switches ≡ switches_of m.journal → (oid : ℕ) → held_below oid v.front m.list ≡ held_below oid v.front v.list
   pub held : (oid : ℕ) (got : Got) → held_below oid v.front m.list ≡ Some got → held_below oid v.front v.list ≡ Some got
 
--- a list grows by at most one transaction, which is later than all
-pub data Grows (before now : List Transaction) : Type 0 where
-  same : now ≡ before → Grows before now
-  more : (t : Transaction) → newest_tid before < t.tid → now ≡ before ++ t ∷ [] → Grows before now
-
 -- what is voted is later than the list
 abbrev pub WritesLater : List Transaction → Option MachineVote → Type 0
 WritesLater list None = Unit {0}
 WritesLater list (Some v) = IfSome v.writes (λ t. newest_tid list < t.tid)
-
--- a machine behind a step of another
-pub record IsLater (m now : Machine) : Type 0 where
-  pub list : Grows m.list now.list
-  pub switches : switches_of now.journal ≡ switches_of m.journal
-  pub vote : WritesLater now.list now.vote
 
 -- what a client's open transaction would change
 abbrev pub changes_in : Option Work → Option Changes
@@ -211,21 +200,27 @@ IsVotedBehind stands list (Some v) bytes = IsSomeAnd v.writes (λ t. stands byte
 abbrev pub IsListAround : (List ℕ → List Transaction → Type 0) → Machine → List ℕ → Type 0
 IsListAround stands m bytes = stands bytes m.list ⊎ IsVotedBehind stands m.list m.vote bytes
 
--- In a step bytes stand for the machine's list; where it is a finish, they may stand for that with what is voted behind it.
-abbrev pub IsListFor : (List ℕ → List Transaction → Type 0) → Machine → Request → List ℕ → Type 0
-IsListFor stands m request.Finish = IsListAround stands m
-IsListFor stands m _ = λ bytes. stands bytes m.list
+-- bytes stand for the machine's list, or for that as a pack up to a tid leaves it
+abbrev pub IsListPacked : (List ℕ → List Transaction → Type 0) → Rules → Machine → ℕ → List ℕ → Type 0
+IsListPacked stands rules m tid bytes = stands bytes m.list ⊎ stands bytes (packed_of rules.named (pack_tid tid m.list) m.list)
 
--- In a line bytes stand for the machine's list; where it is `finish`, they may stand for that with what is voted behind it.
-abbrev pub IsListIn : (List ℕ → List Transaction → Type 0) → Machine → Line → List ℕ → Type 0
-IsListIn stands m line.Finish = IsListAround stands m
-IsListIn stands m _ = λ bytes. stands bytes m.list
+-- In a step bytes stand for the machine's list; where it is a finish, they may stand for that with what is voted behind it, and where it is a pack, for that packed.
+abbrev pub IsListFor : (List ℕ → List Transaction → Type 0) → Rules → Machine → Request → List ℕ → Type 0
+IsListFor stands rules m request.Finish = IsListAround stands m
+IsListFor stands rules m (request.Pack tid) = IsListPacked stands rules m tid
+IsListFor stands rules m _ = λ bytes. stands bytes m.list
+
+-- And so in a line: where it is `finish`, they may stand for that with what is voted behind it, and where it is `pack`, for that packed.
+abbrev pub IsListIn : (List ℕ → List Transaction → Type 0) → Rules → Machine → Line → List ℕ → Type 0
+IsListIn stands rules m line.Finish = IsListAround stands m
+IsListIn stands rules m (line.Pack tid) = IsListPacked stands rules m tid
+IsListIn stands rules m _ = λ bytes. stands bytes m.list
+
+-- a line that packs
+abbrev pub packs_list : Line → Bool
+packs_list (line.Pack tid) = true
+packs_list _ = false
 
 -- a refusal that says nothing of a fault
 abbrev pub IsQuiet : Refusal → Type 0
 IsQuiet why = outcome_of_refusal why ≡ Answered
-
--- a request behind which the list is as it was: any but a finish
-abbrev pub keeps_list : Request → Bool
-keeps_list request.Finish = false
-keeps_list _ = true

@@ -12,6 +12,8 @@ use Rattle.zb_script.specs.declared.line.Line.{Line}
 use Rattle.zb_script.specs.declared.line.Line.TheVariants as line
 use Rattle.zb_script.specs.declared.line.Turn.{Turn}
 use Rattle.commit_phases.specs.Pending.{pending_of}
+use Rattle.pack_reach.specs.Packed.{packed_of}
+use Rattle.pack_reach.specs.Reached.{unreadable}
 use Rattle.zodb_core.specs.declared.reply.Reply.{Reply}
 use Rattle.zodb_core.specs.declared.reply.Reply.TheVariants as reply
 use Rattle.zb_model.specs.declared.refusal.Refusal.TheVariants as refusal
@@ -20,15 +22,13 @@ use Rattle.zodb_core.specs.declared.texts.Texts.{Texts}
 use Rattle.zodb_core.specs.declared.request.Request.TheVariants as request
 use Rattle.zodb_core.specs.Machine.{Machine, MachineVote, Rules, with_session}
 use Rattle.zodb_core.specs.Outcomes.{Answered, EndsFor, FaultCounts, NoMemory, ReadingFailed, StepOutcome, StoreFailed, machine_left, outcome_of, outcome_of_refusal}
-use Rattle.zodb_core.specs.Sound.{IsDistinctRequest}
 use Rattle.zodb_core.specs.StepCases.{StepCases, by_step}
-use Rattle.zodb_core.specs.Steps.{Stepped, changes_in_journal, early_refusal, journal_limit, replied_refusal, request_step, step_of, transaction_with, unless_early, vote_at, vote_step, with_vote}
+use Rattle.zodb_core.specs.Steps.{Stepped, changes_in_journal, early_refusal, journal_limit, pack_step, pack_tid, replied_refusal, request_step, step_of, switch_unless, transaction_with, unless_early, vote_at, vote_step, with_vote}
 use Rattle.client_turns.specs.Clients.{Client, Moment, OpenTransaction, changes_of, place_of_client}
 use Rattle.client_turns.specs.declared.client.Changes.{Changes}
 use Rattle.client_turns.specs.declared.errors.TurnError.TheVariants as error
-use Rattle.client_turns.specs.Lines.{answer_of, end_in, end_of, is_committed, is_finish, pending_in, request_of}
+use Rattle.client_turns.specs.Lines.{answer_of, end_in, end_of, is_committed, pending_in, request_of}
 use Rattle.client_turns.specs.Refusing.{connection_refusal}
-use Rattle.client_turns.specs.Standing.{keeps_list}
 use Rattle.client_turns.specs.Turns.{IsAnswered, IsClosed, IsClosing, IsGet, IsLine, IsLineOf, IsLineTaken, IsLineUnless, IsOpening, IsOwnLine, IsPut, IsStepAt, IsStepLine, IsTold, IsWithin, Opening}
 use Rattle.client_turns.specs.Views.{View}
 
@@ -39,8 +39,25 @@ pub data KeepsOrVoted (m : Machine) (l : List Transaction) : Type 0 where
   kept : l ≡ m.list → KeepsOrVoted m l
   voted : (v : MachineVote) (t : Transaction) → m.vote ≡ Some v → v.writes ≡ Some t → l ≡ m.list ++ t ∷ [] → KeepsOrVoted m l
 
-list_cases : (m : Machine) (n : ℕ) (distinct : Type 0) → StepCases (λ s. KeepsOrVoted m s.machine.list) m n distinct
-list_cases m n distinct = record {
+-- a list as it was, or packed up to a tid
+pub data KeepsOrPacked (rules : Rules) (m : Machine) (tid : ℕ) (l : List Transaction) : Type 0 where
+  unpacked : l ≡ m.list → KeepsOrPacked rules m tid l
+  packed : l ≡ packed_of rules.named (pack_tid tid m.list) m.list → KeepsOrPacked rules m tid l
+
+-- the list behind a step: as it was; where it is a finish, maybe with what was voted behind it, and where it is a pack, maybe packed
+abbrev pub IsListLeft : Rules → Machine → Request → List Transaction → Type 0
+IsListLeft rules m request.Finish l = KeepsOrVoted m l
+IsListLeft rules m (request.Pack tid) l = KeepsOrPacked rules m tid l
+IsListLeft rules m _ l = l ≡ m.list
+
+-- and so behind a line
+abbrev pub IsListBehind : Rules → Machine → Line → List Transaction → Type 0
+IsListBehind rules m line.Finish l = KeepsOrVoted m l
+IsListBehind rules m (line.Pack tid) l = KeepsOrPacked rules m tid l
+IsListBehind rules m _ l = l ≡ m.list
+
+finish_cases : (m : Machine) (n : ℕ) → StepCases (λ s. KeepsOrVoted m s.machine.list) m n request.Finish
+finish_cases m n = record {
   refused = λ r is. kept refl;
   full = λ count. kept refl;
   spent = kept refl;
@@ -54,26 +71,81 @@ list_cases m n distinct = record {
   dropped = kept refl;
   listed = λ revisions. kept refl;
   logged = λ lines. kept refl;
+  packed = λ is t keep free below. absurd cc;
   closed = kept refl;
 }
 
-pub step_list : (rules : Rules) (m : Machine) (n : ℕ) (q : Request) (stamp : ℕ) → KeepsOrVoted m (step_of rules m n q stamp).machine.list
-step_list rules m n q stamp = by_step (λ s. KeepsOrVoted m s.machine.list) rules m n q stamp (list_cases m n (IsDistinctRequest q))
+switch_left : (rules : Rules) (m : Machine) (tid : ℕ) (w : Option (ℕ × ℕ)) → KeepsOrPacked rules m tid (switch_unless rules.named m (pack_tid tid m.list) w).machine.list
+switch_left rules m tid (Some w) = unpacked refl
+switch_left rules m tid None = packed refl
 
-pub left_list : (rules : Rules) (m : Machine) (n : ℕ) (q : Request) (stamp : ℕ) (o : StepOutcome) → KeepsOrVoted m (machine_left rules m n q stamp o).list
-left_list rules m n q stamp Answered = step_list rules m n q stamp
-left_list rules m n q stamp ReadingFailed = kept refl
-left_list rules m n q stamp NoMemory = kept refl
-left_list rules m n q stamp StoreFailed = kept refl
+pack_left : (rules : Rules) (m : Machine) (tid : ℕ) (o : Option Refusal) → KeepsOrPacked rules m tid (unless_early o m (pack_step rules.named m (pack_tid tid m.list))).machine.list
+pack_left rules m tid (Some r) = unpacked refl
+pack_left rules m tid None = switch_left rules m tid (unreadable rules.named (pack_tid tid m.list) m.list)
+
+early_same : (o : Option Refusal) (m : Machine) (made : Stepped) → made.machine.list ≡ m.list → (unless_early o m made).machine.list ≡ m.list
+early_same None m made is = is
+early_same (Some r) m made is = refl
+
+at_kept : (m : Machine) (n : ℕ) (texts : Texts) (changes : List Change) (tid : ℕ) (b : Bool)
+    → (cond {A = Stepped} b (record { reply = reply.Voted; machine = with_vote m n (Some (transaction_with tid texts changes)); ticks = true }) (record { reply = reply.Refused refusal.TidsSpent; machine = m; ticks = true })).machine.list ≡ m.list
+at_kept m n texts changes tid true = refl
+at_kept m n texts changes tid false = refl
+
+counted_kept : (m : Machine) (n : ℕ) (texts : Texts) (changes : List Change) (tid count : ℕ) (b : Bool) → (cond {A = Stepped} b (replied_refusal m (refusal.JournalFull count)) (vote_at m n texts changes tid)).machine.list ≡ m.list
+counted_kept m n texts changes tid count true = refl
+counted_kept m n texts changes tid count false = at_kept m n texts changes tid (nat_lt tid (2 ^ 64 - 1))
+
+vote_kept : (m : Machine) (n : ℕ) (texts : Texts) (stamp : ℕ) (decided : Result (List Change) Refusal) → (vote_step m n texts stamp decided).machine.list ≡ m.list
+vote_kept m n texts stamp (Err r) = refl
+vote_kept m n texts stamp (Ok []) = refl
+vote_kept m n texts stamp (Ok (c ∷ changes)) =
+    counted_kept m n texts (c ∷ changes) (tid_after (newest_tid m.list) stamp) (changes_in_journal m.journal + length (c ∷ changes)) (nat_lt journal_limit (changes_in_journal m.journal + length (c ∷ changes)))
+
+pub step_left : (rules : Rules) (m : Machine) (n : ℕ) (q : Request) (stamp : ℕ) → IsListLeft rules m q (step_of rules m n q stamp).machine.list
+step_left rules m n request.Front stamp = early_same (early_refusal m n request.Front) m (request_step rules m n request.Front stamp) refl
+step_left rules m n (request.LoadBefore oid front) stamp = early_same (early_refusal m n (request.LoadBefore oid front)) m (request_step rules m n (request.LoadBefore oid front) stamp) refl
+step_left rules m n (request.NewOids count) stamp = early_same (early_refusal m n (request.NewOids count)) m (request_step rules m n (request.NewOids count) stamp) refl
+step_left rules m n (request.Vote user description extension pending) stamp =
+    early_same (early_refusal m n (request.Vote user description extension pending)) m (request_step rules m n (request.Vote user description extension pending) stamp)
+    (vote_kept m n (record { user = user; description = description; extension = extension }) stamp _)
+step_left rules m n (request.Undo user description tids) stamp =
+    early_same (early_refusal m n (request.Undo user description tids)) m (request_step rules m n (request.Undo user description tids) stamp)
+    (vote_kept m n (record { user = user; description = description; extension = [] }) stamp _)
+step_left rules m n request.Finish stamp = by_step (λ s. KeepsOrVoted m s.machine.list) rules m n request.Finish stamp (finish_cases m n)
+step_left rules m n request.Abort stamp = early_same (early_refusal m n request.Abort) m (request_step rules m n request.Abort stamp) refl
+step_left rules m n (request.History oid) stamp = early_same (early_refusal m n (request.History oid)) m (request_step rules m n (request.History oid) stamp) refl
+step_left rules m n request.UndoLog stamp = early_same (early_refusal m n request.UndoLog) m (request_step rules m n request.UndoLog stamp) refl
+step_left rules m n (request.Pack tid) stamp = pack_left rules m tid (early_refusal m n (request.Pack tid))
+step_left rules m n request.Close stamp = early_same (early_refusal m n request.Close) m (request_step rules m n request.Close stamp) refl
+
+same_left : (rules : Rules) (m : Machine) (q : Request) (l : List Transaction) → l ≡ m.list → IsListLeft rules m q l
+same_left rules m request.Front l is = is
+same_left rules m (request.LoadBefore oid front) l is = is
+same_left rules m (request.NewOids count) l is = is
+same_left rules m (request.Vote user description extension pending) l is = is
+same_left rules m (request.Undo user description tids) l is = is
+same_left rules m request.Finish l is = kept is
+same_left rules m request.Abort l is = is
+same_left rules m (request.History oid) l is = is
+same_left rules m request.UndoLog l is = is
+same_left rules m (request.Pack tid) l is = unpacked is
+same_left rules m request.Close l is = is
+
+left_left : (rules : Rules) (m : Machine) (n : ℕ) (q : Request) (stamp : ℕ) (o : StepOutcome) → IsListLeft rules m q (machine_left rules m n q stamp o).list
+left_left rules m n q stamp Answered = step_left rules m n q stamp
+left_left rules m n q stamp ReadingFailed = same_left rules m q m.list refl
+left_left rules m n q stamp NoMemory = same_left rules m q m.list refl
+left_left rules m n q stamp StoreFailed = same_left rules m q m.list refl
 
 -- the list at a moment behind a step
-pub step_at_list : (rules : Rules) (m : Moment) (n : ℕ) (q : Request) (r : Reply) (now : Moment) → IsStepAt rules m n q r now → KeepsOrVoted m.machine now.machine.list
-step_at_list rules m n q r now step = subst (λ (x : Machine). KeepsOrVoted m.machine x.list) (sym step.made.left) (left_list rules m.machine n q step.stamp (outcome_of r))
+pub step_at_left : (rules : Rules) (m : Moment) (n : ℕ) (q : Request) (r : Reply) (now : Moment) → IsStepAt rules m n q r now → IsListLeft rules m.machine q now.machine.list
+step_at_left rules m n q r now step = subst (λ (x : Machine). IsListLeft rules m.machine q x.list) (sym step.made.left) (left_left rules m.machine n q step.stamp (outcome_of r))
 
 -- ---- a machine that has not failed
 
-whole_cases : (m : Machine) (n : ℕ) (distinct : Type 0) → StepCases (λ s. s.machine.failed ≡ m.failed) m n distinct
-whole_cases m n distinct = record {
+whole_cases : (m : Machine) (n : ℕ) (q : Request) → StepCases (λ s. s.machine.failed ≡ m.failed) m n q
+whole_cases m n q = record {
   refused = λ r is. refl;
   full = λ count. refl;
   spent = refl;
@@ -87,11 +159,12 @@ whole_cases m n distinct = record {
   dropped = refl;
   listed = λ revisions. refl;
   logged = λ lines. refl;
+  packed = λ is t keep free below. refl;
   closed = refl;
 }
 
 left_whole : (rules : Rules) (m : Machine) (n : ℕ) (q : Request) (stamp : ℕ) (o : StepOutcome) → (o ≡ StoreFailed → ⊥) → (machine_left rules m n q stamp o).failed ≡ m.failed
-left_whole rules m n q stamp Answered fine = by_step (λ s. s.machine.failed ≡ m.failed) rules m n q stamp (whole_cases m n (IsDistinctRequest q))
+left_whole rules m n q stamp Answered fine = by_step (λ s. s.machine.failed ≡ m.failed) rules m n q stamp (whole_cases m n q)
 left_whole rules m n q stamp ReadingFailed fine = refl
 left_whole rules m n q stamp NoMemory fine = refl
 left_whole rules m n q stamp StoreFailed fine = absurd (fine refl)
@@ -113,26 +186,9 @@ told_whole : (rules : Rules) (b t : Moment) (n : ℕ) (committed : Bool) → IsT
 told_whole rules b t n false told = ap (λ (x : Moment). x.machine.failed) told
 told_whole rules b t n true told = step_at_whole rules b n request.Front told.0 t told.1 (front_fine rules b.machine n told.1.stamp _ b.counts t.counts (outcome_of told.0) told.1.made.cause)
 
-early_same : (o : Option Refusal) (m : Machine) (made : Stepped) → made.machine.list ≡ m.list → (unless_early o m made).machine.list ≡ m.list
-early_same None m made is = is
-early_same (Some r) m made is = refl
-
--- a front and a closing keep the list
-front_list : (rules : Rules) (m : Machine) (n stamp : ℕ) (o : StepOutcome) → (machine_left rules m n request.Front stamp o).list ≡ m.list
-front_list rules m n stamp Answered = early_same (early_refusal m n request.Front) m (request_step rules m n request.Front stamp) refl
-front_list rules m n stamp ReadingFailed = refl
-front_list rules m n stamp NoMemory = refl
-front_list rules m n stamp StoreFailed = refl
-
-close_list : (rules : Rules) (m : Machine) (n stamp : ℕ) (o : StepOutcome) → (machine_left rules m n request.Close stamp o).list ≡ m.list
-close_list rules m n stamp Answered = early_same (early_refusal m n request.Close) m (request_step rules m n request.Close stamp) refl
-close_list rules m n stamp ReadingFailed = refl
-close_list rules m n stamp NoMemory = refl
-close_list rules m n stamp StoreFailed = refl
-
 told_list : (rules : Rules) (b t : Moment) (n : ℕ) (committed : Bool) → IsTold rules committed b n t → t.machine.list ≡ b.machine.list
 told_list rules b t n false told = ap (λ (x : Moment). x.machine.list) told
-told_list rules b t n true told = ap (λ (x : Machine). x.list) told.1.made.left ∙ front_list rules b.machine n told.1.stamp (outcome_of told.0)
+told_list rules b t n true told = step_at_left rules b n request.Front told.0 t told.1
 
 refused_fine : (why : Refusal) → end_of (answer.Refused why) ≡ None → outcome_of_refusal why ≡ StoreFailed → ⊥
 refused_fine refusal.TidsSpent ends is = absurd cc
@@ -185,6 +241,7 @@ reply_fine reply.Empty ends is = absurd cc
 reply_fine reply.Aborted ends is = absurd cc
 reply_fine (reply.History list) ends is = absurd cc
 reply_fine (reply.UndoLog list) ends is = absurd cc
+reply_fine (reply.Packed stay gone) ends is = absurd cc
 reply_fine reply.Closed ends is = absurd cc
 
 starved_in : (why : Refusal) → end_in why ≡ Some error.Memory → outcome_of_refusal why ≡ NoMemory
@@ -200,13 +257,53 @@ starved_so _ is = absurd cc
 
 -- ---- a line
 
--- what a line leaves: the list as it was, or with what was voted behind it; and a store that has not failed, where the run goes on
-pub record LeavesWhole (m now : Moment) (a : Answer) : Type 0 where
-  pub list : KeepsOrVoted m.machine now.machine.list
+same_behind : (rules : Rules) (m : Machine) (l : Line) (list : List Transaction) → list ≡ m.list → IsListBehind rules m l list
+same_behind rules m line.Open list is = is
+same_behind rules m line.Begin list is = is
+same_behind rules m (line.Load oid) list is = is
+same_behind rules m (line.Get oid) list is = is
+same_behind rules m (line.Store oid base bytes) list is = is
+same_behind rules m (line.Put oid bytes) list is = is
+same_behind rules m (line.Check oid serial) list is = is
+same_behind rules m line.New list is = is
+same_behind rules m (line.Vote user description) list is = is
+same_behind rules m (line.Undo user description tids) list is = is
+same_behind rules m line.Finish list is = kept is
+same_behind rules m line.Abort list is = is
+same_behind rules m (line.History oid) list is = is
+same_behind rules m line.UndoLog list is = is
+same_behind rules m (line.Pack tid) list is = unpacked is
+same_behind rules m line.Close list is = is
+
+pub same_request : (a b : Request) → Some a ≡ Some b → a ≡ b
+same_request a b e = cc
+
+-- what a step leaves is what its line leaves
+asked_behind : (rules : Rules) (m : Machine) (ch : Option Changes) (l : Line) (q : Request) (list : List Transaction) → request_of ch l ≡ Some q → IsListLeft rules m q list → IsListBehind rules m l list
+asked_behind rules m ch line.Open q list asks left = absurd cc
+asked_behind rules m ch line.Begin q list asks left = subst (λ (x : Request). IsListLeft rules m x list) (sym (same_request request.Front q asks)) left
+asked_behind rules m ch (line.Load oid) q list asks left = absurd cc
+asked_behind rules m ch (line.Get oid) q list asks left = absurd cc
+asked_behind rules m ch (line.Store oid base bytes) q list asks left = absurd cc
+asked_behind rules m ch (line.Put oid bytes) q list asks left = absurd cc
+asked_behind rules m ch (line.Check oid serial) q list asks left = absurd cc
+asked_behind rules m ch line.New q list asks left = subst (λ (x : Request). IsListLeft rules m x list) (sym (same_request (request.NewOids 1) q asks)) left
+asked_behind rules m ch (line.Vote user description) q list asks left = subst (λ (x : Request). IsListLeft rules m x list) (sym (same_request (request.Vote user description [] (pending_in ch)) q asks)) left
+asked_behind rules m ch (line.Undo user description tids) q list asks left = subst (λ (x : Request). IsListLeft rules m x list) (sym (same_request (request.Undo user description tids) q asks)) left
+asked_behind rules m ch line.Finish q list asks left = subst (λ (x : Request). IsListLeft rules m x list) (sym (same_request request.Finish q asks)) left
+asked_behind rules m ch line.Abort q list asks left = subst (λ (x : Request). IsListLeft rules m x list) (sym (same_request request.Abort q asks)) left
+asked_behind rules m ch (line.History oid) q list asks left = subst (λ (x : Request). IsListLeft rules m x list) (sym (same_request (request.History oid) q asks)) left
+asked_behind rules m ch line.UndoLog q list asks left = subst (λ (x : Request). IsListLeft rules m x list) (sym (same_request request.UndoLog q asks)) left
+asked_behind rules m ch (line.Pack tid) q list asks left = subst (λ (x : Request). IsListLeft rules m x list) (sym (same_request (request.Pack tid) q asks)) left
+asked_behind rules m ch line.Close q list asks left = subst (λ (x : Request). IsListLeft rules m x list) (sym (same_request request.Close q asks)) left
+
+-- what a line leaves: the list that it may leave, and a store that has not failed, where the run goes on
+pub record LeavesWhole (rules : Rules) (m : Moment) (l : Line) (now : Moment) (a : Answer) : Type 0 where
+  pub list : IsListBehind rules m.machine l now.machine.list
   pub whole : end_of a ≡ None → m.machine.failed ≡ false → now.machine.failed ≡ false
 
-same_whole : (m now : Moment) (a : Answer) → now.machine ≡ m.machine → LeavesWhole m now a
-same_whole m now a is = record { list = kept (ap (λ (x : Machine). x.list) is); whole = λ ends whole. ap (λ (x : Machine). x.failed) is ∙ whole }
+same_whole : (rules : Rules) (m : Moment) (l : Line) (now : Moment) (a : Answer) → now.machine ≡ m.machine → LeavesWhole rules m l now a
+same_whole rules m l now a is = record { list = same_behind rules m.machine l now.machine.list (ap (λ (x : Machine). x.list) is); whole = λ ends whole. ap (λ (x : Machine). x.failed) is ∙ whole }
 
 opened_list : (m : Moment) (name : List ℕ) (b : Bool) → (if b then (let o : Opening = record { answer = answer.Opened (length m.machine.sessions); moment = record { machine = with_session m.machine; clients = m.clients ++ record { name = name; session = length m.machine.sessions; transaction = None } ∷ []; stamps = m.stamps; counts = m.counts } } in o)
     else (let o : Opening = record { answer = answer.Refused (refusal.TooManySessions (length m.machine.sessions)); moment = m } in o)).moment.machine.list ≡ m.machine.list
@@ -218,9 +315,9 @@ opened_whole : (m : Moment) (name : List ℕ) (b : Bool) → (if b then (let o :
 opened_whole m name true = refl
 opened_whole m name false = refl
 
-opening_whole : (m now : Moment) (name : List ℕ) (a : Answer) → IsOpening m name a now → LeavesWhole m now a
-opening_whole m now name a is = record {
-  list = kept (ap (λ (o : Opening). o.moment.machine.list) is ∙ opened_list m name (nat_lt (length m.machine.sessions) 64));
+opening_whole : (rules : Rules) (m : Moment) (l : Line) (now : Moment) (name : List ℕ) (a : Answer) → IsOpening m name a now → LeavesWhole rules m l now a
+opening_whole rules m l now name a is = record {
+  list = same_behind rules m.machine l now.machine.list (ap (λ (o : Opening). o.moment.machine.list) is ∙ opened_list m name (nat_lt (length m.machine.sessions) 64));
   whole = λ ends whole. ap (λ (o : Opening). o.moment.machine.failed) is ∙ opened_whole m name (nat_lt (length m.machine.sessions) 64) ∙ whole;
 }
 
@@ -247,15 +344,17 @@ within_same m now at c t line.Finish a is = ap (λ (x : Moment). x.machine) is.1
 within_same m now at c t line.Abort a is = ap (λ (x : Moment). x.machine) is.1
 within_same m now at c t (line.History oid) a is = ap (λ (x : Moment). x.machine) is.1
 within_same m now at c t line.UndoLog a is = ap (λ (x : Moment). x.machine) is.1
+within_same m now at c t (line.Pack tid) a is = ap (λ (x : Moment). x.machine) is.1
 within_same m now at c t line.Close a is = ap (λ (x : Moment). x.machine) is.1
 
 pub own_same : (m now : Moment) (at : ℕ) (c : Client) (t : Option OpenTransaction) (l : Line) (a : Answer) → IsOwnLine m at c t l a now → now.machine ≡ m.machine
 own_same m now at c None l a is = ap (λ (x : Moment). x.machine) is.1
 own_same m now at c (Some t) l a is = within_same m now at c t l a is
 
-step_line_whole : (rules : Rules) (m now : Moment) (at : ℕ) (c : Client) (q : Request) (a : Answer) → IsStepLine rules m at c q a now → LeavesWhole m now a
-step_line_whole rules m now at c q a is = record {
-  list = subst (KeepsOrVoted m.machine) (sym (ap (λ (x : Moment). x.machine.list) is.left ∙ told_list rules is.behind is.told c.session (is_committed is.reply) is.front)) (step_at_list rules m c.session q is.reply is.behind is.step);
+step_line_whole : (rules : Rules) (m : Moment) (l : Line) (now : Moment) (at : ℕ) (c : Client) (q : Request) (a : Answer) → request_of (changes_of c) l ≡ Some q → IsStepLine rules m at c q a now → LeavesWhole rules m l now a
+step_line_whole rules m l now at c q a asks is = record {
+  list = subst (IsListBehind rules m.machine l) (sym (ap (λ (x : Moment). x.machine.list) is.left ∙ told_list rules is.behind is.told c.session (is_committed is.reply) is.front))
+      (asked_behind rules m.machine (changes_of c) l q is.behind.machine.list asks (step_at_left rules m c.session q is.reply is.behind is.step));
   whole = λ ends whole.
       ap (λ (x : Moment). x.machine.failed) is.left
       ∙ told_whole rules is.behind is.told c.session (is_committed is.reply) is.front
@@ -263,16 +362,16 @@ step_line_whole rules m now at c q a is = record {
       ∙ whole;
 }
 
-taken_whole : (rules : Rules) (m now : Moment) (at : ℕ) (c : Client) (l : Line) (q : Option Request) (a : Answer) → IsLineTaken rules m at c l q a now → LeavesWhole m now a
-taken_whole rules m now at c l (Some q) a is = step_line_whole rules m now at c q a is
-taken_whole rules m now at c l None a is = same_whole m now a (own_same m now at c c.transaction l a is)
+taken_whole : (rules : Rules) (m now : Moment) (at : ℕ) (c : Client) (l : Line) (q : Option Request) (a : Answer) → request_of (changes_of c) l ≡ q → IsLineTaken rules m at c l q a now → LeavesWhole rules m l now a
+taken_whole rules m now at c l (Some q) a asks is = step_line_whole rules m l now at c q a asks is
+taken_whole rules m now at c l None a asks is = same_whole rules m l now a (own_same m now at c c.transaction l a is)
 
-unless_whole : (rules : Rules) (m now : Moment) (at : ℕ) (c : Client) (l : Line) (r : Option Refusal) (a : Answer) → IsLineUnless rules m at c l r a now → LeavesWhole m now a
-unless_whole rules m now at c l (Some why) a is = same_whole m now a (ap (λ (x : Moment). x.machine) is.1)
-unless_whole rules m now at c l None a is = taken_whole rules m now at c l (request_of (changes_of c) l) a is
+unless_whole : (rules : Rules) (m now : Moment) (at : ℕ) (c : Client) (l : Line) (r : Option Refusal) (a : Answer) → IsLineUnless rules m at c l r a now → LeavesWhole rules m l now a
+unless_whole rules m now at c l (Some why) a is = same_whole rules m l now a (ap (λ (x : Moment). x.machine) is.1)
+unless_whole rules m now at c l None a is = taken_whole rules m now at c l (request_of (changes_of c) l) a refl is
 
-line_of_whole : (rules : Rules) (m now : Moment) (at : Option ℕ) (l : Line) (a : Answer) → IsLineOf rules m at l a now → LeavesWhole m now a
-line_of_whole rules m now None l a is = same_whole m now a (ap (λ (x : Moment). x.machine) is.1)
+line_of_whole : (rules : Rules) (m now : Moment) (at : Option ℕ) (l : Line) (a : Answer) → IsLineOf rules m at l a now → LeavesWhole rules m l now a
+line_of_whole rules m now None l a is = same_whole rules m l now a (ap (λ (x : Moment). x.machine) is.1)
 line_of_whole rules m now (Some at) l a is = unless_whole rules m now at is.0 l (connection_refusal m.machine is.0 l) a is.2
 
 pub by_name : (rules : Rules) (m now : Moment) (name : List ℕ) (l : Line) (a : Answer) (P : Type 0) → (IsOpening m name a now → P) → (IsLineOf rules m (place_of_client name m.clients) l a now → P) → IsLine rules m name l a now → P
@@ -290,107 +389,27 @@ by_name rules m now name line.Finish a P opening named is = named is
 by_name rules m now name line.Abort a P opening named is = named is
 by_name rules m now name (line.History oid) a P opening named is = named is
 by_name rules m now name line.UndoLog a P opening named is = named is
+by_name rules m now name (line.Pack tid) a P opening named is = named is
 by_name rules m now name line.Close a P opening named is = named is
 
--- a line leaves the list as it was, or with what was voted behind it, and a store that has not failed, where the run goes on
-pub line_whole : (rules : Rules) (m now : Moment) (name : List ℕ) (l : Line) (a : Answer) → IsLine rules m name l a now → LeavesWhole m now a
-line_whole rules m now name l a is = by_name rules m now name l a (LeavesWhole m now a) (opening_whole m now name a) (line_of_whole rules m now (place_of_client name m.clients) l a) is
+-- a line leaves a list that it may leave, and a store that has not failed, where the run goes on
+pub line_whole : (rules : Rules) (m now : Moment) (name : List ℕ) (l : Line) (a : Answer) → IsLine rules m name l a now → LeavesWhole rules m l now a
+line_whole rules m now name l a is = by_name rules m now name l a (LeavesWhole rules m l now a) (opening_whole rules m l now name a) (line_of_whole rules m now (place_of_client name m.clients) l a) is
 
 -- ---- a turn
 
 close_whole : (rules : Rules) (m now : Moment) (at : Option ℕ) → IsClosed rules m at now → (now.machine.list ≡ m.machine.list) × (now.machine.failed ≡ m.machine.failed)
 close_whole rules m now None is = (ap (λ (x : Moment). x.machine.list) is, ap (λ (x : Moment). x.machine.failed) is)
 close_whole rules m now (Some at) is =
-    (ap (λ (x : Machine). x.list) is.1.2.made.left ∙ close_list rules m.machine is.1.0.session is.1.2.stamp (outcome_of is.0), step_at_whole rules m is.1.0.session request.Close is.0 now is.1.2 (reply_fine is.0 is.2))
+    (step_at_left rules m is.1.0.session request.Close is.0 now is.1.2, step_at_whole rules m is.1.0.session request.Close is.0 now is.1.2 (reply_fine is.0 is.2))
 
 closing_whole : (rules : Rules) (m now : Moment) (name : List ℕ) (last : Bool) → IsClosing rules m name last now → (now.machine.list ≡ m.machine.list) × (now.machine.failed ≡ m.machine.failed)
 closing_whole rules m now name false is = (ap (λ (x : Moment). x.machine.list) is, ap (λ (x : Moment). x.machine.failed) is)
 closing_whole rules m now name true is = close_whole rules m now (place_of_client name m.clients) is
 
--- an answered turn leaves the list as it was, or with what was voted behind it, and a store that has not failed
-pub turn_whole : (rules : Rules) (m now : Moment) (t : Turn) (last : Bool) (a : Answer) → IsAnswered rules m t last a now → LeavesWhole m now a
+-- an answered turn leaves a list that its line may leave, and a store that has not failed
+pub turn_whole : (rules : Rules) (m now : Moment) (t : Turn) (last : Bool) (a : Answer) → IsAnswered rules m t last a now → LeavesWhole rules m t.line now a
 turn_whole rules m now t last a is =
-    let line : LeavesWhole m is.behind a = line_whole rules m is.behind t.client t.line a is.line in
+    let line : LeavesWhole rules m t.line is.behind a = line_whole rules m is.behind t.client t.line a is.line in
     let closing : (now.machine.list ≡ is.behind.machine.list) × (now.machine.failed ≡ is.behind.machine.failed) = closing_whole rules is.behind now t.client last is.closing in
-    record { list = subst (KeepsOrVoted m.machine) (sym closing.0) line.list; whole = λ ends whole. closing.1 ∙ line.whole ends whole }
-
--- ---- a line that is no finish keeps the list
-
-at_kept : (m : Machine) (n : ℕ) (texts : Texts) (changes : List Change) (tid : ℕ) (b : Bool)
-    → (cond {A = Stepped} b (record { reply = reply.Voted; machine = with_vote m n (Some (transaction_with tid texts changes)); ticks = true }) (record { reply = reply.Refused refusal.TidsSpent; machine = m; ticks = true })).machine.list ≡ m.list
-at_kept m n texts changes tid true = refl
-at_kept m n texts changes tid false = refl
-
-counted_kept : (m : Machine) (n : ℕ) (texts : Texts) (changes : List Change) (tid count : ℕ) (b : Bool) → (cond {A = Stepped} b (replied_refusal m (refusal.JournalFull count)) (vote_at m n texts changes tid)).machine.list ≡ m.list
-counted_kept m n texts changes tid count true = refl
-counted_kept m n texts changes tid count false = at_kept m n texts changes tid (nat_lt tid (2 ^ 64 - 1))
-
-vote_kept : (m : Machine) (n : ℕ) (texts : Texts) (stamp : ℕ) (decided : Result (List Change) Refusal) → (vote_step m n texts stamp decided).machine.list ≡ m.list
-vote_kept m n texts stamp (Err r) = refl
-vote_kept m n texts stamp (Ok []) = refl
-vote_kept m n texts stamp (Ok (c ∷ changes)) =
-    counted_kept m n texts (c ∷ changes) (tid_after (newest_tid m.list) stamp) (changes_in_journal m.journal + length (c ∷ changes)) (nat_lt journal_limit (changes_in_journal m.journal + length (c ∷ changes)))
-
-request_kept : (rules : Rules) (m : Machine) (n : ℕ) (q : Request) (stamp : ℕ) → keeps_list q ≡ true → (request_step rules m n q stamp).machine.list ≡ m.list
-request_kept rules m n request.Front stamp quiet = refl
-request_kept rules m n (request.LoadBefore oid front) stamp quiet = refl
-request_kept rules m n (request.NewOids count) stamp quiet = refl
-request_kept rules m n (request.Vote user description extension pending) stamp quiet =
-    vote_kept m n (record { user = user; description = description; extension = extension }) stamp _
-request_kept rules m n (request.Undo user description tids) stamp quiet =
-    vote_kept m n (record { user = user; description = description; extension = [] }) stamp _
-request_kept rules m n request.Finish stamp quiet = absurd cc
-request_kept rules m n request.Abort stamp quiet = refl
-request_kept rules m n (request.History oid) stamp quiet = refl
-request_kept rules m n request.UndoLog stamp quiet = refl
-request_kept rules m n request.Close stamp quiet = refl
-
-pub quiet_list : (rules : Rules) (m : Machine) (n : ℕ) (q : Request) (stamp : ℕ) → keeps_list q ≡ true → (step_of rules m n q stamp).machine.list ≡ m.list
-quiet_list rules m n q stamp quiet = early_same (early_refusal m n q) m (request_step rules m n q stamp) (request_kept rules m n q stamp quiet)
-
-left_quiet : (rules : Rules) (m : Machine) (n : ℕ) (q : Request) (stamp : ℕ) (o : StepOutcome) → keeps_list q ≡ true → (machine_left rules m n q stamp o).list ≡ m.list
-left_quiet rules m n q stamp Answered quiet = quiet_list rules m n q stamp quiet
-left_quiet rules m n q stamp ReadingFailed quiet = refl
-left_quiet rules m n q stamp NoMemory quiet = refl
-left_quiet rules m n q stamp StoreFailed quiet = refl
-
-pub step_at_quiet : (rules : Rules) (m : Moment) (n : ℕ) (q : Request) (r : Reply) (now : Moment) → keeps_list q ≡ true → IsStepAt rules m n q r now → now.machine.list ≡ m.machine.list
-step_at_quiet rules m n q r now quiet step = ap (λ (x : Machine). x.list) step.made.left ∙ left_quiet rules m.machine n q step.stamp (outcome_of r) quiet
-
-pub same_request : (a b : Request) → Some a ≡ Some b → a ≡ b
-same_request a b e = cc
-
-asked_quiet : (ch : Option Changes) (l : Line) (q : Request) → request_of ch l ≡ Some q → is_finish l ≡ false → keeps_list q ≡ true
-asked_quiet ch line.Open q asks fine = absurd cc
-asked_quiet ch line.Begin q asks fine = subst (λ (x : Request). keeps_list x ≡ true) (same_request request.Front q asks) refl
-asked_quiet ch (line.Load oid) q asks fine = absurd cc
-asked_quiet ch (line.Get oid) q asks fine = absurd cc
-asked_quiet ch (line.Store oid base bytes) q asks fine = absurd cc
-asked_quiet ch (line.Put oid bytes) q asks fine = absurd cc
-asked_quiet ch (line.Check oid serial) q asks fine = absurd cc
-asked_quiet ch line.New q asks fine = subst (λ (x : Request). keeps_list x ≡ true) (same_request (request.NewOids 1) q asks) refl
-asked_quiet ch (line.Vote user description) q asks fine = subst (λ (x : Request). keeps_list x ≡ true) (same_request (request.Vote user description [] (pending_in ch)) q asks) refl
-asked_quiet ch (line.Undo user description tids) q asks fine = subst (λ (x : Request). keeps_list x ≡ true) (same_request (request.Undo user description tids) q asks) refl
-asked_quiet ch line.Finish q asks fine = absurd cc
-asked_quiet ch line.Abort q asks fine = subst (λ (x : Request). keeps_list x ≡ true) (same_request request.Abort q asks) refl
-asked_quiet ch (line.History oid) q asks fine = subst (λ (x : Request). keeps_list x ≡ true) (same_request (request.History oid) q asks) refl
-asked_quiet ch line.UndoLog q asks fine = subst (λ (x : Request). keeps_list x ≡ true) (same_request request.UndoLog q asks) refl
-asked_quiet ch line.Close q asks fine = subst (λ (x : Request). keeps_list x ≡ true) (same_request request.Close q asks) refl
-
-taken_quiet : (rules : Rules) (m now : Moment) (at : ℕ) (c : Client) (l : Line) (q : Option Request) (a : Answer) → request_of (changes_of c) l ≡ q → is_finish l ≡ false → IsLineTaken rules m at c l q a now → now.machine.list ≡ m.machine.list
-taken_quiet rules m now at c l (Some q) a asks fine is =
-    ap (λ (x : Moment). x.machine.list) is.left ∙ told_list rules is.behind is.told c.session (is_committed is.reply) is.front ∙ step_at_quiet rules m c.session q is.reply is.behind (asked_quiet (changes_of c) l q asks fine) is.step
-taken_quiet rules m now at c l None a asks fine is = ap (λ (x : Machine). x.list) (own_same m now at c c.transaction l a is)
-
-unless_quiet : (rules : Rules) (m now : Moment) (at : ℕ) (c : Client) (l : Line) (r : Option Refusal) (a : Answer) → is_finish l ≡ false → IsLineUnless rules m at c l r a now → now.machine.list ≡ m.machine.list
-unless_quiet rules m now at c l (Some why) a fine is = ap (λ (x : Moment). x.machine.list) is.1
-unless_quiet rules m now at c l None a fine is = taken_quiet rules m now at c l (request_of (changes_of c) l) a refl fine is
-
-line_of_quiet : (rules : Rules) (m now : Moment) (at : Option ℕ) (l : Line) (a : Answer) → is_finish l ≡ false → IsLineOf rules m at l a now → now.machine.list ≡ m.machine.list
-line_of_quiet rules m now None l a fine is = ap (λ (x : Moment). x.machine.list) is.1
-line_of_quiet rules m now (Some at) l a fine is = unless_quiet rules m now at is.0 l (connection_refusal m.machine is.0 l) a fine is.2
-
-pub line_quiet : (rules : Rules) (m now : Moment) (name : List ℕ) (l : Line) (a : Answer) → IsLine rules m name l a now → is_finish l ≡ false → now.machine.list ≡ m.machine.list
-line_quiet rules m now name l a is =
-    by_name rules m now name l a (is_finish l ≡ false → now.machine.list ≡ m.machine.list)
-    (λ opens fine. ap (λ (o : Opening). o.moment.machine.list) opens ∙ opened_list m name (nat_lt (length m.machine.sessions) 64)) (λ named fine. line_of_quiet rules m now (place_of_client name m.clients) l a fine named) is
+    record { list = subst (IsListBehind rules m.machine t.line) (sym closing.0) line.list; whole = λ ends whole. closing.1 ∙ line.whole ends whole }

@@ -5,9 +5,9 @@ ghost use Rattle.zb_ids.specs.declared.stamp.Stamp.{Stamp};
 ghost use Rattle.zb_volume.specs.declared.areas.Area.TheVariants.{Main, Side};
 ghost use Rattle.zb_volume.specs.Moments.{Leaves, LeavesOnly, StaysAs};
 ghost use Rattle.zodb_core.specs.HubState.{IsFitting, counts_of, rules_of};
-ghost use Rattle.zodb_core.specs.Outcomes.{NoMemory, ReadingFailed, StoreFailed, keeps_store, outcome_of, reads_store, takes_memory};
+ghost use Rattle.zodb_core.specs.Outcomes.{NoMemory, ReadingFailed, StoreFailed, is_pack, keeps_store, outcome_of, reads_store, takes_memory};
 ghost use Rattle.client_turns.specs.Clients.{Moment, first_moment};
-ghost use Rattle.client_turns.specs.Standing.{IsListAround, LeadsTo, MakesSafely, StandsForMoment, keeps_list};
+ghost use Rattle.client_turns.specs.Standing.{IsListFor, LeadsTo, MakesSafely, StandsForMoment};
 ghost use Rattle.client_turns.specs.Turns.{IsStepAt, IsTold};
 
 use crate::client::Client;
@@ -76,11 +76,9 @@ impl<St: Store, R: Resolver, F: Refs> Clients<St, R, F> {
             self.new (C.stamps clock.new) }
         ensures any_moment { St.lasts → St.told → self.old.hub.store.broken ≡ false →
             (m : Moment) → StandsForMoment self.old (C.stamps clock.old) m →
-            LeavesOnly Main (IsListAround St.stands m.machine) self.old.hub.store.log self.new.hub.store.log }
-        ensures quiet { keeps_list request ≡ true → St.lasts → St.told → self.old.hub.store.broken ≡ false →
-            (m : Moment) → StandsForMoment self.old (C.stamps clock.old) m →
-            LeavesOnly Main (λ bytes. St.stands bytes m.machine.list) self.old.hub.store.log self.new.hub.store.log }
-        ensures side { St.lasts → StaysAs Side self.old.hub.store.log self.new.hub.store.log }
+            LeavesOnly Main (IsListFor St.stands (rules_of R.rules F.named self.old.hub) m.machine request)
+            self.old.hub.store.log self.new.hub.store.log }
+        ensures side { St.lasts → is_pack request ≡ false → StaysAs Side self.old.hub.store.log self.new.hub.store.log }
         ensures safe { MakesSafely result self.old.hub self.new.hub }
         ensures memory { takes_memory request ≡ false → ¬ (outcome_of result ≡ NoMemory) }
         ensures unread { reads_store request ≡ false → ¬ (outcome_of result ≡ ReadingFailed) }

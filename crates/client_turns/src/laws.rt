@@ -3,7 +3,8 @@
 ghost use Rattle.client_turns.specs.Laws.{FrontsNeverFall, NumbersAreNew, ReadsStayBelowTheFront, RefusalsHaveTheirCause};
 ghost use Rattle.client_turns.specs.Laws.{TheListStaysADatabase};
 
-/// The list that turns leave is a database, and begins with the one that they found.
+/// The list that turns leave is a database, which came of the one that they found by later transactions and
+/// by packs; where there was no pack, it begins with that one.
 pub fn the_list_stays_a_database()
     ensures { TheListStaysADatabase }
 {}

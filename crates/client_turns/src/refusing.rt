@@ -68,7 +68,7 @@ pub(crate) fn line_refusal(changes: Option<&Changes>, line: &Line) -> Option<Ref
 {
     match line {
         Line::Open | Line::New | Line::UndoLog | Line::Close => None,
-        Line::History { .. } => None,
+        Line::History { .. } | Line::Pack { .. } => None,
         Line::Begin => match changes {
             Some(_) => Some(Refusal::InTransaction),
             None => None,

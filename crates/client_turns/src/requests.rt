@@ -56,6 +56,7 @@ pub(crate) fn request_of(
         Line::Abort => Ok(Some(Request::Abort)),
         Line::History { oid } => Ok(Some(Request::History { oid: *oid })),
         Line::UndoLog => Ok(Some(Request::UndoLog)),
+        Line::Pack { tid } => Ok(Some(Request::Pack { tid: *tid })),
         Line::Close => Ok(Some(Request::Close)),
         _ => Ok(None),
     }
@@ -94,6 +95,7 @@ pub(crate) fn answer_of(reply: Reply) -> Answer
         Reply::Aborted => Answer::Aborted,
         Reply::History { list } => Answer::History { list },
         Reply::UndoLog { list } => Answer::UndoLog { list },
+        Reply::Packed { kept, dropped } => Answer::Packed { kept, dropped },
         Reply::Closed => Answer::Closed,
         Reply::Refused(why) => Answer::Refused(why),
     }

@@ -4,7 +4,7 @@ ghost use Rattle.std.specs.Prelude.{◌≡◌, ◌<◌, false, length};
 ghost use Rattle.zb_volume.specs.declared.areas.Area.TheVariants.{Main, Side};
 ghost use Rattle.zb_volume.specs.Moments.{LeavesOnly, StaysAs};
 ghost use Rattle.zodb_core.specs.HubState.{IsFitting, counts_of, rules_of};
-ghost use Rattle.zodb_core.specs.Outcomes.{AreLaterCounts};
+ghost use Rattle.zodb_core.specs.Outcomes.{AreLaterCounts, is_pack};
 ghost use Rattle.client_turns.specs.Clients.{Moment};
 ghost use Rattle.client_turns.specs.Standing.{HasTurnCause, IsListFor, IsStepOf, LeadsTo, StandsForMoment};
 
@@ -35,8 +35,9 @@ impl<St: Store, R: Resolver, F: Refs> Clients<St, R, F> {
             self.new (C.stamps clock.new) }
         ensures any_moment { St.lasts → St.told → self.old.hub.store.broken ≡ false →
             (m : Moment) → StandsForMoment self.old (C.stamps clock.old) m →
-            LeavesOnly Main (IsListFor St.stands m.machine request) self.old.hub.store.log self.new.hub.store.log }
-        ensures side { St.lasts → StaysAs Side self.old.hub.store.log self.new.hub.store.log }
+            LeavesOnly Main (IsListFor St.stands (rules_of R.rules F.named self.old.hub) m.machine request)
+            self.old.hub.store.log self.new.hub.store.log }
+        ensures side { St.lasts → is_pack request ≡ false → StaysAs Side self.old.hub.store.log self.new.hub.store.log }
         ensures resolver { self.new.hub.resolver ≡ self.old.hub.resolver }
         ensures refs { self.new.hub.refs ≡ self.old.hub.refs }
         ensures later { AreLaterCounts (counts_of self.old.hub.store) (counts_of self.new.hub.store) }

@@ -11,7 +11,7 @@ ghost use Rattle.client_turns.specs.declared.client.Client.{Client};
 ghost use Rattle.client_turns.specs.Clients.{Moment, place_of_client};
 ghost use Rattle.client_turns.specs.Lines.{IsCountedBy, end_of, outcome_of_end, outcome_of_turn};
 ghost use Rattle.client_turns.specs.Refusing.{IsFittingLine, opens_session};
-ghost use Rattle.client_turns.specs.Standing.{ClosesAs, ClosesIf, HasTurnCause, IsListIn, IsQuiet, LeadsTo, OrAsBefore, StandsForMoment, refusal_kept};
+ghost use Rattle.client_turns.specs.Standing.{ClosesAs, ClosesIf, HasTurnCause, IsListIn, IsQuiet, LeadsTo, OrAsBefore, StandsForMoment, packs_list, refusal_kept};
 ghost use Rattle.client_turns.specs.Turns.{IsLine, IsLineAt, IsOpening, IsTurn};
 
 use crate::client::{Client, changes_at, place_of, session_at};
@@ -103,8 +103,8 @@ impl<St: Store, R: Resolver, F: Refs> Clients<St, R, F> {
         ensures any_moment { St.lasts → St.told → self.old.hub.store.broken ≡ false →
             (m : Moment) → StandsForMoment self.old (C.stamps clock.old) m →
             Leaves Main (λ bytes. St.stands bytes m.machine.list) self.old.hub.store.log →
-            LeavesOnly Main (IsListIn St.stands m.machine line.now) self.old.hub.store.log self.new.hub.store.log }
-        ensures side { St.lasts → StaysAs Side self.old.hub.store.log self.new.hub.store.log }
+            LeavesOnly Main (IsListIn St.stands (rules_of R.rules F.named self.old.hub) m.machine line.now) self.old.hub.store.log self.new.hub.store.log }
+        ensures side { St.lasts → packs_list line.now ≡ false → StaysAs Side self.old.hub.store.log self.new.hub.store.log }
         ensures resolver { self.new.hub.resolver ≡ self.old.hub.resolver }
         ensures refs { self.new.hub.refs ≡ self.old.hub.refs }
         ensures later { AreLaterCounts (counts_of self.old.hub.store) (counts_of self.new.hub.store) }
@@ -136,8 +136,8 @@ impl<St: Store, R: Resolver, F: Refs> Clients<St, R, F> {
         ensures any_moment { St.lasts → St.told → self.old.hub.store.broken ≡ false →
             (m : Moment) → StandsForMoment self.old (C.stamps clock.old) m →
             Leaves Main (λ bytes. St.stands bytes m.machine.list) self.old.hub.store.log →
-            LeavesOnly Main (IsListIn St.stands m.machine line.now) self.old.hub.store.log self.new.hub.store.log }
-        ensures side { St.lasts → StaysAs Side self.old.hub.store.log self.new.hub.store.log }
+            LeavesOnly Main (IsListIn St.stands (rules_of R.rules F.named self.old.hub) m.machine line.now) self.old.hub.store.log self.new.hub.store.log }
+        ensures side { St.lasts → packs_list line.now ≡ false → StaysAs Side self.old.hub.store.log self.new.hub.store.log }
         ensures resolver { self.new.hub.resolver ≡ self.old.hub.resolver }
         ensures refs { self.new.hub.refs ≡ self.old.hub.refs }
         ensures later { AreLaterCounts (counts_of self.old.hub.store) (counts_of self.new.hub.store) }
@@ -224,8 +224,8 @@ impl<St: Store, R: Resolver, F: Refs> Clients<St, R, F> {
             self.new (C.stamps clock.new) }
         ensures any_moment { St.lasts → St.told → self.old.hub.store.broken ≡ false →
             (m : Moment) → StandsForMoment self.old (C.stamps clock.old) m →
-            LeavesOnly Main (IsListIn St.stands m.machine turn.now.line) self.old.hub.store.log self.new.hub.store.log }
-        ensures side { St.lasts → StaysAs Side self.old.hub.store.log self.new.hub.store.log }
+            LeavesOnly Main (IsListIn St.stands (rules_of R.rules F.named self.old.hub) m.machine turn.now.line) self.old.hub.store.log self.new.hub.store.log }
+        ensures side { St.lasts → packs_list turn.now.line ≡ false → StaysAs Side self.old.hub.store.log self.new.hub.store.log }
         ensures resolver { self.new.hub.resolver ≡ self.old.hub.resolver }
         ensures refs { self.new.hub.refs ≡ self.old.hub.refs }
         ensures later { AreLaterCounts (counts_of self.old.hub.store) (counts_of self.new.hub.store) }

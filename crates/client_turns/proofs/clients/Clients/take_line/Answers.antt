@@ -3,12 +3,12 @@ use Rattle.std.proofs.Common.{◌∙◌, List, Option, ap, refl, sym}
 use Rattle.std.specs.Prelude.{slice_get}
 use Rattle.std.specs.Option.{option_copied}
 use Rattle.zb_script.specs.declared.answer.Answer.TheVariants as answer
-use Rattle.zodb_core.specs.HubState.{counts_of}
+use Rattle.zodb_core.specs.HubState.{counts_of, rules_of}
 use Rattle.client_turns.specs.declared.client.Changes.{Changes}
 use Rattle.client_turns.specs.declared.client.Client.{Client}
 use Rattle.client_turns.specs.Lines.{request_of}
 use Rattle.client_turns.proofs.Causes.{quiet_cause}
-use Rattle.client_turns.proofs.Crashes.{in_step}
+use Rattle.client_turns.proofs.Crashes.{asked_no_pack, in_step}
 use Rattle.client_turns.proofs.Taking.{line_own, line_refused, line_step}
 use Rattle.client_turns.proofs.clients.Clients.take_line.Goals as goal
 
@@ -35,4 +35,8 @@ returns-in-Some-clause-cause g c = quiet_cause (counts_of c.args.self.now.hub.st
 
 pub returns-in-Some-2-clause-any_moment : goal.returns-in-Some-2-clause-any_moment
 returns-in-Some-2-clause-any_moment g c = λ lasts told whole m stands leaves.
-    in_step g.St.Store.stands m.machine (option_copied c.changes_at.result) c.args.line.now c.in-Some-2.request _ _ (sym c.in-Some-2.is ∙ c.in_ok-request.ensures.request) (c.take_step.ensures.any_moment lasts told whole m stands)
+    in_step g.St.Store.stands (rules_of g.R.Resolver.rules g.F.Refs.named c.args.self.now.hub) m.machine (option_copied c.changes_at.result) c.args.line.now c.in-Some-2.request _ _ (sym c.in-Some-2.is ∙ c.in_ok-request.ensures.request) (c.take_step.ensures.any_moment lasts told whole m stands)
+
+pub returns-in-Some-2-clause-side : goal.returns-in-Some-2-clause-side
+returns-in-Some-2-clause-side g c = λ lasts packs.
+    c.take_step.ensures.side lasts (asked_no_pack (option_copied c.changes_at.result) c.args.line.now c.in-Some-2.request (sym c.in-Some-2.is ∙ c.in_ok-request.ensures.request) packs)

@@ -4,12 +4,12 @@ use Rattle.std.specs.Prelude.{slice_get, slice_set}
 use Rattle.client_turns.specs.declared.client.Client.{Client}
 use Rattle.zb_volume.specs.declared.areas.Area.TheVariants.{Main}
 use Rattle.zb_volume.specs.Moments.{LeavesOnly}
-use Rattle.zodb_core.specs.HubState.{counts_of}
+use Rattle.zodb_core.specs.HubState.{counts_of, rules_of}
 use Rattle.zodb_core.specs.Outcomes.{AreLaterCounts}
-use Rattle.client_turns.specs.Standing.{HasTurnCause, IsListAround, IsListFor, with_work, work_left}
+use Rattle.client_turns.specs.Standing.{HasTurnCause, IsListFor, with_work, work_left}
 use Rattle.client_turns.proofs.Causes.{later_same, turn_cause}
-use Rattle.client_turns.specs.TurnLaws.{step_at_list, step_at_quiet}
-use Rattle.client_turns.proofs.Crashes.{around_moments, committed_whole, for_moments, list_moments, step_and_told}
+use Rattle.client_turns.specs.TurnLaws.{step_at_left}
+use Rattle.client_turns.proofs.Crashes.{committed_whole, left_moments, step_and_told}
 use Rattle.client_turns.proofs.Ending.{rules_same, step_line}
 use Rattle.client_turns.proofs.clients.Clients.take_step.Goals as goal
 
@@ -37,10 +37,8 @@ returns-clause-kept g c =
 
 pub returns-clause-any_moment : goal.returns-clause-any_moment
 returns-clause-any_moment g c = λ lasts told whole m stands.
+    let rules_now = rules_of g.R.Resolver.rules g.F.Refs.named c.args.self.now.hub in
     let first = c.step-reply.ensures.step told m stands in
-    subst (λ s. LeavesOnly Main (IsListFor g.St.Store.stands m.machine c.args.request) c.args.self.now.hub.store.log s.hub.store.log) (sym c.self-2.view_is)
-    (for_moments g.St.Store.stands m.machine c.args.request _ _
-    (step_and_told (IsListAround g.St.Store.stands m.machine) c.is_committed.result _ _ _ (c.step-reply.ensures.any_moment lasts told whole m stands) (λ none. ap (λ h. h.store.log) (c.tell.ensures.untold none))
-    (λ some. around_moments g.St.Store.stands m.machine first.now.machine _ _ (step_at_list _ m _ _ _ first.now first.holds) (c.tell.ensures.quiet some lasts told (c.step-reply.ensures.safe.broken whole ∙ committed_whole c.step-reply.result (sym c.is_committed.ensures ∙ some)) first.now first.stands)))
-    (λ keeps. step_and_told (λ bytes. g.St.Store.stands bytes m.machine.list) c.is_committed.result _ _ _ (c.step-reply.ensures.quiet keeps lasts told whole m stands) (λ none. ap (λ h. h.store.log) (c.tell.ensures.untold none))
-    (λ some. list_moments g.St.Store.stands m.machine.list first.now.machine.list _ _ (step_at_quiet _ m _ _ _ first.now keeps first.holds) (c.tell.ensures.quiet some lasts told (c.step-reply.ensures.safe.broken whole ∙ committed_whole c.step-reply.result (sym c.is_committed.ensures ∙ some)) first.now first.stands))))
+    subst (λ s. LeavesOnly Main (IsListFor g.St.Store.stands rules_now m.machine c.args.request) c.args.self.now.hub.store.log s.hub.store.log) (sym c.self-2.view_is)
+    (step_and_told (IsListFor g.St.Store.stands rules_now m.machine c.args.request) c.is_committed.result _ _ _ (c.step-reply.ensures.any_moment lasts told whole m stands) (λ none. ap (λ h. h.store.log) (c.tell.ensures.untold none))
+    (λ some. left_moments g.St.Store.stands rules_now m.machine first.now.machine c.args.request _ _ (step_at_left rules_now m _ _ _ first.now first.holds) (c.tell.ensures.quiet some lasts told (c.step-reply.ensures.safe.broken whole ∙ committed_whole c.step-reply.result (sym c.is_committed.ensures ∙ some)) first.now first.stands)))

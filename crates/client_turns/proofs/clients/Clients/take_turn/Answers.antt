@@ -3,7 +3,8 @@ use Rattle.std.proofs.Common.{◌≡◌, ◌∙◌, false, List, subst, sym}
 use Rattle.zb_volume.specs.declared.areas.Area.TheVariants.{Main}
 use Rattle.zb_volume.specs.Moments.{Leaves}
 use Rattle.zb_model.specs.declared.data.Transaction.{Transaction}
-use Rattle.client_turns.specs.TurnLaws.{line_quiet, line_whole}
+use Rattle.zodb_core.specs.HubState.{rules_of}
+use Rattle.client_turns.specs.TurnLaws.{line_whole}
 use Rattle.client_turns.proofs.Crashes.{turn_moments}
 use Rattle.client_turns.proofs.Ending.{rules_same}
 use Rattle.client_turns.proofs.Taking.{turn_broken, turn_cut}
@@ -24,10 +25,10 @@ returns-in-Some-close_if-clause-any_moment g c = λ lasts told whole m stands.
     let first = c.in_ok-answer.ensures.line told m stands in
     let laws = line_whole _ m first.now _ _ _ first.holds in
     let fine : c.line.new.self.hub.store.broken ≡ false = sym first.stands.hub.failed ∙ laws.whole (sym (sym c.in_default.is ∙ c.end_of.ensures)) (stands.hub.failed ∙ whole) in
-    turn_moments g.St.Store.stands m.machine first.now.machine c.args.turn.now.line _ _ _
+    turn_moments g.St.Store.stands (rules_of g.R.Resolver.rules g.F.Refs.named c.args.self.now.hub) m.machine first.now.machine c.args.turn.now.line _ _ _
     (c.in_ok-answer.ensures.any_moment lasts told whole m stands
     (subst (λ (l : List Transaction). Leaves Main (λ bytes. g.St.Store.stands bytes l) c.args.self.now.hub.store.log) (sym (stands.hub.list whole)) (c.lasting.ensures.lasting lasts whole)))
-    laws.list (line_quiet _ m first.now _ _ _ first.holds)
+    laws.list
     (c.close_if.ensures.quiet lasts told fine first.now first.stands
     (subst (λ (l : List Transaction). Leaves Main (λ bytes. g.St.Store.stands bytes l) c.line.new.self.hub.store.log) (sym (first.stands.hub.list fine)) (c.lasting-2.ensures.lasting lasts fine)))
 
@@ -36,9 +37,9 @@ returns-in-None-clause-any_moment g c = λ lasts told whole m stands.
     let first = c.in_ok-answer.ensures.line told m stands in
     let laws = line_whole _ m first.now _ _ _ first.holds in
     let fine : c.line.new.self.hub.store.broken ≡ false = sym first.stands.hub.failed ∙ laws.whole (sym (sym c.in_default.is ∙ c.end_of.ensures)) (stands.hub.failed ∙ whole) in
-    turn_moments g.St.Store.stands m.machine first.now.machine c.args.turn.now.line _ _ _
+    turn_moments g.St.Store.stands (rules_of g.R.Resolver.rules g.F.Refs.named c.args.self.now.hub) m.machine first.now.machine c.args.turn.now.line _ _ _
     (c.in_ok-answer.ensures.any_moment lasts told whole m stands
     (subst (λ (l : List Transaction). Leaves Main (λ bytes. g.St.Store.stands bytes l) c.args.self.now.hub.store.log) (sym (stands.hub.list whole)) (c.lasting.ensures.lasting lasts whole)))
-    laws.list (line_quiet _ m first.now _ _ _ first.holds)
+    laws.list
     (c.close_if.ensures.quiet lasts told fine first.now first.stands
     (subst (λ (l : List Transaction). Leaves Main (λ bytes. g.St.Store.stands bytes l) c.line.new.self.hub.store.log) (sym (first.stands.hub.list fine)) (c.lasting-2.ensures.lasting lasts fine)))
