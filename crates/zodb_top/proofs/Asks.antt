@@ -23,7 +23,7 @@ use Rattle.zodb_core.specs.declared.request.Request.TheVariants as request
 use Rattle.zodb_core.specs.DecisionLaws.{AnswersIfSome, IsOrdinary}
 use Rattle.zodb_core.specs.HubState.{HasTicked, HubState, IsCauseOf, MakesStep, StandsForMachine, StepsSafely, counts_of, is_store_failed, may_write}
 use Rattle.zodb_core.specs.Machine.{Machine, Rules, front_of, machine_over, with_session}
-use Rattle.zodb_core.specs.Outcomes.{Answered, EndsFor, FaultCounts, IsStepMade, NoMemory, ReadingFailed, StepOutcome, StoreFailed, changes_store, keeps_store, machine_left, outcome_of, outcome_of_refusal}
+use Rattle.zodb_core.specs.Outcomes.{Answered, EndsFor, FaultCounts, IsStepMade, NoMemory, ReadingFailed, StepOutcome, StoreFailed, changes_store, is_pack, keeps_store, machine_left, outcome_of, outcome_of_refusal}
 use Rattle.zodb_core.specs.StepCases.{early_answers}
 use Rattle.zodb_core.specs.Steps.{Stepped, early_refusal, front_step, loaded, replied, request_step, step_of, unless_early}
 use Rattle.zodb_top.specs.Asked.{digested, last_of, shown}
@@ -34,10 +34,10 @@ use Rattle.zodb_top.specs.Came.{stock}
 
 record StepReads (m : Machine) (s : Stepped) : Type 0 where
   pub list : s.machine.list ≡ m.list
-  pub writes : may_write s.reply ≡ false
+  pub writes : may_write false s.reply ≡ false
   pub ticks : s.ticks ≡ false
 
-ordinary_writes : (why : Refusal) → outcome_of_refusal why ≡ Answered → may_write (reply.Refused why) ≡ false
+ordinary_writes : (why : Refusal) → outcome_of_refusal why ≡ Answered → may_write false (reply.Refused why) ≡ false
 ordinary_writes refusal.StoreFault is = absurd cc
 ordinary_writes _ is = refl
 
@@ -68,18 +68,18 @@ never_changes m n request.UndoLog made is changes = absurd cc
 never_changes m n _ made is changes = absurd cc
 
 -- a reply that something else went wrong has written nothing
-fault_writes : (why : Refusal) → ¬ (outcome_of_refusal why ≡ StoreFailed) → may_write (reply.Refused why) ≡ false
+fault_writes : (why : Refusal) → ¬ (outcome_of_refusal why ≡ StoreFailed) → may_write false (reply.Refused why) ≡ false
 fault_writes refusal.StoreFault other = absurd (other refl)
 fault_writes _ other = refl
 
-wrong_writes : (r : Reply) → ¬ (outcome_of r ≡ Answered) → ¬ (outcome_of r ≡ StoreFailed) → may_write r ≡ false
+wrong_writes : (r : Reply) → ¬ (outcome_of r ≡ Answered) → ¬ (outcome_of r ≡ StoreFailed) → may_write false r ≡ false
 wrong_writes (reply.Refused why) answered failed = fault_writes why failed
 wrong_writes _ answered failed = absurd (answered refl)
 
 -- what is known of a step that only reads
 record MadeReads (m : Machine) (r : Reply) (left : Machine) : Type 0 where
   pub list : left.list ≡ m.list
-  pub writes : may_write r ≡ false
+  pub writes : may_write false r ≡ false
   pub whole : is_store_failed (outcome_of r) ≡ false
 
 ends_reads : (m : Machine) (n : ℕ) (q : Request) (stamp : ℕ) (r : Reply) (left : Machine) (ticks : Bool) (before now : FaultCounts) (o : StepOutcome) → only_reads q ≡ true → outcome_of r ≡ o
@@ -99,15 +99,23 @@ clock_kept false stamp before after step only none ticked = ticked
 clock_kept true stamp before after false only none ticked = let never : IsTrue false = only refl in absurd cc
 clock_kept true stamp before after true only none ticked = absurd cc
 
+no_pack : (q : Request) → only_reads q ≡ true → is_pack q ≡ false
+no_pack (request.Pack tid) reads = absurd cc
+no_pack request.Front reads = refl
+no_pack (request.LoadBefore oid front) reads = refl
+no_pack (request.History oid) reads = refl
+no_pack request.UndoLog reads = refl
+no_pack _ reads = absurd cc
+
 pub reading_keeps : {R F : Type 0} (m : Machine) (n : ℕ) (q : Request) (r : Reply) (old new : HubState R F) (before after : Option (List Stamp)) → only_reads q ≡ true
-    → MakesStep stock m n q r old new before after → StepsSafely r old new → old.store.broken ≡ false → KeepsList m old new before after
+    → MakesStep stock m n q r old new before after → StepsSafely (is_pack q) r old new → old.store.broken ≡ false → KeepsList m old new before after
 reading_keeps m n q r old new before after reads made safe whole =
     let all = ends_reads m n q made.stamp r made.left made.ticks (counts_of old.store) (counts_of new.store) (outcome_of r) reads refl made.made.cause made.made.left in
     record {
       left = made.left;
       list = all.list;
       stands = made.stands;
-      log = safe.log all.writes;
+      log = safe.log (subst (λ (b : Bool). may_write b r ≡ false) (sym (no_pack q reads)) all.writes);
       whole = safe.broken whole ∙ all.whole;
       clock = clock_kept made.ticks made.stamp before after (step_of stock m n q made.stamp).ticks made.made.ticks (step_reads m n q made.stamp reads).ticks made.clock;
     }

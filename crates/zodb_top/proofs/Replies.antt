@@ -123,14 +123,14 @@ module _ {R F : Type 0} (lasts : Type 0) (stands : List ℕ → List Transaction
 
   module _ (k : ℕ) (t : Turn) (rest : List Turn) (flag : Bool) (old mid new : Option (List ℕ)) (log : List Event) (before clients : ClientsState R F) (stamps left : Option (List Stamp))
       (parts : drop k turns ≡ t ∷ rest) (flagged : flag ≡ is_last t rest) (runs : RunsOn lasts stands m turns (take k turns) (drop k turns) old mid log before stamps)
-      (moments : lasts → LeavesOnly Main (IsListIn stands runs.now.machine t.line) before.hub.store.log clients.hub.store.log) where
+      (moments : lasts → LeavesOnly Main (IsListIn stands stock runs.now.machine t.line) before.hub.store.log clients.hub.store.log) where
     whole_parts : turns ≡ take k turns ++ (t ∷ rest)
     whole_parts = sym (take-append-drop k turns) ∙ ap (λ (ts : List Turn). take k turns ++ ts) parts
 
     answered_here : Out stock m (take k turns) (t ∷ rest) runs.answers runs.now
     answered_here = subst (λ (ts : List Turn). Out stock m (take k turns) ts runs.answers runs.now) parts runs.answered
 
-    of_run : (bytes : List ℕ) → IsListIn stands runs.now.machine t.line bytes → IsOfRun stands m turns bytes
+    of_run : (bytes : List ℕ) → IsListIn stands stock runs.now.machine t.line bytes → IsOfRun stands m turns bytes
     of_run bytes is = record {
       taken = take k turns;
       later = t ∷ rest;
@@ -143,7 +143,7 @@ module _ {R F : Type 0} (lasts : Type 0) (stands : List ℕ → List Transaction
 
     all_moments : lasts → LeavesOnly Main (IsOfRun stands m turns) log clients.hub.store.log
     all_moments known = along_joined (Leaves Main (IsOfRun stands m turns)) log before.hub.store.log clients.hub.store.log (runs.moments known)
-        (leaves_less Main (IsListIn stands runs.now.machine t.line) (IsOfRun stands m turns) before.hub.store.log clients.hub.store.log of_run (moments known))
+        (leaves_less Main (IsListIn stands stock runs.now.machine t.line) (IsOfRun stands m turns) before.hub.store.log clients.hub.store.log of_run (moments known))
 
     pub go_on : LeadsTo (IsReplied (Appends mid new) runs.now t flag) clients left → RunsOn lasts stands m turns (take k turns ++ t ∷ []) rest old new log clients left
     go_on leads =
@@ -195,7 +195,7 @@ module _ {R F : Type 0} (lasts : Type 0) (stands : List ℕ → List Transaction
           };
           text = written_of why new r.silent;
           stands_for = leads.stands;
-          around = λ is known. along_now (Leaves Main (IsListIn stands runs.now.machine t.line)) before.hub.store.log clients.hub.store.log (moments known);
+          around = λ is known. along_now (Leaves Main (IsListIn stands stock runs.now.machine t.line)) before.hub.store.log clients.hub.store.log (moments known);
           moments = all_moments;
         }
 
@@ -208,7 +208,7 @@ module _ {R F : Type 0} (lasts : Type 0) (stands : List ℕ → List Transaction
   pub turn_more : (k : ℕ) (t : Turn) (flag : Bool) (old mid new : Option (List ℕ)) (log : List Event) (before clients : ClientsState R F) (stamps left : Option (List Stamp))
       → k < length turns → t ≡ get_or turns k t → slice_get (last_flags turns) k ≡ Some flag
       → (runs : RunsOn lasts stands m turns (take k turns) (drop k turns) old mid log before stamps)
-      → (lasts → LeavesOnly Main (IsListIn stands runs.now.machine t.line) before.hub.store.log clients.hub.store.log)
+      → (lasts → LeavesOnly Main (IsListIn stands stock runs.now.machine t.line) before.hub.store.log clients.hub.store.log)
       → LeadsTo (IsReplied (Appends mid new) runs.now t flag) clients left
       → RunsOn lasts stands m turns (take (k + 1) turns) (drop (k + 1) turns) old new log clients left
   turn_more k t flag old mid new log before clients stamps left within is at runs moments leads =
@@ -218,7 +218,7 @@ module _ {R F : Type 0} (lasts : Type 0) (stands : List ℕ → List Transaction
   pub turn_last : (k : ℕ) (t : Turn) (flag : Bool) (old mid new : Option (List ℕ)) (log : List Event) (before clients : ClientsState R F) (stamps left : Option (List Stamp)) (e : RunError)
       → k < length turns → t ≡ get_or turns k t → slice_get (last_flags turns) k ≡ Some flag
       → (runs : RunsOn lasts stands m turns (take k turns) (drop k turns) old mid log before stamps)
-      → (lasts → LeavesOnly Main (IsListIn stands runs.now.machine t.line) before.hub.store.log clients.hub.store.log)
+      → (lasts → LeavesOnly Main (IsListIn stands stock runs.now.machine t.line) before.hub.store.log clients.hub.store.log)
       → LeadsTo (IsStopped e runs.now t flag mid new) clients left
       → Stops lasts stands (broke_of e) m turns old new log clients left
   turn_last k t flag old mid new log before clients stamps left e within is at runs moments leads =

@@ -1,6 +1,6 @@
 -- What a turn keeps, and a run.
 use Rattle.std.proofs.Common.{◌≡◌, ℕ, Bool, true, false, cond, List, [], ◌∷◌, ◌++◌, Option, Some, None, length, ltb, refl, sym, ap, subst, ◌∙◌}
-use Rattle.std.specs.Prelude.{Result, Ok, Err, slice_get}
+use Rattle.std.specs.Prelude.{Result, Ok, Err, slice_get, ◌||◌}
 use Rattle.std.specs.List.{AllByRecursion}
 use Rattle.zb_model.specs.declared.data.Transaction.{Transaction}
 use Rattle.zb_model.specs.declared.pending.PendingStore.{PendingStore}
@@ -18,6 +18,7 @@ use Rattle.zodb_core.specs.declared.request.Request.{Request}
 use Rattle.zodb_core.specs.declared.request.Request.TheVariants as request
 use Rattle.zodb_core.specs.Machine.{Machine, Rules, session_limit, with_session}
 use Rattle.zodb_core.specs.Outcomes.{NoMemory, StoreFailed, outcome_of}
+use Rattle.zodb_core.specs.Outcomes as core
 use Rattle.client_turns.specs.declared.client.Changes.{Changes}
 use Rattle.client_turns.specs.declared.errors.TurnError.{TurnError}
 use Rattle.client_turns.specs.declared.errors.TurnError.TheVariants as turn_error
@@ -28,37 +29,37 @@ use Rattle.client_turns.specs.Output.{Out, TurnAnswer, is_last}
 use Rattle.client_turns.specs.Refusing.{connection_refusal}
 use Rattle.client_turns.specs.Turns.{IsAnswered, IsBroken, IsChange, IsClosed, IsClosing, IsClosingAt, IsGet, IsLine, IsLineOf, IsLineTaken, IsLineUnless, IsOpening, IsOwnLine, IsPut, IsReadLine, IsRefusedAt, IsStepAt, IsStepLine, IsTold, IsTurn, IsWithin, Opening, by_closing, by_line, by_memory, opened}
 use Rattle.client_turns.specs.Views.{View}
-use Rattle.zodb_top.specs.Committed.{BeginsWith, CommittedStays, HasCommitted, IsInIfCommitted}
-use Rattle.zodb_top.proofs.Keeping.{HasIfCommitted, MadeKeeps, answered_on, begins_is, begins_on, begins_same, close_fed, committed_on, committed_so, fails_so, front_whole, made_keeps, starved_so}
+use Rattle.zodb_top.specs.Committed.{BeginsWith, CommittedStays, HasCommitted, IsInIfCommitted, IsLeftIfCommitted, IsLeftOf, has_packed, is_packed}
+use Rattle.zodb_top.proofs.Keeping.{GoesTo, HasIfCommitted, IsHeld, MadeKeeps, answered_on, close_fed, committed_on, committed_so, fails_so, front_whole, goes_both, goes_is, goes_then, in_later, left_later, made_keeps, packed_so, starved_so}
 
 -- ---- steps at a moment
 
-step_at : (rules : Rules) (m : Moment) (n : ℕ) (q : Request) (r : Reply) (now : Moment) → IsStepAt rules m n q r now → MadeKeeps m.machine r now.machine
+step_at : (rules : Rules) (m : Moment) (n : ℕ) (q : Request) (r : Reply) (now : Moment) → IsStepAt rules m n q r now → MadeKeeps q m.machine r now.machine
 step_at rules m n q r now step = made_keeps rules m.machine n q step.stamp r now.machine step.ticks m.counts now.counts step.made
 
 -- what a list and a machine that hasn't failed become
 pub record Keeps (m now : Moment) : Type 0 where
-  pub grows : BeginsWith now.machine.list m.machine.list
+  pub goes : GoesTo false m.machine.list now.machine.list
   pub failed : now.machine.failed ≡ m.machine.failed
 
 keeps_same : (m now : Moment) → now ≡ m → Keeps m now
-keeps_same m now is = record { grows = begins_is m.machine.list now.machine.list (ap (λ (x : Moment). x.machine.list) is); failed = ap (λ (x : Moment). x.machine.failed) is }
+keeps_same m now is = record { goes = goes_is false m.machine.list now.machine.list (ap (λ (x : Moment). x.machine.list) is); failed = ap (λ (x : Moment). x.machine.failed) is }
 
 keeps_on : (a b c : Moment) → Keeps a b → Keeps b c → Keeps a c
-keeps_on a b c first second = record { grows = begins_on a.machine.list b.machine.list c.machine.list first.grows second.grows; failed = second.failed ∙ first.failed }
+keeps_on a b c first second = record { goes = goes_then false a.machine.list b.machine.list c.machine.list first.goes second.goes; failed = second.failed ∙ first.failed }
 
 told_keeps : (rules : Rules) (b : Bool) (m : Moment) (n : ℕ) (now : Moment) → IsTold rules b m n now → Keeps m now
 told_keeps rules false m n now told = keeps_same m now told
 told_keeps rules true m n now (r, step) =
     let keeps = step_at rules m n request.Front r now step in
-    record { grows = keeps.grows; failed = keeps.failed (front_whole rules m.machine n step.stamp r now.machine step.ticks m.counts now.counts step.made) }
+    record { goes = subst (λ (b : Bool). GoesTo b m.machine.list now.machine.list) (keeps.plain refl) keeps.goes; failed = keeps.failed (front_whole rules m.machine n step.stamp r now.machine step.ticks m.counts now.counts step.made) }
 
 -- ---- lines
 
 -- what a line keeps, by its answer
 pub record LineKeeps (m : Moment) (a : Answer) (now : Moment) : Type 0 where
-  pub grows : BeginsWith now.machine.list m.machine.list
-  pub committed : IsInIfCommitted now.machine.list a
+  pub goes : GoesTo (is_packed a) m.machine.list now.machine.list
+  pub committed : IsHeld now.machine.list a
   pub failed : ¬ (end_of a ≡ Some turn_error.StoreFault) → now.machine.failed ≡ m.machine.failed
   pub memory : end_of a ≡ Some turn_error.Memory → now.machine.list ≡ m.machine.list
 
@@ -67,15 +68,15 @@ abbrev IsPlain : Answer → Type 0
 IsPlain (answer.Committed tid) = ⊥
 IsPlain _ = Unit {0}
 
-plain_in : (a : Answer) (list : List Transaction) → IsPlain a → IsInIfCommitted list a
+plain_in : (a : Answer) (list : List Transaction) → IsPlain a → IsHeld list a
 plain_in (answer.Committed tid) list plain = absurd plain
 plain_in _ list plain = tt
 
 -- a line that leaves the machine as it is
 same_line : (m : Moment) (a b : Answer) (now : Moment) → a ≡ b → IsPlain b → now.machine ≡ m.machine → LineKeeps m a now
 same_line m a b now is plain same = record {
-  grows = begins_is m.machine.list now.machine.list (ap (λ (x : Machine). x.list) same);
-  committed = subst (IsInIfCommitted now.machine.list) (sym is) (plain_in b now.machine.list plain);
+  goes = goes_is (is_packed a) m.machine.list now.machine.list (ap (λ (x : Machine). x.list) same);
+  committed = subst (IsHeld now.machine.list) (sym is) (plain_in b now.machine.list plain);
   failed = λ other. ap (λ (x : Machine). x.failed) same;
   memory = λ none. ap (λ (x : Machine). x.list) same;
 }
@@ -85,8 +86,8 @@ opening_of m name true = record { answer = answer.Opened (length m.machine.sessi
 opening_of m name false = record { answer = answer.Refused (refusal.TooManySessions (length m.machine.sessions)); moment = m }
 
 opening_keeps : (m : Moment) (name : List ℕ) (b : Bool) → LineKeeps m (opening_of m name b).answer (opening_of m name b).moment
-opening_keeps m name true = record { grows = begins_same m.machine.list; committed = tt; failed = λ other. refl; memory = λ none. refl }
-opening_keeps m name false = record { grows = begins_same m.machine.list; committed = tt; failed = λ other. refl; memory = λ none. refl }
+opening_keeps m name true = record { goes = goes_is false m.machine.list m.machine.list refl; committed = tt; failed = λ other. refl; memory = λ none. refl }
+opening_keeps m name false = record { goes = goes_is false m.machine.list m.machine.list refl; committed = tt; failed = λ other. refl; memory = λ none. refl }
 
 opened_so : (m : Moment) (name : List ℕ) (b : Bool)
     → cond {A = Opening} b (record { answer = answer.Opened (length m.machine.sessions); moment = record m { machine = with_session m.machine; clients = m.clients ++ (record { name = name; session = length m.machine.sessions; transaction = None }) ∷ [] } })
@@ -104,11 +105,11 @@ step_line rules m at c q a now l =
     let keeps = step_at rules m c.session q l.reply l.behind l.step in
     let told = told_keeps rules (is_committed l.reply) l.behind c.session l.told l.front in
     let machine : now.machine ≡ l.told.machine = ap (λ (x : Moment). x.machine) l.left in
-    let last = begins_is l.told.machine.list now.machine.list (ap (λ (x : Machine). x.list) machine) in
-    let behind : BeginsWith now.machine.list l.behind.machine.list = begins_on l.behind.machine.list l.told.machine.list now.machine.list told.grows last in
+    let last = goes_is false l.told.machine.list now.machine.list (ap (λ (x : Machine). x.list) machine) in
+    let behind : GoesTo false l.behind.machine.list now.machine.list = goes_then false l.behind.machine.list l.told.machine.list now.machine.list told.goes last in
     record {
-      grows = begins_on m.machine.list l.behind.machine.list now.machine.list keeps.grows behind;
-      committed = subst (IsInIfCommitted now.machine.list) (sym l.answer) (committed_so l.reply now.machine.list (committed_on l.reply l.behind.machine.list now.machine.list behind keeps.committed));
+      goes = subst (λ (b : Bool). GoesTo b m.machine.list now.machine.list) (sym (ap is_packed l.answer ∙ packed_so l.reply)) (goes_then (core.is_packed l.reply) m.machine.list l.behind.machine.list now.machine.list keeps.goes behind);
+      committed = subst (IsHeld now.machine.list) (sym l.answer) (committed_so l.reply now.machine.list (committed_on l.reply l.behind.machine.list now.machine.list behind keeps.committed));
       failed = λ other. ap (λ (x : Machine). x.failed) machine ∙ told.failed ∙ keeps.failed (λ lost. other (ap end_of l.answer ∙ fails_so l.reply lost));
       memory = λ none. starved rules m at c q a now l machine (starved_so l.reply (sym (ap end_of l.answer) ∙ none)) keeps;
     }
@@ -117,7 +118,7 @@ step_line rules m at c q a now l =
     not_told (reply.Committed tid) is = absurd cc
     not_told _ is = refl
 
-    starved : (rules : Rules) (m : Moment) (at : ℕ) (c : Client) (q : Request) (a : Answer) (now : Moment) (l : IsStepLine rules m at c q a now) → now.machine ≡ l.told.machine → outcome_of l.reply ≡ NoMemory → MadeKeeps m.machine l.reply l.behind.machine
+    starved : (rules : Rules) (m : Moment) (at : ℕ) (c : Client) (q : Request) (a : Answer) (now : Moment) (l : IsStepLine rules m at c q a now) → now.machine ≡ l.told.machine → outcome_of l.reply ≡ NoMemory → MadeKeeps q m.machine l.reply l.behind.machine
         → now.machine.list ≡ m.machine.list
     starved rules m at c q a now l machine none keeps =
         let told : l.told ≡ l.behind = subst (λ (b : Bool). IsTold rules b l.behind c.session l.told) (not_told l.reply none) l.front in
@@ -204,6 +205,7 @@ line_keeps rules m name line.Finish a now is = line_of rules m (place_of_client 
 line_keeps rules m name line.Abort a now is = line_of rules m (place_of_client name m.clients) line.Abort a now is
 line_keeps rules m name (line.History oid) a now is = line_of rules m (place_of_client name m.clients) (line.History oid) a now is
 line_keeps rules m name line.UndoLog a now is = line_of rules m (place_of_client name m.clients) line.UndoLog a now is
+line_keeps rules m name (line.Pack tid) a now is = line_of rules m (place_of_client name m.clients) (line.Pack tid) a now is
 line_keeps rules m name line.Close a now is = line_of rules m (place_of_client name m.clients) line.Close a now is
 
 -- ---- turns
@@ -211,7 +213,7 @@ line_keeps rules m name line.Close a now is = line_of rules m (place_of_client n
 closed_at : (rules : Rules) (m : Moment) (at : ℕ) (r : Reply) (now : Moment) → IsClosingAt rules m at r now → ¬ (end_of (answer_of r) ≡ Some turn_error.StoreFault) → Keeps m now
 closed_at rules m at r now (c, there, step) other =
     let keeps = step_at rules m c.session request.Close r now step in
-    record { grows = keeps.grows; failed = keeps.failed (λ lost. other (fails_so r lost)) }
+    record { goes = subst (λ (b : Bool). GoesTo b m.machine.list now.machine.list) (keeps.plain refl) keeps.goes; failed = keeps.failed (λ lost. other (fails_so r lost)) }
 
 closed_keeps : (rules : Rules) (m : Moment) (at : Option ℕ) (now : Moment) → IsClosed rules m at now → Keeps m now
 closed_keeps rules m None now same = keeps_same m now same
@@ -223,8 +225,8 @@ closing_keeps rules m name true now closed = closed_keeps rules m (place_of_clie
 
 -- what an answered turn keeps
 pub record TurnKeeps (m : Moment) (a : Answer) (now : Moment) : Type 0 where
-  pub grows : BeginsWith now.machine.list m.machine.list
-  pub committed : IsInIfCommitted now.machine.list a
+  pub goes : GoesTo (is_packed a) m.machine.list now.machine.list
+  pub committed : IsHeld now.machine.list a
   pub failed : now.machine.failed ≡ m.machine.failed
 
 pub turn_keeps : (rules : Rules) (m : Moment) (t : Turn) (last : Bool) (a : Answer) (now : Moment) → IsTurn rules m t last (Ok a) now → TurnKeeps m a now
@@ -232,8 +234,8 @@ turn_keeps rules m t last a now is =
     let l = line_keeps rules m t.client t.line a is.behind is.line in
     let closing = closing_keeps rules is.behind t.client last now is.closing in
     record {
-      grows = begins_on m.machine.list is.behind.machine.list now.machine.list l.grows closing.grows;
-      committed = answered_on a is.behind.machine.list now.machine.list closing.grows l.committed;
+      goes = goes_then (is_packed a) m.machine.list is.behind.machine.list now.machine.list l.goes closing.goes;
+      committed = answered_on a is.behind.machine.list now.machine.list closing.goes l.committed;
       failed = closing.failed ∙ l.failed (λ lost. absurd cc);
     }
 
@@ -261,24 +263,34 @@ broken_keeps rules m t last now is = broken_by rules m t last turn_error.Memory 
 -- ---- runs
 
 pub record OutKeeps (m : Moment) (answers : List TurnAnswer) (now : Moment) : Type 0 where
-  pub grows : BeginsWith now.machine.list m.machine.list
+  pub goes : GoesTo (has_packed answers) m.machine.list now.machine.list
   pub committed : HasCommitted answers now.machine.list
   pub failed : now.machine.failed ≡ m.machine.failed
 
+either : (b c : Bool) → (b || c) ≡ false → c ≡ false
+either true c none = absurd cc
+either false c none = none
+
+committed_first : (o : TurnAnswer) (answers : List TurnAnswer) (list now : List Transaction) → IsHeld list o.answer → GoesTo (has_packed answers) list now → HasCommitted answers now → HasCommitted (o ∷ answers) now
+committed_first o answers list now held goes others = record {
+  left = (left_later o.answer list now goes.left held, others.left);
+  whole = λ none. let rest = either (is_packed o.answer) (has_packed answers) none in (in_later o.answer list now (goes.begins rest) held, others.whole rest);
+}
+
 pub out_keeps : (rules : Rules) (m : Moment) (turns later : List Turn) (answers : List TurnAnswer) (now : Moment) → Out rules m turns later answers now → OutKeeps m answers now
-out_keeps rules m [] later [] now out = let keeps = keeps_same m now out in record { grows = keeps.grows; committed = tt; failed = keeps.failed }
+out_keeps rules m [] later [] now out = let keeps = keeps_same m now out in record { goes = keeps.goes; committed = record { left = tt; whole = λ none. tt }; failed = keeps.failed }
 out_keeps rules m [] later (o ∷ answers) now out = absurd out
 out_keeps rules m (t ∷ turns) later [] now out = absurd out
 out_keeps rules m (t ∷ turns) later (o ∷ answers) now (next, named, turn, rest) =
     let first = turn_keeps rules m t (is_last t (turns ++ later)) o.answer next turn in
     let others = out_keeps rules next turns later answers now rest in
     record {
-      grows = begins_on m.machine.list next.machine.list now.machine.list first.grows others.grows;
-      committed = (answered_on o.answer next.machine.list now.machine.list others.grows first.committed, others.committed);
+      goes = goes_both (is_packed o.answer) (has_packed answers) m.machine.list next.machine.list now.machine.list first.goes others.goes;
+      committed = committed_first o answers next.machine.list now.machine.list first.committed others.goes others.committed;
       failed = others.failed ∙ first.failed;
     }
 
 pub committed_stays : CommittedStays
 committed_stays rules m now turns later answers out =
     let keeps = out_keeps rules m turns later answers now out in
-    (keeps.committed, keeps.grows)
+    record { committed = keeps.committed; left = keeps.goes.left; begins = keeps.goes.begins }

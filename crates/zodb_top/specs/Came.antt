@@ -56,10 +56,11 @@ pub record Came (m : Moment) (turns : List Turn) (broke : Option TurnError) (now
 abbrev pub began : List Transaction → Option (List Stamp) → ℕ → ℕ → Moment
 began list stamps reads others = first_moment list stamps (record { reads = reads; others = others })
 
--- Before these turns bytes stand for the machine's list; where the first of them is a `finish`, they may stand for that with what is voted behind it.
+-- Before these turns bytes stand for the machine's list; where the first of them is a `finish`, they may stand for that with what is voted behind it, and where
+-- it is a `pack`, for that packed.
 abbrev pub IsListNext : (List ℕ → List Transaction → Type 0) → Machine → List Turn → List ℕ → Type 0
 IsListNext stands m [] = λ bytes. stands bytes m.list
-IsListNext stands m (t ∷ later) = IsListIn stands m t.line
+IsListNext stands m (t ∷ later) = IsListIn stands stock m t.line
 
 -- bytes stand for the list of a machine; where the store failed in the first of these turns, for that or for what its line would have left
 abbrev pub IsMainBy : (List ℕ → List Transaction → Type 0) → Option TurnError → Machine → List Turn → List ℕ → Type 0
@@ -74,7 +75,7 @@ abbrev pub CountsLeft : Option TurnError → List TurnAnswer → Outside → Out
 CountsLeft (Some StoreFault) answers before after = Unit {0}
 CountsLeft _ answers before after = (after.write_faults ≡ before.write_faults) × (has_read_fault answers ≡ false → after.read_faults ≡ before.read_faults)
 
--- Bytes stand for the list at some moment of the run, behind some front of its turns; or, where the next one is a `finish`, for what that would leave.
+-- Bytes stand for the list at some moment of the run, behind some front of its turns; or, where the next one is a `finish` or a `pack`, for what that would leave.
 pub record IsOfRun (stands : List ℕ → List Transaction → Type 0) (m : Moment) (turns : List Turn) (bytes : List ℕ) : Type 0 where
   pub taken : List Turn
   pub later : List Turn
@@ -95,7 +96,7 @@ pub record IsCalm (before : Outside) : Type 0 where
 
 -- The file was opened, where no call failed, the turns came so far over its list, and what was written has this to do with the line of the tail that was cut off
 -- and the replies. The clock and the volume's counts are those of the moment. Main stands for its list, as it is and whatever a crash leaves, and that list has each transaction that
--- was answered as committed. Whatever a crash at any moment of the call leaves stands for the list at some moment of the run.
+-- was answered as committed, or what packs left of it. Whatever a crash at any moment of the call leaves stands for the list at some moment of the run.
 pub record Reached (turns : List Turn) (broke : Option TurnError) (written : List ℕ → Type 0) (before after : Outside) : Type 0 where
   pub list : List Transaction
   pub cut : Option ℕ

@@ -1,11 +1,15 @@
 -- What the program writes, and what its statuses say of `run`. Own.
 use Rattle.std.specs.Prelude.{◌≡◌, ◌⊎◌, ℕ, ◌<◌, ◌≤◌, List, Option, Some, None, Bool, true, false, IfSome, length}
+use Rattle.std.specs.List.{list_any}
 use Rattle.zb_base.specs.Counts.{Rose}
 use Rattle.zb_script.specs.declared.limits.Limit.{Limit}
 use Rattle.zb_script.specs.declared.line.Turn.{Turn}
 use Rattle.zb_script.specs.Limits.{first_limit}
 use Rattle.zb_script.specs.Script.{IsBadLine, IsScript}
 use Rattle.client_turns.specs.declared.errors.TurnError.TheVariants.{Memory}
+use Rattle.client_turns.specs.Standing.{packs_list}
+use Rattle.zodb_top.specs.declared.command.Command.{Command}
+use Rattle.zodb_top.specs.declared.command.Command.TheVariants.{Run}
 use Rattle.zodb_top.specs.declared.status.Status.{Status}
 use Rattle.zodb_top.specs.declared.status.Status.TheVariants.{Done, NoMemory, SourceFault, SinkFault, StoreFault, Damaged, BadLine, Limit as LimitPassed}
 use Rattle.zodb_top.specs.Came.{RanInPart, RanToFault, RanWhole}
@@ -17,6 +21,21 @@ use Rattle.zodb_top.specs.Written.{IsWritten}
 -- the input is the script of these turns, and within the limits
 abbrev pub IsInput : List ℕ → List Turn → Type 0
 IsInput input turns = (first_limit input ≡ None) × IsScript input turns
+
+-- a turn packs
+abbrev pub has_pack : List Turn → Bool
+has_pack turns = list_any (λ t. packs_list t.line) turns
+
+-- the input is told, and no script that it is packs
+pub record PacksNothing (left : Option (List ℕ)) : Type 0 where
+  pub input : List ℕ
+  pub told : left ≡ Some input
+  pub none : (turns : List Turn) → IsInput input turns → has_pack turns ≡ false
+
+-- and so it is of a run, and of each command that asks
+abbrev pub KeepsSide : Option Command → Option (List ℕ) → Type 0
+KeepsSide (Some Run) left = PacksNothing left
+KeepsSide _ left = Unit {0}
 
 -- this holds of turns, which are those of the input where the source tells
 abbrev pub OfInput : Option (List ℕ) → (List Turn → Type 0) → Type 0

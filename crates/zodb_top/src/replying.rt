@@ -10,7 +10,9 @@ ghost use Rattle.client_turns.specs.declared.errors.TurnError.TheVariants.{Store
 ghost use Rattle.client_turns.specs.Clients.{Moment};
 ghost use Rattle.client_turns.specs.Output.{last_flags};
 ghost use Rattle.client_turns.specs.Refusing.{IsFittingLine};
-ghost use Rattle.client_turns.specs.Standing.{IsListIn, LeadsTo, StandsForMoment};
+ghost use Rattle.client_turns.specs.Standing.{IsListIn, LeadsTo, StandsForMoment, packs_list};
+ghost use Rattle.zodb_top.specs.Came.{stock};
+ghost use Rattle.zodb_top.specs.Program.{has_pack};
 ghost use Rattle.zodb_top.specs.Running.{IsReplied, IsStopped, RunsOn, Stops, broke_of};
 
 use crate::saying::write_lines;
@@ -51,8 +53,8 @@ fn reply<St: Store, K: Sink, C: Clock>(
     ensures err { St.told → (m : Moment) → StandsForMoment clients.old (C.stamps clock.old) m → IfErr result (λ e.
         LeadsTo (IsStopped e m turn.now is_last (K.taken sink.old) (K.taken sink.new)) clients.new (C.stamps clock.new)) }
     ensures moments { St.lasts → St.told → clients.old.hub.store.broken ≡ false → (m : Moment) → StandsForMoment clients.old (C.stamps clock.old) m →
-        LeavesOnly Main (IsListIn St.stands m.machine turn.now.line) clients.old.hub.store.log clients.new.hub.store.log }
-    ensures side { St.lasts → StaysAs Side clients.old.hub.store.log clients.new.hub.store.log }
+        LeavesOnly Main (IsListIn St.stands stock m.machine turn.now.line) clients.old.hub.store.log clients.new.hub.store.log }
+    ensures side { St.lasts → packs_list turn.now.line ≡ false → StaysAs Side clients.old.hub.store.log clients.new.hub.store.log }
     ensures sink_failed { IsErrOf result RunError.SinkFault → Rose (K.faults sink.old) (K.faults sink.new) }
     ensures store_failed { IsErrOf result (RunError.Turn StoreFault) → Rose clients.old.hub.store.faults clients.new.hub.store.faults }
     ensures others { ¬ IsErrOf result (RunError.Turn StoreFault) → clients.new.hub.store.faults ≡ clients.old.hub.store.faults }
@@ -98,7 +100,7 @@ pub(crate) fn take_turns<St: Store, K: Sink, C: Clock>(
         (RunsOn St.lasts St.stands m turns.now turns.now [] (K.taken sink.old) (K.taken sink.new) clients.old.hub.store.log clients.new (C.stamps clock.new)) }
     ensures err { St.told → (m : Moment) → StandsForMoment clients.old (C.stamps clock.old) m → m.machine.failed ≡ false → IfErr result (λ e.
         Stops St.lasts St.stands (broke_of e) m turns.now (K.taken sink.old) (K.taken sink.new) clients.old.hub.store.log clients.new (C.stamps clock.new)) }
-    ensures side { St.lasts → StaysAs Side clients.old.hub.store.log clients.new.hub.store.log }
+    ensures side { St.lasts → has_pack turns.now ≡ false → StaysAs Side clients.old.hub.store.log clients.new.hub.store.log }
     ensures sink_failed { IsErrOf result RunError.SinkFault → Rose (K.faults sink.old) (K.faults sink.new) }
     ensures store_failed { IsErrOf result (RunError.Turn StoreFault) → Rose clients.old.hub.store.faults clients.new.hub.store.faults }
     ensures others { ¬ IsErrOf result (RunError.Turn StoreFault) → clients.new.hub.store.faults ≡ clients.old.hub.store.faults }

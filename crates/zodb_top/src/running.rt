@@ -12,7 +12,7 @@ ghost use Rattle.zb_volume.specs.Disk.{seen};
 ghost use Rattle.client_turns.specs.Refusing.{IsFittingLine};
 ghost use Rattle.zodb_top.specs.Came.{began};
 ghost use Rattle.zodb_top.specs.Outside.{outside};
-ghost use Rattle.zodb_top.specs.Program.{IsUnlessMemory};
+ghost use Rattle.zodb_top.specs.Program.{IsUnlessMemory, has_pack};
 ghost use Rattle.zodb_top.specs.Running.{FileSays, SaysStopped, StoreSays};
 
 use crate::replying::{RunError, take_turns};
@@ -59,7 +59,7 @@ fn run_store<St: Store, K: Sink, C: Clock>(
         (K.taken sink.old) (K.taken sink.new) (K.faults sink.old) (K.faults sink.new) (St.state store) (St.state result.1) (C.stamps clock.new) }
     ensures complete { ¬ Rose (St.state store).faults (St.state result.1).faults → ¬ Rose (K.faults sink.old) (K.faults sink.new) → IsUnlessMemory result.0 Status.Done }
     ensures others { ¬ (result.0 ≡ Status.StoreFault) → (St.state result.1).faults ≡ (St.state store).faults }
-    ensures side { St.lasts → StaysAs Side (St.state store).log (St.state result.1).log }
+    ensures side { St.lasts → has_pack turns.now ≡ false → StaysAs Side (St.state store).log (St.state result.1).log }
     ensures sink_counted { K.faults sink.old ≤ K.faults sink.new }
     ensures read_counted { (St.state store).read_faults ≤ (St.state result.1).read_faults }
     ensures counted { (St.state store).faults ≤ (St.state result.1).faults }
@@ -102,7 +102,7 @@ pub(crate) fn run_file<K: Sink, V: Volume + Drop, C: Clock>(
         → IsNoList (seen (V.log volume) Main) → IsUnlessMemory result.0 Status.Damaged }
     ensures harmed { V.told → IsNoList (seen (V.log volume) Main) → V.log result.1 ≡ V.log volume }
     ensures others { ¬ (result.0 ≡ Status.StoreFault) → V.write_faults result.1 ≡ V.write_faults volume }
-    ensures side { V.told → seen (V.log volume) Main ≢ [] → StaysAs Side (V.log volume) (V.log result.1) }
+    ensures side { V.told → has_pack turns.now ≡ false → seen (V.log volume) Main ≢ [] → StaysAs Side (V.log volume) (V.log result.1) }
     ensures sink_counted { K.faults sink.old ≤ K.faults sink.new }
     ensures read_counted { V.read_faults volume ≤ V.read_faults result.1 }
     ensures counted { V.write_faults volume ≤ V.write_faults result.1 }

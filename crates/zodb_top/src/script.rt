@@ -17,7 +17,7 @@ ghost use Rattle.zb_volume.specs.Disk.{seen};
 ghost use Rattle.client_turns.specs.Refusing.{IsFittingLine};
 ghost use Rattle.zodb_top.specs.Inputs.{InputSays, SaysBadLine, SaysLimit, most_bytes};
 ghost use Rattle.zodb_top.specs.Outside.{outside};
-ghost use Rattle.zodb_top.specs.Program.{IsInput, IsUnlessMemory, RunSays, is_read};
+ghost use Rattle.zodb_top.specs.Program.{IsInput, IsUnlessMemory, PacksNothing, RunSays, is_read};
 
 use crate::running::run_file;
 use crate::saying::{bad_line_text, limit_text, say};
@@ -102,7 +102,7 @@ pub(crate) fn run_source<S: Source, K: Sink, V: Volume + Drop, C: Clock>(
         → ¬ Rose (S.faults source.old) (S.faults source.new) → IsUnlessMemory result.0 Status.Limit) }
     ensures harmed { V.told → IsNoList (seen (V.log volume) Main) → V.log result.1 ≡ V.log volume }
     ensures others { ¬ (result.0 ≡ Status.StoreFault) → V.write_faults result.1 ≡ V.write_faults volume }
-    ensures side { V.told → seen (V.log volume) Main ≢ [] → StaysAs Side (V.log volume) (V.log result.1) }
+    ensures side { V.told → PacksNothing (S.left source.old) → seen (V.log volume) Main ≢ [] → StaysAs Side (V.log volume) (V.log result.1) }
     ensures source_counted { S.faults source.old ≤ S.faults source.new }
     ensures sink_counted { K.faults sink.old ≤ K.faults sink.new }
     ensures read_counted { V.read_faults volume ≤ V.read_faults result.1 }

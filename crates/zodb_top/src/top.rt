@@ -19,7 +19,7 @@ ghost use Rattle.zodb_top.specs.Asked.{AskSays};
 ghost use Rattle.zodb_top.specs.Inputs.{most_bytes};
 ghost use Rattle.zodb_top.specs.Opened.{IsLeft, IsUnopened};
 ghost use Rattle.zodb_top.specs.Outside.{outside};
-ghost use Rattle.zodb_top.specs.Program.{IsInput, IsUnlessMemory, RunSays, is_read};
+ghost use Rattle.zodb_top.specs.Program.{IsInput, IsUnlessMemory, KeepsSide, RunSays, is_read};
 ghost use Rattle.zodb_top.specs.Texts.{usage_line};
 ghost use Rattle.zodb_top.specs.Words.{command_of};
 ghost use Rattle.zodb_top.specs.Written.{IsWritten};
@@ -106,8 +106,9 @@ pub fn zodb_main<S: Source, K: Sink, V: Volume + Drop, C: Clock>(
     // No call that would change the volume has failed, unless the status says so.
     ensures written { ¬ (result.0 ≡ Status.StoreFault) → V.write_faults result.1 ≡ V.write_faults volume }
 
-    // Side is as it was, at every moment and whatever the status, unless Main was empty, so that the file had to be made.
-    ensures side { V.told → seen (V.log volume) Main ≢ [] → StaysAs Side (V.log volume) (V.log result.1) }
+    // Side is as it was, at every moment and whatever the status, unless something is packed, or Main was empty, so that
+    // the file had to be made.
+    ensures side { V.told → KeepsSide (command_of (map string_bytes words.now)) (S.left source.old) → seen (V.log volume) Main ≢ [] → StaysAs Side (V.log volume) (V.log result.1) }
 
     // The counts of faults never fall.
     ensures source_counted { S.faults source.old ≤ S.faults source.new }

@@ -3,6 +3,7 @@ use Rattle.std.specs.Prelude.{slice_get}
 use Rattle.zb_volume.specs.declared.areas.Area.TheVariants.{Side}
 use Rattle.zb_model.specs.StayLaws.{stays_same, stays_then}
 use Rattle.client_turns.specs.Output.{last_flags}
+use Rattle.zodb_top.proofs.Sides.{no_pack_at}
 use Rattle.zodb_top.proofs.Replies.{all_taken, flags_length, start_run, turn_last, turn_more}
 use Rattle.zodb_top.proofs.replying.take_turns.Goals as goal
 
@@ -13,7 +14,7 @@ loop-at-init g c = record {
   read_counted = omega arith;
   counted = omega arith;
   others = refl;
-  side = λ lasts. stays_same Side c.args.clients.now.hub.store.log c.args.clients.now.hub.store.log refl;
+  side = λ lasts none. stays_same Side c.args.clients.now.hub.store.log c.args.clients.now.hub.store.log refl;
 }
 
 pub flag_at-is_last-requires : goal.flag_at-is_last-requires
@@ -31,7 +32,8 @@ loop-at-preserved g c = record {
   read_counted = omega (arith, c.loop-at.invariant.read_counted, c.reply.ensures.read_counted);
   counted = omega (arith, c.loop-at.invariant.counted, c.reply.ensures.counted);
   others = c.in-Ok.ensures.others (λ never. absurd cc) ∙ c.loop-at.invariant.others;
-  side = λ lasts. stays_then Side c.args.clients.now.hub.store.log c.loop-at.clients.hub.store.log c.reply.new.clients.hub.store.log (c.loop-at.invariant.side lasts) (c.reply.ensures.side lasts);
+  side = λ lasts none. stays_then Side c.args.clients.now.hub.store.log c.loop-at.clients.hub.store.log c.reply.new.clients.hub.store.log (c.loop-at.invariant.side lasts none)
+      (c.reply.ensures.side lasts (no_pack_at c.args.turns.now c.loop-at.at c.index-turns-at.result none c.loop-at-test.true c.index-turns-at.is));
 }
 
 pub returns-in-Err-clause-err : goal.returns-in-Err-clause-err
@@ -51,4 +53,6 @@ pub returns-in-Err-clause-others : goal.returns-in-Err-clause-others
 returns-in-Err-clause-others g c = λ other. c.in-Err.ensures.others other ∙ c.loop-at.invariant.others
 
 pub returns-in-Err-clause-side : goal.returns-in-Err-clause-side
-returns-in-Err-clause-side g c = λ lasts. stays_then Side c.args.clients.now.hub.store.log c.loop-at.clients.hub.store.log c.reply.new.clients.hub.store.log (c.loop-at.invariant.side lasts) (c.reply.ensures.side lasts)
+returns-in-Err-clause-side g c = λ lasts none.
+    stays_then Side c.args.clients.now.hub.store.log c.loop-at.clients.hub.store.log c.reply.new.clients.hub.store.log (c.loop-at.invariant.side lasts none)
+    (c.reply.ensures.side lasts (no_pack_at c.args.turns.now c.loop-at.at c.index-turns-at.result none c.loop-at-test.true c.index-turns-at.is))

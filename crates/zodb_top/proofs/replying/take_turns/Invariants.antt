@@ -3,6 +3,7 @@ use Rattle.zb_volume.specs.declared.areas.Area.TheVariants.{Side}
 use Rattle.zb_volume.specs.Moments.{StaysAs}
 use Rattle.client_turns.specs.Clients.{Moment}
 use Rattle.client_turns.specs.Standing.{StandsForMoment}
+use Rattle.zodb_top.specs.Program.{has_pack}
 use Rattle.zodb_top.specs.Running.{RunsOn}
 use Rattle.zodb_top.proofs.replying.take_turns.Given as goal
 
@@ -18,5 +19,5 @@ invariant-loop-at g l =
       read_counted : l.fn.clients.hub.store.read_faults ≤ l.clients.hub.store.read_faults;
       counted : l.fn.clients.hub.store.faults ≤ l.clients.hub.store.faults;
       others : l.clients.hub.store.faults ≡ l.fn.clients.hub.store.faults;
-      side : St.lasts → StaysAs Side l.fn.clients.hub.store.log l.clients.hub.store.log;
+      side : St.lasts → has_pack l.turns ≡ false → StaysAs Side l.fn.clients.hub.store.log l.clients.hub.store.log;
     }

@@ -1,7 +1,8 @@
 use Rattle.std.proofs.Common.{arith, refl, sym, ◌∙◌}
 use Rattle.std.specs.Option.{option_map}
 use Rattle.fs_records.specs.Listed.{listed}
-use Rattle.file_store.specs.Kept.{copied_in, voted_in}
+use Rattle.pack_copy.specs.Copying.{copied_in}
+use Rattle.file_store.specs.Kept.{voted_in}
 use Rattle.zb_model.specs.Stores.{StoreState}
 use Rattle.zb_volume.specs.declared.areas.Area.TheVariants.{Main, Side}
 use Rattle.zb_volume.specs.Disk.{seen}

@@ -1,4 +1,5 @@
 use Rattle.std.proofs.Common.{inl, inr, refl}
+use Rattle.zodb_top.proofs.Sides.{packs_none}
 use Rattle.zodb_top.proofs.Sources.{of_any, run_silent, spread, unread_input}
 use Rattle.zodb_top.proofs.script.run_source.Goals as goal
 
@@ -35,3 +36,8 @@ returns-clause-complete g c = λ told.
 pub returns-clause-damaged : goal.returns-clause-damaged
 returns-clause-damaged g c = λ told.
     spread (g.S.Source.left c.args.source.now) c.as_slice.result.now _ (rw c.as_slice.ensures.value c.in-Ok.ensures.whole) (λ turns is none source reads writes. inr (c.in-Err.ensures.complete turns is))
+
+pub returns-in-Ok-turns_of-clause-side : goal.returns-in-Ok-turns_of-clause-side
+returns-in-Ok-turns_of-clause-side g c = λ told nothing some.
+    c.run_file.ensures.side told
+    (packs_none (g.S.Source.left c.args.source.now) c.as_slice.result.now c.as_slice-in-Ok-turns_of.result.now (rw c.as_slice.ensures.value c.in-Ok.ensures.whole) (rw c.as_slice-in-Ok-turns_of.ensures c.in-Ok-turns_of.ensures.script) nothing) some
