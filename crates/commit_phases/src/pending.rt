@@ -191,7 +191,7 @@ impl Pending {
     }
 
     /// The stores and the checks, in their orders. The one error is want of memory.
-    pub(crate) fn into_parts(
+    pub fn into_parts(
         self,
     ) -> Result<(ListOf<PendingStore>, ListOf<PendingCheck>), AllocError>
         ensures stores { IfOk result (λ parts. parts.0 ≡ self.stores) }

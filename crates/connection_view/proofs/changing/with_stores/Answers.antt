@@ -1,0 +1,23 @@
+use Rattle.std.proofs.Common.{◌≡◌, ◌+◌, ◌<◌, ◌∷◌, List, length, ap, ◌∙◌, arith}
+use Rattle.std.specs.Vec.Iter.{into_iter_items, into_iter_len}
+use Rattle.std.proofs.lemmas.List.Elements.{All-rest}
+use Rattle.zb_model.specs.declared.pending.PendingStore.{PendingStore}
+use Rattle.connection_view.proofs.Waits.{rest_stored}
+use Rattle.connection_view.proofs.changing.with_stores.Goals as goal
+
+pub loop-store-preserved : goal.loop-store-preserved
+loop-store-preserved c =
+    let inv = c.loop-store.invariant in
+    let p : PendingStore = c.in-Some.store in
+    let items : List PendingStore = into_iter_items c.loop-store.store-iterator in
+    let left : List PendingStore = into_iter_items c.next.new.self in
+    let is : items ≡ p ∷ left = c.in-Some.ensures.steps.0 in
+    let fewer : into_iter_len c.next.new.self + 1 ≡ into_iter_len c.loop-store.store-iterator = c.in-Some.ensures.steps.1 in
+    let ends : into_iter_len c.loop-store.store-iterator ≡ length items = inv.ends in
+    let lengths : length items ≡ length (p ∷ left) = ap (λ (ps : List PendingStore). length ps) is in
+    record {
+      ends = omega (arith, fewer, ends, lengths);
+      left_filled = All-rest (λ (q : PendingStore). 0 < length q.bytes) p left items is inv.left_filled;
+      checks = c.keep_store.ensures.checks ∙ inv.checks;
+      rest = rest_stored c.args.pending.stores c.args.stores c.loop-store.pending.stores c.keep_store.new.pending.stores items left p is c.in_ok-keep_store.ensures.answer c.in_ok-keep_store.ensures.ok inv.rest;
+    }

@@ -1,0 +1,4 @@
+pub mod Views
+pub mod Loading
+pub mod Named
+pub mod Connections

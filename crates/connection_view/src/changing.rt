@@ -1,0 +1,345 @@
+//! What waits in an open transaction.
+
+ghost use Rattle.std.specs.Prelude.{◌≡◌, ◌<◌, ◌⊎◌, All, Err, IfErr, IfOk, IsOk, Ok, OnOk, length};
+ghost use Rattle.std.specs.Option.{option_map};
+ghost use Rattle.commit_phases.specs.Pending.{IsOkUnlessTooLong, excess_with, pending_of, with_pending};
+ghost use Rattle.zb_model.specs.declared.refusal.Refusal.TheVariants as refusal;
+ghost use Rattle.connection_view.specs.declared.work.Work.{Work};
+ghost use Rattle.connection_view.specs.Connections.{IsStoredAll, KeepsSight, LeavesWork, followed_by, base_read, changeable, checked_in_work, open_work, rolled_back, saved, stored_in_work, stored_all, stores_after, unmixed, unvoted_work};
+ghost use Rattle.connection_view.specs.Loading.{AreVotable};
+
+use crate::work::Work;
+use commit_phases::{Pending, PendingError};
+use savepoints::SavepointError;
+use zb_ids::{ListOf, Oid, Text8, Tid};
+use zb_model::{PendingCheck, PendingStore, Refusal};
+
+/// An object's bytes wait for the vote of this transaction.
+fn store(work: &mut Work, oid: Oid, base: Tid, bytes: Text8) -> Result<(), Refusal>
+    requires filled { 0 < length bytes }
+    ensures leaves { LeavesWork (followed_by (changeable (Ok work.old)) (stored_in_work
+        (record { oid = oid; base = base; bytes = bytes })))
+        (Ok work.old) (Ok work.new) result }
+{
+    if work.is_voted {
+        return Err(Refusal::Voted);
+    }
+    match work.pending.store(oid, base, bytes) {
+        Ok(()) => Ok(()),
+        Err(PendingError::TooLong { length }) => Err(Refusal::TooLong { length }),
+        Err(PendingError::Memory) => Err(Refusal::Memory),
+    }
+}
+
+/// One more store waits among pending changes.
+fn keep_store(pending: &mut Pending, store: PendingStore) -> Result<(), PendingError>
+    requires filled { 0 < length store.bytes }
+    ensures answer { IsOkUnlessTooLong (excess_with pending.old.stores store) result }
+    ensures ok { OnOk result (pending.new.stores ≡ with_pending pending.old.stores store) }
+    ensures checks { pending.new.checks ≡ pending.old.checks }
+{
+    let PendingStore { oid, base, bytes } = store;
+    pending.store(oid, base, bytes)
+}
+
+/// Pending changes with these stores beside, one after another.
+fn with_stores(pending: Pending, stores: ListOf<PendingStore>) -> Result<Pending, PendingError>
+    requires filled { All (λ p. 0 < length p.bytes) stores }
+    ensures answer { IsStoredAll (stores_after pending.stores stores) result }
+    ensures checks { IfOk result (λ left. left.checks ≡ pending.checks) }
+{
+    let mut pending = pending;
+    for store in stores.into_vec() {
+        keep_store(&mut pending, store)?;
+    }
+    Ok(pending)
+}
+
+/// The bytes of several objects wait for the vote of this transaction: all of them, or none.
+fn store_all(work: &mut Work, stores: ListOf<PendingStore>) -> Result<(), Refusal>
+    requires filled { All (λ p. 0 < length p.bytes) stores }
+    ensures leaves { LeavesWork (followed_by (changeable (Ok work.old)) (stored_all stores)) (Ok work.old)
+        (Ok work.new) result }
+{
+    if work.is_voted {
+        return Err(Refusal::Voted);
+    }
+    let Ok(pending) = work.pending.copy() else {
+        return Err(Refusal::Memory);
+    };
+    match with_stores(pending, stores) {
+        Ok(pending) => {
+            work.pending = pending;
+            Ok(())
+        }
+        Err(PendingError::TooLong { length }) => Err(Refusal::TooLong { length }),
+        Err(PendingError::Memory) => Err(Refusal::Memory),
+    }
+}
+
+/// A check waits for the vote of this transaction.
+fn check(work: &mut Work, oid: Oid, serial: Tid) -> Result<(), Refusal>
+    ensures leaves { LeavesWork (followed_by (changeable (Ok work.old)) (checked_in_work
+        (record { oid = oid; serial = serial })))
+        (Ok work.old) (Ok work.new) result }
+{
+    if work.is_voted {
+        return Err(Refusal::Voted);
+    }
+    match work.pending.check(oid, serial) {
+        Ok(()) => Ok(()),
+        Err(_) => Err(Refusal::Memory),
+    }
+}
+
+/// What waits in this transaction is saved.
+fn save(work: &mut Work) -> Result<u64, Refusal>
+    ensures leaves { LeavesWork (followed_by (changeable (Ok work.old)) saved) (Ok work.old) (Ok work.new) result }
+    ensures number { IfOk result (λ number. number ≡ length work.old.savepoints) }
+{
+    if work.is_voted {
+        return Err(Refusal::Voted);
+    }
+    match work.savepoints.save(&work.pending) {
+        Ok(number) => Ok(number),
+        Err(_) => Err(Refusal::Memory),
+    }
+}
+
+/// This transaction goes back to a savepoint.
+fn roll_back(work: &mut Work, number: u64) -> Result<(), Refusal>
+    ensures leaves { LeavesWork (followed_by (changeable (Ok work.old)) (rolled_back number)) (Ok work.old)
+        (Ok work.new) result }
+{
+    if work.is_voted {
+        return Err(Refusal::Voted);
+    }
+    match work.savepoints.rollback(number) {
+        Ok(pending) => {
+            work.pending = pending;
+            Ok(())
+        }
+        Err(SavepointError::NoSavepoint { number }) => Err(Refusal::NoSavepoint { number }),
+        Err(SavepointError::Memory) => Err(Refusal::Memory),
+    }
+}
+
+/// An object's bytes wait for the vote of an open transaction.
+pub(crate) fn store_in(
+    is_open: bool,
+    work: &mut Option<Work>,
+    oid: Oid,
+    base: Tid,
+    bytes: Text8,
+) -> Result<(), Refusal>
+    requires filled { 0 < length bytes }
+    ensures leaves { LeavesWork (followed_by (changeable (open_work is_open work.old)) (stored_in_work
+        (record { oid = oid; base = base; bytes = bytes })))
+        (open_work is_open work.old) (open_work is_open work.new) result }
+    ensures sight { KeepsSight work.old work.new }
+{
+    if !is_open {
+        return Err(Refusal::NotOpen);
+    }
+    match work {
+        Some(work) => store(work, oid, base, bytes),
+        None => Err(Refusal::NoTransaction),
+    }
+}
+
+/// The bytes of several objects wait for the vote of an open transaction: all of them, or none.
+pub(crate) fn store_all_in(
+    is_open: bool,
+    work: &mut Option<Work>,
+    stores: ListOf<PendingStore>,
+) -> Result<(), Refusal>
+    requires filled { All (λ p. 0 < length p.bytes) stores }
+    ensures leaves { LeavesWork (followed_by (changeable (open_work is_open work.old)) (stored_all stores))
+        (open_work is_open work.old) (open_work is_open work.new) result }
+    ensures sight { KeepsSight work.old work.new }
+{
+    if !is_open {
+        return Err(Refusal::NotOpen);
+    }
+    match work {
+        Some(work) => store_all(work, stores),
+        None => Err(Refusal::NoTransaction),
+    }
+}
+
+/// A check waits for the vote of an open transaction.
+pub(crate) fn check_in(
+    is_open: bool,
+    work: &mut Option<Work>,
+    oid: Oid,
+    serial: Tid,
+) -> Result<(), Refusal>
+    ensures leaves { LeavesWork (followed_by (changeable (open_work is_open work.old)) (checked_in_work
+        (record { oid = oid; serial = serial })))
+        (open_work is_open work.old) (open_work is_open work.new) result }
+    ensures sight { KeepsSight work.old work.new }
+{
+    if !is_open {
+        return Err(Refusal::NotOpen);
+    }
+    match work {
+        Some(work) => check(work, oid, serial),
+        None => Err(Refusal::NoTransaction),
+    }
+}
+
+/// What waits in an open transaction is saved.
+pub(crate) fn save_in(is_open: bool, work: &mut Option<Work>) -> Result<u64, Refusal>
+    ensures leaves { LeavesWork (followed_by (changeable (open_work is_open work.old)) saved)
+        (open_work is_open work.old) (open_work is_open work.new) result }
+    ensures number { IfOk result (λ number. (w : Work) → open_work is_open work.old ≡ Ok w
+        → number ≡ length w.savepoints) }
+    ensures sight { KeepsSight work.old work.new }
+{
+    if !is_open {
+        return Err(Refusal::NotOpen);
+    }
+    match work {
+        Some(work) => save(work),
+        None => Err(Refusal::NoTransaction),
+    }
+}
+
+/// An open transaction goes back to a savepoint.
+pub(crate) fn roll_back_in(
+    is_open: bool,
+    work: &mut Option<Work>,
+    number: u64,
+) -> Result<(), Refusal>
+    ensures leaves { LeavesWork (followed_by (changeable (open_work is_open work.old)) (rolled_back number))
+        (open_work is_open work.old) (open_work is_open work.new) result }
+    ensures sight { KeepsSight work.old work.new }
+{
+    if !is_open {
+        return Err(Refusal::NotOpen);
+    }
+    match work {
+        Some(work) => roll_back(work, number),
+        None => Err(Refusal::NoTransaction),
+    }
+}
+
+/// What waits for the vote in an open transaction that isn't voted: the stores and the checks.
+pub(crate) fn parts_in(
+    is_open: bool,
+    work: &Option<Work>,
+) -> Result<(ListOf<PendingStore>, ListOf<PendingCheck>), Refusal>
+    ensures ok { IfOk result (λ parts. (w : Work) × (changeable (open_work is_open work.now) ≡ Ok w)
+        × (parts.0 ≡ w.pending.stores) × (parts.1 ≡ w.pending.checks)) }
+    ensures votable { IfOk result (λ parts. AreVotable parts.0) }
+    ensures err { IfErr result (λ r. (changeable (open_work is_open work.now) ≡ Err r)
+        ⊎ ((w : Work) × (changeable (open_work is_open work.now) ≡ Ok w) × (r ≡ refusal.Memory))) }
+{
+    if !is_open {
+        return Err(Refusal::NotOpen);
+    }
+    match work {
+        Some(work) => parts(work),
+        None => Err(Refusal::NoTransaction),
+    }
+}
+
+/// What waits for the vote in this transaction, which isn't voted.
+#[tactic(auto, using(crate::proofs::Votable::votable))]
+fn parts(work: &Work) -> Result<(ListOf<PendingStore>, ListOf<PendingCheck>), Refusal>
+    ensures ok { IfOk result (λ parts. (unvoted_work work.now ≡ Ok work.now)
+        × (parts.0 ≡ work.now.pending.stores) × (parts.1 ≡ work.now.pending.checks)) }
+    ensures votable { IfOk result (λ parts. AreVotable parts.0) }
+    ensures err { IfErr result (λ r. (unvoted_work work.now ≡ Err r)
+        ⊎ ((unvoted_work work.now ≡ Ok work.now) × (r ≡ refusal.Memory))) }
+{
+    if work.is_voted {
+        return Err(Refusal::Voted);
+    }
+    let Ok(pending) = work.pending.copy() else {
+        return Err(Refusal::Memory);
+    };
+    match pending.into_parts() {
+        Ok(parts) => Ok(parts),
+        Err(_) => Err(Refusal::Memory),
+    }
+}
+
+/// That an open transaction isn't voted, and that nothing waits in it.
+pub(crate) fn unmixed_in(is_open: bool, work: &Option<Work>) -> Result<(), Refusal>
+    ensures ok { OnOk result (IsOk (followed_by (changeable (open_work is_open work.now)) unmixed)) }
+    ensures err { IfErr result (λ r. followed_by (changeable (open_work is_open work.now)) unmixed ≡ Err r) }
+{
+    if !is_open {
+        return Err(Refusal::NotOpen);
+    }
+    let Some(work) = work else {
+        return Err(Refusal::NoTransaction);
+    };
+    if work.is_voted {
+        return Err(Refusal::Voted);
+    }
+    let stores = work.pending.count();
+    if stores == 0 {
+        Ok(())
+    } else {
+        Err(Refusal::Mixed { stores })
+    }
+}
+
+/// The base of what waits under an object in an open transaction that isn't voted, if something does.
+pub(crate) fn base_in(is_open: bool, work: &Option<Work>, oid: Oid) -> Result<Option<Tid>, Refusal>
+    ensures ok { IfOk result (λ base. (w : Work) × (changeable (open_work is_open work.now) ≡ Ok w)
+        × (base ≡ option_map (λ p. p.base) (pending_of w.pending.stores oid))) }
+    ensures err { IfErr result (λ r. changeable (open_work is_open work.now) ≡ Err r) }
+{
+    if !is_open {
+        return Err(Refusal::NotOpen);
+    }
+    let Some(work) = work else {
+        return Err(Refusal::NoTransaction);
+    };
+    if work.is_voted {
+        return Err(Refusal::Voted);
+    }
+    Ok(work.pending.base_of(oid))
+}
+
+/// What waits under an object in an open transaction, if something does.
+pub(crate) fn waiting_in(
+    is_open: bool,
+    work: &Option<Work>,
+    oid: Oid,
+) -> Result<Option<PendingStore>, Refusal>
+    ensures ok { IfOk result (λ store. (w : Work) × (open_work is_open work.now ≡ Ok w)
+        × (store ≡ pending_of w.pending.stores oid)) }
+    ensures err { IfErr result (λ r. (open_work is_open work.now ≡ Err r)
+        ⊎ ((w : Work) × (open_work is_open work.now ≡ Ok w) × (r ≡ refusal.Memory))) }
+{
+    if !is_open {
+        return Err(Refusal::NotOpen);
+    }
+    let Some(work) = work else {
+        return Err(Refusal::NoTransaction);
+    };
+    match work.pending.copy_of(oid) {
+        Ok(store) => Ok(store),
+        Err(_) => Err(Refusal::Memory),
+    }
+}
+
+/// The base of what is put, by what is read.
+pub(crate) fn base_read(read: Result<(Tid, Text8), Refusal>) -> Result<Tid, Refusal>
+    ensures { result ≡ base_read read }
+{
+    match read {
+        Ok(read) => Ok(read.0),
+        Err(
+            Refusal::Missing {
+                oid: _,
+                packed: false,
+            },
+        ) => Ok(Tid(0)),
+        Err(why) => Err(why),
+    }
+}
