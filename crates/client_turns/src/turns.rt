@@ -103,7 +103,8 @@ impl<St: Store, R: Resolver, F: Refs> Clients<St, R, F> {
         ensures any_moment { St.lasts → St.told → self.old.hub.store.broken ≡ false →
             (m : Moment) → StandsForMoment self.old (C.stamps clock.old) m →
             Leaves Main (λ bytes. St.stands bytes m.machine.list) self.old.hub.store.log →
-            LeavesOnly Main (IsListIn St.stands (rules_of R.rules F.named self.old.hub) m.machine line.now) self.old.hub.store.log self.new.hub.store.log }
+            LeavesOnly Main (IsListIn St.stands (rules_of R.rules F.named self.old.hub) m.machine line.now)
+            self.old.hub.store.log self.new.hub.store.log }
         ensures side { St.lasts → packs_list line.now ≡ false → StaysAs Side self.old.hub.store.log self.new.hub.store.log }
         ensures resolver { self.new.hub.resolver ≡ self.old.hub.resolver }
         ensures refs { self.new.hub.refs ≡ self.old.hub.refs }
@@ -136,7 +137,8 @@ impl<St: Store, R: Resolver, F: Refs> Clients<St, R, F> {
         ensures any_moment { St.lasts → St.told → self.old.hub.store.broken ≡ false →
             (m : Moment) → StandsForMoment self.old (C.stamps clock.old) m →
             Leaves Main (λ bytes. St.stands bytes m.machine.list) self.old.hub.store.log →
-            LeavesOnly Main (IsListIn St.stands (rules_of R.rules F.named self.old.hub) m.machine line.now) self.old.hub.store.log self.new.hub.store.log }
+            LeavesOnly Main (IsListIn St.stands (rules_of R.rules F.named self.old.hub) m.machine line.now)
+            self.old.hub.store.log self.new.hub.store.log }
         ensures side { St.lasts → packs_list line.now ≡ false → StaysAs Side self.old.hub.store.log self.new.hub.store.log }
         ensures resolver { self.new.hub.resolver ≡ self.old.hub.resolver }
         ensures refs { self.new.hub.refs ≡ self.old.hub.refs }
@@ -224,7 +226,8 @@ impl<St: Store, R: Resolver, F: Refs> Clients<St, R, F> {
             self.new (C.stamps clock.new) }
         ensures any_moment { St.lasts → St.told → self.old.hub.store.broken ≡ false →
             (m : Moment) → StandsForMoment self.old (C.stamps clock.old) m →
-            LeavesOnly Main (IsListIn St.stands (rules_of R.rules F.named self.old.hub) m.machine turn.now.line) self.old.hub.store.log self.new.hub.store.log }
+            LeavesOnly Main (IsListIn St.stands (rules_of R.rules F.named self.old.hub) m.machine turn.now.line)
+            self.old.hub.store.log self.new.hub.store.log }
         ensures side { St.lasts → packs_list turn.now.line ≡ false → StaysAs Side self.old.hub.store.log self.new.hub.store.log }
         ensures resolver { self.new.hub.resolver ≡ self.old.hub.resolver }
         ensures refs { self.new.hub.refs ≡ self.old.hub.refs }

@@ -112,8 +112,8 @@ fn replace_list<St: Store>(
 }
 
 impl<St: Store, R: Resolver, F: Refs> Hub<St, R, F> {
-    #[tactic(auto, using(crate::proofs::Votes::moments_kept, zb_model::specs::StayLaws::stays_same))]
     /// The list is packed up to a tid, with just the objects of a set kept.
+    #[tactic(auto, using(crate::proofs::Votes::moments_kept, zb_model::specs::StayLaws::stays_same))]
     fn switch(&mut self, alloc: Global, session: u32, tid: Tid, keep: &OidSet) -> Reply
         requires whole { self.old.store.broken ≡ false }
         requires is_open { is_open_in self.old.sessions session ≡ true }
@@ -151,9 +151,9 @@ impl<St: Store, R: Resolver, F: Refs> Hub<St, R, F> {
         }
     }
 
-    #[tactic(auto, using(crate::proofs::Switching::pack_busy, crate::proofs::Switching::pack_already, crate::proofs::Switching::marks_refused, crate::proofs::Switching::none_busy, crate::proofs::Votes::moments_kept, zb_model::specs::StayLaws::stays_same, zb_model::specs::StayLaws::stays_from))]
     /// The list is packed up to a tid, but never over the newest transaction: what the pack reaches is
     /// marked, what stays is copied, and the copy is put in the place of the list.
+    #[tactic(auto, using(crate::proofs::Switching::pack_busy, crate::proofs::Switching::pack_already, crate::proofs::Switching::marks_refused, crate::proofs::Switching::none_busy, crate::proofs::Votes::moments_kept, zb_model::specs::StayLaws::stays_same, zb_model::specs::StayLaws::stays_from))]
     pub(crate) fn pack(&mut self, alloc: Global, session: u32, tid: Tid) -> Reply
         requires whole { self.old.store.broken ≡ false }
         requires is_open { is_open_in self.old.sessions session ≡ true }
