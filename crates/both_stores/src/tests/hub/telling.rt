@@ -99,6 +99,7 @@ pub fn told(alloc: Global, reply: Reply) -> Result<String, AllocError> {
             let tid = place_of(tid);
             format!(in alloc; "committed {tid}")
         }
+        Reply::Packed { kept, dropped } => format!(in alloc; "packed {kept} {dropped}"),
         Reply::History { list } => {
             let lines = history_told(alloc, list.as_slice())?;
             let lines = lines.as_str();
