@@ -6,7 +6,7 @@
 #     bench/run.sh crates/zodb/out/zodb /tmp
 #
 # It needs bash, awk, head and cc; sqlite3, strace and Python's BTrees package where they are there. What isn't there is skipped, and it says so. Sizes
-# can be set: TRANSACTIONS (1300000), COMMITS (300), LOADS (20000), LINES (100000), TIMES (3, of which the least is taken).
+# can be set: TRANSACTIONS (1300000), COMMITS (300), LOADS (20000), LINES (100000), RECORDS (1000000), TIMES (3, of which the least is taken).
 #
 # A row has the seconds that each of the two took, the seconds that each had a processor, and both ratios. Where the machine
 # has other work, the second ratio is the one to read, but for commits, which wait for the disk.
@@ -15,8 +15,8 @@ program=$(realpath "${1:?the built program}")
 folder=$(mktemp -d "${2:-/tmp}/zodb-bench.XXXXXX")
 trap 'rm -rf "$folder"' EXIT
 here=$(dirname "$(realpath "$0")")
-transactions=${TRANSACTIONS:-1300000} commits=${COMMITS:-300} loads=${LOADS:-20000} lines=${LINES:-100000} times=${TIMES:-3}
-for name in measure make_file walk pairs loads; do
+transactions=${TRANSACTIONS:-1300000} commits=${COMMITS:-300} loads=${LOADS:-20000} lines=${LINES:-100000} records=${RECORDS:-1000000} times=${TIMES:-3}
+for name in measure make_file make_tree walk pairs loads; do
     cc -O2 -o "$folder/$name" "$here/$name.c" || { echo "cc doesn't compile $name.c"; exit 1; }
 done
 cd "$folder" || exit 1
@@ -126,6 +126,22 @@ merges() { # MERGES ITEMS
 }
 merges 300 30
 merges 10 10000
+
+# a pack of a file of one record a transaction, all of which are reached; its sync is ours alone
+pack_anew() {
+    local made
+    for made in $(seq "$times"); do
+        cp tree.fs packed.fs; rm -f packed.fs.side; sync packed.fs
+        ./measure 1 empty "$program" packed.fs pack 2030-01-01T00:00:00
+    done | least
+}
+./make_tree tree.fs "$records"; ./make_tree small.fs 7
+if "$program" small.fs pack 2030-01-01T00:00:00 <empty 2>/dev/null | grep -q '^packed'; then
+    row "a pack of $records records" "$(pack_anew)" "cp" "$(cost empty cp tree.fs copy.fs)"
+else
+    skipped "a pack of $records records" "the program has no command for it"
+fi
+rm -f tree.fs packed.fs copy.fs small.fs small.fs.side
 
 # the resident set
 grown() { # KIND SMALL LARGE: bytes for each of 900,000 more

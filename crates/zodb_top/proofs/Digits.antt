@@ -1,9 +1,14 @@
 -- What digits a number is read from.
-use Rattle.std.proofs.Common.{◌≡◌, ℕ, ◌<◌, ◌^◌, List, Option, Some, None, Result, Ok, Err, refl, ap, sym, ◌∙◌}
-use Rattle.std.specs.Option.{option_and_then}
+use Rattle.std.proofs.Common.{◌≡◌, ℕ, ◌+◌, ◌*◌, ◌/◌, ◌<◌, ◌^◌, List, Option, Some, None, Result, Ok, Err, refl, ap, sym, ◌∙◌}
+use Rattle.std.specs.Option.{option_and_then, option_map}
 use Rattle.zb_ids.specs.Hex.{hex_number, number_at}
 use Rattle.zb_ids.specs.HexLaws.{number_again, number_takes}
 use Rattle.zb_ids.specs.declared.digits.BadHex.{BadHex}
+use Rattle.zb_ids.specs.declared.stamp.OutOfRange.{OutOfRange}
+use Rattle.zb_ids.specs.declared.stamp.Stamp.{Stamp}
+use Rattle.zb_ids.specs.Spelling.{ReadsTime, Time, time_at, time_number, time_of}
+use Rattle.zb_ids.specs.Tids.{minutes_of, stamp_number}
+use Rattle.zodb_top.specs.declared.command.Command.TheVariants as command
 use Rattle.zodb_top.specs.declared.command.Command.{Command}
 use Rattle.zodb_top.specs.Words.{object_command}
 
@@ -20,3 +25,12 @@ no_digits word digits result e is only = by_value (number_at digits) refl
         let takes = number_takes digits n read in
         let found : result ≡ Ok n = only n takes.0 takes.1 in
         absurd cc
+
+-- a stamp that was read, and a text that is none
+pub stamp_read : (text : List ℕ) (stamp : Stamp) → ReadsTime (Ok stamp) (time_at text) → Some (command.Pack (stamp_number stamp)) ≡ option_map (λ t. command.Pack (time_number t)) (time_at text)
+stamp_read text stamp reads =
+    let number : stamp_number stamp ≡ time_number (time_of stamp) = ap (λ (n : ℕ). minutes_of stamp * 2 ^ 32 + n * 2 ^ 32 / 60000000) reads.1 in
+    ap (λ (n : ℕ). Some (command.Pack n)) number ∙ sym (ap (option_map (λ (t : Time). command.Pack (time_number t))) reads.0)
+
+pub no_stamp : (text : List ℕ) (e : OutOfRange) → ReadsTime (Err e) (time_at text) → None ≡ option_map (λ t. command.Pack (time_number t)) (time_at text)
+no_stamp text e reads = sym (ap (option_map (λ (t : Time). command.Pack (time_number t))) reads)

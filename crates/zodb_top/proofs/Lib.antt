@@ -14,3 +14,8 @@ pub mod Sources
 pub mod Complete
 pub mod Asks
 pub mod Commands
+pub mod Dashes
+pub mod Matched
+pub mod Packs
+pub mod Walks
+pub mod Untouched

@@ -13,3 +13,7 @@ pub mod Unopened
 pub mod Inputs
 pub mod Running
 pub mod Asking
+pub mod Packs
+pub mod PackStores
+pub mod Table
+pub mod Telling

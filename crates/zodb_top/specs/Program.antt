@@ -9,7 +9,7 @@ use Rattle.zb_script.specs.Script.{IsBadLine, IsScript}
 use Rattle.client_turns.specs.declared.errors.TurnError.TheVariants.{Memory}
 use Rattle.client_turns.specs.Standing.{packs_list}
 use Rattle.zodb_top.specs.declared.command.Command.{Command}
-use Rattle.zodb_top.specs.declared.command.Command.TheVariants.{Run}
+use Rattle.zodb_top.specs.declared.command.Command.TheVariants.{Pack, Run}
 use Rattle.zodb_top.specs.declared.status.Status.{Status}
 use Rattle.zodb_top.specs.declared.status.Status.TheVariants.{Done, NoMemory, SourceFault, SinkFault, StoreFault, Damaged, BadLine, Limit as LimitPassed}
 use Rattle.zodb_top.specs.Came.{RanInPart, RanToFault, RanWhole}
@@ -32,9 +32,10 @@ pub record PacksNothing (left : Option (List ℕ)) : Type 0 where
   pub told : left ≡ Some input
   pub none : (turns : List Turn) → IsInput input turns → has_pack turns ≡ false
 
--- and so it is of a run, and of each command that asks
+-- and so it is of a run, and of each command that asks, but not of `pack`
 abbrev pub KeepsSide : Option Command → Option (List ℕ) → Type 0
 KeepsSide (Some Run) left = PacksNothing left
+KeepsSide (Some (Pack tid)) left = ⊥
 KeepsSide _ left = Unit {0}
 
 -- this holds of turns, which are those of the input where the source tells

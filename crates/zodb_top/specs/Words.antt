@@ -1,25 +1,49 @@
 -- What the words behind the program's name ask. Own.
-use Rattle.std.specs.Prelude.{ℕ, List, [], ◌∷◌, Option, Some, None, Bool, false, not, ◌==◌, if◌then◌else◌, codes}
-use Rattle.std.specs.Option.{option_and_then}
+use Rattle.std.specs.Prelude.{ℕ, List, [], ◌∷◌, Option, Some, None, Bool, false, not, ◌==◌, ◌&&◌, ◌||◌, if◌then◌else◌, codes}
+use Rattle.std.specs.List.{list_any}
+use Rattle.std.specs.Option.{option_and_then, option_map}
 use Rattle.std.specs.Str.{bytes_eq}
 use Rattle.zb_ids.specs.Hex.{number_at}
+use Rattle.zb_ids.specs.Spelling.{time_at, time_number}
 use Rattle.zodb_top.specs.declared.command.Command.{Command}
 use Rattle.zodb_top.specs.declared.command.Command.TheVariants as command
 use Rattle.zodb_top.specs.declared.command.Asked.TheVariants.{UndoLog, History, Show, Digest}
+
+-- a word that begins with a dash
+abbrev pub is_dashed : List ℕ → Bool
+is_dashed [] = false
+is_dashed (b ∷ word) = b == 45
 
 -- a path isn't empty and doesn't begin with a dash
 abbrev pub is_path : List ℕ → Bool
 is_path [] = false
 is_path (b ∷ path) = not (b == 45)
 
--- what a word asks alone
+-- ---- the table
+
+-- the commands that stand alone, and those with one position
+abbrev pub stands_alone : List ℕ → Bool
+stands_alone word = bytes_eq (codes "run") word || bytes_eq (codes "undolog") word
+
+abbrev pub has_position : List ℕ → Bool
+has_position word = bytes_eq (codes "history") word || (bytes_eq (codes "show") word || (bytes_eq (codes "digest") word || bytes_eq (codes "pack") word))
+
+-- a name of the table, with as many words behind it as it has positions
+abbrev pub named_of : List (List ℕ) → Option (List ℕ × Option (List ℕ))
+named_of (word ∷ []) = if stands_alone word then Some (word, None) else None
+named_of (word ∷ argument ∷ []) = if has_position word then Some (word, Some argument) else None
+named_of _ = None
+
+-- ---- the commands
+
+-- what a name asks alone
 abbrev pub word_command : List ℕ → Option Command
 word_command word =
     if bytes_eq word (codes "run") then Some command.Run
     else if bytes_eq word (codes "undolog") then Some (command.Ask UndoLog)
     else None
 
--- what a word asks of an object
+-- what a name asks of an object
 abbrev pub object_command : List ℕ → ℕ → Option Command
 object_command word oid =
     if bytes_eq word (codes "history") then Some (command.Ask (History oid))
@@ -27,8 +51,17 @@ object_command word oid =
     else if bytes_eq word (codes "digest") then Some (command.Ask (Digest oid))
     else None
 
--- behind a path: `run`, `undolog`, or `history`, `show` or `digest` and the sixteen digits of an object
+-- what a name asks with the word at its position: a stamp, or the sixteen digits of an object
+abbrev pub text_command : List ℕ → List ℕ → Option Command
+text_command word text =
+    if bytes_eq word (codes "pack") then option_map (λ t. command.Pack (time_number t)) (time_at text)
+    else option_and_then (object_command word) (number_at text)
+
+abbrev pub named_command : List ℕ → Option (List ℕ) → Option Command
+named_command word None = word_command word
+named_command word (Some text) = text_command word text
+
+-- a path, a name of the table, and a word of the right form at each of its positions; none of the words begins with a dash
 abbrev pub command_of : List (List ℕ) → Option Command
-command_of (path ∷ word ∷ []) = if is_path path then word_command word else None
-command_of (path ∷ word ∷ digits ∷ []) = if is_path path then option_and_then (object_command word) (number_at digits) else None
-command_of _ = None
+command_of [] = None
+command_of (path ∷ words) = if is_path path && not (list_any is_dashed words) then option_and_then (λ p. named_command p.0 p.1) (named_of words) else None

@@ -18,13 +18,13 @@ ghost use Rattle.zodb_top.specs.Texts.{joined, refused_line};
 
 use crate::asking::{AskError, store_lines};
 use crate::command::Asked;
-use crate::saying::{cut_lines, say_unopened, write_lines};
+use crate::saying::{cut_lines, say_unopened, write_behind, write_lines};
 use crate::status::Status;
 use file_store::FileStore;
 use std::alloc::Global;
 use zb_ids::{ListOf, Text8};
 use zb_model::Store;
-use zb_outside::{Clock, Failed, Sink, write_all};
+use zb_outside::{Clock, Failed, Sink};
 use zb_volume::Volume;
 
 /// Writes lines, and then more.
@@ -37,18 +37,6 @@ fn write_both<K: Sink>(sink: &mut K, lines: &[Text8], more: &[Text8]) -> Result<
 {
     write_lines(sink, lines)?;
     write_lines(sink, more)
-}
-
-/// Writes lines, and then that reading failed, which takes no memory.
-#[tactic(auto, using(crate::proofs::Prefixes::both_lines, crate::proofs::Prefixes::first_prefix, crate::proofs::Prefixes::second_prefix))]
-fn write_refused<K: Sink>(sink: &mut K, lines: &[Text8]) -> Result<(), Failed>
-    ensures ok { OnOk result (Appends (K.taken sink.old) (K.taken sink.new) (joined (lines.now ++ refused_line ∷ []))) }
-    ensures err { OnErr result (AppendsPrefix (K.taken sink.old) (K.taken sink.new) (joined (lines.now ++ refused_line ∷ []))) }
-    ensures failed { OnErr result (Rose (K.faults sink.old) (K.faults sink.new)) }
-    ensures counted { K.faults sink.old ≤ K.faults sink.new }
-{
-    write_lines(sink, lines)?;
-    write_all(sink, b"refused ReadFault\n")
 }
 
 /// Writes an answer behind some lines. It takes no memory, so that a failed read is told where there is none.
@@ -65,7 +53,7 @@ fn write_answer<K: Sink>(
             Ok(()) => Status::Done,
             Err(Failed) => Status::SinkFault,
         },
-        Err(AskError::ReadFault) => match write_refused(sink, lines) {
+        Err(AskError::ReadFault) => match write_behind(sink, lines, b"refused ReadFault\n") {
             Ok(()) => Status::Done,
             Err(Failed) => Status::SinkFault,
         },

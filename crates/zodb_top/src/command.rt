@@ -1,11 +1,16 @@
 //! What the words ask.
 
-ghost use Rattle.std.specs.Prelude.{◌≡◌, map, string_bytes};
-ghost use Rattle.std.specs.Option.{option_and_then};
+ghost use Rattle.std.specs.Prelude.{◌≡◌, IfOk, map, string_bytes};
+ghost use Rattle.std.specs.List.{list_any};
+ghost use Rattle.std.specs.Option.{option_and_then, option_map};
 ghost use Rattle.zb_ids.specs.Hex.{number_at};
-ghost use Rattle.zodb_top.specs.Words.{command_of, is_path, object_command, word_command};
+ghost use Rattle.zb_ids.specs.Spelling.{time_at, time_number};
+ghost use Rattle.zodb_top.specs.declared.command.Command.TheVariants as command;
+ghost use Rattle.zodb_top.specs.Words.{command_of, is_dashed, is_path, named_command, object_command, text_command, word_command};
 
-use zb_ids::{Oid, read_hex};
+use crate::entering::named;
+use std::alloc::{AllocError, Global};
+use zb_ids::{Oid, Stamp, Tid, read_hex, tid_of_stamp};
 
 /// What is asked of the file, beside running a script.
 #[derive(Clone, Copy, Debug, PartialEq, Eq)]
@@ -36,6 +41,11 @@ pub enum Command {
     Run,
     /// Something is asked of the file.
     Ask(Asked),
+    /// The file's list is to be packed.
+    Pack {
+        /// Up to this tid, which is that of a stamp.
+        tid: Tid,
+    },
 }
 
 /// Whether a word is a path: it isn't empty and doesn't begin with a dash.
@@ -46,6 +56,23 @@ fn is_path(word: &str) -> bool
         [] => false,
         [first, ..] => *first != b'-',
     }
+}
+
+/// Whether a word begins with a dash.
+fn is_dashed(word: &str) -> bool
+    ensures { result ≡ is_dashed word.now }
+{
+    match word.as_bytes() {
+        [] => false,
+        [first, ..] => *first == b'-',
+    }
+}
+
+/// Whether one of the words does.
+fn has_dash(words: &[String]) -> bool
+    ensures { result ≡ list_any (λ word. is_dashed (string_bytes word)) words.now }
+{
+    words.iter().any(|word| is_dashed(word.as_str()))
 }
 
 /// What a word asks that stands alone behind the path.
@@ -77,9 +104,9 @@ fn object_command(word: &str, oid: Oid) -> Option<Command>
     None
 }
 
-/// What two words ask that stand behind the path.
+/// What a word asks of the object that digits name.
 #[tactic(auto, using(crate::proofs::Digits::digits_read, crate::proofs::Digits::no_digits))]
-fn two_words(word: &str, digits: &str) -> Option<Command>
+fn digits_command(word: &str, digits: &str) -> Option<Command>
     ensures { result ≡ option_and_then (object_command word.now) (number_at digits.now) }
 {
     match read_hex(digits.as_bytes()) {
@@ -88,23 +115,55 @@ fn two_words(word: &str, digits: &str) -> Option<Command>
     }
 }
 
-/// What the words behind the program's name ask, if they are a command.
-pub(crate) fn command_of(words: &[String]) -> Option<Command>
-    ensures { result ≡ command_of (map string_bytes words.now) }
+/// A pack up to a stamp.
+#[tactic(auto, using(crate::proofs::Digits::stamp_read, crate::proofs::Digits::no_stamp))]
+fn pack_command(stamp: &str) -> Option<Command>
+    ensures { result ≡ option_map (λ t. command.Pack (time_number t)) (time_at stamp.now) }
 {
-    match words {
-        [path, word] => {
-            if !is_path(path.as_str()) {
-                return None;
-            }
-            word_command(word.as_str())
-        }
-        [path, word, digits] => {
-            if !is_path(path.as_str()) {
-                return None;
-            }
-            two_words(word.as_str(), digits.as_str())
-        }
-        _ => None,
+    match Stamp::read(stamp) {
+        Ok(stamp) => Some(Command::Pack {
+            tid: tid_of_stamp(stamp),
+        }),
+        Err(_) => None,
+    }
+}
+
+/// What a name asks with the word at its position.
+fn text_command(word: &str, text: &str) -> Option<Command>
+    ensures { result ≡ text_command word.now text.now }
+{
+    if word == "pack" {
+        return pack_command(text);
+    }
+    digits_command(word, text)
+}
+
+/// What a name asks, with the word at its position, where there is one.
+fn named_command(word: &str, text: Option<&str>) -> Option<Command>
+    ensures { result ≡ named_command word.now (option_map (λ s. s.now) text.entry) }
+{
+    match text {
+        Some(text) => text_command(word, text),
+        None => word_command(word),
+    }
+}
+
+/// What the words behind the program's name ask, if they are a command. The one error is want of memory.
+#[tactic(auto, using(crate::proofs::Dashes::no_dash, crate::proofs::Dashes::no_words, crate::proofs::Dashes::no_path_first, crate::proofs::Dashes::dashed_rest, crate::proofs::Dashes::named_rest, crate::proofs::Dashes::name_some))]
+pub(crate) fn command_of(alloc: Global, words: &[String]) -> Result<Option<Command>, AllocError>
+    ensures { IfOk result (λ command. command ≡ command_of (map string_bytes words.now)) }
+{
+    let Some((path, rest)) = words.split_first() else {
+        return Ok(None);
+    };
+    if !is_path(path.as_str()) {
+        return Ok(None);
+    }
+    if has_dash(rest) {
+        return Ok(None);
+    }
+    match named(alloc, rest)? {
+        Some((word, text)) => Ok(named_command(word, text)),
+        None => Ok(None),
     }
 }

@@ -6,12 +6,15 @@
 mod answering;
 mod asking;
 mod command;
+mod entering;
 mod laws;
+mod packing;
 mod replying;
 mod running;
 mod saying;
 mod script;
 mod status;
+mod table;
 mod top;
 
 pub use command::{Asked, Command};

@@ -1,6 +1,6 @@
 //! Lines beside replies: what a file is, and how the program ends.
 
-ghost use Rattle.std.specs.Prelude.{◌≡◌, ◌≤◌, IfOk, OnErr, OnOk};
+ghost use Rattle.std.specs.Prelude.{◌≡◌, ◌≤◌, ◌++◌, ◌∷◌, [], IfOk, OnErr, OnOk};
 ghost use Rattle.std.specs.Io.KnownBytes.{Appends};
 ghost use Rattle.zb_base.specs.Counts.{Rose};
 ghost use Rattle.zb_outside.specs.Written.{AppendsPrefix};
@@ -51,6 +51,39 @@ pub(crate) fn write_lines<K: Sink>(sink: &mut K, lines: &[Text8]) -> Result<(), 
         write_line(sink, line)?;
     }
     Ok(())
+}
+
+/// Writes lines, and then one that stands where it is.
+#[tactic(auto, using(crate::proofs::Prefixes::both_lines, crate::proofs::Prefixes::first_prefix, crate::proofs::Prefixes::second_prefix))]
+pub(crate) fn write_behind<K: Sink>(
+    sink: &mut K,
+    lines: &[Text8],
+    last: &[u8],
+) -> Result<(), Failed>
+    ensures ok { OnOk result (Appends (K.taken sink.old) (K.taken sink.new) (joined (lines.now ++ last.now ∷ []))) }
+    ensures err { OnErr result (AppendsPrefix (K.taken sink.old) (K.taken sink.new) (joined (lines.now ++ last.now ∷ []))) }
+    ensures failed { OnErr result (Rose (K.faults sink.old) (K.faults sink.new)) }
+    ensures counted { K.faults sink.old ≤ K.faults sink.new }
+{
+    write_lines(sink, lines)?;
+    write_all(sink, last)
+}
+
+/// Writes lines, and then the line that tells of an ending, and answers its status. A sink that fails then has
+/// some prefix of them, and changes nothing of the status.
+#[tactic(auto, using(crate::proofs::Prefixes::said_behind))]
+pub(crate) fn say_behind<K: Sink>(
+    sink: &mut K,
+    lines: &[Text8],
+    text: &[u8],
+    status: Status,
+) -> Status
+    ensures status { result ≡ status }
+    ensures counted { K.faults sink.old ≤ K.faults sink.new }
+    ensures written { IsWritten (K.taken sink.old) (K.taken sink.new) (K.faults sink.old) (K.faults sink.new) (joined lines.now ++ text.now) }
+{
+    let _ = write_behind(sink, lines, text);
+    status
 }
 
 /// The line of a tail that was cut off, where one was.

@@ -1,6 +1,6 @@
 //! The top call.
 
-ghost use Rattle.std.specs.Prelude.{◌≡◌, ◌≢◌, ◌≤◌, ◌+◌, ◌↔◌, ℕ, List, [], Option, Some, None, map, length, string_bytes, IfSome, IsTrue};
+ghost use Rattle.std.specs.Prelude.{◌≡◌, ◌≢◌, ◌≤◌, ◌+◌, ℕ, List, [], Option, Some, None, map, length, string_bytes, IfSome, IsTrue};
 ghost use Rattle.std.specs.Io.KnownBytes.{Consumes, IsAtEnd};
 ghost use Rattle.fs_records.specs.File.{StandsFor};
 ghost use Rattle.fs_recovery.specs.Opens.{IsNoList};
@@ -14,11 +14,12 @@ ghost use Rattle.zb_volume.specs.declared.areas.Area.TheVariants.{Main, Side};
 ghost use Rattle.zb_volume.specs.Moments.{StaysAs};
 ghost use Rattle.zb_volume.specs.Disk.{seen};
 ghost use Rattle.zodb_top.specs.declared.command.Asked.{Asked};
-ghost use Rattle.zodb_top.specs.declared.command.Command.TheVariants.{Run, Ask};
+ghost use Rattle.zodb_top.specs.declared.command.Command.TheVariants.{Run, Ask, Pack};
 ghost use Rattle.zodb_top.specs.Asked.{AskSays};
 ghost use Rattle.zodb_top.specs.Inputs.{most_bytes};
 ghost use Rattle.zodb_top.specs.Opened.{IsLeft, IsUnopened};
 ghost use Rattle.zodb_top.specs.Outside.{outside};
+ghost use Rattle.zodb_top.specs.Packs.{PackSays};
 ghost use Rattle.zodb_top.specs.Program.{IsInput, IsUnlessMemory, KeepsSide, RunSays, is_read};
 ghost use Rattle.zodb_top.specs.Texts.{usage_line};
 ghost use Rattle.zodb_top.specs.Words.{command_of};
@@ -26,6 +27,7 @@ ghost use Rattle.zodb_top.specs.Written.{IsWritten};
 
 use crate::answering::answer_file;
 use crate::command::{Command, command_of};
+use crate::packing::pack_file;
 use crate::saying::say;
 use crate::script::run_source;
 use crate::status::Status;
@@ -48,10 +50,12 @@ pub fn zodb_main<S: Source, K: Sink, V: Volume + Drop, C: Clock>(
     volume: V,
     clock: &mut C,
 ) -> (Status, V)
-    // The words decide first.
-    ensures usage { (result.0 ≡ Status.Usage) ↔ (command_of (map string_bytes words.now) ≡ None) }
-    ensures usage_line { command_of (map string_bytes words.now) ≡ None
+    // The words decide first. Words that are no command are answered so, unless memory runs out while they are read.
+    ensures usage { result.0 ≡ Status.Usage → command_of (map string_bytes words.now) ≡ None }
+    ensures unknown { command_of (map string_bytes words.now) ≡ None → IsUnlessMemory result.0 Status.Usage }
+    ensures usage_line { result.0 ≡ Status.Usage
         → IsWritten (K.taken sink.old) (K.taken sink.new) (K.faults sink.old) (K.faults sink.new) usage_line }
+    ensures usage_untold { command_of (map string_bytes words.now) ≡ None → result.0 ≡ Status.NoMemory → K.taken sink.new ≡ K.taken sink.old }
     ensures usage_alone { command_of (map string_bytes words.now) ≡ None → IsUnopened
         (outside (K.taken sink.old) (K.faults sink.old) (C.stamps clock.old) (V.log volume) (V.read_faults volume) (V.write_faults volume))
         (outside (K.taken sink.new) (K.faults sink.new) (C.stamps clock.new) (V.log result.1) (V.read_faults result.1) (V.write_faults result.1)) }
@@ -68,7 +72,13 @@ pub fn zodb_main<S: Source, K: Sink, V: Volume + Drop, C: Clock>(
         (outside (K.taken sink.old) (K.faults sink.old) (C.stamps clock.old) (V.log volume) (V.read_faults volume) (V.write_faults volume))
         (outside (K.taken sink.new) (K.faults sink.new) (C.stamps clock.new) (V.log result.1) (V.read_faults result.1) (V.write_faults result.1)) }
 
-    // They leave the list as it was, at every moment and whatever their status, and Main's bytes, but for a tail.
+    // What each status of `pack` says: its cause, what was written, and what Main stands for, as it is and whatever a
+    // crash leaves or left.
+    ensures packs { (tid : ℕ) → command_of (map string_bytes words.now) ≡ Some (Pack tid) → PackSays result.0 tid V.told
+        (outside (K.taken sink.old) (K.faults sink.old) (C.stamps clock.old) (V.log volume) (V.read_faults volume) (V.write_faults volume))
+        (outside (K.taken sink.new) (K.faults sink.new) (C.stamps clock.new) (V.log result.1) (V.read_faults result.1) (V.write_faults result.1)) }
+
+    // The commands that ask leave the list as it was, at every moment and whatever their status, and Main's bytes, but for a tail.
     ensures left { (asked : Asked) → command_of (map string_bytes words.now) ≡ Some (Ask asked) → V.told → IsLeft V.told
         (outside (K.taken sink.old) (K.faults sink.old) (C.stamps clock.old) (V.log volume) (V.read_faults volume) (V.write_faults volume))
         (outside (K.taken sink.new) (K.faults sink.new) (C.stamps clock.new) (V.log result.1) (V.read_faults result.1) (V.write_faults result.1)) }
@@ -102,6 +112,12 @@ pub fn zodb_main<S: Source, K: Sink, V: Volume + Drop, C: Clock>(
     ensures damaged { (asked : Asked) → command_of (map string_bytes words.now) ≡ Some (Ask asked) → V.told
         → ¬ Rose (V.read_faults volume) (V.read_faults result.1) → ¬ Rose (V.write_faults volume) (V.write_faults result.1)
         → IsNoList (seen (V.log volume) Main) → IsUnlessMemory result.0 Status.Damaged }
+    ensures packed { (tid : ℕ) → command_of (map string_bytes words.now) ≡ Some (Pack tid) → V.told
+        → ¬ Rose (V.read_faults volume) (V.read_faults result.1) → ¬ Rose (V.write_faults volume) (V.write_faults result.1) → ¬ Rose (K.faults sink.old) (K.faults sink.new)
+        → (list : List Transaction) (cut : Option ℕ) → StandsFor (seen (V.log volume) Main) list cut → IsUnlessMemory result.0 Status.Done }
+    ensures pack_damaged { (tid : ℕ) → command_of (map string_bytes words.now) ≡ Some (Pack tid) → V.told
+        → ¬ Rose (V.read_faults volume) (V.read_faults result.1) → ¬ Rose (V.write_faults volume) (V.write_faults result.1)
+        → IsNoList (seen (V.log volume) Main) → IsUnlessMemory result.0 Status.Damaged }
 
     // No call that would change the volume has failed, unless the status says so.
     ensures written { ¬ (result.0 ≡ Status.StoreFault) → V.write_faults result.1 ≡ V.write_faults volume }
@@ -116,11 +132,15 @@ pub fn zodb_main<S: Source, K: Sink, V: Volume + Drop, C: Clock>(
     ensures read_counted { V.read_faults volume ≤ V.read_faults result.1 }
     ensures write_counted { V.write_faults volume ≤ V.write_faults result.1 }
 {
-    let Some(command) = command_of(words) else {
+    let Ok(read) = command_of(alloc, words) else {
+        return (Status::NoMemory, volume);
+    };
+    let Some(command) = read else {
         return (say(sink, b"usage\n", Status::Usage), volume);
     };
     match command {
         Command::Run => run_source(alloc, source, sink, volume, clock),
         Command::Ask(asked) => answer_file(alloc, asked, sink, volume, clock),
+        Command::Pack { tid } => pack_file(alloc, tid, sink, volume, clock),
     }
 }

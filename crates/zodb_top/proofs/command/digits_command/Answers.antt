@@ -4,7 +4,7 @@ use Rattle.std.specs.Option.{option_and_then}
 use Rattle.zb_ids.specs.Hex.{number_at}
 use Rattle.zodb_top.specs.Words.{object_command}
 use Rattle.zodb_top.proofs.Digits.{no_digits}
-use Rattle.zodb_top.proofs.command.two_words.Goals as goal
+use Rattle.zodb_top.proofs.command.digits_command.Goals as goal
 
 pub returns-in-Err : goal.returns-in-Err
 returns-in-Err c =

@@ -1,0 +1,41 @@
+-- What is left where nothing was done.
+use Rattle.std.proofs.Common.{◌≡◌, ℕ, List, [], Option, Some, None, inl, refl, sym, ap, subst}
+use Rattle.std.specs.Prelude.{IfSome, slice_get}
+use Rattle.file_store.specs.Kept.{StandsForList}
+use Rattle.file_store.specs.Opening.{IsNewOr, KeepsList, MakesList}
+use Rattle.fs_records.specs.File.{no_bytes}
+use Rattle.zb_ids.specs.declared.stamp.Stamp.{Stamp}
+use Rattle.zb_volume.specs.declared.areas.Area.TheVariants.{Main, Side}
+use Rattle.zb_volume.specs.Calls.{Event}
+use Rattle.zb_volume.specs.Disk.{seen}
+use Rattle.zb_volume.specs.Lasting.{settled_leaves}
+use Rattle.zb_volume.specs.Moments.{LeavesOnly, StaysAs, here}
+use Rattle.zodb_top.specs.Opened.{IsLeft, bytes_same}
+use Rattle.zodb_top.specs.declared.status.Status.TheVariants as status
+use Rattle.zodb_top.specs.Outside.{Outside}
+use Rattle.zodb_top.specs.Packs.{PackSays}
+
+keeps_at : (log : List Event) → KeepsList log log
+keeps_at log list cut some stands settled = here (settled_leaves log Main (λ bytes. StandsForList bytes list) settled (cut, stands))
+
+makes_at : (stamp : Stamp) (log : List Event) → MakesList stamp log log
+makes_at stamp log empty settled = here (settled_leaves log Main (IsNewOr stamp) settled (inl (None, no_bytes empty refl refl)))
+
+of_all : (stamps : Option (List Stamp)) (P : List Stamp → Type 0) → ((told : List Stamp) → P told) → IfSome stamps P
+of_all None P all = tt
+of_all (Some told) P all = all told
+
+pub left_untouched : (told : Type 0) (before after : Outside) → after.stamps ≡ before.stamps → after.log ≡ before.log → IsLeft told before after
+left_untouched told before after stamps log = record {
+  stamps = inl stamps;
+  kept = λ here some. stamps;
+  bytes = λ here some. bytes_same (ap (λ (l : List Event). seen l Main) log);
+  side = λ known some. subst (λ (l : List Event). StaysAs Side before.log l) (sym log) (here refl);
+  keeps = λ known. subst (λ (l : List Event). KeepsList before.log l) (sym log) (keeps_at before.log);
+  makes = λ known. subst (λ (l : List Event). IfSome before.stamps (λ stamps. (stamp : Stamp) → slice_get stamps 0 ≡ Some stamp → MakesList stamp before.log l)) (sym log)
+      (of_all before.stamps (λ stamps. (stamp : Stamp) → slice_get stamps 0 ≡ Some stamp → MakesList stamp before.log before.log) (λ stamps stamp is. makes_at stamp before.log));
+}
+
+-- no memory for the words of `pack`
+pub pack_starved : (tid : ℕ) (told : Type 0) (before : Outside) → PackSays status.NoMemory tid told before before
+pack_starved tid told before = (refl, inl (left_untouched told before before refl refl, record { reads = refl; writes = refl }))

@@ -1,0 +1,82 @@
+use Rattle.std.proofs.Common.{refl, sym, ◌∙◌}
+use Rattle.std.specs.Option.{option_map}
+use Rattle.fs_records.specs.Listed.{listed}
+use Rattle.pack_copy.specs.Copying.{copied_in}
+use Rattle.file_store.specs.Kept.{voted_in}
+use Rattle.zb_model.specs.Stores.{StoreState}
+use Rattle.zb_volume.specs.declared.areas.Area.TheVariants.{Main, Side}
+use Rattle.zb_volume.specs.Disk.{seen}
+use Rattle.zodb_top.specs.Outside.{Outside, outside}
+use Rattle.zodb_top.proofs.Files.{opened_none, opens_as, unopened_done}
+use Rattle.zodb_top.proofs.Nexts.{unopened_other}
+use Rattle.zodb_top.proofs.Packs.{packs_file, unopened}
+use Rattle.zodb_top.proofs.Volumes.{bytes_unless}
+use Rattle.zodb_top.proofs.packing.pack_file.Goals as goal
+
+pub returns-in-Ok-clause-outcome : goal.returns-in-Ok-clause-outcome
+returns-in-Ok-clause-outcome g c =
+    let V = g.V.Volume in
+    let K = g.K.Sink in
+    let C = g.C.Clock in
+    let before : Outside = outside (K.taken c.args.sink.now) (K.faults c.args.sink.now) (C.stamps c.args.clock.now) (V.log c.args.volume) (V.read_faults c.args.volume) (V.write_faults c.args.volume) in
+    let after : Outside = outside (K.taken c.pack_over-status.new.sink) (K.faults c.pack_over-status.new.sink) (C.stamps c.pack_over-status.new.clock) (V.log c.into_volume.result) (V.read_faults c.into_volume.result) (V.write_faults c.into_volume.result) in
+    let s = c.in-Ok.store in
+    let t = c.pack_over-status.result.1 in
+    let state : StoreState = record {
+      list = listed (seen (V.log s.volume) Main);
+      voted = option_map (λ x. voted_in x.tid s.index.end (seen (V.log s.volume) Main)) s.index.staged;
+      begun = option_map (λ x. copied_in x.tid (seen (V.log s.volume) Side)) s.copy;
+      newest = s.index.newest;
+      broken = s.broken;
+      log = V.log s.volume;
+      faults = V.write_faults s.volume;
+      read_faults = V.read_faults s.volume;
+    } in
+    let state' : StoreState = record {
+      list = listed (seen (V.log t.volume) Main);
+      voted = option_map (λ x. voted_in x.tid t.index.end (seen (V.log t.volume) Main)) t.index.staged;
+      begun = option_map (λ x. copied_in x.tid (seen (V.log t.volume) Side)) t.copy;
+      newest = t.index.newest;
+      broken = t.broken;
+      log = V.log t.volume;
+      faults = V.write_faults t.volume;
+      read_faults = V.read_faults t.volume;
+    } in
+    packs_file c.args.tid before state (C.stamps c.create_or_open.new.clock) c.in-Ok.cut after state' V.told c.in-Ok.ensures.faults c.in-Ok.ensures.read_faults c.into_volume.ensures.log c.into_volume.ensures.read_faults c.into_volume.ensures.faults c.pack_over-status.result.0
+    (λ told. record {
+      opens = opens_as _ _ _ _ _ (c.in-Ok.ensures.opened told) (c.in-Ok.ensures.made told) (c.in-Ok.ensures.stamps_kept told) (c.in-Ok.ensures.stamps_left told);
+      keeps = c.in-Ok.ensures.keeps told;
+      makes = c.in-Ok.ensures.makes told;
+      shown = g.met.V.Volume.seen_is_left c.into_volume.result Main told;
+      bytes = c.in-Ok.ensures.content told;
+      new_file = c.in-Ok.ensures.new_file told;
+    })
+    c.pack_over-status.ensures.packs
+
+pub returns-in-Ok-clause-damaged : goal.returns-in-Ok-clause-damaged
+returns-in-Ok-clause-damaged g c = λ told reads writes none. opened_none g.V.Volume.told _ _ _ c.in-Ok.cut c.in-Ok.ensures.opened told none
+
+pub returns-in-Ok-clause-harmed : goal.returns-in-Ok-clause-harmed
+returns-in-Ok-clause-harmed g c = λ told none. opened_none g.V.Volume.told _ _ _ c.in-Ok.cut c.in-Ok.ensures.opened told none
+
+pub returns-in-Err-clause-outcome : goal.returns-in-Err-clause-outcome
+returns-in-Err-clause-outcome g c =
+    unopened c.say_unopened.result c.in-Err.error c.args.tid g.V.Volume.told _ _ c.say_unopened.ensures.said c.in-Err.ensures.harm c.in-Err.ensures.fault c.in-Err.ensures.untouched c.in-Err.ensures.unfailed
+    (record {
+      stamps = c.in-Err.ensures.stamps_given;
+      kept = c.in-Err.ensures.stamps_kept;
+      bytes = λ told some. bytes_unless _ _ (c.in-Err.ensures.unharmed told some);
+      side = c.in-Err.ensures.side_refused;
+      keeps = c.in-Err.ensures.keeps_refused;
+      makes = c.in-Err.ensures.makes_refused;
+    })
+
+pub returns-in-Err-clause-complete : goal.returns-in-Err-clause-complete
+returns-in-Err-clause-complete g c = λ told reads writes sinks list cut stands.
+    unopened_done c.say_unopened.result c.in-Err.error _ list cut _ _ _ _ _ _ _ _ c.say_unopened.ensures.said (c.in-Err.ensures.harm told) c.in-Err.ensures.fault reads writes stands
+
+pub returns-in-Ok-clause-others : goal.returns-in-Ok-clause-others
+returns-in-Ok-clause-others g c = λ other. c.into_volume.ensures.faults ∙ c.pack_over-status.ensures.others other ∙ c.in-Ok.ensures.faults
+
+pub returns-in-Err-clause-others : goal.returns-in-Err-clause-others
+returns-in-Err-clause-others g c = λ other. (c.in-Err.ensures.unfailed (unopened_other _ _ _ _ _ _ c.say_unopened.ensures.said other)).1

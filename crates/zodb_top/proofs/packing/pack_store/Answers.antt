@@ -1,0 +1,30 @@
+use Rattle.std.proofs.Common.{ap, sym, subst, ◌∙◌}
+use Rattle.zb_model.specs.Stores.{StoreState}
+use Rattle.zb_volume.specs.declared.areas.Area.TheVariants.{Main}
+use Rattle.zb_volume.specs.Moments.{Leaves, LeavesOnly}
+use Rattle.zodb_core.specs.HubState.{StandsForMachine, counts_of}
+use Rattle.zodb_core.specs.Machine.{machine_over}
+use Rattle.zodb_top.specs.PackStores.{IsStorePacked}
+use Rattle.zodb_top.specs.Packs.{IsListOrPacked}
+use Rattle.zodb_top.proofs.packing.pack_store.Goals as goal
+
+pub returns-clause-step : goal.returns-clause-step
+returns-clause-step g c = λ told.
+    let St = g.St.Store in
+    subst (λ (s : StoreState). IsStorePacked c.args.tid c.pack_hub-reply.result s (St.state c.into_store.result) (g.C.Clock.stamps c.args.clock.now) (g.C.Clock.stamps c.pack_hub-reply.new.clock)) c.new-hub.ensures.store
+    (subst (λ (s : StoreState). IsStorePacked c.args.tid c.pack_hub-reply.result c.new-hub.result.store s (g.C.Clock.stamps c.args.clock.now) (g.C.Clock.stamps c.pack_hub-reply.new.clock)) (sym c.into_store.ensures)
+    (c.pack_hub-reply.ensures.step told (subst (λ (s : StoreState). StandsForMachine c.new-hub.result (machine_over s.list)) (sym c.new-hub.ensures.store) (c.new-hub.ensures.stands told))))
+
+pub returns-clause-moments : goal.returns-clause-moments
+returns-clause-moments g c = λ lasts told.
+    let St = g.St.Store in
+    subst (λ (s : StoreState). LeavesOnly Main (IsListOrPacked St.stands c.args.tid s.list) s.log (St.state c.into_store.result).log) c.new-hub.ensures.store
+    (subst (λ (s : StoreState). LeavesOnly Main (IsListOrPacked St.stands c.args.tid c.new-hub.result.store.list) c.new-hub.result.store.log s.log) (sym c.into_store.ensures)
+    (c.pack_hub-reply.ensures.moments lasts told (subst (λ (s : StoreState). StandsForMachine c.new-hub.result (machine_over s.list)) (sym c.new-hub.ensures.store) (c.new-hub.ensures.stands told))
+    (subst (λ (s : StoreState). Leaves Main (λ bytes. St.stands bytes s.list) s.log) (sym c.new-hub.ensures.store) (g.met.St.Store.lasting c.args.store lasts c.requires.whole))))
+
+pub returns-clause-images : goal.returns-clause-images
+returns-clause-images g c = λ lasts whole. g.met.St.Store.lasting c.into_store.result lasts whole
+
+pub returns-clause-others : goal.returns-clause-others
+returns-clause-others g c = λ other. ap (λ (s : StoreState). s.faults) c.into_store.ensures ∙ c.pack_hub-reply.ensures.others other ∙ ap (λ (s : StoreState). s.faults) c.new-hub.ensures.store

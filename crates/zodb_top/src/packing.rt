@@ -1,0 +1,185 @@
+//! The command `pack`: the list of the file in Main is packed in one step of a session.
+
+ghost use Rattle.std.specs.Prelude.{◌≡◌, ◌≢◌, ◌≤◌, [], ◌∷◌, ◌++◌, None, Option, List, ℕ, false, true};
+ghost use Rattle.fs_records.specs.File.{StandsFor};
+ghost use Rattle.fs_recovery.specs.Opens.{IsNoList};
+ghost use Rattle.zb_base.specs.Counts.{Rose};
+ghost use Rattle.zb_model.specs.declared.data.Transaction.{Transaction};
+ghost use Rattle.zb_volume.specs.declared.areas.Area.TheVariants.{Main};
+ghost use Rattle.zb_volume.specs.Disk.{seen};
+ghost use Rattle.zb_volume.specs.Moments.{Leaves, LeavesOnly};
+ghost use Rattle.zodb_core.specs.HubState.{IsCauseOf, StandsForMachine, counts_of};
+ghost use Rattle.zodb_core.specs.Machine.{machine_over};
+ghost use Rattle.zodb_core.specs.Outcomes.{AreLaterCounts, StoreFailed, outcome_of};
+ghost use Rattle.zodb_top.specs.Outside.{outside};
+ghost use Rattle.zodb_top.specs.PackStores.{IsStorePacked, IsToldAs, PacksStore};
+ghost use Rattle.zodb_top.specs.Telling.{told_of};
+ghost use Rattle.zodb_top.specs.Packs.{IsListOrPacked, PackSays, ReplySays};
+ghost use Rattle.zodb_top.specs.Program.{IsUnlessMemory};
+ghost use Rattle.zodb_top.specs.Texts.{joined};
+
+use crate::saying::{cut_lines, say_behind, say_unopened, write_behind};
+use crate::status::Status;
+use file_store::FileStore;
+use std::alloc::Global;
+use zb_ids::{Text8, Tid};
+use zb_model::{Refusal, Store};
+use zb_outside::{Clock, Failed, Sink};
+use zb_resolve::{StockRefs, StockResolver};
+use zb_script::{Answer, answer_line};
+use zb_volume::Volume;
+use zodb_core::{Hub, Reply, Request};
+
+/// Packs the list of a hub's store up to a tid, by its first session.
+fn pack_hub<St: Store, C: Clock>(
+    alloc: Global,
+    hub: &mut Hub<St, StockResolver, StockRefs>,
+    tid: Tid,
+    clock: &mut C,
+) -> Reply
+    requires whole { hub.old.store.broken ≡ false }
+    requires fresh { hub.old.sessions ≡ [] }
+    ensures step { St.told → StandsForMachine hub.old (machine_over hub.old.store.list) →
+        IsStorePacked tid result hub.old.store hub.new.store (C.stamps clock.old) (C.stamps clock.new) }
+    ensures moments { St.lasts → St.told → StandsForMachine hub.old (machine_over hub.old.store.list) →
+        Leaves Main (λ bytes. St.stands bytes hub.old.store.list) hub.old.store.log →
+        LeavesOnly Main (IsListOrPacked St.stands tid hub.old.store.list) hub.old.store.log hub.new.store.log }
+    ensures cause { IsCauseOf (counts_of hub.old.store) (counts_of hub.new.store) (outcome_of result) }
+    ensures others { ¬ (outcome_of result ≡ StoreFailed) → hub.new.store.faults ≡ hub.old.store.faults }
+    ensures later { AreLaterCounts (counts_of hub.old.store) (counts_of hub.new.store) }
+{
+    match hub.open_session() {
+        Ok(session) => hub.step(alloc, session, Request::Pack { tid }, clock),
+        Err(_) => Reply::Refused(Refusal::Memory),
+    }
+}
+
+/// Packs the list of a store up to a tid, and hands the store back.
+fn pack_store<St: Store, C: Clock>(alloc: Global, store: St, tid: Tid, clock: &mut C) -> (Reply, St)
+    requires whole { (St.state store).broken ≡ false }
+    requires free { (St.state store).voted ≡ None }
+    ensures step { St.told → IsStorePacked tid result.0 (St.state store) (St.state result.1) (C.stamps clock.old) (C.stamps clock.new) }
+    ensures moments { St.lasts → St.told → LeavesOnly Main (IsListOrPacked St.stands tid (St.state store).list) (St.state store).log (St.state result.1).log }
+    ensures images { St.lasts → (St.state result.1).broken ≡ false →
+        Leaves Main (λ bytes. St.stands bytes (St.state result.1).list) (St.state result.1).log }
+    ensures cause { IsCauseOf (counts_of (St.state store)) (counts_of (St.state result.1)) (outcome_of result.0) }
+    ensures others { ¬ (outcome_of result.0 ≡ StoreFailed) → (St.state result.1).faults ≡ (St.state store).faults }
+    ensures later { AreLaterCounts (counts_of (St.state store)) (counts_of (St.state result.1)) }
+{
+    let mut hub = Hub::new(alloc, store, StockResolver, StockRefs);
+    let reply = pack_hub(alloc, &mut hub, tid, clock);
+    (reply, hub.into_store())
+}
+
+/// How a reply to a pack is told.
+#[derive(Debug, Drop)]
+enum Told {
+    /// By a line.
+    Line(
+        /// The answer.
+        Answer,
+    ),
+    /// By a line that takes no memory: reading failed.
+    ReadFault,
+    /// By the end of the run: the store failed.
+    StoreFault,
+    /// Not at all: there is no memory.
+    Nothing,
+}
+
+fn told_of(reply: Reply) -> Told
+    ensures { result ≡ told_of reply }
+{
+    match reply {
+        Reply::Packed { kept, dropped } => Told::Line(Answer::Packed { kept, dropped }),
+        Reply::Refused(Refusal::StoreFault) => Told::StoreFault,
+        Reply::Refused(Refusal::ReadFault) => Told::ReadFault,
+        Reply::Refused(Refusal::Memory) => Told::Nothing,
+        Reply::Refused(why) => Told::Line(Answer::Refused(why)),
+        _ => Told::Nothing,
+    }
+}
+
+/// Writes lines and a last one, and answers the status.
+fn tell<K: Sink>(sink: &mut K, lines: &[Text8], last: &[u8]) -> Status
+    ensures told { IsToldAs result (K.taken sink.old) (K.taken sink.new) (K.faults sink.old) (K.faults sink.new) (joined (lines.now ++ last.now ∷ [])) }
+    ensures counted { K.faults sink.old ≤ K.faults sink.new }
+{
+    match write_behind(sink, lines, last) {
+        Ok(()) => Status::Done,
+        Err(Failed) => Status::SinkFault,
+    }
+}
+
+/// Writes a reply to a pack behind some lines.
+fn write_reply<K: Sink>(alloc: Global, sink: &mut K, lines: &[Text8], reply: Reply) -> Status
+    ensures says { ReplySays result (K.taken sink.old) (K.taken sink.new) (K.faults sink.old) (K.faults sink.new) reply lines.now }
+    ensures counted { K.faults sink.old ≤ K.faults sink.new }
+{
+    match told_of(reply) {
+        Told::Line(answer) => match answer_line(alloc, &answer) {
+            Ok(line) => tell(sink, lines, line.as_slice()),
+            Err(_) => Status::NoMemory,
+        },
+        Told::ReadFault => tell(sink, lines, b"refused ReadFault\n"),
+        Told::StoreFault => say_behind(sink, lines, b"store fault\n", Status::StoreFault),
+        Told::Nothing => Status::NoMemory,
+    }
+}
+
+/// Packs the list of a store, writes the reply behind the line of a tail that was cut off, where one was,
+/// and hands the store back.
+fn pack_over<St: Store, K: Sink, C: Clock>(
+    alloc: Global,
+    store: St,
+    cut: Option<u64>,
+    tid: Tid,
+    sink: &mut K,
+    clock: &mut C,
+) -> (Status, St)
+    requires whole { (St.state store).broken ≡ false }
+    requires free { (St.state store).voted ≡ None }
+    ensures packs { PacksStore result.0 St.told St.lasts St.stands tid cut (K.taken sink.old) (K.taken sink.new) (K.faults sink.old) (K.faults sink.new)
+        (St.state store) (St.state result.1) (C.stamps clock.old) (C.stamps clock.new) }
+    ensures complete { ¬ Rose (St.state store).faults (St.state result.1).faults → ¬ Rose (K.faults sink.old) (K.faults sink.new) → IsUnlessMemory result.0 Status.Done }
+    ensures others { ¬ (result.0 ≡ Status.StoreFault) → (St.state result.1).faults ≡ (St.state store).faults }
+    ensures sink_counted { K.faults sink.old ≤ K.faults sink.new }
+    ensures later { AreLaterCounts (counts_of (St.state store)) (counts_of (St.state result.1)) }
+{
+    let Ok(lines) = cut_lines(alloc, cut) else {
+        return (Status::NoMemory, store);
+    };
+    let (reply, store) = pack_store(alloc, store, tid, clock);
+    let status = write_reply(alloc, sink, lines.as_slice(), reply);
+    (status, store)
+}
+
+/// Opens the file in Main, which is made first where Main is empty, and packs its list up to a tid.
+pub(crate) fn pack_file<K: Sink, V: Volume + Drop, C: Clock>(
+    alloc: Global,
+    tid: Tid,
+    sink: &mut K,
+    volume: V,
+    clock: &mut C,
+) -> (Status, V)
+    ensures outcome { PackSays result.0 tid V.told
+        (outside (K.taken sink.old) (K.faults sink.old) (C.stamps clock.old) (V.log volume) (V.read_faults volume) (V.write_faults volume))
+        (outside (K.taken sink.new) (K.faults sink.new) (C.stamps clock.new) (V.log result.1) (V.read_faults result.1) (V.write_faults result.1)) }
+    ensures complete { V.told → ¬ Rose (V.read_faults volume) (V.read_faults result.1) → ¬ Rose (V.write_faults volume) (V.write_faults result.1) → ¬ Rose (K.faults sink.old) (K.faults sink.new)
+        → (list : List Transaction) (cut : Option ℕ) → StandsFor (seen (V.log volume) Main) list cut → IsUnlessMemory result.0 Status.Done }
+    ensures damaged { V.told → ¬ Rose (V.read_faults volume) (V.read_faults result.1) → ¬ Rose (V.write_faults volume) (V.write_faults result.1)
+        → IsNoList (seen (V.log volume) Main) → IsUnlessMemory result.0 Status.Damaged }
+    ensures harmed { V.told → IsNoList (seen (V.log volume) Main) → V.log result.1 ≡ V.log volume }
+    ensures others { ¬ (result.0 ≡ Status.StoreFault) → V.write_faults result.1 ≡ V.write_faults volume }
+    ensures sink_counted { K.faults sink.old ≤ K.faults sink.new }
+    ensures read_counted { V.read_faults volume ≤ V.read_faults result.1 }
+    ensures counted { V.write_faults volume ≤ V.write_faults result.1 }
+{
+    match FileStore::create_or_open(alloc, volume, clock) {
+        Ok((store, cut)) => {
+            let (status, store) = pack_over(alloc, store, cut, tid, sink, clock);
+            (status, store.into_volume())
+        }
+        Err((error, volume)) => (say_unopened(alloc, sink, error), volume),
+    }
+}
