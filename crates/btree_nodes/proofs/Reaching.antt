@@ -56,7 +56,7 @@ not_twice nodes (p ∷ ps) to h s e st a =
     let apart : p ≡ to → ⊥ = λ same. let eq : h ≡ a.0.0 = one_height nodes h a.0.0 s a.0.1 st a.0.3 (e ∙ sym same ∙ sym a.0.2) in omega (arith, a.0.4) in
     grind (arith, common_steps)
 
-higher_last : (nodes : ℕ → Option Node) (ps : List ℕ) (h h' p : ℕ) (s : Shape h') → Higher nodes ps h → oid_of h' s ≡ p → Stands nodes h' s → h < h' → Higher nodes (ps ++ p ∷ []) h
+pub higher_last : (nodes : ℕ → Option Node) (ps : List ℕ) (h h' p : ℕ) (s : Shape h') → Higher nodes ps h → oid_of h' s ≡ p → Stands nodes h' s → h < h' → Higher nodes (ps ++ p ∷ []) h
 higher_last nodes [] h h' p s a e st l = ((h', s, e, st, l), tt)
 higher_last nodes (q ∷ qs) h h' p s a e st l = (a.0, higher_last nodes qs h h' p s a.1 e st l)
 
@@ -119,7 +119,7 @@ module _ (objects : ℕ → Held) (kind : ℕ) (key : Key) (of_kind : rank_of ke
   abbrev going : ℕ → List ℕ → ℕ → Result Found TreeError
   going room above oid = way_from true key objects room above oid
 
-  node_way : (room : ℕ) (above : List ℕ) (oid : ℕ) (class : Graph) (n : Node) → stands_in above oid ≡ false → objects oid ≡ Holds class n → node_suits key n ≡ true → going (suc room) above oid ≡ down_node (going room (above ++ oid ∷ [])) key oid class n
+  pub node_way : (room : ℕ) (above : List ℕ) (oid : ℕ) (class : Graph) (n : Node) → stands_in above oid ≡ false → objects oid ≡ Holds class n → node_suits key n ≡ true → going (suc room) above oid ≡ down_node (going room (above ++ oid ∷ [])) key oid class n
   node_way room above oid class n s h t =
       way_suc true key objects room above oid
       ∙ ap (λ b. if b then Err (NotATree oid) else down_held (going room (above ++ oid ∷ [])) true key oid (objects oid)) s

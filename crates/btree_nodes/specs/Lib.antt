@@ -1,2 +1,4 @@
 pub mod Visits
 pub mod Tested
+pub mod Drawn
+pub mod Settings

@@ -1,4 +1,5 @@
-//! Trees of the BTrees package over any space of objects: reading them and setting what stands under a key.
+//! Trees of the BTrees package over any space of objects: reading them, setting what stands under a
+//! key, and removing keys.
 #![tactic(auto)]
 
 mod children;

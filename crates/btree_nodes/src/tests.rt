@@ -1,8 +1,11 @@
 //! Trees over a space in memory.
 
+mod damaged;
 mod grown;
+mod lost;
 mod memory;
 mod records;
+mod removing;
 mod setting;
 
 use super::*;

@@ -1,6 +1,6 @@
 //! Trees.
 
-ghost use Rattle.std.specs.Prelude.{◌≡◌, ℕ, suc, ◌++◌, true, List, Ok, IfOk};
+ghost use Rattle.std.specs.Prelude.{◌≡◌, ◌≤◌, ℕ, suc, ◌++◌, true, List, Ok, IfOk};
 ghost use Rattle.btree_family.specs.declared.bucket.Item.{Item};
 ghost use Rattle.btree_family.specs.Keys.{rank_of};
 ghost use Rattle.btree_nodes.specs.declared.span.Span.TheVariants.{Within};
@@ -8,12 +8,16 @@ ghost use Rattle.btree_shapes.specs.Spaces.{handed_on};
 ghost use Rattle.btree_shapes.specs.Nodes.{class_held, objects_of, items_in, value_in};
 ghost use Rattle.btree_shapes.specs.Ways.{Answers, OnlyReads, TookReads, family_key, key_way, value_under, reads_of};
 ghost use Rattle.btree_nodes.specs.Visits.{items_under, range_under, items_within};
+ghost use Rattle.btree_nodes.specs.Drawn.{DrawsNew};
+ghost use Rattle.btree_nodes.specs.Settings.{SetsIn};
 ghost use Rattle.btree_shapes.specs.Shapes.{Shape, IsSound, IsTree, nodes_in};
 ghost use Rattle.btree_setting.specs.Ends.{Sets};
+ghost use Rattle.btree_removing.specs.Ends.{Removes};
 
 use crate::span::Span;
 use crate::walk::walk_all;
 use btree_family::{Item, Key, key_fits};
+use btree_removing::remove;
 use btree_setting::{Sizes, set};
 use btree_shapes::{Node, Space, TreeError, find, read_root, value_in};
 use std::alloc::{AllocError, Global};
@@ -113,6 +117,9 @@ impl<const LEAF: usize, const INNER: usize> Tree<LEAF, INNER> {
     /// Refusals of the space, and want of memory, may come at each of its calls. What was put before is then the
     /// first of the puts. A record that is refused with the numbers that were drawn, though it was not with 0, would
     /// be answered as want of memory.
+    ///
+    /// In a sound tree no object is missing or none of the tree. Where the numbers that are drawn differ from each other
+    /// and are of no object of the tree, it is sound afterwards too, and what stands under the other keys stays.
     pub fn set<S: Space>(
         &self,
         alloc: Global,
@@ -122,6 +129,11 @@ impl<const LEAF: usize, const INNER: usize> Tree<LEAF, INNER> {
     ) -> Result<(), TreeError>
         ensures ways { Sets S.told (S.contents space.old) (S.contents space.new) (S.log space.old) (S.log space.new)
             self.now.root (record { leaf = LEAF; inner = INNER }) key value result }
+        ensures sound { (kind : ℕ) (mapping : List Item) → 2 ≤ LEAF → 3 ≤ INNER
+            → IsTree (objects_of (S.contents space.old) self.now.root) self.now.root kind mapping
+            → rank_of key ≡ kind → S.told
+            → DrawsNew (objects_of (S.contents space.old) self.now.root) self.now.root (S.log space.old) (S.log space.new)
+            → SetsIn (S.contents space.old) (S.contents space.new) self.now.root kind mapping key value result }
         ensures refusals { S.told → S.refusals space.new ≡ S.refusals space.old ++ handed_on result }
     {
         let sizes = Sizes {
@@ -129,6 +141,40 @@ impl<const LEAF: usize, const INNER: usize> Tree<LEAF, INNER> {
             inner: INNER,
         };
         set(alloc, space, self.root, sizes, key, value)
+    }
+
+    /// Removes a key, and answers whether it was there. Where it is absent, nothing is put.
+    ///
+    /// The objects on the way are each read once, from the root on. A leaf that still has items is put alone. One that
+    /// has none left leaves its tree: then the objects from the nearest child to the left of the way down to the last
+    /// leaf below it are read, and after these the second child of the object that loses its first one, where the
+    /// children are no leaves. An object on the way, or besides it, is refused as the type says. Then all records
+    /// that are to be put are tried: `BadKey` where one can't be written or doesn't read back. Last the objects that
+    /// change are put, in rising order of their numbers.
+    ///
+    /// A leaf that leaves its tree goes with the separator before it, or, where it is the first child, with the one
+    /// after it. An object left without children goes in the same way, and the root is left as a tree without items.
+    /// The leaf before takes over the link to the next one, and each object that began with the leaf that left names
+    /// the leaf that is its first one now. What left is put too, without items or children, so that a client that
+    /// changed it meanwhile is told. Nothing else is joined, and all other separators stay. A bucket or a set that
+    /// stands alone stays one without items.
+    ///
+    /// On a damaged tree the same is done, as far as it goes: only objects whose states change are put; a leaf that
+    /// is no object of its own has no link that another could take over, and can take over none.
+    ///
+    /// Refusals of the space, and want of memory, may come at each of its calls. What was put before is then the
+    /// first of the puts.
+    pub fn remove<S: Space>(
+        &self,
+        alloc: Global,
+        space: &mut S,
+        key: &Key,
+    ) -> Result<bool, TreeError>
+        ensures ways { Removes S.told (S.contents space.old) (S.contents space.new) (S.log space.old) (S.log space.new)
+            self.now.root key.now result }
+        ensures refusals { S.told → S.refusals space.new ≡ S.refusals space.old ++ handed_on result }
+    {
+        remove(alloc, space, self.root, key)
     }
 
     /// All items, by a walk.

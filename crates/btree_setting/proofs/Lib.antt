@@ -10,5 +10,6 @@ pub mod Beside
 pub mod Keeping
 pub mod Rows
 pub mod Finding
+pub mod Counting
 pub mod Trying
 pub mod Answering

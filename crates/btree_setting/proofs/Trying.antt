@@ -1,5 +1,5 @@
 -- Trying the records of a set, and its numbers.
-use Rattle.std.proofs.Common.{◌≡◌, ℕ, ◌+◌, Bool, true, false, List, [], ◌∷◌, ◌++◌, Option, Some, None, refl, arith, sym, ◌∙◌, ap, subst, length, zero, suc, append-nil}
+use Rattle.std.proofs.Common.{◌≡◌, ℕ, ◌+◌, ◌<◌, ◌^◌, true, false, List, [], ◌∷◌, ◌++◌, refl, arith, sym, ◌∙◌, ap, subst, length, suc, append-nil}
 use Rattle.std.specs.Prelude.{◌&&◌, map, Result, Ok, Err, IfErr}
 use Rattle.btree_family.specs.Classes.{Class}
 use Rattle.btree_shapes.specs.declared.space.Call.{Call}
@@ -10,7 +10,7 @@ use Rattle.btree_setting.specs.declared.growing.Terms.{Terms}
 use Rattle.btree_setting.specs.declared.preparing.Task.{Task}
 use Rattle.btree_setting.specs.Puts.{put_oid, sort_puts, all_keep}
 use Rattle.btree_setting.specs.Changes.{AreDrawn, IsRootSet}
-use Rattle.btree_setting.specs.Sets.{AreZero, DrewSome, IsTrial, change_keeps, Fails, Passes, puts_of, drew_news, IsPlan}
+use Rattle.btree_setting.specs.Sets.{AreZero, DrewSome, IsTrial, Fails, Passes, CountsNews, IsPlan}
 
 pub zero_push : (oids : List ℕ) → AreZero oids → AreZero (oids ++ 0 ∷ [])
 zero_push [] z = (refl, tt)
@@ -60,12 +60,13 @@ all_drawn oids news d e =
     let r : d.rest ≡ [] = none_left d.rest (omega (arith, a, b, e)) in
     d.cut ∙ ap (λ xs. map put_oid news ++ xs) r ∙ append-nil (map put_oid news)
 
-pub is_plan : (told : Type 0) (terms : Terms) (task : Task) (change : Change) (puts : List Put) (oids : List ℕ) (log log' : List Call) → IsRootSet terms task.bottom task.rungs change → puts ≡ sort_puts (change.news ++ change.olds) → AreDrawn oids change.news → length change.news ≡ length oids → (told → log' ≡ log ++ map Drew oids) → IsPlan told terms task puts log log'
-is_plan told terms task change puts oids log log' s p d e l = record {
+pub is_plan : (told : Type 0) (terms : Terms) (task : Task) (change : Change) (puts : List Put) (oids : List ℕ) (count : ℕ) (log log' : List Call) → IsRootSet terms task.bottom task.rungs change → puts ≡ sort_puts (change.news ++ change.olds) → AreDrawn oids change.news → CountsNews terms task count → length oids ≡ count → count < 2 ^ 64 → (told → log' ≡ log ++ map Drew oids) → IsPlan told terms task puts log log'
+is_plan told terms task change puts oids count log log' s p d n e w l = record {
   change = change;
   set = s;
   puts_are = p;
-  drawn = λ t. l t ∙ ap (λ xs. log ++ map Drew xs) (all_drawn oids change.news d e);
+  few = let c = n change s in omega (arith, c, w);
+  drawn = λ t. l t ∙ ap (λ xs. log ++ map Drew xs) (all_drawn oids change.news d (n change s ∙ sym e));
 }
 
 pub any_err : {X E : Type 0} (r : Result X E) (P : Type 0) → P → IfErr r (λ e. P)

@@ -8,3 +8,4 @@ pub mod Changes
 pub mod Tasks
 pub mod Sets
 pub mod Ends
+pub mod Types

@@ -1,5 +1,5 @@
 -- What a set draws and puts, on every tree. Own.
-use Rattle.std.specs.Prelude.{◌≡◌, ℕ, Bool, true, false, List, [], ◌∷◌, ◌++◌, length, map, Option, Some, None, Result, Ok, Err, ◌&&◌, ◌⊎◌}
+use Rattle.std.specs.Prelude.{◌≡◌, ℕ, ◌<◌, ◌^◌, Bool, true, false, List, [], ◌∷◌, ◌++◌, length, map, Option, Some, None, Result, Ok, Err, ◌&&◌, ◌⊎◌}
 use Rattle.pickle_value.specs.Graph.{Graph}
 use Rattle.btree_family.specs.declared.key.Key.{Key}
 use Rattle.btree_family.specs.Classes.{Class}
@@ -107,6 +107,10 @@ pub record Passes (class leaf : Class) (terms : Terms) (task : Task) (count : �
   pub kept : change_keeps class leaf change ≡ true
   pub counted : count ≡ length change.news
 
+-- each change of the set has so many new objects
+abbrev pub CountsNews : Terms → Task → ℕ → Type 0
+CountsNews terms task count = (change : Change) → IsRootSet terms task.bottom task.rungs change → length change.news ≡ count
+
 abbrev pub Tried : Class → Class → Terms → Task → Option ℕ → Type 0
 Tried class leaf terms task None = Fails class leaf terms task
 Tried class leaf terms task (Some count) = Passes class leaf terms task count
@@ -120,11 +124,12 @@ puts_of change = sort_puts (change.news ++ change.olds)
 abbrev pub drew_news : Change → List Call
 drew_news change = map Drew (map put_oid change.news)
 
--- the numbers of new objects are drawn, and these are the puts
+-- the numbers of new objects are drawn, fewer than there are numbers, and these are the puts
 pub record IsPlan (told : Type 0) (terms : Terms) (task : Task) (puts : List Put) (calls calls' : List Call) : Type 0 where
   pub change : Change
   pub set : IsRootSet terms task.bottom task.rungs change
   pub puts_are : puts ≡ puts_of change
+  pub few : length change.news < 2 ^ 64
   pub drawn : told → calls' ≡ calls ++ drew_news change
 
 -- ---- the whole

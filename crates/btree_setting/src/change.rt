@@ -1,4 +1,4 @@
-//! What a set is going to put.
+//! What a call is going to put.
 
 ghost use Rattle.std.specs.Prelude.{◌≡◌, ◌++◌, ◌∷◌, [], ◌≤◌, ◌<◌, Some, slice_get, length, OnOk, IfOk, MatchOption};
 ghost use Rattle.btree_setting.specs.Puts.{add_put, put_place, sort_puts};
@@ -13,7 +13,7 @@ use zb_ids::Oid;
 
 /// An object that is put: its number, its class, whether its children are leaves, and what it holds.
 #[derive(Drop)]
-pub(crate) struct Put {
+pub struct Put {
     pub oid: Oid,
     pub class: Pickle,
     pub leaves: bool,
@@ -22,7 +22,7 @@ pub(crate) struct Put {
 
 /// Objects to put, in order.
 #[derive(Drop)]
-pub(crate) struct Puts {
+pub struct Puts {
     list: VecDeque<Put>,
 }
 
@@ -37,7 +37,7 @@ impl Model for Puts {
 
 impl Puts {
     /// Nothing to put.
-    pub(crate) fn new(alloc: Global) -> Puts
+    pub fn new(alloc: Global) -> Puts
         ensures { result ≡ [] }
     {
         Puts {
@@ -46,14 +46,14 @@ impl Puts {
     }
 
     /// How many there are.
-    pub(crate) fn len(&self) -> usize
+    pub fn len(&self) -> usize
         ensures { result ≡ length self.now }
     {
         self.list.len()
     }
 
     /// One more behind the others.
-    pub(crate) fn push(&mut self, put: Put) -> Result<(), AllocError>
+    pub fn push(&mut self, put: Put) -> Result<(), AllocError>
         ensures { OnOk result (self.new ≡ self.old ++ put ∷ []) }
     {
         self.list.push_back(put)?;
@@ -126,7 +126,7 @@ pub(crate) struct Change {
 
 /// All in rising order of their numbers, of several with one number the new ones first.
 #[tactic(auto, using(crate::proofs::Sorting::add_all_last, crate::proofs::Sorting::add_all_append))]
-pub(crate) fn in_order(alloc: Global, news: Puts, olds: Puts) -> Result<Puts, AllocError>
+pub fn in_order(alloc: Global, news: Puts, olds: Puts) -> Result<Puts, AllocError>
     ensures { IfOk result (λ puts. puts ≡ sort_puts (news ++ olds)) }
 {
     let mut news = news;

@@ -97,7 +97,7 @@ pub(crate) fn copy_pickle(alloc: Global, pickle: &Pickle) -> Result<Pickle, Allo
 }
 
 /// Items, and copies of more behind them.
-pub(crate) fn with_items(items: ListOf<Item>, more: &[Item]) -> Result<ListOf<Item>, AllocError>
+pub fn with_items(items: ListOf<Item>, more: &[Item]) -> Result<ListOf<Item>, AllocError>
     ensures { IfOk result (λ all. all ≡ items ++ more.now) }
 {
     let mut all = items;
@@ -119,7 +119,7 @@ fn copy_branch(branch: &Branch) -> Result<Branch, AllocError>
 }
 
 /// Branches, and copies of more behind them.
-pub(crate) fn with_branches(
+pub fn with_branches(
     branches: ListOf<Branch>,
     more: &[Branch],
 ) -> Result<ListOf<Branch>, AllocError>

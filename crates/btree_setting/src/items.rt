@@ -89,7 +89,7 @@ pub(crate) fn has_value(items: &[Item], key: &Key, value: &Option<Text8>) -> boo
 }
 
 /// Whether a key stands in items.
-pub(crate) fn has_key(items: &[Item], key: &Key) -> bool
+pub fn has_key(items: &[Item], key: &Key) -> bool
     ensures { result ≡ has_key items.now key.now }
 {
     for item in items {

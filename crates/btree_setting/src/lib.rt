@@ -17,5 +17,11 @@ mod storing;
 mod value;
 mod writing;
 
+pub use change::{Put, Puts, in_order};
+pub use copying::{with_branches, with_items};
+pub use items::has_key;
 pub use preparing::Sizes;
 pub use setting::set;
+pub use settling::first_below;
+pub use storing::{all_keep, same_link, store_all};
+pub use writing::Family;

@@ -4,7 +4,7 @@ ghost use Rattle.std.specs.Prelude.{◌≡◌, ◌++◌, IfOk, IfErr, IfSome, On
 ghost use Rattle.pickle_value.specs.Graph.{IsGlobal};
 ghost use Rattle.btree_family.specs.Classes.{class_seen};
 ghost use Rattle.btree_shapes.specs.Spaces.{handed_on};
-ghost use Rattle.btree_setting.specs.Sets.{IsFree, DrewSome, terms_of, Tried, IsPlan, Writes};
+ghost use Rattle.btree_setting.specs.Sets.{IsFree, DrewSome, terms_of, CountsNews, Tried, IsPlan, Writes};
 ghost use Rattle.btree_shapes.specs.Ways.{IsRefusal, OnlyReads};
 ghost use Rattle.btree_setting.specs.Tasks.{task_under, reads_under};
 ghost use Rattle.btree_setting.specs.Ends.{IsFinding, Sets};
@@ -76,6 +76,7 @@ fn draw_and_plan<S: Space>(
     task: &Task,
     count: usize,
 ) -> Result<Puts, TreeError>
+    requires counted { CountsNews terms.now task.now count }
     ensures ok { IfOk result (λ puts. IsPlan S.told terms.now task.now puts (S.log space.old) (S.log space.new)) }
     ensures err { OnErr result (S.told → DrewSome (S.log space.old) (S.log space.new)) }
     ensures free { IfErr result IsFree }
@@ -84,13 +85,11 @@ fn draw_and_plan<S: Space>(
 {
     let oids = draw_all(alloc, space, count)?;
     let change = plan(alloc, terms, &task.bottom, &task.rungs, oids.as_slice())?;
-    if change.news.len() != oids.len() {
-        return Err(TreeError::Memory);
-    }
     Ok(in_order(alloc, change.news, change.olds)?)
 }
 
 /// Tries the records that a set puts, draws the numbers of new objects, and puts all.
+#[tactic(auto, using(crate::proofs::Counting::counts_news))]
 fn write<S: Space>(
     alloc: Global,
     space: &mut S,

@@ -26,7 +26,7 @@ fn first_of(oid: Oid, node: &Node) -> Oid
 
 /// Reads an object, and gives the first leaf below it.
 #[tactic(auto, using(crate::proofs::Beside::first_read, crate::proofs::Beside::first_unread, crate::proofs::Beside::first_bad))]
-fn first_below<S: Space>(
+pub fn first_below<S: Space>(
     alloc: Global,
     space: &mut S,
     tree: &Rooted,

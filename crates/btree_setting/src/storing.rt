@@ -22,7 +22,7 @@ use zb_ids::{Oid, Text8};
 use zb_record::{ObjectRecord, RecordError, is_class, read_record, write_record};
 
 /// Whether two links are the same.
-fn same_link(a: Option<Oid>, b: Option<Oid>) -> bool
+pub fn same_link(a: Option<Oid>, b: Option<Oid>) -> bool
     ensures { result ≡ same_link a b }
 {
     match a {
@@ -174,7 +174,7 @@ fn can_keep(alloc: Global, family: &Family, put: &Put) -> Result<bool, AllocErro
 
 /// Whether the records of puts can be written and read back.
 #[tactic(auto, using(crate::proofs::Keeping::keep_next, crate::proofs::Keeping::keep_stop, crate::proofs::Keeping::keep_end))]
-pub(crate) fn all_keep(alloc: Global, family: &Family, puts: &Puts) -> Result<bool, AllocError>
+pub fn all_keep(alloc: Global, family: &Family, puts: &Puts) -> Result<bool, AllocError>
     requires { IsGlobal family.now.leaf.now.module.now family.now.leaf.now.name.now }
     ensures { IfOk result (λ all. all
         ≡ all_keep (class_seen family.now.row.now) (class_seen family.now.leaf.now) puts.now) }
@@ -218,7 +218,7 @@ fn store<S: Space>(alloc: Global, space: &mut S, family: &Family, put: Put) -> R
 
 /// Puts objects, in this order.
 #[tactic(auto, using(crate::proofs::Rows::stored_start, crate::proofs::Rows::stored_step, crate::proofs::Rows::stored_end, crate::proofs::Rows::stored_front))]
-pub(crate) fn store_all<S: Space>(
+pub fn store_all<S: Space>(
     alloc: Global,
     space: &mut S,
     family: &Family,

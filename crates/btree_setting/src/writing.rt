@@ -22,7 +22,7 @@ use zb_ids::{Oid, Text8};
 
 /// The class of a tree, and that of its leaves.
 #[derive(Clone, Copy)]
-pub(crate) struct Family {
+pub struct Family {
     pub row: &'static ClassRow,
     pub leaf: &'static ClassRow,
 }

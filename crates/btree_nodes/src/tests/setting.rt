@@ -12,12 +12,12 @@ use zb_ids::{Oid, Text8};
 use zb_record::read_record;
 
 /// The value 0.
-fn zero(alloc: Global) -> Result<Option<Text8>, Fail> {
+pub(super) fn zero(alloc: Global) -> Result<Option<Text8>, Fail> {
     Ok(Some(Text8::from_slice(alloc, b"K\x00".as_slice())?))
 }
 
 /// The number that a key is.
-fn number(key: &Key) -> i128 {
+pub(super) fn number(key: &Key) -> i128 {
     match key {
         Key::Number(number) => *number,
         _ => -1,
@@ -25,7 +25,7 @@ fn number(key: &Key) -> i128 {
 }
 
 /// What stands at a number, as the table of trees writes it.
-fn shown(alloc: Global, space: &Memory, oid: u64) -> Result<String, Fail> {
+pub(super) fn shown(alloc: Global, space: &Memory, oid: u64) -> Result<String, Fail> {
     let bytes = space.bytes(Oid(oid)).ok_or("no object")?;
     let object = read_record(alloc, bytes.as_slice())?;
     let row = class_of(&object.class).ok_or("no class")?;
@@ -67,7 +67,7 @@ fn shown(alloc: Global, space: &Memory, oid: u64) -> Result<String, Fail> {
 }
 
 /// What stands at all numbers.
-fn all_shown(alloc: Global, space: &Memory) -> Result<String, Fail> {
+pub(super) fn all_shown(alloc: Global, space: &Memory) -> Result<String, Fail> {
     let mut line = shown(alloc, space, 1)?;
     let end = space.next.checked_add(1).ok_or("too many")?;
     for oid in 101..end {
@@ -78,7 +78,7 @@ fn all_shown(alloc: Global, space: &Memory) -> Result<String, Fail> {
 }
 
 /// The key that is set at a step: of the numbers 1 to 40 in rising, falling or mixed order.
-fn step_key(order: usize, step: u8) -> i128 {
+pub(super) fn step_key(order: usize, step: u8) -> i128 {
     match order {
         0 => step as i128,
         1 => 41 - step as i128,
@@ -117,42 +117,83 @@ fn reads(log: &[Call]) -> usize {
     log.len()
 }
 
+/// The tree that grows.
+const TREE: Tree<2, 3> = Tree { root: Oid(1) };
+
+/// How many objects are on the way for a key.
+fn height_at(alloc: Global, space: &mut Memory, key: i128) -> Result<usize, Fail> {
+    space.log = Vec::new(alloc);
+    TREE.get(alloc, space, &Key::Number(key))?;
+    let height = space.log.len();
+    space.log = Vec::new(alloc);
+    Ok(height)
+}
+
+/// Sets a key to a value.
+fn set_key(alloc: Global, space: &mut Memory, key: i128, value: Option<Text8>) -> Result<(), Fail> {
+    TREE.set(alloc, space, Key::Number(key), value)?;
+    Ok(())
+}
+
+/// How many items there are.
+fn item_count(alloc: Global, space: &mut Memory) -> Result<usize, Fail> {
+    Ok(TREE.items(alloc, space)?.len())
+}
+
+/// Sets a key, and answers whether the reads came first, then the numbers, and the puts behind them, with as many reads
+/// as the way has objects, and fewer than as many more beside it.
+fn sets_in_order(alloc: Global, space: &mut Memory, key: i128) -> Result<bool, Fail> {
+    let height = height_at(alloc, space, key)?;
+    set_key(alloc, space, key, zero(alloc)?)?;
+    let reads = reads(space.log.as_slice());
+    Ok(in_order(space.log.as_slice()) && height <= reads && reads - height < height)
+}
+
+/// Whether all objects are as the table has them behind this step, where it has a row.
+fn is_as_wanted(alloc: Global, space: &Memory, order: usize, step: u8) -> Result<bool, Fail> {
+    for (other, mark, wanted) in GROWN {
+        if other == order && mark == step {
+            return Ok(all_shown(alloc, space)?.as_str() == wanted);
+        }
+    }
+    Ok(true)
+}
+
+/// Whether each of the numbers stands there.
+fn all_stand(alloc: Global, space: &mut Memory, order: usize) -> Result<bool, Fail> {
+    for step in 1..41u8 {
+        if TREE.get(alloc, space, &Key::Number(step_key(order, step)))? != zero(alloc)? {
+            return Ok(false);
+        }
+    }
+    Ok(true)
+}
+
+/// Whether a set to an equal value only reads the way, and one to another value puts the leaf besides.
+fn puts_what_differs(alloc: Global, space: &mut Memory) -> Result<bool, Fail> {
+    let height = height_at(alloc, space, 17)?;
+    set_key(alloc, space, 17, zero(alloc)?)?;
+    let equal = space.log.len() == height;
+    let one = Some(Text8::from_slice(alloc, b"K\x01".as_slice())?);
+    set_key(alloc, space, 17, one)?;
+    Ok(equal && space.log.len() > height && space.log.len() - height == height + 1)
+}
+
 #[test]
 fn trees_grow_as_the_rules_say(rt: HostRuntime) -> Result<(), Fail> {
     let alloc = rt.alloc();
-    let tree: Tree<2, 3> = Tree { root: Oid(1) };
     for order in 0..3 {
         let mut space = space_of(alloc, &[(1, records::EMPTY)])?;
         for step in 1..41u8 {
-            let key = step_key(order, step);
-            tree.get(alloc, &mut space, &Key::Number(key))?;
-            let height = space.log.len();
-            space.log = Vec::new(alloc);
-            tree.set(alloc, &mut space, Key::Number(key), zero(alloc)?)?;
-            assert!(rt; in_order(space.log.as_slice()));
-            let reads = reads(space.log.as_slice());
-            assert!(rt; height <= reads && reads - height < height);
-            assert_eq!(rt; tree.items(alloc, &mut space)?.len(), step as usize);
-            for (other, mark, wanted) in GROWN {
-                if other == order && mark == step {
-                    assert_eq!(rt; all_shown(alloc, &space)?.as_str(), wanted);
-                }
-            }
-            space.log = Vec::new(alloc);
+            assert!(rt;
+                sets_in_order(alloc, &mut space, step_key(order, step))?,
+                "{order} {step}"
+            );
+            assert_eq!(rt; item_count(alloc, &mut space)?, step as usize);
+            assert!(rt; is_as_wanted(alloc, &space, order, step)?, "{order} {step}");
         }
-        for step in 1..41u8 {
-            let key = Key::Number(step_key(order, step));
-            assert!(rt; tree.get(alloc, &mut space, &key)? == zero(alloc)?);
-        }
-        space.log = Vec::new(alloc);
-        tree.get(alloc, &mut space, &Key::Number(17))?;
-        let height = space.log.len();
-        space.log = Vec::new(alloc);
-        tree.set(alloc, &mut space, Key::Number(17), zero(alloc)?)?;
-        assert_eq!(rt; space.log.len(), height);
-        let one = Some(Text8::from_slice(alloc, b"K\x01".as_slice())?);
-        tree.set(alloc, &mut space, Key::Number(17), one)?;
-        assert!(rt; space.log.len() > height && space.log.len() - height == height + 1);
+        assert!(rt; all_stand(alloc, &mut space, order)?);
+        assert!(rt; puts_what_differs(alloc, &mut space)?);
     }
     Ok(())
 }

@@ -1,0 +1,9 @@
+pub mod Items
+pub mod Bottoms
+pub mod Rungs
+pub mod Sides
+pub mod Lasts
+pub mod Losses
+pub mod Plans
+pub mod Ends
+pub mod Types
