@@ -191,9 +191,7 @@ impl Pending {
     }
 
     /// The stores and the checks, in their orders. The one error is want of memory.
-    pub fn into_parts(
-        self,
-    ) -> Result<(ListOf<PendingStore>, ListOf<PendingCheck>), AllocError>
+    pub fn into_parts(self) -> Result<(ListOf<PendingStore>, ListOf<PendingCheck>), AllocError>
         ensures stores { IfOk result (λ parts. parts.0 ≡ self.stores) }
         ensures checks { IfOk result (λ parts. parts.1 ≡ self.checks) }
         ensures are { AreStores self.stores }
