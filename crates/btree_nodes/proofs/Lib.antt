@@ -23,4 +23,17 @@ pub mod Raising
 pub mod Rooting
 pub mod Setting
 pub mod Refusing
+pub mod Founds
 pub mod Results
+pub mod RemoveItems
+pub mod Wider
+pub mod Dropping
+pub mod Losing
+pub mod Shrinking
+pub mod Fading
+pub mod Relinking
+pub mod Befores
+pub mod Endings
+pub mod Leaving
+pub mod Removing
+pub mod Removed

@@ -17,8 +17,8 @@ use Rattle.btree_shapes.specs.declared.space.Call.TheVariants.{Read, Drew, Wrote
 use Rattle.btree_shapes.specs.declared.way.Found.{Found}
 use Rattle.btree_shapes.specs.Nodes.{Held, Holds, items_in, class_held, objects_of}
 use Rattle.btree_shapes.specs.Ways.{way_for, step_oid, IsRefusal, reads, reads_of}
-use Rattle.btree_shapes.specs.Shapes.{Shape, nodes_in, IsSound, IsLone, IsTree}
-use Rattle.btree_shapes.specs.Steps.{root_lone, root_bad_key}
+use Rattle.btree_shapes.specs.Shapes.{Shape, IsTree}
+use Rattle.btree_shapes.specs.Steps.{root_bad_key}
 use Rattle.btree_setting.specs.Types.{Bottom, Place, Put, Change, Terms, Plain, Task, Rung}
 use Rattle.btree_setting.specs.Types as place
 use Rattle.btree_setting.specs.declared.preparing.Sizes.{Sizes}
@@ -33,11 +33,10 @@ use Rattle.btree_setting.specs.Tasks.{fits_tree, set_way, end_of, rungs_above, s
 use Rattle.btree_setting.specs.Ends.{HasTask, HasNone, Sets}
 use Rattle.btree_nodes.specs.Drawn.{AreNew, drawn_in, DrawsNew}
 use Rattle.btree_nodes.specs.Settings.{IsSetAt, SetsIn}
-use Rattle.btree_nodes.proofs.Reaching.{held_as, items_kind}
 use Rattle.btree_nodes.proofs.SetItems.{set_kept, value_set, value_other}
-use Rattle.btree_nodes.proofs.Rungs.{PathIn, inner_of, nothing_left}
-use Rattle.btree_nodes.proofs.Paths.{LeadsIn, way_in}
+use Rattle.btree_nodes.proofs.Rungs.{PathIn, nothing_left}
 use Rattle.btree_nodes.proofs.Refusing.{kept_in, Safe, settle_safe}
+use Rattle.btree_nodes.proofs.Founds.{one_found, fits_true, lone_found, lone_way, shape_way, root_held}
 use Rattle.btree_nodes.proofs.Setting.{bottom_with, bottom_is, path_end, Done, shape_done, alone_done, lone_done}
 
 -- ---- what was drawn
@@ -107,42 +106,6 @@ none_bottom objects fits sizes key value found (Some bottom) e = absurd (with_no
 none_parts : (objects : ℕ → Held) (fits : Bool) (sizes : Sizes) (key : Key) (value : Option (List ℕ)) (way : Result Found TreeError) → task_by objects fits sizes key value way ≡ Ok None → (found : Found) × (way ≡ Ok found) × (bottom_of (end_of found) key value ≡ None)
 none_parts objects fits sizes key value (Err x) e = absurd cc
 none_parts objects fits sizes key value (Ok found) e = (found, refl, none_bottom objects fits sizes key value found (bottom_of (end_of found) key value) e)
-
--- ---- the way in a sound tree
-
-one_found : (way : Result Found TreeError) (a b : Found) → way ≡ Ok a → way ≡ Ok b → a ≡ b
-one_found (Ok f) a b p q = let x : f ≡ a = cc in let y : f ≡ b = cc in sym x ∙ y
-one_found (Err e) a b p q = absurd cc
-
-err_ok : (r : Result Found TreeError) (x : TreeError) (found : Found) → r ≡ Err x → r ≡ Ok found → ⊥
-err_ok r x found p q = cc
-
-fits_true : (fits : Bool) (key : Key) (objects : ℕ → Held) (root : ℕ) (class : Graph) (n : Node) (found : Found) → objects root ≡ Holds class n → way_for fits key objects root ≡ Ok found → fits ≡ true
-fits_true true key objects root class n found h w = refl
-fits_true false key objects root class n found h w = let bad = root_bad_key false key objects root class n h refl in absurd (err_ok (way_for false key objects root) BadKey found bad w)
-
-abbrev lone_found : ℕ → Graph → List Item → Found
-lone_found root class items = record { path = []; oid = root; class = class; node = node.Lone (record { items = items; next = None }) }
-
-lone_way : (objects : ℕ → Held) (root kind : ℕ) (items : List Item) (key : Key) → rank_of key ≡ kind → IsLone (nodes_in objects) root kind items → (class : Graph) × (objects root ≡ Holds class (node.Lone (record { items = items; next = None }))) × (way_for true key objects root ≡ Ok (lone_found root class items))
-lone_way objects root kind items key k i =
-    let held = held_as (objects root) (node.Lone (record { items = items; next = None })) i.stands in
-    (held.0, held.1, root_lone true key objects root held.0 (record { items = items; next = None }) held.1 (items_kind kind key items i.of_kind k))
-
-shape_way : (objects : ℕ → Held) (root kind h : ℕ) (s : Shape h) (key : Key) → rank_of key ≡ kind → IsSound (nodes_in objects) root kind h s → LeadsIn objects key h s (way_for true key objects root)
-shape_way objects root kind h s key k i = subst (λ o. LeadsIn objects key h s (way_for true key objects o)) i.root_is (way_in objects kind key k h (2 ^ 64) s [] i.height i.stands i.of_kind tt)
-
--- the object at the root
-root_held : (objects : ℕ → Held) (root kind : ℕ) (mapping : List Item) → IsTree objects root kind mapping → (class : Graph) × (n : Node) × (objects root ≡ Holds class n)
-root_held objects root kind mapping (inl i) = let held = held_as (objects root) (node.Lone (record { items = mapping; next = None })) i.stands in (held.0, node.Lone (record { items = mapping; next = None }), held.1)
-root_held objects root kind mapping (inr (zero, s, i, e)) =
-    let n : Node = node.Leaf (record { items = s.items; next = s.next }) in
-    let held = held_as (objects root) n (ap (nodes_in objects) (sym i.root_is) ∙ i.stands) in
-    (held.0, n, held.1)
-root_held objects root kind mapping (inr (suc h, s, i, e)) =
-    let n : Node = node.Inner (inner_of h s) in
-    let held = held_as (objects root) n (ap (nodes_in objects) (sym i.root_is) ∙ i.stands.0) in
-    (held.0, n, held.1)
 
 -- ---- nothing to change
 

@@ -10,6 +10,7 @@ ghost use Rattle.btree_shapes.specs.Ways.{Answers, OnlyReads, TookReads, family_
 ghost use Rattle.btree_nodes.specs.Visits.{items_under, range_under, items_within};
 ghost use Rattle.btree_nodes.specs.Drawn.{DrawsNew};
 ghost use Rattle.btree_nodes.specs.Settings.{SetsIn};
+ghost use Rattle.btree_nodes.specs.Removals.{RemovesIn};
 ghost use Rattle.btree_shapes.specs.Shapes.{Shape, IsSound, IsTree, nodes_in};
 ghost use Rattle.btree_setting.specs.Ends.{Sets};
 ghost use Rattle.btree_removing.specs.Ends.{Removes};
@@ -164,6 +165,9 @@ impl<const LEAF: usize, const INNER: usize> Tree<LEAF, INNER> {
     ///
     /// Refusals of the space, and want of memory, may come at each of its calls. What was put before is then the
     /// first of the puts.
+    ///
+    /// In a sound tree no object is missing or none of the tree. It is sound afterwards too, nothing stands under the
+    /// key, and what stands under the other keys stays.
     pub fn remove<S: Space>(
         &self,
         alloc: Global,
@@ -172,6 +176,9 @@ impl<const LEAF: usize, const INNER: usize> Tree<LEAF, INNER> {
     ) -> Result<bool, TreeError>
         ensures ways { Removes S.told (S.contents space.old) (S.contents space.new) (S.log space.old) (S.log space.new)
             self.now.root key.now result }
+        ensures sound { (kind : ℕ) (mapping : List Item)
+            → IsTree (objects_of (S.contents space.old) self.now.root) self.now.root kind mapping
+            → RemovesIn (S.contents space.old) (S.contents space.new) self.now.root kind mapping key.now result }
         ensures refusals { S.told → S.refusals space.new ≡ S.refusals space.old ++ handed_on result }
     {
         remove(alloc, space, self.root, key)
