@@ -61,6 +61,7 @@ made_later rules m n q r old mid new before after later step = record {
     cause = ends_later rules m n q step.stamp (record { reply = r; machine = step.left; ticks = step.ticks }) (counts_of old.store) (counts_of mid.store) (counts_of new.store) (outcome_of r) later step.made.cause;
     left = step.made.left;
     ticks = step.made.ticks;
+    failed_ticks = step.made.failed_ticks;
   };
   clock = step.clock;
   stands = step.stands;

@@ -57,6 +57,7 @@ ticked rules m n q r left stamp old new before after later is gives read stands 
     cause = ends_answered rules m n q stamp (record { reply = r; machine = left; ticks = true }) (counts_of old.store) (counts_of new.store) (outcome_of r) is (sym gives);
     left = sym (ap (machine_left rules m n q stamp) is ∙ ap (λ (s : Stepped). s.machine) gives);
     ticks = λ yes. subst (λ (b : Bool). IsTrue b) (sym (ap (λ (s : Stepped). s.ticks) gives)) yes;
+    failed_ticks = λ fault. sym (ap (λ (s : Stepped). s.ticks) gives);
   };
   clock = read;
   stands = stands;
@@ -153,7 +154,7 @@ hold_starved rules m n q texts changes old new before after votes later left sam
   ticks = false;
   clock = same;
   stands = left;
-  made = record { later = later; cause = record { allowed = votes.early; one = votes.memory }; left = refl; ticks = λ never. absurd cc };
+  made = record { later = later; cause = record { allowed = votes.early; one = votes.memory }; left = refl; ticks = λ never. absurd cc; failed_ticks = λ never. absurd cc };
 }
 
 -- ---- where the clock is read
@@ -251,6 +252,7 @@ hold_failed rules m n q texts changes kept newest tid store_error.StoreFault old
         );
         left = refl;
         ticks = λ yes. subst (λ (b : Bool). IsTrue b) (sym (ap (λ (s : Stepped). s.ticks) gives)) yes;
+        failed_ticks = λ fault. sym (ap (λ (s : Stepped). s.ticks) gives);
       };
     }
 hold_failed rules m n q texts changes kept newest tid store_error.ReadFault old new before after stands whole votes some is within front next later may broke keeps entries greatest sessions vote =
@@ -266,6 +268,7 @@ hold_failed rules m n q texts changes kept newest tid store_error.ReadFault old 
         cause = (record { allowed = votes.early; one = votes.reads }, may);
         left = refl;
         ticks = λ yes. subst (λ (b : Bool). IsTrue b) (sym (ap (λ (s : Stepped). s.ticks) gives)) yes;
+        failed_ticks = λ never. absurd cc;
       };
     }
 hold_failed rules m n q texts changes kept newest tid store_error.Memory old new before after stands whole votes some is within front next later may broke keeps entries greatest sessions vote =
@@ -281,6 +284,7 @@ hold_failed rules m n q texts changes kept newest tid store_error.Memory old new
         cause = record { allowed = votes.early; one = votes.memory };
         left = refl;
         ticks = λ yes. subst (λ (b : Bool). IsTrue b) (sym (ap (λ (s : Stepped). s.ticks) gives)) yes;
+        failed_ticks = λ never. absurd cc;
       };
     }
 

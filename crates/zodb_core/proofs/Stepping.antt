@@ -65,6 +65,7 @@ answered rules m n q r left old new stamps later is gives stands = record {
     cause = ends_answered rules m n q 0 (replied left r) (counts_of old.store) (counts_of new.store) (outcome_of r) is (sym gives);
     left = sym (ap (machine_left rules m n q 0) is ∙ ap (λ (s : Stepped). s.machine) gives);
     ticks = λ never. absurd cc;
+    failed_ticks = λ fault. sym (ap (λ (s : Stepped). s.ticks) gives);
   };
   clock = refl;
   stands = stands;
@@ -80,7 +81,7 @@ reading_failed rules m n q old new stamps later may rose stands = record {
   ticks = false;
   clock = refl;
   stands = stands;
-  made = record { later = later; cause = (may, rose); left = refl; ticks = λ never. absurd cc };
+  made = record { later = later; cause = (may, rose); left = refl; ticks = λ never. absurd cc; failed_ticks = λ never. absurd cc };
 }
 
 -- there was no memory
@@ -93,7 +94,7 @@ starved rules m n q old new stamps later may stands = record {
   ticks = false;
   clock = refl;
   stands = stands;
-  made = record { later = later; cause = may; left = refl; ticks = λ never. absurd cc };
+  made = record { later = later; cause = may; left = refl; ticks = λ never. absurd cc; failed_ticks = λ never. absurd cc };
 }
 
 -- an error of a read

@@ -115,7 +115,7 @@ pub switch_failed : {R F : Type 0} (rules : Rules) (m : Machine) (n : ℕ) (q : 
     → old.vote ≡ None → new.journal ≡ old.journal → new.greatest ≡ old.greatest → new.sessions ≡ old.sessions → new.vote ≡ old.vote
     → MakesStep rules m n q (fault_reply e) old new stamps stamps
 switch_failed rules m n q t keep store_error.StoreFault old new stamps stands whole packs later may broke still list free entries greatest sessions vote =
-    store_failed rules m n q old new stamps later packs.early (packs.changes (step_of rules m n q 0) ∙ ap (λ (s : Stepped). is_packed s.reply) (packs.step 0)) may
+    store_failed rules m n q old new stamps later packs.early (packs.changes (step_of rules m n q 0) ∙ ap (λ (s : Stepped). is_packed s.reply) (packs.step 0)) (ap (λ (s : Stepped). s.ticks) (packs.step 0)) may
     (dropped_failed m old new stands whole (broke refl) entries greatest sessions)
 switch_failed rules m n q t keep store_error.ReadFault old new stamps stands whole packs later may broke still list free entries greatest sessions vote =
     reading_failed rules m n q old new stamps later (record { allowed = packs.early; one = packs.reads }) may (stands_unpacked m old new stands whole still list free entries greatest sessions vote)

@@ -220,19 +220,29 @@ pub held_writes : {R F : Type 0} (m : Machine) (n : ℕ) (hub : HubState R F) �
     → holds_writes n m.vote ≡ true
 held_writes m n hub stands whole held some = own_writes n hub.store.voted m.vote some (vote_held m n hub stands whole held)
 
--- ---- a step that failed in the store
+-- ---- a step that failed in the store, without the clock
+
+still_unless : (o : Option Refusal) (m : Machine) (made : Stepped) → made.ticks ≡ false → (unless_early o m made).ticks ≡ false
+still_unless None m made still = still
+still_unless (Some r) m made still = refl
+
+abort_still : (rules : Rules) (m : Machine) (n stamp : ℕ) → (step_of rules m n request.Abort stamp).ticks ≡ false
+abort_still rules m n stamp = still_unless (early_refusal m n request.Abort) m (request_step rules m n request.Abort stamp) refl
+
+close_still : (rules : Rules) (m : Machine) (n stamp : ℕ) → (step_of rules m n request.Close stamp).ticks ≡ false
+close_still rules m n stamp = still_unless (early_refusal m n request.Close) m (request_step rules m n request.Close stamp) refl
 
 pub store_failed : {R F : Type 0} (rules : Rules) (m : Machine) (n : ℕ) (q : Request) (old new : HubState R F) (stamps : Option (List Stamp))
     → AreLaterCounts (counts_of old.store) (counts_of new.store) → early_refusal m n q ≡ None → changes_store m n q (step_of rules m n q 0) ≡ true
-    → Rose old.store.faults new.store.faults → StandsForMachine new (failed m)
+    → (step_of rules m n q 0).ticks ≡ false → Rose old.store.faults new.store.faults → StandsForMachine new (failed m)
     → MakesStep rules m n q (reply.Refused refusal.StoreFault) old new stamps stamps
-store_failed rules m n q old new stamps later early changes rose stands = record {
+store_failed rules m n q old new stamps later early changes still rose stands = record {
   stamp = 0;
   left = failed m;
   ticks = false;
   clock = refl;
   stands = stands;
-  made = record { later = later; cause = (record { allowed = early; one = changes }, rose); left = refl; ticks = λ never. absurd cc };
+  made = record { later = later; cause = (record { allowed = early; one = changes }, rose); left = refl; ticks = λ never. absurd cc; failed_ticks = λ fault. sym still };
 }
 
 open_in : {R F : Type 0} (m : Machine) (n : ℕ) (hub : HubState R F) → StandsForMachine hub m → hub.store.broken ≡ false → is_open_in hub.sessions n ≡ true → is_open_in m.sessions n ≡ true
@@ -253,7 +263,7 @@ pub abort_failed : {R F : Type 0} (rules : Rules) (m : Machine) (n : ℕ) (old n
     → holds_writes n m.vote ≡ true → Rose old.store.faults new.store.faults
     → StandsForMachine new (failed m) → MakesStep rules m n request.Abort (reply.Refused refusal.StoreFault) old new stamps stamps
 abort_failed rules m n old new stamps stands whole is_open later writes rose left =
-    store_failed rules m n request.Abort old new stamps later (not_early m n request.Abort old.sessions (sessions_whole m old stands whole) is_open) writes rose left
+    store_failed rules m n request.Abort old new stamps later (not_early m n request.Abort old.sessions (sessions_whole m old stands whole) is_open) writes (abort_still rules m n 0) rose left
 
 -- ---- close
 
@@ -287,7 +297,7 @@ pub close_failed : {R F : Type 0} (rules : Rules) (m : Machine) (n : ℕ) (old n
     → holds_writes n m.vote ≡ true → Rose old.store.faults new.store.faults
     → StandsForMachine new (failed m) → MakesStep rules m n request.Close (reply.Refused refusal.StoreFault) old new stamps stamps
 close_failed rules m n old new stamps stands whole is_open later writes rose left =
-    store_failed rules m n request.Close old new stamps later (not_early m n request.Close old.sessions (sessions_whole m old stands whole) is_open) writes rose left
+    store_failed rules m n request.Close old new stamps later (not_early m n request.Close old.sessions (sessions_whole m old stands whole) is_open) writes (close_still rules m n 0) rose left
 
 -- the same where the log is that of another value
 pub moments_same_as : {R F : Type 0} (stands_for : List ℕ → List Transaction → Type 0) (rules : Rules) (m : Machine) (n : ℕ) (q : Request) (hub : HubState R F) (mid log : List Event)

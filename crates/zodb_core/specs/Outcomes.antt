@@ -120,10 +120,13 @@ EndsFor rules m n q stamp made before now NoMemory = MayGoWrong m n q (takes_mem
 EndsFor rules m n q stamp made before now StoreFailed = MayGoWrong m n q (changes_store m n q (step_of rules m n q stamp)) × Rose before.others now.others
 
 -- A step that was made, with the counts of faults before and after it. It is as the machine says but for this: where the store is read, reading may
--- have failed; where memory is taken, it may have run out; where the store is changed, it may have failed. The clock is then read, or not, where
--- the machine would have read it.
+-- have failed; where memory is taken, it may have run out; where the store is changed, it may have failed. The clock is read nowhere but where the
+-- machine reads it (`ticks`). A step that is answered has read it exactly there, and so has one whose store failed (`failed_ticks`): a vote has
+-- read it by then, while a finish, an abort, a close or a pack hasn't. Where reading failed or memory ran out it may have been read or not, since
+-- a vote reads and takes memory before it comes to the clock, and once more when the store votes behind it.
 pub record IsStepMade (rules : Rules) (m : Machine) (n : ℕ) (q : Request) (stamp : ℕ) (made : Stepped) (before now : FaultCounts) : Type 0 where
   pub later : AreLaterCounts before now
   pub cause : EndsFor rules m n q stamp made before now (outcome_of made.reply)
   pub left : made.machine ≡ machine_left rules m n q stamp (outcome_of made.reply)
   pub ticks : IsTrue made.ticks → IsTrue (step_of rules m n q stamp).ticks
+  pub failed_ticks : outcome_of made.reply ≡ StoreFailed → made.ticks ≡ (step_of rules m n q stamp).ticks
