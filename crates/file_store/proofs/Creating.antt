@@ -14,7 +14,8 @@ use Rattle.fs_records.specs.Places.{PlacesKept, Kept, IsIndexOf, places_in}
 use Rattle.fs_records.specs.StatusLaws.{status_set}
 use Rattle.fs_records.specs.WriteLaws.{block_stands}
 use Rattle.fs_records.specs.Writing.{IsNext, block_of}
-use Rattle.file_store.specs.First.{as_new, file_with}
+use Rattle.pack_copy.specs.Renewing.{anew}
+use Rattle.file_store.specs.First.{file_with}
 use Rattle.fs_records.specs.PlacingLaws.{text_long}
 
 -- what a transaction's text says that is written as the first one
@@ -25,9 +26,9 @@ positive : (n : ℕ) → 0 < tid_after 0 n
 positive zero = omega arith
 positive (suc n) = rw (lt-ltb 0 (suc n) (omega arith)) (omega arith)
 
-votable : (n : ℕ) → IsVotable [] (as_new (first_transaction n))
+votable : (n : ℕ) → IsVotable [] (anew (first_transaction n))
 votable n =
-    let new = as_new (first_transaction n) in
+    let new = anew (first_transaction n) in
     record { later = positive n; sound = All-cons (λ c. NamesRevision [] c.oid c.content) _ [] tt (All-nil (λ c. NamesRevision [] c.oid c.content)) }
 
 nothing_begins : Begins magic file_start
@@ -40,16 +41,16 @@ one_listed b = refl
 pub text_behind_16 : (status : ℕ) (kept : Kept) (new : NewTransaction) → 16 < length (block_text 4 (block_of status kept.entries new))
 text_behind_16 status kept new = omega (arith, text_long status kept.entries 4 new)
 
-pub committed_is : (t : Transaction) (text block : List ℕ) → text ≡ block_text 4 (block_of 99 [] (as_new t)) → block ≡ set text 16 32 → magic ++ block ≡ file_with t
-committed_is t text block text_is is = ap (λ (x : List ℕ). magic ++ x) (is ∙ ap (λ (x : List ℕ). set x 16 32) text_is ∙ status_set 4 (block_of 99 [] (as_new t)) 32)
+pub committed_is : (t : Transaction) (text block : List ℕ) → text ≡ block_text 4 (block_of 99 [] (anew t)) → block ≡ set text 16 32 → magic ++ block ≡ file_with t
+committed_is t text block text_is is = ap (λ (x : List ℕ). magic ++ x) (is ∙ ap (λ (x : List ℕ). set x 16 32) text_is ∙ status_set 4 (block_of 99 [] (anew t)) 32)
 
 -- an index of nothing is that of a file's start
 nothing_indexed : (kept : Kept) → kept.entries ≡ [] → kept.transactions ≡ [] → IsIndexOf file_start kept
 nothing_indexed kept entries transactions = record { records = λ oid. ap (λ (es : List (ℕ × PlacesKept)). places_in es oid) entries; transactions = transactions }
 
-pub first_stands : (n : ℕ) (kept : Kept) (file : List ℕ) → kept.entries ≡ [] → kept.transactions ≡ [] → Nexts kept (as_new (first_transaction n)) → file ≡ file_with (first_transaction n) → StandsFor file (first_transaction n ∷ []) None
+pub first_stands : (n : ℕ) (kept : Kept) (file : List ℕ) → kept.entries ≡ [] → kept.transactions ≡ [] → Nexts kept (anew (first_transaction n)) → file ≡ file_with (first_transaction n) → StandsFor file (first_transaction n ∷ []) None
 first_stands n kept file entries transactions next is =
-    let new = as_new (first_transaction n) in
+    let new = anew (first_transaction n) in
     let b = block_of 32 [] new in
     let here : IsNext file_start b (voted_of [] new) =
     subst (λ (es : List (ℕ × PlacesKept)). IsNext file_start (block_of 32 es new) (voted_of [] new)) entries (next magic file_start nothing_begins (nothing_indexed kept entries transactions) refl (votable n)) in

@@ -20,6 +20,7 @@ use Rattle.fs_records.specs.Places.{IsIndexOf, places_in, placed_of, places_of, 
 use Rattle.fs_records.specs.StatusLaws.{block_status, status_set}
 use Rattle.fs_records.specs.WriteLaws.{block_stands, vote_stands, without_tail_stands, length-block_text}
 use Rattle.fs_records.specs.Writing.{IsNext, block_of}
+use Rattle.pack_copy.specs.CopiedLaws.{append_bytes}
 use Rattle.file_store.specs.declared.staged.Staged.{Staged}
 use Rattle.file_store.specs.Kept.{IsKept, IsVotedIn, done, voted_in, nothing, cut_of, length_by}
 use Rattle.file_store.specs.KeptLaws.{kept_stands, list_read}
@@ -28,11 +29,6 @@ use Rattle.file_store.specs.Preparing.{IsPrepared, begin_of}
 use Rattle.file_store.specs.Staging.{StagedKept, IsWith}
 
 -- ---- bytes
-
-append_bytes : (xs ys : List ℕ) → AreBytes xs → AreBytes ys → AreBytes (xs ++ ys)
-append_bytes [] ys hx hy k = hy k
-append_bytes (x ∷ xs) ys hx hy zero = hx 0
-append_bytes (x ∷ xs) ys hx hy (suc k) = append_bytes xs ys (λ j. hx (suc j)) hy k
 
 set_bytes : (xs : List ℕ) (i v : ℕ) → v < 256 → AreBytes xs → AreBytes (set xs i v)
 set_bytes [] i v small h k = h k

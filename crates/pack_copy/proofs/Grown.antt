@@ -20,13 +20,13 @@ use Rattle.fs_records.specs.WriteLaws.{block_stands, length-block_text}
 use Rattle.fs_records.specs.Writing.{IsNext, block_of}
 use Rattle.fs_recovery.specs.Numbers.{AreNumbersOf}
 use Rattle.pack_copy.specs.declared.ready.Ready.{Ready}
-use Rattle.pack_copy.specs.CopiedLaws.{list_is}
+use Rattle.pack_copy.specs.CopiedLaws.{append_bytes, list_is}
 use Rattle.pack_copy.specs.Copying.{CopyKept, IsCopied}
 use Rattle.pack_copy.specs.Growing.{IsReady, IsSame, IsWith}
 use Rattle.pack_copy.specs.Renewing.{anew, status_of}
 use Rattle.pack_copy.specs.InFull.{full_block}
 use Rattle.pack_copy.proofs.Wholes.{after_one, block_same, file_one}
-use Rattle.pack_copy.proofs.Anew.{StandsThere, anew_votable, oids_anew, stands_there}
+use Rattle.pack_copy.proofs.Renewed.{StandsThere, anew_votable, oids_anew, stands_there}
 
 -- ---- bytes
 
@@ -35,11 +35,6 @@ pub are_bytes : (xs : List ℕ) → All (λ byte. byte < 256) xs → AreBytes xs
 are_bytes [] all k = omega arith
 are_bytes (x ∷ xs) all zero = All-head (λ byte. byte < 256) x xs all
 are_bytes (x ∷ xs) all (suc k) = are_bytes xs (All-tail (λ byte. byte < 256) x xs all) k
-
-append_bytes : (xs ys : List ℕ) → AreBytes xs → AreBytes ys → AreBytes (xs ++ ys)
-append_bytes [] ys hx hy k = hy k
-append_bytes (x ∷ xs) ys hx hy zero = hx 0
-append_bytes (x ∷ xs) ys hx hy (suc k) = append_bytes xs ys (λ j. hx (suc j)) hy k
 
 -- ---- what is read of bytes
 

@@ -22,7 +22,7 @@ use Rattle.pack_copy.specs.Copying.{CopyKept, opened_of}
 use Rattle.fs_reading.specs.Formed.{IsFormed}
 use Rattle.pack_copy.specs.Growing.{IsReady, IsSame, IsWith, StandsNext}
 use Rattle.pack_copy.specs.Renewing.{anew}
-use Rattle.pack_copy.proofs.Anew.{oids_anew}
+use Rattle.pack_copy.proofs.Renewed.{oids_anew}
 
 newest_of : List Place → ℕ
 newest_of ps = option_map_or (λ (p : Place). p.serial) (last_or None ps) 0

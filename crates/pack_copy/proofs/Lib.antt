@@ -1,5 +1,5 @@
 pub mod Searches
-pub mod Anew
+pub mod Renewed
 pub mod Wholes
 pub mod Grown
 pub mod Lefts

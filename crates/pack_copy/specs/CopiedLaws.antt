@@ -1,5 +1,5 @@
 -- What the bytes of Side stand for, for the proofs of those who keep a copy.
-use Rattle.std.proofs.Common.{◌≡◌, ℕ, ◌^◌, ◌<◌, List, [], length, Option, None, sym, ap, subst, ◌∙◌, arith}
+use Rattle.std.proofs.Common.{◌≡◌, ℕ, zero, suc, ◌^◌, ◌<◌, List, [], ◌∷◌, ◌++◌, length, Option, None, sym, ap, subst, ◌∙◌, arith}
 use Rattle.std.specs.Option.{option_map_or}
 use Rattle.zb_base.specs.Bytes.{AreBytes}
 use Rattle.zb_model.specs.declared.data.Transaction.{Transaction}
@@ -11,6 +11,12 @@ use Rattle.fs_records.specs.Listed.{listed, reading_is}
 use Rattle.fs_recovery.specs.Numbers.{AreNumbersOf}
 use Rattle.pack_copy.specs.Copying.{CopyKept, IsCopied}
 use Rattle.pack_copy.specs.InFull.{full_file}
+
+-- bytes behind bytes
+pub append_bytes : (xs ys : List ℕ) → AreBytes xs → AreBytes ys → AreBytes (xs ++ ys)
+append_bytes [] ys hx hy k = hy k
+append_bytes (x ∷ xs) ys hx hy zero = hx 0
+append_bytes (x ∷ xs) ys hx hy (suc k) = append_bytes xs ys (λ j. hx (suc j)) hy k
 
 -- the list of bytes that stand for what was reached
 pub list_is : (bytes : List ℕ) (s : Reached) → AreBytes bytes → length bytes < 2 ^ 64 → IsReadAs bytes s None → listed bytes ≡ s.list

@@ -19,7 +19,7 @@ pub record IsReady (c : CopyKept) (new : NewTransaction) (status : ℕ) (ready :
   pub limit : c.end + length ready.text < 2 ^ 63
 
 -- there is room for its places and its numbers
-pub record HasRoom (c : CopyKept) (ready : Ready) : Type 0 where
+pub record HasRoomToKeep (c : CopyKept) (ready : Ready) : Type 0 where
   pub places : HasRoomFor c.index ready.records
   pub tally : 0 < c.numbers.room
   pub total : total_of c.numbers.tallies + length ready.records < 2 ^ 64

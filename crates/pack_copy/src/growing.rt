@@ -16,7 +16,7 @@ ghost use Rattle.fs_recovery.specs.Opens.{newest_kept};
 ghost use Rattle.fs_reading.specs.Formed.{IsFormed};
 ghost use Rattle.pack_copy.specs.Copying.{IsCopied};
 ghost use Rattle.pack_copy.specs.Counting.{IsCopyCounted};
-ghost use Rattle.pack_copy.specs.Growing.{HasRoom, IsReady, IsSame, IsWith, StandsNext};
+ghost use Rattle.pack_copy.specs.Growing.{HasRoomToKeep, IsReady, IsSame, IsWith, StandsNext};
 
 use crate::ready::Ready;
 use crate::renewing::{anew, status_of};
@@ -75,7 +75,7 @@ impl CopyState {
         ensures block { IfOk result (λ _. (bytes : List ℕ) (s : Reached) → Begins bytes s
             → IsIndexOf s self.old.index → s.end ≡ self.old.end → IsVotable s.list new.now
             → IsNext s (block_of 32 self.old.index.entries new.now) (voted_of s.list new.now)) }
-        ensures room { IfOk result (λ ready. HasRoom self.new ready) }
+        ensures room { IfOk result (λ ready. HasRoomToKeep self.new ready) }
         ensures same { IsSame self.old self.new }
     {
         let at = self.end;
@@ -96,7 +96,7 @@ impl CopyState {
     /// Keeps the places and the numbers of a transaction that now stands behind the file on Side, for
     /// which room was made. It takes no memory.
     fn keep(&mut self, tid: Tid, packed: bool, ready: &Ready)
-        requires room { HasRoom self.old ready.now }
+        requires room { HasRoomToKeep self.old ready.now }
         requires above { newest_kept self.old.index ≤ tid }
         requires bound { tid < 2 ^ 64 - 1 }
         requires next { StandsNext self.old tid ready.now }

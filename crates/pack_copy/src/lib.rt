@@ -11,6 +11,7 @@ mod state;
 mod turn;
 
 pub use beginning::begin;
+pub use renewing::anew;
 pub use state::{CopyState, changes_of};
 pub use turn::{copy_rest, copy_turn};
 

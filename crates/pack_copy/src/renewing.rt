@@ -54,8 +54,9 @@ fn changes_anew(alloc: Global, changes: ListOf<Change>) -> Result<ListOf<NewChan
     Ok(ListOf::from_vec(new))
 }
 
-/// A transaction with the same changes, each content in full. The one error is want of memory.
-pub(crate) fn anew(alloc: Global, transaction: Transaction) -> Result<NewTransaction, AllocError>
+/// A transaction as a new one with the same changes, each content in full. The one error is want of
+/// memory.
+pub fn anew(alloc: Global, transaction: Transaction) -> Result<NewTransaction, AllocError>
     ensures value { IfOk result (λ new. new ≡ anew transaction) }
 {
     let Transaction {

@@ -75,7 +75,7 @@ fn read_at<V: Volume>(
 const CHANGES_A_TURN: u64 = 64;
 
 /// How far a copy goes on.
-#[derive(Clone, Copy, PartialEq, Eq)]
+#[derive(Clone, Copy)]
 enum Extent {
     /// Until that many changes more are copied than these.
     Turn(u64),

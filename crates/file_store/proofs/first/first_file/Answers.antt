@@ -4,20 +4,21 @@ use Rattle.zb_model.specs.declared.new_transaction.NewTransaction.{NewTransactio
 use Rattle.zb_model.specs.Creation.{first_transaction as first_by}
 use Rattle.fs_records.specs.Blocks.{block_text}
 use Rattle.fs_records.specs.Writing.{block_of}
-use Rattle.file_store.specs.First.{as_new, file_with}
+use Rattle.pack_copy.specs.Renewing.{anew}
+use Rattle.file_store.specs.First.{file_with}
 use Rattle.file_store.proofs.Creating.{Nexts, text_behind_16, committed_is, first_stands}
 use Rattle.file_store.proofs.first.first_file.Goals as goal
 use Rattle.fs_records.specs.Places.{PlacesKept}
 
 -- what is written is the first transaction
-new_is : (c : goal.After-drop-new-5) → c.in_ok-new.new ≡ as_new (first_by (stamp_number c.args.clock))
-new_is c = c.in_ok-new.ensures ∙ ap as_new c.in_ok-first_transaction.ensures.value
+new_is : (c : goal.After-drop-new-5) → c.in_ok-new.new ≡ anew (first_by (stamp_number c.args.clock))
+new_is c = c.in_ok-new.ensures.value ∙ ap anew c.in_ok-first_transaction.ensures.value
 
-text_is : (c : goal.After-drop-new-5) → c.in_ok-vote.vote ≡ block_text 4 (block_of 99 [] (as_new (first_by (stamp_number c.args.clock))))
+text_is : (c : goal.After-drop-new-5) → c.in_ok-vote.vote ≡ block_text 4 (block_of 99 [] (anew (first_by (stamp_number c.args.clock))))
 text_is c =
     c.in_ok-vote.ensures.text
     ∙ ap (λ (n : NewTransaction). block_text 4 (block_of 99 c.new-index.result.entries n)) (new_is c)
-    ∙ ap (λ (es : List (ℕ × PlacesKept)). block_text 4 (block_of 99 es (as_new (first_by (stamp_number c.args.clock))))) c.new-index.ensures.objects
+    ∙ ap (λ (es : List (ℕ × PlacesKept)). block_text 4 (block_of 99 es (anew (first_by (stamp_number c.args.clock))))) c.new-index.ensures.objects
 
 file_is : (c : goal.After-drop-new-5) → c.in_ok-file.file ≡ file_with (first_by (stamp_number c.args.clock))
 file_is c = c.in_ok-file.ensures ∙ committed_is (first_by (stamp_number c.args.clock)) c.in_ok-vote.vote _ (text_is c) refl

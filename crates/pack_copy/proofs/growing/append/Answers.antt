@@ -7,7 +7,7 @@ use Rattle.zb_model.specs.declared.new_transaction.NewTransaction.{NewTransactio
 use Rattle.zb_model.specs.Voting.{IsWellFormed}
 use Rattle.pack_copy.specs.Growing.{IsReady}
 use Rattle.pack_copy.specs.Renewing.{anew, status_of}
-use Rattle.pack_copy.proofs.Anew.{anew_formed}
+use Rattle.pack_copy.proofs.Renewed.{anew_formed}
 use Rattle.pack_copy.proofs.Grown.{Grown, Nexts, are_bytes, grown}
 use Rattle.pack_copy.proofs.Keeping.{newest_with, stands_next}
 use Rattle.pack_copy.proofs.growing.append.Goals as goal
