@@ -1,9 +1,9 @@
 -- A refusal has its cause.
-use Rattle.std.proofs.Common.{◌≡◌, ℕ, ◌≤◌, Bool, true, false, List, [], ◌∷◌, ◌++◌, length, nat_lt, if◌then◌else◌, not, Option, Some, None, Result, Ok, Err, refl, sym, ap, subst, ◌∙◌, arith}
+use Rattle.std.proofs.Common.{◌≡◌, ℕ, ◌≤◌, Bool, true, false, List, [], ◌∷◌, ◌++◌, length, nat_lt, if◌then◌else◌, not, Option, Some, None, Result, Ok, Err, refl, sym, ap, subst, ◌∙◌, arith, inl, inr}
 use Rattle.std.specs.Option.{option_map, option_or}
 use Rattle.std.specs.Prelude.{slice_get}
 use Rattle.std.proofs.lemmas.Bool.{ltb-false}
-use Rattle.zb_base.specs.Counts.{rose_before}
+use Rattle.zb_base.specs.Counts.{Rose, rose_before}
 use Rattle.zb_model.specs.declared.pending.PendingStore.{PendingStore}
 use Rattle.zb_model.specs.declared.refusal.Refusal.{Refusal}
 use Rattle.zb_model.specs.declared.refusal.Refusal.TheVariants as refusal
@@ -11,19 +11,28 @@ use Rattle.zb_script.specs.declared.answer.Answer.TheVariants as answer
 use Rattle.zb_script.specs.declared.line.Line.{Line}
 use Rattle.zb_script.specs.declared.line.Line.TheVariants as line
 use Rattle.zb_script.specs.declared.line.Turn.{Turn}
-use Rattle.commit_phases.specs.Pending.{excess_with, pending_of}
+use Rattle.zb_script.specs.declared.tree_call.TreeCall.{TreeCall}
+use Rattle.commit_phases.specs.Pending.{PendingChanges, excess_with, pending_of}
+use Rattle.connection_view.specs.Connections.{stores_after}
+use Rattle.tree_calls.specs.declared.attempt.Made.{Made}
+use Rattle.tree_calls.specs.declared.operation.TreeAnswer.{TreeAnswer}
+use Rattle.tree_calls.specs.declared.operation.TreeAnswer.TheVariants as answered
 use Rattle.zodb_core.specs.declared.reply.Reply.{Reply}
 use Rattle.zodb_core.specs.declared.reply.Reply.TheVariants as reply
 use Rattle.zodb_core.specs.declared.request.Request.{Request}
-use Rattle.zodb_core.specs.Machine.{Rules, is_open_in, with_session}
-use Rattle.zodb_core.specs.Outcomes.{Answered, EndsFor, NoMemory, ReadingFailed, StepOutcome, StoreFailed, outcome_of}
+use Rattle.zodb_core.specs.Machine.{Machine, Rules, is_open_in, with_session}
+use Rattle.zodb_core.specs.Outcomes.{Answered, EndsFor, FaultCounts, NoMemory, ReadingFailed, StepOutcome, StoreFailed, outcome_of}
 use Rattle.zodb_core.specs.Steps.{Stepped, refuse_if}
+use Rattle.client_turns.specs.declared.errors.TurnError.TheVariants as turn_error
 use Rattle.client_turns.specs.declared.got.Got.{Got}
 use Rattle.client_turns.specs.Clients.{Client, Moment, OpenTransaction, changes_of, place_of_client}
-use Rattle.client_turns.specs.Laws.{HasOpen, IsNamed, IsRefusedFor, RefusalsHaveTheirCause, by_connection, by_length, by_reading, by_step, by_view, crowded, unnamed}
-use Rattle.client_turns.specs.Lines.{answer_of, data_of, end_in, is_committed, object_of, put, request_of, store_unless}
+use Rattle.client_turns.specs.Laws.{HasOpen, IsNamed, IsRefusedFor, RefusalsHaveTheirCause, by_call, by_connection, by_length, by_lengths, by_number, by_reading, by_savepoint, by_step, by_view, by_vote, crowded, unnamed}
+use Rattle.client_turns.specs.DrawLaws.{draws_drawn, new_reply}
+use Rattle.client_turns.specs.Lines.{Changed, answer_of, data_of, end_in, is_committed, object_of, put, request_of, rolled_to, store_unless}
 use Rattle.client_turns.specs.Reads.{EndsReading}
 use Rattle.client_turns.specs.Refusing.{connection_refusal, line_refusal, opens_session}
+use Rattle.client_turns.specs.Trees.{CallEnds, IsTreeEnd, IsTreeLine, IsUncalled, all_stored, answer_told, by_draw, by_read, by_tree, by_want, is_missing, operation_of, puts_stored}
+use Rattle.client_turns.specs.Views.{View}
 use Rattle.client_turns.specs.Turns.{IsClosed, IsClosing, IsGet, IsLine, IsLineOf, IsLineTaken, IsLineUnless, IsOpening, IsOwnLine, IsPut, IsStepLine, IsTold, IsWithin, Opening}
 use Rattle.client_turns.proofs.Data.{asks_no_load, is_loaded, step_unread}
 
@@ -157,6 +166,11 @@ later_refused rules m t why x y up (by_connection c named is) = by_connection c 
 later_refused rules m t why x y up (by_step c q stamp named asks is) = by_step c q stamp named asks is
 later_refused rules m t why x y up (by_view o oid has is) = by_view o oid has is
 later_refused rules m t why x y up (by_length o p n has excess is) = by_length o p n has excess is
+later_refused rules m t why x y up (by_call o objects root call numbers has said sees is) = by_call o objects root call numbers has said sees is
+later_refused rules m t why x y up (by_number c rules' b stamp named raised is) = by_number c rules' b stamp named raised is
+later_refused rules m t why x y up (by_vote o has voted is) = by_vote o has voted is
+later_refused rules m t why x y up (by_lengths o puts n has long is) = by_lengths o puts n has long is
+later_refused rules m t why x y up (by_savepoint o number has none is) = by_savepoint o number has none is
 later_refused rules m t why x y up (by_reading is rose) = by_reading is (rose_before m.counts.reads x.counts.reads y.counts.reads rose up)
 
 -- ---- steps
@@ -331,28 +345,130 @@ putting_refused rules m now t at c o oid bytes why (Some p) has whole is =
 putting_refused rules m now t at c o oid bytes why None has whole is =
     later_refused rules m t why is.1 now (omega (arith, ap (λ (x : Moment). x.counts.reads) is.3.1)) (put_refused rules m is.1 t o oid bytes why is.0 has is.2.ends whole is.3.0)
 
-within_refused : (rules : Rules) (m now : Moment) (t : Turn) (at : ℕ) (c : Client) (o : OpenTransaction) (l : Line) (why : Refusal) → HasOpen m t.client o → end_in why ≡ None → opens_session l ≡ false → request_of (Some o.changes) l ≡ None
+rolled_refused : (rules : Rules) (m now : Moment) (t : Turn) (o : OpenTransaction) (number : ℕ) (why : Refusal) (p : Option PendingChanges) → HasOpen m t.client o → slice_get o.changes.savepoints number ≡ p
+    → answer.Refused why ≡ (rolled_to o.changes number p).answer → IsRefusedFor rules m t why now
+rolled_refused rules m now t o number why None has none is = by_savepoint o number has none (same_refusal why (refusal.NoSavepoint number) is)
+rolled_refused rules m now t o number why (Some p) has none is = absurd cc
+
+-- a read that didn't find the object missing, and that the run goes on behind, failed
+reading_failed : (m : Machine) (v : View) (oid : ℕ) (before now : FaultCounts) (why : Refusal) → is_missing why ≡ false → EndsReading m v oid before now (Err why) → end_in why ≡ None → (why ≡ refusal.ReadFault) × Rose before.reads now.reads
+reading_failed m v oid before now refusal.TidsSpent found ends whole = absurd ends
+reading_failed m v oid before now refusal.StoreFault found ends whole = absurd ends
+reading_failed m v oid before now (refusal.Conflict a0 a1 a2 a3) found ends whole = absurd ends
+reading_failed m v oid before now (refusal.ReadConflict a0 a1 a2) found ends whole = absurd ends
+reading_failed m v oid before now (refusal.TooLong a0) found ends whole = absurd ends
+reading_failed m v oid before now (refusal.UndoUnknown a0) found ends whole = absurd ends
+reading_failed m v oid before now (refusal.UndoPacked a0) found ends whole = absurd ends
+reading_failed m v oid before now (refusal.UndoConflict a0 a1) found ends whole = absurd ends
+reading_failed m v oid before now (refusal.Overtaken a0 a1) found ends whole = absurd ends
+reading_failed m v oid before now (refusal.Unreadable a0 a1) found ends whole = absurd ends
+reading_failed m v oid before now (refusal.PackedAlready a0) found ends whole = absurd ends
+reading_failed m v oid before now (refusal.Missing a0 a1) found ends whole = absurd cc
+reading_failed m v oid before now refusal.NoTransaction found ends whole = absurd ends
+reading_failed m v oid before now refusal.InTransaction found ends whole = absurd ends
+reading_failed m v oid before now refusal.NotVoted found ends whole = absurd ends
+reading_failed m v oid before now refusal.Voted found ends whole = absurd ends
+reading_failed m v oid before now (refusal.Busy a0) found ends whole = absurd ends
+reading_failed m v oid before now (refusal.PackRunning a0) found ends whole = absurd ends
+reading_failed m v oid before now refusal.OidsSpent found ends whole = absurd ends
+reading_failed m v oid before now (refusal.JournalFull a0) found ends whole = absurd ends
+reading_failed m v oid before now (refusal.TooManySessions a0) found ends whole = absurd ends
+reading_failed m v oid before now refusal.NotOpen found ends whole = absurd ends
+reading_failed m v oid before now (refusal.NoSavepoint a0) found ends whole = absurd ends
+reading_failed m v oid before now (refusal.FrameTooLong a0) found ends whole = absurd ends
+reading_failed m v oid before now refusal.BadMessage found ends whole = absurd ends
+reading_failed m v oid before now refusal.LinkFault found ends whole = absurd ends
+reading_failed m v oid before now refusal.Closed found ends whole = absurd ends
+reading_failed m v oid before now (refusal.Mixed a0) found ends whole = absurd ends
+reading_failed m v oid before now refusal.NoPack found ends whole = absurd ends
+reading_failed m v oid before now (refusal.NotATree a0) found ends whole = absurd ends
+reading_failed m v oid before now (refusal.NodeMissing a0) found ends whole = absurd ends
+reading_failed m v oid before now refusal.BadKey found ends whole = absurd ends
+reading_failed m v oid before now refusal.ReadFault found ends whole = (refl, ends)
+reading_failed m v oid before now (refusal.NothingToDelete a0 a1) found ends whole = absurd ends
+reading_failed m v oid before now (refusal.Connected a0) found ends whole = absurd ends
+reading_failed m v oid before now refusal.StepsSpent found ends whole = absurd ends
+reading_failed m v oid before now refusal.Memory found ends whole = absurd cc
+
+memory_goes_on : (why : Refusal) → why ≡ refusal.Memory → end_in why ≡ None → ⊥
+memory_goes_on why is whole = no_end (sym (ap end_in is) ∙ whole)
+  where
+    no_end : Some turn_error.Memory ≡ None → ⊥
+    no_end e = absurd cc
+
+-- why a call on a tree isn't answered
+uncalled_refused : (rules : Rules) (m now : Moment) (t : Turn) (c : Client) (o : OpenTransaction) (root : ℕ) (call : TreeCall) (why : Refusal) → t.line ≡ line.Tree root call → IsNamed m t.client c → HasOpen m t.client o → end_in why ≡ None
+    → IsUncalled m c.session o root (operation_of call) why now → IsRefusedFor rules m t why now
+uncalled_refused rules m now t c o root call why said named has whole (by_tree objects numbers sees draws refused) = by_call o objects root call numbers has said sees refused
+uncalled_refused rules m now t c o root call why said named has whole (by_read numbers behind oid draws read found) =
+    let failed : (why ≡ refusal.ReadFault) × Rose behind.counts.reads now.counts.reads = reading_failed behind.machine o.view oid behind.counts now.counts why found read.ends whole in
+    by_reading failed.0 (subst (λ (k : FaultCounts). Rose k.reads now.counts.reads) (draws_drawn m c.session numbers behind draws).counts failed.1)
+uncalled_refused rules m now t c o root call why said named has whole (by_draw numbers behind draws (rules', step)) =
+    by_number c rules' behind.machine step.stamp named (draws_drawn m c.session numbers behind draws).machine (new_reply rules' behind c.session (reply.Refused why) now step)
+uncalled_refused rules m now t c o root call why said named has whole (by_want numbers draws is) = absurd (memory_goes_on why is whole)
+
+told_no_refusal : (X : Type 0) (why : Refusal) (x : TreeAnswer) → answer.Refused why ≡ answer_told x → X
+told_no_refusal X why (answered.Value None) is = absurd cc
+told_no_refusal X why (answered.Value (Some value)) is = absurd cc
+told_no_refusal X why answered.Set is = absurd cc
+told_no_refusal X why (answered.Removed true) is = absurd cc
+told_no_refusal X why (answered.Removed false) is = absurd cc
+told_no_refusal X why (answered.Items list is_set) is = absurd cc
+
+-- why what a call puts is refused
+puts_refused : (rules : Rules) (m now : Moment) (t : Turn) (o : OpenTransaction) (x : TreeAnswer) (puts : List PendingStore) (why : Refusal) → HasOpen m t.client o
+    → answer.Refused why ≡ (all_stored o.changes (answer_told x) puts).answer → IsRefusedFor rules m t why now
+puts_refused rules m now t o x [] why has is = told_no_refusal (IsRefusedFor rules m t why now) why x is
+puts_refused rules m now t o x (p ∷ puts) why has is = by_voted o.changes.is_voted (stores_after o.changes.pending.stores (p ∷ puts)) refl refl is
+  where
+    by_stored : (r : Result (List PendingStore) ℕ) → stores_after o.changes.pending.stores (p ∷ puts) ≡ r → answer.Refused why ≡ (puts_stored o.changes (answer_told x) r).answer → IsRefusedFor rules m t why now
+    by_stored (Ok stores) stored e = told_no_refusal (IsRefusedFor rules m t why now) why x e
+    by_stored (Err n) stored e = by_lengths o (p ∷ puts) n has stored (same_refusal why (refusal.TooLong n) e)
+
+    by_voted : (b : Bool) (r : Result (List PendingStore) ℕ) → o.changes.is_voted ≡ b → stores_after o.changes.pending.stores (p ∷ puts) ≡ r
+        → answer.Refused why ≡ (if b then (let w : Changed = record { answer = answer.Refused refusal.Voted; changes = o.changes } in w) else puts_stored o.changes (answer_told x) r).answer → IsRefusedFor rules m t why now
+    by_voted true r voted stored e = by_vote o has voted (same_refusal why refusal.Voted e)
+    by_voted false r voted stored e = by_stored r stored e
+
+tree_refused : (rules : Rules) (m now : Moment) (t : Turn) (at : ℕ) (c : Client) (o : OpenTransaction) (root : ℕ) (call : TreeCall) (why : Refusal) → t.line ≡ line.Tree root call → IsNamed m t.client c → HasOpen m t.client o → end_in why ≡ None
+    → IsTreeLine m at c o root call (answer.Refused why) now → IsRefusedFor rules m t why now
+tree_refused rules m now t at c o root call why said named has whole is = by_end is.result is.ends is.end
+  where
+    by_end : (result : Result Made Refusal) → CallEnds m c.session o root (operation_of call) result is.behind → IsTreeEnd is.behind at c o result (answer.Refused why) now → IsRefusedFor rules m t why now
+    by_end (Ok made) ends (inl change) = puts_refused rules m now t o made.answer made.puts why has change.0
+    by_end (Ok made) ends (inr starved) = absurd (memory_goes_on why (same_refusal why refusal.Memory starved.0) whole)
+    by_end (Err w) ends end =
+        subst (IsRefusedFor rules m t why) (sym end.1)
+        (refused_same rules m t why w is.behind end.0 (λ goes. uncalled_refused rules m is.behind t c o root call w said named has goes ends) whole)
+
+within_refused : (rules : Rules) (m now : Moment) (t : Turn) (at : ℕ) (c : Client) (o : OpenTransaction) (l : Line) (why : Refusal) → t.line ≡ l → IsNamed m t.client c → HasOpen m t.client o → end_in why ≡ None → opens_session l ≡ false → request_of (Some o.changes) l ≡ None
     → IsWithin m at c o l (answer.Refused why) now → IsRefusedFor rules m t why now
-within_refused rules m now t at c o (line.Load oid) why has whole opens asks is = data_refused rules m now t o oid why is.0 has is.1.ends whole is.2
-within_refused rules m now t at c o (line.Get oid) why has whole opens asks is = get_refused rules m now t o oid why (pending_of o.changes.pending.stores oid) has whole is
-within_refused rules m now t at c o (line.Store oid base bytes) why has whole opens asks is =
+within_refused rules m now t at c o (line.Load oid) why said named has whole opens asks is = data_refused rules m now t o oid why is.0 has is.1.ends whole is.2
+within_refused rules m now t at c o (line.Get oid) why said named has whole opens asks is = get_refused rules m now t o oid why (pending_of o.changes.pending.stores oid) has whole is
+within_refused rules m now t at c o (line.Store oid base bytes) why said named has whole opens asks is =
     store_refused rules m now t o (record { oid = oid; base = base; bytes = bytes }) why (excess_with o.changes.pending.stores (record { oid = oid; base = base; bytes = bytes })) has refl is.0
-within_refused rules m now t at c o (line.Put oid bytes) why has whole opens asks is = putting_refused rules m now t at c o oid bytes why (pending_of o.changes.pending.stores oid) has whole is
-within_refused rules m now t at c o (line.Check oid serial) why has whole opens asks is = checked_not is.0
+within_refused rules m now t at c o (line.Put oid bytes) why said named has whole opens asks is = putting_refused rules m now t at c o oid bytes why (pending_of o.changes.pending.stores oid) has whole is
+within_refused rules m now t at c o (line.Check oid serial) why said named has whole opens asks is = checked_not is.0
   where
     checked_not : answer.Refused why ≡ answer.Checked → IsRefusedFor rules m t why now
     checked_not e = absurd cc
-within_refused rules m now t at c o line.Open why has whole opens asks is = absurd cc
-within_refused rules m now t at c o line.Begin why has whole opens asks is = absurd cc
-within_refused rules m now t at c o line.New why has whole opens asks is = absurd cc
-within_refused rules m now t at c o (line.Vote user description) why has whole opens asks is = absurd cc
-within_refused rules m now t at c o (line.Undo user description tids) why has whole opens asks is = absurd cc
-within_refused rules m now t at c o line.Finish why has whole opens asks is = absurd cc
-within_refused rules m now t at c o line.Abort why has whole opens asks is = absurd cc
-within_refused rules m now t at c o (line.History oid) why has whole opens asks is = absurd cc
-within_refused rules m now t at c o line.UndoLog why has whole opens asks is = absurd cc
-within_refused rules m now t at c o (line.Pack tid) why has whole opens asks is = absurd cc
-within_refused rules m now t at c o line.Close why has whole opens asks is = absurd cc
+within_refused rules m now t at c o line.Savepoint why said named has whole opens asks is = saved_not is.0
+  where
+    saved_not : answer.Refused why ≡ answer.Savepoint (length o.changes.savepoints) → IsRefusedFor rules m t why now
+    saved_not e = absurd cc
+within_refused rules m now t at c o (line.Rollback number) why said named has whole opens asks is = rolled_refused rules m now t o number why (slice_get o.changes.savepoints number) has refl is.0
+within_refused rules m now t at c o (line.Tree root call) why said named has whole opens asks is = tree_refused rules m now t at c o root call why said named has whole is
+within_refused rules m now t at c o line.Open why said named has whole opens asks is = absurd cc
+within_refused rules m now t at c o line.Begin why said named has whole opens asks is = absurd cc
+within_refused rules m now t at c o line.New why said named has whole opens asks is = absurd cc
+within_refused rules m now t at c o (line.Vote user description) why said named has whole opens asks is = absurd cc
+within_refused rules m now t at c o (line.Undo user description tids) why said named has whole opens asks is = absurd cc
+within_refused rules m now t at c o line.Finish why said named has whole opens asks is = absurd cc
+within_refused rules m now t at c o line.Abort why said named has whole opens asks is = absurd cc
+within_refused rules m now t at c o (line.History oid) why said named has whole opens asks is = absurd cc
+within_refused rules m now t at c o line.UndoLog why said named has whole opens asks is = absurd cc
+within_refused rules m now t at c o (line.Pack tid) why said named has whole opens asks is = absurd cc
+within_refused rules m now t at c o line.Close why said named has whole opens asks is = absurd cc
 
 -- without a transaction the connection refuses it
 closed_not : (X : Type 0) (b : Bool) (l : Line) → opens_session l ≡ false → request_of None l ≡ None → option_or (refuse_if (not b) refusal.NotOpen) (line_refusal None l) ≡ None → X
@@ -369,7 +485,13 @@ closed_not X false (line.Store oid base bytes) opens asks passes = absurd cc
 closed_not X true (line.Put oid bytes) opens asks passes = absurd cc
 closed_not X false (line.Put oid bytes) opens asks passes = absurd cc
 closed_not X true (line.Check oid serial) opens asks passes = absurd cc
+closed_not X true line.Savepoint opens asks passes = absurd cc
+closed_not X true (line.Rollback number) opens asks passes = absurd cc
+closed_not X true (line.Tree root call) opens asks passes = absurd cc
 closed_not X false (line.Check oid serial) opens asks passes = absurd cc
+closed_not X false line.Savepoint opens asks passes = absurd cc
+closed_not X false (line.Rollback number) opens asks passes = absurd cc
+closed_not X false (line.Tree root call) opens asks passes = absurd cc
 closed_not X true line.New opens asks passes = absurd cc
 closed_not X false line.New opens asks passes = absurd cc
 closed_not X true (line.Vote user description) opens asks passes = absurd cc
@@ -396,7 +518,7 @@ own_refused : (rules : Rules) (m now : Moment) (t : Turn) (at : ℕ) (c : Client
 own_refused rules m now t at c None why begun named place there whole opens asks passes is =
     closed_not (IsRefusedFor rules m t why now) (is_open_in m.machine.sessions c.session) t.line opens asks passes
 own_refused rules m now t at c (Some o) why begun named place there whole opens asks passes is =
-    within_refused rules m now t at c o t.line why (record { at = at; client = c; place = place; there = there; begun = begun }) whole opens asks is
+    within_refused rules m now t at c o t.line why refl named (record { at = at; client = c; place = place; there = there; begun = begun }) whole opens asks is
 
 taken_refused : (rules : Rules) (m now : Moment) (t : Turn) (at : ℕ) (c : Client) (q : Option Request) (why : Refusal) → place_of_client t.client m.clients ≡ Some at → slice_get m.clients at ≡ Some c → end_in why ≡ None
     → opens_session t.line ≡ false → request_of (changes_of c) t.line ≡ q → connection_refusal m.machine c t.line ≡ None → IsLineTaken rules m at c t.line q (answer.Refused why) now → IsRefusedFor rules m t why now
@@ -437,6 +559,9 @@ line_refused rules m now t (line.Get oid) why said whole is = named_refused rule
 line_refused rules m now t (line.Store oid base bytes) why said whole is = named_refused rules m now t (line.Store oid base bytes) why said refl whole is
 line_refused rules m now t (line.Put oid bytes) why said whole is = named_refused rules m now t (line.Put oid bytes) why said refl whole is
 line_refused rules m now t (line.Check oid serial) why said whole is = named_refused rules m now t (line.Check oid serial) why said refl whole is
+line_refused rules m now t line.Savepoint why said whole is = named_refused rules m now t line.Savepoint why said refl whole is
+line_refused rules m now t (line.Rollback number) why said whole is = named_refused rules m now t (line.Rollback number) why said refl whole is
+line_refused rules m now t (line.Tree root call) why said whole is = named_refused rules m now t (line.Tree root call) why said refl whole is
 line_refused rules m now t line.New why said whole is = named_refused rules m now t line.New why said refl whole is
 line_refused rules m now t (line.Vote user description) why said whole is = named_refused rules m now t (line.Vote user description) why said refl whole is
 line_refused rules m now t (line.Undo user description tids) why said whole is = named_refused rules m now t (line.Undo user description tids) why said refl whole is

@@ -20,7 +20,9 @@ use Rattle.zb_script.specs.declared.line.Line.{Line}
 use Rattle.zb_script.specs.declared.line.Line.TheVariants as line
 use Rattle.zb_script.specs.declared.line.Turn.{Turn}
 use Rattle.commit_phases.specs.Decision.{vote_decision}
-use Rattle.commit_phases.specs.Pending.{excess_with, pending_of}
+use Rattle.commit_phases.specs.Pending.{PendingChanges, excess_with, pending_of}
+use Rattle.tree_calls.specs.declared.operation.TreeAnswer.{TreeAnswer}
+use Rattle.tree_calls.specs.declared.operation.TreeAnswer.TheVariants as answered
 use Rattle.zodb_core.specs.declared.reply.Reply.{Reply}
 use Rattle.zodb_core.specs.declared.reply.Reply.TheVariants as reply
 use Rattle.zodb_core.specs.declared.request.Request.{Request}
@@ -34,9 +36,11 @@ use Rattle.client_turns.specs.declared.client.Changes.{Changes}
 use Rattle.client_turns.specs.declared.got.Got.{Got}
 use Rattle.client_turns.specs.Clients.{Client, Moment, OpenTransaction, changes_of, place_of_client}
 use Rattle.client_turns.specs.Laws.{IsReadBelow, ReadsStayBelowTheFront}
-use Rattle.client_turns.specs.Lines.{answer_of, data_of, object_of, pending_in, put, request_of, store_unless}
+use Rattle.client_turns.specs.Lines.{answer_of, data_of, object_of, pending_in, put, request_of, rolled_to, store_unless}
 use Rattle.client_turns.specs.Reads.{EndsReading, got_as, got_of}
 use Rattle.client_turns.specs.Refusing.{connection_refusal}
+use Rattle.client_turns.specs.DrawLaws.{tree_answer}
+use Rattle.client_turns.specs.Trees.{answer_told}
 use Rattle.client_turns.specs.TurnLaws.{by_name}
 use Rattle.client_turns.specs.Turns.{IsGet, IsLineOf, IsLineTaken, IsLineUnless, IsOpening, IsOwnLine, IsPut, IsStepLine, IsWithin, Opening}
 use Rattle.client_turns.specs.Views.{View}
@@ -140,6 +144,9 @@ asks_no_load ch (line.Get oid) q is = absurd cc
 asks_no_load ch (line.Store oid base bytes) q is = absurd cc
 asks_no_load ch (line.Put oid bytes) q is = absurd cc
 asks_no_load ch (line.Check oid serial) q is = absurd cc
+asks_no_load ch line.Savepoint q is = absurd cc
+asks_no_load ch (line.Rollback number) q is = absurd cc
+asks_no_load ch (line.Tree root call) q is = absurd cc
 asks_no_load ch line.New q is = subst AsksNoLoad (same_Some (request.NewOids 1) q is) tt
 asks_no_load ch (line.Vote user description) q is = subst AsksNoLoad (same_Some (request.Vote user description [] (pending_in ch)) q is) tt
 asks_no_load ch (line.Undo user description tids) q is = subst AsksNoLoad (same_Some (request.Undo user description tids) q is) tt
@@ -153,6 +160,18 @@ asks_no_load ch line.Close q is = subst AsksNoLoad (same_Some request.Close q is
 store_data : (t : Changes) (p : PendingStore) (o : Option ℕ) → is_data (store_unless t p o).answer ≡ false
 store_data t p None = refl
 store_data t p (Some n) = refl
+
+rolled_data : (t : Changes) (number : ℕ) (o : Option PendingChanges) → is_data (rolled_to t number o).answer ≡ false
+rolled_data t number None = refl
+rolled_data t number (Some pending) = refl
+
+told_data : (x : TreeAnswer) → is_data (answer_told x) ≡ false
+told_data (answered.Value None) = refl
+told_data (answered.Value (Some value)) = refl
+told_data answered.Set = refl
+told_data (answered.Removed true) = refl
+told_data (answered.Removed false) = refl
+told_data (answered.Items list is_set) = refl
 
 object_data : (r : Result Got Refusal) → is_data (object_of r) ≡ false
 object_data (Ok got) = refl
@@ -278,6 +297,11 @@ within_reads m now at c t (line.Store oid base new) serial bytes is =
 within_reads m now at c t (line.Put oid new) serial bytes is =
     not_data (ReadsWithin t (line.Put oid new) serial bytes) (answer.Data serial bytes) refl (putting_data m now at c t oid new (pending_of t.changes.pending.stores oid) (answer.Data serial bytes) is)
 within_reads m now at c t (line.Check oid seen) serial bytes is = not_data (ReadsWithin t (line.Check oid seen) serial bytes) (answer.Data serial bytes) refl (ap is_data is.0)
+within_reads m now at c t line.Savepoint serial bytes is = not_data (ReadsWithin t line.Savepoint serial bytes) (answer.Data serial bytes) refl (ap is_data is.0)
+within_reads m now at c t (line.Rollback number) serial bytes is =
+    not_data (ReadsWithin t (line.Rollback number) serial bytes) (answer.Data serial bytes) refl (ap is_data is.0 ∙ rolled_data t.changes number (slice_get t.changes.savepoints number))
+within_reads m now at c t (line.Tree root call) serial bytes is =
+    not_data (ReadsWithin t (line.Tree root call) serial bytes) (answer.Data serial bytes) refl (tree_answer (λ a. is_data a ≡ false) m at c t root call (answer.Data serial bytes) now told_data (λ why. refl) is)
 within_reads m now at c t line.Open serial bytes is = not_data (ReadsWithin t line.Open serial bytes) (answer.Data serial bytes) refl (ap is_data is.0)
 within_reads m now at c t line.Begin serial bytes is = not_data (ReadsWithin t line.Begin serial bytes) (answer.Data serial bytes) refl (ap is_data is.0)
 within_reads m now at c t line.New serial bytes is = not_data (ReadsWithin t line.New serial bytes) (answer.Data serial bytes) refl (ap is_data is.0)

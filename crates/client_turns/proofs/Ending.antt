@@ -21,7 +21,8 @@ use Rattle.client_turns.specs.Clients.{Moment, OpenTransaction, begun, no_change
 use Rattle.client_turns.specs.Clients as seen
 use Rattle.client_turns.specs.Lines.{answer_of, client_left, is_committed, transaction_left}
 use Rattle.client_turns.specs.Standing.{AreClientsOf, ClientsState, IsClientOf, IsStepOf, IsWorkOf, IsWorkOfIfSome, LeadsTo, Shows, StandsForMoment, with_work, work_left}
-use Rattle.client_turns.specs.Turns.{IsStepAt, IsTold}
+use Rattle.client_turns.specs.Steps.{IsStepAt}
+use Rattle.client_turns.specs.Turns.{IsTold}
 use Rattle.client_turns.specs.Views.{view_of}
 use Rattle.client_turns.proofs.Placing.{IsClientAt, IsKeptAt, client_at, kept_at, set_at, there_at}
 
@@ -103,7 +104,7 @@ voted_left : (m : Machine) (w : Option Work) (t : Option OpenTransaction) → Is
 voted_left m None None is = tt
 voted_left m None (Some t) is = absurd is
 voted_left m (Some w) None is = absurd is
-voted_left m (Some w) (Some t) is = record { front = is.front; switches = is.switches; changes = ap (λ (x : Changes). let y : Changes = record { pending = x.pending; is_voted = true } in y) is.changes; shows = is.shows }
+voted_left m (Some w) (Some t) is = record { front = is.front; switches = is.switches; changes = ap (λ (x : Changes). record x { is_voted = true }) is.changes; shows = is.shows }
 
 left_is : (m : Machine) (w : Option Work) (t : Option OpenTransaction) (r : Reply) → ShowsFront m r → IsWorkOfIfSome m w t → IsWorkOfIfSome m (work_left w r) (transaction_left m t r)
 left_is m w t (reply.Front front news switches) shows is = begun_left m front switches shows.0 shows.1

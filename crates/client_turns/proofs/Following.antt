@@ -1,6 +1,6 @@
 -- Turns keep a moment sound, and its list only grows and is packed.
-use Rattle.std.proofs.Common.{◌≡◌, ℕ, zero, suc, Bool, true, false, List, [], ◌∷◌, ◌++◌, length, Option, Some, None, Result, Ok, Err, if◌then◌else◌, nat_lt, refl, sym, ap, subst, ◌∙◌, arith}
-use Rattle.std.specs.Prelude.{IfSome, nat_eq, slice_get, slice_set}
+use Rattle.std.proofs.Common.{◌≡◌, ℕ, zero, suc, Bool, true, false, List, [], ◌∷◌, ◌++◌, length, Option, Some, None, Result, Ok, Err, if◌then◌else◌, nat_lt, ◌+◌, refl, sym, ap, subst, ◌∙◌, arith, inl, inr}
+use Rattle.std.specs.Prelude.{IfSome, map, nat_eq, slice_get, slice_set, take}
 use Rattle.std.specs.List.{AllByRecursion, IsDistinct}
 use Rattle.std.specs.Option.{option_map}
 use Rattle.zb_base.specs.Lists.{each_more}
@@ -12,7 +12,10 @@ use Rattle.zb_script.specs.declared.answer.Answer.TheVariants as answer
 use Rattle.zb_script.specs.declared.line.Line.{Line}
 use Rattle.zb_script.specs.declared.line.Line.TheVariants as line
 use Rattle.zb_script.specs.declared.line.Turn.{Turn}
-use Rattle.commit_phases.specs.Pending.{excess_with, pending_of}
+use Rattle.zb_script.specs.declared.tree_call.TreeCall.{TreeCall}
+use Rattle.commit_phases.specs.Pending.{PendingChanges, excess_with, pending_of, with_pending}
+use Rattle.connection_view.specs.Connections.{behind_stored, stored_on, stores_after}
+use Rattle.tree_calls.specs.declared.attempt.Made.{Made}
 use Rattle.zodb_core.specs.declared.reply.Reply.{Reply}
 use Rattle.zodb_core.specs.declared.reply.Reply.TheVariants as reply
 use Rattle.zodb_core.specs.declared.request.Request.{Request}
@@ -26,11 +29,14 @@ use Rattle.zodb_core.specs.SoundLaws.{comes_twice, grows_not, grows_to, grows_tw
 use Rattle.client_turns.specs.declared.client.Changes.{Changes}
 use Rattle.client_turns.specs.declared.got.Got.{Got}
 use Rattle.client_turns.specs.Clients.{Client, Moment, OpenTransaction, changes_of, place_of_client}
-use Rattle.client_turns.specs.Laws.{AreOnce, Follows, IsOnceClient, IsSoundMoment}
-use Rattle.client_turns.specs.Lines.{Changed, checked, client_left, is_committed, put, request_of, store_unless, stored, transaction_left, with_changes}
+use Rattle.client_turns.specs.Laws.{AreOnce, Follows, IsOnceClient, IsOncePending, IsSoundMoment}
+use Rattle.client_turns.specs.Lines.{Changed, checked, client_left, is_committed, outcome_of_result, put, request_of, rolled_back, rolled_to, saved, store_unless, stored, transaction_left, with_changes}
 use Rattle.client_turns.specs.Refusing.{connection_refusal}
-use Rattle.client_turns.specs.TurnLaws.{by_name, own_same}
-use Rattle.client_turns.specs.Turns.{IsAnswered, IsChange, IsClosed, IsClosing, IsGet, IsLine, IsLineOf, IsLineTaken, IsLineUnless, IsOpening, IsOwnLine, IsPut, IsStepAt, IsStepLine, IsTold, IsWithin, Opening}
+use Rattle.client_turns.specs.DrawLaws.{LeavesCall, call_leaves}
+use Rattle.client_turns.specs.Trees.{IsRaised, IsTreeEnd, IsTreeLine, all_stored, answer_told, operation_of, puts_stored}
+use Rattle.client_turns.specs.TurnLaws.{by_name, own_raised}
+use Rattle.client_turns.specs.Steps.{IsChange, IsStepAt}
+use Rattle.client_turns.specs.Turns.{IsAnswered, IsClosed, IsClosing, IsGet, IsLine, IsLineOf, IsLineTaken, IsLineUnless, IsOpening, IsOwnLine, IsPut, IsStepLine, IsTold, IsWithin, Opening}
 use Rattle.client_turns.specs.Views.{View}
 
 -- ---- machines that steps lead to
@@ -79,7 +85,7 @@ unfolding IsDistinct
 none_once = tt
 
 left_once : (m : Machine) (t : Option OpenTransaction) (r : Reply) → OnceIfSome t → OnceIfSome (transaction_left m t r)
-left_once m t (reply.Front front news switches) once = none_once
+left_once m t (reply.Front front news switches) once = (none_once, tt)
 left_once m None reply.Voted once = tt
 left_once m (Some t) reply.Voted once = once
 left_once m t (reply.Committed tid) once = tt
@@ -95,7 +101,7 @@ left_once m t (reply.Packed kept dropped) once = once
 left_once m t (reply.Refused why) once = once
 
 stored_once : (t : Changes) (p : PendingStore) (o : Option ℕ) → AreOnce t → AreOnce (store_unless t p o).changes
-stored_once t p None once = pending_once t.pending.stores p once
+stored_once t p None once = (pending_once t.pending.stores p once.0, once.1)
 stored_once t p (Some n) once = once
 
 put_once : (t : Changes) (oid : ℕ) (bytes : List ℕ) (read : Result Got Refusal) → AreOnce t → AreOnce (put t oid bytes read).changes
@@ -139,6 +145,55 @@ put_once t oid bytes (Err (refusal.Connected a0)) once = once
 put_once t oid bytes (Err refusal.StepsSpent) once = once
 put_once t oid bytes (Err refusal.Memory) once = once
 
+-- what waited at savepoints
+saved_once : (t : Changes) → AreOnce t → AreOnce (saved t).changes
+saved_once t once = (once.0, each_more IsOncePending t.savepoints t.pending once.1 once.0)
+
+take_once : (n : ℕ) (ps : List PendingChanges) → AllByRecursion IsOncePending ps → AllByRecursion IsOncePending (take n ps)
+take_once zero ps all = tt
+take_once (suc n) [] all = tt
+take_once (suc n) (p ∷ ps) all = (all.0, take_once n ps all.1)
+
+there_once : (n : ℕ) (ps : List PendingChanges) (p : PendingChanges) → AllByRecursion IsOncePending ps → slice_get ps n ≡ Some p → IsOncePending p
+there_once n [] p all there = absurd cc
+there_once zero (q ∷ ps) p all there = subst IsOncePending (same_pending q p there) all.0
+  where
+    same_pending : (a b : PendingChanges) → Some a ≡ Some b → a ≡ b
+    same_pending a b e = cc
+there_once (suc n) (q ∷ ps) p all there = there_once n ps p all.1 there
+
+rolled_once : (t : Changes) (number : ℕ) → AreOnce t → AreOnce (rolled_back t number).changes
+rolled_once t number once = by_saved (slice_get t.savepoints number) refl
+  where
+    by_saved : (o : Option PendingChanges) → slice_get t.savepoints number ≡ o → AreOnce (rolled_to t number o).changes
+    by_saved None is = once
+    by_saved (Some p) is = (there_once number t.savepoints p once.1 is, take_once (number + 1) t.savepoints once.1)
+
+-- what a call puts
+after_once : (stores puts : List PendingStore) → IsDistinct nat_eq (map (λ (p : PendingStore). p.oid) stores) → (left : List PendingStore) → stores_after stores puts ≡ Ok left → IsDistinct nat_eq (map (λ (p : PendingStore). p.oid) left)
+after_once stores [] once left is = subst (λ (ps : List PendingStore). IsDistinct nat_eq (map (λ (p : PendingStore). p.oid) ps)) (same_ok stores left is) once
+  where
+    same_ok : (a b : List PendingStore) → (let x : Result (List PendingStore) ℕ = Ok a in x) ≡ Ok b → a ≡ b
+    same_ok a b e = cc
+after_once stores (p ∷ puts) once left is = by_excess (excess_with stores p) (after_once (with_pending stores p) puts (pending_once stores p once) left) is
+  where
+    by_excess : (e : Option ℕ) → (stores_after (with_pending stores p) puts ≡ Ok left → IsDistinct nat_eq (map (λ (q : PendingStore). q.oid) left))
+        → behind_stored (stored_on stores p e) (λ more. stores_after more puts) ≡ Ok left → IsDistinct nat_eq (map (λ (q : PendingStore). q.oid) left)
+    by_excess None rest there = rest there
+    by_excess (Some n) rest there = absurd cc
+
+all_once : (t : Changes) (a : Answer) (puts : List PendingStore) → AreOnce t → AreOnce (all_stored t a puts).changes
+all_once t a [] once = once
+all_once t a (p ∷ puts) once = by_vote t.is_voted (stores_after t.pending.stores (p ∷ puts)) refl
+  where
+    by_length : (r : Result (List PendingStore) ℕ) → stores_after t.pending.stores (p ∷ puts) ≡ r → AreOnce (puts_stored t a r).changes
+    by_length (Ok stores) is = (after_once t.pending.stores (p ∷ puts) once.0 stores is, once.1)
+    by_length (Err n) is = once
+
+    by_vote : (b : Bool) (r : Result (List PendingStore) ℕ) → stores_after t.pending.stores (p ∷ puts) ≡ r → AreOnce (if b then (let w : Changed = record { answer = answer.Refused refusal.Voted; changes = t } in w) else puts_stored t a r).changes
+    by_vote true r is = once
+    by_vote false r is = by_length r is
+
 set_once : (cs : List Client) (at : ℕ) (c : Client) → AllByRecursion IsOnceClient cs → IsOnceClient c → AllByRecursion IsOnceClient (slice_set cs at c)
 set_once [] at c all once = tt
 set_once (d ∷ cs) zero c all once = (once, all.1)
@@ -164,6 +219,9 @@ asked_once ch (line.Get oid) q once is = absurd cc
 asked_once ch (line.Store oid base bytes) q once is = absurd cc
 asked_once ch (line.Put oid bytes) q once is = absurd cc
 asked_once ch (line.Check oid serial) q once is = absurd cc
+asked_once ch line.Savepoint q once is = absurd cc
+asked_once ch (line.Rollback number) q once is = absurd cc
+asked_once ch (line.Tree root call) q once is = absurd cc
 asked_once ch line.New q once is = subst IsDistinctRequest (same_request (request.NewOids 1) q is) tt
 asked_once ch (line.Undo user description tids) q once is = subst IsDistinctRequest (same_request (request.Undo user description tids) q is) tt
 asked_once ch line.Finish q once is = subst IsDistinctRequest (same_request request.Finish q is) tt
@@ -173,7 +231,7 @@ asked_once ch line.UndoLog q once is = subst IsDistinctRequest (same_request req
 asked_once ch (line.Pack tid) q once is = subst IsDistinctRequest (same_request (request.Pack tid) q is) tt
 asked_once ch line.Close q once is = subst IsDistinctRequest (same_request request.Close q is) tt
 asked_once None (line.Vote user description) q once is = subst IsDistinctRequest (same_request (request.Vote user description [] (record { stores = []; checks = [] })) q is) none_once
-asked_once (Some t) (line.Vote user description) q once is = subst IsDistinctRequest (same_request (request.Vote user description [] t.pending) q is) once
+asked_once (Some t) (line.Vote user description) q once is = subst IsDistinctRequest (same_request (request.Vote user description [] t.pending) q is) once.0
 
 -- ---- lines
 
@@ -186,8 +244,18 @@ pub moment_follows : (m now : Moment) → IsSoundMoment m → now ≡ m → Foll
 moment_follows m now sound is = subst (FollowsMoment m) (sym is) (record { machine = follows_same m.machine sound.machine; once = sound.once })
 
 -- the clients stay, or the one at a place has other changes
-same_clients : (m now : Moment) → IsSoundMoment m → now.machine ≡ m.machine → AllByRecursion IsOnceClient now.clients → FollowsMoment m now
-same_clients m now sound machine once = record { machine = follows_as m.machine now.machine sound.machine machine; once = once }
+same_clients : (m now : Moment) → Follows m.machine now.machine → AllByRecursion IsOnceClient now.clients → FollowsMoment m now
+same_clients m now follows once = record { machine = follows; once = once }
+
+-- a machine with a greatest number that isn't lower
+raised_follows : (m now : Machine) → IsSoundMachine m → IsRaised m now → Follows m now
+raised_follows m now sound raised = subst (Follows m) (sym raised.is) (record {
+  sound = record { database = sound.database; next = sound.next; numbered = omega (arith, sound.numbered, raised.up); told = sound.told };
+  comes = unmoved;
+  switches = omega arith;
+  grows = λ _. grows_not m.list;
+  greatest = raised.up;
+})
 
 change_once : (m now : Moment) (at : ℕ) (c : Client) (t : OpenTransaction) (w : Changed) (a : Answer) → AllByRecursion IsOnceClient m.clients → AreOnce w.changes → IsChange m at c t w a now → AllByRecursion IsOnceClient now.clients
 change_once m now at c t w a all once is =
@@ -205,6 +273,19 @@ putting_once m now at c t oid bytes (Some p) a all once is =
     change_once m now at c t (stored t.changes (record { oid = oid; base = p.base; bytes = bytes })) a all
     (stored_once t.changes (record { oid = oid; base = p.base; bytes = bytes }) (excess_with t.changes.pending.stores (record { oid = oid; base = p.base; bytes = bytes })) once) is
 
+tree_end_once : (b now : Moment) (at : ℕ) (c : Client) (t : OpenTransaction) (result : Result Made Refusal) (a : Answer) → AllByRecursion IsOnceClient b.clients → AreOnce t.changes → IsTreeEnd b at c t result a now
+    → AllByRecursion IsOnceClient now.clients
+tree_end_once b now at c t (Ok made) a all once (inl change) =
+    change_once b now at c t (all_stored t.changes (answer_told made.answer) made.puts) a all (all_once t.changes (answer_told made.answer) made.puts once) change
+tree_end_once b now at c t (Ok made) a all once (inr starved) = subst (AllByRecursion IsOnceClient) (sym (ap (λ (x : Moment). x.clients) starved.1)) all
+tree_end_once b now at c t (Err why) a all once refused = subst (AllByRecursion IsOnceClient) (sym (ap (λ (x : Moment). x.clients) refused.1)) all
+
+tree_once : (m now : Moment) (at : ℕ) (c : Client) (t : OpenTransaction) (root : ℕ) (call : TreeCall) (a : Answer) → AllByRecursion IsOnceClient m.clients → AreOnce t.changes → IsTreeLine m at c t root call a now
+    → AllByRecursion IsOnceClient now.clients
+tree_once m now at c t root call a all once is =
+    let leaves : LeavesCall m (outcome_of_result is.result) is.behind = call_leaves m c.session t root (operation_of call) is.result is.behind is.ends in
+    tree_end_once is.behind now at c t is.result a (subst (AllByRecursion IsOnceClient) (sym leaves.clients) all) once is.end
+
 within_once : (m now : Moment) (at : ℕ) (c : Client) (t : OpenTransaction) (l : Line) (a : Answer) → AllByRecursion IsOnceClient m.clients → AreOnce t.changes → IsWithin m at c t l a now → AllByRecursion IsOnceClient now.clients
 within_once m now at c t (line.Load oid) a all once is = subst (AllByRecursion IsOnceClient) (sym (ap (λ (x : Moment). x.clients) is.1.rest)) all
 within_once m now at c t (line.Get oid) a all once is = get_once m now t.view oid (pending_of t.changes.pending.stores oid) a all is
@@ -213,6 +294,9 @@ within_once m now at c t (line.Store oid base bytes) a all once is =
     (stored_once t.changes (record { oid = oid; base = base; bytes = bytes }) (excess_with t.changes.pending.stores (record { oid = oid; base = base; bytes = bytes })) once) is
 within_once m now at c t (line.Put oid bytes) a all once is = putting_once m now at c t oid bytes (pending_of t.changes.pending.stores oid) a all once is
 within_once m now at c t (line.Check oid serial) a all once is = change_once m now at c t (checked t.changes (record { oid = oid; serial = serial })) a all once is
+within_once m now at c t line.Savepoint a all once is = change_once m now at c t (saved t.changes) a all (saved_once t.changes once) is
+within_once m now at c t (line.Rollback number) a all once is = change_once m now at c t (rolled_back t.changes number) a all (rolled_once t.changes number once) is
+within_once m now at c t (line.Tree root call) a all once is = tree_once m now at c t root call a all once is
 within_once m now at c t line.Open a all once is = subst (AllByRecursion IsOnceClient) (sym (ap (λ (x : Moment). x.clients) is.1)) all
 within_once m now at c t line.Begin a all once is = subst (AllByRecursion IsOnceClient) (sym (ap (λ (x : Moment). x.clients) is.1)) all
 within_once m now at c t line.New a all once is = subst (AllByRecursion IsOnceClient) (sym (ap (λ (x : Moment). x.clients) is.1)) all
@@ -249,7 +333,7 @@ taken_follows : (rules : Rules) (m now : Moment) (at : ℕ) (c : Client) (l : Li
     → IsLineTaken rules m at c l q a now → FollowsMoment m now
 taken_follows rules m now at c l (Some q) a sound there asks is = step_line_follows rules m now at c q a sound there (asked_once (changes_of c) l q (at_once m.clients at c sound.once there) asks) is
 taken_follows rules m now at c l None a sound there asks is =
-    same_clients m now sound (own_same m now at c c.transaction l a is) (own_once m now at c c.transaction l a sound.once (at_once m.clients at c sound.once there) is)
+    same_clients m now (raised_follows m.machine now.machine sound.machine (own_raised m now at c c.transaction l a is)) (own_once m now at c c.transaction l a sound.once (at_once m.clients at c sound.once there) is)
 
 unless_follows : (rules : Rules) (m now : Moment) (at : ℕ) (c : Client) (l : Line) (r : Option Refusal) (a : Answer) → IsSoundMoment m → slice_get m.clients at ≡ Some c → IsLineUnless rules m at c l r a now → FollowsMoment m now
 unless_follows rules m now at c l (Some why) a sound there is = moment_follows m now sound is.1

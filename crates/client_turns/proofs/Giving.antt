@@ -1,5 +1,6 @@
 -- What answers give: fronts of the list, and numbers behind the greatest.
 use Rattle.std.proofs.Common.{◌≡◌, ℕ, ◌+◌, ◌-◌, ◌^◌, ◌≤◌, Bool, true, false, List, [], ◌∷◌, ◌++◌, length, Option, Some, None, Result, Ok, Err, cond, refl, sym, ap, subst, ◌∙◌, arith, nat_lt, if◌then◌else◌}
+use Rattle.std.specs.Prelude.{slice_get}
 use Rattle.std.proofs.lemmas.Option.{same_Some}
 use Rattle.zb_ids.specs.Tids.{tid_after}
 use Rattle.zb_model.specs.declared.data.Change.{Change}
@@ -16,7 +17,9 @@ use Rattle.zb_script.specs.declared.answer.Answer.TheVariants as answer
 use Rattle.zb_script.specs.declared.line.Line.{Line}
 use Rattle.zb_script.specs.declared.line.Line.TheVariants as line
 use Rattle.commit_phases.specs.Decision.{vote_decision}
-use Rattle.commit_phases.specs.Pending.{excess_with, pending_of}
+use Rattle.commit_phases.specs.Pending.{PendingChanges, excess_with, pending_of}
+use Rattle.tree_calls.specs.declared.operation.TreeAnswer.{TreeAnswer}
+use Rattle.tree_calls.specs.declared.operation.TreeAnswer.TheVariants as answered
 use Rattle.zodb_core.specs.declared.reply.Reply.{Reply}
 use Rattle.zodb_core.specs.declared.reply.Reply.TheVariants as reply
 use Rattle.zodb_core.specs.declared.request.Request.{Request}
@@ -32,8 +35,10 @@ use Rattle.client_turns.specs.declared.client.Changes.{Changes}
 use Rattle.client_turns.specs.declared.got.Got.{Got}
 use Rattle.client_turns.specs.Clients.{Client, Moment, OpenTransaction, changes_of, place_of_client}
 use Rattle.client_turns.specs.Laws.{front_given, number_given}
-use Rattle.client_turns.specs.Lines.{answer_of, data_of, is_committed, object_of, pending_in, put, request_of, store_unless, stored}
+use Rattle.client_turns.specs.Lines.{answer_of, data_of, is_committed, object_of, pending_in, put, request_of, rolled_back, rolled_to, saved, store_unless, stored}
 use Rattle.client_turns.specs.Refusing.{connection_refusal}
+use Rattle.client_turns.specs.DrawLaws.{tree_answer}
+use Rattle.client_turns.specs.Trees.{answer_told}
 use Rattle.client_turns.specs.TurnLaws.{by_name}
 use Rattle.client_turns.specs.Turns.{IsGet, IsLine, IsLineOf, IsLineTaken, IsLineUnless, IsOpening, IsOwnLine, IsPut, IsStepLine, IsTold, IsWithin, Opening}
 use Rattle.client_turns.specs.Views.{View}
@@ -250,6 +255,18 @@ put_gives m now at c t oid bytes (Some p) a is =
     as_quiet m.machine now.machine a (stored t.changes (record { oid = oid; base = p.base; bytes = bytes })).answer is.0
     (store_quiet m.machine now.machine t.changes (record { oid = oid; base = p.base; bytes = bytes }) (excess_with t.changes.pending.stores (record { oid = oid; base = p.base; bytes = bytes })))
 
+rolled_quiet : (m now : Machine) (t : Changes) (number : ℕ) (o : Option PendingChanges) → Gives m now (rolled_to t number o).answer
+rolled_quiet m now t number None = refused_gives m now (answer.Refused (refusal.NoSavepoint number)) (refusal.NoSavepoint number) refl
+rolled_quiet m now t number (Some pending) = quiet m now (answer.Rolled number) refl refl
+
+tree_quiet : (m now : Machine) (x : TreeAnswer) → Gives m now (answer_told x)
+tree_quiet m now (answered.Value None) = quiet m now answer.Absent refl refl
+tree_quiet m now (answered.Value (Some value)) = quiet m now (answer.Found value) refl refl
+tree_quiet m now answered.Set = quiet m now answer.Done refl refl
+tree_quiet m now (answered.Removed true) = quiet m now answer.Done refl refl
+tree_quiet m now (answered.Removed false) = quiet m now answer.Absent refl refl
+tree_quiet m now (answered.Items list is_set) = quiet m now (answer.Items list is_set) refl refl
+
 within_gives : (m now : Moment) (at : ℕ) (c : Client) (t : OpenTransaction) (l : Line) (a : Answer) → IsWithin m at c t l a now → Gives m.machine now.machine a
 within_gives m now at c t (line.Load oid) a is = as_quiet m.machine now.machine a (data_of is.0) is.2 (data_quiet m.machine now.machine is.0)
 within_gives m now at c t (line.Get oid) a is = get_gives m now t.view oid (pending_of t.changes.pending.stores oid) a is
@@ -258,6 +275,11 @@ within_gives m now at c t (line.Store oid base bytes) a is =
     (store_quiet m.machine now.machine t.changes (record { oid = oid; base = base; bytes = bytes }) (excess_with t.changes.pending.stores (record { oid = oid; base = base; bytes = bytes })))
 within_gives m now at c t (line.Put oid bytes) a is = put_gives m now at c t oid bytes (pending_of t.changes.pending.stores oid) a is
 within_gives m now at c t (line.Check oid serial) a is = as_quiet m.machine now.machine a answer.Checked is.0 (quiet m.machine now.machine answer.Checked refl refl)
+within_gives m now at c t line.Savepoint a is = as_quiet m.machine now.machine a (saved t.changes).answer is.0 (quiet m.machine now.machine (saved t.changes).answer refl refl)
+within_gives m now at c t (line.Rollback number) a is =
+    as_quiet m.machine now.machine a (rolled_back t.changes number).answer is.0 (rolled_quiet m.machine now.machine t.changes number (slice_get t.changes.savepoints number))
+within_gives m now at c t (line.Tree root call) a is =
+    tree_answer (Gives m.machine now.machine) m at c t root call a now (tree_quiet m.machine now.machine) (λ why. refused_gives m.machine now.machine (answer.Refused why) why refl) is
 within_gives m now at c t line.Open a is = refused_gives m.machine now.machine a refusal.NoTransaction is.0
 within_gives m now at c t line.Begin a is = refused_gives m.machine now.machine a refusal.NoTransaction is.0
 within_gives m now at c t line.New a is = refused_gives m.machine now.machine a refusal.NoTransaction is.0
@@ -283,6 +305,9 @@ asks_one ch (line.Get oid) q is = absurd cc
 asks_one ch (line.Store oid base bytes) q is = absurd cc
 asks_one ch (line.Put oid bytes) q is = absurd cc
 asks_one ch (line.Check oid serial) q is = absurd cc
+asks_one ch line.Savepoint q is = absurd cc
+asks_one ch (line.Rollback number) q is = absurd cc
+asks_one ch (line.Tree root call) q is = absurd cc
 asks_one ch line.New q is = subst AsksOne (same_Some (request.NewOids 1) q is) refl
 asks_one ch (line.Vote user description) q is = subst AsksOne (same_Some (request.Vote user description [] (pending_in ch)) q is) tt
 asks_one ch (line.Undo user description tids) q is = subst AsksOne (same_Some (request.Undo user description tids) q is) tt

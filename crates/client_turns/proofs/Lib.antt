@@ -1,9 +1,12 @@
+pub mod Calling
 pub mod Causes
 pub mod Causing
 pub mod Crashes
 pub mod Data
 pub mod Ending
 pub mod Following
+pub mod Gathering
+pub mod Advancing
 pub mod Giving
 pub mod Growing
 pub mod Lasting

@@ -26,7 +26,7 @@ use Rattle.client_turns.specs.Clients as clients
 use Rattle.client_turns.specs.Lines.{IsCountedBy, outcome_of_read}
 use Rattle.client_turns.specs.Reads.{EndsReading, Reads, got_as, got_of}
 use Rattle.client_turns.specs.Standing.{ClientsState, IsReadIn, IsReadOf, IsWorkOf, IsWorkOfIfSome, LeadsTo, MayReadAt, Shows, StandsForMoment, reply_read}
-use Rattle.client_turns.specs.Turns.{IsReadAt, IsStepAt}
+use Rattle.client_turns.specs.Steps.{IsReadAt, IsStepAt}
 use Rattle.client_turns.specs.Views.{View}
 use Rattle.client_turns.proofs.Placing.{IsKeptAt, kept_at}
 

@@ -18,7 +18,8 @@ use Rattle.client_turns.specs.declared.errors.TurnError.{TurnError}
 use Rattle.client_turns.specs.Clients.{Moment, place_of_client}
 use Rattle.client_turns.specs.Lines.{answer_of, end_of}
 use Rattle.client_turns.specs.Standing.{AreClientsOf, ClientsState, ClosesAs, LeadsTo, OrAsBefore, StandsForMoment}
-use Rattle.client_turns.specs.Turns.{IsClosingAt, IsOpening, IsStepAt, Opening, opened}
+use Rattle.client_turns.specs.Steps.{IsStepAt}
+use Rattle.client_turns.specs.Turns.{IsClosingAt, IsOpening, Opening, opened}
 use Rattle.client_turns.proofs.Placing.{IsClientAt, client_at, push_at, same_place, there_at}
 use Rattle.client_turns.proofs.Stepping.{clients_later}
 

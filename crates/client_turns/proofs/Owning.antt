@@ -21,7 +21,8 @@ use Rattle.client_turns.specs.Clients.{Moment, OpenTransaction, with_client}
 use Rattle.client_turns.specs.Clients as seen
 use Rattle.client_turns.specs.Lines.{Changed, data_of, object_of, object_pending, put, stored, with_changes}
 use Rattle.client_turns.specs.Standing.{AreClientsOf, ClientsState, IsChangedAt, IsChangedBy, IsClientOf, IsOwnOf, IsReadIn, IsReadOf, IsWorkOf, IsWorkOfIfSome, LeadsTo, MayReadAt, OrAsBefore, StandsForMoment, found_or_missing, with_work}
-use Rattle.client_turns.specs.Turns.{IsChange, IsGet, IsOwnLine, IsPut, IsReadAt}
+use Rattle.client_turns.specs.Steps.{IsChange, IsReadAt}
+use Rattle.client_turns.specs.Turns.{IsGet, IsOwnLine, IsPut}
 use Rattle.client_turns.proofs.Placing.{IsKeptAt, kept_at, set_at}
 
 -- ---- the open transaction of a client that may read

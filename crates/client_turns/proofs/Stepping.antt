@@ -17,7 +17,8 @@ use Rattle.client_turns.specs.Clients.{Moment, OpenTransaction, first_moment}
 use Rattle.client_turns.specs.Clients as clients
 use Rattle.client_turns.specs.Lines.{IsCountedBy}
 use Rattle.client_turns.specs.Standing.{AreClientsOf, ClientsState, IsWorkOfIfSome, LeadsTo, Shows, StandsForMoment, WritesLater}
-use Rattle.client_turns.specs.Turns.{IsStepAt, IsTold}
+use Rattle.client_turns.specs.Steps.{IsStepAt}
+use Rattle.client_turns.specs.Turns.{IsTold}
 use Rattle.client_turns.specs.Views.{View}
 use Rattle.client_turns.proofs.Growing.{left_writes, made_shows}
 

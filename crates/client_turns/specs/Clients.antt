@@ -38,7 +38,7 @@ nothing_pending = record { stores = []; checks = [] }
 
 -- no changes yet
 abbrev pub no_changes : Changes
-no_changes = record { pending = nothing_pending; is_voted = false }
+no_changes = record { pending = nothing_pending; savepoints = []; is_voted = false }
 
 -- a transaction that sees this
 abbrev pub begun : View → OpenTransaction

@@ -1,6 +1,6 @@
 -- What turns leave of the counts of faults. For the proofs of those who follow turns.
 use Rattle.std.proofs.Common.{◌≡◌, ℕ, Bool, true, false, not, ◌||◌, List, [], ◌∷◌, ◌++◌, length, Option, Some, None, Result, Ok, Err, if◌then◌else◌, nat_lt, refl, sym, ap, subst, ◌∙◌}
-use Rattle.std.specs.Prelude.{IfOk, IsErrOf}
+use Rattle.std.specs.Prelude.{IfOk, IsErrOf, slice_get}
 use Rattle.zb_model.specs.declared.pending.PendingStore.{PendingStore}
 use Rattle.zb_model.specs.declared.refusal.Refusal.{Refusal}
 use Rattle.zb_model.specs.declared.refusal.Refusal.TheVariants as refusal
@@ -9,7 +9,7 @@ use Rattle.zb_script.specs.declared.answer.Answer.TheVariants as answer
 use Rattle.zb_script.specs.declared.line.Line.{Line}
 use Rattle.zb_script.specs.declared.line.Line.TheVariants as line
 use Rattle.zb_script.specs.declared.line.Turn.{Turn}
-use Rattle.commit_phases.specs.Pending.{excess_with, pending_of}
+use Rattle.commit_phases.specs.Pending.{PendingChanges, excess_with, pending_of}
 use Rattle.zodb_core.specs.declared.reply.Reply.{Reply}
 use Rattle.zodb_core.specs.declared.reply.Reply.TheVariants as reply
 use Rattle.zodb_core.specs.declared.request.Request.{Request}
@@ -23,10 +23,12 @@ use Rattle.client_turns.specs.declared.errors.TurnError.{TurnError}
 use Rattle.client_turns.specs.declared.errors.TurnError.TheVariants as error
 use Rattle.client_turns.specs.declared.got.Got.{Got}
 use Rattle.client_turns.specs.Clients.{Client, Moment, OpenTransaction, changes_of, place_of_client}
-use Rattle.client_turns.specs.Lines.{Changed, IsCountedBy, answer_of, data_of, end_in, end_of, is_committed, object_of, outcome_of_answer, outcome_of_read, outcome_of_turn, put, request_of, store_unless, stored}
+use Rattle.client_turns.specs.Lines.{Changed, IsCountedBy, answer_of, data_of, end_in, end_of, is_committed, object_of, outcome_of_answer, outcome_of_read, outcome_of_turn, put, request_of, rolled_back, rolled_to, saved, store_unless, stored}
 use Rattle.client_turns.specs.Output.{Out, TurnAnswer, has_read_fault, is_last, is_read_fault}
 use Rattle.client_turns.specs.Refusing.{connection_refusal, line_refusal, mixed, pending_count, refusal_within, transaction_refusal}
-use Rattle.client_turns.specs.Turns.{IsAnswered, IsBroken, IsChange, IsClosed, IsClosing, IsGet, IsLine, IsLineOf, IsLineTaken, IsLineUnless, IsOpening, IsOwnLine, IsPut, IsStepAt, IsStepLine, IsTold, IsWithin, Opening, by_closing, by_line, by_memory}
+use Rattle.client_turns.specs.Steps.{IsChange, IsStepAt}
+use Rattle.client_turns.specs.Turns.{IsAnswered, IsBroken, IsClosed, IsClosing, IsGet, IsLine, IsLineOf, IsLineTaken, IsLineUnless, IsOpening, IsOwnLine, IsPut, IsStepLine, IsTold, IsWithin, Opening, by_closing, by_line, by_memory}
+use Rattle.client_turns.specs.DrawLaws.{tree_counts}
 use Rattle.client_turns.specs.TurnLaws.{by_name, reply_fine, starved_so}
 use Rattle.client_turns.specs.Views.{View}
 
@@ -76,6 +78,8 @@ transaction_answers : (t : Changes) (l : Line) → AnswersIfSome (transaction_re
 transaction_answers t (line.Store oid base bytes) = refused_if t.is_voted refusal.Voted (refl, refl)
 transaction_answers t (line.Put oid bytes) = refused_if t.is_voted refusal.Voted (refl, refl)
 transaction_answers t (line.Check oid serial) = refused_if t.is_voted refusal.Voted (refl, refl)
+transaction_answers t line.Savepoint = refused_if t.is_voted refusal.Voted (refl, refl)
+transaction_answers t (line.Rollback number) = refused_if t.is_voted refusal.Voted (refl, refl)
 transaction_answers t (line.Vote user description) = refused_if t.is_voted refusal.Voted (refl, refl)
 transaction_answers t (line.Undo user description tids) =
     answers_or (refuse_if t.is_voted refusal.Voted) (mixed t.pending) (refused_if t.is_voted refusal.Voted (refl, refl)) (refused_if (nat_lt 0 (pending_count t.pending)) (refusal.Mixed (pending_count t.pending)) (refl, refl))
@@ -99,6 +103,9 @@ line_answers t (line.Get oid) = within_answers t (line.Get oid)
 line_answers t (line.Store oid base bytes) = within_answers t (line.Store oid base bytes)
 line_answers t (line.Put oid bytes) = within_answers t (line.Put oid bytes)
 line_answers t (line.Check oid serial) = within_answers t (line.Check oid serial)
+line_answers t line.Savepoint = within_answers t line.Savepoint
+line_answers t (line.Rollback number) = within_answers t (line.Rollback number)
+line_answers t (line.Tree root call) = within_answers t (line.Tree root call)
 line_answers t (line.Vote user description) = within_answers t (line.Vote user description)
 line_answers t (line.Undo user description tids) = within_answers t (line.Undo user description tids)
 line_answers t line.Finish = within_answers t line.Finish
@@ -178,6 +185,10 @@ put_by m now at c t oid bytes None a is =
     read_by m a (put t.changes oid bytes is.0).answer is.0 now is.3.0 (put_outcome t.changes oid bytes is.0)
     (subst (λ (k : FaultCounts). IsCountedBy m.counts k (outcome_of_read is.0)) (sym (ap (λ (x : Moment). x.counts) is.3.1)) is.2.counts)
 
+rolled_outcome : (t : Changes) (number : ℕ) (o : Option PendingChanges) → outcome_of_answer (rolled_to t number o).answer ≡ Answered
+rolled_outcome t number None = refl
+rolled_outcome t number (Some pending) = refl
+
 within_by : (m now : Moment) (at : ℕ) (c : Client) (t : OpenTransaction) (l : Line) (a : Answer) → IsWithin m at c t l a now → CountsBy m a now
 within_by m now at c t (line.Load oid) a is = read_by m a (data_of is.0) is.0 now is.2 (data_outcome is.0) is.1.counts
 within_by m now at c t (line.Get oid) a is = get_by m now t.view oid (pending_of t.changes.pending.stores oid) a is
@@ -186,6 +197,9 @@ within_by m now at c t (line.Store oid base bytes) a is =
     (store_outcome t.changes (record { oid = oid; base = base; bytes = bytes }) (excess_with t.changes.pending.stores (record { oid = oid; base = base; bytes = bytes }))) is
 within_by m now at c t (line.Put oid bytes) a is = put_by m now at c t oid bytes (pending_of t.changes.pending.stores oid) a is
 within_by m now at c t (line.Check oid serial) a is = calm_by m a answer.Checked now is.0 refl (ap (λ (x : Moment). x.counts) is.1)
+within_by m now at c t line.Savepoint a is = calm_by m a (saved t.changes).answer now is.0 refl (ap (λ (x : Moment). x.counts) is.1)
+within_by m now at c t (line.Rollback number) a is = calm_by m a (rolled_back t.changes number).answer now is.0 (rolled_outcome t.changes number (slice_get t.changes.savepoints number)) (ap (λ (x : Moment). x.counts) is.1)
+within_by m now at c t (line.Tree root call) a is = tree_counts m at c t root call a now is
 within_by m now at c t _ a is = refused_by m refusal.NoTransaction a now refl is
 
 own_by : (m now : Moment) (at : ℕ) (c : Client) (t : Option OpenTransaction) (l : Line) (a : Answer) → IsOwnLine m at c t l a now → CountsBy m a now

@@ -1,5 +1,5 @@
 -- Laws of turns: what holds of all that scripts are answered, over whatever rules, stamps and faults. Own.
-use Rattle.std.specs.Prelude.{◌≡◌, ℕ, ◌<◌, ◌≤◌, List, ◌++◌, Option, Some, None, Ok, Err, length, All, IfSome, map, nat_eq, slice_get, Bool}
+use Rattle.std.specs.Prelude.{◌≡◌, ℕ, ◌<◌, ◌≤◌, List, ◌++◌, Option, Some, None, Ok, Err, length, All, IfSome, map, nat_eq, slice_get, Bool, true}
 use Rattle.std.specs.List.{AllByRecursion, AllPairs, IsDistinct, filter_map}
 use Rattle.zb_base.specs.Counts.{Rose}
 use Rattle.zb_ids.specs.declared.stamp.Stamp.{Stamp}
@@ -14,9 +14,14 @@ use Rattle.zb_script.specs.declared.answer.Answer.{Answer}
 use Rattle.zb_script.specs.declared.answer.Answer.TheVariants as answer
 use Rattle.zb_script.specs.declared.line.Line.TheVariants as line
 use Rattle.zb_script.specs.declared.line.Turn.{Turn}
-use Rattle.commit_phases.specs.Pending.{excess_with}
+use Rattle.zb_script.specs.declared.tree_call.TreeCall.{TreeCall}
+use Rattle.commit_phases.specs.Pending.{PendingChanges, excess_with}
+use Rattle.connection_view.specs.Connections.{stores_after}
+use Rattle.tree_calls.specs.declared.known.Seen.{Seen}
+use Rattle.tree_calls.specs.Calls.{IsRefused}
 use Rattle.zodb_core.specs.declared.reply.Reply.TheVariants as reply
 use Rattle.zodb_core.specs.declared.request.Request.{Request}
+use Rattle.zodb_core.specs.declared.request.Request.TheVariants as request
 use Rattle.zodb_core.specs.Machine.{Machine, Rules, session_limit, switches_of}
 use Rattle.zodb_core.specs.Outcomes.{FaultCounts}
 use Rattle.zodb_core.specs.Sound.{ComesTo, GrowsTo, IsSoundMachine}
@@ -27,13 +32,18 @@ use Rattle.client_turns.specs.Lines.{request_of}
 use Rattle.client_turns.specs.Output.{Out, TurnAnswer}
 use Rattle.client_turns.specs.Reads.{Reads}
 use Rattle.client_turns.specs.Refusing.{connection_refusal}
+use Rattle.client_turns.specs.Trees.{IsRaised, Sees, operation_of}
 use Rattle.client_turns.specs.Turns.{IsTurn}
 
 -- ---- words
 
--- the stores that wait name each object once
+-- stores that wait name each object once
+abbrev pub IsOncePending : PendingChanges → Type 0
+IsOncePending pending = IsDistinct nat_eq (map (λ p. p.oid) pending.stores)
+
+-- and so did those that waited at each savepoint
 abbrev pub AreOnce : Changes → Type 0
-AreOnce ch = IsDistinct nat_eq (map (λ p. p.oid) ch.pending.stores)
+AreOnce ch = IsOncePending ch.pending × AllByRecursion IsOncePending ch.savepoints
 
 abbrev pub IsOnceClient : Client → Type 0
 IsOnceClient c = IfSome (changes_of c) AreOnce
@@ -130,7 +140,8 @@ pub record IsNamed (m : Moment) (name : List ℕ) (c : Client) : Type 0 where
   pub there : slice_get m.clients at ≡ Some c
 
 -- Why a turn was refused so: the client never opened a session; too many are open; its connection refuses the line; the machine refuses the line's step; the
--- view hasn't got the object; what would wait is too long; or reading failed, and the count of failed reads rose.
+-- view hasn't got the object; what would wait is too long; a tree refuses the call, over what the transaction has; no number is left for a new object; a call would
+-- put something once the transaction is voted; there is no such savepoint; or reading failed, and the count of failed reads rose.
 pub data IsRefusedFor (rules : Rules) (m : Moment) (t : Turn) (why : Refusal) (now : Moment) : Type 0 where
   unnamed : place_of_client t.client m.clients ≡ None → why ≡ refusal.NotOpen → IsRefusedFor rules m t why now
   crowded : session_limit ≤ length m.machine.sessions → why ≡ refusal.TooManySessions (length m.machine.sessions) → IsRefusedFor rules m t why now
@@ -139,6 +150,12 @@ pub data IsRefusedFor (rules : Rules) (m : Moment) (t : Turn) (why : Refusal) (n
       → (step_of rules m.machine c.session q stamp).reply ≡ reply.Refused why → IsRefusedFor rules m t why now
   by_view : (o : OpenTransaction) (oid : ℕ) → HasOpen m t.client o → Reads m.machine o.view oid (Err why) → IsRefusedFor rules m t why now
   by_length : (o : OpenTransaction) (p : PendingStore) (n : ℕ) → HasOpen m t.client o → excess_with o.changes.pending.stores p ≡ Some n → why ≡ refusal.TooLong n → IsRefusedFor rules m t why now
+  by_call : (o : OpenTransaction) (objects : ℕ → Option Seen) (root : ℕ) (call : TreeCall) (numbers : List ℕ) → HasOpen m t.client o → t.line ≡ line.Tree root call → Sees m.machine o objects
+      → IsRefused objects root (operation_of call) numbers why → IsRefusedFor rules m t why now
+  by_number : (c : Client) (rules' : Rules) (b : Machine) (stamp : ℕ) → IsNamed m t.client c → IsRaised m.machine b → (step_of rules' b c.session (request.NewOids 1) stamp).reply ≡ reply.Refused why → IsRefusedFor rules m t why now
+  by_vote : (o : OpenTransaction) → HasOpen m t.client o → o.changes.is_voted ≡ true → why ≡ refusal.Voted → IsRefusedFor rules m t why now
+  by_lengths : (o : OpenTransaction) (puts : List PendingStore) (n : ℕ) → HasOpen m t.client o → stores_after o.changes.pending.stores puts ≡ Err n → why ≡ refusal.TooLong n → IsRefusedFor rules m t why now
+  by_savepoint : (o : OpenTransaction) (number : ℕ) → HasOpen m t.client o → slice_get o.changes.savepoints number ≡ None → why ≡ refusal.NoSavepoint number → IsRefusedFor rules m t why now
   by_reading : why ≡ refusal.ReadFault → Rose m.counts.reads now.counts.reads → IsRefusedFor rules m t why now
 
 abbrev pub RefusalsHaveTheirCause : Type 0

@@ -4,8 +4,12 @@ pub mod Clients
 pub mod Refusing
 pub mod Laws
 pub mod Lines
+pub mod Steps
+pub mod Trees
 pub mod Turns
 pub mod Output
 pub mod Standing
+pub mod Gathering
+pub mod DrawLaws
 pub mod TurnLaws
 pub mod CountLaws

@@ -1,5 +1,5 @@
 -- What a line asks of the machine, and what it is answered and leaves. Source: connections and transactions of ZODB.
-use Rattle.std.specs.Prelude.{◌≡◌, ℕ, List, [], ◌∷◌, ◌++◌, Option, Some, None, Result, Ok, Err, Bool, true, false}
+use Rattle.std.specs.Prelude.{◌≡◌, ℕ, ◌+◌, List, [], ◌∷◌, ◌++◌, length, take, slice_get, Option, Some, None, Result, Ok, Err, Bool, true, false}
 use Rattle.std.specs.Option.{option_map, option_map_or}
 use Rattle.zb_base.specs.Counts.{Rose}
 use Rattle.zb_model.specs.declared.refusal.Refusal.{Refusal}
@@ -62,7 +62,7 @@ answer_of (reply.Refused why) = answer.Refused why
 
 -- the open transaction is voted
 abbrev pub as_voted : OpenTransaction → OpenTransaction
-as_voted t = record { view = t.view; changes = record { pending = t.changes.pending; is_voted = true } }
+as_voted t = record { view = t.view; changes = record t.changes { is_voted = true } }
 
 -- what is left of the open transaction, in the machine behind the step: a front begins one, a vote is kept, and what ends it drops it
 abbrev pub transaction_left : Machine → Option OpenTransaction → Reply → Option OpenTransaction
@@ -105,6 +105,10 @@ abbrev pub outcome_of_read : Result Got Refusal → StepOutcome
 outcome_of_read (Ok got) = Answered
 outcome_of_read (Err why) = outcome_of_refusal why
 
+abbrev pub outcome_of_result : {T : Type 0} → Result T Refusal → StepOutcome
+outcome_of_result (Ok x) = Answered
+outcome_of_result (Err why) = outcome_of_refusal why
+
 abbrev pub outcome_of_answer : Answer → StepOutcome
 outcome_of_answer (answer.Refused why) = outcome_of_refusal why
 outcome_of_answer _ = Answered
@@ -139,7 +143,7 @@ unchanged t a = record { answer = a; changes = t }
 -- store: it waits, unless it is too long, by itself or with the others
 abbrev pub store_unless : Changes → PendingStore → Option ℕ → Changed
 store_unless t p (Some length) = unchanged t (answer.Refused (refusal.TooLong length))
-store_unless t p None = record { answer = answer.Stored; changes = record { pending = record { stores = with_pending t.pending.stores p; checks = t.pending.checks }; is_voted = t.is_voted } }
+store_unless t p None = record { answer = answer.Stored; changes = record t { pending = record { stores = with_pending t.pending.stores p; checks = t.pending.checks } } }
 
 abbrev pub stored : Changes → PendingStore → Changed
 stored t p = store_unless t p (excess_with t.pending.stores p)
@@ -152,7 +156,7 @@ put t oid bytes (Err why) = unchanged t (answer.Refused why)
 
 -- check: it waits behind the others
 abbrev pub checked : Changes → PendingCheck → Changed
-checked t c = record { answer = answer.Checked; changes = record { pending = record { stores = t.pending.stores; checks = t.pending.checks ++ c ∷ [] }; is_voted = t.is_voted } }
+checked t c = record { answer = answer.Checked; changes = record t { pending = record { stores = t.pending.stores; checks = t.pending.checks ++ c ∷ [] } } }
 
 -- load and get: what a read answers
 abbrev pub data_of : Result Got Refusal → Answer
@@ -166,3 +170,15 @@ object_of (Err why) = answer.Refused why
 -- get of what waits: its base stands as its serial
 abbrev pub object_pending : PendingStore → Answer
 object_pending p = answer.Object p.base p.bytes
+
+-- savepoint: what waits is saved, behind the other savepoints
+abbrev pub saved : Changes → Changed
+saved t = record { answer = answer.Savepoint (length t.savepoints); changes = record t { savepoints = t.savepoints ++ t.pending ∷ [] } }
+
+abbrev pub rolled_to : Changes → ℕ → Option PendingChanges → Changed
+rolled_to t number None = unchanged t (answer.Refused (refusal.NoSavepoint number))
+rolled_to t number (Some pending) = record { answer = answer.Rolled number; changes = record t { pending = pending; savepoints = take (number + 1) t.savepoints } }
+
+-- rollback: what waited at a savepoint waits again; that savepoint stays, and is the last one
+abbrev pub rolled_back : Changes → ℕ → Changed
+rolled_back t number = rolled_to t number (slice_get t.savepoints number)

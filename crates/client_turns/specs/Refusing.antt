@@ -26,6 +26,8 @@ transaction_refusal t (line.Put oid bytes) = refuse_if t.is_voted refusal.Voted
 transaction_refusal t (line.Check oid serial) = refuse_if t.is_voted refusal.Voted
 transaction_refusal t (line.Vote user description) = refuse_if t.is_voted refusal.Voted
 transaction_refusal t (line.Undo user description tids) = option_or (refuse_if t.is_voted refusal.Voted) (mixed t.pending)
+transaction_refusal t line.Savepoint = refuse_if t.is_voted refusal.Voted
+transaction_refusal t (line.Rollback number) = refuse_if t.is_voted refusal.Voted
 transaction_refusal t _ = None
 
 -- a line that needs an open transaction

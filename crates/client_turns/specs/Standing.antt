@@ -31,7 +31,8 @@ use Rattle.client_turns.specs.Clients as clients
 use Rattle.client_turns.specs.Lines.{Changed, IsCountedBy, answer_of, end_of, outcome_of_answer, outcome_of_read}
 use Rattle.client_turns.specs.Refusing.{line_refusal}
 use Rattle.client_turns.specs.Reads.{held_below}
-use Rattle.client_turns.specs.Turns.{IsClosingAt, IsOwnLine, IsReadAt, IsStepLine}
+use Rattle.client_turns.specs.Steps.{IsReadAt}
+use Rattle.client_turns.specs.Turns.{IsClosingAt, IsOwnLine, IsStepLine}
 use Rattle.client_turns.specs.Views.{View}
 
 -- what contracts see of clients over a hub
@@ -93,7 +94,7 @@ pub record LeadsTo {R F : Type 0} (Q : Moment → Type 0) (seen : ClientsState R
   pub stands : StandsForMoment seen left now
 
 abbrev pub work_voted : Work → Work
-work_voted w = record { front = w.front; switches = w.switches; changes = record { pending = w.changes.pending; is_voted = true } }
+work_voted w = record { front = w.front; switches = w.switches; changes = record w.changes { is_voted = true } }
 
 -- what is left of the open transaction behind a reply
 abbrev pub work_left : Option Work → Reply → Option Work

@@ -29,7 +29,10 @@ use Rattle.client_turns.specs.declared.client.Changes.{Changes}
 use Rattle.client_turns.specs.declared.errors.TurnError.TheVariants as error
 use Rattle.client_turns.specs.Lines.{answer_of, end_in, end_of, is_committed, pending_in, request_of}
 use Rattle.client_turns.specs.Refusing.{connection_refusal}
-use Rattle.client_turns.specs.Turns.{IsAnswered, IsClosed, IsClosing, IsGet, IsLine, IsLineOf, IsLineTaken, IsLineUnless, IsOpening, IsOwnLine, IsPut, IsStepAt, IsStepLine, IsTold, IsWithin, Opening}
+use Rattle.client_turns.specs.Steps.{IsStepAt}
+use Rattle.client_turns.specs.DrawLaws.{raised_same, tree_raised}
+use Rattle.client_turns.specs.Trees.{IsRaised}
+use Rattle.client_turns.specs.Turns.{IsAnswered, IsClosed, IsClosing, IsGet, IsLine, IsLineOf, IsLineTaken, IsLineUnless, IsOpening, IsOwnLine, IsPut, IsStepLine, IsTold, IsWithin, Opening}
 use Rattle.client_turns.specs.Views.{View}
 
 -- ---- the list behind a step
@@ -265,6 +268,9 @@ same_behind rules m (line.Get oid) list is = is
 same_behind rules m (line.Store oid base bytes) list is = is
 same_behind rules m (line.Put oid bytes) list is = is
 same_behind rules m (line.Check oid serial) list is = is
+same_behind rules m line.Savepoint list is = is
+same_behind rules m (line.Rollback number) list is = is
+same_behind rules m (line.Tree root call) list is = is
 same_behind rules m line.New list is = is
 same_behind rules m (line.Vote user description) list is = is
 same_behind rules m (line.Undo user description tids) list is = is
@@ -287,6 +293,9 @@ asked_behind rules m ch (line.Get oid) q list asks left = absurd cc
 asked_behind rules m ch (line.Store oid base bytes) q list asks left = absurd cc
 asked_behind rules m ch (line.Put oid bytes) q list asks left = absurd cc
 asked_behind rules m ch (line.Check oid serial) q list asks left = absurd cc
+asked_behind rules m ch line.Savepoint q list asks left = absurd cc
+asked_behind rules m ch (line.Rollback number) q list asks left = absurd cc
+asked_behind rules m ch (line.Tree root call) q list asks left = absurd cc
 asked_behind rules m ch line.New q list asks left = subst (λ (x : Request). IsListLeft rules m x list) (sym (same_request (request.NewOids 1) q asks)) left
 asked_behind rules m ch (line.Vote user description) q list asks left = subst (λ (x : Request). IsListLeft rules m x list) (sym (same_request (request.Vote user description [] (pending_in ch)) q asks)) left
 asked_behind rules m ch (line.Undo user description tids) q list asks left = subst (λ (x : Request). IsListLeft rules m x list) (sym (same_request (request.Undo user description tids) q asks)) left
@@ -329,27 +338,37 @@ put_same : (m now : Moment) (at : ℕ) (c : Client) (t : OpenTransaction) (oid :
 put_same m now at c t oid bytes None a is = ap (λ (x : Moment). x.machine) is.3.1 ∙ ap (λ (x : Moment). x.machine) is.2.rest
 put_same m now at c t oid bytes (Some p) a is = ap (λ (x : Moment). x.machine) is.1
 
-within_same : (m now : Moment) (at : ℕ) (c : Client) (t : OpenTransaction) (l : Line) (a : Answer) → IsWithin m at c t l a now → now.machine ≡ m.machine
-within_same m now at c t line.Open a is = ap (λ (x : Moment). x.machine) is.1
-within_same m now at c t line.Begin a is = ap (λ (x : Moment). x.machine) is.1
-within_same m now at c t (line.Load oid) a is = ap (λ (x : Moment). x.machine) is.1.rest
-within_same m now at c t (line.Get oid) a is = get_same m now t.view oid (pending_of t.changes.pending.stores oid) a is
-within_same m now at c t (line.Store oid base bytes) a is = ap (λ (x : Moment). x.machine) is.1
-within_same m now at c t (line.Put oid bytes) a is = put_same m now at c t oid bytes (pending_of t.changes.pending.stores oid) a is
-within_same m now at c t (line.Check oid serial) a is = ap (λ (x : Moment). x.machine) is.1
-within_same m now at c t line.New a is = ap (λ (x : Moment). x.machine) is.1
-within_same m now at c t (line.Vote user description) a is = ap (λ (x : Moment). x.machine) is.1
-within_same m now at c t (line.Undo user description tids) a is = ap (λ (x : Moment). x.machine) is.1
-within_same m now at c t line.Finish a is = ap (λ (x : Moment). x.machine) is.1
-within_same m now at c t line.Abort a is = ap (λ (x : Moment). x.machine) is.1
-within_same m now at c t (line.History oid) a is = ap (λ (x : Moment). x.machine) is.1
-within_same m now at c t line.UndoLog a is = ap (λ (x : Moment). x.machine) is.1
-within_same m now at c t (line.Pack tid) a is = ap (λ (x : Moment). x.machine) is.1
-within_same m now at c t line.Close a is = ap (λ (x : Moment). x.machine) is.1
+within_raised : (m now : Moment) (at : ℕ) (c : Client) (t : OpenTransaction) (l : Line) (a : Answer) → IsWithin m at c t l a now → IsRaised m.machine now.machine
+within_raised m now at c t (line.Load oid) a is = raised_same m.machine now.machine (ap (λ (x : Moment). x.machine) is.1.rest)
+within_raised m now at c t (line.Get oid) a is = raised_same m.machine now.machine (get_same m now t.view oid (pending_of t.changes.pending.stores oid) a is)
+within_raised m now at c t (line.Store oid base bytes) a is = raised_same m.machine now.machine (ap (λ (x : Moment). x.machine) is.1)
+within_raised m now at c t (line.Put oid bytes) a is = raised_same m.machine now.machine (put_same m now at c t oid bytes (pending_of t.changes.pending.stores oid) a is)
+within_raised m now at c t (line.Check oid serial) a is = raised_same m.machine now.machine (ap (λ (x : Moment). x.machine) is.1)
+within_raised m now at c t line.Savepoint a is = raised_same m.machine now.machine (ap (λ (x : Moment). x.machine) is.1)
+within_raised m now at c t (line.Rollback number) a is = raised_same m.machine now.machine (ap (λ (x : Moment). x.machine) is.1)
+within_raised m now at c t (line.Tree root call) a is = tree_raised m at c t root call a now is
+within_raised m now at c t line.Open a is = raised_same m.machine now.machine (ap (λ (x : Moment). x.machine) is.1)
+within_raised m now at c t line.Begin a is = raised_same m.machine now.machine (ap (λ (x : Moment). x.machine) is.1)
+within_raised m now at c t line.New a is = raised_same m.machine now.machine (ap (λ (x : Moment). x.machine) is.1)
+within_raised m now at c t (line.Vote user description) a is = raised_same m.machine now.machine (ap (λ (x : Moment). x.machine) is.1)
+within_raised m now at c t (line.Undo user description tids) a is = raised_same m.machine now.machine (ap (λ (x : Moment). x.machine) is.1)
+within_raised m now at c t line.Finish a is = raised_same m.machine now.machine (ap (λ (x : Moment). x.machine) is.1)
+within_raised m now at c t line.Abort a is = raised_same m.machine now.machine (ap (λ (x : Moment). x.machine) is.1)
+within_raised m now at c t (line.History oid) a is = raised_same m.machine now.machine (ap (λ (x : Moment). x.machine) is.1)
+within_raised m now at c t line.UndoLog a is = raised_same m.machine now.machine (ap (λ (x : Moment). x.machine) is.1)
+within_raised m now at c t (line.Pack tid) a is = raised_same m.machine now.machine (ap (λ (x : Moment). x.machine) is.1)
+within_raised m now at c t line.Close a is = raised_same m.machine now.machine (ap (λ (x : Moment). x.machine) is.1)
 
-pub own_same : (m now : Moment) (at : ℕ) (c : Client) (t : Option OpenTransaction) (l : Line) (a : Answer) → IsOwnLine m at c t l a now → now.machine ≡ m.machine
-own_same m now at c None l a is = ap (λ (x : Moment). x.machine) is.1
-own_same m now at c (Some t) l a is = within_same m now at c t l a is
+-- a line that is no step leaves the machine with no lower greatest number, and else as it was
+pub own_raised : (m now : Moment) (at : ℕ) (c : Client) (t : Option OpenTransaction) (l : Line) (a : Answer) → IsOwnLine m at c t l a now → IsRaised m.machine now.machine
+own_raised m now at c None l a is = raised_same m.machine now.machine (ap (λ (x : Moment). x.machine) is.1)
+own_raised m now at c (Some t) l a is = within_raised m now at c t l a is
+
+raised_whole : (rules : Rules) (m : Moment) (l : Line) (now : Moment) (a : Answer) → IsRaised m.machine now.machine → LeavesWhole rules m l now a
+raised_whole rules m l now a raised = record {
+  list = same_behind rules m.machine l now.machine.list (ap (λ (x : Machine). x.list) raised.is);
+  whole = λ ends whole. ap (λ (x : Machine). x.failed) raised.is ∙ whole;
+}
 
 step_line_whole : (rules : Rules) (m : Moment) (l : Line) (now : Moment) (at : ℕ) (c : Client) (q : Request) (a : Answer) → request_of (changes_of c) l ≡ Some q → IsStepLine rules m at c q a now → LeavesWhole rules m l now a
 step_line_whole rules m l now at c q a asks is = record {
@@ -364,7 +383,7 @@ step_line_whole rules m l now at c q a asks is = record {
 
 taken_whole : (rules : Rules) (m now : Moment) (at : ℕ) (c : Client) (l : Line) (q : Option Request) (a : Answer) → request_of (changes_of c) l ≡ q → IsLineTaken rules m at c l q a now → LeavesWhole rules m l now a
 taken_whole rules m now at c l (Some q) a asks is = step_line_whole rules m l now at c q a asks is
-taken_whole rules m now at c l None a asks is = same_whole rules m l now a (own_same m now at c c.transaction l a is)
+taken_whole rules m now at c l None a asks is = raised_whole rules m l now a (own_raised m now at c c.transaction l a is)
 
 unless_whole : (rules : Rules) (m now : Moment) (at : ℕ) (c : Client) (l : Line) (r : Option Refusal) (a : Answer) → IsLineUnless rules m at c l r a now → LeavesWhole rules m l now a
 unless_whole rules m now at c l (Some why) a is = same_whole rules m l now a (ap (λ (x : Moment). x.machine) is.1)
@@ -382,6 +401,9 @@ by_name rules m now name (line.Get oid) a P opening named is = named is
 by_name rules m now name (line.Store oid base bytes) a P opening named is = named is
 by_name rules m now name (line.Put oid bytes) a P opening named is = named is
 by_name rules m now name (line.Check oid serial) a P opening named is = named is
+by_name rules m now name line.Savepoint a P opening named is = named is
+by_name rules m now name (line.Rollback number) a P opening named is = named is
+by_name rules m now name (line.Tree root call) a P opening named is = named is
 by_name rules m now name line.New a P opening named is = named is
 by_name rules m now name (line.Vote user description) a P opening named is = named is
 by_name rules m now name (line.Undo user description tids) a P opening named is = named is

@@ -11,41 +11,17 @@ use Rattle.zb_script.specs.declared.line.Turn.{Turn}
 use Rattle.zodb_core.specs.declared.reply.Reply.{Reply}
 use Rattle.zodb_core.specs.declared.request.Request.{Request}
 use Rattle.zodb_core.specs.declared.request.Request.TheVariants as request
-use Rattle.zodb_core.specs.HubState.{HasTicked}
 use Rattle.zodb_core.specs.Machine.{Rules, session_limit, with_session}
-use Rattle.zodb_core.specs.Outcomes.{AreLaterCounts, IsStepMade, outcome_of}
 use Rattle.client_turns.specs.declared.errors.TurnError.{TurnError}
 use Rattle.client_turns.specs.declared.errors.TurnError.TheVariants as error
 use Rattle.client_turns.specs.declared.got.Got.{Got}
 use Rattle.commit_phases.specs.Pending.{pending_of}
 use Rattle.client_turns.specs.Clients.{Client, Moment, OpenTransaction, changes_of, place_of_client, with_client}
-use Rattle.client_turns.specs.Lines.{Changed, IsCountedBy, answer_of, checked, client_left, data_of, end_of, is_committed, object_of, object_pending, outcome_of_read, put, request_of, stored, with_changes}
-use Rattle.client_turns.specs.Reads.{EndsReading}
+use Rattle.client_turns.specs.Lines.{answer_of, checked, client_left, data_of, end_of, is_committed, object_of, object_pending, put, request_of, rolled_back, saved, stored}
+use Rattle.client_turns.specs.Steps.{IsChange, IsReadAt, IsRefusedAt, IsStepAt}
+use Rattle.client_turns.specs.Trees.{IsTreeLine}
 use Rattle.client_turns.specs.Refusing.{connection_refusal}
 use Rattle.client_turns.specs.Views.{View}
-
--- ---- steps and reads at a moment
-
--- A step of session n leads from one moment to another. Only the machine, the clock, where it was read, and the counts have changed, and these as the reply says: a
--- count rose where something failed, and else none has moved.
-pub record IsStepAt (rules : Rules) (m : Moment) (n : ℕ) (q : Request) (r : Reply) (now : Moment) : Type 0 where
-  pub stamp : ℕ
-  pub ticks : Bool
-  pub made : IsStepMade rules m.machine n q stamp (record { reply = r; machine = now.machine; ticks = ticks }) m.counts now.counts
-  pub counts : IsCountedBy m.counts now.counts (outcome_of r)
-  pub clock : HasTicked ticks stamp m.stamps now.stamps
-  pub clients : now.clients ≡ m.clients
-
--- A read of an object in a view leads from one moment to another, where just the counts may have risen, and that of failed reads alone where it says so.
-pub record IsReadAt (m : Moment) (v : View) (oid : ℕ) (result : Result Got Refusal) (now : Moment) : Type 0 where
-  pub later : AreLaterCounts m.counts now.counts
-  pub ends : EndsReading m.machine v oid m.counts now.counts result
-  pub counts : IsCountedBy m.counts now.counts (outcome_of_read result)
-  pub rest : now ≡ record m { counts = now.counts }
-
--- a refusal leaves all as it is
-abbrev pub IsRefusedAt : Moment → Refusal → Answer → Moment → Type 0
-IsRefusedAt m why a now = (a ≡ answer.Refused why) × (now ≡ m)
 
 -- ---- lines of an open connection
 
@@ -63,10 +39,6 @@ pub record IsStepLine (rules : Rules) (m : Moment) (at : ℕ) (c : Client) (q : 
   pub front : IsTold rules (is_committed reply) behind c.session told
   pub answer : a ≡ answer_of reply
   pub left : now ≡ with_client told at (client_left told.machine c reply)
-
--- a line that gives the client's transaction these changes, with nothing else done
-abbrev pub IsChange : Moment → ℕ → Client → OpenTransaction → Changed → Answer → Moment → Type 0
-IsChange m at c t w a now = (a ≡ w.answer) × (now ≡ with_client m at (with_changes c t w.changes))
 
 -- a line that is answered by a read
 abbrev pub IsReadLine : Moment → View → ℕ → (Result Got Refusal → Answer) → Answer → Moment → Type 0
@@ -89,6 +61,9 @@ IsWithin m at c t (line.Get oid) a now = IsGet m t.view oid (pending_of t.change
 IsWithin m at c t (line.Store oid base bytes) a now = IsChange m at c t (stored t.changes (record { oid = oid; base = base; bytes = bytes })) a now
 IsWithin m at c t (line.Put oid bytes) a now = IsPut m at c t oid bytes (pending_of t.changes.pending.stores oid) a now
 IsWithin m at c t (line.Check oid serial) a now = IsChange m at c t (checked t.changes (record { oid = oid; serial = serial })) a now
+IsWithin m at c t line.Savepoint a now = IsChange m at c t (saved t.changes) a now
+IsWithin m at c t (line.Rollback number) a now = IsChange m at c t (rolled_back t.changes number) a now
+IsWithin m at c t (line.Tree root call) a now = IsTreeLine m at c t root call a now
 IsWithin m at c t _ a now = IsRefusedAt m refusal.NoTransaction a now
 
 -- a line that is no step; without a transaction it is refused before

@@ -1,17 +1,20 @@
 //! Lines that change what waits for the vote.
 
-ghost use Rattle.std.specs.Prelude.{◌≡◌, ◌<◌, IfOk, IsSome, OnErr, Some, length, slice_get, true};
+ghost use Rattle.std.specs.Prelude.{◌≡◌, ◌<◌, All, IfOk, IsSome, OnErr, Some, length, slice_get, true};
 ghost use Rattle.zodb_core.specs.Outcomes.{Answered, FaultCounts};
 ghost use Rattle.client_turns.specs.declared.client.Client.{Client};
-ghost use Rattle.client_turns.specs.Lines.{checked, outcome_of_answer, put, stored};
+ghost use Rattle.client_turns.specs.Lines.{checked, outcome_of_answer, put, rolled_back, saved, stored};
+ghost use Rattle.client_turns.specs.Trees.{all_stored};
 ghost use Rattle.client_turns.specs.Standing.{HasReadCause, HasTurnCause, IsChangedAt, IsChangedBy, found_or_missing};
 
 use crate::client::{Changes, Client, Work};
 use crate::got::Got;
 use commit_phases::PendingError;
+use connection_view::with_stores;
+use savepoints::SavepointError;
 use std::alloc::AllocError;
-use zb_ids::{Oid, Text8, Tid};
-use zb_model::Refusal;
+use zb_ids::{ListOf, Oid, Text8, Tid};
+use zb_model::{PendingStore, Refusal};
 use zb_script::Answer;
 
 /// An object's new bytes wait for the vote, unless they are too long, by themselves or with the others.
@@ -69,6 +72,64 @@ fn check(changes: &mut Changes, oid: Oid, serial: Tid) -> Result<Answer, AllocEr
     Ok(Answer::Checked)
 }
 
+/// What waits is saved.
+fn save(changes: &mut Changes) -> Result<Answer, AllocError>
+    ensures saved { IfOk result (λ a. record { answer = a; changes = changes.new } ≡ saved changes.old) }
+    ensures quiet { IfOk result (λ a. outcome_of_answer a ≡ Answered) }
+    ensures err { OnErr result (changes.new ≡ changes.old) }
+{
+    let number = changes.savepoints.save(&changes.pending)?;
+    Ok(Answer::Savepoint { number })
+}
+
+/// What waits is again what waited at a savepoint.
+fn roll_back(changes: &mut Changes, number: u64) -> Result<Answer, AllocError>
+    ensures rolled { IfOk result (λ a. record { answer = a; changes = changes.new } ≡ rolled_back changes.old number) }
+    ensures quiet { IfOk result (λ a. outcome_of_answer a ≡ Answered) }
+    ensures err { OnErr result (changes.new ≡ changes.old) }
+{
+    match changes.savepoints.rollback(number) {
+        Ok(pending) => {
+            changes.pending = pending;
+            Ok(Answer::Rolled { number })
+        }
+        Err(SavepointError::NoSavepoint { number }) => {
+            Ok(Answer::Refused(Refusal::NoSavepoint { number }))
+        }
+        Err(SavepointError::Memory) => Err(AllocError),
+    }
+}
+
+/// What a call on a tree puts waits for the vote, all of it or nothing.
+fn put_all(
+    changes: &mut Changes,
+    answer: Answer,
+    puts: ListOf<PendingStore>,
+) -> Result<Answer, AllocError>
+    requires filled { All (λ p. 0 < length p.bytes) puts }
+    requires answered { outcome_of_answer answer ≡ Answered }
+    ensures stored { IfOk result (λ a. record { answer = a; changes = changes.new }
+        ≡ all_stored changes.old answer puts) }
+    ensures quiet { IfOk result (λ a. outcome_of_answer a ≡ Answered) }
+    ensures err { OnErr result (changes.new ≡ changes.old) }
+{
+    if puts.is_empty() {
+        return Ok(answer);
+    }
+    if changes.is_voted {
+        return Ok(Answer::Refused(Refusal::Voted));
+    }
+    let pending = changes.pending.copy()?;
+    match with_stores(pending, puts) {
+        Ok(pending) => {
+            changes.pending = pending;
+            Ok(answer)
+        }
+        Err(PendingError::TooLong { length }) => Ok(Answer::Refused(Refusal::TooLong { length })),
+        Err(PendingError::Memory) => Err(AllocError),
+    }
+}
+
 /// An object's new bytes wait for the vote of an open transaction.
 fn store_in(
     work: &mut Option<Work>,
@@ -117,6 +178,48 @@ fn check_in(work: &mut Option<Work>, oid: Oid, serial: Tid) -> Result<Answer, Al
 {
     match work {
         Some(work) => check(&mut work.changes, oid, serial),
+        None => Ok(Answer::Refused(Refusal::NoTransaction)),
+    }
+}
+
+/// What waits in an open transaction is saved.
+fn save_in(work: &mut Option<Work>) -> Result<Answer, AllocError>
+    ensures changed { IfOk result (λ a. IsChangedBy saved work.old a work.new) }
+    ensures quiet { IfOk result (λ a. outcome_of_answer a ≡ Answered) }
+    ensures err { OnErr result (work.new ≡ work.old) }
+{
+    match work {
+        Some(work) => save(&mut work.changes),
+        None => Ok(Answer::Refused(Refusal::NoTransaction)),
+    }
+}
+
+/// An open transaction goes back to a savepoint.
+fn roll_back_in(work: &mut Option<Work>, number: u64) -> Result<Answer, AllocError>
+    ensures changed { IfOk result (λ a. IsChangedBy (λ t. rolled_back t number) work.old a work.new) }
+    ensures quiet { IfOk result (λ a. outcome_of_answer a ≡ Answered) }
+    ensures err { OnErr result (work.new ≡ work.old) }
+{
+    match work {
+        Some(work) => roll_back(&mut work.changes, number),
+        None => Ok(Answer::Refused(Refusal::NoTransaction)),
+    }
+}
+
+/// What a call on a tree puts waits for the vote of an open transaction.
+fn put_all_in(
+    work: &mut Option<Work>,
+    answer: Answer,
+    puts: ListOf<PendingStore>,
+) -> Result<Answer, AllocError>
+    requires filled { All (λ p. 0 < length p.bytes) puts }
+    requires answered { outcome_of_answer answer ≡ Answered }
+    ensures changed { IfOk result (λ a. IsChangedBy (λ t. all_stored t answer puts) work.old a work.new) }
+    ensures quiet { IfOk result (λ a. outcome_of_answer a ≡ Answered) }
+    ensures err { OnErr result (work.new ≡ work.old) }
+{
+    match work {
+        Some(work) => put_all(&mut work.changes, answer, puts),
         None => Ok(Answer::Refused(Refusal::NoTransaction)),
     }
 }
@@ -180,4 +283,51 @@ pub(crate) fn check_at(
     ensures kept { length clients.new.items ≡ length clients.old.items }
 {
     check_in(&mut clients[at].transaction, oid, serial)
+}
+
+/// What waits in the transaction of the client at a place is saved.
+pub(crate) fn save_at(clients: &mut Vec<Client>, at: usize) -> Result<Answer, AllocError>
+    requires place { at < length clients.old.items }
+    ensures changed { (x : Client) → slice_get clients.old.items at ≡ Some x → IfOk result (λ a.
+        IsChangedAt saved clients.old.items at x a clients.new.items) }
+    ensures quiet { IfOk result (λ a. outcome_of_answer a ≡ Answered) }
+    ensures err { OnErr result (clients.new.items ≡ clients.old.items) }
+    ensures kept { length clients.new.items ≡ length clients.old.items }
+{
+    save_in(&mut clients[at].transaction)
+}
+
+/// The transaction of the client at a place goes back to a savepoint.
+pub(crate) fn roll_back_at(
+    clients: &mut Vec<Client>,
+    at: usize,
+    number: u64,
+) -> Result<Answer, AllocError>
+    requires place { at < length clients.old.items }
+    ensures changed { (x : Client) → slice_get clients.old.items at ≡ Some x → IfOk result (λ a.
+        IsChangedAt (λ t. rolled_back t number) clients.old.items at x a clients.new.items) }
+    ensures quiet { IfOk result (λ a. outcome_of_answer a ≡ Answered) }
+    ensures err { OnErr result (clients.new.items ≡ clients.old.items) }
+    ensures kept { length clients.new.items ≡ length clients.old.items }
+{
+    roll_back_in(&mut clients[at].transaction, number)
+}
+
+/// What a call on a tree puts waits for the vote of the transaction of the client at a place.
+pub(crate) fn put_all_at(
+    clients: &mut Vec<Client>,
+    at: usize,
+    answer: Answer,
+    puts: ListOf<PendingStore>,
+) -> Result<Answer, AllocError>
+    requires place { at < length clients.old.items }
+    requires filled { All (λ p. 0 < length p.bytes) puts }
+    requires answered { outcome_of_answer answer ≡ Answered }
+    ensures changed { (x : Client) → slice_get clients.old.items at ≡ Some x → IfOk result (λ a.
+        IsChangedAt (λ t. all_stored t answer puts) clients.old.items at x a clients.new.items) }
+    ensures quiet { IfOk result (λ a. outcome_of_answer a ≡ Answered) }
+    ensures err { OnErr result (clients.new.items ≡ clients.old.items) }
+    ensures kept { length clients.new.items ≡ length clients.old.items }
+{
+    put_all_in(&mut clients[at].transaction, answer, puts)
 }

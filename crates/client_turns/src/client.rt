@@ -7,6 +7,7 @@ ghost use Rattle.client_turns.specs.Standing.{changes_in};
 ghost use Rattle.client_turns.specs.declared.client.Client.{Client};
 
 use commit_phases::Pending;
+use savepoints::Savepoints;
 use zb_ids::Tid;
 use zb_script::Name;
 
@@ -15,7 +16,9 @@ use zb_script::Name;
 pub struct Changes {
     /// The stores and checks that wait for a vote.
     pub pending: Pending,
-    /// Whether they are voted, or an undo is.
+    /// What waited at each of its savepoints.
+    pub savepoints: Savepoints,
+    /// Whether the stores and checks are voted, or an undo is.
     pub is_voted: bool,
 }
 

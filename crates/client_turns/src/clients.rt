@@ -8,7 +8,8 @@ ghost use Rattle.zodb_core.specs.HubState.{IsFitting, counts_of, rules_of};
 ghost use Rattle.zodb_core.specs.Outcomes.{NoMemory, ReadingFailed, StoreFailed, is_pack, keeps_store, outcome_of, reads_store, takes_memory};
 ghost use Rattle.client_turns.specs.Clients.{Moment, first_moment};
 ghost use Rattle.client_turns.specs.Standing.{IsListFor, LeadsTo, MakesSafely, StandsForMoment};
-ghost use Rattle.client_turns.specs.Turns.{IsStepAt, IsTold};
+ghost use Rattle.client_turns.specs.Steps.{IsStepAt};
+ghost use Rattle.client_turns.specs.Turns.{IsTold};
 
 use crate::client::Client;
 use std::alloc::Global;

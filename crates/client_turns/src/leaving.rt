@@ -7,6 +7,7 @@ ghost use Rattle.client_turns.specs.Standing.{with_work, work_left, work_voted};
 
 use crate::client::{Changes, Client, Work};
 use commit_phases::Pending;
+use savepoints::Savepoints;
 use std::alloc::Global;
 use zb_ids::Tid;
 use zodb_core::Reply;
@@ -20,6 +21,7 @@ fn begun(alloc: Global, front: Tid, switches: u64) -> Work
         switches,
         changes: Changes {
             pending: Pending::new(alloc),
+            savepoints: Savepoints::new(alloc),
             is_voted: false,
         },
     }
@@ -34,6 +36,7 @@ fn voted(work: Work) -> Work
         switches: work.switches,
         changes: Changes {
             pending: work.changes.pending,
+            savepoints: work.changes.savepoints,
             is_voted: true,
         },
     }

@@ -14,6 +14,7 @@ mod reading;
 mod refusing;
 mod requests;
 mod steps;
+mod trees;
 mod turns;
 
 pub use client::{Changes, Client, Work};

@@ -6,9 +6,10 @@ ghost use Rattle.zb_volume.specs.Moments.{Leaves, LeavesOnly, StaysAs};
 ghost use Rattle.zodb_core.specs.HubState.{counts_of};
 ghost use Rattle.zodb_core.specs.Outcomes.{AreLaterCounts};
 ghost use Rattle.client_turns.specs.Clients.{Moment};
+ghost use Rattle.client_turns.specs.Gathering.{IsListKept};
 ghost use Rattle.client_turns.specs.Standing.{HasReadCause, HasTurnCause, IsOwnOf, IsReadOf, LeadsTo, MayReadAt, OrAsBefore, StandsForMoment, found_or_missing};
 
-use crate::changing::{check_at, put_at, store_at};
+use crate::changing::{check_at, put_at, roll_back_at, save_at, store_at};
 use crate::client::{session_at, work_at};
 use crate::clients::Clients;
 use crate::got::Got;
@@ -22,8 +23,8 @@ use zodb_core::Request;
 
 impl<St: Store, R: Resolver, F: Refs> Clients<St, R, F> {
     /// Reads an object in the view of the client at a place, whose session is open.
-    #[tactic(auto, using(crate::proofs::Causes::calm_read, crate::proofs::Causes::read_cause, crate::proofs::Crashes::unmoved, zb_model::specs::StayLaws::stays_same))]
-    fn read<C: Clock>(
+    #[tactic(auto, using(crate::proofs::Causes::calm_read, crate::proofs::Causes::read_cause, crate::proofs::Crashes::unmoved, crate::proofs::Gathering::whole_step, crate::proofs::Gathering::kept_same, crate::proofs::Gathering::load_keeps, zb_model::specs::StayLaws::stays_same))]
+    pub(crate) fn read<C: Clock>(
         &mut self,
         alloc: Global,
         at: usize,
@@ -45,6 +46,9 @@ impl<St: Store, R: Resolver, F: Refs> Clients<St, R, F> {
             counts_of self.new.hub.store ≡ counts_of self.old.hub.store }
         ensures cause { HasReadCause (counts_of self.old.hub.store) (counts_of self.new.hub.store) result }
         ensures clients { self.new.clients ≡ self.old.clients }
+        ensures broken { self.old.hub.store.broken ≡ false → self.new.hub.store.broken ≡ false }
+        ensures keeps { St.told → (m : Moment) → StandsForMoment self.old (C.stamps clock.old) m →
+            LeadsTo (IsListKept m) self.new (C.stamps clock.new) }
     {
         let Some(work) = work_at(self.clients.as_slice(), at) else {
             return Err(Refusal::NoTransaction);
@@ -191,6 +195,9 @@ impl<St: Store, R: Resolver, F: Refs> Clients<St, R, F> {
                 self.put(alloc, at, *oid, bytes, clock)
             }
             Line::Check { oid, serial } => { check_at(&mut self.clients, at, *oid, *serial) }
+            Line::Savepoint => save_at(&mut self.clients, at),
+            Line::Rollback { number } => roll_back_at(&mut self.clients, at, *number),
+            Line::Tree { root, call } => self.tree(alloc, at, *root, call, clock),
             _ => Ok(Answer::Refused(Refusal::NoTransaction)),
         }
     }

@@ -41,6 +41,8 @@ fn transaction_refusal(changes: &Changes, line: &Line) -> Option<Refusal>
         Line::Store { .. } => voted_refusal(changes),
         Line::Put { .. } => voted_refusal(changes),
         Line::Check { .. } => voted_refusal(changes),
+        Line::Savepoint => voted_refusal(changes),
+        Line::Rollback { .. } => voted_refusal(changes),
         Line::Vote { .. } => voted_refusal(changes),
         Line::Undo { .. } => match voted_refusal(changes) {
             Some(why) => Some(why),

@@ -42,8 +42,9 @@ fn keep_store(pending: &mut Pending, store: PendingStore) -> Result<(), PendingE
     pending.store(oid, base, bytes)
 }
 
-/// Pending changes with these stores beside, one after another.
-fn with_stores(pending: Pending, stores: ListOf<PendingStore>) -> Result<Pending, PendingError>
+/// Pending changes with these stores beside, one after another. `TooLong` comes exactly where the bytes of one, or those of
+/// all that wait by then, pass a limit.
+pub fn with_stores(pending: Pending, stores: ListOf<PendingStore>) -> Result<Pending, PendingError>
     requires filled { All (λ p. 0 < length p.bytes) stores }
     ensures answer { IsStoredAll (stores_after pending.stores stores) result }
     ensures checks { IfOk result (λ left. left.checks ≡ pending.checks) }

@@ -179,7 +179,7 @@ tids_again tid tids h =
 
 -- ---- texts
 
-last_node : (xs : List Node) (x : Node) → slice_get (xs ++ x ∷ []) (last_of (xs ++ x ∷ [])) ≡ Some x
+pub last_node : (xs : List Node) (x : Node) → slice_get (xs ++ x ∷ []) (last_of (xs ++ x ∷ [])) ≡ Some x
 last_node xs x = ap (slice_get (xs ++ x ∷ [])) (omega (arith, length-append xs (x ∷ []))) ∙ at_end xs
   where
     at_end : (ys : List Node) → slice_get (ys ++ x ∷ []) (length ys) ≡ Some x
@@ -203,7 +203,7 @@ text_node (kinds.Reference id) text e = absurd cc
 text_node (kinds.Object a b c d) text e = absurd cc
 
 -- the graph of a tree has a text as its root where the tree is that text
-abbrev root_of : Value → Option Node
+abbrev pub root_of : Value → Option Node
 root_of v = slice_get (with_value [] v) (last_of (with_value [] v))
 
 root_text : (v : Value) (text : List ℕ) → text_in (root_of v) ≡ Some text → v ≡ leaf (kinds.Text text)

@@ -205,7 +205,7 @@ digit_least c h = by_test (ltb c 48) refl
     by_test true e = absurd (grind (arith, nat_tests))
     by_test false e = omega (arith, ltb-false c 48 e)
 
-all_digits_high : (ds : List ℕ) → AllDigits 10 ds → From 35 ds
+pub all_digits_high : (ds : List ℕ) → AllDigits 10 ds → From 35 ds
 all_digits_high [] h = tt
 all_digits_high (c ∷ ds) h = (digit_least c h.0, all_digits_high ds h.1)
 

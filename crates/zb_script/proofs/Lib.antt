@@ -6,6 +6,9 @@ pub mod PayloadLaws
 pub mod Lowers
 pub mod GapLaws
 pub mod FieldLaws
+pub mod KeyLaws
+pub mod Begun
+pub mod TreeLaws
 pub mod LineLaws
 pub mod ScriptLaws
 pub mod Steps

@@ -1,34 +1,33 @@
 -- The two laws of a line: what is read is spelled so, and what is spelled so is read.
-use Rattle.std.proofs.Common.{◌≡◌, ℕ, ◌+◌, ◌^◌, ◌<◌, cond, List, [], ◌∷◌, ◌++◌, length, Option, Some, None, refl, sym, ap, subst, ◌∙◌, arith, inl, inr}
-use Rattle.std.specs.Prelude.{◌⊎◌, codes}
+use Rattle.std.proofs.Common.{◌≡◌, ℕ, ◌+◌, ◌^◌, ◌<◌, cond, List, [], ◌∷◌, ◌++◌, length, Option, Some, refl, sym, ap, subst, ◌∙◌, arith, inl, inr}
+use Rattle.std.specs.Prelude.{codes, decimal}
 use Rattle.std.specs.List.{AllByRecursion}
 use Rattle.std.specs.Str.{bytes_eq}
 use Rattle.std.proofs.lemmas.Option.{same_Some, cond_some}
+use Rattle.std.proofs.lemmas.Fmt.{decimal_is_IsNumeral}
 use Rattle.std.proofs.lemmas.Slice.Eq.{bytes_eq-Decides}
 use Rattle.zb_ids.specs.Hex.{hex_text, hex_number, number_at}
 use Rattle.zb_ids.specs.HexLaws.{from_bind, number_takes, number_again}
 use Rattle.zb_literals.specs.Literals.{IsLiteral}
 use Rattle.pickle_value.specs.Graph.{Graph}
 use Rattle.pickle_value.specs.declared.depth.TheConstants.{WALK_LIMIT}
-use Rattle.zb_literals.specs.Reading.{if_some}
 use Rattle.zb_literals.specs.Texts.{quoted_text}
 use Rattle.zb_script.specs.declared.line.Line.{Line}
 use Rattle.zb_script.specs.declared.line.Line.TheVariants as lines
 use Rattle.zb_script.specs.declared.line.Turn.{Turn}
 use Rattle.zb_script.specs.Names.{is_name, IsName}
 use Rattle.zb_script.specs.Lines.{Lacks}
-use Rattle.zb_script.specs.Spelling.{IsNumbered, IsStore, IsPut, IsCheck, IsVote, IsUndo, IsLineText, IsTurnText, AreTurnTexts, IsLine, IsTurn, tids_text}
-use Rattle.zb_script.specs.Reading.{cut_at, behind_word, literal_cut, field_at, payload_at, short_at, short_field_at, tids_at, record_at, numbered_at, store_at, put_at, check_at, vote_at, undo_at, words_at, short_line_at, line_at, name_at, turn_at}
+use Rattle.zb_script.specs.Spelling.{IsNumbered, IsStore, IsPut, IsCheck, IsVote, IsUndo, IsRollback, IsLineText, IsTurnText, AreTurnTexts, IsLine, IsTurn, tids_text}
+use Rattle.zb_script.specs.Reading.{cut_at, behind_word, literal_cut, field_at, payload_at, short_at, short_field_at, tids_at, record_at, small_at, numbered_at, store_at, put_at, check_at, vote_at, undo_at, rollback_at, words_at, short_line_at, line_at, name_at, turn_at}
 use Rattle.zb_script.proofs.Froms.{From, From-append, From-weaker, from_test, hex_from, number_from, name_from, Lacks-from, chosen}
-use Rattle.zb_script.proofs.GapLaws.{IsWord, quoted_word, literal_word, word_cut, cut_is}
+use Rattle.zb_script.proofs.GapLaws.{IsWord, quoted_word, literal_word, word_cut, cut_is, all_digits_high}
 use Rattle.zb_script.proofs.PayloadLaws.{payload_takes, payload_again}
-use Rattle.zb_script.proofs.FieldLaws.{Exact, cut_takes, cut_again, behind_takes, field_takes, field_again, tids_take, tids_again, short_takes, short_again, short_field_takes, short_field_again, record_takes, record_again, record_some}
+use Rattle.zb_script.proofs.KeyLaws.{small_takes, small_again}
+use Rattle.zb_script.proofs.Begun.{begun_takes, word_again, numbered_from, field_from}
+use Rattle.zb_script.proofs.TreeLaws.{tree_takes, tree_again, tree_from, tree_is}
+use Rattle.zb_script.proofs.FieldLaws.{Exact, cut_takes, cut_again, field_takes, field_again, tids_take, tids_again, short_takes, short_again, short_field_takes, short_field_again, record_takes, record_again, record_some}
 
 -- ---- what is read is spelled so
-
-which : {A B : Type 0} (o : Option A) (f : A → Option B) (other : Option B) (y : B) → if_some o f other ≡ Some y → ((x : A) × (o ≡ Some x) × (f x ≡ Some y)) ⊎ (other ≡ Some y)
-which (Some x) f other y e = inl (x, refl, e)
-which None f other y e = inr e
 
 numbered_takes : (word bytes : List ℕ) (line : ℕ → Line) → ((n : ℕ) (text : List ℕ) → IsNumbered text word n → IsLineText text (line n)) → (l : Line) → numbered_at line bytes ≡ Some l → IsLineText (word ++ bytes) l
 unfolding numbered_at
@@ -97,6 +96,14 @@ undo_takes exact bytes l e =
     let spelled : IsUndo (codes "undo " ++ bytes) user.0 description.0 tids = record { user_short = p.short; description_short = q.short; undone = r.are; is = ap (λ (x : List ℕ). codes "undo " ++ x) whole } in
     subst (IsLineText (codes "undo " ++ bytes)) (same_Some (lines.Undo user.0 description.0 tids) l is) spelled)))
 
+rollback_takes : Exact → (bytes : List ℕ) (l : Line) → rollback_at bytes ≡ Some l → IsLineText (codes "rollback " ++ bytes) l
+unfolding rollback_at
+rollback_takes exact bytes l e =
+    from_bind (small_at bytes) _ l e (λ number at is.
+    let t = small_takes exact bytes number at in
+    let spelled : IsRollback (codes "rollback " ++ bytes) number = record { small = t.small; is = ap (λ (x : List ℕ). codes "rollback " ++ x) t.is } in
+    subst (IsLineText (codes "rollback " ++ bytes)) (same_Some (lines.Rollback number) l is) spelled)
+
 word_takes : (bytes word : List ℕ) (l t : Line) (other : Option Line) → cond (bytes_eq bytes word) (Some l) other ≡ Some t → (bytes ≡ word → IsLineText bytes l) → (other ≡ Some t → IsLineText bytes t) → IsLineText bytes t
 word_takes bytes word l t other e spells then =
     elim (chosen (bytes_eq bytes word) (Some l) other (Some t) e) [
@@ -104,34 +111,27 @@ word_takes bytes word l t other e spells then =
       | inr not_it ↦ then not_it.1
     ]
 
-words_take : (bytes : List ℕ) (l : Line) → words_at bytes ≡ Some l → IsLineText bytes l
+words_take : Exact → (bytes : List ℕ) (l : Line) → words_at bytes ≡ Some l → IsLineText bytes l
 unfolding words_at
-words_take bytes l e =
+words_take exact bytes l e =
     word_takes bytes (codes "open local") lines.Open l _ e (λ is. is) (λ e.
     word_takes bytes (codes "begin") lines.Begin l _ e (λ is. is) (λ e.
     word_takes bytes (codes "new") lines.New l _ e (λ is. is) (λ e.
     word_takes bytes (codes "finish") lines.Finish l _ e (λ is. is) (λ e.
     word_takes bytes (codes "abort") lines.Abort l _ e (λ is. is) (λ e.
     word_takes bytes (codes "undolog") lines.UndoLog l _ e (λ is. is) (λ e.
-    word_takes bytes (codes "close") lines.Close l _ e (λ is. is) (λ e. absurd cc)))))))
+    word_takes bytes (codes "close") lines.Close l _ e (λ is. is) (λ e.
+    word_takes bytes (codes "savepoint") lines.Savepoint l _ e (λ is. is) (λ e. tree_takes exact bytes l e))))))))
 
--- a line that begins with a word, or another one
-begun_takes : (word bytes : List ℕ) (read : List ℕ → Option Line) (other : Option Line) (l : Line) → if_some (behind_word word bytes) read other ≡ Some l
-    → ((rest : List ℕ) → read rest ≡ Some l → IsLineText (word ++ rest) l) → (other ≡ Some l → IsLineText bytes l) → IsLineText bytes l
-begun_takes word bytes read other l e takes then =
-    elim (which (behind_word word bytes) read other l e) [
-      | inl begun ↦ subst (λ (x : List ℕ). IsLineText x l) (sym (behind_takes word bytes begun.0 begun.1)) (takes begun.0 begun.2)
-      | inr further ↦ then further
-    ]
-
-short_line_takes : (bytes : List ℕ) (l : Line) → short_line_at bytes ≡ Some l → IsLineText bytes l
+short_line_takes : Exact → (bytes : List ℕ) (l : Line) → short_line_at bytes ≡ Some l → IsLineText bytes l
 unfolding short_line_at
-short_line_takes bytes l e =
+short_line_takes exact bytes l e =
     begun_takes (codes "load ") bytes (numbered_at lines.Load) _ l e (λ rest. numbered_takes (codes "load ") rest lines.Load (λ n text is. is) l) (λ e.
     begun_takes (codes "get ") bytes (numbered_at lines.Get) _ l e (λ rest. numbered_takes (codes "get ") rest lines.Get (λ n text is. is) l) (λ e.
     begun_takes (codes "history ") bytes (numbered_at lines.History) _ l e (λ rest. numbered_takes (codes "history ") rest lines.History (λ n text is. is) l) (λ e.
     begun_takes (codes "pack ") bytes (numbered_at lines.Pack) _ l e (λ rest. numbered_takes (codes "pack ") rest lines.Pack (λ n text is. is) l) (λ e.
-    words_take bytes l e))))
+    begun_takes (codes "rollback ") bytes rollback_at _ l e (λ rest. rollback_takes exact rest l) (λ e.
+    words_take exact bytes l e)))))
 
 line_takes : Exact → (bytes : List ℕ) (l : Line) → line_at bytes ≡ Some l → IsLineText bytes l
 unfolding line_at
@@ -141,7 +141,7 @@ line_takes exact bytes l e =
     begun_takes (codes "check ") bytes check_at _ l e (λ rest. check_takes rest l) (λ e.
     begun_takes (codes "vote ") bytes vote_at _ l e (λ rest. vote_takes exact rest l) (λ e.
     begun_takes (codes "undo ") bytes undo_at _ l e (λ rest. undo_takes exact rest l) (λ e.
-    short_line_takes bytes l e)))))
+    short_line_takes exact bytes l e)))))
 
 -- ---- what is spelled so is read
 
@@ -191,9 +191,6 @@ undo_again exact text user description [] h = absurd (omega (arith, h.undone.som
 undo_again exact text user description (tid ∷ tids) h =
     rw (short_field_again exact user (quoted_text description ++ 32 ∷ (hex_number tid ++ tids_text tids)) h.user_short, short_field_again exact description (hex_number tid ++ tids_text tids) h.description_short, tids_again tid tids h.undone.fall) refl
 
-word_again : (l : Line) (text word : List ℕ) → text ≡ word → line_at word ≡ Some l → line_at text ≡ Some l
-word_again l text word is read = ap line_at is ∙ read
-
 open_again : IsRead (codes "open local") lines.Open
 unfolding line_at behind_word short_line_at words_at
 open_again = refl
@@ -222,6 +219,14 @@ close_again : IsRead (codes "close") lines.Close
 unfolding line_at behind_word short_line_at words_at
 close_again = refl
 
+savepoint_again : IsRead (codes "savepoint") lines.Savepoint
+unfolding line_at behind_word short_line_at words_at
+savepoint_again = refl
+
+rollback_again : Exact → (number : ℕ) → number < 2 ^ 32 → IsRead (codes "rollback " ++ decimal number) (lines.Rollback number)
+unfolding line_at behind_word short_line_at rollback_at
+rollback_again exact number h = rw (small_again exact number h) refl
+
 line_again : Exact → (text : List ℕ) (l : Line) → IsLineText text l → line_at text ≡ Some l
 line_again exact text lines.Open h = word_again lines.Open text _ h open_again
 line_again exact text lines.Begin h = word_again lines.Begin text _ h begin_again
@@ -230,6 +235,9 @@ line_again exact text (lines.Get oid) h = word_again (lines.Get oid) text _ h.is
 line_again exact text (lines.Store oid base bytes) h = word_again (lines.Store oid base bytes) text _ h.is (store_again text oid base bytes h)
 line_again exact text (lines.Put oid bytes) h = word_again (lines.Put oid bytes) text _ h.is (put_again exact text oid bytes h)
 line_again exact text (lines.Check oid serial) h = word_again (lines.Check oid serial) text _ h.is (check_again oid serial h.oid_small h.serial_small)
+line_again exact text (lines.Tree root call) h = tree_again exact text root call h
+line_again exact text lines.Savepoint h = word_again lines.Savepoint text _ h savepoint_again
+line_again exact text (lines.Rollback number) h = word_again (lines.Rollback number) text _ h.is (rollback_again exact number h.small)
 line_again exact text lines.New h = word_again lines.New text _ h new_again
 line_again exact text (lines.Vote user description) h = word_again (lines.Vote user description) text _ h.is (vote_again exact text user description h)
 line_again exact text (lines.Undo user description tids) h = word_again (lines.Undo user description tids) text _ h.is (undo_again exact text user description tids h)
@@ -263,13 +271,6 @@ turn_again exact text t h =
 
 -- ---- no line has a newline
 
-numbered_from : (word : List ℕ) (n : ℕ) (text : List ℕ) → From 32 word → IsNumbered text word n → From 32 text
-numbered_from word n text high h = subst (From 32) (sym h.is) (From-append 32 word (hex_number n) high (From-weaker 48 32 _ (omega arith) (number_from n)))
-
--- a number ahead of a blank
-field_from : (n : ℕ) (rest : List ℕ) → From 32 rest → From 32 (hex_number n ++ 32 ∷ rest)
-field_from n rest high = From-append 32 (hex_number n) (32 ∷ rest) (From-weaker 48 32 _ (omega arith) (number_from n)) (omega arith, high)
-
 tids_from : (tids : List ℕ) → From 32 (tids_text tids)
 tids_from [] = tt
 tids_from (tid ∷ tids) = (omega arith, From-append 32 (hex_number tid) (tids_text tids) (From-weaker 48 32 _ (omega arith) (number_from tid)) (tids_from tids))
@@ -285,6 +286,9 @@ undone_from user description tids =
     let d = quoted_word description in
     both_from (quoted_text user) (quoted_text description ++ tids_text tids) (quoted_word user) (From-append 32 (quoted_text description) (tids_text tids) d.high (tids_from tids))
 
+decimal_from : (number : ℕ) → number < 2 ^ 32 → From 32 (decimal number)
+decimal_from number h = From-weaker 35 32 (decimal number) (omega arith) (all_digits_high (decimal number) (decimal_is_IsNumeral number (omega (arith, h))).0.1)
+
 line_from : (l : Line) (text : List ℕ) → IsLineText text l → From 32 text
 line_from lines.Open text h = subst (From 32) (sym h) (from_test 32 (codes "open local") refl)
 line_from lines.Begin text h = subst (From 32) (sym h) (from_test 32 (codes "begin") refl)
@@ -298,6 +302,9 @@ line_from (lines.Put oid bytes) text h =
     subst (From 32) (sym h.is) (From-append 32 (codes "put ") _ (from_test 32 (codes "put ") refl) (field_from oid _ (From-append 32 h.class_text (32 ∷ h.state_text) class.high (omega arith, state.high))))
 line_from (lines.Check oid serial) text h =
     subst (From 32) (sym h.is) (From-append 32 (codes "check ") _ (from_test 32 (codes "check ") refl) (field_from oid _ (From-weaker 48 32 _ (omega arith) (number_from serial))))
+line_from (lines.Tree root call) text h = tree_from text root call h
+line_from lines.Savepoint text h = subst (From 32) (sym h) (from_test 32 (codes "savepoint") refl)
+line_from (lines.Rollback number) text h = subst (From 32) (sym h.is) (From-append 32 (codes "rollback ") (decimal number) (from_test 32 (codes "rollback ") refl) (decimal_from number h.small))
 line_from lines.New text h = subst (From 32) (sym h) (from_test 32 (codes "new") refl)
 line_from (lines.Vote user description) text h =
     subst (From 32) (sym h.is) (From-append 32 (codes "vote ") (quoted_text user ++ 32 ∷ quoted_text description) (from_test 32 (codes "vote ") refl) (texts_from user description))
@@ -333,6 +340,9 @@ line_is (lines.Get oid) text h = h.small
 line_is (lines.Store oid base bytes) text h = (h.oid_small, h.base_small, h.payload)
 line_is (lines.Put oid bytes) text h = (h.oid_small, record_some h.class_text h.state_text bytes h.stored)
 line_is (lines.Check oid serial) text h = (h.oid_small, h.serial_small)
+line_is (lines.Tree root call) text h = tree_is text root call h
+line_is lines.Savepoint text h = tt
+line_is (lines.Rollback number) text h = h.small
 line_is lines.New text h = tt
 line_is (lines.Vote user description) text h = (h.user_short, h.description_short)
 line_is (lines.Undo user description tids) text h = (h.user_short, h.description_short, h.undone)

@@ -3,8 +3,9 @@ use Rattle.std.specs.Prelude.{ℕ, List, [], ◌∷◌, ◌++◌, length, map, c
 use Rattle.zb_ids.specs.Hex.{hex_text, hex_number}
 use Rattle.zb_script.specs.declared.answer.Answer.{Answer}
 use Rattle.zb_script.specs.declared.answer.Answer.TheVariants as answer
+use Rattle.zb_script.specs.Items.{items_text}
 use Rattle.zb_script.specs.Lists.{log_words, revision_words}
-use Rattle.zb_script.specs.Objects.{object_answer}
+use Rattle.zb_script.specs.Objects.{key_text, object_answer}
 use Rattle.zb_script.specs.Refusals.{refusal_text}
 
 -- the first line, behind the client's name and a blank
@@ -23,6 +24,12 @@ answer_text (answer.Oid oid) = codes "oid " ++ hex_number oid
 answer_text (answer.History list) = codes "history " ++ decimal (length list)
 answer_text (answer.UndoLog list) = codes "undolog " ++ decimal (length list)
 answer_text (answer.Packed kept dropped) = codes "packed " ++ (decimal kept ++ 32 ∷ decimal dropped)
+answer_text answer.Done = codes "done"
+answer_text answer.Absent = codes "absent"
+answer_text (answer.Found value) = codes "found " ++ key_text value
+answer_text (answer.Items list is_set) = codes "items " ++ items_text is_set list
+answer_text (answer.Savepoint number) = codes "savepoint " ++ decimal number
+answer_text (answer.Rolled number) = codes "rolled " ++ decimal number
 answer_text answer.Closed = codes "closed"
 answer_text (answer.Refused why) = codes "refused " ++ refusal_text why
 

@@ -1,6 +1,7 @@
 pub mod Names
 pub mod Payloads
 pub mod Lines
+pub mod Keys
 pub mod Spelling
 pub mod Shape
 pub mod Script
@@ -9,5 +10,6 @@ pub mod Reading
 pub mod Turns
 pub mod Lists
 pub mod Objects
+pub mod Items
 pub mod Refusals
 pub mod Answers

@@ -1,4 +1,4 @@
--- Objects as answers show them, and the key of a conflict. Own.
+-- Objects as answers show them, and keys and values by their spelling. Own.
 use Rattle.std.specs.Prelude.{ℕ, List, [], ◌∷◌, ◌++◌, length, Option, Some, None, Result, Ok, Err, codes, ◌==◌, if◌then◌else◌}
 use Rattle.zb_ids.specs.Hex.{hex_text, hex_number}
 use Rattle.pickle_value.specs.declared.error.PickleError.{PickleError}
@@ -36,7 +36,7 @@ object_answer serial bytes = shown_text (record_print bytes) serial bytes
 abbrev pub shown_line : ℕ → List ℕ → List ℕ
 shown_line serial bytes = hex_number serial ++ 32 ∷ (object_literal_of bytes ++ 10 ∷ [])
 
--- ---- keys
+-- ---- keys and values
 
 -- the pickle of a value that is spelled so
 abbrev pub pickle_of_spelling : List ℕ → List ℕ

@@ -1,11 +1,13 @@
 -- Reading lines, as functions on lists.
-use Rattle.std.specs.Prelude.{◌≡◌, ℕ, zero, suc, ◌+◌, ◌/◌, List, [], ◌∷◌, ◌++◌, length, take, drop, Option, Some, None, Bool, false, Result, Ok, Err, codes, nat_lt, nat_le, slice_get, ◌==◌, if◌then◌else◌}
+use Rattle.std.specs.Prelude.{◌≡◌, ℕ, pos, zero, suc, ◌+◌, ◌/◌, ◌^◌, List, [], ◌∷◌, ◌++◌, length, take, drop, Option, Some, None, Bool, false, Result, Ok, Err, codes, nat_lt, nat_le, slice_get, ◌==◌, if◌then◌else◌}
 use Rattle.std.specs.List.{position}
 use Rattle.std.specs.Str.{bytes_eq}
 use Rattle.zb_ids.specs.Hex.{◌>>=◌, number_at, bytes_at}
 use Rattle.pickle_value.specs.declared.node.Node.{Node}
 use Rattle.pickle_value.specs.declared.node.Node.TheVariants as kinds
-use Rattle.pickle_value.specs.Spelling.{Spelled}
+use Rattle.pickle_value.specs.Spelling.{Spelled, spelling_of}
+use Rattle.btree_family.specs.declared.key.Key.{Key}
+use Rattle.btree_family.specs.declared.key.Key.TheVariants as keys
 use Rattle.zb_literals.specs.Exact.{graph_spelled}
 use Rattle.zb_literals.specs.Reading.{if_some}
 use Rattle.zb_record.specs.Class.{is_class}
@@ -17,7 +19,10 @@ use Rattle.zb_script.specs.declared.line.Line.TheVariants as lines
 use Rattle.zb_script.specs.declared.line.Turn.{Turn}
 use Rattle.zb_script.specs.declared.words.Place.{Place}
 use Rattle.zb_script.specs.declared.words.Place.TheVariants as places
+use Rattle.zb_script.specs.declared.tree_call.TreeCall.{TreeCall}
+use Rattle.zb_script.specs.declared.tree_call.TreeCall.TheVariants as calls
 use Rattle.zb_script.specs.Names.{is_name}
+use Rattle.zb_script.specs.Objects.{text_or_none}
 use Rattle.zb_script.specs.Shape.{openers, stands_behind}
 
 -- What a function returned, seen by view, is what reading gives, unless memory ran out.
@@ -132,6 +137,42 @@ record_at class_text state_text = do
   state ← graph_spelled state_text
   if is_class class then payload_of_text (object_text class state) else None
 
+-- a text, bytes or a number
+abbrev pub key_in : Option Node → Option Key
+key_in (Some (kinds.Text text)) = Some (keys.Text text)
+key_in (Some (kinds.Bytes bytes)) = Some (keys.Bytes bytes)
+key_in (Some (kinds.Number number)) = Some (keys.Number number)
+key_in _ = None
+
+-- the key that a literal spells
+unfoldable pub key_at : List ℕ → Option Key
+key_at bytes = do
+  graph ← graph_spelled bytes
+  key_in (slice_get graph.nodes graph.root)
+
+-- a key and a blank
+unfoldable pub key_field_at : List ℕ → Option (Key × List ℕ)
+key_field_at bytes = do
+  word ← literal_cut bytes
+  key ← key_at word.0
+  Some (key, word.1)
+
+-- a number below 2^32
+abbrev pub small_in : Key → Option ℕ
+small_in (keys.Number (pos n)) = if nat_lt n (2 ^ 32) then Some n else None
+small_in _ = None
+
+unfoldable pub small_at : List ℕ → Option ℕ
+small_at bytes = do
+  key ← key_at bytes
+  small_in key
+
+-- the spelling of the value of a literal
+unfoldable pub value_at : List ℕ → Option (List ℕ)
+value_at bytes = do
+  graph ← graph_spelled bytes
+  text_or_none (spelling_of graph.nodes graph.root)
+
 -- ---- lines
 
 unfoldable pub numbered_at : (ℕ → Line) → List ℕ → Option Line
@@ -172,6 +213,47 @@ undo_at bytes = do
   tids ← tids_at description.1
   Some (lines.Undo user.0 description.0 tids)
 
+unfoldable pub rollback_at : List ℕ → Option Line
+rollback_at bytes = do
+  number ← small_at bytes
+  Some (lines.Rollback number)
+
+unfoldable pub set_at : List ℕ → Option Line
+set_at bytes = do
+  oid ← field_at bytes
+  key ← key_field_at oid.1
+  value ← value_at key.1
+  Some (lines.Tree oid.0 (calls.Set key.0 value))
+
+unfoldable pub keyed_at : (Key → TreeCall) → List ℕ → Option Line
+keyed_at call bytes = do
+  oid ← field_at bytes
+  key ← key_at oid.1
+  Some (lines.Tree oid.0 (call key))
+
+unfoldable pub items_at : List ℕ → Option Line
+items_at bytes = do
+  oid ← number_at bytes
+  Some (lines.Tree oid calls.Items)
+
+unfoldable pub range_at : List ℕ → Option Line
+range_at bytes = do
+  oid ← field_at bytes
+  from ← key_field_at oid.1
+  to ← key_at from.1
+  Some (lines.Tree oid.0 (calls.Range from.0 to))
+
+-- a line with a call on a tree
+unfoldable pub tree_line_at : List ℕ → Option Line
+tree_line_at bytes =
+    if_some (behind_word (codes "set ") bytes) set_at
+    (if_some (behind_word (codes "insert ") bytes) (keyed_at calls.Insert)
+    (if_some (behind_word (codes "del ") bytes) (keyed_at calls.Del)
+    (if_some (behind_word (codes "find ") bytes) (keyed_at calls.Find)
+    (if_some (behind_word (codes "items ") bytes) items_at
+    (if_some (behind_word (codes "range ") bytes) range_at None)))))
+
+-- a line without a field, or one of a tree
 unfoldable pub words_at : List ℕ → Option Line
 words_at bytes =
     if bytes_eq bytes (codes "open local") then Some lines.Open
@@ -181,15 +263,17 @@ words_at bytes =
     else if bytes_eq bytes (codes "abort") then Some lines.Abort
     else if bytes_eq bytes (codes "undolog") then Some lines.UndoLog
     else if bytes_eq bytes (codes "close") then Some lines.Close
-    else None
+    else if bytes_eq bytes (codes "savepoint") then Some lines.Savepoint
+    else tree_line_at bytes
 
--- a line with one number, or without a field
+-- a line with one number, without a field, or of a tree
 unfoldable pub short_line_at : List ℕ → Option Line
 short_line_at bytes =
     if_some (behind_word (codes "load ") bytes) (numbered_at lines.Load)
     (if_some (behind_word (codes "get ") bytes) (numbered_at lines.Get)
     (if_some (behind_word (codes "history ") bytes) (numbered_at lines.History)
-    (if_some (behind_word (codes "pack ") bytes) (numbered_at lines.Pack) (words_at bytes))))
+    (if_some (behind_word (codes "pack ") bytes) (numbered_at lines.Pack)
+    (if_some (behind_word (codes "rollback ") bytes) rollback_at (words_at bytes)))))
 
 unfoldable pub line_at : List ℕ → Option Line
 line_at bytes =

@@ -1,9 +1,11 @@
 -- The one spelling of each line. Own.
-use Rattle.std.specs.Prelude.{◌≡◌, ℕ, ◌<◌, ◌≤◌, ◌^◌, List, [], ◌∷◌, ◌++◌, true, Ok, length, codes}
+use Rattle.std.specs.Prelude.{◌≡◌, ℕ, ◌<◌, ◌≤◌, ◌^◌, List, [], ◌∷◌, ◌++◌, true, Ok, length, codes, decimal}
 use Rattle.std.specs.List.{flat_map}
 use Rattle.std.specs.Str.{is_utf8}
 use Rattle.zb_ids.specs.Hex.{hex_text, hex_number}
 use Rattle.pickle_value.specs.Graph.{Graph}
+use Rattle.pickle_value.specs.Spelling.{spelling_of}
+use Rattle.btree_family.specs.declared.key.Key.{Key}
 use Rattle.zb_literals.specs.Literals.{IsLiteral}
 use Rattle.zb_literals.specs.Texts.{quoted_text}
 use Rattle.zb_record.specs.Class.{is_class}
@@ -11,6 +13,9 @@ use Rattle.zb_record.specs.Records.{object_text}
 use Rattle.zb_script.specs.declared.line.Line.{Line}
 use Rattle.zb_script.specs.declared.line.Line.TheVariants as lines
 use Rattle.zb_script.specs.declared.line.Turn.{Turn}
+use Rattle.zb_script.specs.declared.tree_call.TreeCall.{TreeCall}
+use Rattle.zb_script.specs.declared.tree_call.TreeCall.TheVariants as calls
+use Rattle.zb_script.specs.Keys.{IsKey, key_literal}
 use Rattle.zb_script.specs.Names.{IsName}
 use Rattle.zb_script.specs.Payloads.{IsPayload}
 
@@ -43,6 +48,12 @@ pub record IsRecordOf (class_text state_text bytes : List ℕ) : Type 0 where
   pub state_spelled : IsLiteral state_text state
   pub class_is : is_class class ≡ true
   pub written : object_text class state ≡ Ok bytes
+
+-- the text is the literal of a value, and the bytes are the value's spelling
+pub record IsValueText (text bytes : List ℕ) : Type 0 where
+  pub graph : Graph
+  pub literal : IsLiteral text graph
+  pub spelled : spelling_of graph.nodes graph.root ≡ Ok bytes
 
 -- ---- lines
 
@@ -81,6 +92,39 @@ pub record IsUndo (text user description tids : List ℕ) : Type 0 where
   pub undone : AreTids tids
   pub is : text ≡ codes "undo " ++ (quoted_text user ++ 32 ∷ (quoted_text description ++ tids_text tids))
 
+-- a word, an object and a key
+pub record IsKeyed (text word : List ℕ) (oid : ℕ) (key : Key) : Type 0 where
+  pub oid_small : oid < 2 ^ 64
+  pub is_key : IsKey key
+  pub is : text ≡ word ++ (hex_number oid ++ 32 ∷ key_literal key)
+
+pub record IsSet (text : List ℕ) (oid : ℕ) (key : Key) (value : List ℕ) : Type 0 where
+  pub oid_small : oid < 2 ^ 64
+  pub is_key : IsKey key
+  pub value_text : List ℕ
+  pub stored : IsValueText value_text value
+  pub is : text ≡ codes "set " ++ (hex_number oid ++ 32 ∷ (key_literal key ++ 32 ∷ value_text))
+
+pub record IsRange (text : List ℕ) (oid : ℕ) (from to : Key) : Type 0 where
+  pub oid_small : oid < 2 ^ 64
+  pub from_key : IsKey from
+  pub to_key : IsKey to
+  pub is : text ≡ codes "range " ++ (hex_number oid ++ 32 ∷ (key_literal from ++ 32 ∷ key_literal to))
+
+-- the text of a call on a tree
+abbrev pub IsTreeText : List ℕ → ℕ → TreeCall → Type 0
+IsTreeText text oid (calls.Set key value) = IsSet text oid key value
+IsTreeText text oid (calls.Insert key) = IsKeyed text (codes "insert ") oid key
+IsTreeText text oid (calls.Del key) = IsKeyed text (codes "del ") oid key
+IsTreeText text oid (calls.Find key) = IsKeyed text (codes "find ") oid key
+IsTreeText text oid calls.Items = IsNumbered text (codes "items ") oid
+IsTreeText text oid (calls.Range from to) = IsRange text oid from to
+
+-- a number in decimal
+pub record IsRollback (text : List ℕ) (number : ℕ) : Type 0 where
+  pub small : number < 2 ^ 32
+  pub is : text ≡ codes "rollback " ++ decimal number
+
 -- the text is what stands behind the client's name and a blank
 abbrev pub IsLineText : List ℕ → Line → Type 0
 IsLineText text lines.Open = text ≡ codes "open local"
@@ -90,6 +134,9 @@ IsLineText text (lines.Get oid) = IsNumbered text (codes "get ") oid
 IsLineText text (lines.Store oid base bytes) = IsStore text oid base bytes
 IsLineText text (lines.Put oid bytes) = IsPut text oid bytes
 IsLineText text (lines.Check oid serial) = IsCheck text oid serial
+IsLineText text (lines.Tree root call) = IsTreeText text root call
+IsLineText text lines.Savepoint = text ≡ codes "savepoint"
+IsLineText text (lines.Rollback number) = IsRollback text number
 IsLineText text lines.New = text ≡ codes "new"
 IsLineText text (lines.Vote user description) = IsVote text user description
 IsLineText text (lines.Undo user description tids) = IsUndo text user description tids
@@ -115,6 +162,20 @@ AreTurnTexts _ _ = ⊥
 
 -- ---- fields of lines
 
+-- the bytes are the spelling of a value that some literal says
+pub record IsSpelledValue (bytes : List ℕ) : Type 0 where
+  pub text : List ℕ
+  pub is : IsValueText text bytes
+
+-- what the fields of a call on a tree can be
+abbrev pub IsTreeCall : TreeCall → Type 0
+IsTreeCall (calls.Set key value) = IsKey key × IsSpelledValue value
+IsTreeCall (calls.Insert key) = IsKey key
+IsTreeCall (calls.Del key) = IsKey key
+IsTreeCall (calls.Find key) = IsKey key
+IsTreeCall calls.Items = Unit {0}
+IsTreeCall (calls.Range from to) = IsKey from × IsKey to
+
 -- what the fields of a line can be
 abbrev pub IsLine : Line → Type 0
 IsLine (lines.Load oid) = oid < 2 ^ 64
@@ -122,6 +183,8 @@ IsLine (lines.Get oid) = oid < 2 ^ 64
 IsLine (lines.Store oid base bytes) = (oid < 2 ^ 64) × (base < 2 ^ 64) × IsPayload bytes
 IsLine (lines.Put oid bytes) = (oid < 2 ^ 64) × (0 < length bytes)
 IsLine (lines.Check oid serial) = (oid < 2 ^ 64) × (serial < 2 ^ 64)
+IsLine (lines.Tree root call) = (root < 2 ^ 64) × IsTreeCall call
+IsLine (lines.Rollback number) = number < 2 ^ 32
 IsLine (lines.Vote user description) = IsShort user × IsShort description
 IsLine (lines.Undo user description tids) = IsShort user × IsShort description × AreTids tids
 IsLine (lines.History oid) = oid < 2 ^ 64

@@ -4,11 +4,13 @@ ghost use Rattle.std.specs.Prelude.{◌≡◌, ◌∷◌, ◌++◌, [], map, IfO
 ghost use Rattle.zb_script.specs.Answers.{answer_text, dashed, item_texts, reply_line, reply_lines};
 ghost use Rattle.zb_script.specs.Lists.{log_words, revision_words};
 
+use crate::items::push_item_list;
 use crate::lists::{push_log, push_revision};
 use crate::name::Name;
-use crate::objects::push_object;
+use crate::objects::{push_key, push_object};
 use crate::refusal::push_refusal;
 use crate::spelling::{push_counted, push_digits, push_numbered};
+use btree_family::Item;
 use std::alloc::{AllocError, Global};
 use zb_ids::{ListOf, Oid, Text8, Tid};
 use zb_model::{LogLine, Refusal, Revision};
@@ -77,6 +79,32 @@ pub enum Answer {
         /// How many changes went.
         dropped: u64,
     },
+    /// The tree is as the line says.
+    Done,
+    /// The key isn't there.
+    Absent,
+    /// The value that a key has.
+    Found {
+        /// Its spelling; shown by the literal of the value that is spelled so.
+        value: Text8,
+    },
+    /// Items of a tree, a bucket or a set.
+    Items {
+        /// They, in the order of their keys.
+        list: ListOf<Item>,
+        /// Whether they are members of a set, which have no values.
+        is_set: bool,
+    },
+    /// What the transaction has so far is marked.
+    Savepoint {
+        /// The number of the mark.
+        number: u64,
+    },
+    /// The transaction is as it was at a savepoint.
+    Rolled {
+        /// The number of the savepoint.
+        number: u64,
+    },
     /// The session is closed.
     Closed,
     /// The turn is refused.
@@ -112,6 +140,18 @@ fn push_answer(out: &mut Vec<u8>, answer: &Answer) -> Result<(), AllocError>
             push_counted(out, b"packed ", *kept)?;
             push_counted(out, b" ", *dropped)
         }
+        Answer::Done => out.extend_from_slice(b"done"),
+        Answer::Absent => out.extend_from_slice(b"absent"),
+        Answer::Found { value } => {
+            out.extend_from_slice(b"found ")?;
+            push_key(out, value.as_slice())
+        }
+        Answer::Items { list, is_set } => {
+            out.extend_from_slice(b"items ")?;
+            push_item_list(out, list.as_slice(), *is_set)
+        }
+        Answer::Savepoint { number } => push_counted(out, b"savepoint ", *number),
+        Answer::Rolled { number } => push_counted(out, b"rolled ", *number),
         Answer::Closed => out.extend_from_slice(b"closed"),
         Answer::Refused(refusal) => {
             out.extend_from_slice(b"refused ")?;

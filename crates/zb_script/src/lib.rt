@@ -5,6 +5,8 @@
 mod answer;
 mod cutting;
 mod errors;
+mod items;
+mod keys;
 mod limits;
 mod line;
 mod lists;
@@ -17,6 +19,8 @@ mod script;
 mod shape;
 mod spelling;
 mod stored;
+mod tree_call;
+mod tree_lines;
 mod voting;
 mod words;
 
@@ -29,6 +33,7 @@ pub use name::Name;
 pub use objects::shown_line;
 pub use payload::Payload;
 pub use script::{clients_open_first, one_script, read_script};
+pub use tree_call::TreeCall;
 
 #[cfg(test)]
 mod tests;

@@ -2,6 +2,7 @@
 
 use crate::name::Name;
 use crate::payload::Payload;
+use crate::tree_call::TreeCall;
 use zb_ids::{ListOf, Oid, Text8, Tid};
 
 /// What a client does in one turn.
@@ -43,6 +44,20 @@ pub enum Line {
         oid: Oid,
         /// The serial.
         serial: Tid,
+    },
+    /// A call on a tree, or on a bucket or a set that stands alone.
+    Tree {
+        /// The object: the root of the tree, the bucket or the set.
+        root: Oid,
+        /// The call.
+        call: TreeCall,
+    },
+    /// `savepoint`: marks what the transaction has so far.
+    Savepoint,
+    /// `rollback N`: the transaction goes back to a savepoint.
+    Rollback {
+        /// The number that the savepoint was given: below 2^32.
+        number: u64,
     },
     /// `new`: asks for the number of a new object.
     New,

@@ -86,7 +86,7 @@ fn spelled_literal(alloc: Global, spelling: &[u8]) -> Result<Option<Text8>, Allo
     }
 }
 
-/// Puts a key at the end by its literal, or by two digits for each byte where the bytes spell no value.
+/// Puts a key or a value at the end by its literal, or by two digits for each byte where the bytes spell none.
 pub(crate) fn push_key(out: &mut Vec<u8>, spelling: &[u8]) -> Result<(), AllocError>
     ensures { OnOk result (out.new.items ≡ out.old.items ++ key_text spelling.now) }
 {

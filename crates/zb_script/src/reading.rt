@@ -2,12 +2,14 @@
 
 ghost use Rattle.std.specs.Prelude.{◌≡◌};
 ghost use Rattle.zb_script.specs.declared.line.Line.TheVariants as lines;
-ghost use Rattle.zb_script.specs.Reading.{ReadsAs, behind_word, check_at, line_at, name_at, numbered_at, put_at, short_line_at, store_at, turn_at, undo_at, vote_at, words_at};
+ghost use Rattle.zb_script.specs.Reading.{ReadsAs, behind_word, check_at, line_at, name_at, numbered_at, put_at, rollback_at, short_line_at, store_at, turn_at, undo_at, vote_at, words_at};
 
 use crate::errors::ReadError;
+use crate::keys::small_of;
 use crate::line::{Line, Turn};
 use crate::name::Name;
 use crate::stored::{payload_of, record_of};
+use crate::tree_lines::tree_line_of;
 use crate::voting::{short_field_of, short_of, tids_of};
 use crate::words::{cut, cut_literal, field_of, number_of};
 use std::alloc::Global;
@@ -117,8 +119,17 @@ fn undo_of(alloc: Global, bytes: &[u8]) -> Result<Line, ReadError>
     })
 }
 
+#[tactic(auto, unfolding(crate::specs::Reading::rollback_at))]
+fn rollback_of(alloc: Global, bytes: &[u8]) -> Result<Line, ReadError>
+    ensures { ReadsAs (λ line. line) result (rollback_at bytes.now) }
+{
+    let number = small_of(alloc, bytes)?;
+    Ok(Line::Rollback { number })
+}
+
+/// A line without a field, or one of a tree.
 #[tactic(auto, unfolding(crate::specs::Reading::words_at))]
-fn words_of(bytes: &[u8]) -> Result<Line, ReadError>
+fn words_of(alloc: Global, bytes: &[u8]) -> Result<Line, ReadError>
     ensures { ReadsAs (λ line. line) result (words_at bytes.now) }
 {
     if bytes == b"open local".as_slice() {
@@ -135,14 +146,16 @@ fn words_of(bytes: &[u8]) -> Result<Line, ReadError>
         Ok(Line::UndoLog)
     } else if bytes == b"close".as_slice() {
         Ok(Line::Close)
+    } else if bytes == b"savepoint".as_slice() {
+        Ok(Line::Savepoint)
     } else {
-        Err(ReadError::Bad)
+        tree_line_of(alloc, bytes)
     }
 }
 
-/// A line with one number, or without a field.
+/// A line with one number, without a field, or of a tree.
 #[tactic(auto, unfolding(crate::specs::Reading::short_line_at, crate::specs::Reading::behind_word))]
-fn short_line_of(bytes: &[u8]) -> Result<Line, ReadError>
+fn short_line_of(alloc: Global, bytes: &[u8]) -> Result<Line, ReadError>
     ensures { ReadsAs (λ line. line) result (short_line_at bytes.now) }
 {
     if let Some(rest) = bytes.strip_prefix(b"load ") {
@@ -153,8 +166,10 @@ fn short_line_of(bytes: &[u8]) -> Result<Line, ReadError>
         history_of(rest)
     } else if let Some(rest) = bytes.strip_prefix(b"pack ") {
         pack_of(rest)
+    } else if let Some(rest) = bytes.strip_prefix(b"rollback ") {
+        rollback_of(alloc, rest)
     } else {
-        words_of(bytes)
+        words_of(alloc, bytes)
     }
 }
 
@@ -173,7 +188,7 @@ fn line_of(alloc: Global, bytes: &[u8]) -> Result<Line, ReadError>
     } else if let Some(rest) = bytes.strip_prefix(b"undo ") {
         undo_of(alloc, rest)
     } else {
-        short_line_of(bytes)
+        short_line_of(alloc, bytes)
     }
 }
 

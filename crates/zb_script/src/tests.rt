@@ -1,5 +1,6 @@
 mod answers;
 mod lists;
+mod trees;
 
 use super::*;
 use std::alloc::Global;
@@ -154,7 +155,7 @@ fn fields_are_read(rt: HostRuntime) -> Result<(), Fail> {
 }
 
 /// Scripts, and how many turns they have.
-const GOOD: [(&[u8], usize); 15] = [
+const GOOD: [(&[u8], usize); 18] = [
     (b"", 0),
     (b"a open local", 1),
     (b"abcdefgh open local\nz7654321 open local\n", 2),
@@ -194,10 +195,22 @@ const GOOD: [(&[u8], usize); 15] = [
         2,
     ),
     (b"a open local\na pack ffffffffffffffff\n", 2),
+    (
+        b"a open local\na savepoint\na rollback 0\na rollback 10\n",
+        4,
+    ),
+    (
+        b"a open local\na set ffffffffffffffff b: {\"a b\":[]}\na insert 0000000000000000 \"\"\n",
+        3,
+    ),
+    (
+        b"a open local\na range 0000000000000000 \"a b\" -1\na items 0000000000000000",
+        3,
+    ),
 ];
 
 /// Scripts, and the number of the first line that is none or can't stand in its place.
-const BAD: [(&[u8], u64); 61] = [
+const BAD: [(&[u8], u64); 84] = [
     (b"\n", 1),
     (b"a\n", 1),
     (b"a open\n", 1),
@@ -301,6 +314,32 @@ const BAD: [(&[u8], u64); 61] = [
     (b"a open local\na put 0000000000000000 <m:C> -0\n", 2),
     (b"a open local\na put 0000000000000000 <m:C> [1, 2]\n", 2),
     (b"a open local\na put 0000000000000000 <m:C> None \n", 2),
+    (b"a open local\na savepoint 0\n", 2),
+    (b"a open local\na rollback\n", 2),
+    (b"a open local\na rollback \n", 2),
+    (b"a open local\na rollback 01\n", 2),
+    (b"a open local\na rollback -1\n", 2),
+    (b"a open local\na rollback +1\n", 2),
+    (b"a open local\na rollback 4294967296\n", 2),
+    (b"a open local\na rollback \"1\"\n", 2),
+    (b"a open local\na set 0000000000000000 [1] 1\n", 2),
+    (b"a open local\na set 0000000000000000 1\n", 2),
+    (b"a open local\na set 0000000000000000 1 \n", 2),
+    (b"a open local\na set 0000000000000000 1 2 3\n", 2),
+    (
+        b"a open local\na set 0000000000000000 1 [[call(<m:C>,())]]\n",
+        2,
+    ),
+    (b"a open local\na insert 0000000000000000 True\n", 2),
+    (b"a open local\na insert 0000000000000000 1 2\n", 2),
+    (b"a open local\na del 1 1\n", 2),
+    (b"a open local\na find 0000000000000000\n", 2),
+    (b"a open local\na find 0000000000000000 None\n", 2),
+    (b"a open local\na find 0000000000000000 s:61\n", 2),
+    (b"a open local\na items 0000000000000000 \n", 2),
+    (b"a open local\na range 0000000000000000 1\n", 2),
+    (b"a open local\na range 0000000000000000 1  2\n", 2),
+    (b"a open local\na range 0000000000000000 (1,) 2\n", 2),
 ];
 
 /// How many turns a script has, or the number of its first bad line.

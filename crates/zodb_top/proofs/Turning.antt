@@ -11,7 +11,10 @@ use Rattle.zb_script.specs.declared.answer.Answer.TheVariants as answer
 use Rattle.zb_script.specs.declared.line.Line.{Line}
 use Rattle.zb_script.specs.declared.line.Line.TheVariants as line
 use Rattle.zb_script.specs.declared.line.Turn.{Turn}
-use Rattle.commit_phases.specs.Pending.{excess_with, pending_of}
+use Rattle.zb_script.specs.declared.tree_call.TreeCall.{TreeCall}
+use Rattle.commit_phases.specs.Pending.{PendingChanges, excess_with, pending_of}
+use Rattle.tree_calls.specs.declared.operation.TreeAnswer.{TreeAnswer}
+use Rattle.tree_calls.specs.declared.operation.TreeAnswer.TheVariants as answered
 use Rattle.zodb_core.specs.declared.reply.Reply.{Reply}
 use Rattle.zodb_core.specs.declared.reply.Reply.TheVariants as reply
 use Rattle.zodb_core.specs.declared.request.Request.{Request}
@@ -24,10 +27,13 @@ use Rattle.client_turns.specs.declared.errors.TurnError.{TurnError}
 use Rattle.client_turns.specs.declared.errors.TurnError.TheVariants as turn_error
 use Rattle.client_turns.specs.declared.got.Got.{Got}
 use Rattle.client_turns.specs.Clients.{Client, Moment, OpenTransaction, changes_of, place_of_client}
-use Rattle.client_turns.specs.Lines.{Changed, answer_of, data_of, end_of, is_committed, object_of, object_pending, put, request_of, store_unless, stored}
+use Rattle.client_turns.specs.Lines.{Changed, answer_of, data_of, end_of, is_committed, object_of, object_pending, put, request_of, rolled_back, rolled_to, saved, store_unless, stored}
+use Rattle.client_turns.specs.DrawLaws.{tree_answer, tree_raised}
+use Rattle.client_turns.specs.Trees.{IsRaised, IsTreeLine, answer_told}
 use Rattle.client_turns.specs.Output.{Out, TurnAnswer, is_last}
 use Rattle.client_turns.specs.Refusing.{connection_refusal}
-use Rattle.client_turns.specs.Turns.{IsAnswered, IsBroken, IsChange, IsClosed, IsClosing, IsClosingAt, IsGet, IsLine, IsLineOf, IsLineTaken, IsLineUnless, IsOpening, IsOwnLine, IsPut, IsReadLine, IsRefusedAt, IsStepAt, IsStepLine, IsTold, IsTurn, IsWithin, Opening, by_closing, by_line, by_memory, opened}
+use Rattle.client_turns.specs.Steps.{IsChange, IsRefusedAt, IsStepAt}
+use Rattle.client_turns.specs.Turns.{IsAnswered, IsBroken, IsClosed, IsClosing, IsClosingAt, IsGet, IsLine, IsLineOf, IsLineTaken, IsLineUnless, IsOpening, IsOwnLine, IsPut, IsReadLine, IsStepLine, IsTold, IsTurn, IsWithin, Opening, by_closing, by_line, by_memory, opened}
 use Rattle.client_turns.specs.Views.{View}
 use Rattle.zodb_top.specs.Committed.{BeginsWith, CommittedStays, HasCommitted, IsInIfCommitted, IsLeftIfCommitted, IsLeftOf, has_packed, is_packed}
 use Rattle.zodb_top.proofs.Keeping.{GoesTo, HasIfCommitted, IsHeld, MadeKeeps, answered_on, close_fed, committed_on, committed_so, fails_so, front_whole, goes_both, goes_is, goes_then, in_later, left_later, made_keeps, packed_so, starved_so}
@@ -164,6 +170,30 @@ put_line m at c t oid bytes (Some p) a now l =
 put_line m at c t oid bytes None a now (r, behind, read, (is, left)) =
     same_line m a (put t.changes oid bytes r).answer now is (plain_put t.changes oid bytes r) (ap (λ (x : Moment). x.machine) left ∙ ap (λ (x : Moment). x.machine) read.rest)
 
+plain_rolled : (t : Changes) (number : ℕ) (o : Option PendingChanges) → IsPlain (rolled_to t number o).answer
+plain_rolled t number None = tt
+plain_rolled t number (Some pending) = tt
+
+plain_told : (x : TreeAnswer) → IsPlain (answer_told x)
+plain_told (answered.Value None) = tt
+plain_told (answered.Value (Some value)) = tt
+plain_told answered.Set = tt
+plain_told (answered.Removed true) = tt
+plain_told (answered.Removed false) = tt
+plain_told (answered.Items list is_set) = tt
+
+-- a line of a tree leaves all but the greatest number
+tree_line : (m : Moment) (at : ℕ) (c : Client) (t : OpenTransaction) (root : ℕ) (call : TreeCall) (a : Answer) (now : Moment) → IsTreeLine m at c t root call a now → LineKeeps m a now
+tree_line m at c t root call a now l =
+    let raised : IsRaised m.machine now.machine = tree_raised m at c t root call a now l in
+    let list : now.machine.list ≡ m.machine.list = ap (λ (x : Machine). x.list) raised.is in
+    record {
+      goes = goes_is (is_packed a) m.machine.list now.machine.list list;
+      committed = plain_in a now.machine.list (tree_answer IsPlain m at c t root call a now plain_told (λ why. tt) l);
+      failed = λ other. ap (λ (x : Machine). x.failed) raised.is;
+      memory = λ none. list;
+    }
+
 within_line : (m : Moment) (at : ℕ) (c : Client) (t : OpenTransaction) (l : Line) (a : Answer) (now : Moment) → IsWithin m at c t l a now → LineKeeps m a now
 within_line m at c t (line.Load oid) a now l = read_line m t.view oid data_of a now plain_data l
 within_line m at c t (line.Get oid) a now l = get_line m t.view oid (pending_of t.changes.pending.stores oid) a now l
@@ -172,6 +202,9 @@ within_line m at c t (line.Store oid base bytes) a now l =
     (plain_store t.changes (record { oid = oid; base = base; bytes = bytes }) (excess_with t.changes.pending.stores (record { oid = oid; base = base; bytes = bytes }))) l
 within_line m at c t (line.Put oid bytes) a now l = put_line m at c t oid bytes (pending_of t.changes.pending.stores oid) a now l
 within_line m at c t (line.Check oid serial) a now (is, left) = same_line m a answer.Checked now is tt (ap (λ (x : Moment). x.machine) left)
+within_line m at c t line.Savepoint a now (is, left) = same_line m a (saved t.changes).answer now is tt (ap (λ (x : Moment). x.machine) left)
+within_line m at c t (line.Rollback number) a now (is, left) = same_line m a (rolled_back t.changes number).answer now is (plain_rolled t.changes number (slice_get t.changes.savepoints number)) (ap (λ (x : Moment). x.machine) left)
+within_line m at c t (line.Tree root call) a now l = tree_line m at c t root call a now l
 within_line m at c t _ a now l = refused_line m refusal.NoTransaction a now l
 
 own_line : (m : Moment) (at : ℕ) (c : Client) (t : Option OpenTransaction) (l : Line) (a : Answer) (now : Moment) → IsOwnLine m at c t l a now → LineKeeps m a now
@@ -198,6 +231,9 @@ line_keeps rules m name (line.Get oid) a now is = line_of rules m (place_of_clie
 line_keeps rules m name (line.Store oid base bytes) a now is = line_of rules m (place_of_client name m.clients) (line.Store oid base bytes) a now is
 line_keeps rules m name (line.Put oid bytes) a now is = line_of rules m (place_of_client name m.clients) (line.Put oid bytes) a now is
 line_keeps rules m name (line.Check oid serial) a now is = line_of rules m (place_of_client name m.clients) (line.Check oid serial) a now is
+line_keeps rules m name line.Savepoint a now is = line_of rules m (place_of_client name m.clients) line.Savepoint a now is
+line_keeps rules m name (line.Rollback number) a now is = line_of rules m (place_of_client name m.clients) (line.Rollback number) a now is
+line_keeps rules m name (line.Tree root call) a now is = line_of rules m (place_of_client name m.clients) (line.Tree root call) a now is
 line_keeps rules m name line.New a now is = line_of rules m (place_of_client name m.clients) line.New a now is
 line_keeps rules m name (line.Vote user description) a now is = line_of rules m (place_of_client name m.clients) (line.Vote user description) a now is
 line_keeps rules m name (line.Undo user description tids) a now is = line_of rules m (place_of_client name m.clients) (line.Undo user description tids) a now is

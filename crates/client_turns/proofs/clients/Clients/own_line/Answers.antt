@@ -3,7 +3,7 @@ use Rattle.std.proofs.Common.{◌≡◌, ◌∙◌, List, ap, subst, sym}
 use Rattle.std.specs.Prelude.{IfOk, OnErr, slice_get}
 use Rattle.zb_script.specs.declared.line.Line.TheVariants as line
 use Rattle.client_turns.specs.declared.client.Client.{Client}
-use Rattle.client_turns.specs.Lines.{checked, stored}
+use Rattle.client_turns.specs.Lines.{checked, rolled_back, saved, stored}
 use Rattle.client_turns.specs.Standing.{IsChangedAt}
 use Rattle.client_turns.proofs.Owning.{change_result}
 use Rattle.client_turns.proofs.clients.Clients.own_line.Goals as goal
@@ -29,3 +29,23 @@ returns-in-Check-clause-line g c = λ told m stands may.
     (subst (λ (xs : List Client). OnErr c.check_at.result (c.check_at.new.clients.items ≡ xs)) (ap (λ s. s.clients) c.self-in-Check.view_is) c.check_at.ensures.err)
     (ap (λ s. s.hub) c.self-in-Check.view_is)
     (λ k t a now change. change) is
+
+pub returns-in-Savepoint-clause-line : goal.returns-in-Savepoint-clause-line
+returns-in-Savepoint-clause-line g c = λ told m stands may.
+    change_result m c.args.at c.args.line.now line.Savepoint saved
+    c.save_at.result c.args.self.now _ _ stands may
+    (λ x there. subst (λ (xs : List Client). IfOk c.save_at.result (λ a. IsChangedAt saved xs c.args.at x a c.save_at.new.clients.items))
+    (ap (λ s. s.clients) c.self-in-Savepoint.view_is) (c.save_at.ensures.changed x (ap (λ s. slice_get s.clients c.args.at) c.self-in-Savepoint.view_is ∙ there)))
+    (subst (λ (xs : List Client). OnErr c.save_at.result (c.save_at.new.clients.items ≡ xs)) (ap (λ s. s.clients) c.self-in-Savepoint.view_is) c.save_at.ensures.err)
+    (ap (λ s. s.hub) c.self-in-Savepoint.view_is)
+    (λ k t a now change. change) c.in-Savepoint.is
+
+pub returns-in-Rollback-clause-line : goal.returns-in-Rollback-clause-line
+returns-in-Rollback-clause-line g c = λ told m stands may.
+    change_result m c.args.at c.args.line.now (line.Rollback c.in-Rollback.number) (λ t. rolled_back t c.in-Rollback.number)
+    c.roll_back_at.result c.args.self.now _ _ stands may
+    (λ x there. subst (λ (xs : List Client). IfOk c.roll_back_at.result (λ a. IsChangedAt (λ t. rolled_back t c.in-Rollback.number) xs c.args.at x a c.roll_back_at.new.clients.items))
+    (ap (λ s. s.clients) c.self-in-Rollback.view_is) (c.roll_back_at.ensures.changed x (ap (λ s. slice_get s.clients c.args.at) c.self-in-Rollback.view_is ∙ there)))
+    (subst (λ (xs : List Client). OnErr c.roll_back_at.result (c.roll_back_at.new.clients.items ≡ xs)) (ap (λ s. s.clients) c.self-in-Rollback.view_is) c.roll_back_at.ensures.err)
+    (ap (λ s. s.hub) c.self-in-Rollback.view_is)
+    (λ k t a now change. change) c.in-Rollback.is

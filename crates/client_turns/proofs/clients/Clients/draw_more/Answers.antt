@@ -1,0 +1,18 @@
+-- One more number is drawn.
+use Rattle.std.proofs.Common.{None, subst, sym}
+use Rattle.client_turns.specs.Gathering.{AdvancesTo}
+use Rattle.client_turns.proofs.Advancing.{draws_on, undrawn, undrawn_on}
+use Rattle.client_turns.proofs.clients.Clients.draw_more.Goals as goal
+
+pub returns-in-Err-clause-advances : goal.returns-in-Err-clause-advances
+returns-in-Err-clause-advances g c = λ root op known told m gathers.
+    undrawn m c.args.at c.args.self.now _ known c.args.numbers.now.items gathers root op c.in-Err.why _ _ (c.in-Err.ensures.draw told gathers.now gathers.stands)
+
+pub returns-in-Ok-push-clause-advances : goal.returns-in-Ok-push-clause-advances
+returns-in-Ok-push-clause-advances g c = λ root op known told m gathers.
+    subst (λ ns. AdvancesTo m c.args.at root op c.draw.new.self (g.C.Clock.stamps c.draw.new.clock) known ns None) (sym c.in-Ok-push.ensures.items)
+    (draws_on m c.args.at c.args.self.now _ known c.args.numbers.now.items gathers root op c.in-Ok.oid _ _ (c.in-Ok.ensures.draw told gathers.now gathers.stands))
+
+pub returns-in-Err-push-clause-advances : goal.returns-in-Err-push-clause-advances
+returns-in-Err-push-clause-advances g c = λ root op known told m gathers.
+    undrawn_on m c.args.at c.args.self.now _ known c.args.numbers.now.items gathers root op c.in-Ok.oid _ _ (c.in-Ok.ensures.draw told gathers.now gathers.stands)

@@ -1,0 +1,21 @@
+-- What follows an attempt.
+use Rattle.std.proofs.Common.{subst}
+use Rattle.tree_calls.specs.Calls.{IsAttempt}
+use Rattle.client_turns.proofs.Advancing.{made_on, refused_on}
+use Rattle.client_turns.proofs.clients.Clients.go_on.Goals as goal
+
+pub returns-in-Made-clause-advances : goal.returns-in-Made-clause-advances
+returns-in-Made-clause-advances g c = λ objects root op attempted told m gathers sees.
+    made_on m c.args.at c.args.self.now _ c.args.known.now c.args.numbers.now.items gathers objects root op c.in-Made.made sees
+    (subst (IsAttempt objects root op c.args.numbers.now.items) c.in-Made.is attempted).0
+
+pub returns-in-Refused-clause-advances : goal.returns-in-Refused-clause-advances
+returns-in-Refused-clause-advances g c = λ objects root op attempted told m gathers sees.
+    refused_on m c.args.at c.args.self.now _ c.args.known.now c.args.numbers.now.items gathers objects root op c.in-Refused.why sees
+    (subst (IsAttempt objects root op c.args.numbers.now.items) c.in-Refused.is attempted)
+
+pub returns-in-WantsObject-clause-advances : goal.returns-in-WantsObject-clause-advances
+returns-in-WantsObject-clause-advances g c = λ objects root op attempted told m gathers sees. c.learn.ensures.advances root op c.args.numbers.now.items told m gathers
+
+pub returns-in-WantsNumber-clause-advances : goal.returns-in-WantsNumber-clause-advances
+returns-in-WantsNumber-clause-advances g c = λ objects root op attempted told m gathers sees. c.draw_more.ensures.advances root op c.args.known.now told m gathers

@@ -1,0 +1,131 @@
+-- What a call on a tree gathers before it is answered. Own.
+use Rattle.std.specs.Prelude.{◌≡◌, ℕ, List, Option, Some, None, Result, Ok, Err, true, false, slice_get, ◌⊎◌, ◌<◌, All, length}
+use Rattle.std.specs.Option.{option_map}
+use Rattle.zb_ids.specs.declared.stamp.Stamp.{Stamp}
+use Rattle.zb_model.specs.declared.data.Transaction.{Transaction}
+use Rattle.zb_model.specs.declared.pending.PendingStore.{PendingStore}
+use Rattle.zb_model.specs.declared.refusal.Refusal.{Refusal}
+use Rattle.zb_model.specs.declared.refusal.Refusal.TheVariants as refusal
+use Rattle.std.specs.declared.alloc.AllocError.{AllocError}
+use Rattle.zb_script.specs.declared.answer.Answer.{Answer}
+use Rattle.zb_script.specs.declared.answer.Answer.TheVariants as answer
+use Rattle.commit_phases.specs.Pending.{pending_of}
+use Rattle.zodb_core.specs.declared.reply.Reply.{Reply}
+use Rattle.zodb_core.specs.declared.reply.Reply.TheVariants as reply
+use Rattle.zodb_core.specs.Machine.{is_open_in}
+use Rattle.zodb_core.specs.Outcomes.{FaultCounts}
+use Rattle.tree_calls.specs.declared.attempt.Made.{Made}
+use Rattle.tree_calls.specs.declared.known.Seen.{Seen}
+use Rattle.tree_calls.specs.declared.operation.TreeOperation.{TreeOperation}
+use Rattle.tree_calls.specs.Known.{known_at}
+use Rattle.client_turns.specs.declared.client.Work.{Work}
+use Rattle.client_turns.specs.declared.got.Got.{Got}
+use Rattle.client_turns.specs.Clients.{Client, Moment, OpenTransaction}
+use Rattle.client_turns.specs.Lines.{IsCountedBy, outcome_of_result}
+use Rattle.client_turns.specs.Reads.{held_below}
+use Rattle.client_turns.specs.Standing.{ClientsState, LeadsTo, StandsForMoment}
+use Rattle.client_turns.specs.Steps.{IsReadAt}
+use Rattle.client_turns.specs.Trees.{CallEnds, Draws, IsDrawn, IsSeenIn, IsUndrawn, is_missing}
+
+-- ---- what a transaction has
+
+abbrev pub seen_as : Got → Seen
+seen_as got = record { serial = got.serial; bytes = got.bytes }
+
+-- what waits for an object, else what a list has of it
+abbrev pub seen_or : Option PendingStore → Option Got → Option Seen
+seen_or (Some p) got = Some (record { serial = p.base; bytes = p.bytes })
+seen_or None got = option_map seen_as got
+
+-- what a transaction has of an object, over a list
+abbrev pub objects_kept : List Transaction → Work → ℕ → Option Seen
+objects_kept list work oid = seen_or (pending_of work.changes.pending.stores oid) (held_below oid work.front list)
+
+abbrev pub over_known : Option (Option Seen) → Option Seen → Option Seen
+over_known (Some x) y = x
+over_known None y = y
+
+-- the same, but for what is known
+abbrev pub objects_over : List (ℕ × Option Seen) → List Transaction → Work → ℕ → Option Seen
+objects_over known list work oid = over_known (known_at known oid) (objects_kept list work oid)
+
+-- ---- what is read and drawn
+
+-- what a read gives of an object: nothing, where it is missing
+abbrev pub seen_read : Result Got Refusal → Result (Option Seen) Refusal
+seen_read (Ok got) = Ok (Some (seen_as got))
+seen_read (Err (refusal.Missing oid packed)) = Ok None
+seen_read (Err why) = Err why
+
+-- the number that a reply gives
+abbrev pub number_in : Reply → Result ℕ Refusal
+number_in (reply.Oids first count) = Ok first
+number_in (reply.Refused why) = Err why
+number_in _ = Err refusal.NotOpen
+
+abbrev pub IsSightIn : Moment → Option OpenTransaction → ℕ → Result (Option Seen) Refusal → Moment → Type 0
+IsSightIn m None oid result now = ⊥
+IsSightIn m (Some t) oid (Ok x) now = (now ≡ m) × IsSeenIn m.machine t oid x
+IsSightIn m (Some t) oid (Err why) now = (IsReadAt m t.view oid (Err why) now × (is_missing why ≡ false)) ⊎ ((why ≡ refusal.Memory) × (now ≡ m))
+
+-- what the transaction of the client at a place has of an object
+abbrev pub IsSightOf : Moment → ℕ → ℕ → Result (Option Seen) Refusal → Moment → Type 0
+IsSightOf m at oid result now = (c : Client) × (slice_get m.clients at ≡ Some c) × IsSightIn m c.transaction oid result now
+
+abbrev pub IsDrawIn : Moment → ℕ → Result ℕ Refusal → Moment → Type 0
+IsDrawIn m n (Ok oid) now = IsDrawn m n oid now
+IsDrawIn m n (Err why) now = IsUndrawn m n why now
+
+-- a number that the session of the client at a place draws
+abbrev pub IsDrawOf : Moment → ℕ → Result ℕ Refusal → Moment → Type 0
+IsDrawOf m at result now = (c : Client) × (slice_get m.clients at ≡ Some c) × IsDrawIn m c.session result now
+
+-- how a call of the client at a place ends
+abbrev pub IsCallOf : Moment → ℕ → ℕ → TreeOperation → Result Made Refusal → Moment → Type 0
+IsCallOf m at root op result now =
+    (c : Client) × (slice_get m.clients at ≡ Some c) × (t : OpenTransaction) × (c.transaction ≡ Some t) × CallEnds m c.session t root op result now
+
+-- what it did to the counts of faults, as it says
+abbrev pub HasResultCause : {T : Type 0} → FaultCounts → FaultCounts → Result T Refusal → Type 0
+HasResultCause before now result = IsCountedBy before now (outcome_of_result result)
+
+-- ---- gathering
+
+-- The clients stand for a moment to which the draws of a call led. What is known is what the transaction has, the session is open, and but for the machine's
+-- greatest number nothing has changed.
+pub record StandsGathering {R F : Type 0} (seen : ClientsState R F) (left : Option (List Stamp)) (m : Moment) (at : ℕ) (known : List (ℕ × Option Seen)) (numbers : List ℕ) : Type 0 where
+  pub now : Moment
+  pub stands : StandsForMoment seen left now
+  pub client : Client
+  pub there : slice_get m.clients at ≡ Some client
+  pub transaction : OpenTransaction
+  pub begun : client.transaction ≡ Some transaction
+  pub may : is_open_in now.machine.sessions client.session ≡ true
+  pub draws : Draws m client.session numbers now
+  pub list : now.machine.list ≡ m.machine.list
+  pub journal : now.machine.journal ≡ m.machine.journal
+  pub clients : now.clients ≡ m.clients
+  pub sees : (oid : ℕ) (x : Option Seen) → known_at known oid ≡ Some x → IsSeenIn m.machine transaction oid x
+
+-- how an attempt leaves them: the call has ended, or it is made again
+abbrev pub AdvancesTo : {R F : Type 0} → Moment → ℕ → ℕ → TreeOperation → ClientsState R F → Option (List Stamp) → List (ℕ × Option Seen) → List ℕ → Option (Result Made Refusal) → Type 0
+AdvancesTo m at root op seen left known numbers None = StandsGathering seen left m at known numbers
+AdvancesTo m at root op seen left known numbers (Some result) = LeadsTo (IsCallOf m at root op result) seen left
+
+-- an attempt that is made again moves no count
+abbrev pub HasAdvanceCause : FaultCounts → FaultCounts → Option (Result Made Refusal) → Type 0
+HasAdvanceCause before now None = now ≡ before
+HasAdvanceCause before now (Some result) = HasResultCause before now result
+
+-- each of the puts has bytes
+abbrev pub IsFilled : Made → Type 0
+IsFilled made = All (λ p. 0 < length p.bytes) made.puts
+
+-- an answer, or that memory ran out
+abbrev pub or_starved : Result Answer AllocError → Answer
+or_starved (Ok a) = a
+or_starved (Err e) = answer.Refused refusal.Memory
+
+-- the list is as it was
+abbrev pub IsListKept : Moment → Moment → Type 0
+IsListKept m now = now.machine.list ≡ m.machine.list

@@ -1,0 +1,17 @@
+-- A number is given.
+use Rattle.std.proofs.Common.{◌≡◌, ◌∙◌, ap, sym}
+use Rattle.std.specs.Prelude.{slice_get}
+use Rattle.tree_calls.specs.Calls.{written_in}
+use Rattle.tree_calls.proofs.Tracking.{gives_more, written_drew}
+use Rattle.tree_calls.proofs.space.KnownSpaceSpace.new_node.Goals as goal
+
+pub invariant_of-self-in-Ok : goal.invariant_of-self-in-Ok
+invariant_of-self-in-Ok g c = record {
+  agrees = c.args.self.now.agrees;
+  numbered = c.args.self.now.numbered;
+  drawn = gives_more c.args.self.now.calls.items _ g.B.Sight.numbers c.args.self.now.used c.in-Some.oid c.args.self.now.drawn c.in-Ok.ensures.ok
+      (ap (λ ns. slice_get ns c.args.self.now.used) (sym c.args.self.now.numbered) ∙ sym c.in-Some.ensures.number);
+  written = ap written_in c.in-Ok.ensures.ok ∙ written_drew c.args.self.now.calls.items c.in-Some.oid ∙ c.args.self.now.written;
+  based = c.args.self.now.based;
+  filled = c.args.self.now.filled;
+}

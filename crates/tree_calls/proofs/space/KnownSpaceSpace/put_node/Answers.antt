@@ -1,0 +1,23 @@
+-- An object is put.
+use Rattle.std.proofs.Common.{◌≡◌, ◌∙◌, ap, subst}
+use Rattle.btree_shapes.specs.Spaces.{with_bytes}
+use Rattle.tree_calls.specs.Calls.{contents_after, contents_of}
+use Rattle.tree_calls.specs.Puts.{based_on}
+use Rattle.tree_calls.proofs.Tracking.{contents_more}
+use Rattle.tree_calls.proofs.space.KnownSpaceSpace.put_node.Goals as goal
+
+pub invariant_of-self-2 : goal.invariant_of-self-2
+invariant_of-self-2 g c = record {
+  agrees = c.args.self.now.agrees;
+  numbered = c.args.self.now.numbered;
+  drawn = c.note_put.ensures.drawn ∙ c.args.self.now.drawn;
+  written = c.note_put.ensures.written c.args.self.now.written;
+  based = c.note_put.ensures.based (based_on g.B.Sight.numbers g.B.Sight.objects)
+      (subst (λ ns. c.in-Some.base ≡ based_on ns g.B.Sight.objects c.args.oid) c.args.self.now.numbered (c.in-Some.ensures g.B.Sight.objects c.args.self.now.agrees)) c.args.self.now.based;
+  filled = c.note_put.ensures.filled c.in_ok-bytes.ensures.filled c.args.self.now.filled;
+}
+
+pub returns-in-Ok-clause-ok : goal.returns-in-Ok-clause-ok
+returns-in-Ok-clause-ok g c =
+    ap (λ ps. contents_after ps (contents_of g.B.Sight.objects)) c.in-Ok.ensures.puts ∙ contents_more c.args.self.now.puts _ (contents_of g.B.Sight.objects)
+    ∙ ap (λ bytes. with_bytes (contents_after c.args.self.now.puts (contents_of g.B.Sight.objects)) c.args.oid bytes) c.in_ok-bytes.ensures.bytes

@@ -1,0 +1,4 @@
+pub mod Known
+pub mod Puts
+pub mod Calls
+pub mod CallLaws

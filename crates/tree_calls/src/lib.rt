@@ -1,0 +1,13 @@
+//! Calls on trees over objects that the caller reads, one at a time.
+#![tactic(auto)]
+
+mod attempt;
+mod known;
+mod operation;
+mod sight;
+mod space;
+
+pub use attempt::{Attempt, Made, call_tree};
+pub use known::{Known, Seen};
+pub use operation::{INNER, LEAF, TreeAnswer, TreeOperation};
+pub use sight::Sight;

@@ -1,0 +1,231 @@
+//! The space of a call: what is known, and the numbers that were drawn.
+
+ghost use Rattle.std.specs.Prelude.{◌≡◌, ◌<◌, ◌++◌, ◌∷◌, [], ℕ, List, Option, map, take, length, slice_get, true, Some, IfOk, IfErr, IfSome, OnOk, OnErr};
+ghost use Rattle.std.specs.Option.{option_map};
+ghost use Rattle.btree_nodes.specs.Drawn.{drawn_in};
+ghost use Rattle.btree_shapes.specs.declared.space.Call.TheVariants.{Wrote};
+ghost use Rattle.btree_shapes.specs.Spaces.{IsContentOf, IsFault, IsStorable, record_bytes, refused};
+ghost use Rattle.btree_shapes.specs.Ways.{stands_in};
+ghost use Rattle.tree_calls.specs.declared.known.Seen.{Seen};
+ghost use Rattle.tree_calls.specs.Known.{Agrees};
+ghost use Rattle.tree_calls.specs.Calls.{bases_of, oids_of, written_in};
+ghost use Rattle.tree_calls.specs.Puts;
+ghost use Rattle.tree_calls.specs.Puts.{are_filled, based_on};
+
+use crate::known::{Known, Seen};
+use crate::sight::Sight;
+use btree_shapes::{Call, Space, SpaceError};
+use std::alloc::{AllocError, Global};
+use std::marker::PhantomData;
+use zb_ids::{ListOf, Oid, Text8, Tid};
+use zb_model::PendingStore;
+use zb_record::{ObjectRecord, RecordError, read_record, write_record};
+
+/// What a call lacked.
+#[derive(Clone, Copy, Debug, PartialEq, Eq)]
+pub(crate) enum Lack {
+    /// Nothing but memory.
+    Nothing,
+    /// An object that isn't known yet.
+    Object(Oid),
+    /// A number for a new object.
+    Number,
+}
+
+/// The objects that are known, with what the call puts over them, and the numbers that it may give to new ones. Where it
+/// lacks something, the call ends as for want of memory.
+#[derive(Drop)]
+pub(crate) struct KnownSpace<'a, B: Sight> {
+    pub alloc: Global,
+    pub known: &'a Known,
+    pub numbers: &'a [Oid],
+    /// How many of the numbers were given.
+    pub used: usize,
+    pub puts: ListOf<PendingStore>,
+    pub calls: Vec<Call>,
+    pub lack: Lack,
+    pub of: PhantomData<B>,
+    ghost agrees: { Agrees known.now B.objects },
+    ghost numbered: { numbers.now ≡ B.numbers },
+    ghost drawn: { drawn_in calls.items ≡ take used B.numbers },
+    ghost written: { written_in calls.items ≡ oids_of puts },
+    ghost based: { bases_of puts ≡ map (based_on B.numbers B.objects) (oids_of puts) },
+    ghost filled: { are_filled puts ≡ true },
+}
+
+/// The record that bytes are.
+fn read(alloc: Global, bytes: &Text8) -> Result<ObjectRecord, SpaceError>
+    ensures content { IsContentOf (Some bytes.now) result }
+    ensures own { refused result ≡ [] }
+{
+    match read_record(alloc, bytes.as_slice()) {
+        Ok(entry) => Ok(entry),
+        Err(RecordError::Memory) => Err(SpaceError::Memory),
+        Err(RecordError::Pickle(_)) => Err(SpaceError::NoRecord),
+        Err(RecordError::Rest { at: _ }) => Err(SpaceError::NoRecord),
+        Err(RecordError::BadClass) => Err(SpaceError::NoRecord),
+    }
+}
+
+/// The record of an object that is known.
+fn read_seen(alloc: Global, seen: &Option<Seen>) -> Result<ObjectRecord, SpaceError>
+    ensures content { IsContentOf (option_map (λ x. x.bytes) seen.now) result }
+    ensures own { refused result ≡ [] }
+{
+    match seen {
+        Some(seen) => read(alloc, &seen.bytes),
+        None => Err(SpaceError::NoNode),
+    }
+}
+
+/// Whether a number is one of these.
+fn is_among(numbers: &[Oid], oid: Oid) -> bool
+    ensures { result ≡ stands_in numbers.now oid }
+{
+    numbers.iter().any(|number| *number == oid)
+}
+
+/// The serial of an object that is known: 0 where it has nothing.
+fn serial_seen(seen: &Option<Seen>) -> Tid
+    ensures { result ≡ Puts.serial_seen seen.now }
+{
+    match seen {
+        Some(seen) => seen.serial,
+        None => Tid(0),
+    }
+}
+
+/// What a put of an object is made from: 0 for a new object, else what is known of it, if it is known.
+#[tactic(auto, using(crate::proofs::Tracking::base_new, crate::proofs::Tracking::base_known))]
+fn base_for(known: &Known, numbers: &[Oid], oid: Oid) -> Option<Tid>
+    ensures { (objects : ℕ → Option Seen) → Agrees known.now objects
+        → IfSome result (λ base. base ≡ based_on numbers.now objects oid) }
+{
+    if is_among(numbers, oid) {
+        return Some(Tid(0));
+    }
+    match known.find(oid) {
+        Some(seen) => Some(serial_seen(seen)),
+        None => None,
+    }
+}
+
+/// The number at a place, if there is one.
+fn number_at(numbers: &[Oid], at: usize) -> Option<Oid>
+    ensures number { result ≡ slice_get numbers.now at }
+    ensures within { IfSome result (λ number. at < length numbers.now) }
+{
+    match numbers.get(at) {
+        Some(number) => Some(*number),
+        None => None,
+    }
+}
+
+/// Notes a call.
+fn note_call(calls: &mut Vec<Call>, call: Call) -> Result<(), AllocError>
+    ensures ok { OnOk result (calls.new.items ≡ calls.old.items ++ call ∷ []) }
+    ensures err { OnErr result (calls.new.items ≡ calls.old.items) }
+{
+    calls.push(call)?;
+    Ok(())
+}
+
+/// Notes what is put.
+#[tactic(auto, using(crate::proofs::Tracking::wrote_drawn, crate::proofs::Tracking::wrote_written, crate::proofs::Tracking::based_more, crate::proofs::Tracking::filled_more))]
+fn note_put(
+    calls: &mut Vec<Call>,
+    puts: &mut ListOf<PendingStore>,
+    put: PendingStore,
+) -> Result<(), AllocError>
+    ensures calls { OnOk result (calls.new.items ≡ calls.old.items ++ Wrote put.oid ∷ []) }
+    ensures puts { OnOk result (puts.new ≡ puts.old ++ put ∷ []) }
+    ensures drawn { drawn_in calls.new.items ≡ drawn_in calls.old.items }
+    ensures written { written_in calls.old.items ≡ oids_of puts.old → written_in calls.new.items ≡ oids_of puts.new }
+    ensures based { (f : ℕ → ℕ) → put.base ≡ f put.oid → bases_of puts.old ≡ map f (oids_of puts.old)
+        → bases_of puts.new ≡ map f (oids_of puts.new) }
+    ensures filled { 0 < length put.bytes → are_filled puts.old ≡ true → are_filled puts.new ≡ true }
+    ensures err { OnErr result (puts.new ≡ puts.old) }
+    ensures same { OnErr result (calls.new.items ≡ calls.old.items) }
+{
+    note_call(calls, Call::Wrote(put.oid))?;
+    let Err(_) = puts.push(put) else {
+        return Ok(());
+    };
+    let _ = calls.pop();
+    Err(AllocError)
+}
+
+/// The bytes of a record that can be written, which are never none.
+#[tactic(auto, using(crate::proofs::Tracking::text_filled))]
+fn record_text(alloc: Global, entry: &ObjectRecord) -> Result<Text8, SpaceError>
+    requires storable { IsStorable entry.now.class entry.now.state }
+    ensures bytes { IfOk result (λ bytes. bytes ≡ record_bytes entry.now.class entry.now.state) }
+    ensures filled { IfOk result (λ bytes. 0 < length bytes) }
+    ensures fault { IfErr result IsFault }
+    ensures own { refused result ≡ [] }
+{
+    match write_record(alloc, entry) {
+        Ok(bytes) => Ok(bytes),
+        Err(_) => Err(SpaceError::Memory),
+    }
+}
+
+impl<'a, B: Sight> Space for KnownSpace<'a, B> {
+    ghost use Rattle.std.specs.Prelude.{[]};
+    ghost use Rattle.tree_calls.specs.Calls.{contents_after, contents_of};
+
+    ghost contents = { λ space. contents_after space.puts (contents_of B.objects) };
+
+    ghost told = { Unit {0} };
+
+    ghost log = { λ space. space.calls.items };
+
+    ghost refusals = { λ space. [] };
+
+    fn node(&mut self, oid: Oid) -> Result<ObjectRecord, SpaceError> {
+        match note_call(&mut self.calls, Call::Read(oid)) {
+            Ok(()) => {}
+            Err(_) => return Err(SpaceError::Memory),
+        }
+        if !self.puts.is_empty() {
+            return Err(SpaceError::Memory);
+        }
+        match self.known.find(oid) {
+            Some(seen) => read_seen(self.alloc, seen),
+            None => {
+                self.lack = Lack::Object(oid);
+                Err(SpaceError::Memory)
+            }
+        }
+    }
+
+    fn put_node(&mut self, oid: Oid, entry: ObjectRecord) -> Result<(), SpaceError> {
+        let Some(base) = base_for(self.known, self.numbers, oid) else {
+            self.lack = Lack::Object(oid);
+            return Err(SpaceError::Memory);
+        };
+        let bytes = record_text(self.alloc, &entry)?;
+        match note_put(
+            &mut self.calls,
+            &mut self.puts,
+            PendingStore { oid, base, bytes },
+        ) {
+            Ok(()) => Ok(()),
+            Err(_) => Err(SpaceError::Memory),
+        }
+    }
+
+    fn new_node(&mut self) -> Result<Oid, SpaceError> {
+        let Some(oid) = number_at(self.numbers, self.used) else {
+            self.lack = Lack::Number;
+            return Err(SpaceError::Memory);
+        };
+        match note_call(&mut self.calls, Call::Drew(oid)) {
+            Ok(()) => {
+                self.used += 1;
+                Ok(oid)
+            }
+            Err(_) => Err(SpaceError::Memory),
+        }
+    }
+}
