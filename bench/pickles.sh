@@ -13,8 +13,12 @@ folder=${1:?a folder outside the repository}
 here=$(dirname "$(realpath "$0")")
 mkdir -p "$folder/crates/timing/src" "$folder/pickles"
 for name in zb_base zb_ids pickle_ops pickle_value; do
-    rm -rf "$folder/crates/$name"
-    cp -r "$here/../crates/$name" "$folder/crates/$name"
+    # What rt made is left behind: it is large, and rt takes over what it kept on this machine.
+    rm -rf "$folder/crates/$name/src" "$folder/crates/$name/specs" "$folder/crates/$name/proofs"
+    mkdir -p "$folder/crates/$name"
+    for part in src specs proofs; do
+        [ ! -d "$here/../crates/$name/$part" ] || cp -r "$here/../crates/$name/$part" "$folder/crates/$name/$part"
+    done
 done
 grep -E '^(zb_base|zb_ids|pickle_ops|pickle_value):' "$here/../crates.txt" >"$folder/crates.txt"
 echo 'timing: zb_base pickle_ops pickle_value zb_ids thiserror' >>"$folder/crates.txt"

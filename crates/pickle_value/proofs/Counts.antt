@@ -2,13 +2,14 @@
 use Rattle.std.proofs.Common.{◌≡◌, ℕ, zero, suc, ◌+◌, ◌<◌, ◌≤◌, Bool, true, false, cond, List, [], ◌∷◌, ◌++◌, length, drop, get_or, reverse, Option, Some, None, refl, arith, sym, ◌∙◌, ap, subst, eqb, ltb, inl, inr}
 use Rattle.std.proofs.lemmas.Bool.{eqb-true, eq-eqb, lt-ltb}
 use Rattle.std.proofs.lemmas.List.{reverse-append}
+use Rattle.std.specs.Prelude.{slice_get}
 use Rattle.pickle_value.specs.declared.node.Node.{Node}
-use Rattle.pickle_value.specs.Parts.{items_of, items_at}
+use Rattle.pickle_value.specs.Parts.{items_of, items_at, held_in}
 use Rattle.pickle_value.specs.Walks.{leads}
 use Rattle.pickle_value.specs.Shared.{times, ends_from, ends_of, is_shared}
-use Rattle.pickle_value.specs.Numbers.{number_of, has_number, AllFresh, IsReach, one_edge_more, with_edge, with_edges, known_ends, above_one, is_many}
+use Rattle.pickle_value.specs.Numbers.{number_of, has_number, AllFresh, IsReach, one_edge_more, with_edge, with_edges, known_ends, held_among, above_one, is_many}
 use Rattle.pickle_value.specs.declared.depth.TheConstants.{WALK_LIMIT}
-use Rattle.pickle_value.proofs.Walks.{cases_bool, not_true}
+use Rattle.pickle_value.proofs.Walks.{cases_bool, not_true, clash}
 
 -- ---- the counts
 
@@ -127,18 +128,44 @@ known-ends ns (x ∷ hs) k h =
     let g = ends-more (has_number hs) (has_number (x ∷ hs)) 0 x.0 ns k here new (λ j e. let t : eqb x.0 j ≡ false = not_true _ (λ u. e (sym (eqb-true x.0 j u) ∙ sym zero-on)) in rw t refl) in
     omega (arith, ih, f, g)
 
--- What is counted decides what is shared.
-pub many_shared : (ns : List Node) (root : ℕ) (hs : List (ℕ × ℕ)) → IsReach ns root hs → (m : ℕ) → is_many (with_edges (root ∷ known_ends ns (reverse hs)) []) m ≡ is_shared ns root m
-many_shared ns root hs h m =
+-- ---- nodes that stand once
+
+pub times_held : (ns : List Node) (k : ℕ) (ms : List ℕ) → held_in (slice_get ns k) ≡ true → times k (held_among ns ms) ≡ times k ms
+times_held ns k [] h = refl
+times_held ns k (m ∷ ms) h =
+    let e = times_held ns k ms h in
+    elim (cases_bool (held_in (slice_get ns m))) [
+      | inl t ↦ rw (t, e) refl
+      | inr f ↦
+          let apart : eqb m k ≡ false = not_true _ (λ u. clash (held_in (slice_get ns m)) (ap (λ (x : ℕ). held_in (slice_get ns x)) (eqb-true m k u) ∙ h) f) in
+          rw (f, apart) (omega (arith, e))
+    ]
+
+pub held-append : (ns : List Node) (xs ys : List ℕ) → held_among ns (xs ++ ys) ≡ held_among ns xs ++ held_among ns ys
+held-append ns [] ys = refl
+held-append ns (x ∷ xs) ys =
+    let e = held-append ns xs ys in
+    elim (cases_bool (held_in (slice_get ns x))) [ inl t ↦ rw (t, e) refl | inr f ↦ rw (f, e) refl ]
+
+pub held_step : (ns : List Node) (m : ℕ) (ms : List ℕ) (counts : List (ℕ × ℕ)) → with_edges (held_among ns ms) (with_edges (held_among ns (m ∷ [])) counts) ≡ with_edges (held_among ns (m ∷ ms)) counts
+held_step ns m ms counts = elim (cases_bool (held_in (slice_get ns m))) [ inl t ↦ rw t refl | inr f ↦ rw f refl ]
+
+-- What is counted decides which of the nodes that stand once are shared.
+pub many_shared : (ns : List Node) (root : ℕ) (hs : List (ℕ × ℕ)) → IsReach ns root hs → (m : ℕ) → held_in (slice_get ns m) ≡ true →
+    is_many (with_edges (root ∷ held_among ns (known_ends ns (reverse hs))) []) m ≡ is_shared ns root m
+many_shared ns root hs h m held =
     let a = ends-reverse ns hs m in
     let b = known-ends ns hs m h.fresh in
     let c : ends_from (has_number hs) 0 ns ≡ ends_from (leads WALK_LIMIT ns root) 0 ns = ends-same (has_number hs) (leads WALK_LIMIT ns root) 0 ns (λ j l. h.known j) in
     let d = ap (times m) c in
-    let e : times m (root ∷ known_ends ns (reverse hs)) ≡ times m (ends_of ns root) = omega (arith, a, b, d) in
-    many-times m (root ∷ known_ends ns (reverse hs)) ∙ ap (ltb 1) e
+    let f = times_held ns m (known_ends ns (reverse hs)) held in
+    let e : times m (root ∷ held_among ns (known_ends ns (reverse hs))) ≡ times m (ends_of ns root) = omega (arith, a, b, d, f) in
+    many-times m (root ∷ held_among ns (known_ends ns (reverse hs))) ∙ ap (ltb 1) e
 
 pub count_step : (ns : List Node) (from : List (ℕ × ℕ)) (i : ℕ) (d : ℕ × ℕ) (counts : List (ℕ × ℕ)) → i < length from →
-    with_edges (known_ends ns (drop i from)) counts ≡ with_edges (known_ends ns (drop (i + 1) from)) (with_edges (items_at ns (get_or from i d).0) counts)
+    with_edges (held_among ns (known_ends ns (drop i from))) counts ≡ with_edges (held_among ns (known_ends ns (drop (i + 1) from))) (with_edges (held_among ns (items_at ns (get_or from i d).0)) counts)
 count_step ns [] i d counts h = absurd (omega arith)
-count_step ns (x ∷ from) zero d counts h = counted_append (items_at ns x.0) (known_ends ns from) counts
+count_step ns (x ∷ from) zero d counts h =
+    ap (λ (l : List ℕ). with_edges l counts) (held-append ns (items_at ns x.0) (known_ends ns from))
+    ∙ counted_append (held_among ns (items_at ns x.0)) (held_among ns (known_ends ns from)) counts
 count_step ns (x ∷ from) (suc i) d counts h = let one : suc i + 1 ≡ suc (i + 1) = omega arith in rw one (count_step ns from i d counts (omega arith))

@@ -7,7 +7,8 @@ use Rattle.pickle_value.specs.declared.node.Node.{Node}
 use Rattle.pickle_value.specs.declared.depth.TheConstants.{WALK_LIMIT}
 use Rattle.pickle_value.specs.declared.parts.Part.{Part}
 use Rattle.pickle_value.specs.declared.parts.Part.TheVariants.{Byte, Item}
-use Rattle.pickle_value.specs.Parts.{items_at, items_in}
+use Rattle.std.specs.Prelude.{slice_get}
+use Rattle.pickle_value.specs.Parts.{items_at, items_in, parts_in}
 use Rattle.pickle_value.specs.Walks.{some_item, has_walk, has_way, leads}
 use Rattle.pickle_value.specs.Same.{has}
 use Rattle.pickle_value.specs.Numbers.{number_of, has_number, IsHeight, IsMeasured, IsOpen, AllOpen, IsMeasuredSince, Measures, walks_in, leads_in, IsTop, MeasuresAll, IsReach}
@@ -260,6 +261,11 @@ item_measured ns levels old new parts i d c h less e a =
 pub node_built : (ns : List Node) (levels : ℕ) (old mid new : List (ℕ × ℕ)) (m h : ℕ) (items : List ℕ) → number_of m old ≡ None → items ≡ items_at ns m → new ≡ (m, h) ∷ mid → MeasuresAll ns levels old items mid h → Measures ns levels old m new h
 node_built ns levels old mid new m h items none is more a =
     subst (λ (x : List (ℕ × ℕ)). Measures ns levels old m x h) (sym more) (node_measured ns levels old mid m h none (subst (λ (l : List ℕ). MeasuresAll ns levels old l mid h) is a))
+
+pub leaf_built : (ns : List Node) (levels : ℕ) (old new : List (ℕ × ℕ)) (m : ℕ) → IsMeasured ns old → number_of m old ≡ None → parts_in (slice_get ns m) ≡ [] → new ≡ (m, 0) ∷ old → Measures ns levels old m new 0
+leaf_built ns levels old new m measured none is more =
+    let items : [] ≡ items_at ns m = ap items_in (sym is) in
+    node_built ns levels old old new m 0 [] none items more (all_none ns levels old measured)
 
 -- ---- nodes that were begun
 

@@ -1,5 +1,5 @@
 -- The text of a leaf makes the leaf.
-use Rattle.std.proofs.Common.{◌≡◌, ℕ, zero, suc, ◌+◌, ◌-◌, ◌*◌, ◌^◌, ◌%◌, ◌<◌, ◌≤◌, ℤ, pos, negsuc, Bool, true, false, cond, List, [], ◌∷◌, ◌++◌, length, Option, Some, refl, arith, sym, ◌∙◌, ap, subst, ltb, eqb, inl, inr}
+use Rattle.std.proofs.Common.{◌≡◌, ℕ, zero, suc, ◌+◌, ◌-◌, ◌*◌, ◌^◌, ◌%◌, ◌<◌, ◌≤◌, ℤ, pos, negsuc, Bool, true, false, cond, List, [], ◌∷◌, ◌++◌, length, Option, Some, refl, arith, sym, ◌∙◌, ap, subst, ltb, inl, inr}
 use Rattle.std.specs.Int.{w32, w128, cast_unsigned}
 use Rattle.std.specs.Str.{is_utf8}
 use Rattle.std.proofs.lemmas.List.{append-nil}
@@ -12,7 +12,7 @@ use Rattle.byteorder.specs.Numbers.{little_number-reads_back, length-bytes_low_f
 use Rattle.pickle_ops.specs.declared.table.Op.{Op}
 use Rattle.pickle_ops.specs.declared.table.Op.TheVariants as ops
 use Rattle.pickle_ops.specs.declared.table.Kind.TheVariants as args
-use Rattle.pickle_ops.specs.Grammar.{IsGlobalLine, is_one_line}
+use Rattle.pickle_ops.specs.Grammar.{IsGlobalLine}
 use Rattle.pickle_value.specs.declared.node.Node.{Node}
 use Rattle.pickle_value.specs.declared.node.Node.TheVariants as kinds
 use Rattle.pickle_value.specs.Graph.{IsNode, IsSigned128}

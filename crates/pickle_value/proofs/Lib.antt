@@ -27,3 +27,5 @@ pub mod Inside
 pub mod Lost
 pub mod Alike
 pub mod Putting
+pub mod Tables
+pub mod Memos

@@ -1,6 +1,6 @@
 -- Numbers of at most 16 bytes, and bytes.
-use Rattle.std.proofs.Common.{◌≡◌, ℕ, ℤ, zero, suc, pos, ◌+◌, ◌*◌, ◌-◌, ◌^◌, ◌<◌, ◌≤◌, Bool, true, false, List, [], ◌∷◌, length, take, drop, refl, sym, ◌∙◌, ap, cond, ltb, arith}
-use Rattle.std.specs.Prelude.{slice_index, ◌-ℤ◌}
+use Rattle.std.proofs.Common.{◌≡◌, ℕ, ℤ, zero, suc, pos, ◌+◌, ◌*◌, ◌-◌, ◌^◌, ◌<◌, ◌≤◌, Bool, true, false, List, [], ◌∷◌, length, refl, sym, ◌∙◌, ap, cond, ltb, arith}
+use Rattle.std.specs.Prelude.{◌-ℤ◌}
 use Rattle.std.proofs.lemmas.Bool.{ltb-true, ltb-false}
 use Rattle.std.proofs.lemmas.Int.{ints}
 use Rattle.std.proofs.lemmas.Grind.{pow_more}
@@ -11,7 +11,7 @@ use Rattle.byteorder.specs.Numbers.{little_from-lt}
 use Rattle.pickle_ops.specs.Fits.{IsBelow, IsSigned32}
 use Rattle.pickle_value.specs.Graph.{IsSigned128}
 use Rattle.pickle_value.specs.Leaves.{long_number}
-use Rattle.zb_base.specs.Bytes.{AreBytes, AreBytes-take, AreBytes-drop}
+use Rattle.zb_base.specs.Bytes.{AreBytes}
 
 bytes_pow : (n : ℕ) → 256 ^ n ≡ 2 ^ (8 * n)
 bytes_pow zero = refl

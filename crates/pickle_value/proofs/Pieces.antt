@@ -1,5 +1,5 @@
 -- Pieces of texts.
-use Rattle.std.proofs.Common.{◌≡◌, ℕ, zero, suc, ◌+◌, ◌*◌, ◌-◌, ◌^◌, ◌<◌, ◌≤◌, Bool, true, false, List, [], ◌∷◌, ◌++◌, length, reverse, Option, Some, None, Ok, Err, refl, arith, sym, ◌∙◌, ap, append_assoc}
+use Rattle.std.proofs.Common.{◌≡◌, ℕ, zero, suc, ◌+◌, ◌*◌, ◌-◌, ◌^◌, ◌<◌, ◌≤◌, Bool, true, false, List, [], ◌∷◌, ◌++◌, length, reverse, Option, Some, None, Ok, Err, refl, arith, sym, ◌∙◌, ap, append_assoc, inl, inr}
 use Rattle.std.specs.Prelude.{slice_get}
 use Rattle.std.proofs.lemmas.Bool.{lt-ltb, le-ltb}
 use Rattle.std.proofs.lemmas.Nat.{pow-add}
@@ -12,12 +12,13 @@ use Rattle.pickle_value.specs.declared.parts.Part.TheVariants.{Byte, Item}
 use Rattle.pickle_value.specs.declared.depth.TheConstants.{WALK_LIMIT}
 use Rattle.pickle_value.specs.declared.error.WriteError.TheVariants as errors
 use Rattle.pickle_value.specs.declared.writing.Writing.{Writing}
-use Rattle.pickle_value.specs.Parts.{act_parts, parts_of, is_held}
-use Rattle.pickle_value.specs.Numbers.{number_of, IsReach, with_edges, known_ends, is_many, numbered, nodes_of}
+use Rattle.pickle_value.specs.Parts.{act_parts, parts_of, is_held, held_in}
+use Rattle.pickle_value.specs.Numbers.{number_of, IsReach, with_edges, known_ends, held_among, is_many, numbered, nodes_of}
 use Rattle.pickle_value.specs.Shared.{is_shared}
-use Rattle.pickle_value.specs.Spelling.{Piece, put_number, fewest, followed, parts_piece, node_piece, piece_of, spelling_of}
-use Rattle.pickle_value.specs.Writing.{with_piece, held_at}
+use Rattle.pickle_value.specs.Spelling.{Piece, put_number, fewest, followed, parts_piece, node_piece, piece_of, root_piece, spelling_of}
+use Rattle.pickle_value.specs.Writing.{with_piece, held_at, IsRootWritten}
 use Rattle.pickle_value.specs.Walks.{has_walk}
+use Rattle.pickle_value.proofs.Walks.{cases_bool}
 use Rattle.pickle_value.proofs.Counts.{many_shared}
 
 -- ---- parts
@@ -71,25 +72,32 @@ parts-same p q h (Item item ∷ parts) puts =
     let e = h item puts in
     ap (λ (x : Piece). followed x (parts_piece p parts x.puts)) e ∙ ap (followed (q item puts)) (parts-same p q h parts (q item puts).puts)
 
-node-same : (f g : ℕ → Bool) → ((m : ℕ) → f m ≡ g m) → (p q : ℕ → List ℕ → Piece) → ((m : ℕ) (puts : List ℕ) → p m puts ≡ q m puts) → (m : ℕ) (puts : List ℕ) (found : Option Node) → node_piece f p m puts found ≡ node_piece g q m puts found
-node-same f g same p q h m puts None = refl
-node-same f g same p q h m puts (Some node) =
-    let e = same m in
+node-same : (f g : ℕ → Bool) (p q : ℕ → List ℕ → Piece) → ((m : ℕ) (puts : List ℕ) → p m puts ≡ q m puts) → (m : ℕ) (puts : List ℕ) (found : Option Node) → (held_in found ≡ true → f m ≡ g m) → node_piece f p m puts found ≡ node_piece g q m puts found
+node-same f g p q h m puts None same = refl
+node-same f g p q h m puts (Some node) same =
     let k = parts-same p q h (parts_of node) puts in
-    rw (e, k) refl
+    elim (cases_bool (is_held node)) [
+      | inl t ↦ let e = same t in rw (t, e, k) refl
+      | inr t ↦ rw t refl
+    ]
 
-pub piece_same : (f g : ℕ → Bool) → ((m : ℕ) → f m ≡ g m) → (levels : ℕ) (ns : List Node) (m : ℕ) (puts : List ℕ) → piece_of levels ns f m puts ≡ piece_of levels ns g m puts
+pub piece_same : (f g : ℕ → Bool) (ns : List Node) → ((m : ℕ) → held_in (slice_get ns m) ≡ true → f m ≡ g m) → (levels m : ℕ) (puts : List ℕ) → piece_of levels ns f m puts ≡ piece_of levels ns g m puts
 unfolding piece_of
-piece_same f g same zero ns m puts = refl
-piece_same f g same (suc levels) ns m puts = node-same f g same (piece_of levels ns f) (piece_of levels ns g) (piece_same f g same levels ns) m puts (slice_get ns m)
+piece_same f g ns same zero m puts = refl
+piece_same f g ns same (suc levels) m puts = node-same f g (piece_of levels ns f) (piece_of levels ns g) (piece_same f g ns same levels) m puts (slice_get ns m) (same m)
 
--- ---- spellings
+-- ---- nodes as roots
 
-pub spelled_ok : (ns : List Node) (root : ℕ) (reached : List (ℕ × ℕ)) (w : Writing) → IsReach ns root reached →
-    w ≡ with_piece (record { text = []; puts = [] }) (piece_of (WALK_LIMIT + 1) ns (is_many (with_edges (root ∷ known_ends ns (reverse reached)) [])) root []) → spelling_of ns root ≡ Ok w.text
-spelled_ok ns root reached w h is =
-    let same = piece_same (is_many (with_edges (root ∷ known_ends ns (reverse reached)) [])) (is_shared ns root) (many_shared ns root reached h) (WALK_LIMIT + 1) ns root [] in
-    let text : w.text ≡ (piece_of (WALK_LIMIT + 1) ns (is_shared ns root) root []).text = ap (λ (x : Writing). x.text) is ∙ ap (λ (x : Piece). x.text) same in
+pub root_written : (ns : List Node) (root : ℕ) (reached : List (ℕ × ℕ)) (w : Writing) → IsReach ns root reached →
+    w ≡ with_piece (record { text = []; puts = [] }) (piece_of (WALK_LIMIT + 1) ns (is_many (with_edges (root ∷ held_among ns (known_ends ns (reverse reached))) [])) root []) → IsRootWritten ns root w
+root_written ns root reached w h is =
+    let counts = with_edges (root ∷ held_among ns (known_ends ns (reverse reached))) [] in
+    let same = piece_same (is_many counts) (is_shared ns root) ns (many_shared ns root reached h) (WALK_LIMIT + 1) root [] in
+    record { short = h.short; all = is ∙ ap (with_piece (record { text = []; puts = [] })) same }
+
+pub spelled_ok : (ns : List Node) (root : ℕ) (w : Writing) → IsRootWritten ns root w → spelling_of ns root ≡ Ok w.text
+spelled_ok ns root w h =
+    let text : w.text ≡ (root_piece ns root).text = ap (λ (x : Writing). x.text) h.all in
     let short : has_walk (WALK_LIMIT + 1) ns root ≡ false = h.short in
     rw (short, text) refl
 

@@ -1,5 +1,5 @@
 -- A step keeps a state sound.
-use Rattle.std.proofs.Common.{◌≡◌, ℕ, ℤ, zero, suc, ◌+◌, ◌<◌, ◌≤◌, ◌^◌, Bool, true, false, cond, List, [], ◌∷◌, ◌++◌, length, Option, Some, None, Ok, Err, refl, arith, sym, ◌∙◌, ap, subst, length-append, ltb, eqb}
+use Rattle.std.proofs.Common.{◌≡◌, ℕ, ℤ, zero, suc, ◌+◌, ◌<◌, ◌≤◌, ◌^◌, Bool, true, false, cond, List, [], ◌∷◌, ◌++◌, length, Option, Some, None, Ok, Err, refl, arith, sym, ◌∙◌, ap, subst, length-append, ltb}
 use Rattle.std.specs.Prelude.{slice_get, slice_set}
 use Rattle.std.specs.Int.RustNames.{unsigned_abs}
 use Rattle.std.specs.declared.cmp.Ordering.{Ordering}
@@ -12,7 +12,7 @@ use Rattle.std.proofs.lemmas.List.{length-set}
 use Rattle.pickle_ops.specs.declared.table.Op.{Op}
 use Rattle.pickle_ops.specs.declared.table.Op.TheVariants as ops
 use Rattle.pickle_ops.specs.Fits.{Fits}
-use Rattle.pickle_ops.specs.Grammar.{SpellsLines, is_one_line, IsGlobalLine}
+use Rattle.pickle_ops.specs.Grammar.{SpellsLines, IsGlobalLine}
 use Rattle.pickle_value.specs.declared.node.Node.{Node}
 use Rattle.pickle_value.specs.declared.node.Node.TheVariants as kinds
 use Rattle.pickle_value.specs.declared.node.Act.{Act}

@@ -1,8 +1,12 @@
 -- Numbers kept by node, the newest first; how the writer measures and counts. Own.
-use Rattle.std.specs.Prelude.{ℕ, zero, suc, ◌≡◌, ◌≤◌, ◌⊎◌, Bool, true, false, List, [], ◌∷◌, ◌++◌, Option, Some, None, is_some, length, nat_lt, ◌==◌, if◌then◌else◌}
+use Rattle.std.specs.Prelude.{ℕ, zero, suc, ◌≡◌, ◌≤◌, ◌⊎◌, Bool, true, false, List, [], ◌∷◌, ◌++◌, Option, Some, None, is_some, length, slice_get, nat_lt, ◌==◌, if◌then◌else◌}
+use Rattle.std.specs.Ordering.{nat_cmp}
+use Rattle.std.specs.BTreeMap.{get}
 use Rattle.pickle_value.specs.declared.node.Node.{Node}
+use Rattle.pickle_value.specs.declared.node_map.Found.{Found}
+use Rattle.pickle_value.specs.declared.node_map.Found.TheVariants.{Few, Many}
 use Rattle.pickle_value.specs.declared.depth.TheConstants.{WALK_LIMIT}
-use Rattle.pickle_value.specs.Parts.{items_at}
+use Rattle.pickle_value.specs.Parts.{items_at, held_in}
 use Rattle.pickle_value.specs.Walks.{some_item, has_walk, has_way, leads}
 use Rattle.pickle_value.specs.Same.{has}
 
@@ -10,6 +14,17 @@ use Rattle.pickle_value.specs.Same.{has}
 abbrev pub number_of : ℕ → List (ℕ × ℕ) → Option ℕ
 number_of m [] = None
 number_of m (pair ∷ pairs) = if pair.0 == m then Some pair.1 else number_of m pairs
+
+-- the number in a place of a table
+abbrev pub number_in : List (Option ℕ) → ℕ → Option ℕ
+number_in [] m = None
+number_in (x ∷ xs) zero = x
+number_in (x ∷ xs) (suc m) = number_in xs m
+
+-- the number that is found for a node
+abbrev pub kept : Found → ℕ → Option ℕ
+kept (Few few) m = get nat_cmp few m
+kept (Many table) m = number_in table.items m
 
 -- a number is kept for a node
 abbrev pub has_number : List (ℕ × ℕ) → ℕ → Bool
@@ -104,6 +119,11 @@ with_edges (m ∷ ms) counts = with_edges ms (with_edge m counts)
 abbrev pub known_ends : List Node → List (ℕ × ℕ) → List ℕ
 known_ends ns [] = []
 known_ends ns (pair ∷ pairs) = items_at ns pair.0 ++ known_ends ns pairs
+
+-- those of these nodes that stand once, whichever edges lead to them
+abbrev pub held_among : List Node → List ℕ → List ℕ
+held_among ns [] = []
+held_among ns (m ∷ ms) = if held_in (slice_get ns m) then m ∷ held_among ns ms else held_among ns ms
 
 -- more than one was counted
 abbrev pub above_one : Option ℕ → Bool

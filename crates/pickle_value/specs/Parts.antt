@@ -75,6 +75,11 @@ is_held (kinds.Reference id) = true
 is_held (kinds.Object callee arguments by_new acts) = true
 is_held _ = false
 
+-- a node that may be missing stands once
+abbrev pub held_in : Option Node → Bool
+held_in None = false
+held_in (Some node) = is_held node
+
 -- the items among parts, in order
 abbrev pub items_in : List Part → List ℕ
 items_in [] = []

@@ -1,5 +1,5 @@
 -- The stack and the memo of a reader.
-use Rattle.std.specs.Prelude.{ℕ, zero, suc, List, [], ◌∷◌, Option, Some, None}
+use Rattle.std.specs.Prelude.{ℕ, zero, suc, ◌+◌, List, [], ◌∷◌, Option, Some, None}
 use Rattle.std.specs.Ordering.{nat_cmp}
 use Rattle.std.specs.BTreeMap.{is_at, insert_entry}
 use Rattle.std.specs.Map.{lookup}
@@ -33,6 +33,11 @@ top_values (suc n) _ values = None
 abbrev pub values_taken : Extent → List Item → TakenValues
 values_taken Marked stack = above_mark stack []
 values_taken (Top count) stack = top_values count stack []
+
+-- nodes under the numbers from i on
+abbrev pub numbered_from : ℕ → List ℕ → List (ℕ × ℕ)
+numbered_from i [] = []
+numbered_from i (node ∷ nodes) = (i, node) ∷ numbered_from (i + 1) nodes
 
 -- the memo with a node put under a number, where it replaces what was put there before
 abbrev pub put_at : List (ℕ × ℕ) → ℕ → ℕ → List (ℕ × ℕ)

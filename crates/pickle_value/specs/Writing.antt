@@ -1,9 +1,11 @@
 -- What the writer keeps, as pieces go behind it.
-use Rattle.std.specs.Prelude.{ℕ, Bool, true, false, List, ◌∷◌, ◌++◌, length, slice_get}
+use Rattle.std.specs.Prelude.{ℕ, ◌+◌, ◌≡◌, [], Bool, true, false, List, ◌∷◌, ◌++◌, length, slice_get}
 use Rattle.pickle_value.specs.declared.node.Node.{Node}
 use Rattle.pickle_value.specs.declared.writing.Writing.{Writing}
+use Rattle.pickle_value.specs.declared.depth.TheConstants.{WALK_LIMIT}
 use Rattle.pickle_value.specs.Parts.{parts_in}
-use Rattle.pickle_value.specs.Spelling.{Piece, put_number, put_text, held_piece, parts_piece, piece_of}
+use Rattle.pickle_value.specs.Walks.{has_walk}
+use Rattle.pickle_value.specs.Spelling.{Piece, put_number, put_text, held_piece, parts_piece, piece_of, root_piece}
 
 -- a piece goes behind what is written
 abbrev pub with_piece : Writing → Piece → Writing
@@ -18,3 +20,8 @@ after_put true m w = record { text = w.text ++ put_text (length w.puts); puts = 
 abbrev pub held_at : ℕ → List Node → (ℕ → Bool) → ℕ → List ℕ → Piece
 held_at levels ns shared m puts =
     held_piece (shared m) (put_number m puts) m puts (parts_piece (piece_of levels ns shared) (parts_in (slice_get ns m)) puts)
+
+-- this is the piece of a node as root, from which no walk has more edges than the limit
+pub record IsRootWritten (ns : List Node) (root : ℕ) (w : Writing) : Type 0 where
+  pub short : has_walk (WALK_LIMIT + 1) ns root ≡ false
+  pub all : w ≡ with_piece (record { text = []; puts = [] }) (root_piece ns root)

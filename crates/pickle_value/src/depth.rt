@@ -1,8 +1,8 @@
 //! How long the walks from a node are.
 
-ghost use Rattle.std.specs.Prelude.{◌≡◌, ◌+◌, true, Some, None, IfOk, IfErr};
+ghost use Rattle.std.specs.Prelude.{◌≡◌, ◌+◌, [], true, Some, None, slice_get, IfOk, IfErr};
 ghost use Rattle.pickle_value.specs.declared.error.WriteError.TheVariants.{TooDeep};
-ghost use Rattle.pickle_value.specs.Parts.{items_in};
+ghost use Rattle.pickle_value.specs.Parts.{items_in, parts_in};
 ghost use Rattle.pickle_value.specs.Walks.{has_walk};
 ghost use Rattle.pickle_value.specs.Numbers.{number_of, IsMeasured, IsOpen, AllOpen, IsMeasuredSince, Measures, MeasuresAll, IsReach, walks_in};
 
@@ -48,6 +48,30 @@ fn recall(
         begun,
         heights,
         height,
+    })
+}
+
+/// Measures a node whose height isn't known and that has no parts.
+#[tactic(auto, using(crate::proofs::Heights::settled_none))]
+fn without_parts(
+    begun: NodeMap,
+    heights: NodeMap,
+    nodes: &ListOf<Node>,
+    node: u32,
+    levels: u64,
+) -> Result<Measured, WriteError>
+    requires measured { IsMeasured nodes.now heights }
+    requires unknown { number_of node heights ≡ None }
+    requires none { parts_in (slice_get nodes.now node) ≡ [] }
+    ensures ok { IfOk result (λ r. Measures nodes.now levels heights node r.heights r.height) }
+    ensures settled { IfOk result (λ r. IsMeasuredSince begun r.begun r.heights) }
+    ensures err { IfErr result (λ e. e ≡ TooDeep → has_walk (levels + 1) nodes.now node ≡ true) }
+{
+    let heights = heights.with(node, 0)?;
+    Ok(Measured {
+        begun,
+        heights,
+        height: 0,
     })
 }
 
@@ -111,6 +135,9 @@ fn measure_new(
     ensures err { IfErr result (λ e. e ≡ TooDeep → has_walk (levels + 1) nodes.now node ≡ true) }
 {
     let parts = parts_at(alloc, nodes, node)?;
+    if parts.is_empty() {
+        return without_parts(begun, heights, nodes, node, levels);
+    }
     let begun = begun.with(node, 0)?;
     let measured = measure_items(alloc, begun, heights, nodes, parts.as_slice(), levels)?;
     let height = measured.height;
@@ -159,8 +186,8 @@ pub(crate) fn measure_from(
     ensures ok { IfOk result (λ heights. IsReach nodes.now root heights) }
     ensures err { IfErr result (λ e. e ≡ TooDeep → has_walk (WALK_LIMIT + 1) nodes.now root ≡ true) }
 {
-    let begun = NodeMap::new(alloc);
-    let heights = NodeMap::new(alloc);
+    let begun = NodeMap::new(alloc, nodes.len());
+    let heights = NodeMap::new(alloc, nodes.len());
     let measured = measure(alloc, begun, heights, nodes, root, WALK_LIMIT as u64)?;
     Ok(measured.heights)
 }

@@ -1,7 +1,7 @@
 //! What the text of a node with items is made of.
 
 ghost use Rattle.std.specs.Prelude.{◌≡◌, [], ◌∷◌, ◌++◌, IfOk, slice_get};
-ghost use Rattle.pickle_value.specs.Parts.{item_parts, pair_parts, act_parts, tuple_parts, list_parts, dict_parts, object_parts, object_byte, parts_of, parts_in};
+ghost use Rattle.pickle_value.specs.Parts.{item_parts, pair_parts, act_parts, tuple_parts, list_parts, dict_parts, object_parts, object_byte, parts_of, parts_in, held_in};
 ghost use Rattle.pickle_value.specs.Parts;
 
 use crate::node::{Act, Node};
@@ -28,11 +28,30 @@ pub(crate) fn is_held(node: &Node) -> bool
     }
 }
 
+/// Whether the node of a number stands once, whichever edges lead to it.
+pub(crate) fn is_held_at(nodes: &ListOf<Node>, node: u32) -> bool
+    ensures { result ≡ held_in (slice_get nodes.now node) }
+{
+    match nodes.get(node as usize) {
+        Some(found) => is_held(found),
+        None => false,
+    }
+}
+
 /// These parts.
 fn few(alloc: Global, parts: &[Part]) -> Result<ListOf<Part>, AllocError>
     ensures { IfOk result (λ list. list ≡ parts.now) }
 {
     Ok(ListOf::from_vec(Vec::from_slice(alloc, parts)?))
+}
+
+/// These parts, with room for so many behind them.
+fn few_before(alloc: Global, parts: &[Part], room: usize) -> Result<ListOf<Part>, AllocError>
+    ensures { IfOk result (λ list. list ≡ parts.now) }
+{
+    let mut list = Vec::with_capacity(alloc, parts.len().saturating_add(room))?;
+    list.extend_from_slice(parts)?;
+    Ok(ListOf::from_vec(list))
 }
 
 /// The parts, and behind them the items.
@@ -109,7 +128,10 @@ fn tuple(alloc: Global, items: &[u32]) -> Result<ListOf<Part>, AllocError>
             ],
         ),
         _ => {
-            let mut parts = with_items(few(alloc, &[Part::Byte(0x28)])?, items)?;
+            let mut parts = with_items(
+                few_before(alloc, &[Part::Byte(0x28)], items.len().saturating_add(1))?,
+                items,
+            )?;
             parts.push(Part::Byte(0x74))?;
             Ok(parts)
         }
@@ -124,7 +146,14 @@ fn list(alloc: Global, items: &[u32]) -> Result<ListOf<Part>, AllocError>
         [] => few(alloc, &[Part::Byte(0x5d)]),
         [a] => few(alloc, &[Part::Byte(0x5d), Part::Item(*a), Part::Byte(0x61)]),
         _ => {
-            let mut parts = with_items(few(alloc, &[Part::Byte(0x5d), Part::Byte(0x28)])?, items)?;
+            let mut parts = with_items(
+                few_before(
+                    alloc,
+                    &[Part::Byte(0x5d), Part::Byte(0x28)],
+                    items.len().saturating_add(1),
+                )?,
+                items,
+            )?;
             parts.push(Part::Byte(0x65))?;
             Ok(parts)
         }
@@ -147,7 +176,14 @@ fn dict(alloc: Global, pairs: &[(u32, u32)]) -> Result<ListOf<Part>, AllocError>
             ],
         ),
         _ => {
-            let mut parts = with_pairs(few(alloc, &[Part::Byte(0x7d), Part::Byte(0x28)])?, pairs)?;
+            let mut parts = with_pairs(
+                few_before(
+                    alloc,
+                    &[Part::Byte(0x7d), Part::Byte(0x28)],
+                    pairs.len().saturating_mul(2).saturating_add(1),
+                )?,
+                pairs,
+            )?;
             parts.push(Part::Byte(0x75))?;
             Ok(parts)
         }

@@ -56,7 +56,7 @@ pub(crate) fn read_within(
             return finish(state, place, next);
         }
         let bytes = &input[token.start..token.start + token.length];
-        state = take_step(alloc, state, token, place, bytes)?;
+        take_step(alloc, &mut state, token, place, bytes)?;
         place = next;
     }
 }

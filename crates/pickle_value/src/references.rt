@@ -1,7 +1,7 @@
 //! References.
 
-ghost use Rattle.std.specs.Prelude.{◌≡◌, ◌<◌, ◌≤◌, drop, length, slice_get, IfOk};
-ghost use Rattle.pickle_value.specs.Steps.{AnswersAs};
+ghost use Rattle.std.specs.Prelude.{◌≡◌, ◌<◌, ◌≤◌, drop, length, slice_get, Ok, OnOk, IfOk, IfErr};
+ghost use Rattle.pickle_value.specs.Steps.{AnswersAs, RefusesAs};
 ghost use Rattle.pickle_value.specs.References.{oid_in, oid_of, named_first, named_by, named_by_token, noted, find, oids_at, oids_from};
 
 use crate::error::PickleError;
@@ -88,20 +88,16 @@ fn name_at(op: Op, state: &State) -> Named
 }
 
 /// Keeps an oid.
-fn note(
-    state: State,
-    mut oids: ListOf<Oid>,
-    at: usize,
-    named: Named,
-) -> Result<Finding, PickleError>
-    ensures { AnswersAs result (noted at state oids named) }
+fn note(finding: &mut Finding, at: usize, named: Named) -> Result<(), PickleError>
+    ensures ok { OnOk result (noted at finding.old.state finding.old.oids named ≡ Ok finding.new) }
+    ensures err { IfErr result (λ e. RefusesAs e (noted at finding.old.state finding.old.oids named)) }
 {
     match named {
         Named::Strong(oid) => {
-            oids.push(oid)?;
-            Ok(Finding { state, oids })
+            finding.oids.push(oid)?;
+            Ok(())
         }
-        Named::Weak => Ok(Finding { state, oids }),
+        Named::Weak => Ok(()),
         Named::Bad => Err(PickleError::BadReference { at }),
     }
 }
@@ -109,17 +105,17 @@ fn note(
 /// What a token does, and what its persistent id names.
 fn find_step(
     alloc: Global,
-    finding: Finding,
+    finding: &mut Finding,
     token: Token,
     at: usize,
     bytes: &[u8],
-) -> Result<Finding, PickleError>
-    ensures { AnswersAs result (find token.op at token.number bytes.now finding) }
+) -> Result<(), PickleError>
+    ensures ok { OnOk result (find token.op at token.number bytes.now finding.old ≡ Ok finding.new) }
+    ensures err { IfErr result (λ e. RefusesAs e (find token.op at token.number bytes.now finding.old)) }
 {
-    let Finding { state, oids } = finding;
-    let named = name_at(token.op, &state);
-    let state = take_step(alloc, state, token, at, bytes)?;
-    note(state, oids, at, named)
+    let named = name_at(token.op, &finding.state);
+    take_step(alloc, &mut finding.state, token, at, bytes)?;
+    note(finding, at, named)
 }
 
 /// The oids at STOP.
@@ -155,7 +151,7 @@ pub(crate) fn references_within(
             return finish(finding, place, next);
         }
         let bytes = &input[token.start..token.start + token.length];
-        finding = find_step(alloc, finding, token, place, bytes)?;
+        find_step(alloc, &mut finding, token, place, bytes)?;
         place = next;
     }
 }

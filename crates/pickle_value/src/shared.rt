@@ -2,12 +2,12 @@
 
 ghost use Rattle.std.specs.Prelude.{◌≡◌, [], ◌∷◌, reverse, IfOk};
 ghost use Rattle.pickle_value.specs.Parts.{items_in};
-ghost use Rattle.pickle_value.specs.Numbers.{with_edge, with_edges, known_ends};
+ghost use Rattle.pickle_value.specs.Numbers.{with_edge, with_edges, known_ends, held_among};
 ghost use Rattle.pickle_value.specs.Numbers;
 
 use crate::node::Node;
 use crate::node_map::NodeMap;
-use crate::parts::{Part, parts_at};
+use crate::parts::{Part, is_held_at, parts_at};
 use std::alloc::{AllocError, Global};
 use zb_ids::ListOf;
 
@@ -26,20 +26,35 @@ fn count(counts: NodeMap, node: u32) -> Result<NodeMap, AllocError>
     }
 }
 
-/// Counts the edges to the items among parts.
-fn count_items(mut counts: NodeMap, parts: &[Part]) -> Result<NodeMap, AllocError>
-    ensures { IfOk result (λ more. more ≡ with_edges (items_in parts.now) counts) }
+/// Counts one more edge to a node, if it stands once.
+fn count_held(counts: NodeMap, nodes: &ListOf<Node>, node: u32) -> Result<NodeMap, AllocError>
+    ensures { IfOk result (λ more. more ≡ with_edges (held_among nodes.now (node ∷ [])) counts) }
+{
+    if is_held_at(nodes, node) {
+        return count(counts, node);
+    }
+    Ok(counts)
+}
+
+/// Counts the edges to those items among parts that stand once.
+#[tactic(auto, using(crate::proofs::Counts::held_step))]
+fn count_items(
+    mut counts: NodeMap,
+    nodes: &ListOf<Node>,
+    parts: &[Part],
+) -> Result<NodeMap, AllocError>
+    ensures { IfOk result (λ more. more ≡ with_edges (held_among nodes.now (items_in parts.now)) counts) }
 {
     for part in parts {
         match part {
             Part::Byte(_) => {}
-            Part::Item(item) => counts = count(counts, *item)?,
+            Part::Item(item) => counts = count_held(counts, nodes, *item)?,
         }
     }
     Ok(counts)
 }
 
-/// Counts the edges from these nodes.
+/// Counts the edges from these nodes to nodes that stand once.
 #[tactic(auto, using(crate::proofs::Counts::count_step))]
 fn count_all(
     alloc: Global,
@@ -47,25 +62,26 @@ fn count_all(
     nodes: &ListOf<Node>,
     from: &[(u32, u64)],
 ) -> Result<NodeMap, AllocError>
-    ensures { IfOk result (λ more. more ≡ with_edges (known_ends nodes.now from.now) counts) }
+    ensures { IfOk result (λ more. more ≡ with_edges (held_among nodes.now (known_ends nodes.now from.now)) counts) }
 {
     for pair in from {
         let parts = parts_at(alloc, nodes, pair.0)?;
-        counts = count_items(counts, parts.as_slice())?;
+        counts = count_items(counts, nodes, parts.as_slice())?;
     }
     Ok(counts)
 }
 
-/// How many edges lead from these nodes to each, and one more to the root. Beyond two none is counted.
+/// How many edges lead from these nodes to each that stands once, and one more to the root. Beyond two none
+/// is counted.
 pub(crate) fn count_edges(
     alloc: Global,
     nodes: &ListOf<Node>,
     reached: &NodeMap,
     root: u32,
 ) -> Result<NodeMap, AllocError>
-    ensures { IfOk result (λ counts. counts ≡ with_edges (root ∷ known_ends nodes.now (reverse reached.now)) []) }
+    ensures { IfOk result (λ counts. counts ≡ with_edges (root ∷ held_among nodes.now (known_ends nodes.now (reverse reached.now))) []) }
 {
-    let counts = count(NodeMap::new(alloc), root)?;
+    let counts = count(NodeMap::new(alloc, nodes.len()), root)?;
     count_all(alloc, counts, nodes, reached.pairs())
 }
 

@@ -128,15 +128,19 @@ impl Stack {
 /// order of the numbers.
 #[derive(Drop)]
 pub(crate) struct Memo {
+    /// Those under the numbers from 0 on, which were put in this order.
+    first: Vec<u32>,
+    /// Those under other numbers.
     pairs: BTreeMap<u64, u32>,
 }
 
 impl Model for Memo {
-    ghost use Rattle.std.specs.Prelude.{List, ℕ};
+    ghost use Rattle.std.specs.Prelude.{List, ℕ, ◌++◌};
+    ghost use Rattle.pickle_value.specs.Stacks.{numbered_from};
 
     ghost Value = { List (ℕ × ℕ) };
 
-    ghost view = { λ memo. memo.pairs.entries };
+    ghost view = { λ memo. numbered_from 0 memo.first.items ++ memo.pairs.entries };
 }
 
 impl Memo {
@@ -145,22 +149,37 @@ impl Memo {
         ensures { result ≡ [] }
     {
         Memo {
+            first: Vec::new(alloc),
             pairs: BTreeMap::new(alloc),
         }
     }
 
     /// Puts a node under a number, in place of what stood there.
-    pub fn put(&mut self, number: u64, node: u32) -> Result<(), AllocFailed<(u64, u32)>>
+    #[tactic(auto, using(crate::proofs::Memos::put_below, crate::proofs::Memos::put_next, crate::proofs::Memos::put_above))]
+    pub fn put(&mut self, number: u64, node: u32) -> Result<(), AllocError>
         ensures { OnOk result (self.new ≡ put_at self.old number node) }
     {
+        let count = self.first.len() as u64;
+        if number < count {
+            self.first[number as usize] = node;
+            return Ok(());
+        }
+        if number == count && self.pairs.is_empty() {
+            self.first.push(node)?;
+            return Ok(());
+        }
         self.pairs.insert(number, node)?;
         Ok(())
     }
 
     /// The node that was put under a number last.
+    #[tactic(auto, using(crate::proofs::Memos::get_below, crate::proofs::Memos::get_above))]
     pub fn get(&self, number: u64) -> Option<u32>
         ensures { result ≡ node_at self.now number }
     {
+        if number < self.first.len() as u64 {
+            return Some(self.first[number as usize]);
+        }
         self.pairs.get(&number).copied()
     }
 }

@@ -1,11 +1,11 @@
 //! What each token does to what a reader keeps.
 
-ghost use Rattle.std.specs.Prelude.{◌≡◌, slice_get};
+ghost use Rattle.std.specs.Prelude.{◌≡◌, slice_get, Ok, OnOk, IfErr};
 ghost use Rattle.std.specs.Int.RustNames.{unsigned_abs};
 ghost use Rattle.pickle_value.specs.declared.state.Extent.TheVariants.{Marked};
 ghost use Rattle.pickle_value.specs.Graph.{is_tuple};
 ghost use Rattle.pickle_value.specs.Stacks.{values_taken, node_at};
-ghost use Rattle.pickle_value.specs.Steps.{AnswersAs, make, push, popped, unmarked, doubled, tuple_of, add_to, append_to, set_in, build_of, object_of, reference_of, put_of, get_of, act_of, step};
+ghost use Rattle.pickle_value.specs.Steps.{RefusesAs, make, push, popped, unmarked, doubled, tuple_of, add_to, append_to, set_in, build_of, object_of, reference_of, put_of, get_of, act_of, step};
 
 use crate::additions::{Addition, add, in_pairs};
 use crate::error::PickleError;
@@ -17,8 +17,9 @@ use std::alloc::Global;
 use zb_ids::ListOf;
 
 /// Makes a node, and pushes its number.
-fn make_node(mut state: State, at: usize, node: Node) -> Result<State, PickleError>
-    ensures { AnswersAs result (make at node state) }
+fn make_node(state: &mut State, at: usize, node: Node) -> Result<(), PickleError>
+    ensures ok { OnOk result (make at node state.old ≡ Ok state.new) }
+    ensures err { IfErr result (λ e. RefusesAs e (make at node state.old)) }
 {
     let count = state.nodes.len();
     if count >= state.limit as usize {
@@ -26,52 +27,57 @@ fn make_node(mut state: State, at: usize, node: Node) -> Result<State, PickleErr
     }
     state.nodes.push(node)?;
     state.stack.push(Item::Value(count as u32))?;
-    Ok(state)
+    Ok(())
 }
 
-fn push_item(mut state: State, item: Item) -> Result<State, PickleError>
-    ensures { AnswersAs result (push item state) }
+fn push_item(state: &mut State, item: Item) -> Result<(), PickleError>
+    ensures ok { OnOk result (push item state.old ≡ Ok state.new) }
+    ensures err { IfErr result (λ e. RefusesAs e (push item state.old)) }
 {
     state.stack.push(item)?;
-    Ok(state)
+    Ok(())
 }
 
-fn pop(mut state: State, at: usize) -> Result<State, PickleError>
-    ensures { AnswersAs result (popped at state state.stack) }
+fn pop(state: &mut State, at: usize) -> Result<(), PickleError>
+    ensures ok { OnOk result (popped at state.old state.old.stack ≡ Ok state.new) }
+    ensures err { IfErr result (λ e. RefusesAs e (popped at state.old state.old.stack)) }
 {
     match state.stack.pop() {
-        Some(_) => Ok(state),
+        Some(_) => Ok(()),
         None => Err(PickleError::Stack { at }),
     }
 }
 
-fn pop_mark(alloc: Global, mut state: State, at: usize) -> Result<State, PickleError>
-    ensures { AnswersAs result (unmarked at state (values_taken Marked state.stack)) }
+fn pop_mark(alloc: Global, state: &mut State, at: usize) -> Result<(), PickleError>
+    ensures ok { OnOk result (unmarked at state.old (values_taken Marked state.old.stack) ≡ Ok state.new) }
+    ensures err { IfErr result (λ e. RefusesAs e (unmarked at state.old (values_taken Marked state.old.stack))) }
 {
     match state.stack.take(alloc, Extent::Marked)? {
-        Some(_) => Ok(state),
+        Some(_) => Ok(()),
         None => Err(PickleError::Stack { at }),
     }
 }
 
-fn double(mut state: State, at: usize) -> Result<State, PickleError>
-    ensures { AnswersAs result (doubled at state state.stack) }
+fn double(state: &mut State, at: usize) -> Result<(), PickleError>
+    ensures ok { OnOk result (doubled at state.old state.old.stack ≡ Ok state.new) }
+    ensures err { IfErr result (λ e. RefusesAs e (doubled at state.old state.old.stack)) }
 {
     let Some(Item::Value(value)) = state.stack.pop() else {
         return Err(PickleError::Stack { at });
     };
     state.stack.push(Item::Value(value))?;
     state.stack.push(Item::Value(value))?;
-    Ok(state)
+    Ok(())
 }
 
 fn make_tuple(
     alloc: Global,
-    mut state: State,
+    state: &mut State,
     at: usize,
     extent: Extent,
-) -> Result<State, PickleError>
-    ensures { AnswersAs result (tuple_of at state (values_taken extent state.stack)) }
+) -> Result<(), PickleError>
+    ensures ok { OnOk result (tuple_of at state.old (values_taken extent state.old.stack) ≡ Ok state.new) }
+    ensures err { IfErr result (λ e. RefusesAs e (tuple_of at state.old (values_taken extent state.old.stack))) }
 {
     match state.stack.take(alloc, extent)? {
         Some(values) => make_node(state, at, Node::Tuple(values)),
@@ -81,8 +87,9 @@ fn make_tuple(
 
 /// Adds to the node on the top.
 #[tactic(auto, using(crate::proofs::Sets::set_twice))]
-fn add_to_top(mut state: State, at: usize, addition: Addition) -> Result<State, PickleError>
-    ensures { AnswersAs result (add_to at state addition state.stack) }
+fn add_to_top(state: &mut State, at: usize, addition: Addition) -> Result<(), PickleError>
+    ensures ok { OnOk result (add_to at state.old addition state.old.stack ≡ Ok state.new) }
+    ensures err { IfErr result (λ e. RefusesAs e (add_to at state.old addition state.old.stack)) }
 {
     let Some(Item::Value(number)) = state.stack.pop() else {
         return Err(PickleError::Stack { at });
@@ -96,11 +103,12 @@ fn add_to_top(mut state: State, at: usize, addition: Addition) -> Result<State, 
     };
     let _ = state.nodes.replace(number, changed);
     state.stack.push(Item::Value(number))?;
-    Ok(state)
+    Ok(())
 }
 
-fn append(alloc: Global, mut state: State, at: usize, extent: Extent) -> Result<State, PickleError>
-    ensures { AnswersAs result (append_to at state (values_taken extent state.stack)) }
+fn append(alloc: Global, state: &mut State, at: usize, extent: Extent) -> Result<(), PickleError>
+    ensures ok { OnOk result (append_to at state.old (values_taken extent state.old.stack) ≡ Ok state.new) }
+    ensures err { IfErr result (λ e. RefusesAs e (append_to at state.old (values_taken extent state.old.stack))) }
 {
     match state.stack.take(alloc, extent)? {
         Some(values) => add_to_top(state, at, Addition::Values(values)),
@@ -108,8 +116,9 @@ fn append(alloc: Global, mut state: State, at: usize, extent: Extent) -> Result<
     }
 }
 
-fn set(alloc: Global, mut state: State, at: usize, extent: Extent) -> Result<State, PickleError>
-    ensures { AnswersAs result (set_in at state (values_taken extent state.stack)) }
+fn set(alloc: Global, state: &mut State, at: usize, extent: Extent) -> Result<(), PickleError>
+    ensures ok { OnOk result (set_in at state.old (values_taken extent state.old.stack) ≡ Ok state.new) }
+    ensures err { IfErr result (λ e. RefusesAs e (set_in at state.old (values_taken extent state.old.stack))) }
 {
     let Some(values) = state.stack.take(alloc, extent)? else {
         return Err(PickleError::Stack { at });
@@ -120,8 +129,9 @@ fn set(alloc: Global, mut state: State, at: usize, extent: Extent) -> Result<Sta
     }
 }
 
-fn build(mut state: State, at: usize) -> Result<State, PickleError>
-    ensures { AnswersAs result (build_of at state state.stack) }
+fn build(state: &mut State, at: usize) -> Result<(), PickleError>
+    ensures ok { OnOk result (build_of at state.old state.old.stack ≡ Ok state.new) }
+    ensures err { IfErr result (λ e. RefusesAs e (build_of at state.old state.old.stack)) }
 {
     let Some(Item::Value(value)) = state.stack.pop() else {
         return Err(PickleError::Stack { at });
@@ -139,13 +149,9 @@ fn stands_for_tuple(nodes: &NodeTable, number: u32) -> bool
     }
 }
 
-fn make_object(
-    alloc: Global,
-    mut state: State,
-    at: usize,
-    by_new: bool,
-) -> Result<State, PickleError>
-    ensures { AnswersAs result (object_of by_new at state state.stack) }
+fn make_object(alloc: Global, state: &mut State, at: usize, by_new: bool) -> Result<(), PickleError>
+    ensures ok { OnOk result (object_of by_new at state.old state.old.stack ≡ Ok state.new) }
+    ensures err { IfErr result (λ e. RefusesAs e (object_of by_new at state.old state.old.stack)) }
 {
     let Some(Item::Value(arguments)) = state.stack.pop() else {
         return Err(PickleError::Stack { at });
@@ -165,8 +171,9 @@ fn make_object(
     make_node(state, at, node)
 }
 
-fn refer(mut state: State, at: usize) -> Result<State, PickleError>
-    ensures { AnswersAs result (reference_of at state state.stack) }
+fn refer(state: &mut State, at: usize) -> Result<(), PickleError>
+    ensures ok { OnOk result (reference_of at state.old state.old.stack ≡ Ok state.new) }
+    ensures err { IfErr result (λ e. RefusesAs e (reference_of at state.old state.old.stack)) }
 {
     let Some(Item::Value(id)) = state.stack.pop() else {
         return Err(PickleError::Stack { at });
@@ -174,19 +181,21 @@ fn refer(mut state: State, at: usize) -> Result<State, PickleError>
     make_node(state, at, Node::Reference(id))
 }
 
-fn put(mut state: State, at: usize, number: u64) -> Result<State, PickleError>
-    ensures { AnswersAs result (put_of at number state state.stack) }
+fn put(state: &mut State, at: usize, number: u64) -> Result<(), PickleError>
+    ensures ok { OnOk result (put_of at number state.old state.old.stack ≡ Ok state.new) }
+    ensures err { IfErr result (λ e. RefusesAs e (put_of at number state.old state.old.stack)) }
 {
     let Some(Item::Value(value)) = state.stack.pop() else {
         return Err(PickleError::Stack { at });
     };
     state.stack.push(Item::Value(value))?;
     state.memo.put(number, value)?;
-    Ok(state)
+    Ok(())
 }
 
-fn get(state: State, at: usize, number: u64) -> Result<State, PickleError>
-    ensures { AnswersAs result (get_of at state (node_at state.memo number)) }
+fn get(state: &mut State, at: usize, number: u64) -> Result<(), PickleError>
+    ensures ok { OnOk result (get_of at state.old (node_at state.old.memo number) ≡ Ok state.new) }
+    ensures err { IfErr result (λ e. RefusesAs e (get_of at state.old (node_at state.old.memo number))) }
 {
     match state.memo.get(number) {
         Some(value) => push_item(state, Item::Value(value)),
@@ -195,11 +204,12 @@ fn get(state: State, at: usize, number: u64) -> Result<State, PickleError>
 }
 
 /// What a token does whose opcode makes no node by itself.
-fn act(alloc: Global, state: State, token: Token, at: usize) -> Result<State, PickleError>
-    ensures { AnswersAs result (act_of token.op at token.number state) }
+fn act(alloc: Global, state: &mut State, token: Token, at: usize) -> Result<(), PickleError>
+    ensures ok { OnOk result (act_of token.op at token.number state.old ≡ Ok state.new) }
+    ensures err { IfErr result (λ e. RefusesAs e (act_of token.op at token.number state.old)) }
 {
     match token.op {
-        Op::Proto => Ok(state),
+        Op::Proto => Ok(()),
         Op::Mark => push_item(state, Item::Mark),
         Op::Pop => pop(state, at),
         Op::PopMark => pop_mark(alloc, state, at),
@@ -223,14 +233,16 @@ fn act(alloc: Global, state: State, token: Token, at: usize) -> Result<State, Pi
 }
 
 /// What the token at a place, whose argument has these bytes, does.
+/// What the token at a place, whose argument has these bytes, does.
 pub(crate) fn take_step(
     alloc: Global,
-    state: State,
+    state: &mut State,
     token: Token,
     at: usize,
     bytes: &[u8],
-) -> Result<State, PickleError>
-    ensures { AnswersAs result (step token.op at token.number bytes.now state) }
+) -> Result<(), PickleError>
+    ensures ok { OnOk result (step token.op at token.number bytes.now state.old ≡ Ok state.new) }
+    ensures err { IfErr result (λ e. RefusesAs e (step token.op at token.number bytes.now state.old)) }
 {
     match leaf(alloc, token, bytes)? {
         Some(node) => make_node(state, at, node),

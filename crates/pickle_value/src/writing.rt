@@ -1,9 +1,11 @@
 //! Writing graphs.
 
-ghost use Rattle.std.specs.Prelude.{◌≡◌, ◌<◌, ◌++◌, [], ◌∷◌, length, slice_get, IfOk};
+ghost use Rattle.std.specs.Prelude.{◌≡◌, ◌<◌, ◌+◌, ◌++◌, [], ◌∷◌, length, slice_get, true, IfOk, IfErr};
+ghost use Rattle.pickle_value.specs.declared.error.WriteError.TheVariants.{TooDeep};
 ghost use Rattle.pickle_value.specs.Numbers.{is_many};
 ghost use Rattle.pickle_value.specs.Spelling.{get_text, put_number, parts_piece, piece_of, spelling_of, pickle_text, Writes};
-ghost use Rattle.pickle_value.specs.Writing.{with_piece, after_put, held_at};
+ghost use Rattle.pickle_value.specs.Writing.{with_piece, after_put, held_at, IsRootWritten};
+ghost use Rattle.pickle_value.specs.Walks.{has_walk};
 
 mod putting;
 
@@ -38,12 +40,12 @@ impl Model for Puts {
 }
 
 impl Puts {
-    /// No puts.
-    fn new(alloc: Global) -> Puts
+    /// No puts, in a graph of so many nodes.
+    fn new(alloc: Global, nodes: usize) -> Puts
         ensures { result ≡ [] }
     {
         Puts {
-            numbers: NodeMap::new(alloc),
+            numbers: NodeMap::new(alloc, nodes),
         }
     }
 
@@ -179,6 +181,22 @@ fn write_node(
     }
 }
 
+/// Writes a node as the root of a graph.
+#[tactic(auto, using(crate::proofs::Pieces::root_written))]
+fn write_root(alloc: Global, nodes: &ListOf<Node>, root: u32) -> Result<Writing, WriteError>
+    ensures ok { IfOk result (λ all. IsRootWritten nodes.now root all) }
+    ensures err { IfErr result (λ e. e ≡ TooDeep → has_walk (WALK_LIMIT + 1) nodes.now root ≡ true) }
+{
+    let reached = measure_from(alloc, nodes, root)?;
+    let counts = count_edges(alloc, nodes, &reached, root)?;
+    let empty = Writing {
+        text: Text8::new(alloc),
+        puts: Puts::new(alloc, nodes.len()),
+    };
+    let all = write_node(alloc, empty, nodes, &counts, root, WALK_LIMIT + 1)?;
+    Ok(all)
+}
+
 /// The spelling of a node: what [`write_pickle`] writes for it as the root, without PROTO and STOP.
 ///
 /// `TooDeep` is answered exactly where a walk of more than [`WALK_LIMIT`] edges starts at the node. The
@@ -188,14 +206,7 @@ pub fn spelling(alloc: Global, pickle: &Pickle, node: u32) -> Result<Text8, Writ
     requires { node < length pickle.now.nodes }
     ensures text { Writes result (spelling_of pickle.now.nodes node) }
 {
-    let nodes = pickle.nodes();
-    let reached = measure_from(alloc, nodes, node)?;
-    let counts = count_edges(alloc, nodes, &reached, node)?;
-    let empty = Writing {
-        text: Text8::new(alloc),
-        puts: Puts::new(alloc),
-    };
-    let writing = write_node(alloc, empty, nodes, &counts, node, WALK_LIMIT + 1)?;
+    let writing = write_root(alloc, pickle.nodes(), node)?;
     Ok(writing.text)
 }
 

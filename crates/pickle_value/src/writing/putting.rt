@@ -4,14 +4,11 @@ ghost use Rattle.std.specs.Prelude.{◌≡◌, ◌<◌, length};
 ghost use Rattle.pickle_value.specs.Spelling.{put_number, Writes};
 ghost use Rattle.pickle_value.specs.Putting.{puts_of};
 
-use super::{Puts, Writing, write_node};
-use crate::depth::{WALK_LIMIT, measure_from};
+use super::{Puts, Writing, write_root};
 use crate::error::WriteError;
 use crate::pickle::Pickle;
-use crate::shared::count_edges;
 use std::alloc::Global;
 use std::marker::Model;
-use zb_ids::Text8;
 
 /// The nodes that a text puts in the memo, each with its number. Contracts see the nodes, the newest
 /// first.
@@ -45,14 +42,7 @@ pub fn put_numbers(alloc: Global, pickle: &Pickle, node: u32) -> Result<PutNumbe
     requires { node < length pickle.now.nodes }
     ensures { Writes result (puts_of pickle.now.nodes node) }
 {
-    let nodes = pickle.nodes();
-    let reached = measure_from(alloc, nodes, node)?;
-    let counts = count_edges(alloc, nodes, &reached, node)?;
-    let empty = Writing {
-        text: Text8::new(alloc),
-        puts: Puts::new(alloc),
-    };
-    let writing = write_node(alloc, empty, nodes, &counts, node, WALK_LIMIT + 1)?;
+    let writing = write_root(alloc, pickle.nodes(), node)?;
     let Writing { text: _, puts } = writing;
     Ok(PutNumbers { puts })
 }

@@ -14,8 +14,8 @@ loop-state-preserved c =
     let w = c.in_ok-token.ensures.within in
     let t = c.in_ok-token.token in
     record {
-      same = sym (read_on graphs _ _ _ _ _ _ c.in_ok-token.ensures.token w (cc) c.in_ok-state.ensures) ∙ c.loop-state.invariant.same;
-      sound = subst SoundAfter c.in_ok-state.ensures
+      same = sym (read_on graphs _ _ _ _ _ _ c.in_ok-token.ensures.token w (cc) c.in_ok-take_step.ensures.ok) ∙ c.loop-state.invariant.same;
+      sound = subst SoundAfter c.in_ok-take_step.ensures.ok
           (step-sound t.op c.loop-state.place t.number (take (t.start + t.length - t.start) (drop t.start c.args.input.now)) c.loop-state.state
           (AreBytes-take (t.start + t.length - t.start) (drop t.start c.args.input.now) (AreBytes-drop t.start c.args.input.now (λ k. omega (arith, c.type_inv.input k))))
           (span_fits t.op t.number c.args.input.now t.start t.length c.in_ok-token.ensures.fits) c.loop-state.invariant.sound);
@@ -27,10 +27,10 @@ returns-in_err-token-clause-graph c =
     let p = err_from_is_err_and c.from_residual.result c.from_residual.ensures.1 in
     rw (p.1, p.2) (sym c.loop-state.invariant.same ∙ read_from-fault graphs _ _ _ _ (sym c.in_err-token.ensures.token))
 
-pub returns-in_err-state-clause-graph : goal.returns-in_err-state-clause-graph
-returns-in_err-state-clause-graph c =
-    let p = err_from_is_err_and c.from_residual-in_err-state.result c.from_residual-in_err-state.ensures.1 in
-    rw (p.1, p.2) (refused _ _ _ c.in_err-state.ensures
+pub returns-in_err-take_step-clause-graph : goal.returns-in_err-take_step-clause-graph
+returns-in_err-take_step-clause-graph c =
+    let p = err_from_is_err_and c.from_residual-in_err-take_step.result c.from_residual-in_err-take_step.ensures.1 in
+    rw (p.1, p.2) (refused _ _ _ c.in_err-take_step.ensures.err
     (λ f e. sym c.loop-state.invariant.same ∙ read_refused graphs _ _ _ _ _ _ c.in_ok-token.ensures.token c.in_ok-token.ensures.within (cc) e))
 
 pub returns-then-ends-clause-graph : goal.returns-then-ends-clause-graph

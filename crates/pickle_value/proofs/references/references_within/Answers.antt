@@ -11,7 +11,7 @@ pub loop-finding-preserved : goal.loop-finding-preserved
 loop-finding-preserved c =
     let w = c.in_ok-token.ensures.within in
     record {
-      same = sym (read_on references _ _ _ _ _ _ c.in_ok-token.ensures.token w (cc) c.in_ok-finding.ensures) ∙ c.loop-finding.invariant.same;
+      same = sym (read_on references _ _ _ _ _ _ c.in_ok-token.ensures.token w (cc) c.in_ok-find_step.ensures.ok) ∙ c.loop-finding.invariant.same;
       behind = omega (arith, c.loop-finding.invariant.behind, w.opcode, w.last);
     }
 
@@ -20,10 +20,10 @@ returns-in_err-token-clause-oids c =
     let p = err_from_is_err_and c.from_residual.result c.from_residual.ensures.1 in
     rw (p.1, p.2) (sym c.loop-finding.invariant.same ∙ read_from-fault references _ _ _ _ (sym c.in_err-token.ensures.token))
 
-pub returns-in_err-finding-clause-oids : goal.returns-in_err-finding-clause-oids
-returns-in_err-finding-clause-oids c =
-    let p = err_from_is_err_and c.from_residual-in_err-finding.result c.from_residual-in_err-finding.ensures.1 in
-    rw (p.1, p.2) (refused _ _ _ c.in_err-finding.ensures
+pub returns-in_err-find_step-clause-oids : goal.returns-in_err-find_step-clause-oids
+returns-in_err-find_step-clause-oids c =
+    let p = err_from_is_err_and c.from_residual-in_err-find_step.result c.from_residual-in_err-find_step.ensures.1 in
+    rw (p.1, p.2) (refused _ _ _ c.in_err-find_step.ensures.err
     (λ f e. sym c.loop-finding.invariant.same ∙ read_refused references _ _ _ _ _ _ c.in_ok-token.ensures.token c.in_ok-token.ensures.within (cc) e))
 
 pub returns-then-ends-clause-oids : goal.returns-then-ends-clause-oids
