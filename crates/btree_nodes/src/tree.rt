@@ -116,8 +116,7 @@ impl<const LEAF: usize, const INNER: usize> Tree<LEAF, INNER> {
     /// keeps two new objects with its halves. A bucket or a set that stands alone is never split.
     ///
     /// Refusals of the space, and want of memory, may come at each of its calls. What was put before is then the
-    /// first of the puts. A record that is refused with the numbers that were drawn, though it was not with 0, would
-    /// be answered as want of memory.
+    /// first of the puts.
     ///
     /// In a sound tree no object is missing or none of the tree. Where the numbers that are drawn differ from each other
     /// and are of no object of the tree, it is sound afterwards too, and what stands under the other keys stays.

@@ -1,10 +1,10 @@
 //! Removing a key.
 
 ghost use Rattle.std.specs.Prelude.{◌≡◌, ◌++◌, IfOk, IfErr, IfSome};
-ghost use Rattle.pickle_value.specs.Graph.{IsGlobal};
 ghost use Rattle.btree_shapes.specs.Spaces.{handed_on};
 ghost use Rattle.btree_shapes.specs.Ways.{IsRefusal, OnlyReads};
 ghost use Rattle.btree_family.specs.Classes.{class_seen};
+ghost use Rattle.btree_setting.specs.Writing.{AreGlobal};
 ghost use Rattle.btree_removing.specs.Plans.{plan_under, reads_under};
 ghost use Rattle.btree_removing.specs.Ends.{IsFinding, Writes, Removes};
 
@@ -32,8 +32,7 @@ fn find_puts<S: Space>(
 ) -> Result<Option<Finding>, TreeError>
     ensures err { IfErr result (λ e. IsRefusal e (plan_under (S.contents space.old) root key.now)) }
     ensures ok { IfOk result (λ found. IsFinding (S.contents space.old) root key.now found) }
-    ensures global { IfOk result (λ found. IfSome found
-        (λ x. IsGlobal x.family.leaf.now.module.now x.family.leaf.now.name.now)) }
+    ensures global { IfOk result (λ found. IfSome found (λ x. AreGlobal x.family)) }
     ensures contents { S.contents space.new ≡ S.contents space.old }
     ensures log { IfOk result (λ found. S.told
         → S.log space.new ≡ S.log space.old ++ reads_under (S.contents space.old) root key.now) }
@@ -66,7 +65,7 @@ fn write<S: Space>(
     family: &Family,
     puts: Puts,
 ) -> Result<(), TreeError>
-    requires { IsGlobal family.now.leaf.now.module.now family.now.leaf.now.name.now }
+    requires { AreGlobal family.now }
     ensures writes { Writes S.told (class_seen family.now.row.now) (class_seen family.now.leaf.now) puts
         (S.contents space.old) (S.contents space.new) (S.log space.old) (S.log space.new) result }
     ensures refusals { S.told → S.refusals space.new ≡ S.refusals space.old ++ handed_on result }

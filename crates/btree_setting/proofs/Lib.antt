@@ -13,3 +13,7 @@ pub mod Finding
 pub mod Counting
 pub mod Trying
 pub mod Answering
+pub mod Numbered
+pub mod Renumbered
+pub mod Graphed
+pub mod Rekept

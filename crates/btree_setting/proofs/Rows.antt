@@ -61,3 +61,16 @@ stored_front told class leaf puts left contents middle contents' log between log
   cut = s.cut;
   stored = record { kept = s.stored.kept; contents = c ∙ s.stored.contents; log = λ t. l t ∙ s.stored.log t };
 }
+
+when_all : (a b : Bool) → (if a then b else false) ≡ true → (a ≡ true) × (b ≡ true)
+when_all true b e = (refl, e)
+when_all false b e = cc
+
+all_first : (class leaf : Class) (puts left : List Put) (put : Put) → all_keep class leaf puts ≡ true → puts ≡ put ∷ left → (keeps class leaf put ≡ true) × (all_keep class leaf left ≡ true)
+all_first class leaf puts left put k e = when_all (keeps class leaf put) (all_keep class leaf left) (sym (ap (all_keep class leaf) e) ∙ k)
+
+pub first_kept : (class leaf : Class) (puts left : List Put) (put : Put) → all_keep class leaf puts ≡ true → puts ≡ put ∷ left → keeps class leaf put ≡ true
+first_kept class leaf puts left put k e = (all_first class leaf puts left put k e).0
+
+pub rest_kept : (class leaf : Class) (puts left : List Put) (put : Put) → all_keep class leaf puts ≡ true → puts ≡ put ∷ left → all_keep class leaf left ≡ true
+rest_kept class leaf puts left put k e = (all_first class leaf puts left put k e).1

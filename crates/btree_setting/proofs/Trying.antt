@@ -1,6 +1,7 @@
 -- Trying the records of a set, and its numbers.
-use Rattle.std.proofs.Common.{◌≡◌, ℕ, ◌+◌, ◌<◌, ◌^◌, true, false, List, [], ◌∷◌, ◌++◌, refl, arith, sym, ◌∙◌, ap, subst, length, suc, append-nil}
+use Rattle.std.proofs.Common.{◌≡◌, ℕ, ◌+◌, ◌-◌, ◌<◌, ◌^◌, true, false, List, [], ◌∷◌, ◌++◌, refl, arith, sym, ◌∙◌, ap, subst, length, suc, append-nil}
 use Rattle.std.specs.Prelude.{◌&&◌, map, Result, Ok, Err, IfErr}
+use Rattle.pickle_value.specs.Graph.{AllBelow}
 use Rattle.btree_family.specs.Classes.{Class}
 use Rattle.btree_shapes.specs.declared.space.Call.{Call}
 use Rattle.btree_shapes.specs.declared.space.Call.TheVariants.{Drew}
@@ -8,7 +9,7 @@ use Rattle.btree_setting.specs.declared.change.Put.{Put}
 use Rattle.btree_setting.specs.declared.change.Change.{Change}
 use Rattle.btree_setting.specs.declared.growing.Terms.{Terms}
 use Rattle.btree_setting.specs.declared.preparing.Task.{Task}
-use Rattle.btree_setting.specs.Puts.{put_oid, sort_puts, all_keep}
+use Rattle.btree_setting.specs.Puts.{put_oid, sort_puts, all_keep, AreSound}
 use Rattle.btree_setting.specs.Changes.{AreDrawn, IsRootSet}
 use Rattle.btree_setting.specs.Sets.{AreZero, DrewSome, IsTrial, Fails, Passes, CountsNews, IsPlan}
 
@@ -26,11 +27,13 @@ zero_news oids news z d = zero_front (map put_oid news) d.rest (subst AreZero d.
 pub is_trial : (terms : Terms) (task : Task) (change : Change) (oids : List ℕ) → AreZero oids → AreDrawn oids change.news → IsRootSet terms task.bottom task.rungs change → IsTrial terms task change
 is_trial terms task change oids z d s = record { set = s; zero = zero_news oids change.news z d }
 
-pub trial_passes : (class leaf : Class) (terms : Terms) (task : Task) (change : Change) (count : ℕ) → IsTrial terms task change → all_keep class leaf change.news ≡ true → all_keep class leaf change.olds ≡ true → count ≡ length change.news → Passes class leaf terms task count
-trial_passes class leaf terms task change count t n o c = record {
+pub trial_passes : (class leaf : Class) (terms : Terms) (task : Task) (change : Change) (count : ℕ) → IsTrial terms task change → all_keep class leaf change.news ≡ true → all_keep class leaf change.olds ≡ true → (all_keep class leaf change.news ≡ true → AreSound class leaf change.news) → (all_keep class leaf change.olds ≡ true → AreSound class leaf change.olds) → count ≡ length change.news → Passes class leaf terms task count
+trial_passes class leaf terms task change count t n o ns os c = record {
   change = change;
   trial = t;
   kept = ap (λ b. b && all_keep class leaf change.olds) n ∙ o;
+  sound_news = ns n;
+  sound_olds = os o;
   counted = c;
 }
 
@@ -60,12 +63,13 @@ all_drawn oids news d e =
     let r : d.rest ≡ [] = none_left d.rest (omega (arith, a, b, e)) in
     d.cut ∙ ap (λ xs. map put_oid news ++ xs) r ∙ append-nil (map put_oid news)
 
-pub is_plan : (told : Type 0) (terms : Terms) (task : Task) (change : Change) (puts : List Put) (oids : List ℕ) (count : ℕ) (log log' : List Call) → IsRootSet terms task.bottom task.rungs change → puts ≡ sort_puts (change.news ++ change.olds) → AreDrawn oids change.news → CountsNews terms task count → length oids ≡ count → count < 2 ^ 64 → (told → log' ≡ log ++ map Drew oids) → IsPlan told terms task puts log log'
-is_plan told terms task change puts oids count log log' s p d n e w l = record {
+pub is_plan : (told : Type 0) (terms : Terms) (task : Task) (change : Change) (puts : List Put) (oids : List ℕ) (count : ℕ) (log log' : List Call) → IsRootSet terms task.bottom task.rungs change → puts ≡ sort_puts (change.news ++ change.olds) → AreDrawn oids change.news → CountsNews terms task count → length oids ≡ count → AllBelow (2 ^ 64) oids → count < 2 ^ 64 → (told → log' ≡ log ++ map Drew oids) → IsPlan told terms task puts log log'
+is_plan told terms task change puts oids count log log' s p d n e b w l = record {
   change = change;
   set = s;
   puts_are = p;
   few = let c = n change s in omega (arith, c, w);
+  numbers = subst (AllBelow (2 ^ 64)) (all_drawn oids change.news d (n change s ∙ sym e)) b;
   drawn = λ t. l t ∙ ap (λ xs. log ++ map Drew xs) (all_drawn oids change.news d (n change s ∙ sym e));
 }
 
@@ -75,3 +79,16 @@ any_err (Err e) P p = p
 
 pub drew_all : (log log' : List Call) (oids : List ℕ) → log' ≡ log ++ map Drew oids → DrewSome log log'
 drew_all log log' oids e = record { oids = oids; grown = e }
+
+below_last : (n : ℕ) (oids : List ℕ) (oid : ℕ) → AllBelow n oids → oid < n → AllBelow n (oids ++ oid ∷ [])
+below_last n [] oid h l = (l, tt)
+below_last n (x ∷ xs) oid h l = (h.0, below_last n xs oid h.1 l)
+
+pub below_more : (n : ℕ) (oids all : List ℕ) (oid : ℕ) → AllBelow n oids → oid < n → all ≡ oids ++ oid ∷ [] → AllBelow n all
+below_more n oids all oid h l e = subst (AllBelow n) (sym e) (below_last n oids oid h l)
+
+-- one less is left
+pub drawn_count : (oids all : List ℕ) (oid left count : ℕ) → length oids + left ≡ count → 0 < left → all ≡ oids ++ oid ∷ [] → length all + (left - 1) ≡ count
+drawn_count oids all oid left count e l a =
+    let n : length all ≡ length oids + 1 = ap length a ∙ length_append oids (oid ∷ []) in
+    omega (arith, n, e, l)

@@ -1,6 +1,6 @@
 -- Puts in their order, and what they make of the contents. Own.
 use Rattle.std.specs.Prelude.{◌≡◌, ℕ, suc, Bool, true, false, List, [], ◌∷◌, ◌++◌, Option, Some, None, Result, Ok, Err, nat_lt, ◌==◌, if◌then◌else◌, ◌&&◌}
-use Rattle.pickle_value.specs.Graph.{Graph}
+use Rattle.pickle_value.specs.Graph.{Graph, IsGraph}
 use Rattle.pickle_value.specs.Spelling.{Spelled}
 use Rattle.btree_family.specs.Classes.{Class}
 use Rattle.zb_record.specs.declared.error.RecordError.{RecordError}
@@ -13,7 +13,7 @@ use Rattle.btree_shapes.specs.Nodes.{node_of}
 use Rattle.btree_shapes.specs.Spaces.{with_bytes, record_bytes}
 use Rattle.btree_setting.specs.declared.change.Put.{Put}
 use Rattle.btree_setting.specs.Items.{same_items, same_branches}
-use Rattle.btree_setting.specs.Writing.{node_state}
+use Rattle.btree_setting.specs.Writing.{node_graph, node_state, AreNodeValues}
 
 abbrev pub put_oid : Put → ℕ
 put_oid put = put.oid
@@ -85,6 +85,16 @@ keeps class leaf put = state_reads_as class put (node_state class leaf put.leave
 abbrev pub all_keep : Class → Class → List Put → Bool
 all_keep class leaf [] = true
 all_keep class leaf (put ∷ puts) = if keeps class leaf put then all_keep class leaf puts else false
+
+-- the class of a put and its state are graphs, and its values spellings
+pub record IsSoundPut (class leaf : Class) (put : Put) : Type 0 where
+  pub class_graph : IsGraph put.class.nodes put.class.root
+  pub state_graph : IsGraph (node_graph class leaf put.leaves put.node).nodes (node_graph class leaf put.leaves put.node).root
+  pub values : AreNodeValues put.node
+
+abbrev pub AreSound : Class → Class → List Put → Type 0
+AreSound class leaf [] = Unit {0}
+AreSound class leaf (put ∷ puts) = IsSoundPut class leaf put × AreSound class leaf puts
 
 -- ---- what puts make of the contents
 

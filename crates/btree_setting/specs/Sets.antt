@@ -1,6 +1,6 @@
 -- What a set draws and puts, on every tree. Own.
 use Rattle.std.specs.Prelude.{◌≡◌, ℕ, ◌<◌, ◌^◌, Bool, true, false, List, [], ◌∷◌, ◌++◌, length, map, Option, Some, None, Result, Ok, Err, ◌&&◌, ◌⊎◌}
-use Rattle.pickle_value.specs.Graph.{Graph}
+use Rattle.pickle_value.specs.Graph.{Graph, AllBelow}
 use Rattle.btree_family.specs.declared.key.Key.{Key}
 use Rattle.btree_family.specs.Classes.{Class}
 use Rattle.zb_record.specs.declared.record.ObjectRecord.{ObjectRecord}
@@ -17,7 +17,7 @@ use Rattle.btree_setting.specs.declared.growing.Terms.{Terms}
 use Rattle.btree_setting.specs.declared.preparing.Sizes.{Sizes}
 use Rattle.btree_setting.specs.declared.preparing.Task.{Task}
 use Rattle.btree_setting.specs.Writing.{node_state, plain_class}
-use Rattle.btree_setting.specs.Puts.{put_oid, sort_puts, keeps, all_keep, text_reads_as, put_all}
+use Rattle.btree_setting.specs.Puts.{put_oid, sort_puts, keeps, all_keep, IsSoundPut, AreSound, text_reads_as, put_all}
 use Rattle.btree_setting.specs.Changes.{IsRootSet}
 
 -- a refusal of the space, or want of memory
@@ -36,11 +36,10 @@ pub record IsRecordFor (class leaf : Class) (put : Put) (object : ObjectRecord) 
   pub class_is : is_class put.class ≡ true
   pub state_is : node_state class leaf put.leaves put.node ≡ Some object.state
 
--- a record that can be written and reads back as the put
-pub record IsKept (class leaf : Class) (put : Put) (object : ObjectRecord) : Type 0 where
+-- the same, of graphs and spellings
+pub record IsSoundRecord (class leaf : Class) (put : Put) (object : ObjectRecord) : Type 0 where
   pub is_for : IsRecordFor class leaf put object
-  pub reads : text_reads_as class put (object_text object.class object.state) ≡ true
-  pub keeps : keeps class leaf put ≡ true
+  pub sound : IsSoundPut class leaf put
 
 -- ---- puts in a row
 
@@ -105,6 +104,8 @@ pub record Passes (class leaf : Class) (terms : Terms) (task : Task) (count : �
   pub change : Change
   pub trial : IsTrial terms task change
   pub kept : change_keeps class leaf change ≡ true
+  pub sound_news : AreSound class leaf change.news
+  pub sound_olds : AreSound class leaf change.olds
   pub counted : count ≡ length change.news
 
 -- each change of the set has so many new objects
@@ -124,12 +125,13 @@ puts_of change = sort_puts (change.news ++ change.olds)
 abbrev pub drew_news : Change → List Call
 drew_news change = map Drew (map put_oid change.news)
 
--- the numbers of new objects are drawn, fewer than there are numbers, and these are the puts
+-- the numbers of new objects are drawn, fewer than there are, each of eight bytes, and these are the puts
 pub record IsPlan (told : Type 0) (terms : Terms) (task : Task) (puts : List Put) (calls calls' : List Call) : Type 0 where
   pub change : Change
   pub set : IsRootSet terms task.bottom task.rungs change
   pub puts_are : puts ≡ puts_of change
   pub few : length change.news < 2 ^ 64
+  pub numbers : AllBelow (2 ^ 64) (map put_oid change.news)
   pub drawn : told → calls' ≡ calls ++ drew_news change
 
 -- ---- the whole

@@ -1,6 +1,7 @@
 //! Copies of what is read of a tree.
 
 ghost use Rattle.std.specs.Prelude.{◌≡◌, ◌++◌, IfOk};
+ghost use Rattle.pickle_value.specs.Graph.{IsGraph};
 
 use btree_family::Item;
 use bucket_state::Branch;
@@ -90,7 +91,8 @@ fn copy_nodes(alloc: Global, nodes: &[Node]) -> Result<ListOf<Node>, AllocError>
 
 /// A graph again.
 pub(crate) fn copy_pickle(alloc: Global, pickle: &Pickle) -> Result<Pickle, AllocError>
-    ensures { IfOk result (λ copy. copy ≡ pickle.now) }
+    ensures same { IfOk result (λ copy. copy ≡ pickle.now) }
+    ensures graph { IfOk result (λ copy. IsGraph pickle.now.nodes pickle.now.root) }
 {
     let nodes = copy_nodes(alloc, pickle.nodes().as_slice())?;
     Ok(Pickle::new(nodes, pickle.root()))

@@ -1,6 +1,7 @@
 //! Numbers for new objects.
 
-ghost use Rattle.std.specs.Prelude.{◌≡◌, ◌++◌, ◌∷◌, [], length, map, IfOk, IfErr};
+ghost use Rattle.std.specs.Prelude.{◌≡◌, ◌<◌, ◌^◌, ◌++◌, ◌∷◌, [], length, map, IfOk, IfErr};
+ghost use Rattle.pickle_value.specs.Graph.{AllBelow};
 ghost use Rattle.btree_shapes.specs.declared.space.Call.TheVariants.{Drew};
 ghost use Rattle.btree_shapes.specs.Spaces.{handed_on};
 ghost use Rattle.btree_setting.specs.Sets.{IsFree, AreZero, DrewSome};
@@ -26,6 +27,7 @@ pub(crate) fn stand_ins(alloc: Global, count: usize) -> Result<ListOf<Oid>, Allo
 /// A number for a new object.
 fn draw<S: Space>(space: &mut S) -> Result<Oid, TreeError>
     ensures ok { IfOk result (λ oid. S.told → S.log space.new ≡ S.log space.old ++ Drew oid ∷ []) }
+    ensures number { IfOk result (λ oid. oid < 2 ^ 64) }
     ensures err { IfErr result (λ e. S.told → S.log space.new ≡ S.log space.old) }
     ensures free { IfErr result IsFree }
     ensures contents { S.contents space.new ≡ S.contents space.old }
@@ -39,7 +41,7 @@ fn draw<S: Space>(space: &mut S) -> Result<Oid, TreeError>
 }
 
 /// So many numbers, in the order in which they are drawn.
-#[tactic(auto, using(crate::proofs::Numbers::drew_none, crate::proofs::Numbers::drew_more, crate::proofs::Trying::drew_all))]
+#[tactic(auto, using(crate::proofs::Numbers::drew_none, crate::proofs::Numbers::drew_more, crate::proofs::Trying::drew_all, crate::proofs::Trying::below_more))]
 pub(crate) fn draw_all<S: Space>(
     alloc: Global,
     space: &mut S,
@@ -47,6 +49,7 @@ pub(crate) fn draw_all<S: Space>(
 ) -> Result<ListOf<Oid>, TreeError>
     ensures ok { IfOk result (λ oids. S.told → S.log space.new ≡ S.log space.old ++ map Drew oids) }
     ensures count { IfOk result (λ oids. length oids ≡ count) }
+    ensures numbers { IfOk result (λ oids. AllBelow (2 ^ 64) oids) }
     ensures err { IfErr result (λ e. S.told → DrewSome (S.log space.old) (S.log space.new)) }
     ensures free { IfErr result IsFree }
     ensures contents { S.contents space.new ≡ S.contents space.old }

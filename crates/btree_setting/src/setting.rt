@@ -1,13 +1,13 @@
 //! Setting what stands under a key.
 
 ghost use Rattle.std.specs.Prelude.{◌≡◌, ◌++◌, IfOk, IfErr, IfSome, OnErr};
-ghost use Rattle.pickle_value.specs.Graph.{IsGlobal};
 ghost use Rattle.btree_family.specs.Classes.{class_seen};
 ghost use Rattle.btree_shapes.specs.Spaces.{handed_on};
 ghost use Rattle.btree_setting.specs.Sets.{IsFree, DrewSome, terms_of, CountsNews, Tried, IsPlan, Writes};
 ghost use Rattle.btree_shapes.specs.Ways.{IsRefusal, OnlyReads};
 ghost use Rattle.btree_setting.specs.Tasks.{task_under, reads_under};
 ghost use Rattle.btree_setting.specs.Ends.{IsFinding, Sets};
+ghost use Rattle.btree_setting.specs.Writing.{AreGlobal};
 
 use crate::change::{Puts, in_order};
 use crate::drawing::{draw_all, stand_ins};
@@ -19,8 +19,10 @@ use crate::value::fits_class;
 use crate::writing::{Family, plain_class};
 use btree_family::{Key, key_fits, leaf_of};
 use btree_shapes::{Space, TreeError, follow_root, read_root};
+use bucket_state::{links_stand_apart, same_graphs_hold_the_same, written_objects_read_back};
 use std::alloc::{AllocError, Global};
 use zb_ids::{Oid, Text8};
+use zb_record::alike_records_are_kept;
 
 /// How many items and children there may be, the key, and the classes of new objects, where these can be written.
 fn terms_of(
@@ -55,7 +57,7 @@ fn try_out(
     terms: &Terms,
     task: &Task,
 ) -> Result<Option<usize>, AllocError>
-    requires { IsGlobal family.now.leaf.now.module.now family.now.leaf.now.name.now }
+    requires { AreGlobal family.now }
     ensures { IfOk result
         (Tried (class_seen family.now.row.now) (class_seen family.now.leaf.now) terms.now task.now) }
 {
@@ -89,7 +91,7 @@ fn draw_and_plan<S: Space>(
 }
 
 /// Tries the records that a set puts, draws the numbers of new objects, and puts all.
-#[tactic(auto, using(crate::proofs::Counting::counts_news))]
+#[tactic(auto, using(crate::proofs::Counting::counts_news, crate::proofs::Rekept::plan_kept))]
 fn write<S: Space>(
     alloc: Global,
     space: &mut S,
@@ -98,7 +100,7 @@ fn write<S: Space>(
     key: Key,
     task: &Task,
 ) -> Result<(), TreeError>
-    requires { IsGlobal family.now.leaf.now.module.now family.now.leaf.now.name.now }
+    requires { AreGlobal family.now }
     ensures writes { Writes S.told (class_seen family.now.row.now) (class_seen family.now.leaf.now) sizes key task.now
         (S.contents space.old) (S.contents space.new) (S.log space.old) (S.log space.new) result }
     ensures refusals { S.told → S.refusals space.new ≡ S.refusals space.old ++ handed_on result }
@@ -110,6 +112,11 @@ fn write<S: Space>(
         return Err(TreeError::BadKey);
     };
     let puts = draw_and_plan(alloc, space, &terms, task, count)?;
+    // What could be written and read back with 0 for each number, can be with any.
+    alike_records_are_kept();
+    same_graphs_hold_the_same();
+    links_stand_apart();
+    written_objects_read_back();
     store_all(alloc, space, family, puts)?;
     Ok(())
 }
@@ -133,8 +140,7 @@ fn find_task<S: Space>(
 ) -> Result<Option<Finding>, TreeError>
     ensures err { IfErr result (λ e. IsRefusal e (task_under (S.contents space.old) root sizes key.now value)) }
     ensures ok { IfOk result (λ found. IsFinding (S.contents space.old) root sizes key.now value found) }
-    ensures global { IfOk result (λ found. IfSome found
-        (λ x. IsGlobal x.family.leaf.now.module.now x.family.leaf.now.name.now)) }
+    ensures global { IfOk result (λ found. IfSome found (λ x. AreGlobal x.family)) }
     ensures contents { S.contents space.new ≡ S.contents space.old }
     ensures log { IfOk result (λ found. S.told
         → S.log space.new ≡ S.log space.old ++ reads_under (S.contents space.old) root sizes key.now value) }

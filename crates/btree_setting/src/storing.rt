@@ -1,19 +1,21 @@
 //! Putting the objects of a tree.
 
 ghost use Rattle.std.specs.Prelude.{◌≡◌, ◌++◌, ◌∷◌, [], true, false, Ok, IfOk, IfErr, OnOk, OnErr, MatchOption};
-ghost use Rattle.pickle_value.specs.Graph.{IsGlobal};
+ghost use Rattle.pickle_value.specs.Graph.{IsGraph};
 ghost use Rattle.btree_family.specs.Classes.{class_seen};
+ghost use Rattle.zb_record.specs.Class.{is_class};
 ghost use Rattle.zb_record.specs.Records.{record_of, object_text};
 ghost use Rattle.btree_shapes.specs.declared.space.Call.TheVariants.{Wrote};
 ghost use Rattle.btree_shapes.specs.Classes.{class_named};
 ghost use Rattle.btree_shapes.specs.Spaces.{handed_on, with_bytes};
-ghost use Rattle.btree_setting.specs.Puts.{keeps, all_keep, reads_as, text_reads_as, put_bytes, same_node, same_link, is_class_kept};
-ghost use Rattle.btree_setting.specs.Sets.{IsFree, IsRecordFor, IsKept, IsStored, IsStoredFront};
+ghost use Rattle.btree_setting.specs.Puts.{keeps, all_keep, IsSoundPut, AreSound, reads_as, text_reads_as, put_bytes, same_node, same_link, is_class_kept};
+ghost use Rattle.btree_setting.specs.Sets.{IsFree, IsRecordFor, IsSoundRecord, IsStored, IsStoredFront};
+ghost use Rattle.btree_setting.specs.Writing.{node_writable, AreGlobal};
 
 use crate::change::{Put, Puts};
 use crate::copying::copy_pickle;
 use crate::items::{same_branches, same_items};
-use crate::writing::{Family, node_state};
+use crate::writing::{Family, node_writable, write_node};
 use btree_shapes::{Node, Space, SpaceError, TreeError, class_of, is_class_of, read_node};
 use bucket_state::StateError;
 use pickle_value::{Pickle, WriteError};
@@ -124,60 +126,65 @@ fn text_reads_as(
     }
 }
 
-/// The record of a put, where its state can be written.
-#[tactic(auto, using(crate::proofs::Keeping::no_state, crate::proofs::Keeping::no_class, crate::proofs::Keeping::some_record))]
-fn record_for(alloc: Global, family: &Family, put: &Put) -> Result<Option<ObjectRecord>, AllocError>
-    requires { IsGlobal family.now.leaf.now.module.now family.now.leaf.now.name.now }
-    ensures { IfOk result (λ found. MatchOption found
-        (keeps (class_seen family.now.row.now) (class_seen family.now.leaf.now) put.now ≡ false)
-        (λ object. IsRecordFor (class_seen family.now.row.now) (class_seen family.now.leaf.now) put.now object)) }
+/// The record of a put whose keys can be written.
+#[tactic(auto, using(crate::proofs::Keeping::is_record))]
+fn make_record(alloc: Global, family: &Family, put: &Put) -> Result<ObjectRecord, AllocError>
+    requires global { AreGlobal family.now }
+    requires writable { node_writable put.now.node ≡ true }
+    requires class { is_class put.now.class ≡ true }
+    ensures record { IfOk result (λ object.
+        IsRecordFor (class_seen family.now.row.now) (class_seen family.now.leaf.now) put.now object) }
+    ensures class_graph { IfOk result (λ object. IsGraph put.now.class.nodes put.now.class.root) }
+    ensures state_graph { IfOk result (λ object. IsGraph object.state.nodes object.state.root) }
 {
-    let Some(state) = node_state(alloc, family, put.leaves, &put.node)? else {
-        return Ok(None);
-    };
     let class = copy_pickle(alloc, &put.class)?;
-    if !is_class(&class) {
-        return Ok(None);
-    }
-    Ok(Some(ObjectRecord { class, state }))
+    let state = write_node(alloc, family, put.leaves, &put.node)?;
+    Ok(ObjectRecord { class, state })
 }
 
-/// The record of a put, where it can be written and reads back.
-#[tactic(auto, using(crate::proofs::Keeping::kept_not, crate::proofs::Keeping::kept_is))]
-fn kept(alloc: Global, family: &Family, put: &Put) -> Result<Option<ObjectRecord>, AllocError>
-    requires { IsGlobal family.now.leaf.now.module.now family.now.leaf.now.name.now }
+/// The record of a put, where its state can be written.
+#[tactic(auto, using(crate::proofs::Keeping::no_state, crate::proofs::Keeping::no_class, crate::proofs::Keeping::sound_record))]
+fn record_for(alloc: Global, family: &Family, put: &Put) -> Result<Option<ObjectRecord>, AllocError>
+    requires global { AreGlobal family.now }
     ensures { IfOk result (λ found. MatchOption found
         (keeps (class_seen family.now.row.now) (class_seen family.now.leaf.now) put.now ≡ false)
-        (λ object. IsKept (class_seen family.now.row.now) (class_seen family.now.leaf.now) put.now object)) }
+        (λ object. IsSoundRecord (class_seen family.now.row.now) (class_seen family.now.leaf.now) put.now object)) }
 {
-    let Some(object) = record_for(alloc, family, put)? else {
-        return Ok(None);
-    };
-    if !text_reads_as(alloc, family, put, &object)? {
+    if !node_writable(&put.node) {
         return Ok(None);
     }
-    Ok(Some(object))
+    if !is_class(&put.class) {
+        return Ok(None);
+    }
+    Ok(Some(make_record(alloc, family, put)?))
 }
 
 /// Whether the record of a put can be written and reads back.
-#[tactic(auto, using(crate::proofs::Keeping::kept_keeps))]
+#[tactic(auto, using(crate::proofs::Keeping::keeps_by, crate::proofs::Keeping::sound_where, crate::proofs::Keeping::sound_so))]
 fn can_keep(alloc: Global, family: &Family, put: &Put) -> Result<bool, AllocError>
-    requires { IsGlobal family.now.leaf.now.module.now family.now.leaf.now.name.now }
-    ensures { IfOk result (λ holds. holds
+    requires global { AreGlobal family.now }
+    ensures keeps { IfOk result (λ holds. holds
         ≡ keeps (class_seen family.now.row.now) (class_seen family.now.leaf.now) put.now) }
+    ensures sound { IfOk result (λ holds.
+        keeps (class_seen family.now.row.now) (class_seen family.now.leaf.now) put.now ≡ true
+        → IsSoundPut (class_seen family.now.row.now) (class_seen family.now.leaf.now) put.now) }
 {
-    match kept(alloc, family, put)? {
-        None => Ok(false),
-        Some(_) => Ok(true),
-    }
+    let Some(object) = record_for(alloc, family, put)? else {
+        return Ok(false);
+    };
+    let holds = text_reads_as(alloc, family, put, &object)?;
+    Ok(holds)
 }
 
 /// Whether the records of puts can be written and read back.
-#[tactic(auto, using(crate::proofs::Keeping::keep_next, crate::proofs::Keeping::keep_stop, crate::proofs::Keeping::keep_end))]
+#[tactic(auto, using(crate::proofs::Keeping::keep_next, crate::proofs::Keeping::keep_stop, crate::proofs::Keeping::keep_end, crate::proofs::Keeping::sound_start, crate::proofs::Keeping::sound_next, crate::proofs::Keeping::sound_stop, crate::proofs::Keeping::sound_end))]
 pub fn all_keep(alloc: Global, family: &Family, puts: &Puts) -> Result<bool, AllocError>
-    requires { IsGlobal family.now.leaf.now.module.now family.now.leaf.now.name.now }
-    ensures { IfOk result (λ all. all
+    requires global { AreGlobal family.now }
+    ensures all { IfOk result (λ all. all
         ≡ all_keep (class_seen family.now.row.now) (class_seen family.now.leaf.now) puts.now) }
+    ensures sound { IfOk result (λ all.
+        all_keep (class_seen family.now.row.now) (class_seen family.now.leaf.now) puts.now ≡ true
+        → AreSound (class_seen family.now.row.now) (class_seen family.now.leaf.now) puts.now) }
 {
     let mut place = 0;
     'puts: while place < puts.len() {
@@ -191,24 +198,20 @@ pub fn all_keep(alloc: Global, family: &Family, puts: &Puts) -> Result<bool, All
     Ok(true)
 }
 
-/// Puts an object. That its record can't be written or doesn't read back was tested before, with another number for
-/// each new object; here it is refused as want of memory.
-#[tactic(auto, using(crate::proofs::Keeping::kept_storable, crate::proofs::Keeping::kept_bytes, crate::proofs::Keeping::kept_keeps))]
+/// Puts an object whose record can be written and reads back.
+#[tactic(auto, using(crate::proofs::Keeping::kept_writable, crate::proofs::Keeping::kept_class, crate::proofs::Keeping::kept_storable, crate::proofs::Keeping::kept_bytes))]
 fn store<S: Space>(alloc: Global, space: &mut S, family: &Family, put: Put) -> Result<(), TreeError>
-    requires { IsGlobal family.now.leaf.now.module.now family.now.leaf.now.name.now }
+    requires global { AreGlobal family.now }
+    requires kept { keeps (class_seen family.now.row.now) (class_seen family.now.leaf.now) put ≡ true }
     ensures ok { OnOk result (S.contents space.new ≡ with_bytes (S.contents space.old) put.oid
         (put_bytes (class_seen family.now.row.now) (class_seen family.now.leaf.now) put)) }
-    ensures keeps { OnOk result
-        (keeps (class_seen family.now.row.now) (class_seen family.now.leaf.now) put ≡ true) }
     ensures written { OnOk result (S.told → S.log space.new ≡ S.log space.old ++ Wrote put.oid ∷ []) }
     ensures err { OnErr result (S.contents space.new ≡ S.contents space.old) }
     ensures same { OnErr result (S.told → S.log space.new ≡ S.log space.old) }
     ensures free { IfErr result IsFree }
     ensures refusals { S.told → S.refusals space.new ≡ S.refusals space.old ++ handed_on result }
 {
-    let Some(object) = kept(alloc, family, &put)? else {
-        return Err(TreeError::Memory);
-    };
+    let object = make_record(alloc, family, &put)?;
     match space.put_node(put.oid, object) {
         Ok(()) => Ok(()),
         Err(SpaceError::Refused(refusal)) => Err(TreeError::Refused(refusal)),
@@ -216,15 +219,16 @@ fn store<S: Space>(alloc: Global, space: &mut S, family: &Family, put: Put) -> R
     }
 }
 
-/// Puts objects, in this order.
-#[tactic(auto, using(crate::proofs::Rows::stored_start, crate::proofs::Rows::stored_step, crate::proofs::Rows::stored_end, crate::proofs::Rows::stored_front))]
+/// Puts objects whose records can all be written and read back, in this order.
+#[tactic(auto, using(crate::proofs::Rows::stored_start, crate::proofs::Rows::stored_step, crate::proofs::Rows::stored_end, crate::proofs::Rows::stored_front, crate::proofs::Rows::first_kept, crate::proofs::Rows::rest_kept))]
 pub fn store_all<S: Space>(
     alloc: Global,
     space: &mut S,
     family: &Family,
     puts: Puts,
 ) -> Result<(), TreeError>
-    requires { IsGlobal family.now.leaf.now.module.now family.now.leaf.now.name.now }
+    requires global { AreGlobal family.now }
+    requires kept { all_keep (class_seen family.now.row.now) (class_seen family.now.leaf.now) puts ≡ true }
     ensures ok { OnOk result (IsStored S.told (class_seen family.now.row.now) (class_seen family.now.leaf.now) puts
         (S.contents space.old) (S.contents space.new) (S.log space.old) (S.log space.new)) }
     ensures err { OnErr result (IsStoredFront S.told (class_seen family.now.row.now) (class_seen family.now.leaf.now)

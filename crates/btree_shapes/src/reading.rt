@@ -1,6 +1,7 @@
 //! Reading the objects of a tree.
 
 ghost use Rattle.std.specs.Prelude.{◌≡◌, ◌++◌, [], IfOk, IfErr};
+ghost use Rattle.pickle_value.specs.Graph.{IsGlobal};
 ghost use Rattle.btree_family.specs.Classes.{class_seen};
 ghost use Rattle.btree_shapes.specs.Spaces.{handed_on, out_of_memory, IsLogged};
 ghost use Rattle.btree_shapes.specs.Nodes.{held_node, node_of, objects_of};
@@ -95,6 +96,7 @@ pub fn read_root<S: Space>(
     root: Oid,
 ) -> Result<(Rooted, Entry), TreeError>
     ensures root { IsRoot (S.contents space.old) root result }
+    ensures global { IfOk result (λ found. IsGlobal found.0.row.now.module.now found.0.row.now.name.now) }
     ensures contents { S.contents space.new ≡ S.contents space.old }
     ensures log { S.told → IsLogged root (out_of_memory result) (S.log space.old) (S.log space.new) }
     ensures refusals { S.told → S.refusals space.new ≡ S.refusals space.old ++ handed_on result }

@@ -1,20 +1,16 @@
 -- How deep written states are.
-use Rattle.std.proofs.Common.{◌≡◌, ℕ, zero, suc, ◌+◌, ◌<◌, ◌≤◌, Bool, true, false, cond, List, [], ◌∷◌, ◌++◌, map, length, Option, Some, None, Result, Ok, Err, ◌⊎◌, inl, inr, refl, sym, ◌∙◌, ap, subst, arith, length-append}
+use Rattle.std.proofs.Common.{◌≡◌, ℕ, zero, suc, ◌+◌, ◌<◌, ◌≤◌, Bool, true, false, cond, List, [], ◌∷◌, ◌++◌, map, length, Option, Some, None, inl, inr, refl, sym, ◌∙◌, ap, subst, arith, length-append}
 use Rattle.std.specs.Prelude.{slice_get}
 use Rattle.std.proofs.lemmas.Bool.{cases_lt}
-use Rattle.pickle_value.specs.declared.error.PickleError.{PickleError}
 use Rattle.pickle_value.specs.declared.node.Node.{Node}
 use Rattle.pickle_value.specs.declared.node.Node.TheVariants as nodes
-use Rattle.pickle_value.specs.declared.node.Act.{Act}
-use Rattle.pickle_value.specs.declared.node.Act.TheVariants.{Append, Set, Build}
-use Rattle.pickle_value.specs.declared.parts.Part.{Part}
-use Rattle.pickle_value.specs.declared.parts.Part.TheVariants.{Byte, Item as Placed}
+use Rattle.pickle_value.specs.declared.parts.Part.TheVariants.{Byte}
 use Rattle.pickle_value.specs.declared.reading.TheConstants.{NODE_LIMIT}
-use Rattle.pickle_value.specs.Graph.{Graph, IsGraph, AllBelow, PairsBelow, ActBelow, ActsBelow}
+use Rattle.pickle_value.specs.Graph.{Graph, AllBelow}
 use Rattle.pickle_value.specs.Laws.{WrittenReadsBack}
-use Rattle.pickle_value.specs.Parts.{items_in, items_of, items_at, item_parts, tuple_parts}
+use Rattle.pickle_value.specs.Parts.{items_in, items_of, item_parts, tuple_parts}
 use Rattle.pickle_value.specs.Same.{IsSame}
-use Rattle.pickle_value.specs.Spelling.{spelling_of, pickled, root_piece}
+use Rattle.pickle_value.specs.Spelling.{pickled, root_piece}
 use Rattle.pickle_value.specs.Walks.{some_item, has_walk}
 use Rattle.btree_family.specs.declared.key.Key.{Key}
 use Rattle.btree_family.specs.declared.key.Key.TheVariants as keys
@@ -22,12 +18,11 @@ use Rattle.btree_family.specs.declared.bucket.Item.{Item}
 use Rattle.btree_family.specs.Classes.{Class}
 use Rattle.btree_family.specs.Buckets.{BucketContents, IsSpelling, IsValue, AreValues}
 use Rattle.bucket_state.specs.Depths.{IsShallow, AreShallow, WrittenIsShallow, WrittenLeafIsShallow}
-use Rattle.bucket_state.specs.Written.{shifted, shifted_act, shifted_pair, leaf_graph, key_node, key_graph, link_graph, value_pickle, value_graph, graph_found, Laid, no_graphs, laid_on, laid_all, closed, tuple_graph, with_value, item_graphs, next_graphs, bucket_graph, embedded_graph}
-use Rattle.bucket_state.proofs.Graphs.{below_more, pairs_more, acts_more, below_shifted, pairs_shifted, acts_shifted, longer, length_laid, below_append}
+use Rattle.bucket_state.specs.Written.{shifted, leaf_graph, key_graph, link_graph, value_pickle, value_graph, graph_found, Laid, no_graphs, laid_on, laid_all, closed, tuple_graph, with_value, item_graphs, next_graphs, bucket_graph, embedded_graph}
+use Rattle.bucket_state.proofs.Graphs.{below_more, pairs_more, acts_more, below_shifted, pairs_shifted, acts_shifted, length_laid, below_append}
 use Rattle.bucket_state.proofs.Parts.{copied}
 use Rattle.bucket_state.proofs.Shifts.{NamesBelow, AllNameBelow, copies_below, as_many, walks_within}
 use Rattle.bucket_state.proofs.Sound.{in_range}
-use Rattle.bucket_state.proofs.Ways.{walks_alike}
 use Rattle.bucket_state.proofs.Back.{Extends, laid_extends, laid_within, closed_extends, tuple_last}
 
 -- nodes that name each other, and a root from which no walk of so many edges starts

@@ -12,3 +12,6 @@ pub mod Leaves
 pub mod Keyed
 pub mod Depths
 pub mod Shallow
+pub mod Members
+pub mod Holding
+pub mod Apart

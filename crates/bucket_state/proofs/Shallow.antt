@@ -1,5 +1,5 @@
 -- The values of a state that can be written are not too deep for one.
-use Rattle.std.proofs.Common.{◌≡◌, ℕ, zero, suc, ◌+◌, ◌<◌, ◌≤◌, Bool, true, false, cond, List, [], ◌∷◌, ◌++◌, length, Option, Some, None, Result, Ok, Err, ◌⊎◌, inl, inr, refl, sym, ◌∙◌, ap, subst, arith}
+use Rattle.std.proofs.Common.{◌≡◌, ℕ, suc, ◌<◌, Bool, true, false, cond, List, [], ◌∷◌, length, Option, Some, None, Ok, Err, inl, inr, refl, sym, ◌∙◌, ap, subst}
 use Rattle.std.specs.Prelude.{slice_get}
 use Rattle.std.specs.Option.{option_map, option_and_then}
 use Rattle.std.proofs.lemmas.Bool.{cases_lt}
@@ -16,14 +16,13 @@ use Rattle.btree_family.specs.declared.bucket.Item.{Item}
 use Rattle.btree_family.specs.Classes.{Class}
 use Rattle.btree_family.specs.Buckets.{BucketContents}
 use Rattle.bucket_state.specs.declared.entries.Entry.{Entry}
-use Rattle.bucket_state.specs.declared.tree.TreeState.{TreeState}
-use Rattle.bucket_state.specs.declared.tree.TreeState.TheVariants.{Empty, Leaf, Children}
+use Rattle.bucket_state.specs.declared.tree.TreeState.TheVariants.{Leaf, Children}
 use Rattle.bucket_state.specs.Depths.{IsShallow, AreShallow, ReadIsShallow, ReadLeafIsShallow}
-use Rattle.bucket_state.specs.States.{found_both, found_all, tuple_in, members_at, key_at, value_fits, spelled_text, fitting_value, family_value_at, has_values, single_entries, pair_entries, entries_in, entry_value, entry_item, standing_items, stand_in_row, member_items, state_items, with_next, linked, link_at, bucket_in, bucket_of}
-use Rattle.bucket_state.specs.Trees.{leaf_before, lone_leaf, embedded_in, tree_members, tree_in, tree_state_of, inner_in, children_in}
+use Rattle.bucket_state.specs.States.{found_all, tuple_in, members_at, key_at, value_fits, spelled_text, fitting_value, family_value_at, has_values, single_entries, pair_entries, entries_in, entry_value, entry_item, standing_items, stand_in_row, member_items, state_items, with_next, linked, link_at, bucket_in}
+use Rattle.bucket_state.specs.Trees.{leaf_before, lone_leaf, embedded_in, tree_members, tree_in, inner_in, children_in}
 use Rattle.btree_family.specs.Buckets.{keys_of}
 use Rattle.bucket_state.specs.Written.{leaf_graph, value_pickle, value_graph, graph_found}
-use Rattle.bucket_state.proofs.Depths.{tuple_walk, none_short, zero_walk}
+use Rattle.bucket_state.proofs.Depths.{tuple_walk, none_short}
 use Rattle.bucket_state.proofs.Sound.{in_range, passed, of_both}
 use Rattle.bucket_state.proofs.Ways.{walks_alike}
 

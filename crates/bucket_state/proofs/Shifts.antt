@@ -6,7 +6,7 @@ use Rattle.pickle_value.specs.declared.node.Node.{Node}
 use Rattle.pickle_value.specs.declared.node.Node.TheVariants as nodes
 use Rattle.pickle_value.specs.declared.node.Act.{Act}
 use Rattle.pickle_value.specs.declared.node.Act.TheVariants.{Append, Set, Build}
-use Rattle.pickle_value.specs.Graph.{Graph, AllBelow, PairsBelow, ActBelow, ActsBelow}
+use Rattle.pickle_value.specs.Graph.{AllBelow, PairsBelow, ActBelow, ActsBelow}
 use Rattle.pickle_value.specs.Same.{HasOrigin, HaveOrigins, PairsStandFor, ActStandsFor, ActsStandFor, IsCopy, AllCopies, StandOnce, IsSame, has}
 use Rattle.pickle_value.specs.Spelling.{spelling_of}
 use Rattle.pickle_value.specs.Walks.{has_walk}

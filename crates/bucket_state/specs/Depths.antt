@@ -1,5 +1,5 @@
 -- How deep the values of a state are: of how many edges the walks are that start at them. Own.
-use Rattle.std.specs.Prelude.{◌≡◌, ℕ, ◌+◌, ◌-◌, Bool, false, List, [], ◌∷◌, Option, Some, None}
+use Rattle.std.specs.Prelude.{◌≡◌, ℕ, ◌+◌, false, List, [], ◌∷◌, Option, Some, None}
 use Rattle.pickle_value.specs.declared.depth.TheConstants.{WALK_LIMIT}
 use Rattle.pickle_value.specs.Graph.{Graph, IsGraph}
 use Rattle.pickle_value.specs.Walks.{has_walk}

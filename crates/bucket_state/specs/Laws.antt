@@ -1,5 +1,7 @@
 -- Laws of spellings and of states.
-use Rattle.std.specs.Prelude.{◌≡◌, ℕ, ◌≤◌, ◌<◌, ◌^◌, Bool, true, false, List, [], ◌∷◌, Option, Some, None, Ok, slice_get}
+use Rattle.std.specs.Prelude.{◌≡◌, ℕ, ◌≤◌, ◌<◌, ◌^◌, Bool, true, false, List, [], ◌∷◌, Option, Some, None, Ok, slice_get, if◌then◌else◌}
+use Rattle.std.specs.Option.{option_map, option_and_then}
+use Rattle.byteorder.specs.Endian.{big_bytes, big_number}
 use Rattle.pickle_value.specs.declared.node.Node.{Node}
 use Rattle.pickle_value.specs.declared.reading.TheConstants.{NODE_LIMIT}
 use Rattle.pickle_value.specs.Graph.{Graph, IsGraph}
@@ -10,12 +12,14 @@ use Rattle.btree_family.specs.declared.table.ValueKind.{ValueKind}
 use Rattle.btree_family.specs.Classes.{Class}
 use Rattle.btree_family.specs.declared.bucket.Item.{Item}
 use Rattle.btree_family.specs.Families.{key_fits}
-use Rattle.btree_family.specs.Buckets.{BucketContents, keys_of}
-use Rattle.bucket_state.specs.States.{value_fits, has_values, stand_in_row, bucket_of}
+use Rattle.btree_family.specs.Buckets.{BucketContents, AreValues, keys_of}
+use Rattle.bucket_state.specs.States.{value_fits, has_values, stand_in_row, bucket_of, found_all}
+use Rattle.bucket_state.specs.declared.tree.Branch.{Branch}
+use Rattle.bucket_state.specs.declared.tree.Inner.{Inner}
 use Rattle.bucket_state.specs.declared.tree.TreeState.{TreeState}
-use Rattle.bucket_state.specs.declared.tree.TreeState.TheVariants.{Empty, Leaf}
-use Rattle.bucket_state.specs.Trees.{tree_state_of}
-use Rattle.bucket_state.specs.Written.{bucket_graph, embedded_graph}
+use Rattle.bucket_state.specs.declared.tree.TreeState.TheVariants.{Empty, Leaf, Children}
+use Rattle.bucket_state.specs.Trees.{tree_state_of, standing_branches}
+use Rattle.bucket_state.specs.Written.{bucket_graph, embedded_graph, inner_graph}
 
 -- graphs that are the same are spelled alike
 abbrev pub SameIsSpelledAlike : Type 0
@@ -71,3 +75,41 @@ leaf_tree (item ∷ items) = Leaf (record { items = item ∷ items; next = None 
 abbrev pub WrittenLeafReadsBack : Type 0
 WrittenLeafReadsBack =
     (class : Class) (items : List Item) → BucketStands class (record { items = items; next = None }) → tree_state_of class (embedded_graph items) ≡ Some (leaf_tree items)
+
+-- ---- the same graphs, and other links
+
+-- graphs that are the same hold the same bucket, and the same tree's object
+abbrev pub SameHoldsTheSame : Type 0
+SameHoldsTheSame = (class : Class) (g copy : Graph) → IsSame g copy → (bucket_of class copy ≡ bucket_of class g) × (tree_state_of class copy ≡ tree_state_of class g)
+
+-- the number that eight bytes give back
+abbrev pub oid_back : ℕ → ℕ
+oid_back oid = big_number 8 (big_bytes 8 oid)
+
+-- items with a link to this bucket
+abbrev pub with_link : ℕ → Option BucketContents → Option BucketContents
+with_link oid None = None
+with_link oid (Some bucket) = Some (record { items = bucket.items; next = Some oid })
+
+-- the state of a bucket with a link holds that of the bucket without one, and the link; `class` is that by which it is read, and
+-- `leaf` that which the link names
+abbrev pub LinkStandsApart : Type 0
+LinkStandsApart =
+    (class leaf : Class) (items : List Item) (oid : ℕ) → AreValues items →
+    bucket_of class (bucket_graph leaf (record { items = items; next = Some oid })) ≡ with_link (oid_back oid) (bucket_of class (bucket_graph leaf (record { items = items; next = None })))
+
+-- a branch as it reads back, where its key is one of the family
+abbrev pub branch_back : KeyKind → Branch → Option Branch
+branch_back kind branch = if key_fits kind branch.key then Some (record { key = branch.key; child = oid_back branch.child }) else None
+
+abbrev pub branches_back : KeyKind → List Branch → Option (List Branch)
+branches_back kind branches = found_all (branch_back kind) branches
+
+-- an object with others below it as it reads back, where its keys are of the family, rise strictly and are of one kind
+abbrev pub inner_back : KeyKind → Inner → Option TreeState
+inner_back kind inner =
+    option_map (λ tail. Children (record { head = oid_back inner.head; tail = tail; first = oid_back inner.first })) (option_and_then standing_branches (branches_back kind inner.tail))
+
+-- what is written of an object with others below it reads back so
+abbrev pub WrittenInnerReadsBack : Type 0
+WrittenInnerReadsBack = (class child leaf : Class) (inner : Inner) → tree_state_of class (inner_graph child leaf inner) ≡ inner_back class.key inner

@@ -15,6 +15,8 @@ use Rattle.btree_family.specs.declared.key.Key.TheVariants as keys
 use Rattle.btree_family.specs.Classes.{Class}
 use Rattle.btree_family.specs.declared.bucket.Item.{Item}
 use Rattle.btree_family.specs.Buckets.{BucketContents}
+use Rattle.bucket_state.specs.declared.tree.Branch.{Branch}
+use Rattle.bucket_state.specs.declared.tree.Inner.{Inner}
 
 -- ---- graphs side by side
 
@@ -145,3 +147,16 @@ none_graph = leaf_graph nodes.None
 abbrev pub embedded_graph : List Item → Graph
 embedded_graph [] = none_graph
 embedded_graph (item ∷ items) = tuple_graph (tuple_graph (tuple_graph (tuple_graph (item_graphs (item ∷ items)) ∷ []) ∷ []) ∷ [])
+
+-- ---- objects with others below them
+
+-- each separator, with a link to the child behind it, which is of this class
+abbrev pub child_graphs : Class → List Branch → List Graph
+child_graphs child [] = []
+child_graphs child (branch ∷ branches) = key_graph branch.key ∷ link_graph branch.child child.module_name child.class_name ∷ child_graphs child branches
+
+-- The state of an object with others below it: a tuple of its children, which are of one class, with the separators between
+-- them, and behind it a link to the first leaf, which is of the other. Each link and each key stands apart.
+abbrev pub inner_graph : Class → Class → Inner → Graph
+inner_graph child leaf inner =
+    tuple_graph (tuple_graph (link_graph inner.head child.module_name child.class_name ∷ child_graphs child inner.tail) ∷ link_graph inner.first leaf.module_name leaf.class_name ∷ [])

@@ -1,7 +1,7 @@
 //! Laws. A law is the contract of a function that does nothing.
 
 ghost use Rattle.bucket_state.specs.Depths.{ReadIsShallow, ReadLeafIsShallow, WrittenIsShallow, WrittenLeafIsShallow};
-ghost use Rattle.bucket_state.specs.Laws.{SameIsSpelledAlike, WrittenBucketReadsBack, WrittenLeafReadsBack};
+ghost use Rattle.bucket_state.specs.Laws.{SameIsSpelledAlike, WrittenBucketReadsBack, WrittenLeafReadsBack, SameHoldsTheSame, LinkStandsApart, WrittenInnerReadsBack};
 
 use pickle_value::written_pickles_read_back;
 
@@ -37,3 +37,21 @@ pub fn states_keep_their_depth()
 {
     written_pickles_read_back();
 }
+
+/// Graphs that are the same hold the same bucket, and the same tree's object.
+pub fn same_graphs_hold_the_same()
+    ensures { SameHoldsTheSame }
+{}
+
+/// The state of a bucket with a link to the next one holds the items of that without a link, and the link.
+pub fn links_stand_apart()
+    ensures { LinkStandsApart }
+{
+    written_pickles_read_back();
+}
+
+/// An object with others below it reads back from the state that is written of it, where its keys are of the family,
+/// rise strictly and are of one kind.
+pub fn written_objects_read_back()
+    ensures { WrittenInnerReadsBack }
+{}

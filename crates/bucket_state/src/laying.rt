@@ -196,7 +196,8 @@ impl Side {
     /// The tuple of the graphs.
     #[tactic(auto, using(crate::proofs::Graphs::closed_sound))]
     pub(crate) fn close(self) -> Result<Pickle, AllocError>
-        ensures { IfOk result (λ graph. graph ≡ closed self) }
+        ensures closed { IfOk result (λ graph. graph ≡ closed self) }
+        ensures graph { IfOk result (λ graph. IsGraph graph.nodes graph.root) }
     {
         let Side { mut nodes, roots } = self;
         let root = count(nodes.as_slice())?;

@@ -13,12 +13,13 @@ mod writing;
 
 pub use error::StateError;
 pub use laws::{
-    same_graphs_are_spelled_alike, states_keep_their_depth, written_buckets_read_back,
-    written_leaves_read_back,
+    links_stand_apart, same_graphs_are_spelled_alike, same_graphs_hold_the_same,
+    states_keep_their_depth, written_buckets_read_back, written_leaves_read_back,
+    written_objects_read_back,
 };
 pub use reading::read_bucket;
 pub use tree::{Branch, Inner, TreeState, read_tree};
-pub use writing::{key_spelling, write_bucket, write_embedded};
+pub use writing::{key_spelling, write_bucket, write_embedded, write_inner};
 
 #[cfg(test)]
 mod tests;

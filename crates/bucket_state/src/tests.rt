@@ -1,9 +1,10 @@
 //! States that Python's pickle wrote, and states just outside.
 
 use super::*;
-use btree_family::row_of;
+use btree_family::{Key, row_of};
 use pickle_value::{read_pickle, write_pickle};
 use std::test::*;
+use zb_ids::{ListOf, Oid};
 
 /// A module, a class, the state that an object of the BTrees package 4.3.1 gives as Python's pickle module writes it
 /// at protocol 3, and as `pickletools.optimize` leaves it. Two values of the last one share a tuple, and for the last
@@ -28,6 +29,11 @@ const TREES: [(&[u8], &[u8], &[u8]); 2] = [
     (b"OOBTree", b"\x80\x03N.", b"\x80\x03N."),
     (b"OOTreeSet", b"\x80\x03X\x01\x00\x00\x00aq\x00\x85q\x01\x85q\x02\x85q\x03\x85q\x04.", b"\x80\x03X\x01\x00\x00\x00a\x85\x85\x85\x85."),
 ];
+
+/// A tree of two leaves, the objects 1 and 258, with the separator 7, as Python's pickle module writes its state at
+/// protocol 3 without a memo.
+#[rattlefmt::skip]
+const CHILDREN: &[u8] = b"\x80\x03C\x08\x00\x00\x00\x00\x00\x00\x00\x01cBTrees.IOBTree\nIOBucket\n\x86QK\x07C\x08\x00\x00\x00\x00\x00\x00\x01\x02cBTrees.IOBTree\nIOBucket\n\x86Q\x87C\x08\x00\x00\x00\x00\x00\x00\x00\x01cBTrees.IOBTree\nIOBucket\n\x86Q\x86.";
 
 /// What is no state of the class: a set read as a bucket, a last key without its value, keys that rise but not
 /// strictly, keys of two kinds, a number past the family's, a list for a tuple, a third member, and a next that is
@@ -80,5 +86,24 @@ fn states_just_outside(rt: HostRuntime) -> Result<(), Fail> {
         let (state, _) = read_pickle(rt.alloc(), input, 0)?;
         assert!(rt; read_bucket(rt.alloc(), &state, row).is_err());
     }
+    Ok(())
+}
+
+#[test]
+fn trees_with_children(rt: HostRuntime) -> Result<(), Fail> {
+    let leaf = row_of(b"BTrees.IOBTree", b"IOBucket").ok_or("no row")?;
+    let mut tail = ListOf::new(rt.alloc());
+    tail.push(Branch {
+        key: Key::Number(7),
+        child: Oid(258),
+    })?;
+    let inner = Inner {
+        head: Oid(1),
+        tail,
+        first: Oid(1),
+    };
+    let state = write_inner(rt.alloc(), &inner, leaf, leaf)?;
+    let text = write_pickle(rt.alloc(), &state)?;
+    assert_eq!(rt; text.as_slice(), CHILDREN);
     Ok(())
 }

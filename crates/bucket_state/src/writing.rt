@@ -1,13 +1,15 @@
 //! Writing the states of buckets and sets.
 
 ghost use Rattle.std.specs.Prelude.{◌≡◌, ◌++◌, [], ◌∷◌, IfOk};
-ghost use Rattle.pickle_value.specs.Graph.{IsGlobal};
+ghost use Rattle.pickle_value.specs.Graph.{IsGlobal, IsGraph};
 ghost use Rattle.btree_family.specs.Buckets.{keys_of};
 ghost use Rattle.btree_family.specs.Classes.{class_seen};
-ghost use Rattle.bucket_state.specs.Written.{key_graph, key_text, value_graph, link_graph, with_value, item_graphs, laid_all, tuple_graph, next_graphs, bucket_graph, none_graph, embedded_graph};
+ghost use Rattle.bucket_state.specs.Trees.{separators_of};
+ghost use Rattle.bucket_state.specs.Written.{key_graph, key_text, value_graph, link_graph, with_value, item_graphs, laid_all, tuple_graph, next_graphs, bucket_graph, none_graph, embedded_graph, child_graphs, inner_graph};
 ghost use Rattle.bucket_state.specs.Writable.{IsWritable, AreWritable};
 
 use crate::laying::Side;
+use crate::tree::{Branch, Inner};
 use btree_family::{Bucket, ClassRow, Item, Key};
 use byteorder::{BigEndian, ByteOrder};
 use pickle_value::{Node, Pickle, read_pickle, spelling};
@@ -135,6 +137,7 @@ pub fn write_bucket(alloc: Global, bucket: &Bucket, row: &ClassRow) -> Result<Pi
     requires keys { AreWritable (keys_of bucket.now.items) }
     requires class { IsGlobal row.now.module.now row.now.name.now }
     ensures state { IfOk result (λ graph. graph ≡ bucket_graph (class_seen row.now) bucket.now) }
+    ensures graph { IfOk result (λ graph. IsGraph graph.nodes graph.root) }
 {
     let items = items_pickle(alloc, bucket.items().as_slice())?;
     let side = Side::new(alloc).lay(alloc, &items)?;
@@ -174,4 +177,90 @@ pub fn write_embedded(alloc: Global, leaf: &Bucket) -> Result<Pickle, AllocError
     let state = lone_tuple(alloc, &items_pickle(alloc, items)?)?;
     let inner = lone_tuple(alloc, &state)?;
     lone_tuple(alloc, &inner)
+}
+
+/// The graphs, and behind them a separator with a link to the child behind it, of a class.
+fn lay_branch(
+    alloc: Global,
+    side: Side,
+    child: &ClassRow,
+    branch: &Branch,
+) -> Result<Side, AllocError>
+    requires key { IsWritable branch.now.key }
+    requires class { IsGlobal child.now.module.now child.now.name.now }
+    ensures { IfOk result (λ all. all ≡ laid_all side (child_graphs (class_seen child.now) (branch.now ∷ []))) }
+{
+    let side = side.lay(alloc, &key_pickle(alloc, &branch.key)?)?;
+    let link = link_pickle(
+        alloc,
+        branch.child,
+        child.module.as_bytes(),
+        child.name.as_bytes(),
+    )?;
+    let all = side.lay(alloc, &link)?;
+    Ok(all)
+}
+
+/// The graphs, and behind them separators with links to the children behind them, of a class.
+fn lay_branches(
+    alloc: Global,
+    side: Side,
+    child: &ClassRow,
+    branches: &[Branch],
+) -> Result<Side, AllocError>
+    requires keys { AreWritable (separators_of branches.now) }
+    requires class { IsGlobal child.now.module.now child.now.name.now }
+    ensures { IfOk result (λ all. all ≡ laid_all side (child_graphs (class_seen child.now) branches.now)) }
+{
+    let mut side = side;
+    for branch in branches {
+        side = lay_branch(alloc, side, child, branch)?;
+    }
+    Ok(side)
+}
+
+/// The tuple of children, with the separators between them.
+fn children_pickle(alloc: Global, child: &ClassRow, inner: &Inner) -> Result<Pickle, AllocError>
+    requires keys { AreWritable (separators_of inner.now.tail) }
+    requires class { IsGlobal child.now.module.now child.now.name.now }
+    ensures { IfOk result (λ graph. graph ≡ tuple_graph
+        (link_graph inner.now.head child.now.module.now child.now.name.now
+        ∷ child_graphs (class_seen child.now) inner.now.tail)) }
+{
+    let head = link_pickle(
+        alloc,
+        inner.head,
+        child.module.as_bytes(),
+        child.name.as_bytes(),
+    )?;
+    let side = Side::new(alloc).lay(alloc, &head)?;
+    lay_branches(alloc, side, child, inner.tail.as_slice())?.close()
+}
+
+/// The state of a tree's object with others below it. References to its children name the one class, that to the
+/// first leaf the other. [`read_tree`](crate::read_tree) reads it as the same object.
+///
+/// Each key and each link stands apart in it. Want of memory is the one error.
+pub fn write_inner(
+    alloc: Global,
+    inner: &Inner,
+    child: &ClassRow,
+    leaf: &ClassRow,
+) -> Result<Pickle, AllocError>
+    requires keys { AreWritable (separators_of inner.now.tail) }
+    requires child { IsGlobal child.now.module.now child.now.name.now }
+    requires leaf { IsGlobal leaf.now.module.now leaf.now.name.now }
+    ensures state { IfOk result
+        (λ graph. graph ≡ inner_graph (class_seen child.now) (class_seen leaf.now) inner.now) }
+    ensures graph { IfOk result (λ graph. IsGraph graph.nodes graph.root) }
+{
+    let children = children_pickle(alloc, child, inner)?;
+    let first = link_pickle(
+        alloc,
+        inner.first,
+        leaf.module.as_bytes(),
+        leaf.name.as_bytes(),
+    )?;
+    let side = Side::new(alloc).lay(alloc, &children)?;
+    side.lay(alloc, &first)?.close()
 }

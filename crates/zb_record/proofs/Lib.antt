@@ -1,3 +1,11 @@
 pub mod Joined
 pub mod Read
 pub mod Written
+pub mod Tokens
+pub mod Alike
+pub mod Leaves
+pub mod Pieces
+pub mod Names
+pub mod Steps
+pub mod Sound
+pub mod Kept

@@ -57,17 +57,17 @@ copy-is_class g copy s e =
 
 -- ---- two texts
 
-record Texts (class state : Spelled) (text : List ℕ) : Type 0 where
-  first : List ℕ
-  second : List ℕ
-  class_is : class ≡ Ok first
-  state_is : state ≡ Ok second
-  both : text ≡ first ++ second
+pub record Texts (class state : Spelled) (text : List ℕ) : Type 0 where
+  pub first : List ℕ
+  pub second : List ℕ
+  pub class_is : class ≡ Ok first
+  pub state_is : state ≡ Ok second
+  pub both : text ≡ first ++ second
 
 abbrev spelled : List ℕ → Spelled
 spelled text = Ok text
 
-texts : (class state : Spelled) (text : List ℕ) → one_behind class state ≡ Ok text → Texts class state text
+pub texts : (class state : Spelled) (text : List ℕ) → one_behind class state ≡ Ok text → Texts class state text
 texts (Err e) state text h = absurd (let k : Err e ≡ spelled text = h in cc)
 texts (Ok first) (Err e) text h = absurd (let k : Err e ≡ spelled text = h in cc)
 texts (Ok first) (Ok second) text h = record { first = first; second = second; class_is = refl; state_is = refl; both = let k : spelled (first ++ second) ≡ spelled text = h in cc }

@@ -2,4 +2,5 @@ pub mod Class
 pub mod Refusals
 pub mod Records
 pub mod Laws
+pub mod Alike
 pub mod Printed

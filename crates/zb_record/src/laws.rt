@@ -1,8 +1,12 @@
 //! Laws of records. A law is the contract of a function that does nothing.
 
+ghost use Rattle.zb_record.specs.Alike.{AlikeIsKept};
 ghost use Rattle.zb_record.specs.Laws.{ReadIsRecord, RecordIsRead, WrittenRecordReadsBack};
 
-use pickle_value::{references_are_those_of_nodes, written_pickles_read_anywhere};
+use pickle_ops::spelled_tokens_are_read;
+use pickle_value::{
+    references_are_those_of_nodes, written_pickles_read_anywhere, written_pickles_read_back,
+};
 
 /// What [`read_record`](crate::read_record) reads is two pickles and nothing else, of which the first is a
 /// class and whose references all name something; what [`references`](crate::references) tells are the oids
@@ -20,6 +24,18 @@ pub fn records_are_two_pickles()
 pub fn written_records_read_back()
     ensures { WrittenRecordReadsBack }
 {
+    written_pickles_read_anywhere();
+    references_are_those_of_nodes();
+}
+
+/// Where a record can be written and reads back, so does one whose state is the same but that other eight bytes stand in
+/// the place of eight, as the numbers of other objects do in references. Its class reads as the same graph, and its
+/// state as that which was written.
+pub fn alike_records_are_kept()
+    ensures { AlikeIsKept }
+{
+    spelled_tokens_are_read();
+    written_pickles_read_back();
     written_pickles_read_anywhere();
     references_are_those_of_nodes();
 }

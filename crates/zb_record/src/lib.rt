@@ -12,7 +12,7 @@ mod writing;
 
 pub use class::is_class;
 pub use error::RecordError;
-pub use laws::{records_are_two_pickles, written_records_read_back};
+pub use laws::{alike_records_are_kept, records_are_two_pickles, written_records_read_back};
 pub use printing::object_literal;
 pub use reading::{read_record, references};
 pub use record::ObjectRecord;

@@ -1,4 +1,4 @@
-use Rattle.std.proofs.Common.{◌≡◌, ◌∙◌, sym, ap, subst}
+use Rattle.std.proofs.Common.{◌∙◌, sym, ap, subst}
 use Rattle.btree_family.specs.Buckets.{IsBucket}
 use Rattle.btree_setting.specs.Items.{set_item}
 use Rattle.btree_setting.proofs.Buckets.{set_is_bucket}

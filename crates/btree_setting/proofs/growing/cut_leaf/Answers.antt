@@ -1,4 +1,4 @@
-use Rattle.std.proofs.Common.{◌≡◌, ◌∙◌, ◌++◌, sym, ap, take, drop}
+use Rattle.std.proofs.Common.{◌∙◌, ◌++◌, ap, take, drop}
 use Rattle.btree_setting.proofs.Buckets.{front_bucket, rest_bucket}
 use Rattle.btree_setting.proofs.growing.cut_leaf.Goals as goal
 

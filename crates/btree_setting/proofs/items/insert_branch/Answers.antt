@@ -1,4 +1,4 @@
-use Rattle.std.proofs.Common.{◌≡◌, ◌∙◌, ◌++◌, ap}
+use Rattle.std.proofs.Common.{◌∙◌, ◌++◌, ap}
 use Rattle.btree_setting.proofs.Placing.{insert_by}
 use Rattle.btree_setting.proofs.items.insert_branch.Goals as goal
 

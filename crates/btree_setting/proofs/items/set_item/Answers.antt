@@ -1,4 +1,4 @@
-use Rattle.std.proofs.Common.{◌≡◌, ◌∙◌, ◌++◌, ap}
+use Rattle.std.proofs.Common.{◌∙◌, ◌++◌, ap}
 use Rattle.btree_setting.proofs.Placing.{set_by}
 use Rattle.btree_setting.proofs.items.set_item.Goals as goal
 

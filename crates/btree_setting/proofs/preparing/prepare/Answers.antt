@@ -1,4 +1,4 @@
-use Rattle.std.proofs.Common.{◌≡◌, ◌∙◌, ◌++◌, sym, ap}
+use Rattle.std.proofs.Common.{◌∙◌, ◌++◌, sym, ap}
 use Rattle.btree_shapes.specs.Ways.{reads}
 use Rattle.btree_setting.specs.Bottoms.{bottom_of}
 use Rattle.btree_setting.specs.Rungs.{rungs_of, asked}

@@ -1,5 +1,5 @@
-use Rattle.std.proofs.Common.{◌≡◌, ◌∙◌, ◌++◌, ◌∷◌, [], Ok, None, true, false, sym, ap}
-use Rattle.btree_family.specs.Classes.{class_seen, classes, leaf_in}
+use Rattle.std.proofs.Common.{◌≡◌, ◌∙◌, ◌++◌, ◌∷◌, [], true, false, sym, ap}
+use Rattle.btree_family.specs.Classes.{class_seen}
 use Rattle.btree_family.specs.Families.{key_fits}
 use Rattle.btree_shapes.specs.declared.space.Call.TheVariants.{Read}
 use Rattle.btree_shapes.specs.Nodes.{class_held, objects_of}

@@ -1,4 +1,4 @@
-use Rattle.std.proofs.Common.{◌≡◌, ◌∙◌, refl, sym, ap, append-nil}
+use Rattle.std.proofs.Common.{◌∙◌, refl, sym, ap, append-nil}
 use Rattle.btree_shapes.specs.Nodes.{objects_of}
 use Rattle.btree_shapes.specs.Logs.{only_none, only_more}
 use Rattle.btree_setting.specs.Rungs.{settled}

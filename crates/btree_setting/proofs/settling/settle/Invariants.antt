@@ -1,4 +1,4 @@
-use Rattle.std.proofs.Common.{◌≡◌, ◌++◌, [], length}
+use Rattle.std.proofs.Common.{◌≡◌, [], length}
 use Rattle.btree_shapes.specs.Nodes.{objects_of}
 use Rattle.btree_shapes.specs.Ways.{OnlyReads}
 use Rattle.btree_setting.specs.Rungs.{settle}

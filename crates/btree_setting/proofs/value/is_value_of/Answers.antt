@@ -1,4 +1,4 @@
-use Rattle.std.proofs.Common.{◌≡◌, ◌∙◌, sym}
+use Rattle.std.proofs.Common.{◌∙◌, sym}
 use Rattle.btree_setting.proofs.Spellings.{spelled_is}
 use Rattle.btree_setting.proofs.value.is_value_of.Goals as goal
 
