@@ -1,5 +1,5 @@
 -- A pack goes on between other calls of a store.
-use Rattle.std.proofs.Common.{◌≡◌, ℕ, ◌+◌, ◌<◌, ◌≤◌, Bool, true, false, cond, eqb, List, [], ◌∷◌, ◌++◌, Option, Some, None, Result, Ok, Err, OnOk, IfOk, filter, refl, sym, ap, subst, ◌∙◌, append_assoc, arith}
+use Rattle.std.proofs.Common.{◌≡◌, ℕ, ◌+◌, ◌<◌, ◌≤◌, Bool, false, cond, eqb, List, [], ◌∷◌, ◌++◌, Option, Some, None, Result, Ok, Err, OnOk, IfOk, filter, refl, sym, ap, subst, ◌∙◌, append_assoc, arith}
 use Rattle.std.specs.Prelude.{◌&&◌, nat_le}
 use Rattle.std.specs.List.{filter_map}
 use Rattle.std.specs.Option.{ForSome, IsSome, option_map, option_map_or}
@@ -14,7 +14,7 @@ use Rattle.zb_model.specs.declared.store_error.StoreError.{StoreError}
 use Rattle.zb_model.specs.Database.{ObjectRevision}
 use Rattle.zb_model.specs.Packing.{is_held, packed_by, packed_form, packed_one, serial_up_to, stays}
 use Rattle.zb_model.specs.Packs.{IsCopyOf, IsCopyTurn, IsPrefixOf, new_pack}
-use Rattle.zb_model.specs.Stores.{AbortKeepsRest, BegunPack, CopyKeepsRest, FinishKeepsRest, KeepsBegun, KeepsVoted, StoreState, UnlessFault, VoteKeepsRest, tid_of_begun}
+use Rattle.zb_model.specs.Stores.{AbortKeepsRest, BegunPack, CopyKeepsRest, KeepsBegun, KeepsVoted, StoreState, UnlessFault, VoteKeepsRest, tid_of_begun}
 use Rattle.zodb_core.specs.GrowthLaws.{revision_behind}
 use Rattle.zodb_core.proofs.Switching.{new_copy}
 use Rattle.both_stores.specs.Packing.{IsHolding, IsPacking, IsPackingEarly}

@@ -1,5 +1,5 @@
 -- What a store has while it is packed between other calls. Own.
-use Rattle.std.specs.Prelude.{◌≡◌, ℕ, ◌<◌, ◌≤◌, false}
+use Rattle.std.specs.Prelude.{◌≡◌, ◌<◌, ◌≤◌, false}
 use Rattle.std.specs.Option.{ForSome, IsSome}
 use Rattle.std.specs.Ordering.{nat_cmp}
 use Rattle.std.specs.FinSet.{FinSet}

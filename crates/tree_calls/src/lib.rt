@@ -11,3 +11,6 @@ pub use attempt::{Attempt, Made, call_tree};
 pub use known::{Known, Seen};
 pub use operation::{INNER, LEAF, TreeAnswer, TreeOperation};
 pub use sight::Sight;
+
+#[cfg(test)]
+mod tests;
