@@ -1,5 +1,5 @@
 -- What calls see that stand on nothing but what is known. For tests.
-use Rattle.std.proofs.Common.{◌≡◌, ℕ, List, Option, Some, None, ap}
+use Rattle.std.proofs.Common.{ℕ, List, Option, None, ap}
 use Rattle.std.specs.Option.{option_map_or}
 use Rattle.tree_calls.specs.declared.known.Seen.{Seen}
 use Rattle.tree_calls.specs.Known.{Agrees, known_at}

@@ -1,5 +1,5 @@
 -- What a call's space keeps of its calls.
-use Rattle.std.proofs.Common.{◌≡◌, ℕ, zero, suc, ◌+◌, ◌<◌, Bool, true, false, List, [], ◌∷◌, ◌++◌, length, map, take, Option, Some, None, Result, Ok, Err, refl, sym, ap, subst, ◌∙◌, arith}
+use Rattle.std.proofs.Common.{◌≡◌, ℕ, zero, suc, ◌+◌, ◌<◌, Bool, true, false, List, [], ◌∷◌, ◌++◌, length, map, take, Option, Some, Result, Ok, Err, refl, sym, ap, subst, ◌∙◌, arith}
 use Rattle.std.specs.Prelude.{All, IfOk, if◌then◌else◌, nat_lt, slice_get}
 use Rattle.std.specs.Option.{option_map}
 use Rattle.std.proofs.lemmas.Bool.{ltb-true, lt-ltb}
@@ -14,7 +14,7 @@ use Rattle.btree_shapes.specs.declared.space.Call.{Call}
 use Rattle.btree_shapes.specs.declared.space.Call.TheVariants.{Read, Drew, Wrote}
 use Rattle.btree_shapes.specs.declared.error.TreeError.{TreeError}
 use Rattle.btree_shapes.specs.declared.error.TreeError.TheVariants as error
-use Rattle.btree_shapes.specs.Spaces.{IsStorable, record_bytes, with_bytes}
+use Rattle.btree_shapes.specs.Spaces.{with_bytes}
 use Rattle.btree_shapes.specs.Ways.{stands_in}
 use Rattle.btree_nodes.specs.Drawn.{drawn_in}
 use Rattle.tree_calls.specs.declared.attempt.Attempt.{Attempt}

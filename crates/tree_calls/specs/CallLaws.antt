@@ -1,5 +1,5 @@
 -- What calls on trees refuse. For the proofs of those who make them.
-use Rattle.std.proofs.Common.{◌≡◌, ℕ, List, Option, Some, refl, subst}
+use Rattle.std.proofs.Common.{◌≡◌, ℕ, List, Option, Some, subst}
 use Rattle.zb_model.specs.declared.refusal.Refusal.{Refusal}
 use Rattle.zb_model.specs.declared.refusal.Refusal.TheVariants as refusal
 use Rattle.btree_shapes.specs.declared.error.TreeError.{TreeError}

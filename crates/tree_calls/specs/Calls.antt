@@ -6,7 +6,6 @@ use Rattle.zb_model.specs.declared.refusal.Refusal.{Refusal}
 use Rattle.zb_model.specs.declared.refusal.Refusal.TheVariants as refusal
 use Rattle.btree_family.specs.declared.table.Kind.{Kind}
 use Rattle.btree_family.specs.declared.table.Kind.TheVariants as kinds
-use Rattle.btree_family.specs.Classes.{Class}
 use Rattle.btree_shapes.specs.declared.space.Call.{Call}
 use Rattle.btree_shapes.specs.declared.space.Call.TheVariants.{Read, Drew, Wrote}
 use Rattle.btree_shapes.specs.declared.error.TreeError.{TreeError}

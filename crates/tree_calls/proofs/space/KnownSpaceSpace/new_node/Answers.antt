@@ -1,5 +1,5 @@
 -- A number is given.
-use Rattle.std.proofs.Common.{◌≡◌, ◌∙◌, ap, sym}
+use Rattle.std.proofs.Common.{◌∙◌, ap, sym}
 use Rattle.std.specs.Prelude.{slice_get}
 use Rattle.tree_calls.specs.Calls.{written_in}
 use Rattle.tree_calls.proofs.Tracking.{gives_more, written_drew}

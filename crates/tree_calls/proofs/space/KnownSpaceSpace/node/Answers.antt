@@ -1,5 +1,5 @@
 -- An object is read.
-use Rattle.std.proofs.Common.{◌≡◌, ◌∙◌, ap}
+use Rattle.std.proofs.Common.{◌∙◌, ap}
 use Rattle.btree_nodes.specs.Drawn.{drawn_in}
 use Rattle.tree_calls.specs.Calls.{written_in}
 use Rattle.tree_calls.proofs.Tracking.{drawn_read, written_read}
