@@ -26,7 +26,7 @@ use Rattle.zodb_core.specs.Steps.{Stepped, refuse_if}
 use Rattle.client_turns.specs.declared.errors.TurnError.TheVariants as turn_error
 use Rattle.client_turns.specs.declared.got.Got.{Got}
 use Rattle.client_turns.specs.Clients.{Client, Moment, OpenTransaction, changes_of, place_of_client}
-use Rattle.client_turns.specs.Laws.{HasOpen, IsNamed, IsRefusedFor, RefusalsHaveTheirCause, by_call, by_connection, by_length, by_lengths, by_number, by_reading, by_savepoint, by_step, by_view, by_vote, crowded, unnamed}
+use Rattle.client_turns.specs.Laws.{HasOpen, IsNamed, IsRefusedFor, RefusalsHaveTheirCause, WouldPut, by_call, by_connection, by_length, by_lengths, by_number, by_reading, by_savepoint, by_step, by_view, by_vote, crowded, unnamed}
 use Rattle.client_turns.specs.DrawLaws.{draws_drawn, new_reply}
 use Rattle.client_turns.specs.Lines.{Changed, answer_of, data_of, end_in, is_committed, object_of, put, request_of, rolled_to, store_unless}
 use Rattle.client_turns.specs.Reads.{EndsReading}
@@ -167,10 +167,10 @@ later_refused rules m t why x y up (by_step c q stamp named asks is) = by_step c
 later_refused rules m t why x y up (by_view o oid has is) = by_view o oid has is
 later_refused rules m t why x y up (by_length o p n has excess is) = by_length o p n has excess is
 later_refused rules m t why x y up (by_call o objects root call numbers has said sees is) = by_call o objects root call numbers has said sees is
-later_refused rules m t why x y up (by_number c rules' b stamp named raised is) = by_number c rules' b stamp named raised is
-later_refused rules m t why x y up (by_vote o has voted is) = by_vote o has voted is
-later_refused rules m t why x y up (by_lengths o puts n has long is) = by_lengths o puts n has long is
-later_refused rules m t why x y up (by_savepoint o number has none is) = by_savepoint o number has none is
+later_refused rules m t why x y up (by_number c root call rules' b stamp named said raised is) = by_number c root call rules' b stamp named said raised is
+later_refused rules m t why x y up (by_vote o root call p puts has said made voted is) = by_vote o root call p puts has said made voted is
+later_refused rules m t why x y up (by_lengths o root call puts n has said made long is) = by_lengths o root call puts n has said made long is
+later_refused rules m t why x y up (by_savepoint o number has said none is) = by_savepoint o number has said none is
 later_refused rules m t why x y up (by_reading is rose) = by_reading is (rose_before m.counts.reads x.counts.reads y.counts.reads rose up)
 
 -- ---- steps
@@ -345,10 +345,10 @@ putting_refused rules m now t at c o oid bytes why (Some p) has whole is =
 putting_refused rules m now t at c o oid bytes why None has whole is =
     later_refused rules m t why is.1 now (omega (arith, ap (λ (x : Moment). x.counts.reads) is.3.1)) (put_refused rules m is.1 t o oid bytes why is.0 has is.2.ends whole is.3.0)
 
-rolled_refused : (rules : Rules) (m now : Moment) (t : Turn) (o : OpenTransaction) (number : ℕ) (why : Refusal) (p : Option PendingChanges) → HasOpen m t.client o → slice_get o.changes.savepoints number ≡ p
+rolled_refused : (rules : Rules) (m now : Moment) (t : Turn) (o : OpenTransaction) (number : ℕ) (why : Refusal) (p : Option PendingChanges) → HasOpen m t.client o → t.line ≡ line.Rollback number → slice_get o.changes.savepoints number ≡ p
     → answer.Refused why ≡ (rolled_to o.changes number p).answer → IsRefusedFor rules m t why now
-rolled_refused rules m now t o number why None has none is = by_savepoint o number has none (same_refusal why (refusal.NoSavepoint number) is)
-rolled_refused rules m now t o number why (Some p) has none is = absurd cc
+rolled_refused rules m now t o number why None has said none is = by_savepoint o number has said none (same_refusal why (refusal.NoSavepoint number) is)
+rolled_refused rules m now t o number why (Some p) has said none is = absurd cc
 
 -- a read that didn't find the object missing, and that the run goes on behind, failed
 reading_failed : (m : Machine) (v : View) (oid : ℕ) (before now : FaultCounts) (why : Refusal) → is_missing why ≡ false → EndsReading m v oid before now (Err why) → end_in why ≡ None → (why ≡ refusal.ReadFault) × Rose before.reads now.reads
@@ -404,7 +404,7 @@ uncalled_refused rules m now t c o root call why said named has whole (by_read n
     let failed : (why ≡ refusal.ReadFault) × Rose behind.counts.reads now.counts.reads = reading_failed behind.machine o.view oid behind.counts now.counts why found read.ends whole in
     by_reading failed.0 (subst (λ (k : FaultCounts). Rose k.reads now.counts.reads) (draws_drawn m c.session numbers behind draws).counts failed.1)
 uncalled_refused rules m now t c o root call why said named has whole (by_draw numbers behind draws (rules', step)) =
-    by_number c rules' behind.machine step.stamp named (draws_drawn m c.session numbers behind draws).machine (new_reply rules' behind c.session (reply.Refused why) now step)
+    by_number c root call rules' behind.machine step.stamp named said (draws_drawn m c.session numbers behind draws).machine (new_reply rules' behind c.session (reply.Refused why) now step)
 uncalled_refused rules m now t c o root call why said named has whole (by_want numbers draws is) = absurd (memory_goes_on why is whole)
 
 told_no_refusal : (X : Type 0) (why : Refusal) (x : TreeAnswer) → answer.Refused why ≡ answer_told x → X
@@ -416,18 +416,18 @@ told_no_refusal X why (answered.Removed false) is = absurd cc
 told_no_refusal X why (answered.Items list is_set) is = absurd cc
 
 -- why what a call puts is refused
-puts_refused : (rules : Rules) (m now : Moment) (t : Turn) (o : OpenTransaction) (x : TreeAnswer) (puts : List PendingStore) (why : Refusal) → HasOpen m t.client o
+puts_refused : (rules : Rules) (m now : Moment) (t : Turn) (o : OpenTransaction) (root : ℕ) (call : TreeCall) (x : TreeAnswer) (puts : List PendingStore) (why : Refusal) → HasOpen m t.client o → t.line ≡ line.Tree root call → WouldPut m o root call puts
     → answer.Refused why ≡ (all_stored o.changes (answer_told x) puts).answer → IsRefusedFor rules m t why now
-puts_refused rules m now t o x [] why has is = told_no_refusal (IsRefusedFor rules m t why now) why x is
-puts_refused rules m now t o x (p ∷ puts) why has is = by_voted o.changes.is_voted (stores_after o.changes.pending.stores (p ∷ puts)) refl refl is
+puts_refused rules m now t o root call x [] why has said made is = told_no_refusal (IsRefusedFor rules m t why now) why x is
+puts_refused rules m now t o root call x (p ∷ puts) why has said made is = by_voted o.changes.is_voted (stores_after o.changes.pending.stores (p ∷ puts)) refl refl is
   where
     by_stored : (r : Result (List PendingStore) ℕ) → stores_after o.changes.pending.stores (p ∷ puts) ≡ r → answer.Refused why ≡ (puts_stored o.changes (answer_told x) r).answer → IsRefusedFor rules m t why now
     by_stored (Ok stores) stored e = told_no_refusal (IsRefusedFor rules m t why now) why x e
-    by_stored (Err n) stored e = by_lengths o (p ∷ puts) n has stored (same_refusal why (refusal.TooLong n) e)
+    by_stored (Err n) stored e = by_lengths o root call (p ∷ puts) n has said made stored (same_refusal why (refusal.TooLong n) e)
 
     by_voted : (b : Bool) (r : Result (List PendingStore) ℕ) → o.changes.is_voted ≡ b → stores_after o.changes.pending.stores (p ∷ puts) ≡ r
         → answer.Refused why ≡ (if b then (let w : Changed = record { answer = answer.Refused refusal.Voted; changes = o.changes } in w) else puts_stored o.changes (answer_told x) r).answer → IsRefusedFor rules m t why now
-    by_voted true r voted stored e = by_vote o has voted (same_refusal why refusal.Voted e)
+    by_voted true r voted stored e = by_vote o root call p puts has said made voted (same_refusal why refusal.Voted e)
     by_voted false r voted stored e = by_stored r stored e
 
 tree_refused : (rules : Rules) (m now : Moment) (t : Turn) (at : ℕ) (c : Client) (o : OpenTransaction) (root : ℕ) (call : TreeCall) (why : Refusal) → t.line ≡ line.Tree root call → IsNamed m t.client c → HasOpen m t.client o → end_in why ≡ None
@@ -435,7 +435,7 @@ tree_refused : (rules : Rules) (m now : Moment) (t : Turn) (at : ℕ) (c : Clien
 tree_refused rules m now t at c o root call why said named has whole is = by_end is.result is.ends is.end
   where
     by_end : (result : Result Made Refusal) → CallEnds m c.session o root (operation_of call) result is.behind → IsTreeEnd is.behind at c o result (answer.Refused why) now → IsRefusedFor rules m t why now
-    by_end (Ok made) ends (inl change) = puts_refused rules m now t o made.answer made.puts why has change.0
+    by_end (Ok made) ends (inl change) = puts_refused rules m now t o root call made.answer made.puts why has said (ends.objects, ends.numbers, made.answer, ends.sees, ends.made) change.0
     by_end (Ok made) ends (inr starved) = absurd (memory_goes_on why (same_refusal why refusal.Memory starved.0) whole)
     by_end (Err w) ends end =
         subst (IsRefusedFor rules m t why) (sym end.1)
@@ -456,7 +456,7 @@ within_refused rules m now t at c o line.Savepoint why said named has whole open
   where
     saved_not : answer.Refused why ≡ answer.Savepoint (length o.changes.savepoints) → IsRefusedFor rules m t why now
     saved_not e = absurd cc
-within_refused rules m now t at c o (line.Rollback number) why said named has whole opens asks is = rolled_refused rules m now t o number why (slice_get o.changes.savepoints number) has refl is.0
+within_refused rules m now t at c o (line.Rollback number) why said named has whole opens asks is = rolled_refused rules m now t o number why (slice_get o.changes.savepoints number) has said refl is.0
 within_refused rules m now t at c o (line.Tree root call) why said named has whole opens asks is = tree_refused rules m now t at c o root call why said named has whole is
 within_refused rules m now t at c o line.Open why said named has whole opens asks is = absurd cc
 within_refused rules m now t at c o line.Begin why said named has whole opens asks is = absurd cc
