@@ -1,13 +1,12 @@
 -- Counting the edges that lead to a node.
-use Rattle.std.proofs.Common.{◌≡◌, ℕ, zero, suc, ◌+◌, ◌<◌, ◌≤◌, Bool, true, false, cond, List, [], ◌∷◌, ◌++◌, length, drop, get_or, reverse, Option, Some, None, refl, arith, sym, ◌∙◌, ap, subst, eqb, ltb, inl, inr}
+use Rattle.std.proofs.Common.{◌≡◌, ℕ, zero, suc, ◌+◌, ◌≤◌, Bool, true, false, cond, List, [], ◌∷◌, ◌++◌, Option, Some, None, refl, arith, sym, ◌∙◌, ap, subst, eqb, ltb, inl, inr}
 use Rattle.std.proofs.lemmas.Bool.{eqb-true, eq-eqb, lt-ltb}
-use Rattle.std.proofs.lemmas.List.{reverse-append}
 use Rattle.std.specs.Prelude.{slice_get}
 use Rattle.pickle_value.specs.declared.node.Node.{Node}
 use Rattle.pickle_value.specs.Parts.{items_of, items_at, held_in}
 use Rattle.pickle_value.specs.Walks.{leads}
 use Rattle.pickle_value.specs.Shared.{times, ends_from, ends_of, is_shared}
-use Rattle.pickle_value.specs.Numbers.{number_of, has_number, AllFresh, IsReach, one_edge_more, with_edge, with_edges, known_ends, held_among, above_one, is_many}
+use Rattle.pickle_value.specs.Numbers.{number_of, has_number, is_end, AllFresh, IsTally, counted_for, one_edge_more, with_edge, with_edges, known_ends, held_among, above_one, is_many}
 use Rattle.pickle_value.specs.declared.depth.TheConstants.{WALK_LIMIT}
 use Rattle.pickle_value.proofs.Walks.{cases_bool, not_true, clash}
 
@@ -17,10 +16,6 @@ abbrev capped : ℕ → Option ℕ
 capped zero = None
 capped (suc zero) = Some 1
 capped (suc (suc n)) = Some 2
-
-pub counted_append : (xs ys : List ℕ) (counts : List (ℕ × ℕ)) → with_edges (xs ++ ys) counts ≡ with_edges ys (with_edges xs counts)
-counted_append [] ys counts = refl
-counted_append (x ∷ xs) ys counts = counted_append xs ys (with_edge x counts)
 
 one-here : (k : ℕ) (counts : List (ℕ × ℕ)) (n : ℕ) (found : Option ℕ) → number_of k counts ≡ found → found ≡ capped n → number_of k (one_edge_more k counts found) ≡ capped (suc n)
 one-here k counts zero found is e = let t = eq-eqb k k refl in subst (λ (o : Option ℕ). number_of k (one_edge_more k counts o) ≡ Some 1) (sym e) (rw t refl)
@@ -53,36 +48,11 @@ above-capped zero = refl
 above-capped (suc zero) = refl
 above-capped (suc (suc n)) = sym (lt-ltb 1 (suc (suc n)) (omega arith))
 
-pub many-times : (k : ℕ) (ms : List ℕ) → is_many (with_edges ms []) k ≡ ltb 1 (times k ms)
-many-times k ms =
-    let e : times k ms + 0 ≡ times k ms = omega arith in
-    ap above_one (all-right k ms 0 [] refl) ∙ above-capped (times k ms + 0) ∙ ap (ltb 1) e
-
 -- ---- the ends
 
 pub times-append : (k : ℕ) (xs ys : List ℕ) → times k (xs ++ ys) ≡ times k xs + times k ys
 times-append k [] ys = omega arith
 times-append k (x ∷ xs) ys = let e = times-append k xs ys in omega (arith, e)
-
-ends-append : (ns : List Node) (xs ys : List (ℕ × ℕ)) (k : ℕ) → times k (known_ends ns (xs ++ ys)) ≡ times k (known_ends ns xs) + times k (known_ends ns ys)
-ends-append ns [] ys k = omega arith
-ends-append ns (x ∷ xs) ys k =
-    let e = ends-append ns xs ys k in
-    let f = times-append k (items_at ns x.0) (known_ends ns (xs ++ ys)) in
-    let g = times-append k (items_at ns x.0) (known_ends ns xs) in
-    omega (arith, e, f, g)
-
-pub ends-reverse : (ns : List Node) (xs : List (ℕ × ℕ)) (k : ℕ) → times k (known_ends ns (reverse xs)) ≡ times k (known_ends ns xs)
-ends-reverse ns [] k = refl
-ends-reverse ns (x ∷ xs) k =
-    let r : reverse (x ∷ xs) ≡ reverse xs ++ x ∷ [] = reverse-append (x ∷ []) xs in
-    let a : times k (known_ends ns (reverse (x ∷ xs))) ≡ times k (known_ends ns (reverse xs ++ x ∷ [])) = ap (λ (l : List (ℕ × ℕ)). times k (known_ends ns l)) r in
-    let e = ends-reverse ns xs k in
-    let f = ends-append ns (reverse xs) (x ∷ []) k in
-    let g = times-append k (items_at ns x.0) (known_ends ns xs) in
-    let h = times-append k (items_at ns x.0) [] in
-    let z : times k [] ≡ 0 = refl in
-    omega (arith, a, e, f, g, h, z)
 
 -- the same choice from a number on
 pub ends-same : (p q : ℕ → Bool) (i : ℕ) (ns : List Node) → ((j : ℕ) → i ≤ j → p j ≡ q j) → ends_from p i ns ≡ ends_from q i ns
@@ -91,6 +61,23 @@ ends-same p q i (node ∷ rest) h =
     let here = h i (omega arith) in
     let later = ends-same p q (i + 1) rest (λ j l. h j (omega arith)) in
     rw (here, later) refl
+
+same-either : (b : Bool) (l : List ℕ) → cond b l l ≡ l
+same-either true l = refl
+same-either false l = refl
+
+pick-alike : (a b : Bool) (items : List ℕ) → (is_end items ≡ false → a ≡ b) → cond a items [] ≡ cond b items []
+pick-alike a b [] h = same-either a [] ∙ sym (same-either b [])
+pick-alike a b (x ∷ items) h = ap (λ (c : Bool). cond c (x ∷ items) []) (h refl)
+
+-- the same choice of nodes at which edges start
+ends-alike : (p q : ℕ → Bool) (i : ℕ) (ns : List Node) → ((j : ℕ) → is_end (items_at ns j) ≡ false → p (i + j) ≡ q (i + j)) → ends_from p i ns ≡ ends_from q i ns
+ends-alike p q i [] h = refl
+ends-alike p q i (x ∷ rest) h =
+    let at : i + zero ≡ i = omega arith in
+    let here = pick-alike (p i) (q i) (items_of (Some x)) (λ e. ap p (sym at) ∙ h zero e ∙ ap q at) in
+    let later = ends-alike p q (i + 1) rest (λ j e. let on : i + suc j ≡ i + 1 + j = omega arith in ap p (sym on) ∙ h (suc j) e ∙ ap q on) in
+    ap (λ (l : List ℕ). l ++ ends_from p (i + 1) rest) here ∙ ap (λ (l : List ℕ). cond (q i) (items_of (Some x)) [] ++ l) later
 
 -- one more node is chosen
 pub ends-more : (p q : ℕ → Bool) (i d : ℕ) (ns : List Node) (k : ℕ) → q (i + d) ≡ true → p (i + d) ≡ false → ((j : ℕ) → (j ≡ i + d → ⊥) → q j ≡ p j) →
@@ -150,22 +137,34 @@ held-append ns (x ∷ xs) ys =
 pub held_step : (ns : List Node) (m : ℕ) (ms : List ℕ) (counts : List (ℕ × ℕ)) → with_edges (held_among ns ms) (with_edges (held_among ns (m ∷ [])) counts) ≡ with_edges (held_among ns (m ∷ ms)) counts
 held_step ns m ms counts = elim (cases_bool (held_in (slice_get ns m))) [ inl t ↦ rw t refl | inr f ↦ rw f refl ]
 
--- What is counted decides which of the nodes that stand once are shared.
-pub many_shared : (ns : List Node) (root : ℕ) (hs : List (ℕ × ℕ)) → IsReach ns root hs → (m : ℕ) → held_in (slice_get ns m) ≡ true →
-    is_many (with_edges (root ∷ held_among ns (known_ends ns (reverse hs))) []) m ≡ is_shared ns root m
-many_shared ns root hs h m held =
-    let a = ends-reverse ns hs m in
-    let b = known-ends ns hs m h.fresh in
-    let c : ends_from (has_number hs) 0 ns ≡ ends_from (leads WALK_LIMIT ns root) 0 ns = ends-same (has_number hs) (leads WALK_LIMIT ns root) 0 ns (λ j l. h.known j) in
-    let d = ap (times m) c in
-    let f = times_held ns m (known_ends ns (reverse hs)) held in
-    let e : times m (root ∷ held_among ns (known_ends ns (reverse hs))) ≡ times m (ends_of ns root) = omega (arith, a, b, d, f) in
-    many-times m (root ∷ held_among ns (known_ends ns (reverse hs))) ∙ ap (ltb 1) e
+-- ---- what is counted as nodes are measured
 
-pub count_step : (ns : List Node) (from : List (ℕ × ℕ)) (i : ℕ) (d : ℕ × ℕ) (counts : List (ℕ × ℕ)) → i < length from →
-    with_edges (held_among ns (known_ends ns (drop i from))) counts ≡ with_edges (held_among ns (known_ends ns (drop (i + 1) from))) (with_edges (held_among ns (items_at ns (get_or from i d).0)) counts)
-count_step ns [] i d counts h = absurd (omega arith)
-count_step ns (x ∷ from) zero d counts h =
-    ap (λ (l : List ℕ). with_edges l counts) (held-append ns (items_at ns x.0) (known_ends ns from))
-    ∙ counted_append (held_among ns (items_at ns x.0)) (held_among ns (known_ends ns from)) counts
-count_step ns (x ∷ from) (suc i) d counts h = let one : suc i + 1 ≡ suc (i + 1) = omega arith in rw one (count_step ns from i d counts (omega arith))
+pub counted_none : (ns : List Node) (heights counts : List (ℕ × ℕ)) → heights ≡ [] → counts ≡ [] → counts ≡ counted_for ns heights
+counted_none ns heights counts h c = c ∙ ap (counted_for ns) (sym h)
+
+pub counted_more : (ns : List Node) (m h : ℕ) (heights more counts new : List (ℕ × ℕ)) (items : List ℕ) → counts ≡ counted_for ns heights → items ≡ items_at ns m → new ≡ with_edges (held_among ns items) counts →
+    more ≡ (m, h) ∷ heights → new ≡ counted_for ns more
+counted_more ns m h heights more counts new items before same counted is =
+    counted ∙ ap (λ (l : List ℕ). with_edges (held_among ns l) counts) same ∙ ap (with_edges (held_among ns (items_at ns m))) before ∙ ap (counted_for ns) (sym is)
+
+counted-all : (ns : List Node) (heights : List (ℕ × ℕ)) (k : ℕ) → number_of k (counted_for ns heights) ≡ capped (times k (held_among ns (known_ends ns heights)))
+counted-all ns [] k = refl
+counted-all ns (x ∷ heights) k =
+    let a = held-append ns (items_at ns x.0) (known_ends ns heights) in
+    let b = times-append k (held_among ns (items_at ns x.0)) (held_among ns (known_ends ns heights)) in
+    all-right k (held_among ns (items_at ns x.0)) (times k (held_among ns (known_ends ns heights))) (counted_for ns heights) (counted-all ns heights k)
+    ∙ ap capped (sym b) ∙ ap (λ (l : List ℕ). capped (times k l)) (sym a)
+
+-- What is counted decides which of the nodes that stand once are shared.
+pub many_shared : (ns : List Node) (root : ℕ) (counts : List (ℕ × ℕ)) → IsTally ns root counts → (m : ℕ) → held_in (slice_get ns m) ≡ true → is_many counts m ≡ is_shared ns root m
+many_shared ns root counts h m held =
+    let hs : List (ℕ × ℕ) = h.heights in
+    let n : ℕ = times m (held_among ns (known_ends ns hs)) in
+    let b = known-ends ns hs m h.reach.fresh in
+    let c : ends_from (has_number hs) 0 ns ≡ ends_from (leads WALK_LIMIT ns root) 0 ns =
+    ends-alike (has_number hs) (leads WALK_LIMIT ns root) 0 ns (λ j e. let at : 0 + j ≡ j = omega arith in ap (has_number hs) at ∙ h.reach.known j e ∙ ap (leads WALK_LIMIT ns root) (sym at)) in
+    let d = ap (times m) c in
+    let f = times_held ns m (known_ends ns hs) held in
+    let all : times m (known_ends ns hs) ≡ times m (ends_from (leads WALK_LIMIT ns root) 0 ns) = b ∙ d in
+    let e : cond (eqb root m) 1 0 + n ≡ times m (ends_of ns root) = ap (λ (k : ℕ). cond (eqb root m) 1 0 + k) (f ∙ all) in
+    ap (λ (l : List (ℕ × ℕ)). is_many l m) h.counted ∙ ap above_one (counted-right m root n (counted_for ns hs) (counted-all ns hs m)) ∙ above-capped (cond (eqb root m) 1 0 + n) ∙ ap (ltb 1) e

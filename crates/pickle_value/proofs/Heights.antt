@@ -8,10 +8,11 @@ use Rattle.pickle_value.specs.declared.depth.TheConstants.{WALK_LIMIT}
 use Rattle.pickle_value.specs.declared.parts.Part.{Part}
 use Rattle.pickle_value.specs.declared.parts.Part.TheVariants.{Byte, Item}
 use Rattle.std.specs.Prelude.{slice_get}
-use Rattle.pickle_value.specs.Parts.{items_at, items_in, parts_in}
+use Rattle.pickle_value.specs.Parts.{items_at, items_in, held_in}
 use Rattle.pickle_value.specs.Walks.{some_item, has_walk, has_way, leads}
 use Rattle.pickle_value.specs.Same.{has}
-use Rattle.pickle_value.specs.Numbers.{number_of, has_number, IsHeight, IsMeasured, IsOpen, AllOpen, IsMeasuredSince, Measures, walks_in, leads_in, IsTop, MeasuresAll, IsReach}
+use Rattle.pickle_value.specs.Numbers.{number_of, has_number, is_end, is_done, IsHeight, IsMeasured, IsOpen, AllOpen, IsMeasuredSince, Measures, walks_in, leads_in, IsTop, MeasuresAll, IsReach}
+use Rattle.pickle_value.proofs.Partless.{no_parts}
 use Rattle.pickle_value.proofs.Walks.{clash, cases_bool, not_true, same_bool, has-head, has-here, has-later, has-append, has-left, has-right, some-has, some-find, walk-in, walk-less, way-step, round-walk, back-walk, leads-self, leads-on}
 
 some_is : (a b : ℕ) → Some a ≡ Some b → a ≡ b
@@ -76,6 +77,44 @@ leads-last (suc n) ns items c k some h =
     let e : suc n - 1 ≡ n = omega arith in
     some-has (λ m. leads n ns m k) c (items ++ c ∷ []) (has-right c items (c ∷ []) (has-here c c [] refl)) (subst (λ (x : ℕ). leads x ns c k ≡ true) e h)
 
+-- ---- what is done
+
+true-either : (b : Bool) → cond b true true ≡ true
+true-either true = refl
+true-either false = refl
+
+done-has : (ns : List Node) (hs : List (ℕ × ℕ)) (k : ℕ) → has_number hs k ≡ true → is_done ns hs k ≡ true
+done-has ns hs k e = ap (λ (b : Bool). cond b true (is_end (items_at ns k))) e
+
+done-end : (ns : List Node) (hs : List (ℕ × ℕ)) (k : ℕ) → is_end (items_at ns k) ≡ true → is_done ns hs k ≡ true
+done-end ns hs k e = ap (λ (b : Bool). cond (has_number hs k) true b) e ∙ true-either (has_number hs k)
+
+-- without a height no edge starts there
+end-of : (ns : List Node) (hs : List (ℕ × ℕ)) (k : ℕ) → has_number hs k ≡ false → is_done ns hs k ≡ true → is_end (items_at ns k) ≡ true
+end-of ns hs k none e = sym (ap (λ (b : Bool). cond b true (is_end (items_at ns k))) none) ∙ e
+
+done-kept : (ns : List Node) (old new : List (ℕ × ℕ)) (k : ℕ) → (has_number old k ≡ true → has_number new k ≡ true) → is_done ns old k ≡ true → is_done ns new k ≡ true
+done-kept ns old new k kept e = elim (cases_bool (has_number old k)) [
+  | inl t ↦ done-has ns new k (kept t)
+  | inr t ↦ done-end ns new k (end-of ns old k t e)
+]
+
+end-none : (items : List ℕ) (c : ℕ) → is_end items ≡ true → has c items ≡ true → ⊥
+end-none [] c e i = absurd cc
+end-none (x ∷ items) c e i = absurd cc
+
+done-item : (ns : List Node) (hs : List (ℕ × ℕ)) (a c : ℕ) → IsMeasured ns hs → is_done ns hs a ≡ true → has c (items_at ns a) ≡ true → is_done ns hs c ≡ true
+done-item ns hs a c h e i = elim (cases_bool (has_number hs a)) [
+  | inl t ↦ h.closed a c t i
+  | inr t ↦ absurd (end-none (items_at ns a) c (end-of ns hs a t e) i)
+]
+
+has-of : (ns : List Node) (hs : List (ℕ × ℕ)) (k : ℕ) → is_end (items_at ns k) ≡ false → is_done ns hs k ≡ true → has_number hs k ≡ true
+has-of ns hs k some e = elim (cases_bool (has_number hs k)) [
+  | inl t ↦ t
+  | inr t ↦ clash (is_end (items_at ns k)) (end-of ns hs k t e) some
+]
+
 -- nothing is measured
 pub measured_none : (ns : List Node) → IsMeasured ns []
 measured_none ns = record { right = λ m h e. absurd cc; closed = λ m c e h. absurd cc; fresh = tt }
@@ -99,8 +138,8 @@ all-more ns levels old mid new items c h hc top some a b t low = record {
   low = low;
   kept = λ k e. b.kept k (a.kept k e);
   each = λ k e. elim (has-append k items (c ∷ []) e) [
-    | inl l ↦ b.kept k (a.each k l)
-    | inr r ↦ elim (has-head k c [] r) [ inl x ↦ ap (has_number new) (sym x) ∙ b.here | inr x ↦ absurd cc ]
+    | inl l ↦ done-kept ns mid new k (b.kept k) (a.each k l)
+    | inr r ↦ elim (has-head k c [] r) [ inl x ↦ ap (is_done ns new) (sym x) ∙ b.here | inr x ↦ absurd cc ]
   ];
   led = λ k e. elim (b.led k e) [
     | inl l ↦ elim (a.led k l) [ inl x ↦ inl x | inr x ↦ inr (leads-left levels ns items (c ∷ []) k x) ]
@@ -156,15 +195,15 @@ node_measured ns levels old mid m h none a =
       measured = record {
         right = right-head ns m h mid here a.measured.right;
         closed = λ x c e i. elim (known-head x m h mid e) [
-          | inl t ↦ known-later c m h mid (a.each c (ap (λ (y : ℕ). has c (items_at ns y)) t ∙ i))
-          | inr t ↦ known-later c m h mid (a.measured.closed x c t i)
+          | inl t ↦ done-kept ns mid ((m, h) ∷ mid) c (known-later c m h mid) (a.each c (ap (λ (y : ℕ). has c (items_at ns y)) t ∙ i))
+          | inr t ↦ done-kept ns mid ((m, h) ∷ mid) c (known-later c m h mid) (a.measured.closed x c t i)
         ];
         fresh = (new, a.measured.fresh);
       };
       height = here;
       low = a.low;
       kept = λ k e. known-later k m h mid (a.kept k e);
-      here = known-here m m h mid refl;
+      here = done-has ns ((m, h) ∷ mid) m (known-here m m h mid refl);
       led = λ k e. elim (known-head k m h mid e) [
         | inl t ↦ inr (ap (leads levels ns m) (sym t) ∙ leads-self levels ns m)
         | inr t ↦ elim (a.led k t) [ inl l ↦ inl l | inr r ↦ inr (leads-on levels ns m k r) ]
@@ -178,7 +217,7 @@ recalled ns levels hs m h a e le = record {
   height = a.right m h e;
   low = le;
   kept = λ k t. t;
-  here = ap is_some e;
+  here = done-has ns hs m (ap is_some e);
   led = λ k t. inl t;
 }
 
@@ -196,20 +235,20 @@ deep_item ns levels items c h some w =
 
 -- ---- all that the root reaches
 
-known-leads : (ns : List Node) (hs : List (ℕ × ℕ)) → IsMeasured ns hs → (n a b : ℕ) → has_number hs a ≡ true → leads n ns a b ≡ true → has_number hs b ≡ true
+done-leads : (ns : List Node) (hs : List (ℕ × ℕ)) → IsMeasured ns hs → (n a b : ℕ) → is_done ns hs a ≡ true → leads n ns a b ≡ true → is_done ns hs b ≡ true
 unfolding leads
-known-leads ns hs h zero a b k e = ap (has_number hs) (sym (eqb-true a b e)) ∙ k
-known-leads ns hs h (suc n) a b k e = elim (cases_bool (eqb a b)) [
-  | inl t ↦ ap (has_number hs) (sym (eqb-true a b t)) ∙ k
+done-leads ns hs h zero a b k e = ap (is_done ns hs) (sym (eqb-true a b e)) ∙ k
+done-leads ns hs h (suc n) a b k e = elim (cases_bool (eqb a b)) [
+  | inl t ↦ ap (is_done ns hs) (sym (eqb-true a b t)) ∙ k
   | inr t ↦
       let rest : some_item (λ m. leads n ns m b) (items_at ns a) ≡ true = ap (λ (x : Bool). cond x true (some_item (λ m. leads n ns m b) (items_at ns a))) (sym t) ∙ e in
       let f = some-find (λ m. leads n ns m b) (items_at ns a) rest in
-      known-leads ns hs h n f.0 b (h.closed a f.0 k f.1) f.2
+      done-leads ns hs h n f.0 b (done-item ns hs a f.0 h k f.1) f.2
 ]
 
 pub all_reached : (ns : List Node) (old hs : List (ℕ × ℕ)) (root h : ℕ) → old ≡ [] → Measures ns WALK_LIMIT old root hs h → IsReach ns root hs
 all_reached ns old hs root h none b = let a : Measures ns WALK_LIMIT [] root hs h = subst (λ (o : List (ℕ × ℕ)). Measures ns WALK_LIMIT o root hs h) none b in record {
-  known = λ k. same_bool _ _ (λ t. elim (a.led k t) [ inl l ↦ absurd cc | inr r ↦ r ]) (known-leads ns hs a.measured WALK_LIMIT root k a.here);
+  known = λ k some. same_bool _ _ (λ t. elim (a.led k t) [ inl l ↦ absurd cc | inr r ↦ r ]) (λ t. has-of ns hs k some (done-leads ns hs a.measured WALK_LIMIT root k a.here t));
   fresh = a.measured.fresh;
   short = not_true _ (λ t. clash _ (walk-less (suc WALK_LIMIT) (suc h) ns root (omega (arith, a.low)) t) a.height.last);
 }
@@ -262,10 +301,18 @@ pub node_built : (ns : List Node) (levels : ℕ) (old mid new : List (ℕ × ℕ
 node_built ns levels old mid new m h items none is more a =
     subst (λ (x : List (ℕ × ℕ)). Measures ns levels old m x h) (sym more) (node_measured ns levels old mid m h none (subst (λ (l : List ℕ). MeasuresAll ns levels old l mid h) is a))
 
-pub leaf_built : (ns : List Node) (levels : ℕ) (old new : List (ℕ × ℕ)) (m : ℕ) → IsMeasured ns old → number_of m old ≡ None → parts_in (slice_get ns m) ≡ [] → new ≡ (m, 0) ∷ old → Measures ns levels old m new 0
-leaf_built ns levels old new m measured none is more =
-    let items : [] ≡ items_at ns m = ap items_in (sym is) in
-    node_built ns levels old old new m 0 [] none items more (all_none ns levels old measured)
+-- a node that doesn't stand once
+pub leaf_measured : (ns : List Node) (levels : ℕ) (hs : List (ℕ × ℕ)) (m : ℕ) → IsMeasured ns hs → held_in (slice_get ns m) ≡ false → Measures ns levels hs m hs 0
+leaf_measured ns levels hs m a leaf =
+    let none : items_at ns m ≡ [] = ap items_in (no_parts (slice_get ns m) leaf) in
+    record {
+      measured = a;
+      height = height-top ns m 0 (subst (λ (l : List ℕ). IsTop ns l 0) (sym none) (all_none ns levels hs a).height);
+      low = omega arith;
+      kept = λ k e. e;
+      here = done-end ns hs m (ap is_end none);
+      led = λ k e. inl e;
+    }
 
 -- ---- nodes that were begun
 

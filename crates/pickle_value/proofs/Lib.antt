@@ -29,3 +29,5 @@ pub mod Alike
 pub mod Putting
 pub mod Tables
 pub mod Memos
+pub mod Shown
+pub mod Partless

@@ -10,7 +10,6 @@ use Rattle.pickle_ops.specs.Tokens.{token_at}
 use Rattle.pickle_value.specs.declared.node.Node.{Node}
 use Rattle.pickle_value.specs.declared.node.Node.TheVariants as kinds
 use Rattle.pickle_value.specs.declared.error.PickleError.{PickleError}
-use Rattle.pickle_value.specs.declared.references.Finding.{Finding}
 use Rattle.pickle_value.specs.declared.references.Named.{Named}
 use Rattle.pickle_value.specs.declared.references.Named.TheVariants.{Strong, Weak, Bad}
 use Rattle.pickle_value.specs.declared.reading.TheConstants.{NODE_LIMIT}
@@ -21,7 +20,7 @@ use Rattle.pickle_value.specs.Graph.{Graph}
 use Rattle.pickle_value.specs.Sound.{StackBelow}
 use Rattle.pickle_value.specs.Steps.{Outcome, step}
 use Rattle.pickle_value.specs.Reading.{graphs, read_from, after_token, is_stop, bytes_of, go_on, root_of, empty_state}
-use Rattle.pickle_value.specs.References.{references, oid_of, named_first, named_by, named_by_token, noted, noted_in, find, oids_at}
+use Rattle.pickle_value.specs.References.{Finding, references, oid_of, named_first, named_by, named_by_token, noted, noted_in, find, oids_at}
 use Rattle.pickle_value.specs.Named.{with_name, named_in, NamedIsTold}
 use Rattle.pickle_value.proofs.Cores.{core, name_of, has_form, number-core, in-core}
 use Rattle.pickle_value.proofs.Grown.{After, Grown, token_names, step-grown}

@@ -1,5 +1,5 @@
 -- Pieces of texts.
-use Rattle.std.proofs.Common.{◌≡◌, ℕ, zero, suc, ◌+◌, ◌*◌, ◌-◌, ◌^◌, ◌<◌, ◌≤◌, Bool, true, false, List, [], ◌∷◌, ◌++◌, length, reverse, Option, Some, None, Ok, Err, refl, arith, sym, ◌∙◌, ap, append_assoc, inl, inr}
+use Rattle.std.proofs.Common.{◌≡◌, ℕ, zero, suc, ◌+◌, ◌*◌, ◌-◌, ◌^◌, ◌<◌, ◌≤◌, Bool, true, false, List, [], ◌∷◌, ◌++◌, length, Option, Some, None, Ok, Err, refl, arith, sym, ◌∙◌, ap, append_assoc, inl, inr}
 use Rattle.std.specs.Prelude.{slice_get}
 use Rattle.std.proofs.lemmas.Bool.{lt-ltb, le-ltb}
 use Rattle.std.proofs.lemmas.Nat.{pow-add}
@@ -13,7 +13,7 @@ use Rattle.pickle_value.specs.declared.depth.TheConstants.{WALK_LIMIT}
 use Rattle.pickle_value.specs.declared.error.WriteError.TheVariants as errors
 use Rattle.pickle_value.specs.declared.writing.Writing.{Writing}
 use Rattle.pickle_value.specs.Parts.{act_parts, parts_of, is_held, held_in}
-use Rattle.pickle_value.specs.Numbers.{number_of, IsReach, with_edges, known_ends, held_among, is_many, numbered, nodes_of}
+use Rattle.pickle_value.specs.Numbers.{number_of, IsTally, is_many, numbered, nodes_of}
 use Rattle.pickle_value.specs.Shared.{is_shared}
 use Rattle.pickle_value.specs.Spelling.{Piece, put_number, fewest, followed, parts_piece, node_piece, piece_of, root_piece, spelling_of}
 use Rattle.pickle_value.specs.Writing.{with_piece, held_at, IsRootWritten}
@@ -88,12 +88,11 @@ piece_same f g ns same (suc levels) m puts = node-same f g (piece_of levels ns f
 
 -- ---- nodes as roots
 
-pub root_written : (ns : List Node) (root : ℕ) (reached : List (ℕ × ℕ)) (w : Writing) → IsReach ns root reached →
-    w ≡ with_piece (record { text = []; puts = [] }) (piece_of (WALK_LIMIT + 1) ns (is_many (with_edges (root ∷ held_among ns (known_ends ns (reverse reached))) [])) root []) → IsRootWritten ns root w
-root_written ns root reached w h is =
-    let counts = with_edges (root ∷ held_among ns (known_ends ns (reverse reached))) [] in
-    let same = piece_same (is_many counts) (is_shared ns root) ns (many_shared ns root reached h) (WALK_LIMIT + 1) root [] in
-    record { short = h.short; all = is ∙ ap (with_piece (record { text = []; puts = [] })) same }
+pub root_written : (ns : List Node) (root : ℕ) (counts : List (ℕ × ℕ)) (w : Writing) → IsTally ns root counts →
+    w ≡ with_piece (record { text = []; puts = [] }) (piece_of (WALK_LIMIT + 1) ns (is_many counts) root []) → IsRootWritten ns root w
+root_written ns root counts w h is =
+    let same = piece_same (is_many counts) (is_shared ns root) ns (many_shared ns root counts h) (WALK_LIMIT + 1) root [] in
+    record { short = h.reach.short; all = is ∙ ap (with_piece (record { text = []; puts = [] })) same }
 
 pub spelled_ok : (ns : List Node) (root : ℕ) (w : Writing) → IsRootWritten ns root w → spelling_of ns root ≡ Ok w.text
 spelled_ok ns root w h =

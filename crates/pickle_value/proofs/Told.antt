@@ -9,7 +9,6 @@ use Rattle.pickle_ops.specs.declared.token.TokenError.{TokenError}
 use Rattle.pickle_ops.specs.Tokens.{token_at}
 use Rattle.pickle_value.specs.declared.node.Node.{Node}
 use Rattle.pickle_value.specs.declared.error.PickleError.{PickleError}
-use Rattle.pickle_value.specs.declared.references.Finding.{Finding}
 use Rattle.pickle_value.specs.declared.references.Named.{Named}
 use Rattle.pickle_value.specs.declared.references.Named.TheVariants.{Strong, Weak, Bad}
 use Rattle.pickle_value.specs.declared.reading.TheConstants.{NODE_LIMIT}
@@ -19,7 +18,7 @@ use Rattle.pickle_value.specs.declared.state.Item.TheVariants.{Value, Mark}
 use Rattle.pickle_value.specs.Graph.{Graph}
 use Rattle.pickle_value.specs.Steps.{Outcome, step}
 use Rattle.pickle_value.specs.Reading.{graphs, read_from, after_token, is_stop, bytes_of, go_on, root_of, empty_state}
-use Rattle.pickle_value.specs.References.{references, named_by_token, noted, noted_in, find, oids_at}
+use Rattle.pickle_value.specs.References.{Finding, references, named_by_token, noted, noted_in, find, oids_at}
 use Rattle.pickle_value.specs.Named.{with_name, named_in, ToldIsNamed}
 use Rattle.pickle_value.proofs.Cores.{core, has_form, number-core, in-core, name-on, in-on, in-append}
 use Rattle.pickle_value.proofs.Grown.{After, Grown, token_names, step-grown}

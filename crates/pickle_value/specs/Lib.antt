@@ -6,6 +6,8 @@ pub mod Steps
 pub mod Reading
 pub mod Sound
 pub mod References
+pub mod Shapes
+pub mod Sights
 pub mod Parts
 pub mod Walks
 pub mod Shared

@@ -42,10 +42,19 @@ pub record IsHeight (ns : List Node) (m h : ℕ) : Type 0 where
   pub walk : has_walk h ns m ≡ true
   pub last : has_walk (suc h) ns m ≡ false
 
--- heights of nodes are known together with those of their items
+-- there are no items
+abbrev pub is_end : List ℕ → Bool
+is_end [] = true
+is_end (item ∷ items) = false
+
+-- a height is known, or no edge starts at the node
+abbrev pub is_done : List Node → List (ℕ × ℕ) → ℕ → Bool
+is_done ns heights m = if has_number heights m then true else is_end (items_at ns m)
+
+-- heights of nodes are known together with those of their items, of which those without edges have none
 pub record IsMeasured (ns : List Node) (heights : List (ℕ × ℕ)) : Type 0 where
   pub right : (m h : ℕ) → number_of m heights ≡ Some h → IsHeight ns m h
-  pub closed : (m c : ℕ) → has_number heights m ≡ true → has c (items_at ns m) ≡ true → has_number heights c ≡ true
+  pub closed : (m c : ℕ) → has_number heights m ≡ true → has c (items_at ns m) ≡ true → is_done ns heights c ≡ true
   pub fresh : AllFresh heights
 
 -- a walk of one edge or more leads to a node from each that was begun and isn't measured
@@ -66,7 +75,7 @@ pub record Measures (ns : List Node) (levels : ℕ) (old : List (ℕ × ℕ)) (m
   pub height : IsHeight ns m h
   pub low : h ≤ levels
   pub kept : (k : ℕ) → has_number old k ≡ true → has_number new k ≡ true
-  pub here : has_number new m ≡ true
+  pub here : is_done ns new m ≡ true
   pub led : (k : ℕ) → has_number new k ≡ true → (has_number old k ≡ true) ⊎ (leads levels ns m k ≡ true)
 
 -- a walk of so many edges, of which the first leads to one of these
@@ -90,12 +99,12 @@ pub record MeasuresAll (ns : List Node) (levels : ℕ) (old : List (ℕ × ℕ))
   pub height : IsTop ns items h
   pub low : h ≤ levels
   pub kept : (k : ℕ) → has_number old k ≡ true → has_number new k ≡ true
-  pub each : (c : ℕ) → has c items ≡ true → has_number new c ≡ true
+  pub each : (c : ℕ) → has c items ≡ true → is_done ns new c ≡ true
   pub led : (k : ℕ) → has_number new k ≡ true → (has_number old k ≡ true) ⊎ (leads_in levels ns items k ≡ true)
 
--- the nodes that the root reaches are known, each once, and no walk is too long
+-- the nodes that the root reaches and at which edges start are known, each once, and no walk is too long
 pub record IsReach (ns : List Node) (root : ℕ) (heights : List (ℕ × ℕ)) : Type 0 where
-  pub known : (k : ℕ) → has_number heights k ≡ leads WALK_LIMIT ns root k
+  pub known : (k : ℕ) → is_end (items_at ns k) ≡ false → has_number heights k ≡ leads WALK_LIMIT ns root k
   pub fresh : AllFresh heights
   pub short : has_walk (suc WALK_LIMIT) ns root ≡ false
 
@@ -124,6 +133,17 @@ known_ends ns (pair ∷ pairs) = items_at ns pair.0 ++ known_ends ns pairs
 abbrev pub held_among : List Node → List ℕ → List ℕ
 held_among ns [] = []
 held_among ns (m ∷ ms) = if held_in (slice_get ns m) then m ∷ held_among ns ms else held_among ns ms
+
+-- what is counted of the edges from these nodes to those that stand once, each node when its height came to be known
+abbrev pub counted_for : List Node → List (ℕ × ℕ) → List (ℕ × ℕ)
+counted_for ns [] = []
+counted_for ns (pair ∷ heights) = with_edges (held_among ns (items_at ns pair.0)) (counted_for ns heights)
+
+-- the edges from the nodes that the root reaches were counted, and one more to the root
+pub record IsTally (ns : List Node) (root : ℕ) (counts : List (ℕ × ℕ)) : Type 0 where
+  pub heights : List (ℕ × ℕ)
+  pub reach : IsReach ns root heights
+  pub counted : counts ≡ with_edge root (counted_for ns heights)
 
 -- more than one was counted
 abbrev pub above_one : Option ℕ → Bool

@@ -7,7 +7,6 @@ use Rattle.pickle_value.specs.declared.error.PickleError.{PickleError}
 use Rattle.pickle_value.specs.declared.error.PickleError.TheVariants as errors
 use Rattle.pickle_value.specs.declared.node.Node.{Node}
 use Rattle.pickle_value.specs.declared.node.Node.TheVariants as kinds
-use Rattle.pickle_value.specs.declared.references.Finding.{Finding}
 use Rattle.pickle_value.specs.declared.references.Named.{Named}
 use Rattle.pickle_value.specs.declared.references.Named.TheVariants.{Strong, Weak, Bad}
 use Rattle.pickle_value.specs.declared.state.Item.{Item}
@@ -15,6 +14,11 @@ use Rattle.pickle_value.specs.declared.state.Item.TheVariants.{Value}
 use Rattle.pickle_value.specs.declared.state.State.{State}
 use Rattle.pickle_value.specs.Steps.{step}
 use Rattle.pickle_value.specs.Reading.{Reader, read_from, empty_state}
+
+-- what was read, and the oids so far
+pub record Finding : Type 0 where
+  pub state : State
+  pub oids : List ℕ
 
 -- an oid is eight bytes, the highest first
 abbrev pub oid_in : List ℕ → Named

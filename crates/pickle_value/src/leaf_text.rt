@@ -1,6 +1,6 @@
 //! Texts of leaves, and of numbers in the memo.
 
-ghost use Rattle.std.specs.Prelude.{◌≡◌, ◌≤◌, [], ◌∷◌, ◌++◌, length, IfOk};
+ghost use Rattle.std.specs.Prelude.{◌≡◌, ◌≤◌, [], ◌∷◌, ◌++◌, length, OnOk};
 ghost use Rattle.byteorder.specs.Endian.{little_bytes};
 ghost use Rattle.pickle_value.specs.Spelling.{magnitude_of, fewest, long_text, number_text, counted_text, leaf_text, numbered_text};
 
@@ -41,34 +41,34 @@ fn fewest_bytes(magnitude: u128) -> usize
 }
 
 /// Writes a number that four bytes don't have.
-fn write_long(mut text: Text8, number: i128) -> Result<Text8, AllocError>
-    ensures { IfOk result (λ all. all ≡ text ++ long_text number) }
+fn write_long(text: &mut Text8, number: i128) -> Result<(), AllocError>
+    ensures { OnOk result (text.new ≡ text.old ++ long_text number) }
 {
     let size = fewest_bytes(magnitude(number));
     let mut bytes = [0; 16];
     LittleEndian::write_int128(&mut bytes, number, size);
     text.extend_from_slice(&[0x8a, size as u8])?;
     text.extend_from_slice(&bytes[..size])?;
-    Ok(text)
+    Ok(())
 }
 
 /// Writes a number in its shortest form.
-fn write_number(mut text: Text8, number: i128) -> Result<Text8, AllocError>
-    ensures { IfOk result (λ all. all ≡ text ++ number_text number) }
+fn write_number(text: &mut Text8, number: i128) -> Result<(), AllocError>
+    ensures { OnOk result (text.new ≡ text.old ++ number_text number) }
 {
     if let Ok(byte) = u8::try_from(number) {
         text.extend_from_slice(&[0x4b, byte])?;
-        return Ok(text);
+        return Ok(());
     }
     if let Ok(short) = u16::try_from(number) {
         text.push(0x4d)?;
         text.extend_from_slice(&short.to_le_bytes())?;
-        return Ok(text);
+        return Ok(());
     }
     if let Ok(word) = i32::try_from(number) {
         text.push(0x4a)?;
         text.extend_from_slice(&word.to_le_bytes())?;
-        return Ok(text);
+        return Ok(());
     }
     write_long(text, number)
 }
@@ -82,54 +82,54 @@ fn four_bytes(number: u64) -> [u8; 4]
 }
 
 /// Writes an opcode, the length of bytes, and the bytes. The short opcode has its length in one byte.
-fn write_counted(mut text: Text8, short: u8, long: u8, bytes: &[u8]) -> Result<Text8, AllocError>
-    ensures { IfOk result (λ all. all ≡ text ++ counted_text short long bytes.now) }
+fn write_counted(text: &mut Text8, short: u8, long: u8, bytes: &[u8]) -> Result<(), AllocError>
+    ensures { OnOk result (text.new ≡ text.old ++ counted_text short long bytes.now) }
 {
     if bytes.len() < 256 {
         text.extend_from_slice(&[short, bytes.len() as u8])?;
         text.extend_from_slice(bytes)?;
-        return Ok(text);
+        return Ok(());
     }
     text.push(long)?;
     text.extend_from_slice(&four_bytes(bytes.len() as u64))?;
     text.extend_from_slice(bytes)?;
-    Ok(text)
+    Ok(())
 }
 
 /// Writes an opcode and bytes.
-fn write_bytes(mut text: Text8, byte: u8, bytes: &[u8]) -> Result<Text8, AllocError>
-    ensures { IfOk result (λ all. all ≡ text ++ byte ∷ bytes.now) }
+fn write_bytes(text: &mut Text8, byte: u8, bytes: &[u8]) -> Result<(), AllocError>
+    ensures { OnOk result (text.new ≡ text.old ++ byte ∷ bytes.now) }
 {
     text.push(byte)?;
     text.extend_from_slice(bytes)?;
-    Ok(text)
+    Ok(())
 }
 
 /// Writes a text, with its length before it.
-fn write_text(mut text: Text8, bytes: &[u8]) -> Result<Text8, AllocError>
-    ensures { IfOk result (λ all. all ≡ text ++ 0x58 ∷ (little_bytes 4 (length bytes.now) ++ bytes.now)) }
+fn write_text(text: &mut Text8, bytes: &[u8]) -> Result<(), AllocError>
+    ensures { OnOk result (text.new ≡ text.old ++ 0x58 ∷ (little_bytes 4 (length bytes.now) ++ bytes.now)) }
 {
     text.push(0x58)?;
     text.extend_from_slice(&four_bytes(bytes.len() as u64))?;
     text.extend_from_slice(bytes)?;
-    Ok(text)
+    Ok(())
 }
 
 /// Writes a global, from its two lines.
-fn write_global(mut text: Text8, first: &[u8], second: &[u8]) -> Result<Text8, AllocError>
-    ensures { IfOk result (λ all. all ≡ text ++ 0x63 ∷ (first.now ++ 10 ∷ (second.now ++ 10 ∷ []))) }
+fn write_global(text: &mut Text8, first: &[u8], second: &[u8]) -> Result<(), AllocError>
+    ensures { OnOk result (text.new ≡ text.old ++ 0x63 ∷ (first.now ++ 10 ∷ (second.now ++ 10 ∷ []))) }
 {
     text.push(0x63)?;
     text.extend_from_slice(first)?;
     text.push(10)?;
     text.extend_from_slice(second)?;
     text.push(10)?;
-    Ok(text)
+    Ok(())
 }
 
 /// Writes a node that has no place in the memo.
-pub(crate) fn write_leaf(text: Text8, node: &Node) -> Result<Text8, AllocError>
-    ensures { IfOk result (λ all. all ≡ text ++ leaf_text node.now) }
+pub(crate) fn write_leaf(text: &mut Text8, node: &Node) -> Result<(), AllocError>
+    ensures { OnOk result (text.new ≡ text.old ++ leaf_text node.now) }
 {
     match node {
         Node::None => write_bytes(text, 0x4e, &[]),
@@ -148,18 +148,18 @@ pub(crate) fn write_leaf(text: Text8, node: &Node) -> Result<Text8, AllocError>
 
 /// Writes an opcode with a number of the memo. The short opcode has the number in one byte.
 pub(crate) fn write_numbered(
-    mut text: Text8,
+    text: &mut Text8,
     short: u8,
     long: u8,
     number: u64,
-) -> Result<Text8, AllocError>
-    ensures { IfOk result (λ all. all ≡ text ++ numbered_text short long number) }
+) -> Result<(), AllocError>
+    ensures { OnOk result (text.new ≡ text.old ++ numbered_text short long number) }
 {
     if number < 256 {
         text.extend_from_slice(&[short, number as u8])?;
-        return Ok(text);
+        return Ok(());
     }
     text.push(long)?;
     text.extend_from_slice(&four_bytes(number))?;
-    Ok(text)
+    Ok(())
 }

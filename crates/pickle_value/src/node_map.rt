@@ -1,6 +1,6 @@
 //! Numbers kept by node.
 
-ghost use Rattle.std.specs.Prelude.{◌≡◌, ◌≤◌, ℕ, [], ◌∷◌, ◌==◌, if◌then◌else◌, Some, reverse, length, IfOk};
+ghost use Rattle.std.specs.Prelude.{◌≡◌, ◌≤◌, ℕ, [], ◌∷◌, ◌++◌, ◌==◌, if◌then◌else◌, Some, reverse, length, OnOk, OnErr, IfOk};
 ghost use Rattle.std.specs.Ordering.{nat_cmp};
 ghost use Rattle.std.specs.BTreeMap.{get};
 ghost use Rattle.pickle_value.specs.Numbers.{number_of, kept};
@@ -44,37 +44,33 @@ impl Model for NodeMap {
     ghost invariant = { λ map. (node : ℕ) → kept map.found node ≡ number_of node (reverse map.pairs.items) };
 }
 
-/// A table with no fewer places, which hold what they held.
+/// Gives a table no fewer places, which hold what they held.
 #[tactic(auto, using(crate::proofs::Tables::in_resize))]
-fn with_places(mut table: Vec<Option<u64>>, places: usize) -> Result<Vec<Option<u64>>, AllocError>
-    ensures places { IfOk result (λ more. places ≤ length more.items) }
-    ensures same { IfOk result (λ more. (node : ℕ) → Numbers.number_in more.items node ≡ Numbers.number_in table.items node) }
+fn widen(table: &mut Vec<Option<u64>>, places: usize) -> Result<(), AllocError>
+    ensures places { OnOk result (places ≤ length table.new.items) }
+    ensures same { OnOk result ((node : ℕ) → Numbers.number_in table.new.items node ≡ Numbers.number_in table.old.items node) }
 {
     if places <= table.len() {
-        return Ok(table);
+        return Ok(());
     }
     table.resize(places, None)?;
-    Ok(table)
+    Ok(())
 }
 
-/// A table with a number in the place of a node.
+/// Writes a number in the place of a node.
 #[tactic(auto, using(crate::proofs::Tables::in_set))]
-fn with_number(
-    mut table: Vec<Option<u64>>,
-    node: u32,
-    number: u64,
-) -> Result<Vec<Option<u64>>, AllocError>
-    ensures { IfOk result
-        (λ more. (m : ℕ) → Numbers.number_in more.items m ≡ (if node == m then Some number else Numbers.number_in table.items m)) }
+fn write_number(table: &mut Vec<Option<u64>>, node: u32, number: u64) -> Result<(), AllocError>
+    ensures { OnOk result
+        ((m : ℕ) → Numbers.number_in table.new.items m ≡ (if node == m then Some number else Numbers.number_in table.old.items m)) }
 {
     let place = node as usize;
     if place < table.len() {
         table[place] = Some(number);
-        return Ok(table);
+        return Ok(());
     }
-    let mut more = with_places(table, place + 1)?;
-    more[place] = Some(number);
-    Ok(more)
+    widen(table, place + 1)?;
+    table[place] = Some(number);
+    Ok(())
 }
 
 /// The number in the place of a node.
@@ -96,43 +92,83 @@ fn table_of(
 ) -> Result<Vec<Option<u64>>, AllocError>
     ensures { IfOk result (λ table. (m : ℕ) → Numbers.number_in table.items m ≡ number_of m (reverse pairs.now)) }
 {
-    let mut table = with_places(Vec::new(alloc), places)?;
+    let mut table = Vec::new(alloc);
+    widen(&mut table, places)?;
     for pair in pairs {
-        table = with_number(table, pair.0, pair.1)?;
+        write_number(&mut table, pair.0, pair.1)?;
     }
     Ok(table)
 }
 
-/// One more number is found in a map.
-fn found_in(mut few: BTreeMap<u32, u64>, node: u32, number: u64) -> Result<Found, AllocError>
-    ensures { IfOk result (λ more. (m : ℕ) → kept more m ≡ (if node == m then Some number else get nat_cmp few m)) }
+/// Keeps one more number in a map.
+fn insert_number(few: &mut BTreeMap<u32, u64>, node: u32, number: u64) -> Result<(), AllocError>
+    ensures { OnOk result ((m : ℕ) → get nat_cmp few.new m ≡ (if node == m then Some number else get nat_cmp few.old m)) }
 {
     few.insert(node, number)?;
-    Ok(Found::Few(few))
+    Ok(())
 }
 
-/// One more number is found, in a table once there are many.
+/// The table of these nodes with their numbers, the oldest first, and of one more.
+fn table_with(
+    alloc: Global,
+    pairs: &[(u32, u64)],
+    places: usize,
+    node: u32,
+    number: u64,
+) -> Result<Found, AllocError>
+    ensures { IfOk result (λ more. (m : ℕ) → kept more m ≡ number_of m ((node, number) ∷ reverse pairs.now)) }
+{
+    let mut table = table_of(alloc, pairs, places)?;
+    write_number(&mut table, node, number)?;
+    Ok(Found::Many(table))
+}
+
+/// Keeps one more number, in a table once there are many.
 fn find(
     alloc: Global,
-    found: Found,
+    found: &mut Found,
     pairs: &[(u32, u64)],
     nodes: usize,
     node: u32,
     number: u64,
-) -> Result<Found, AllocError>
-    requires { (m : ℕ) → kept found m ≡ number_of m (reverse pairs.now) }
-    ensures { IfOk result (λ more. (m : ℕ) → kept more m ≡ number_of m ((node, number) ∷ reverse pairs.now)) }
+) -> Result<(), AllocError>
+    requires { (m : ℕ) → kept found.old m ≡ number_of m (reverse pairs.now) }
+    ensures { OnOk result ((m : ℕ) → kept found.new m ≡ number_of m ((node, number) ∷ reverse pairs.now)) }
 {
     match found {
-        Found::Many(table) => Ok(Found::Many(with_number(table, node, number)?)),
+        Found::Many(table) => write_number(table, node, number),
         Found::Few(few) => {
             if pairs.len() < nodes / NODES_FOR_A_NUMBER {
-                return found_in(few, node, number);
+                return insert_number(few, node, number);
             }
-            let table = table_of(alloc, pairs, nodes)?;
-            Ok(Found::Many(with_number(table, node, number)?))
+            *found = table_with(alloc, pairs, nodes, node, number)?;
+            Ok(())
         }
     }
+}
+
+/// Keeps one more number, and the pair of it and its node.
+fn keep(
+    found: &mut Found,
+    pairs: &mut Vec<(u32, u64)>,
+    nodes: usize,
+    node: u32,
+    number: u64,
+) -> Result<(), AllocError>
+    requires { (m : ℕ) → kept found.old m ≡ number_of m (reverse pairs.old.items) }
+    ensures found { OnOk result ((m : ℕ) → kept found.new m ≡ number_of m ((node, number) ∷ reverse pairs.old.items)) }
+    ensures pairs { OnOk result (pairs.new.items ≡ pairs.old.items ++ (node, number) ∷ []) }
+{
+    find(
+        *pairs.allocator(),
+        found,
+        pairs.as_slice(),
+        nodes,
+        node,
+        number,
+    )?;
+    pairs.push((node, number))?;
+    Ok(())
 }
 
 impl NodeMap {
@@ -164,29 +200,17 @@ impl NodeMap {
         self.pairs.len()
     }
 
-    /// The nodes with their numbers, the oldest first.
-    pub fn pairs(&self) -> &[(u32, u64)]
-        ensures { reverse result.now ≡ self.now }
+    /// Keeps one more number, for a node. Where there is no memory, none is left.
+    pub fn push(&mut self, node: u32, number: u64) -> Result<(), AllocError>
+        ensures ok { OnOk result (self.new ≡ (node, number) ∷ self.old) }
+        ensures err { OnErr result (self.new ≡ []) }
     {
-        self.pairs.as_slice()
-    }
-
-    /// The numbers with one more, which is kept for a node.
-    pub fn with(self, node: u32, number: u64) -> Result<NodeMap, AllocError>
-        ensures { IfOk result (λ more. more ≡ (node, number) ∷ self) }
-    {
-        let alloc = *self.pairs.allocator();
-        let NodeMap {
-            found,
-            mut pairs,
-            nodes,
-        } = self;
-        let found = find(alloc, found, pairs.as_slice(), nodes, node, number)?;
-        pairs.push((node, number))?;
-        Ok(NodeMap {
-            found,
-            pairs,
-            nodes,
-        })
+        match keep(&mut self.found, &mut self.pairs, self.nodes, node, number) {
+            Ok(()) => Ok(()),
+            Err(e) => {
+                *self = NodeMap::new(*self.pairs.allocator(), self.nodes);
+                Err(e)
+            }
+        }
     }
 }

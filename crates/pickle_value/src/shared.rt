@@ -1,88 +1,57 @@
 //! Which nodes more than one edge leads to.
 
-ghost use Rattle.std.specs.Prelude.{◌≡◌, [], ◌∷◌, reverse, IfOk};
+ghost use Rattle.std.specs.Prelude.{◌≡◌, [], ◌∷◌, OnOk};
 ghost use Rattle.pickle_value.specs.Parts.{items_in};
-ghost use Rattle.pickle_value.specs.Numbers.{with_edge, with_edges, known_ends, held_among};
+ghost use Rattle.pickle_value.specs.Numbers.{with_edge, with_edges, held_among};
 ghost use Rattle.pickle_value.specs.Numbers;
 
 use crate::node::Node;
 use crate::node_map::NodeMap;
-use crate::parts::{Part, is_held_at, parts_at};
-use std::alloc::{AllocError, Global};
+use crate::parts::{Part, is_held_at};
+use std::alloc::AllocError;
 use zb_ids::ListOf;
 
 /// Counts one more edge to a node. Beyond two none is counted.
-fn count(counts: NodeMap, node: u32) -> Result<NodeMap, AllocError>
-    ensures { IfOk result (λ more. more ≡ with_edge node counts) }
+pub(crate) fn count(counts: &mut NodeMap, node: u32) -> Result<(), AllocError>
+    ensures { OnOk result (counts.new ≡ with_edge node counts.old) }
 {
     match counts.get(node) {
-        None => counts.with(node, 1),
+        None => counts.push(node, 1),
         Some(number) => {
             if number < 2 {
-                return counts.with(node, 2);
+                return counts.push(node, 2);
             }
-            Ok(counts)
+            Ok(())
         }
     }
 }
 
 /// Counts one more edge to a node, if it stands once.
-fn count_held(counts: NodeMap, nodes: &ListOf<Node>, node: u32) -> Result<NodeMap, AllocError>
-    ensures { IfOk result (λ more. more ≡ with_edges (held_among nodes.now (node ∷ [])) counts) }
+fn count_held(counts: &mut NodeMap, nodes: &ListOf<Node>, node: u32) -> Result<(), AllocError>
+    ensures { OnOk result (counts.new ≡ with_edges (held_among nodes.now (node ∷ [])) counts.old) }
 {
     if is_held_at(nodes, node) {
         return count(counts, node);
     }
-    Ok(counts)
+    Ok(())
 }
 
 /// Counts the edges to those items among parts that stand once.
 #[tactic(auto, using(crate::proofs::Counts::held_step))]
-fn count_items(
-    mut counts: NodeMap,
+pub(crate) fn count_items(
+    counts: &mut NodeMap,
     nodes: &ListOf<Node>,
     parts: &[Part],
-) -> Result<NodeMap, AllocError>
-    ensures { IfOk result (λ more. more ≡ with_edges (held_among nodes.now (items_in parts.now)) counts) }
+) -> Result<(), AllocError>
+    ensures { OnOk result (counts.new ≡ with_edges (held_among nodes.now (items_in parts.now)) counts.old) }
 {
     for part in parts {
         match part {
             Part::Byte(_) => {}
-            Part::Item(item) => counts = count_held(counts, nodes, *item)?,
+            Part::Item(item) => count_held(counts, nodes, *item)?,
         }
     }
-    Ok(counts)
-}
-
-/// Counts the edges from these nodes to nodes that stand once.
-#[tactic(auto, using(crate::proofs::Counts::count_step))]
-fn count_all(
-    alloc: Global,
-    mut counts: NodeMap,
-    nodes: &ListOf<Node>,
-    from: &[(u32, u64)],
-) -> Result<NodeMap, AllocError>
-    ensures { IfOk result (λ more. more ≡ with_edges (held_among nodes.now (known_ends nodes.now from.now)) counts) }
-{
-    for pair in from {
-        let parts = parts_at(alloc, nodes, pair.0)?;
-        counts = count_items(counts, nodes, parts.as_slice())?;
-    }
-    Ok(counts)
-}
-
-/// How many edges lead from these nodes to each that stands once, and one more to the root. Beyond two none
-/// is counted.
-pub(crate) fn count_edges(
-    alloc: Global,
-    nodes: &ListOf<Node>,
-    reached: &NodeMap,
-    root: u32,
-) -> Result<NodeMap, AllocError>
-    ensures { IfOk result (λ counts. counts ≡ with_edges (root ∷ held_among nodes.now (known_ends nodes.now (reverse reached.now))) []) }
-{
-    let counts = count(NodeMap::new(alloc, nodes.len()), root)?;
-    count_all(alloc, counts, nodes, reached.pairs())
+    Ok(())
 }
 
 /// Whether more than one edge was counted to a node.

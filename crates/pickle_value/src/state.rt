@@ -3,6 +3,8 @@
 ghost use Rattle.std.specs.Prelude.{◌≡◌, ◌<◌, [], ◌∷◌, ◌++◌, length, slice_get, slice_set, OnOk, OnErr, IfOk, MatchOption, Some, None};
 ghost use Rattle.std.specs.Option.{option_copied};
 ghost use Rattle.pickle_value.specs.Stacks.{top_of, above_mark, top_values, values_taken, put_at, node_at};
+ghost use Rattle.pickle_value.specs.Shapes.{none_passed, to_mark, past_top, values_passed};
+ghost use Rattle.pickle_value.specs.Shapes;
 
 use crate::node::Node;
 use std::alloc::{AllocError, AllocFailed, Global};
@@ -26,6 +28,15 @@ pub(crate) enum Extent {
     Marked,
     /// So many from the top.
     Top(usize),
+}
+
+/// What was seen of values that were passed on the stack.
+#[derive(Clone, Copy)]
+pub(crate) struct Passed {
+    /// Whether they were an odd number.
+    pub odd: bool,
+    /// The lowest of them.
+    pub lowest: Option<u32>,
 }
 
 /// The stack. Contracts see it with its top first.
@@ -121,6 +132,63 @@ impl Stack {
             Extent::Marked => self.pop_to_mark(alloc),
             Extent::Top(count) => self.pop_values(alloc, count),
         }
+    }
+
+    /// Passes the values above the last mark, and the mark.
+    fn pass_to_mark(&mut self) -> Option<Passed>
+        ensures { MatchOption result (to_mark self.old none_passed ≡ None) (λ seen. to_mark self.old none_passed ≡ Some (seen, self.new)) }
+    {
+        let mut seen = Passed {
+            odd: false,
+            lowest: None,
+        };
+        while let Some(item) = self.pop() {
+            match item {
+                Item::Mark => return Some(seen),
+                Item::Value(value) => seen = one_passed(seen, value),
+            }
+        }
+        None
+    }
+
+    /// Passes so many values from the top.
+    #[tactic(auto, using(crate::proofs::Stacks::passed_one))]
+    fn pass_values(&mut self, count: usize) -> Option<Passed>
+        ensures { MatchOption result (past_top count self.old none_passed ≡ None) (λ seen. past_top count self.old none_passed ≡ Some (seen, self.new)) }
+    {
+        let mut seen = Passed {
+            odd: false,
+            lowest: None,
+        };
+        let mut left = count;
+        while left > 0 {
+            let Some(Item::Value(value)) = self.pop() else {
+                return None;
+            };
+            seen = one_passed(seen, value);
+            left -= 1;
+        }
+        Some(seen)
+    }
+
+    /// Passes the values of an extent, or answers `None` where there are too few.
+    pub fn pass(&mut self, extent: Extent) -> Option<Passed>
+        ensures { MatchOption result (values_passed extent self.old ≡ None) (λ seen. values_passed extent self.old ≡ Some (seen, self.new)) }
+    {
+        match extent {
+            Extent::Marked => self.pass_to_mark(),
+            Extent::Top(count) => self.pass_values(count),
+        }
+    }
+}
+
+/// What is seen once one more value is passed, below the others.
+fn one_passed(seen: Passed, value: u32) -> Passed
+    ensures { result ≡ Shapes.one_passed seen value }
+{
+    Passed {
+        odd: !seen.odd,
+        lowest: Some(value),
     }
 }
 

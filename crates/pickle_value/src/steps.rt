@@ -233,7 +233,6 @@ fn act(alloc: Global, state: &mut State, token: Token, at: usize) -> Result<(), 
 }
 
 /// What the token at a place, whose argument has these bytes, does.
-/// What the token at a place, whose argument has these bytes, does.
 pub(crate) fn take_step(
     alloc: Global,
     state: &mut State,

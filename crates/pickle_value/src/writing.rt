@@ -1,6 +1,6 @@
 //! Writing graphs.
 
-ghost use Rattle.std.specs.Prelude.{◌≡◌, ◌<◌, ◌+◌, ◌++◌, [], ◌∷◌, length, slice_get, true, IfOk, IfErr};
+ghost use Rattle.std.specs.Prelude.{◌≡◌, ◌<◌, ◌+◌, ◌++◌, [], ◌∷◌, length, slice_get, true, OnOk, IfOk, IfErr};
 ghost use Rattle.pickle_value.specs.declared.error.WriteError.TheVariants.{TooDeep};
 ghost use Rattle.pickle_value.specs.Numbers.{is_many};
 ghost use Rattle.pickle_value.specs.Spelling.{get_text, put_number, parts_piece, piece_of, spelling_of, pickle_text, Writes};
@@ -16,7 +16,7 @@ use crate::node::Node;
 use crate::node_map::NodeMap;
 use crate::parts::{Part, is_held, parts_at};
 use crate::pickle::Pickle;
-use crate::shared::{count_edges, is_many};
+use crate::shared::is_many;
 pub use putting::{PutNumbers, put_numbers};
 use std::alloc::{AllocError, Global};
 use std::marker::Model;
@@ -65,16 +65,13 @@ impl Puts {
         self.numbers.get(node)
     }
 
-    /// The puts with one more.
+    /// Puts one more node. Where there is no memory, none is left.
     #[tactic(auto, using(crate::proofs::Pieces::nodes_length))]
-    fn with(self, node: u32) -> Result<Puts, AllocError>
-        ensures { IfOk result (λ more. more ≡ node ∷ self) }
+    fn push(&mut self, node: u32) -> Result<(), AllocError>
+        ensures { OnOk result (self.new ≡ node ∷ self.old) }
     {
-        let Puts { numbers } = self;
-        let number = numbers.len() as u64;
-        Ok(Puts {
-            numbers: numbers.with(node, number)?,
-        })
+        let number = self.numbers.len() as u64;
+        self.numbers.push(node, number)
     }
 }
 
@@ -86,68 +83,63 @@ pub(crate) struct Writing {
 }
 
 /// Writes a get of a node that was put under a number.
-fn write_get(writing: Writing, number: u64) -> Result<Writing, AllocError>
-    ensures { IfOk result (λ all. all ≡ record writing { text = writing.text ++ get_text number }) }
+fn write_get(writing: &mut Writing, number: u64) -> Result<(), AllocError>
+    ensures { OnOk result (writing.new ≡ record writing.old { text = writing.old.text ++ get_text number }) }
 {
-    let Writing { text, puts } = writing;
-    let text = write_numbered(text, 0x68, 0x6a, number)?;
-    Ok(Writing { text, puts })
+    write_numbered(&mut writing.text, 0x68, 0x6a, number)
 }
 
 /// Writes a put of a node, if it is shared.
-fn write_put(writing: Writing, node: u32, shared: bool) -> Result<Writing, AllocError>
-    ensures { IfOk result (λ all. all ≡ after_put shared node writing) }
+fn write_put(writing: &mut Writing, node: u32, shared: bool) -> Result<(), AllocError>
+    ensures { OnOk result (writing.new ≡ after_put shared node writing.old) }
 {
     if !shared {
-        return Ok(writing);
+        return Ok(());
     }
-    let Writing { text, puts } = writing;
-    let text = write_numbered(text, 0x71, 0x72, puts.len())?;
-    let puts = puts.with(node)?;
-    Ok(Writing { text, puts })
+    let number = writing.puts.len();
+    write_numbered(&mut writing.text, 0x71, 0x72, number)?;
+    writing.puts.push(node)
 }
 
 /// Writes parts, one behind the other.
 #[cycle(writing)]
 fn write_parts(
     alloc: Global,
-    mut writing: Writing,
+    writing: &mut Writing,
     nodes: &ListOf<Node>,
     counts: &NodeMap,
     parts: &[Part],
     levels: u32,
-) -> Result<Writing, AllocError>
-    ensures { IfOk result (λ all. all ≡ with_piece writing (parts_piece (piece_of levels nodes.now (is_many counts.now)) parts.now writing.puts)) }
+) -> Result<(), AllocError>
+    ensures { OnOk result (writing.new ≡ with_piece writing.old (parts_piece (piece_of levels nodes.now (is_many counts.now)) parts.now writing.old.puts)) }
 {
     for part in parts {
         match part {
             Part::Byte(byte) => writing.text.push(*byte)?,
-            Part::Item(item) => {
-                writing = write_node(alloc, writing, nodes, counts, *item, levels)?;
-            }
+            Part::Item(item) => write_node(alloc, writing, nodes, counts, *item, levels)?,
         }
     }
-    Ok(writing)
+    Ok(())
 }
 
 /// Writes a node with items: a get where it was put, else its text, and a put where it is shared.
 #[cycle(writing)]
 fn write_held(
     alloc: Global,
-    writing: Writing,
+    writing: &mut Writing,
     nodes: &ListOf<Node>,
     counts: &NodeMap,
     node: u32,
     levels: u32,
-) -> Result<Writing, AllocError>
-    ensures { IfOk result (λ all. all ≡ with_piece writing (held_at levels nodes.now (is_many counts.now) node writing.puts)) }
+) -> Result<(), AllocError>
+    ensures { OnOk result (writing.new ≡ with_piece writing.old (held_at levels nodes.now (is_many counts.now) node writing.old.puts)) }
 {
     match writing.puts.number(node) {
         Some(number) => write_get(writing, number),
         None => {
             let parts = parts_at(alloc, nodes, node)?;
-            let all = write_parts(alloc, writing, nodes, counts, parts.as_slice(), levels)?;
-            write_put(all, node, is_many(counts, node))
+            write_parts(alloc, writing, nodes, counts, parts.as_slice(), levels)?;
+            write_put(writing, node, is_many(counts, node))
         }
     }
 }
@@ -157,26 +149,24 @@ fn write_held(
 #[tactic(auto, unfolding(crate::specs::Spelling::piece_of))]
 fn write_node(
     alloc: Global,
-    writing: Writing,
+    writing: &mut Writing,
     nodes: &ListOf<Node>,
     counts: &NodeMap,
     node: u32,
     levels: u32,
-) -> Result<Writing, AllocError>
-    ensures { IfOk result (λ all. all ≡ with_piece writing (piece_of levels nodes.now (is_many counts.now) node writing.puts)) }
+) -> Result<(), AllocError>
+    ensures { OnOk result (writing.new ≡ with_piece writing.old (piece_of levels nodes.now (is_many counts.now) node writing.old.puts)) }
 {
     if levels == 0 {
-        return Ok(writing);
+        return Ok(());
     }
     match nodes.get(node as usize) {
-        None => Ok(writing),
+        None => Ok(()),
         Some(found) => {
             if is_held(found) {
                 return write_held(alloc, writing, nodes, counts, node, levels - 1);
             }
-            let Writing { text, puts } = writing;
-            let text = write_leaf(text, found)?;
-            Ok(Writing { text, puts })
+            write_leaf(&mut writing.text, found)
         }
     }
 }
@@ -187,14 +177,13 @@ fn write_root(alloc: Global, nodes: &ListOf<Node>, root: u32) -> Result<Writing,
     ensures ok { IfOk result (λ all. IsRootWritten nodes.now root all) }
     ensures err { IfErr result (λ e. e ≡ TooDeep → has_walk (WALK_LIMIT + 1) nodes.now root ≡ true) }
 {
-    let reached = measure_from(alloc, nodes, root)?;
-    let counts = count_edges(alloc, nodes, &reached, root)?;
-    let empty = Writing {
+    let counts = measure_from(alloc, nodes, root)?;
+    let mut writing = Writing {
         text: Text8::new(alloc),
         puts: Puts::new(alloc, nodes.len()),
     };
-    let all = write_node(alloc, empty, nodes, &counts, root, WALK_LIMIT + 1)?;
-    Ok(all)
+    write_node(alloc, &mut writing, nodes, &counts, root, WALK_LIMIT + 1)?;
+    Ok(writing)
 }
 
 /// The spelling of a node: what [`write_pickle`] writes for it as the root, without PROTO and STOP.
