@@ -1,5 +1,7 @@
 -- The file of a new database stands for its first transaction.
-use Rattle.std.proofs.Common.{◌≡◌, ℕ, zero, suc, ◌<◌, List, [], ◌∷◌, ◌++◌, length, None, refl, sym, ap, subst, ◌∙◌, arith}
+use Rattle.std.proofs.Common.{◌≡◌, ℕ, zero, suc, ◌<◌, ◌-◌, ◌^◌, List, [], ◌∷◌, ◌++◌, length, None, refl, sym, ap, subst, ◌∙◌, arith}
+use Rattle.std.specs.Prelude.{nat_eq}
+use Rattle.std.specs.List.{IsDistinct}
 use Rattle.std.proofs.Math.ListN.{set}
 use Rattle.std.proofs.lemmas.Bool.{lt-ltb}
 use Rattle.std.proofs.lemmas.List.Elements.{All-cons, All-nil}
@@ -7,7 +9,7 @@ use Rattle.zb_ids.specs.Tids.{tid_after}
 use Rattle.zb_model.specs.declared.data.Transaction.{Transaction}
 use Rattle.zb_model.specs.declared.new_transaction.NewTransaction.{NewTransaction}
 use Rattle.zb_model.specs.Creation.{first_transaction}
-use Rattle.zb_model.specs.Voting.{NamesRevision, IsVotable, voted_of}
+use Rattle.zb_model.specs.Voting.{IsFilled, IsVotable, IsWellFormed, NamesRevision, voted_of}
 use Rattle.fs_records.specs.Blocks.{Reached, file_start, magic, block_text, after_block, transaction_of, Begins}
 use Rattle.fs_records.specs.File.{IsReadAs, StandsFor, a_file}
 use Rattle.fs_records.specs.Places.{PlacesKept, Kept, IsIndexOf, places_in}
@@ -30,6 +32,24 @@ votable : (n : ℕ) → IsVotable [] (anew (first_transaction n))
 votable n =
     let new = anew (first_transaction n) in
     record { later = positive n; sound = All-cons (λ c. NamesRevision [] c.oid c.content) _ [] tt (All-nil (λ c. NamesRevision [] c.oid c.content)) }
+
+alone : (oid : ℕ) → IsDistinct nat_eq (oid ∷ [])
+unfolding IsDistinct
+alone oid = (tt, tt)
+
+-- the first transaction as a new one has one change, and short texts
+first_well_formed : (n : ℕ) → tid_after 0 n < 2 ^ 64 - 1 → IsWellFormed (anew (first_transaction n))
+first_well_formed n low = record {
+  tid = low;
+  user = omega arith;
+  description = omega arith;
+  extension = omega arith;
+  distinct = alone 0;
+  filled = All-cons (λ c. IsFilled c.content) _ [] (omega arith) (All-nil (λ c. IsFilled c.content));
+}
+
+pub new_well_formed : (n : ℕ) (t : Transaction) (new : NewTransaction) → t ≡ first_transaction n → t.tid < 2 ^ 64 - 1 → new ≡ anew t → IsWellFormed new
+new_well_formed n t new is low made = subst IsWellFormed (sym (made ∙ ap anew is)) (first_well_formed n (subst (λ (x : Transaction). x.tid < 2 ^ 64 - 1) is low))
 
 nothing_begins : Begins magic file_start
 nothing_begins = record { blocks = []; are = tt; parts = refl; is = refl }

@@ -10,7 +10,7 @@ use Rattle.fs_records.specs.declared.header.DataHeader.{DataHeader}
 use Rattle.fs_records.specs.declared.place.Place.{Place}
 use Rattle.fs_records.specs.Blocks.{Known}
 use Rattle.fs_records.specs.Places.{place_of}
-use Rattle.fs_reading.specs.declared.contents.Source.{Source}
+use Rattle.fs_reading.specs.declared.outline.Source.{Source}
 use Rattle.fs_reading.specs.declared.noted.Noted.{Noted}
 use Rattle.fs_reading.specs.Sizes.{noted_of, IsNotedAt}
 use Rattle.fs_reading.specs.Sources.{IsSource}

@@ -1,7 +1,6 @@
 -- What holds of each transaction that is read, whatever a volume gives. Source: own.
 use Rattle.std.specs.Prelude.{ℕ, ◌<◌, ◌≤◌, List, length, map, All, nat_eq}
-use Rattle.std.specs.List.{AllByRecursion, IsDistinct}
-use Rattle.std.specs.Map.{keys_of}
+use Rattle.std.specs.List.{IsDistinct}
 use Rattle.zb_model.specs.declared.data.Content.{Content}
 use Rattle.zb_model.specs.declared.data.Content.TheVariants.{Held, Absent}
 use Rattle.zb_model.specs.declared.data.Change.{Change}
@@ -11,11 +10,6 @@ use Rattle.zb_model.specs.declared.data.Transaction.{Transaction}
 abbrev pub HasBytes : Content → Type 0
 HasBytes (Held bytes) = 0 < length bytes
 HasBytes Absent = Unit {0}
-
--- objects and their contents, each object once and no record empty
-pub record AreEntries (entries : List (ℕ × Content)) : Type 0 where
-  pub distinct : IsDistinct nat_eq (keys_of entries)
-  pub filled : AllByRecursion (λ e. HasBytes e.1) entries
 
 -- each object is changed once, and no record is empty
 pub record AreFormed (changes : List Change) : Type 0 where

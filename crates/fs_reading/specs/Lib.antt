@@ -11,3 +11,5 @@ pub mod StoreErrors
 pub mod TransactionsStand
 pub mod Sizes
 pub mod Formed
+pub mod Outlines
+pub mod SourceEntries

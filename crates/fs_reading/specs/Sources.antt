@@ -4,7 +4,7 @@ use Rattle.zb_model.specs.declared.data.Content.{Content}
 use Rattle.zb_model.specs.declared.data.Content.TheVariants.{Held, Absent}
 use Rattle.fs_records.specs.declared.place.Place.{Place}
 use Rattle.fs_records.specs.Blocks.{Reached, Begins, is_known}
-use Rattle.fs_reading.specs.declared.contents.Source.{Source}
+use Rattle.fs_reading.specs.declared.outline.Source.{Source}
 
 -- a content stands behind the header of a data record, or is Absent
 abbrev pub IsSource : List ℕ → Content → Option Source → Type 0

@@ -1,6 +1,6 @@
 //! The content of a data record.
 
-ghost use Rattle.std.specs.Prelude.{◌≡◌, ℕ, ◌+◌, ◌≤◌, ◌<◌, ◌^◌, true, length, IfOk, IfSome, OnOk, IsErrOf};
+ghost use Rattle.std.specs.Prelude.{◌≡◌, ℕ, ◌+◌, ◌≤◌, ◌<◌, ◌^◌, true, length, IfOk, OnOk, IsErrOf};
 ghost use Rattle.zb_model.specs.declared.data.Content.{Content};
 ghost use Rattle.zb_base.specs.Counts.{Rose, HasCause};
 ghost use Rattle.fs_records.specs.Blocks.{Reached, Begins, is_known, content_at};
@@ -8,24 +8,17 @@ ghost use Rattle.zb_volume.specs.Disk.{main_bytes};
 ghost use Rattle.fs_reading.specs.Standing.{data_head_at, IsContent};
 ghost use Rattle.fs_reading.specs.Formed.{HasBytes};
 ghost use Rattle.fs_reading.specs.Sources.{IsSource, IsKnownPlace};
+ghost use Rattle.fs_reading.specs.Outlines.{HasLength, StandsWithin, outlined_content};
 ghost use Rattle.fs_reading.specs.declared.errors.ReadError.TheVariants.{ReadFault, Memory};
 
 use crate::errors::ReadError;
 use crate::front::{FRONT, content_in, fill_front, header_in};
+use crate::outline::Source;
 use crate::pieces::{back_pointer_at, bytes_at, data_header_at};
 use fs_records::{DATA_HEADER_LENGTH, DataHeader};
 use std::alloc::Global;
 use zb_model::Content;
 use zb_volume::{StoreFault, Volume};
-
-/// Bytes that stand behind the header of a data record.
-#[derive(Clone, Copy, Debug, PartialEq, Eq)]
-pub(crate) struct Source {
-    /// Where the data record stands.
-    pub(crate) at: u64,
-    /// How many bytes there are.
-    pub(crate) length: u64,
-}
 
 /// Where the content of the data record with this header at a place stands, or `None` where there
 /// is none. A back pointer that doesn't lead to an earlier place is none.
@@ -39,7 +32,7 @@ pub(crate) fn source_of<V: Volume>(
     requires some { V.told → (content : Content) × IsContent (main_bytes (V.log volume.old)) content at }
     ensures value { V.told → (content : Content) → IsContent (main_bytes (V.log volume.old)) content at
         → IfOk result (λ source. IsSource (main_bytes (V.log volume.old)) content source) }
-    ensures filled { IfOk result (λ source. IfSome source (λ s. 0 < s.length)) }
+    ensures filled { IfOk result (λ source. HasLength source) }
     ensures same { V.log volume.new ≡ V.log volume.old }
     ensures cause { HasCause (V.read_faults volume.old) (V.read_faults volume.new) result }
     ensures uncounted { OnOk result (V.read_faults volume.new ≡ V.read_faults volume.old) }
@@ -59,6 +52,32 @@ pub(crate) fn source_of<V: Volume>(
         place = back;
     }
     Ok(Some(Source { at: place, length }))
+}
+
+/// The content whose bytes stand there, or that the object isn't there.
+pub(crate) fn content_from<V: Volume>(
+    alloc: Global,
+    volume: &mut V,
+    source: Option<Source>,
+) -> Result<Content, ReadError>
+    requires short { V.told → length (main_bytes (V.log volume.old)) < 2 ^ 64 }
+    requires within { V.told → StandsWithin (main_bytes (V.log volume.old)) source }
+    ensures value { V.told → IfOk result (λ content.
+        content ≡ outlined_content (main_bytes (V.log volume.old)) source) }
+    ensures filled { HasLength source → IfOk result (λ content. HasBytes content) }
+    ensures same { V.log volume.new ≡ V.log volume.old }
+    ensures later { V.read_faults volume.old ≤ V.read_faults volume.new }
+    ensures fault { IsErrOf result ReadFault
+        → Rose (V.read_faults volume.old) (V.read_faults volume.new) }
+    ensures memory { IsErrOf result Memory → V.read_faults volume.new ≡ V.read_faults volume.old }
+    ensures uncounted { OnOk result (V.read_faults volume.new ≡ V.read_faults volume.old) }
+    ensures write_faults { V.write_faults volume.new ≡ V.write_faults volume.old }
+{
+    let Some(source) = source else {
+        return Ok(Content::Absent);
+    };
+    let from = source.at.saturating_add(DATA_HEADER_LENGTH as u64);
+    Ok(Content::Held(bytes_at(alloc, volume, from, source.length as usize)?))
 }
 
 /// The content of the data record with this header at a place.
@@ -82,11 +101,8 @@ pub(crate) fn content_of<V: Volume>(
     ensures uncounted { OnOk result (V.read_faults volume.new ≡ V.read_faults volume.old) }
     ensures write_faults { V.write_faults volume.new ≡ V.write_faults volume.old }
 {
-    let Some(source) = source_of(volume, at, header)? else {
-        return Ok(Content::Absent);
-    };
-    let from = source.at.saturating_add(DATA_HEADER_LENGTH as u64);
-    Ok(Content::Held(bytes_at(alloc, volume, from, source.length as usize)?))
+    let source = source_of(volume, at, header)?;
+    content_from(alloc, volume, source)
 }
 
 /// The content of the data record at a place where one of an object was read: its bytes, or those

@@ -1,7 +1,7 @@
 //! What stands in the open file of a database, read from its volume: the list of transactions that
-//! may be undone, the history of an object, the content of a record, a transaction whole, and what is
-//! looked up by places: an object's revision below a front, the transaction with a tid, and the first
-//! one above a tid.
+//! may be undone, the history of an object, the content of a record, a transaction whole or by the
+//! places of its contents, and what is looked up by places: an object's revision below a front, the
+//! transaction with a tid, and the first one above a tid.
 #![tactic(auto)]
 
 mod contents;
@@ -10,6 +10,8 @@ mod front;
 mod history;
 mod lookups;
 mod noted;
+mod outline;
+mod outlining;
 mod pieces;
 mod sizes;
 mod transaction;
@@ -19,6 +21,8 @@ pub use contents::read_content;
 pub use errors::ReadError;
 pub use history::{read_history, read_history_at};
 pub use lookups::{read_before, read_first_after, read_transaction_with};
+pub use outline::{Outline, OutlinedChange, Source};
+pub use outlining::read_outline_at;
 pub use transaction::{read_transaction, read_transaction_at};
 pub use undo_log::{read_undo_log, read_undo_log_at};
 

@@ -5,3 +5,4 @@ pub mod Voting
 pub mod Written
 pub mod Keeping
 pub mod RecordsInRow
+pub mod Slots

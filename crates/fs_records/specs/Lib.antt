@@ -26,6 +26,7 @@ pub mod WriteLaws
 pub mod StatusLaws
 pub mod Writing
 pub mod HeldPlaces
+pub mod Slots
 pub mod SizeLaws
 pub mod Placing
 pub mod PlacingLaws

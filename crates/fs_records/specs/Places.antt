@@ -16,7 +16,7 @@ pub record PlacesKept : Type 0 where
   pub places : List Place
   pub room : ℕ
 
--- what an index is seen as: the places of each object's records, in the order of the objects' first ones, and the places of the transactions; and for how many objects more and for how many transactions more there is room
+-- what an index is seen as: the places of the records of each object that has some, and the places of the transactions; and for how many objects more and for how many transactions more there is room
 pub record Kept : Type 0 where
   pub entries : List (ℕ × PlacesKept)
   pub transactions : List Place

@@ -1,14 +1,14 @@
 -- The places of the data records of a new transaction, and what was read with it, for the proofs of those who write one.
 use Rattle.std.proofs.Common.{◌≡◌, ℕ, suc, ◌+◌, ◌<◌, ◌≤◌, Bool, true, false, cond, eqb, List, [], ◌∷◌, ◌++◌, length, map, filter, All, refl, sym, ap, ◌∙◌, append_assoc, arith}
 use Rattle.std.proofs.lemmas.List.{length-append, append-nil, map-append}
-use Rattle.std.proofs.lemmas.List.Elements.{filter-append, All-weaker, All-nil, All-cons, All-append, All-head, All-tail}
+use Rattle.std.proofs.lemmas.List.Elements.{filter-append, All-weaker, All-nil, All-cons, All-head, All-tail}
 use Rattle.zb_model.specs.declared.new_transaction.NewContent.{NewContent}
 use Rattle.zb_model.specs.declared.new_transaction.NewContent.TheVariants as new_content
 use Rattle.zb_model.specs.declared.new_transaction.NewChange.{NewChange}
 use Rattle.zb_model.specs.declared.new_transaction.NewTransaction.{NewTransaction}
 use Rattle.fs_records.specs.declared.place.Place.{Place}
 use Rattle.fs_records.specs.declared.place.Placed.{Placed}
-use Rattle.fs_records.specs.Blocks.{Known, Written, record_text, records_text, records_from, block_text, with_record, with_records, known_at}
+use Rattle.fs_records.specs.Blocks.{Known, Written, records_text, records_from, block_text, with_record, with_records, known_at}
 use Rattle.fs_records.specs.Places.{PlacesKept, place_of, is_of, is_placed, placed_of, places_of, places_in, oids_placed, IsBefore, AreBefore, StandBehind}
 use Rattle.fs_records.specs.WriteLaws.{length-block_text}
 use Rattle.fs_records.specs.Writing.{written_of, block_of, record_size, records_size}

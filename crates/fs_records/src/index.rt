@@ -1,14 +1,11 @@
 //! Where the records of each object stand, and where the transactions do.
 
-ghost use Rattle.std.specs.Prelude.{◌≡◌, ◌==◌, ◌+◌, ◌<◌, ◌≤◌, ℕ, false, nat_eq, List, [], ◌∷◌, ◌++◌, All, length, IsOk, OnOk, OnErr};
+ghost use Rattle.std.specs.Prelude.{◌≡◌, ◌≤◌, ℕ, nat_eq, [], ◌∷◌, ◌++◌, All, length, OnOk, OnErr};
 ghost use Rattle.std.specs.List.{IsDistinct};
-ghost use Rattle.std.specs.Map.{lookup};
-ghost use Rattle.indexmap.specs.IndexMap.{spare};
 ghost use Rattle.fs_records.specs.Places.{places_in, placed_of, oids_placed, Added, HasRoomIn, HasRoomFor, IsBefore, IsRising, StandBehind};
 
+use crate::objects::Objects;
 use crate::place::{Place, Placed};
-use crate::places::Places;
-use indexmap::IndexMap;
 use std::alloc::{AllocError, Global};
 use std::marker::Model;
 use zb_ids::Oid;
@@ -19,14 +16,12 @@ use zb_ids::Oid;
 /// for how many more there is room.
 #[derive(Drop)]
 pub struct Index {
-    alloc: Global,
-    objects: IndexMap<Oid, Places>,
+    objects: Objects,
     transactions: Vec<Place>,
 }
 
 impl Model for Index {
     ghost use Rattle.std.specs.Prelude.{◌-◌, vec_len, vec_capacity};
-    ghost use Rattle.indexmap.specs.IndexMap.{spare};
     ghost use Rattle.fs_records.specs.Places.{Kept, IsSoundIndex};
 
     ghost Value = { Kept };
@@ -34,77 +29,36 @@ impl Model for Index {
     ghost view = { λ index. record {
       entries = index.objects.entries;
       transactions = index.transactions.items;
-      objects_room = spare index.objects;
+      objects_room = index.objects.room;
       transactions_room = vec_capacity index.transactions - vec_len index.transactions;
     } };
 
     ghost invariant = { λ index. IsSoundIndex index.objects.entries index.transactions.items };
 }
 
-/// Puts a place at the end of an object's places. Where there is room for it, it takes no memory.
-fn keep(
-    alloc: Global,
-    objects: &mut IndexMap<Oid, Places>,
-    oid: Oid,
-    place: Place,
-) -> Result<(), AllocError>
-    ensures ok { OnOk result (Added objects.old.entries oid place objects.new.entries) }
-    ensures err { OnErr result ((o : ℕ) →
-        places_in objects.new.entries o ≡ places_in objects.old.entries o) }
-    ensures succeeds { 0 < spare objects.old → HasRoomIn objects.old.entries oid → IsOk result }
-    ensures others { (o : ℕ) → (o == oid) ≡ false → HasRoomIn objects.old.entries o
-        → HasRoomIn objects.new.entries o }
-    ensures room { spare objects.old ≤ spare objects.new + 1 }
-{
-    if let Some(places) = objects.get_mut(&oid) {
-        return places.push(alloc, place);
-    }
-    objects.insert(oid, Places::one(place))?;
-    Ok(())
-}
-
-/// Makes room for one place more of an object that has places. The one error is want of memory.
-fn reserve_one(
-    alloc: Global,
-    objects: &mut IndexMap<Oid, Places>,
-    oid: Oid,
-) -> Result<(), AllocError>
-    ensures ok { OnOk result (HasRoomIn objects.new.entries oid) }
-    ensures others { (o : ℕ) → HasRoomIn objects.old.entries o → HasRoomIn objects.new.entries o }
-    ensures places { (o : ℕ) → places_in objects.new.entries o ≡ places_in objects.old.entries o }
-{
-    match objects.get_mut(&oid) {
-        None => Ok(()),
-        Some(places) => places.reserve(alloc),
-    }
-}
-
 /// Makes room for one place more of each of these objects that has places. The one error is want of
 /// memory.
-fn reserve_each(
-    alloc: Global,
-    objects: &mut IndexMap<Oid, Places>,
-    placed: &[Placed],
-) -> Result<(), AllocError>
+fn reserve_each(objects: &mut Objects, placed: &[Placed]) -> Result<(), AllocError>
     ensures ok { OnOk result (All (λ p. HasRoomIn objects.new.entries p.oid) placed.now) }
     ensures places { (o : ℕ) → places_in objects.new.entries o ≡ places_in objects.old.entries o }
 {
     'each: for one in placed {
-        reserve_one(alloc, objects, one.oid)?;
+        objects.make_room(one.oid, placed.len());
+        objects.reserve_one(one.oid)?;
     }
     Ok(())
 }
 
 /// Puts each of these places at the end of its object's places. It takes no memory.
-fn keep_each(alloc: Global, objects: &mut IndexMap<Oid, Places>, placed: &[Placed])
-    requires objects { length placed.now ≤ spare objects.old }
+fn keep_each(objects: &mut Objects, placed: &[Placed])
+    requires objects { length placed.now ≤ objects.old.room }
     requires each { All (λ p. HasRoomIn objects.old.entries p.oid) placed.now }
     requires distinct { IsDistinct nat_eq (oids_placed placed.now) }
     ensures { (o : ℕ) → places_in objects.new.entries o
         ≡ places_in objects.old.entries o ++ placed_of o placed.now }
 {
     'each: for one in placed {
-        let _ = keep(alloc, objects, one.oid, one.place);
+        let _ = objects.keep(one.oid, one.place);
     }
 }
 
@@ -115,8 +69,7 @@ impl Index {
         ensures transactions { result.transactions ≡ [] }
     {
         Index {
-            alloc,
-            objects: IndexMap::new(alloc),
+            objects: Objects::new(alloc),
             transactions: Vec::new(alloc),
         }
     }
@@ -126,10 +79,7 @@ impl Index {
         ensures value { result.now ≡ places_in self.now.entries oid }
         ensures rising { IsRising result.now }
     {
-        match self.objects.get(&oid) {
-            None => &[],
-            Some(places) => places.as_slice(),
-        }
+        self.objects.places(oid)
     }
 
     /// The places of the transactions, in order. It takes no memory.
@@ -149,7 +99,8 @@ impl Index {
             places_in self.new.entries o ≡ places_in self.old.entries o) }
         ensures transactions { self.new.transactions ≡ self.old.transactions }
     {
-        keep(self.alloc, &mut self.objects, oid, place)
+        self.objects.make_room(oid, 1);
+        self.objects.keep(oid, place)
     }
 
     /// Keeps the place of a transaction, which stands behind all that are kept. The one error is
@@ -172,7 +123,7 @@ impl Index {
         ensures transactions { self.new.transactions ≡ self.old.transactions }
     {
         self.transactions.reserve(1)?;
-        reserve_each(self.alloc, &mut self.objects, placed)?;
+        reserve_each(&mut self.objects, placed)?;
         self.objects.reserve(placed.len())
     }
 
@@ -189,6 +140,6 @@ impl Index {
         ensures transactions { self.new.transactions ≡ self.old.transactions ++ start ∷ [] }
     {
         let _ = self.transactions.push(start);
-        keep_each(self.alloc, &mut self.objects, placed);
+        keep_each(&mut self.objects, placed);
     }
 }

@@ -6,6 +6,7 @@ mod field;
 mod header;
 mod index;
 mod laws;
+mod objects;
 mod place;
 mod places;
 mod placing;

@@ -1,15 +1,16 @@
 //! The places of one object.
 
-ghost use Rattle.std.specs.Prelude.{◌≡◌, ◌<◌, ◌≤◌, ◌++◌, ◌∷◌, [], vec_len, vec_capacity, IsOk, IfOk, OnOk, OnErr};
+ghost use Rattle.std.specs.Prelude.{◌≡◌, ◌<◌, ◌≤◌, ◌++◌, ◌∷◌, ◌==◌, [], length, vec_len, vec_capacity, IsOk, IfOk, OnOk, OnErr};
 ghost use Rattle.fs_records.specs.Places.{PlacesKept};
 
 use crate::place::Place;
 use std::alloc::{AllocError, Global};
 use std::marker::Model;
 
-/// One place in itself, or several on the heap. Most objects have one revision.
+/// None, one place in itself, or several on the heap. Most objects have one revision.
 #[derive(Drop)]
 enum Held {
+    Nothing,
     One([Place; 1]),
     Several(Vec<Place>),
 }
@@ -41,6 +42,22 @@ fn on_heap(alloc: Global, place: Place) -> Result<Vec<Place>, AllocError>
 }
 
 impl Places {
+    /// No place, without room for any. It takes no memory.
+    pub(crate) fn none() -> Places
+        ensures { result ≡ record { places = []; room = 0 } }
+    {
+        Places {
+            held: Held::Nothing,
+        }
+    }
+
+    /// Whether there is no place.
+    pub(crate) fn is_empty(&self) -> bool
+        ensures { result ≡ (length self.now.places == 0) }
+    {
+        self.as_slice().is_empty()
+    }
+
     /// One place, without room for more. It takes no memory.
     pub(crate) fn one(place: Place) -> Places
         ensures { result ≡ record { places = place ∷ []; room = 0 } }
@@ -55,6 +72,7 @@ impl Places {
         ensures { result.now ≡ self.now.places }
     {
         match &self.held {
+            Held::Nothing => &[],
             Held::One(place) => place.as_slice(),
             Held::Several(places) => places.as_slice(),
         }
@@ -68,6 +86,10 @@ impl Places {
         ensures room { self.old.room ≤ self.new.room }
     {
         match &mut self.held {
+            Held::Nothing => {
+                self.held = Held::Several(Vec::with_capacity(alloc, 1)?);
+                Ok(())
+            }
             Held::One(first) => {
                 let places = on_heap(alloc, first[0])?;
                 self.held = Held::Several(places);
@@ -85,6 +107,7 @@ impl Places {
         ensures succeeds { 0 < self.old.room → IsOk result }
     {
         match &mut self.held {
+            Held::Nothing => self.held = Held::One([place]),
             Held::One(first) => {
                 let mut places = on_heap(alloc, first[0])?;
                 places.push(place)?;

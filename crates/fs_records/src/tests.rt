@@ -146,22 +146,57 @@ fn keep_all(index: &mut Index, records: &[(u64, Place)]) -> Result<bool, AllocEr
     Ok(true)
 }
 
+// Objects that lie near are in a list, those that lie far in a table; a hole of the list is filled.
 #[test]
 fn an_index_keeps_places(rt: HostRuntime) -> Result<(), Fail> {
     let mut index = Index::new(rt.alloc());
+    let far = 1 << 40;
     let records = [
         (5, place(1, 27)),
         (5, place(1, 80)),
         (0, place(7, 160)),
         (5, place(7, 210)),
+        (far, place(8, 300)),
+        (u64::MAX, place(8, 350)),
+        (3, place(8, 400)),
+        (far, place(9, 500)),
+        (70, place(9, 550)),
+        (200, place(9, 600)),
+        (3, place(9, 650)),
     ];
     assert!(rt; keep_all(&mut index, &records)?);
     let start = place(1, 4);
     assert!(rt; is_behind(index.transactions(), start));
     index.push_transaction(start)?;
-    let of_5 = [place(1, 27), place(1, 80), place(7, 210)];
-    assert_eq!(rt; index.places(Oid(5)), of_5.as_slice());
-    assert_eq!(rt; index.places(Oid(1)).len(), 0);
+    let rows: [(u64, &[Place]); 9] = [
+        (0, &[place(7, 160)]),
+        (1, &[]),
+        (3, &[place(8, 400), place(9, 650)]),
+        (5, &[place(1, 27), place(1, 80), place(7, 210)]),
+        (70, &[place(9, 550)]),
+        (200, &[place(9, 600)]),
+        (far, &[place(8, 300), place(9, 500)]),
+        (far + 1, &[]),
+        (u64::MAX, &[place(8, 350)]),
+    ];
+    for (oid, places) in rows {
+        assert_eq!(rt; index.places(Oid(oid)), places, "object {oid}");
+    }
     assert_eq!(rt; index.transactions(), [place(1, 4)].as_slice());
+    Ok(())
+}
+
+// 300 objects in an order that leaps, each once.
+#[test]
+fn an_index_keeps_objects_in_any_order(rt: HostRuntime) -> Result<(), Fail> {
+    let mut index = Index::new(rt.alloc());
+    for n in 0..300_u64 {
+        let record = [(n * 77 % 300, place(1, 100 + n))];
+        assert!(rt; keep_all(&mut index, &record)?);
+    }
+    for n in 0..300_u64 {
+        let places = index.places(Oid(n * 77 % 300));
+        assert_eq!(rt; places, [place(1, 100 + n)].as_slice(), "the {n}th");
+    }
     Ok(())
 }

@@ -15,6 +15,7 @@ use fs_records::{
 use zb_volume::{StoreFault, Volume};
 
 /// The header of a transaction at a place.
+#[inline(always)]
 pub fn header_at<V: Volume, const N: usize>(
     volume: &mut V,
     window: &mut Window<N>,
@@ -40,6 +41,7 @@ pub fn header_at<V: Volume, const N: usize>(
 }
 
 /// The header of a data record at a place.
+#[inline(always)]
 pub fn data_header_at<V: Volume, const N: usize>(
     volume: &mut V,
     window: &mut Window<N>,
@@ -67,6 +69,7 @@ pub fn data_header_at<V: Volume, const N: usize>(
 
 /// The number in the 8 bytes that stand n bytes behind a place. The window stays where it is.
 #[tactic(auto, unfolding(fs_records::specs::Numbers::number_in))]
+#[inline(always)]
 pub fn number_behind<V: Volume, const N: usize>(
     volume: &mut V,
     window: &mut Window<N>,

@@ -57,6 +57,7 @@ impl Ahead {
     }
 
     /// Whether the n bytes at a place are held.
+    #[inline(always)]
     fn covers(&self, at: u64, n: usize) -> bool
         ensures covers { result ≡ true → Covers self.now.at self.now.count at n }
         ensures within { result ≡ true → self.now.count ≤ 128 }
@@ -68,6 +69,7 @@ impl Ahead {
     }
 
     /// Holds the bytes at a place, of which there are `room`, as many as there is room for.
+    #[inline(never)]
     fn fill<V: Volume>(&mut self, volume: &mut V, at: u64, room: u64) -> Result<(), StoreFault>
         requires within { V.told → at + room ≤ length (main_bytes (V.log volume.old)) }
         ensures holds { V.told →
@@ -91,6 +93,7 @@ impl Ahead {
     }
 
     /// The n bytes at a place, which are held.
+    #[inline(always)]
     fn piece(&self, at: u64, n: usize) -> &[u8]
         requires covers { Covers self.now.at self.now.count at n }
         requires within { self.now.count ≤ 128 }
@@ -134,6 +137,7 @@ impl<const N: usize> Window<N> {
     }
 
     /// Whether the n bytes at a place are held.
+    #[inline(always)]
     fn covers(&self, at: u64, n: usize) -> bool
         ensures { result ≡ true → Covers self.now.at self.now.count at n }
     {
@@ -174,6 +178,7 @@ impl<const N: usize> Window<N> {
     }
 
     /// The n bytes at a place, which are held.
+    #[inline(always)]
     fn piece(&self, at: u64, n: usize) -> &[u8]
         requires { Covers self.now.at self.now.count at n }
         ensures bytes { result.now ≡ take n (drop (at - self.now.at) self.now.held) }
@@ -185,6 +190,7 @@ impl<const N: usize> Window<N> {
     }
 
     /// Fills `out` with the bytes at a place.
+    #[inline(always)]
     pub fn read<V: Volume>(
         &mut self,
         volume: &mut V,
@@ -219,6 +225,7 @@ impl<const N: usize> Window<N> {
 
     /// Fills `out` with the bytes at a place, and keeps what it holds, wherever that is: where it
     /// doesn't hold them, they are read with a few that stand behind them.
+    #[inline(always)]
     pub fn peek<V: Volume>(
         &mut self,
         volume: &mut V,

@@ -1,4 +1,8 @@
+pub mod Stays
 pub mod Searches
+pub mod Appendings
+pub mod Outlines
+pub mod Texts
 pub mod Renewed
 pub mod Wholes
 pub mod Grown

@@ -8,11 +8,6 @@ use Rattle.std.proofs.lemmas.List.Sums.{sum_by-append}
 use Rattle.std.proofs.lemmas.Option.{slice_get_read}
 use Rattle.std.specs.Ordering.{nat_cmp}
 use Rattle.std.specs.FinSet.{FinSet}
-use Rattle.zb_volume.specs.declared.areas.Area.{Area}
-use Rattle.zb_volume.specs.Calls.{Event}
-use Rattle.zb_volume.specs.Disk.{Disk, disk, seen}
-use Rattle.zb_volume.specs.Moments.{StaysAs, here}
-use Rattle.zb_volume.specs.Runs.{along_now, joined, weaker}
 use Rattle.zb_model.specs.declared.data.Transaction.{Transaction}
 use Rattle.zb_model.specs.Database.{IsDatabase, newest_tid}
 use Rattle.zb_model.specs.Packing.{packed_by, packed_one}
@@ -30,22 +25,6 @@ use Rattle.pack_copy.specs.Filtering.{left_by}
 use Rattle.pack_copy.specs.UpTo.{Ends, IsAllOrMore, IsBelowNext, IsCopiedUpTo, IsCountUpTo, IsSomeLeft}
 use Rattle.pack_copy.proofs.Fronts.{database_rises, front_is, gone_over, later, left_more, left_next, left_parts, newest_same, some_left, tid_kept}
 use Rattle.pack_copy.proofs.Lefts.{left_is, source_begins, source_list}
-
--- ---- what stays
-
--- where no call was made
-pub stays_same : (a : Area) (old new : List Event) → new ≡ old → StaysAs a old new
-stays_same a old new same = subst (λ (l : List Event). StaysAs a old l) (sym same) (here refl)
-
--- an area that stays reads as it did
-pub seen_same : (a : Area) (old new : List Event) → StaysAs a old new → seen new a ≡ seen old a
-seen_same a old new stays = ap (λ (d : Disk). d.now) (along_now (λ l. disk l a ≡ disk old a) old new stays)
-
--- one run after another
-pub stays_join : (a : Area) (old mid new : List Event) → StaysAs a old mid → StaysAs a mid new → StaysAs a old new
-stays_join a old mid new first rest =
-    let same : disk mid a ≡ disk old a = along_now (λ l. disk l a ≡ disk old a) old mid first in
-    joined (λ l. disk l a ≡ disk old a) old mid new first (weaker (λ l. disk l a ≡ disk mid a) (λ l. disk l a ≡ disk old a) mid new (λ l is. is ∙ same) rest)
 
 -- ---- answers
 

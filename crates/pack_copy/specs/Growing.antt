@@ -2,21 +2,11 @@
 use Rattle.std.specs.Prelude.{◌≡◌, ℕ, ◌+◌, ◌<◌, ◌^◌, ◌++◌, ◌∷◌, [], Bool, List, All, length, map, nat_eq}
 use Rattle.std.specs.List.{IsDistinct}
 use Rattle.zb_model.specs.declared.data.Transaction.{Transaction}
-use Rattle.zb_model.specs.declared.new_transaction.NewTransaction.{NewTransaction}
-use Rattle.fs_records.specs.Blocks.{block_text, records_from}
 use Rattle.fs_records.specs.Places.{HasRoomFor, oids_placed, placed_of, places_in}
-use Rattle.fs_records.specs.Placing.{placed_from}
 use Rattle.fs_records.specs.PlacingLaws.{IsRecordOf}
-use Rattle.fs_records.specs.Writing.{block_of}
 use Rattle.fs_recovery.specs.Numbers.{AreNumbersOf, total_of}
 use Rattle.pack_copy.specs.declared.ready.Ready.{Ready}
 use Rattle.pack_copy.specs.Copying.{CopyKept}
-
--- the text and the places of a new transaction with this status behind the file on Side
-pub record IsReady (c : CopyKept) (new : NewTransaction) (status : ℕ) (ready : Ready) : Type 0 where
-  pub text_is : ready.text ≡ block_text c.end (block_of status c.index.entries new)
-  pub records_are : ready.records ≡ placed_from new.tid (records_from c.end (block_of status c.index.entries new)) new.changes
-  pub limit : c.end + length ready.text < 2 ^ 63
 
 -- there is room for its places and its numbers
 pub record HasRoomToKeep (c : CopyKept) (ready : Ready) : Type 0 where
@@ -36,15 +26,15 @@ pub record IsSame (old new : CopyKept) : Type 0 where
 
 -- its data records stand between the end of the file on Side and its own, one of each object
 pub record StandsNext (c : CopyKept) (tid : ℕ) (ready : Ready) : Type 0 where
-  pub some : 0 < length ready.text
-  pub limit : c.end + length ready.text < 2 ^ 63
+  pub some : c.end < ready.end
+  pub limit : ready.end < 2 ^ 63
   pub distinct : IsDistinct nat_eq (oids_placed ready.records)
-  pub records : All (IsRecordOf tid c.end (c.end + length ready.text)) ready.records
+  pub records : All (IsRecordOf tid c.end ready.end) ready.records
 
 -- what is known of Side with it
 pub record IsWith (old new : CopyKept) (tid : ℕ) (packed : Bool) (ready : Ready) : Type 0 where
   pub same : new.tid ≡ old.tid
-  pub end : new.end ≡ old.end + length ready.text
+  pub end : new.end ≡ ready.end
   pub places : (oid : ℕ) → places_in new.index.entries oid ≡ places_in old.index.entries oid ++ placed_of oid ready.records
   pub starts : new.index.transactions ≡ old.index.transactions ++ record { serial = tid; at = old.end } ∷ []
   pub counted : (list : List Transaction) (t : Transaction) → t.tid ≡ tid → t.packed ≡ packed → map (λ c. c.oid) t.changes ≡ oids_placed ready.records

@@ -1,8 +1,10 @@
+pub mod Appending
 pub mod CopiedLaws
 pub mod Copying
 pub mod Filtering
 pub mod Growing
 pub mod InFull
 pub mod Counting
+pub mod Outlined
 pub mod UpTo
 pub mod Renewing

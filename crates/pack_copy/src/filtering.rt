@@ -1,14 +1,14 @@
 //! What a pack leaves of a transaction.
 
 ghost use Rattle.std.specs.Prelude.{◌≡◌, filter, IfSome};
-ghost use Rattle.zb_model.specs.Packing.{is_held};
 ghost use Rattle.fs_records.specs.Places.{IsRising};
-ghost use Rattle.fs_reading.specs.Formed.{AreFormed, IsFormed};
-ghost use Rattle.pack_copy.specs.Filtering.{left_by, serial_among, stays_by};
+ghost use Rattle.fs_reading.specs.Outlines.{AreOutlined, IsOutline};
+ghost use Rattle.pack_copy.specs.Filtering.{left_in, serial_among, stays_in};
 
+use fs_reading::{Outline, OutlinedChange};
 use fs_records::{Index, Place};
 use zb_ids::{ListOf, Tid};
-use zb_model::{Change, Content, OidSet, Transaction};
+use zb_model::OidSet;
 
 /// The serial of the last of these places up to a tid, or 0 where there is none.
 fn serial_among(places: &[Place], tid: Tid) -> Tid
@@ -22,21 +22,11 @@ fn serial_among(places: &[Place], tid: Tid) -> Tid
     places[n - 1].serial
 }
 
-/// Whether a record is there.
-fn is_held(content: &Content) -> bool
-    ensures { result ≡ is_held content.now }
-{
-    match content {
-        Content::Held(_) => true,
-        Content::Absent => false,
-    }
-}
-
 /// Whether a change of the transaction with the number `of`, which is up to the tid, stays.
-fn stays(from: &Index, tid: Tid, keep: &OidSet, of: Tid, change: &Change) -> bool
-    ensures { result ≡ stays_by tid keep.now from.now.entries of change.now }
+fn stays(from: &Index, tid: Tid, keep: &OidSet, of: Tid, change: &OutlinedChange) -> bool
+    ensures { result ≡ stays_in tid keep.now from.now.entries of change.now }
 {
-    is_held(&change.content)
+    change.source.is_some()
         && keep.contains(change.oid)
         && serial_among(from.places(change.oid), tid) == of
 }
@@ -47,11 +37,11 @@ fn changes_left(
     tid: Tid,
     keep: &OidSet,
     of: Tid,
-    changes: ListOf<Change>,
-) -> ListOf<Change>
-    requires { AreFormed changes }
-    ensures value { result ≡ filter (stays_by tid keep.now from.now.entries of) changes }
-    ensures formed { AreFormed result }
+    changes: ListOf<OutlinedChange>,
+) -> ListOf<OutlinedChange>
+    requires { AreOutlined changes }
+    ensures value { result ≡ filter (stays_in tid keep.now from.now.entries of) changes }
+    ensures formed { AreOutlined result }
 {
     let mut left = changes.into_vec();
     left.retain(|change| stays(from, tid, keep, of, change));
@@ -60,33 +50,28 @@ fn changes_left(
 
 /// What is left of a transaction of the file with this index, packed up to a tid, where just these
 /// objects are kept: a later one whole. It takes no memory.
-pub(crate) fn left_of(
-    from: &Index,
-    tid: Tid,
-    keep: &OidSet,
-    transaction: Transaction,
-) -> Option<Transaction>
-    requires { IsFormed transaction }
-    ensures value { result ≡ left_by tid keep.now from.now.entries transaction }
-    ensures formed { IfSome result (λ x. IsFormed x) }
-    ensures same { IfSome result (λ x. x.tid ≡ transaction.tid) }
+pub(crate) fn left_of(from: &Index, tid: Tid, keep: &OidSet, outline: Outline) -> Option<Outline>
+    requires { IsOutline outline }
+    ensures value { result ≡ left_in tid keep.now from.now.entries outline }
+    ensures formed { IfSome result (λ left. IsOutline left) }
+    ensures same { IfSome result (λ left. left.tid ≡ outline.tid) }
 {
-    if transaction.tid > tid {
-        return Some(transaction);
+    if outline.tid > tid {
+        return Some(outline);
     }
-    let Transaction {
+    let Outline {
         tid: of,
         packed: _,
         user,
         description,
         extension,
         changes,
-    } = transaction;
+    } = outline;
     let left = changes_left(from, tid, keep, of, changes);
     if left.is_empty() {
         return None;
     }
-    Some(Transaction {
+    Some(Outline {
         tid: of,
         packed: true,
         user,

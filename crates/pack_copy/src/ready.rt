@@ -1,13 +1,13 @@
-//! A transaction as it is to stand behind the file on Side.
+//! Where a transaction is to stand behind the file on Side.
 
 use fs_records::Placed;
-use zb_ids::{ListOf, Text8};
+use zb_ids::ListOf;
 
 /// A transaction that is to stand behind the file on Side.
 #[derive(Debug, Drop)]
 pub struct Ready {
-    /// Its text.
-    pub text: Text8,
     /// Where its data records are to stand, in their order.
     pub records: ListOf<Placed>,
+    /// Where it is to end.
+    pub end: u64,
 }

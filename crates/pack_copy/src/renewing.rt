@@ -3,23 +3,11 @@
 ghost use Rattle.std.specs.Prelude.{◌≡◌, map, IfOk};
 ghost use Rattle.zb_model.specs.Voting.{IsWellFormed};
 ghost use Rattle.fs_reading.specs.Formed.{IsFormed};
-ghost use Rattle.pack_copy.specs.Renewing.{anew, change_anew, content_anew, status_of};
+ghost use Rattle.pack_copy.specs.Renewing.{anew, change_anew, content_anew};
 
-use fs_records::{COMMITTED, PACKED};
 use std::alloc::{AllocError, Global};
 use zb_ids::ListOf;
 use zb_model::{Change, Content, NewChange, NewContent, NewTransaction, Transaction};
-
-/// The status of a transaction in a file.
-pub(crate) fn status_of(transaction: &Transaction) -> u8
-    ensures { result ≡ status_of transaction.now }
-{
-    if transaction.packed {
-        PACKED
-    } else {
-        COMMITTED
-    }
-}
 
 /// A content in full.
 fn content_anew(content: Content) -> NewContent

@@ -3,6 +3,8 @@
 
 ghost use Rattle.std.specs.Prelude.{◌-◌, ◌^◌, ◌<◌, All, IsTrue};
 
+mod pieces;
+
 use super::*;
 use fs_records::Place;
 use fs_recovery::{OpenError, Opened, open_main};

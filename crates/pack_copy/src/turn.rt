@@ -4,7 +4,6 @@ ghost use Rattle.std.specs.Prelude.{◌≡◌, ℕ, ◌+◌, ◌-◌, ◌≤◌,
 ghost use Rattle.zb_volume.specs.declared.areas.Area.{Area};
 ghost use Rattle.zb_volume.specs.Disk.{seen};
 ghost use Rattle.zb_volume.specs.Moments.{StaysAs};
-ghost use Rattle.zb_model.specs.declared.data.Transaction.{Transaction};
 ghost use Rattle.zb_model.specs.Packing.{packed_by};
 ghost use Rattle.zb_model.specs.Packs.{IsCopyTurn, IsPrefixOf, change_count, changes_a_turn};
 ghost use Rattle.fs_records.specs.Listed.{listed, reached_in};
@@ -12,35 +11,36 @@ ghost use Rattle.fs_records.specs.Places.{IsRising};
 ghost use Rattle.fs_records.specs.Blocks.{Reached, Begins};
 ghost use Rattle.fs_reading.specs.Main.{IsStart, IsStartOf};
 ghost use Rattle.fs_recovery.specs.Opens.{newest_kept};
-ghost use Rattle.fs_reading.specs.Formed.{IsFormed};
+ghost use Rattle.fs_reading.specs.Outlines.{AllStandWithin, IsOutline, outlined_transaction};
 ghost use Rattle.pack_copy.specs.Copying.{IsCopied, IsSource, copied_in};
 ghost use Rattle.pack_copy.specs.UpTo.{Ends, GoesOn, IsBelowNext, IsCopiedUpTo, IsCountUpTo};
 ghost use Rattle.pack_copy.specs.InFull.{full_file};
 ghost use Rattle.pack_copy.specs.Counting.{IsCopyCounted};
 
+use crate::buffer::Buffer;
 use crate::filtering::left_of;
 use crate::growing::append;
 use crate::state::CopyState;
-use fs_reading::read_transaction_at;
+use fs_reading::{Outline, read_outline_at};
 use fs_records::{Index, Place};
 use std::alloc::Global;
 use zb_ids::Tid;
-use zb_model::{Copied, OidSet, StoreError, Transaction};
+use zb_model::{Copied, OidSet, StoreError};
 use zb_volume::{Area, Volume};
 
-/// A transaction with this number.
-fn with_tid(transaction: Transaction, tid: Tid) -> Transaction
-    ensures { result ≡ record transaction { tid = tid } }
+/// An outline with this number.
+fn with_tid(outline: Outline, tid: Tid) -> Outline
+    ensures { result ≡ record outline { tid = tid } }
 {
-    let Transaction {
+    let Outline {
         tid: _,
         packed,
         user,
         description,
         extension,
         changes,
-    } = transaction;
-    Transaction {
+    } = outline;
+    Outline {
         tid,
         packed,
         user,
@@ -50,25 +50,24 @@ fn with_tid(transaction: Transaction, tid: Tid) -> Transaction
     }
 }
 
-/// The transaction at a place of Main, whole, with the number that its place has.
-fn read_at<V: Volume>(
-    alloc: Global,
-    volume: &mut V,
-    start: Place,
-) -> Result<Transaction, StoreError>
+/// The outline of the transaction at a place of Main, with the number that its place has.
+fn read_at<V: Volume>(alloc: Global, volume: &mut V, start: Place) -> Result<Outline, StoreError>
     requires { V.told → IsStart (seen (V.log volume.old) Area.Main) start }
     ensures transaction { V.told → (reached : Reached) (number : ℕ)
         → Begins (seen (V.log volume.old) Area.Main) reached → IsStartOf reached number start
-        → IfOk result (λ t. slice_get reached.list number ≡ Some t) }
-    ensures formed { IfOk result (λ t. IsFormed t) }
-    ensures tid { IfOk result (λ t. t.tid ≡ start.serial) }
+        → IfOk result (λ outline. slice_get reached.list number
+        ≡ Some (outlined_transaction (seen (V.log volume.old) Area.Main) outline)) }
+    ensures within { V.told → IfOk result (λ outline.
+        AllStandWithin (seen (V.log volume.old) Area.Main) outline.changes) }
+    ensures formed { IfOk result (λ outline. IsOutline outline) }
+    ensures tid { IfOk result (λ outline. outline.tid ≡ start.serial) }
     ensures same { V.log volume.new ≡ V.log volume.old }
     ensures counts { IsCopyCounted (V.read_faults volume.old) (V.read_faults volume.new)
         (V.write_faults volume.old) (V.write_faults volume.new) result }
 {
     let tid = start.serial;
-    let transaction = read_transaction_at(alloc, volume, start)?;
-    Ok(with_tid(transaction, tid))
+    let outline = read_outline_at(alloc, volume, start)?;
+    Ok(with_tid(outline, tid))
 }
 
 /// How many changes a turn copies at least, where something is left behind it.
@@ -100,6 +99,7 @@ fn is_over(extent: Extent, changes: u64) -> bool
 fn copy_one<V: Volume>(
     alloc: Global,
     volume: &mut V,
+    buffer: &mut Buffer,
     from: &Index,
     to: &mut CopyState,
     keep: &OidSet,
@@ -127,13 +127,13 @@ fn copy_one<V: Volume>(
     ensures counts { IsCopyCounted (V.read_faults volume.old) (V.read_faults volume.new)
         (V.write_faults volume.old) (V.write_faults volume.new) result }
 {
-    let transaction = read_at(alloc, volume, start)?;
-    match left_of(from, to.tid, keep, transaction) {
+    let outline = read_at(alloc, volume, start)?;
+    match left_of(from, to.tid, keep, outline) {
         Some(left) => {
             if enough {
                 return Ok(false);
             }
-            append(alloc, volume, to, left)?;
+            append(alloc, volume, buffer, to, &left)?;
             Ok(true)
         }
         None => Ok(true),
@@ -167,11 +167,12 @@ fn copy_from<V: Volume>(
     ensures counts { IsCopyCounted (V.read_faults volume.old) (V.read_faults volume.new)
         (V.write_faults volume.old) (V.write_faults volume.new) result }
 {
+    let mut buffer = Buffer::new(alloc)?;
     let starts = from.transactions();
     let rest = &starts[first..];
     'copy: for start in rest {
         let enough = is_over(extent, to.changes());
-        let over = copy_one(alloc, volume, from, to, keep, *start, enough)?;
+        let over = copy_one(alloc, volume, &mut buffer, from, to, keep, *start, enough)?;
         if !over {
             return Ok(false);
         }
@@ -194,8 +195,8 @@ fn count_up_to(starts: &[Place], tid: Tid) -> usize
 ///
 /// With an error Side may hold anything, and the copy is to be dropped: `StoreFault` comes only where a
 /// write failed, `ReadFault` only where a read did, and `Memory` where neither did, also where Side would
-/// be longer than 2^63 - 1 bytes. Memory is that of the index and of one transaction at a time. Main is
-/// as it was at every moment.
+/// be longer than 2^63 - 1 bytes. Memory is that of the index, of the outline of one transaction at a
+/// time, and of 64 KiB through which its contents go. Main is as it was at every moment.
 pub fn copy_turn<V: Volume>(
     alloc: Global,
     volume: &mut V,

@@ -6,7 +6,7 @@ use Rattle.fs_records.specs.Blocks.{block_text}
 use Rattle.fs_records.specs.Writing.{block_of}
 use Rattle.pack_copy.specs.Renewing.{anew}
 use Rattle.file_store.specs.First.{file_with}
-use Rattle.file_store.proofs.Creating.{Nexts, text_behind_16, committed_is, first_stands}
+use Rattle.file_store.proofs.Creating.{Nexts, text_behind_16, committed_is, first_stands, new_well_formed}
 use Rattle.file_store.proofs.first.first_file.Goals as goal
 use Rattle.fs_records.specs.Places.{PlacesKept}
 
@@ -22,6 +22,10 @@ text_is c =
 
 file_is : (c : goal.After-drop-new-5) → c.in_ok-file.file ≡ file_with (first_by (stamp_number c.args.clock))
 file_is c = c.in_ok-file.ensures ∙ committed_is (first_by (stamp_number c.args.clock)) c.in_ok-vote.vote _ (text_is c) refl
+
+pub write_transaction-requires-clause-well_formed : goal.write_transaction-requires-clause-well_formed
+write_transaction-requires-clause-well_formed c =
+    new_well_formed (stamp_number c.args.clock) _ _ c.in_ok-first_transaction.ensures.value c.in_ok-first_transaction.ensures.bound c.in_ok-new.ensures.value
 
 pub committed-requires : goal.committed-requires
 committed-requires c = subst (λ (xs : List ℕ). 16 < length xs) (sym c.in_ok-vote.ensures.text) (text_behind_16 99 c.new-index.result c.in_ok-new.new)

@@ -10,7 +10,8 @@ use Rattle.fs_reading.specs.Main.{IsStartOf}
 use Rattle.pack_copy.specs.CopiedLaws.{copied_counts}
 use Rattle.pack_copy.specs.Copying.{CopyKept, IsSource}
 use Rattle.pack_copy.specs.UpTo.{GoesOn, IsBelowNext, IsCopiedUpTo}
-use Rattle.pack_copy.proofs.Turns.{all_gone, next_above, seen_same, start_is, stays_join}
+use Rattle.pack_copy.proofs.Stays.{seen_same, stays_join}
+use Rattle.pack_copy.proofs.Turns.{all_gone, next_above, start_is}
 use Rattle.pack_copy.proofs.turn.copy_from.Goals as goal
 use Rattle.pack_copy.proofs.turn.copy_from.Goals.{In_ok-over}
 
@@ -63,7 +64,7 @@ copy-preserved g c =
       main = λ told. stays_join Main _ _ _ (c.copy.invariant.main told) (c.copy_one.ensures.main told);
       up_to = λ told.
           subst (λ (n : ℕ). IsCopiedUpTo (listed main) (seen (g.V.Volume.log c.copy_one.new.volume) Side) c.copy_one.new.to c.args.keep.now n) after
-          (subst (λ (b : Bool). GoesOn (listed main) (seen (g.V.Volume.log c.copy_one.new.volume) Side) c.copy_one.new.to c.args.keep.now (c.args.first + c.copy.start-index) b) c.if-not-over.false (next g c.before told));
+          (subst (λ (b : Bool). GoesOn (listed main) (seen (g.V.Volume.log c.copy_one.new.volume) Side) c.copy_one.new.to c.args.keep.now (c.args.first + c.copy.start-index) b) c.if-not-over.false (next g (goal.at.copy-preserved g c).In_ok-over told));
       above = next_above c.transactions-starts.result.now c.args.from.now.transactions c.args.first c.copy.start-index (newest_kept c.copy_one.new.to.index) c.start-item.result c.transactions-starts.ensures.value c.transactions-starts.ensures.rising c.copy-test.true c.start-item.is c.in_ok-over.ensures.newest;
       tid = c.copy_one.ensures.tid ∙ c.copy.invariant.tid;
       counts = record {
@@ -80,7 +81,7 @@ returns-then-not-over-clause-ends g c = λ told.
       more = c.copy.start-index;
       up_to = subst (λ (k : CopyKept). IsCopiedUpTo (listed main) (seen (g.V.Volume.log c.copy_one.new.volume) Side) k c.args.keep.now (c.args.first + c.copy.start-index)) (sym still.1)
           (subst (λ (l : List Event). IsCopiedUpTo (listed main) (seen l Side) c.copy.to c.args.keep.now (c.args.first + c.copy.start-index)) (sym still.0) (c.copy.invariant.up_to told));
-      end = subst (λ (b : Bool). GoesOn (listed main) (seen (g.V.Volume.log c.copy_one.new.volume) Side) c.copy_one.new.to c.args.keep.now (c.args.first + c.copy.start-index) b) c.if-not-over.true (next g c.before told);
+      end = subst (λ (b : Bool). GoesOn (listed main) (seen (g.V.Volume.log c.copy_one.new.volume) Side) c.copy_one.new.to c.args.keep.now (c.args.first + c.copy.start-index) b) c.if-not-over.true (next g (goal.at.returns-then-not-over-clause-ends g c).In_ok-over told);
     }
 
 pub returns-then-not-over-clause-turn : goal.returns-then-not-over-clause-turn
@@ -98,3 +99,6 @@ returns-clause-ends g c = λ told. record {
   up_to = c.copy.invariant.up_to told;
   end = all_gone c.transactions-starts.result.now c.args.from.now.transactions c.args.first c.copy.start-index c.transactions-starts.ensures.value c.requires.within c.copy-test.false c.copy.auto.start-index-end;
 }
+
+pub returns-in_err-buffer-clause-main : goal.returns-in_err-buffer-clause-main
+returns-in_err-buffer-clause-main g c = λ told. here refl

@@ -1,0 +1,21 @@
+use Rattle.std.proofs.Common.{◌≡◌, ◌-◌, List}
+use Rattle.fs_records.specs.Blocks.{Known}
+use Rattle.zb_volume.specs.Disk.{main_bytes}
+use Rattle.fs_reading.specs.ChangesStand.{RecordsBetween}
+use Rattle.fs_reading.specs.SourceEntries.{AreSources, EntriesWithin, entries_from}
+use Rattle.fs_reading.proofs.Between.{StandsFrom}
+use Rattle.fs_reading.proofs.outlining.sources_between.Given as goal
+
+abbrev pub invariant-loop-place : goal.invariant-loop-place
+invariant-loop-place g l = record {
+  same : g.V.Volume.log l.volume ≡ g.V.Volume.log l.fn.volume;
+  reads : g.V.Volume.read_faults l.volume ≡ g.V.Volume.read_faults l.fn.volume;
+  writes : g.V.Volume.write_faults l.volume ≡ g.V.Volume.write_faults l.fn.volume;
+  rest : g.V.Volume.told → (ks : List Known) → RecordsBetween (main_bytes (g.V.Volume.log l.fn.volume)) l.fn.from l.fn.end ks
+      → StandsFrom (main_bytes (g.V.Volume.log l.fn.volume)) l.place l.fn.end (entries_from (main_bytes (g.V.Volume.log l.fn.volume)) l.entries.entries) ks;
+  within : g.V.Volume.told → EntriesWithin (main_bytes (g.V.Volume.log l.fn.volume)) l.entries.entries;
+  formed : AreSources l.entries.entries;
+}
+
+abbrev pub decreases-loop-place : goal.decreases-loop-place
+decreases-loop-place g l = l.end - l.place

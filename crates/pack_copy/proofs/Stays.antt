@@ -1,0 +1,21 @@
+-- An area that no call is about stays as it is.
+use Rattle.std.proofs.Common.{◌≡◌, List, refl, sym, ap, subst, ◌∙◌}
+use Rattle.zb_volume.specs.declared.areas.Area.{Area}
+use Rattle.zb_volume.specs.Calls.{Event}
+use Rattle.zb_volume.specs.Disk.{Disk, disk, seen}
+use Rattle.zb_volume.specs.Moments.{StaysAs, here}
+use Rattle.zb_volume.specs.Runs.{along_now, joined, weaker}
+
+-- where no call was made
+pub stays_same : (a : Area) (old new : List Event) → new ≡ old → StaysAs a old new
+stays_same a old new same = subst (λ (l : List Event). StaysAs a old l) (sym same) (here refl)
+
+-- an area that stays reads as it did
+pub seen_same : (a : Area) (old new : List Event) → StaysAs a old new → seen new a ≡ seen old a
+seen_same a old new stays = ap (λ (d : Disk). d.now) (along_now (λ l. disk l a ≡ disk old a) old new stays)
+
+-- one run after another
+pub stays_join : (a : Area) (old mid new : List Event) → StaysAs a old mid → StaysAs a mid new → StaysAs a old new
+stays_join a old mid new first rest =
+    let same : disk mid a ≡ disk old a = along_now (λ l. disk l a ≡ disk old a) old mid first in
+    joined (λ l. disk l a ≡ disk old a) old mid new first (weaker (λ l. disk l a ≡ disk mid a) (λ l. disk l a ≡ disk old a) mid new (λ l is. is ∙ same) rest)

@@ -1,0 +1,6 @@
+use Rattle.std.proofs.Common.{refl}
+use Rattle.zb_volume.specs.Moments.{here}
+use Rattle.pack_copy.proofs.buffer.Buffer.make_room.Goals as goal
+
+pub returns-then-self-lt-PIECE-clause-main : goal.returns-then-self-lt-PIECE-clause-main
+returns-then-self-lt-PIECE-clause-main g c = λ told. here refl

@@ -1,0 +1,221 @@
+//! The text of an outlined transaction is written behind Side.
+
+ghost use Rattle.std.specs.Prelude.{◌≡◌, ◌+◌, ◌<◌, ◌^◌, ◌++◌, ◌-◌, length, map, if◌then◌else◌, OnOk};
+ghost use Rattle.std.specs.List.{AllByRecursion, last_or};
+ghost use Rattle.zb_volume.specs.declared.areas.Area.{Area};
+ghost use Rattle.zb_volume.specs.Disk.{main_bytes, seen};
+ghost use Rattle.zb_volume.specs.Moments.{StaysAs};
+ghost use Rattle.zb_base.specs.Bytes.{AreBytes};
+ghost use Rattle.fs_records.specs.Blocks.{block_text, payload_text, record_text, records_text};
+ghost use Rattle.fs_records.specs.HeaderLaws.{IsDataHeader};
+ghost use Rattle.fs_records.specs.Headers.{header_text};
+ghost use Rattle.fs_records.specs.Numbers.{number};
+ghost use Rattle.fs_records.specs.Writing.{HasRoom, at_or_0};
+ghost use Rattle.fs_reading.specs.Outlines.{AllStandWithin, IsOutline, StandsWithin, outlined_content};
+ghost use Rattle.pack_copy.specs.Appending.{IsAppended, IsAtEnd};
+ghost use Rattle.pack_copy.specs.Counting.{IsCopyCounted};
+ghost use Rattle.pack_copy.specs.Outlined.{block_in, end_in, record_in, records_begin, source_length};
+ghost use Rattle.pack_copy.specs.InFull.{full_payload};
+
+use crate::buffer::Buffer;
+use fs_reading::{Outline, OutlinedChange, Source};
+use fs_records::{
+    COMMITTED, DATA_HEADER_LENGTH, DataHeader, Header, Index, PACKED, Place, write_data_header,
+    write_header,
+};
+use zb_ids::Tid;
+use zb_model::StoreError;
+use zb_volume::{Area, Volume};
+
+/// The status of a transaction in a file.
+fn status_of(packed: bool) -> u8
+    ensures { result ≡ if packed then 112 else 32 }
+{
+    if packed { PACKED } else { COMMITTED }
+}
+
+/// Where the last of these places is, or 0 where there is none.
+#[tactic(auto, using(zb_base::specs::Lists::last_or_get))]
+fn newest(places: &[Place]) -> u64
+    ensures { result ≡ at_or_0 (last_or None places.now) }
+{
+    match places.last() {
+        None => 0,
+        Some(place) => place.at,
+    }
+}
+
+/// A number in 8 bytes, the highest first.
+#[tactic(auto, unfolding(fs_records::specs::Numbers::number))]
+fn number_bytes(value: u64) -> [u8; 8]
+    ensures { result ≡ number 8 value }
+{
+    value.to_be_bytes()
+}
+
+/// A data record's numbers fit into their fields.
+fn is_data_header(header: DataHeader)
+    ensures { IsDataHeader header }
+{}
+
+/// The length in the header of a content's data record, which is 0 before a back pointer.
+fn length_of(source: Option<Source>) -> u64
+    ensures { result ≡ source_length source }
+{
+    match source {
+        Some(source) => source.length,
+        None => 0,
+    }
+}
+
+/// Puts a content in full into the buffer, and that an object isn't there as back pointer 0.
+fn put_payload<V: Volume>(
+    volume: &mut V,
+    buffer: &mut Buffer,
+    source: Option<Source>,
+) -> Result<(), StoreError>
+    requires end { V.told → IsAtEnd (V.log volume.old) buffer.old }
+    requires short { V.told → length (main_bytes (V.log volume.old)) < 2 ^ 64 }
+    requires within { V.told → StandsWithin (main_bytes (V.log volume.old)) source }
+    ensures appended { V.told → OnOk result
+        (IsAppended (V.log volume.old) buffer.old (V.log volume.new) buffer.new
+        (payload_text (full_payload (outlined_content (main_bytes (V.log volume.old)) source)))) }
+    ensures main { V.told → StaysAs Area.Main (V.log volume.old) (V.log volume.new) }
+    ensures counts { IsCopyCounted (V.read_faults volume.old) (V.read_faults volume.new)
+        (V.write_faults volume.old) (V.write_faults volume.new) result }
+{
+    match source {
+        Some(source) => {
+            let from = source.at.saturating_add(DATA_HEADER_LENGTH as u64);
+            buffer.put_main(volume, from, source.length)
+        }
+        None => buffer.put(volume, &number_bytes(0)),
+    }
+}
+
+/// Puts the data record of a change into the buffer, for a transaction with this number at this place.
+fn put_record<V: Volume>(
+    volume: &mut V,
+    buffer: &mut Buffer,
+    places: &Index,
+    tid: Tid,
+    at: u64,
+    change: &OutlinedChange,
+) -> Result<(), StoreError>
+    requires end { V.told → IsAtEnd (V.log volume.old) buffer.old }
+    requires short { V.told → length (main_bytes (V.log volume.old)) < 2 ^ 64 }
+    requires within { V.told → StandsWithin (main_bytes (V.log volume.old)) change.now.source }
+    ensures appended { V.told → OnOk result
+        (IsAppended (V.log volume.old) buffer.old (V.log volume.new) buffer.new
+        (record_text at tid (record_in places.now.entries (main_bytes (V.log volume.old)) change.now))) }
+    ensures room { V.told → OnOk result
+        (HasRoom (record_in places.now.entries (main_bytes (V.log volume.old)) change.now)) }
+    ensures main { V.told → StaysAs Area.Main (V.log volume.old) (V.log volume.new) }
+    ensures counts { IsCopyCounted (V.read_faults volume.old) (V.read_faults volume.new)
+        (V.write_faults volume.old) (V.write_faults volume.new) result }
+{
+    let header = DataHeader {
+        oid: change.oid,
+        tid,
+        previous: newest(places.places(change.oid)),
+        transaction: at,
+        version: 0,
+        length: length_of(change.source),
+    };
+    is_data_header(header);
+    buffer.put(volume, &write_data_header(&header))?;
+    put_payload(volume, buffer, change.source)
+}
+
+/// Puts the data records of some changes into the buffer, one behind another.
+fn put_records<V: Volume>(
+    volume: &mut V,
+    buffer: &mut Buffer,
+    places: &Index,
+    tid: Tid,
+    at: u64,
+    changes: &[OutlinedChange],
+) -> Result<(), StoreError>
+    requires end { V.told → IsAtEnd (V.log volume.old) buffer.old }
+    requires short { V.told → length (main_bytes (V.log volume.old)) < 2 ^ 64 }
+    requires within { V.told → AllStandWithin (main_bytes (V.log volume.old)) changes.now }
+    ensures appended { V.told → OnOk result
+        (IsAppended (V.log volume.old) buffer.old (V.log volume.new) buffer.new (records_text at tid
+        (map (record_in places.now.entries (main_bytes (V.log volume.old))) changes.now))) }
+    ensures room { V.told → OnOk result (AllByRecursion HasRoom
+        (map (record_in places.now.entries (main_bytes (V.log volume.old))) changes.now)) }
+    ensures main { V.told → StaysAs Area.Main (V.log volume.old) (V.log volume.new) }
+    ensures counts { IsCopyCounted (V.read_faults volume.old) (V.read_faults volume.new)
+        (V.write_faults volume.old) (V.write_faults volume.new) result }
+{
+    'record: for change in changes {
+        put_record(volume, buffer, places, tid, at, change)?;
+    }
+    Ok(())
+}
+
+/// Puts a header and the three texts of a transaction into the buffer.
+fn put_head<V: Volume>(
+    volume: &mut V,
+    buffer: &mut Buffer,
+    header: &Header,
+    outline: &Outline,
+) -> Result<(), StoreError>
+    requires { V.told → IsAtEnd (V.log volume.old) buffer.old }
+    ensures appended { V.told → OnOk result
+        (IsAppended (V.log volume.old) buffer.old (V.log volume.new) buffer.new
+        (header_text header.now
+        ++ (outline.now.user ++ (outline.now.description ++ outline.now.extension)))) }
+    ensures main { V.told → StaysAs Area.Main (V.log volume.old) (V.log volume.new) }
+    ensures counts { IsCopyCounted (V.read_faults volume.old) (V.read_faults volume.new)
+        (V.write_faults volume.old) (V.write_faults volume.new) result }
+{
+    buffer.put(volume, &write_header(header))?;
+    buffer.put(volume, outline.user.as_slice())?;
+    buffer.put(volume, outline.description.as_slice())?;
+    buffer.put(volume, outline.extension.as_slice())
+}
+
+/// Writes the text of an outlined transaction behind Side, where it stands from `at` to `end`, by the
+/// index of what stands there: its header, its texts, the data record of each change with its content in
+/// full, and its length once more. The contents go from Main to Side through the buffer.
+pub(crate) fn write_block<V: Volume>(
+    volume: &mut V,
+    buffer: &mut Buffer,
+    places: &Index,
+    at: u64,
+    end: u64,
+    outline: &Outline,
+) -> Result<(), StoreError>
+    requires outline { IsOutline outline.now }
+    requires end { end ≡ end_in (records_begin at outline.now) outline.now.changes + 8 }
+    requires side { V.told → at ≡ length (seen (V.log volume.old) Area.Side) }
+    requires short { V.told → length (main_bytes (V.log volume.old)) < 2 ^ 64 }
+    requires within { V.told → AllStandWithin (main_bytes (V.log volume.old)) outline.now.changes }
+    ensures text { V.told → OnOk result (seen (V.log volume.new) Area.Side
+        ≡ seen (V.log volume.old) Area.Side
+        ++ block_text at (block_in places.now.entries (main_bytes (V.log volume.old)) outline.now)) }
+    ensures fits { V.told → OnOk result (AreBytes
+        (block_text at (block_in places.now.entries (main_bytes (V.log volume.old)) outline.now))) }
+    ensures room { V.told → OnOk result (AllByRecursion HasRoom
+        (map (record_in places.now.entries (main_bytes (V.log volume.old))) outline.now.changes)) }
+    ensures main { V.told → StaysAs Area.Main (V.log volume.old) (V.log volume.new) }
+    ensures counts { IsCopyCounted (V.read_faults volume.old) (V.read_faults volume.new)
+        (V.write_faults volume.old) (V.write_faults volume.new) result }
+{
+    let length = end - 8 - at;
+    let header = Header {
+        tid: outline.tid,
+        length,
+        status: status_of(outline.packed),
+        user: outline.user.len() as u16,
+        description: outline.description.len() as u16,
+        extension: outline.extension.len() as u16,
+    };
+    buffer.start(at);
+    put_head(volume, buffer, &header, outline)?;
+    let changes = outline.changes.as_slice();
+    put_records(volume, buffer, places, outline.tid, at, changes)?;
+    buffer.put(volume, &number_bytes(length))?;
+    buffer.flush(volume)
+}
