@@ -1,7 +1,8 @@
 -- How pending stores are kept. Own.
-use Rattle.std.specs.Prelude.{ℕ, List, Option, Some, None, length, map}
+use Rattle.std.specs.Prelude.{ℕ, ◌-◌, List, [], ◌∷◌, Option, Some, None, ◌==◌, if◌then◌else◌, length, map, take}
 use Rattle.zb_model.specs.declared.pending.PendingStore.{PendingStore}
 use Rattle.commit_phases.specs.declared.pending.Stored.{Stored}
+use Rattle.commit_phases.specs.declared.several.Replaced.{Replaced}
 
 abbrev pub store_of : ℕ × Stored → PendingStore
 store_of e = record { oid = e.0; base = e.1.base; bytes = e.1.bytes }
@@ -19,3 +20,21 @@ base_or (Some stored) base = stored.base
 abbrev pub length_or_none : Option Stored → ℕ
 length_or_none None = 0
 length_or_none (Some stored) = length stored.bytes
+
+-- the entries with this store of an object, if it has one
+abbrev pub stored_again : List (ℕ × Stored) → ℕ → Stored → List (ℕ × Stored)
+stored_again [] oid stored = []
+stored_again (e ∷ es) oid stored = if oid == e.0 then (e.0, stored) ∷ es else e ∷ stored_again es oid stored
+
+abbrev pub earlier_back : List (ℕ × Stored) → ℕ → Option Stored → List (ℕ × Stored)
+earlier_back es oid None = take (length es - 1) es
+earlier_back es oid (Some stored) = stored_again es oid stored
+
+-- the entries before an object's store was put among them: without the last one, where it had none, else with its earlier one
+abbrev pub put_back : List (ℕ × Stored) → Replaced → List (ℕ × Stored)
+put_back es replaced = earlier_back es replaced.oid replaced.earlier
+
+-- the entries before these stores were put among them
+abbrev pub restored : List (ℕ × Stored) → List Replaced → List (ℕ × Stored)
+restored es [] = es
+restored es (first ∷ later) = put_back (restored es later) first

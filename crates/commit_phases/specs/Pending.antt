@@ -53,3 +53,23 @@ abbrev pub IsOkUnlessTooLong : {T : Type 0} → Option ℕ → Result T PendingE
 IsOkUnlessTooLong excess (Ok _) = excess ≡ None
 IsOkUnlessTooLong excess (Err (pending_error.TooLong n)) = excess ≡ Some n
 IsOkUnlessTooLong excess (Err pending_error.Memory) = Unit {0}
+
+-- a store behind others, unless a length passes a limit, which is told
+abbrev pub stored_on : List PendingStore → PendingStore → Option ℕ → Result (List PendingStore) ℕ
+stored_on stores p None = Ok (with_pending stores p)
+stored_on stores p (Some length) = Err length
+
+abbrev pub behind_stored : Result (List PendingStore) ℕ → (List PendingStore → Result (List PendingStore) ℕ) → Result (List PendingStore) ℕ
+behind_stored (Ok stores) next = next stores
+behind_stored (Err length) next = Err length
+
+-- stores one after another, each unless a length passes a limit, which is told
+abbrev pub stores_after : List PendingStore → List PendingStore → Result (List PendingStore) ℕ
+stores_after stores [] = Ok stores
+stores_after stores (p ∷ more) = behind_stored (stored_on stores p (excess_with stores p)) (λ left. stores_after left more)
+
+-- several stores wait exactly where no length passes a limit, else that length is told; memory is free to run out
+abbrev pub AreStoredUnlessTooLong : {T : Type 0} → Result (List PendingStore) ℕ → List PendingStore → Result T PendingError → Type 0
+AreStoredUnlessTooLong defined now (Ok _) = defined ≡ Ok now
+AreStoredUnlessTooLong defined now (Err (pending_error.TooLong n)) = defined ≡ Err n
+AreStoredUnlessTooLong defined now (Err pending_error.Memory) = Unit {0}

@@ -6,6 +6,7 @@ mod deciding;
 mod errors;
 mod pending;
 mod resolving;
+mod several;
 
 pub use deciding::decide;
 pub use errors::{PendingError, VoteRefusal};

@@ -1,13 +1,14 @@
 //! Changes that wait for a vote.
 
-ghost use Rattle.std.specs.Prelude.{◌≡◌, ◌+◌, ◌++◌, ◌∷◌, [], ◌<◌, IfOk, OnOk, OnErr, length, nat_eq};
+ghost use Rattle.std.specs.Prelude.{◌≡◌, ◌+◌, ◌++◌, ◌∷◌, [], ◌<◌, All, IfOk, OnOk, OnErr, length, nat_eq};
 ghost use Rattle.indexmap.specs.IndexMap.{get, insert_entry, keys};
 ghost use Rattle.std.specs.List.{IsDistinct};
 ghost use Rattle.std.specs.Option.{option_map};
-ghost use Rattle.commit_phases.specs.Pending.{excess_with, pending_of, size_of_stores, with_pending, AreStores, IsOkUnlessTooLong};
-ghost use Rattle.commit_phases.specs.Kept.{base_or, length_or_none, store_of, stores_of};
+ghost use Rattle.commit_phases.specs.Pending.{excess_with, pending_of, size_of_stores, stores_after, with_pending, AreStores, AreStoredUnlessTooLong, IsOkUnlessTooLong};
+ghost use Rattle.commit_phases.specs.Kept.{base_or, length_or_none, put_back, store_of, stores_of};
 
 use crate::errors::PendingError;
+use crate::several::put_all;
 use indexmap::IndexMap;
 use std::alloc::{AllocError, Global};
 use std::marker::Model;
@@ -65,31 +66,46 @@ impl Model for Pending {
         × (a.size ≡ size_of_stores (stores_of a.stores.entries)) };
 }
 
-/// Puts an object's store into the table, in the place of an earlier one or behind all.
-fn keep(stores: &mut IndexMap<Oid, Stored>, oid: Oid, stored: Stored) -> Result<(), AllocError>
+/// Puts an object's store into the table, in the place of an earlier one, which is answered, or behind all.
+fn keep(
+    stores: &mut IndexMap<Oid, Stored>,
+    oid: Oid,
+    stored: Stored,
+) -> Result<Option<Stored>, AllocError>
     ensures ok { OnOk result (stores.new.entries ≡ insert_entry nat_eq stores.old.entries oid stored) }
+    ensures earlier { IfOk result (λ earlier. earlier ≡ get nat_eq stores.old oid) }
     ensures unique { IsDistinct nat_eq (keys stores.new) }
     ensures err { OnErr result (stores.new.entries ≡ stores.old.entries) }
 {
-    stores.insert(oid, stored)?;
-    Ok(())
+    let earlier = stores.insert(oid, stored)?;
+    Ok(earlier)
+}
+
+/// What a store that was put into the table leaves: how many bytes all have then, and the object's
+/// earlier store.
+#[derive(Drop)]
+pub(crate) struct Placed {
+    pub(crate) size: u64,
+    pub(crate) earlier: Option<Stored>,
 }
 
 /// Puts an object's store into a table whose stores have `size` bytes together, in the place of an
-/// earlier one or behind all, and answers how many bytes they have then.
-fn put(
+/// earlier one or behind all, and answers how many bytes they have then, and the earlier one.
+pub(crate) fn put(
     stores: &mut IndexMap<Oid, Stored>,
     size: u64,
     store: PendingStore,
-) -> Result<u64, PendingError>
+) -> Result<Placed, PendingError>
     requires stores { AreStores (stores_of stores.old.entries) }
     requires size { size ≡ size_of_stores (stores_of stores.old.entries) }
     requires filled { 0 < length store.bytes }
     ensures answer { IsOkUnlessTooLong (excess_with (stores_of stores.old.entries) store) result }
     ensures ok { OnOk result
         (stores_of stores.new.entries ≡ with_pending (stores_of stores.old.entries) store) }
-    ensures size { IfOk result (λ size. size ≡ size_of_stores (stores_of stores.new.entries)) }
+    ensures size { IfOk result (λ placed. placed.size ≡ size_of_stores (stores_of stores.new.entries)) }
     ensures stores { AreStores (stores_of stores.new.entries) }
+    ensures undone { IfOk result (λ placed. put_back stores.new.entries
+        (record { oid = store.oid; earlier = placed.earlier }) ≡ stores.old.entries) }
     ensures err { OnErr result (stores.new.entries ≡ stores.old.entries) }
 {
     let PendingStore { oid, base, bytes } = store;
@@ -102,8 +118,8 @@ fn put(
     if size > TRANSACTION_LIMIT {
         return Err(PendingError::TooLong { length: size });
     }
-    keep(stores, oid, Stored { base, bytes })?;
-    Ok(size)
+    let earlier = keep(stores, oid, Stored { base, bytes })?;
+    Ok(Placed { size, earlier })
 }
 
 impl Pending {
@@ -132,11 +148,26 @@ impl Pending {
         ensures err { OnErr result (self.new ≡ self.old) }
         ensures checks { self.new.checks ≡ self.old.checks }
     {
-        self.size = put(
+        let placed = put(
             &mut self.stores,
             self.size,
             PendingStore { oid, base, bytes },
         )?;
+        self.size = placed.size;
+        Ok(())
+    }
+
+    /// Puts the bytes of several objects behind the other stores, one after another as `store` does: all of
+    /// them, or none. `TooLong` comes exactly where the bytes of one, or those of all that wait by then, pass
+    /// a limit. With an error the pending changes are as before.
+    pub fn store_all(&mut self, stores: ListOf<PendingStore>) -> Result<(), PendingError>
+        requires filled { All (λ p. 0 < length p.bytes) stores }
+        ensures answer { AreStoredUnlessTooLong (stores_after self.old.stores stores) self.new.stores result }
+        ensures err { OnErr result (self.new ≡ self.old) }
+        ensures checks { self.new.checks ≡ self.old.checks }
+    {
+        let size = put_all(self.alloc, &mut self.stores, self.size, stores)?;
+        self.size = size;
         Ok(())
     }
 

@@ -6,9 +6,7 @@ use Rattle.object_cache.specs.declared.cache.CachedRevision.{CachedRevision}
 use Rattle.object_cache.specs.CachedLaws.{EachCached}
 use Rattle.zb_model.specs.declared.pending.PendingStore.{PendingStore}
 use Rattle.zb_model.specs.declared.pending.PendingCheck.{PendingCheck}
-use Rattle.commit_phases.specs.declared.errors.PendingError.{PendingError}
-use Rattle.commit_phases.specs.declared.errors.PendingError.TheVariants as pending_error
-use Rattle.commit_phases.specs.Pending.{PendingChanges, excess_with, with_pending}
+use Rattle.commit_phases.specs.Pending.{PendingChanges, excess_with, stores_after, with_pending}
 use Rattle.connection_view.specs.declared.loads.FrontView.{FrontView}
 use Rattle.connection_view.specs.declared.loads.Loaded.{Loaded}
 use Rattle.connection_view.specs.declared.loads.Loaded.TheVariants as loaded
@@ -62,25 +60,6 @@ stored_unless w p (Some length) = Err (refusal.TooLong length)
 -- an object's bytes wait for the vote, unless a length passes a limit
 abbrev pub stored_in_work : PendingStore → Work → Result Work Refusal
 stored_in_work p w = stored_unless w p (excess_with w.pending.stores p)
-
--- stores one after another, each unless a length passes a limit, which is told
-abbrev pub stored_on : List PendingStore → PendingStore → Option ℕ → Result (List PendingStore) ℕ
-stored_on stores p None = Ok (with_pending stores p)
-stored_on stores p (Some length) = Err length
-
-abbrev pub behind_stored : Result (List PendingStore) ℕ → (List PendingStore → Result (List PendingStore) ℕ) → Result (List PendingStore) ℕ
-behind_stored (Ok stores) next = next stores
-behind_stored (Err length) next = Err length
-
-abbrev pub stores_after : List PendingStore → List PendingStore → Result (List PendingStore) ℕ
-stores_after stores [] = Ok stores
-stores_after stores (p ∷ more) = behind_stored (stored_on stores p (excess_with stores p)) (λ left. stores_after left more)
-
--- pending changes that have these stores, or the length that passed a limit; memory is free to run out
-abbrev pub IsStoredAll : Result (List PendingStore) ℕ → Result PendingChanges PendingError → Type 0
-IsStoredAll defined (Ok left) = defined ≡ Ok left.stores
-IsStoredAll defined (Err (pending_error.TooLong length)) = defined ≡ Err length
-IsStoredAll defined (Err pending_error.Memory) = Unit {0}
 
 abbrev pub stored_all_as : Work → Result (List PendingStore) ℕ → Result Work Refusal
 stored_all_as w (Ok stores) = Ok (with_stores w stores)

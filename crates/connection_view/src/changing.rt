@@ -2,14 +2,14 @@
 
 ghost use Rattle.std.specs.Prelude.{◌≡◌, ◌<◌, ◌⊎◌, All, Err, IfErr, IfOk, IsOk, Ok, OnOk, length};
 ghost use Rattle.std.specs.Option.{option_map};
-ghost use Rattle.commit_phases.specs.Pending.{IsOkUnlessTooLong, excess_with, pending_of, with_pending};
+ghost use Rattle.commit_phases.specs.Pending.{pending_of};
 ghost use Rattle.zb_model.specs.declared.refusal.Refusal.TheVariants as refusal;
 ghost use Rattle.connection_view.specs.declared.work.Work.{Work};
-ghost use Rattle.connection_view.specs.Connections.{IsStoredAll, KeepsSight, LeavesWork, followed_by, base_read, changeable, checked_in_work, open_work, rolled_back, saved, stored_in_work, stored_all, stores_after, unmixed, unvoted_work};
+ghost use Rattle.connection_view.specs.Connections.{KeepsSight, LeavesWork, followed_by, base_read, changeable, checked_in_work, open_work, rolled_back, saved, stored_in_work, stored_all, unmixed, unvoted_work};
 ghost use Rattle.connection_view.specs.Loading.{AreVotable};
 
 use crate::work::Work;
-use commit_phases::{Pending, PendingError};
+use commit_phases::PendingError;
 use savepoints::SavepointError;
 use zb_ids::{ListOf, Oid, Text8, Tid};
 use zb_model::{PendingCheck, PendingStore, Refusal};
@@ -31,31 +31,6 @@ fn store(work: &mut Work, oid: Oid, base: Tid, bytes: Text8) -> Result<(), Refus
     }
 }
 
-/// One more store waits among pending changes.
-fn keep_store(pending: &mut Pending, store: PendingStore) -> Result<(), PendingError>
-    requires filled { 0 < length store.bytes }
-    ensures answer { IsOkUnlessTooLong (excess_with pending.old.stores store) result }
-    ensures ok { OnOk result (pending.new.stores ≡ with_pending pending.old.stores store) }
-    ensures checks { pending.new.checks ≡ pending.old.checks }
-{
-    let PendingStore { oid, base, bytes } = store;
-    pending.store(oid, base, bytes)
-}
-
-/// Pending changes with these stores beside, one after another. `TooLong` comes exactly where the bytes of one, or those of
-/// all that wait by then, pass a limit.
-pub fn with_stores(pending: Pending, stores: ListOf<PendingStore>) -> Result<Pending, PendingError>
-    requires filled { All (λ p. 0 < length p.bytes) stores }
-    ensures answer { IsStoredAll (stores_after pending.stores stores) result }
-    ensures checks { IfOk result (λ left. left.checks ≡ pending.checks) }
-{
-    let mut pending = pending;
-    for store in stores.into_vec() {
-        keep_store(&mut pending, store)?;
-    }
-    Ok(pending)
-}
-
 /// The bytes of several objects wait for the vote of this transaction: all of them, or none.
 fn store_all(work: &mut Work, stores: ListOf<PendingStore>) -> Result<(), Refusal>
     requires filled { All (λ p. 0 < length p.bytes) stores }
@@ -65,14 +40,8 @@ fn store_all(work: &mut Work, stores: ListOf<PendingStore>) -> Result<(), Refusa
     if work.is_voted {
         return Err(Refusal::Voted);
     }
-    let Ok(pending) = work.pending.copy() else {
-        return Err(Refusal::Memory);
-    };
-    match with_stores(pending, stores) {
-        Ok(pending) => {
-            work.pending = pending;
-            Ok(())
-        }
+    match work.pending.store_all(stores) {
+        Ok(()) => Ok(()),
         Err(PendingError::TooLong { length }) => Err(Refusal::TooLong { length }),
         Err(PendingError::Memory) => Err(Refusal::Memory),
     }

@@ -10,7 +10,6 @@ mod reading;
 mod waiting;
 mod work;
 
-pub use changing::with_stores;
 pub use connection::{CACHED_OBJECTS, Connection};
 pub use loads::{FrontView, Loaded, Loads};
 pub use work::Work;

@@ -6,6 +6,7 @@ use Rattle.indexmap.specs.IndexMap.{insert_entry}
 use Rattle.commit_phases.specs.declared.pending.Stored.{Stored}
 use Rattle.commit_phases.specs.Kept.{length_or_none, stores_of}
 use Rattle.commit_phases.specs.Pending.{size_of_stores, with_pending}
+use Rattle.commit_phases.proofs.Restoring.{put_undone}
 use Rattle.commit_phases.proofs.Storing.{are_stores, earlier_within, kept_as, put_fits, put_is, put_size, put_too_long}
 use Rattle.commit_phases.proofs.pending.put.Goals as goal
 
@@ -35,7 +36,7 @@ returns-clause-answer c =
 pub returns-clause-ok : goal.returns-clause-ok
 returns-clause-ok c =
     let es : List (ℕ × Stored) = c.args.stores.now.entries in
-    ap stores_of c.in_ok-keep.ensures.ok
+    ap stores_of c.in_ok-earlier.ensures.ok
     ∙ ap (λ (b : ℕ). stores_of (insert_entry nat_eq es c.args.store.oid (kept_as b c.args.store.bytes))) c.earlier_or-base.ensures.base
     ∙ put_is es c.args.store.oid c.args.store.base c.args.store.bytes
 
@@ -49,6 +50,9 @@ pub returns-clause-stores : goal.returns-clause-stores
 returns-clause-stores c =
     let es : List (ℕ × Stored) = c.args.stores.now.entries in
     let length_is : c.len-length.result ≡ length c.args.store.bytes = c.len-length.ensures in
-    are_stores es c.keep.new.stores.entries c.args.store c.requires.stores c.in_ok-keep.ensures.unique (returns-clause-ok c) c.requires.filled
+    are_stores es c.keep.new.stores.entries c.args.store c.requires.stores c.in_ok-earlier.ensures.unique (returns-clause-ok c) c.requires.filled
     (omega (arith, c.if-length-gt-OBJECT_LIMIT.false, length_is))
     (omega (arith, size_then es c.args.store _ _ _ c.requires.size c.earlier_or-base.ensures.length length_is, c.if-size-gt-TRANSACTION_LIMIT.false))
+
+pub returns-clause-undone : goal.returns-clause-undone
+returns-clause-undone c = put_undone c.args.stores.now.entries c.keep.new.stores.entries c.args.store.oid _ _ c.in_ok-earlier.ensures.ok c.in_ok-earlier.ensures.earlier

@@ -2,8 +2,9 @@ use Rattle.std.proofs.Common.{◌≡◌, ◌+◌, ◌<◌, ◌∷◌, List, leng
 use Rattle.std.specs.Vec.Iter.{into_iter_items, into_iter_len}
 use Rattle.std.proofs.lemmas.List.Elements.{All-rest}
 use Rattle.zb_model.specs.declared.pending.PendingStore.{PendingStore}
-use Rattle.connection_view.proofs.Waits.{rest_stored}
-use Rattle.connection_view.proofs.changing.with_stores.Goals as goal
+use Rattle.commit_phases.specs.Kept.{stores_of}
+use Rattle.commit_phases.proofs.Restoring.{rest_stored}
+use Rattle.commit_phases.proofs.several.put_each.Goals as goal
 
 pub loop-store-preserved : goal.loop-store-preserved
 loop-store-preserved c =
@@ -18,6 +19,8 @@ loop-store-preserved c =
     record {
       ends = omega (arith, fewer, ends, lengths);
       left_filled = All-rest (λ (q : PendingStore). 0 < length q.bytes) p left items is inv.left_filled;
-      checks = c.keep_store.ensures.checks ∙ inv.checks;
-      rest = rest_stored c.args.pending.stores c.args.stores c.loop-store.pending.stores c.keep_store.new.pending.stores items left p is c.in_ok-keep_store.ensures.answer c.in_ok-keep_store.ensures.ok inv.rest;
+      are = c.put_noting.ensures.stores;
+      size = c.in_ok-size.ensures.size;
+      restored = c.put_noting.ensures.restored ∙ inv.restored;
+      rest = rest_stored (stores_of c.args.stores.now.entries) c.args.list (stores_of c.loop-store.stores.entries) _ items left p is c.in_ok-size.ensures.answer c.in_ok-size.ensures.ok inv.rest;
     }
