@@ -12,7 +12,7 @@ use Rattle.tree_calls.specs.declared.operation.TreeOperation.{TreeOperation}
 use Rattle.tree_calls.specs.Calls.{IsMade, IsRefused}
 use Rattle.tree_calls.specs.Known.{known_at}
 use Rattle.client_turns.specs.declared.client.Client.{Client}
-use Rattle.client_turns.specs.declared.client.Work.{Work}
+use Rattle.connection_view.specs.declared.work.Work.{Work}
 use Rattle.client_turns.specs.Clients.{Moment, OpenTransaction}
 use Rattle.client_turns.specs.Clients as seen
 use Rattle.client_turns.specs.DrawLaws.{new_raised}

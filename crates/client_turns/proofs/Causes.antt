@@ -1,5 +1,5 @@
 -- What lines do to the counts of faults.
-use Rattle.std.proofs.Common.{◌≡◌, ℕ, Bool, true, false, Option, Some, None, Result, Ok, Err, refl, sym, ap, subst, ◌∙◌}
+use Rattle.std.proofs.Common.{◌≡◌, ℕ, Bool, true, false, List, Option, Some, None, Result, Ok, Err, refl, sym, ap, subst, ◌∙◌}
 use Rattle.std.specs.Prelude.{IfOk, OnErr}
 use Rattle.std.specs.declared.alloc.AllocError.{AllocError}
 use Rattle.zb_base.specs.Counts.{Rose}
@@ -13,7 +13,6 @@ use Rattle.zodb_core.specs.HubState.{HubState, IsCauseOf, StepsSafely, counts_of
 use Rattle.zodb_core.specs.Outcomes.{Answered, AreLaterCounts, FaultCounts, NoMemory, ReadingFailed, StepOutcome, StoreFailed, outcome_of, outcome_of_refusal}
 use Rattle.client_turns.specs.declared.errors.TurnError.{TurnError}
 use Rattle.client_turns.specs.declared.errors.TurnError.TheVariants as error
-use Rattle.client_turns.specs.declared.got.Got.{Got}
 use Rattle.client_turns.specs.CountLaws.{answer_outcome, object_outcome, whole_others}
 use Rattle.client_turns.specs.Lines.{IsCountedBy, answer_of, end_in, end_of, object_of, outcome_of_answer, outcome_of_end, outcome_of_error}
 use Rattle.client_turns.specs.TurnLaws.{starved_so}
@@ -63,7 +62,7 @@ pub calm_read : (before now : FaultCounts) (r : Reply) (switches : ℕ) → IsCo
 calm_read before now (reply.Refused why) switches counts found = calm_refused before now why counts found
 calm_read before now _ switches counts found = counts
 
-pub read_cause : (before now : FaultCounts) (r : Reply) (switches : ℕ) (read : Result Got Refusal) → read ≡ reply_read r switches → IsCountedBy before now (outcome_of r) → HasReadCause before now read
+pub read_cause : (before now : FaultCounts) (r : Reply) (switches : ℕ) (read : Result (ℕ × List ℕ) Refusal) → read ≡ reply_read r switches → IsCountedBy before now (outcome_of r) → HasReadCause before now read
 read_cause before now r switches read is counts = subst (HasReadCause before now) (sym is) (by_reply r counts)
   where
     by_reply : (r : Reply) → IsCountedBy before now (outcome_of r) → HasReadCause before now (reply_read r switches)
@@ -73,7 +72,7 @@ read_cause before now r switches read is counts = subst (HasReadCause before now
     by_reply _ counts = counts
 
 -- an answer that tells how a read ended
-pub object_cause : (before now : FaultCounts) (read : Result Got Refusal) (a : Answer) → a ≡ object_of read → HasReadCause before now read → HasTurnCause before now a
+pub object_cause : (before now : FaultCounts) (read : Result (ℕ × List ℕ) Refusal) (a : Answer) → a ≡ object_of read → HasReadCause before now read → HasTurnCause before now a
 object_cause before now read a is cause = subst (λ (o : StepOutcome). IsCountedBy before now o) (sym (ap outcome_of_answer is ∙ object_outcome read)) cause
 
 -- ---- answers of no fault

@@ -12,8 +12,7 @@ use Rattle.zb_script.specs.declared.line.Line.{Line}
 use Rattle.zb_script.specs.declared.line.Line.TheVariants as line
 use Rattle.zb_script.specs.declared.line.Turn.{Turn}
 use Rattle.zb_script.specs.declared.tree_call.TreeCall.{TreeCall}
-use Rattle.commit_phases.specs.Pending.{PendingChanges, excess_with, pending_of}
-use Rattle.connection_view.specs.Connections.{stores_after}
+use Rattle.commit_phases.specs.Pending.{PendingChanges, excess_with, pending_of, stores_after}
 use Rattle.tree_calls.specs.declared.attempt.Made.{Made}
 use Rattle.tree_calls.specs.declared.operation.TreeAnswer.{TreeAnswer}
 use Rattle.tree_calls.specs.declared.operation.TreeAnswer.TheVariants as answered
@@ -24,7 +23,6 @@ use Rattle.zodb_core.specs.Machine.{Machine, Rules, is_open_in, with_session}
 use Rattle.zodb_core.specs.Outcomes.{Answered, EndsFor, FaultCounts, NoMemory, ReadingFailed, StepOutcome, StoreFailed, outcome_of}
 use Rattle.zodb_core.specs.Steps.{Stepped, refuse_if}
 use Rattle.client_turns.specs.declared.errors.TurnError.TheVariants as turn_error
-use Rattle.client_turns.specs.declared.got.Got.{Got}
 use Rattle.client_turns.specs.Clients.{Client, Moment, OpenTransaction, changes_of, place_of_client}
 use Rattle.client_turns.specs.Laws.{HasOpen, IsNamed, IsRefusedFor, RefusalsHaveTheirCause, WouldPut, by_call, by_connection, by_length, by_lengths, by_number, by_reading, by_savepoint, by_step, by_view, by_vote, crowded, unnamed}
 use Rattle.client_turns.specs.DrawLaws.{draws_drawn, new_reply}
@@ -32,7 +30,7 @@ use Rattle.client_turns.specs.Lines.{Changed, answer_of, data_of, end_in, is_com
 use Rattle.client_turns.specs.Reads.{EndsReading}
 use Rattle.client_turns.specs.Refusing.{connection_refusal, line_refusal, opens_session}
 use Rattle.client_turns.specs.Trees.{CallEnds, IsTreeEnd, IsTreeLine, IsUncalled, all_stored, answer_told, by_draw, by_read, by_tree, by_want, is_missing, operation_of, puts_stored}
-use Rattle.client_turns.specs.Views.{View}
+use Rattle.connection_view.specs.Views.{View}
 use Rattle.client_turns.specs.Turns.{IsClosed, IsClosing, IsGet, IsLine, IsLineOf, IsLineTaken, IsLineUnless, IsOpening, IsOwnLine, IsPut, IsStepLine, IsTold, IsWithin, Opening}
 use Rattle.client_turns.proofs.Data.{asks_no_load, is_loaded, step_unread}
 
@@ -272,12 +270,12 @@ read_refused rules m now t o oid (refusal.Connected a0) has ends whole = by_view
 read_refused rules m now t o oid refusal.StepsSpent has ends whole = by_view o oid has ends
 read_refused rules m now t o oid refusal.Memory has ends whole = absurd cc
 
-data_refused : (rules : Rules) (m now : Moment) (t : Turn) (o : OpenTransaction) (oid : ℕ) (why : Refusal) (result : Result Got Refusal) → HasOpen m t.client o → EndsReading m.machine o.view oid m.counts now.counts result → end_in why ≡ None
+data_refused : (rules : Rules) (m now : Moment) (t : Turn) (o : OpenTransaction) (oid : ℕ) (why : Refusal) (result : Result (ℕ × List ℕ) Refusal) → HasOpen m t.client o → EndsReading m.machine o.view oid m.counts now.counts result → end_in why ≡ None
     → answer.Refused why ≡ data_of result → IsRefusedFor rules m t why now
 data_refused rules m now t o oid why (Ok got) has ends whole is = absurd cc
 data_refused rules m now t o oid why (Err w) has ends whole is = refused_same rules m t why w now is (read_refused rules m now t o oid w has ends) whole
 
-object_refused : (rules : Rules) (m now : Moment) (t : Turn) (o : OpenTransaction) (oid : ℕ) (why : Refusal) (result : Result Got Refusal) → HasOpen m t.client o → EndsReading m.machine o.view oid m.counts now.counts result → end_in why ≡ None
+object_refused : (rules : Rules) (m now : Moment) (t : Turn) (o : OpenTransaction) (oid : ℕ) (why : Refusal) (result : Result (ℕ × List ℕ) Refusal) → HasOpen m t.client o → EndsReading m.machine o.view oid m.counts now.counts result → end_in why ≡ None
     → answer.Refused why ≡ object_of result → IsRefusedFor rules m t why now
 object_refused rules m now t o oid why (Ok got) has ends whole is = absurd cc
 object_refused rules m now t o oid why (Err w) has ends whole is = refused_same rules m t why w now is (read_refused rules m now t o oid w has ends) whole
@@ -294,10 +292,10 @@ store_refused : (rules : Rules) (m now : Moment) (t : Turn) (o : OpenTransaction
 store_refused rules m now t o p why None has excess is = absurd cc
 store_refused rules m now t o p why (Some n) has excess is = by_length o p n has excess (same_refusal why (refusal.TooLong n) is)
 
-put_refused : (rules : Rules) (m now : Moment) (t : Turn) (o : OpenTransaction) (oid : ℕ) (bytes : List ℕ) (why : Refusal) (read : Result Got Refusal) → HasOpen m t.client o → EndsReading m.machine o.view oid m.counts now.counts read → end_in why ≡ None
+put_refused : (rules : Rules) (m now : Moment) (t : Turn) (o : OpenTransaction) (oid : ℕ) (bytes : List ℕ) (why : Refusal) (read : Result (ℕ × List ℕ) Refusal) → HasOpen m t.client o → EndsReading m.machine o.view oid m.counts now.counts read → end_in why ≡ None
     → answer.Refused why ≡ (put o.changes oid bytes read).answer → IsRefusedFor rules m t why now
 put_refused rules m now t o oid bytes why (Ok got) has ends whole is =
-    store_refused rules m now t o (record { oid = oid; base = got.serial; bytes = bytes }) why (excess_with o.changes.pending.stores (record { oid = oid; base = got.serial; bytes = bytes })) has refl is
+    store_refused rules m now t o (record { oid = oid; base = got.0; bytes = bytes }) why (excess_with o.changes.pending.stores (record { oid = oid; base = got.0; bytes = bytes })) has refl is
 put_refused rules m now t o oid bytes why (Err refusal.TidsSpent) has ends whole is = refused_same rules m t why refusal.TidsSpent now is (read_refused rules m now t o oid refusal.TidsSpent has ends) whole
 put_refused rules m now t o oid bytes why (Err refusal.StoreFault) has ends whole is = refused_same rules m t why refusal.StoreFault now is (read_refused rules m now t o oid refusal.StoreFault has ends) whole
 put_refused rules m now t o oid bytes why (Err (refusal.Conflict a0 a1 a2 a3)) has ends whole is = refused_same rules m t why (refusal.Conflict a0 a1 a2 a3) now is (read_refused rules m now t o oid (refusal.Conflict a0 a1 a2 a3) has ends) whole

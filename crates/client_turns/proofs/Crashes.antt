@@ -16,7 +16,7 @@ use Rattle.zodb_core.specs.declared.reply.Reply.{Reply}
 use Rattle.zodb_core.specs.declared.reply.Reply.TheVariants as reply
 use Rattle.zb_script.specs.declared.line.Line.{Line}
 use Rattle.zb_script.specs.declared.line.Line.TheVariants as line
-use Rattle.client_turns.specs.declared.client.Changes.{Changes}
+use Rattle.client_turns.specs.Clients.{Changes}
 use Rattle.client_turns.specs.Lines.{is_committed, pending_in, request_of}
 use Rattle.client_turns.specs.TurnLaws.{IsListBehind, IsListLeft, KeepsOrPacked, KeepsOrVoted, kept, packed, same_request, step_left, unpacked, voted}
 use Rattle.client_turns.specs.Standing.{IsListAround, IsListFor, IsListIn, IsListPacked, IsVotedBehind, packs_list}

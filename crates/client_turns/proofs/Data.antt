@@ -32,18 +32,16 @@ use Rattle.zodb_core.specs.Machine.{Machine, MachineVote, Rules, with_session}
 use Rattle.zodb_core.specs.Outcomes.{EndsFor, FaultCounts, outcome_of}
 use Rattle.pack_reach.specs.Reached.{unreadable}
 use Rattle.zodb_core.specs.Steps.{Stepped, changes_in_journal, early_refusal, finish_gives, finish_step, journal_limit, pack_tid, replied_refusal, request_step, step_of, switch_unless, transaction_with, unless_early, vote_at, vote_counted, vote_step, with_vote}
-use Rattle.client_turns.specs.declared.client.Changes.{Changes}
-use Rattle.client_turns.specs.declared.got.Got.{Got}
-use Rattle.client_turns.specs.Clients.{Client, Moment, OpenTransaction, changes_of, place_of_client}
+use Rattle.client_turns.specs.Clients.{Changes, Client, Moment, OpenTransaction, changes_of, place_of_client}
 use Rattle.client_turns.specs.Laws.{IsReadBelow, ReadsStayBelowTheFront}
 use Rattle.client_turns.specs.Lines.{answer_of, data_of, object_of, pending_in, put, request_of, rolled_to, store_unless}
-use Rattle.client_turns.specs.Reads.{EndsReading, got_as, got_of}
+use Rattle.client_turns.specs.Reads.{EndsReading}
 use Rattle.client_turns.specs.Refusing.{connection_refusal}
 use Rattle.client_turns.specs.DrawLaws.{tree_answer}
 use Rattle.client_turns.specs.Trees.{answer_told}
 use Rattle.client_turns.specs.TurnLaws.{by_name}
 use Rattle.client_turns.specs.Turns.{IsGet, IsLineOf, IsLineTaken, IsLineUnless, IsOpening, IsOwnLine, IsPut, IsStepLine, IsWithin, Opening}
-use Rattle.client_turns.specs.Views.{View}
+use Rattle.connection_view.specs.Views.{View, read_as, read_from}
 
 -- ---- no line's request loads
 
@@ -173,7 +171,7 @@ told_data (answered.Removed true) = refl
 told_data (answered.Removed false) = refl
 told_data (answered.Items list is_set) = refl
 
-object_data : (r : Result Got Refusal) → is_data (object_of r) ≡ false
+object_data : (r : Result (ℕ × List ℕ) Refusal) → is_data (object_of r) ≡ false
 object_data (Ok got) = refl
 object_data (Err why) = refl
 
@@ -181,8 +179,8 @@ get_data : (m now : Moment) (v : View) (oid : ℕ) (o : Option PendingStore) (a 
 get_data m now v oid None a is = ap is_data is.2 ∙ object_data is.0
 get_data m now v oid (Some p) a is = ap is_data is.0
 
-put_data : (t : Changes) (oid : ℕ) (bytes : List ℕ) (read : Result Got Refusal) → is_data (put t oid bytes read).answer ≡ false
-put_data t oid bytes (Ok got) = store_data t (record { oid = oid; base = got.serial; bytes = bytes }) (excess_with t.pending.stores (record { oid = oid; base = got.serial; bytes = bytes }))
+put_data : (t : Changes) (oid : ℕ) (bytes : List ℕ) (read : Result (ℕ × List ℕ) Refusal) → is_data (put t oid bytes read).answer ≡ false
+put_data t oid bytes (Ok got) = store_data t (record { oid = oid; base = got.0; bytes = bytes }) (excess_with t.pending.stores (record { oid = oid; base = got.0; bytes = bytes }))
 put_data t oid bytes (Err refusal.TidsSpent) = refl
 put_data t oid bytes (Err refusal.StoreFault) = refl
 put_data t oid bytes (Err (refusal.Conflict a0 a1 a2 a3)) = refl
@@ -244,28 +242,28 @@ pub record IsHeldBelow (oid front : ℕ) (list : List Transaction) (serial : ℕ
   pub below : serial < front
   pub revision : revision_below oid front list ≡ Some (record { serial = serial; content = Held bytes })
 
-got_is : (r : ObjectRevision) (c : Content) (got : Got) → r.content ≡ c → got_as r.serial c ≡ Some got → r ≡ record { serial = got.serial; content = Held got.bytes }
+got_is : (r : ObjectRevision) (c : Content) (got : ℕ × List ℕ) → r.content ≡ c → read_as r.serial c ≡ Some got → r ≡ record { serial = got.0; content = Held got.1 }
 got_is r Absent got content is = absurd cc
 got_is r (Held bytes) got content is =
-    let same : record { serial = r.serial; bytes = bytes } ≡ got = same_Some (record { serial = r.serial; bytes = bytes }) got is in
-    ap (λ (c : Content). record r { content = c }) content ∙ ap (λ (g : Got). record { serial = g.serial; content = Held g.bytes }) same
+    let same : (r.serial, bytes) ≡ got = same_Some (r.serial, bytes) got is in
+    ap (λ (c : Content). record r { content = c }) content ∙ ap (λ (g : ℕ × List ℕ). record { serial = g.0; content = Held g.1 }) same
 
-held_is : (oid front : ℕ) (list : List Transaction) (o : Option ObjectRevision) (got : Got) → revision_below oid front list ≡ o → option_and_then got_of o ≡ Some got → IsHeldBelow oid front list got.serial got.bytes
+held_is : (oid front : ℕ) (list : List Transaction) (o : Option ObjectRevision) (got : ℕ × List ℕ) → revision_below oid front list ≡ o → option_and_then read_from o ≡ Some got → IsHeldBelow oid front list got.0 got.1
 held_is oid front list None got there is = absurd cc
 held_is oid front list (Some r) got there is =
-    let revision : r ≡ record { serial = got.serial; content = Held got.bytes } = got_is r r.content got refl is in
+    let revision : r ≡ record { serial = got.0; content = Held got.1 } = got_is r r.content got refl is in
     record {
       below = omega (arith, last_true front None (revisions oid list) r tt there, ap (λ (x : ObjectRevision). x.serial) revision);
       revision = there ∙ ap (λ (x : ObjectRevision). Some x) revision;
     }
 
-read_below : (m : Machine) (v : View) (oid serial : ℕ) (bytes : List ℕ) (a b : FaultCounts) (result : Result Got Refusal) → EndsReading m v oid a b result → answer.Data serial bytes ≡ data_of result → IsHeldBelow oid v.front v.list serial bytes
-read_below m v oid serial bytes a b (Err why) ends is = absurd cc
-read_below m v oid serial bytes a b (Ok got) ends is =
-    let held : IsHeldBelow oid v.front v.list got.serial got.bytes = held_is oid v.front v.list (revision_below oid v.front v.list) got refl ends in
-    let serials : serial ≡ got.serial = ap serial_in is in
-    let texts : bytes ≡ got.bytes = ap bytes_in is in
-    subst (λ (x : ℕ). IsHeldBelow oid v.front v.list x bytes) (sym serials) (subst (λ (x : List ℕ). IsHeldBelow oid v.front v.list got.serial x) (sym texts) held)
+below_read : (m : Machine) (v : View) (oid serial : ℕ) (bytes : List ℕ) (a b : FaultCounts) (result : Result (ℕ × List ℕ) Refusal) → EndsReading m v oid a b result → answer.Data serial bytes ≡ data_of result → IsHeldBelow oid v.front v.list serial bytes
+below_read m v oid serial bytes a b (Err why) ends is = absurd cc
+below_read m v oid serial bytes a b (Ok got) ends is =
+    let held : IsHeldBelow oid v.front v.list got.0 got.1 = held_is oid v.front v.list (revision_below oid v.front v.list) got refl ends in
+    let serials : serial ≡ got.0 = ap serial_in is in
+    let texts : bytes ≡ got.1 = ap bytes_in is in
+    subst (λ (x : ℕ). IsHeldBelow oid v.front v.list x bytes) (sym serials) (subst (λ (x : List ℕ). IsHeldBelow oid v.front v.list got.0 x) (sym texts) held)
   where
     serial_in : Answer → ℕ
     serial_in (answer.Data s b) = s
@@ -288,7 +286,7 @@ not_data X a is not = absurd cc
 
 within_reads : (m now : Moment) (at : ℕ) (c : Client) (t : OpenTransaction) (l : Line) (serial : ℕ) (bytes : List ℕ) → IsWithin m at c t l (answer.Data serial bytes) now → ReadsWithin t l serial bytes
 within_reads m now at c t (line.Load oid) serial bytes is =
-    record { oid = oid; line = refl; held = read_below m.machine t.view oid serial bytes m.counts now.counts is.0 is.1.ends is.2 }
+    record { oid = oid; line = refl; held = below_read m.machine t.view oid serial bytes m.counts now.counts is.0 is.1.ends is.2 }
 within_reads m now at c t (line.Get oid) serial bytes is =
     not_data (ReadsWithin t (line.Get oid) serial bytes) (answer.Data serial bytes) refl (get_data m now t.view oid (pending_of t.changes.pending.stores oid) (answer.Data serial bytes) is)
 within_reads m now at c t (line.Store oid base new) serial bytes is =
@@ -337,8 +335,8 @@ unless_reads : (rules : Rules) (m now : Moment) (at : ℕ) (c : Client) (l : Lin
 unless_reads rules m now at c l (Some why) serial bytes is = not_data (ReadsAs c l serial bytes) (answer.Data serial bytes) refl (ap is_data is.0)
 unless_reads rules m now at c l None serial bytes is = taken_reads rules m now at c l (request_of (changes_of c) l) serial bytes refl is
 
-read_as : (m : Moment) (t : Turn) (at : ℕ) (c : Client) (serial : ℕ) (bytes : List ℕ) → place_of_client t.client m.clients ≡ Some at → slice_get m.clients at ≡ Some c → ReadsAs c t.line serial bytes → IsReadBelow m t serial bytes
-read_as m t at c serial bytes place there reads = record {
+read_below_front : (m : Moment) (t : Turn) (at : ℕ) (c : Client) (serial : ℕ) (bytes : List ℕ) → place_of_client t.client m.clients ≡ Some at → slice_get m.clients at ≡ Some c → ReadsAs c t.line serial bytes → IsReadBelow m t serial bytes
+read_below_front m t at c serial bytes place there reads = record {
   transaction = reads.transaction;
   oid = reads.reads.oid;
   line = reads.reads.line;
@@ -350,7 +348,7 @@ read_as m t at c serial bytes place there reads = record {
 line_of_reads : (rules : Rules) (m now : Moment) (at : Option ℕ) (t : Turn) (serial : ℕ) (bytes : List ℕ) → place_of_client t.client m.clients ≡ at → IsLineOf rules m at t.line (answer.Data serial bytes) now → IsReadBelow m t serial bytes
 line_of_reads rules m now None t serial bytes place is = not_data (IsReadBelow m t serial bytes) (answer.Data serial bytes) refl (ap is_data is.0)
 line_of_reads rules m now (Some at) t serial bytes place is =
-    read_as m t at is.0 serial bytes place is.1 (unless_reads rules m now at is.0 t.line (connection_refusal m.machine is.0 t.line) serial bytes is.2)
+    read_below_front m t at is.0 serial bytes place is.1 (unless_reads rules m now at is.0 t.line (connection_refusal m.machine is.0 t.line) serial bytes is.2)
 
 opened_data : (m : Moment) (name : List ℕ) (b : Bool) → is_data (if b then (let o : Opening = record { answer = answer.Opened (length m.machine.sessions); moment = record { machine = with_session m.machine; clients = m.clients ++ record { name = name; session = length m.machine.sessions; transaction = None } ∷ []; stamps = m.stamps; counts = m.counts } } in o)
     else (let o : Opening = record { answer = answer.Refused (refusal.TooManySessions (length m.machine.sessions)); moment = m } in o)).answer ≡ false

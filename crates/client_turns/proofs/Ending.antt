@@ -14,16 +14,16 @@ use Rattle.zodb_core.specs.Machine.{Machine, Rules, front_of, switches_of}
 use Rattle.zodb_core.specs.Outcomes.{EndsFor, FaultCounts, outcome_of}
 use Rattle.zodb_core.specs.StepCases.{StepCases, by_step}
 use Rattle.zodb_core.specs.Steps.{Stepped, loaded, step_of}
-use Rattle.client_turns.specs.declared.client.Changes.{Changes}
 use Rattle.client_turns.specs.declared.client.Client.{Client}
-use Rattle.client_turns.specs.declared.client.Work.{Work}
-use Rattle.client_turns.specs.Clients.{Moment, OpenTransaction, begun, no_changes, with_client}
+use Rattle.connection_view.specs.declared.work.Work.{Work}
+use Rattle.client_turns.specs.Clients.{Changes, Moment, OpenTransaction, begun, with_client}
 use Rattle.client_turns.specs.Clients as seen
 use Rattle.client_turns.specs.Lines.{answer_of, client_left, is_committed, transaction_left}
-use Rattle.client_turns.specs.Standing.{AreClientsOf, ClientsState, IsClientOf, IsStepOf, IsWorkOf, IsWorkOfIfSome, LeadsTo, Shows, StandsForMoment, with_work, work_left}
+use Rattle.client_turns.specs.Standing.{AreClientsOf, ClientsState, IsClientOf, IsStepOf, IsWorkOf, IsWorkOfIfSome, LeadsTo, StandsForMoment, new_work, with_work, work_left}
 use Rattle.client_turns.specs.Steps.{IsStepAt}
 use Rattle.client_turns.specs.Turns.{IsTold}
-use Rattle.client_turns.specs.Views.{view_of}
+use Rattle.connection_view.specs.Views.{Later, view_of}
+use Rattle.client_turns.specs.Views.{server_of}
 use Rattle.client_turns.proofs.Placing.{IsClientAt, IsKeptAt, client_at, kept_at, set_at, there_at}
 
 -- ---- what a front says of the machine behind it
@@ -94,17 +94,17 @@ told_front rules b t n (reply.Refused why) told shows = tt
 
 -- ---- what is left of a transaction
 
-shows_itself : (m : Machine) → Shows m (view_of m)
-shows_itself m = record { front = omega arith; switches = omega arith; same = λ unpacked oid. refl; held = λ oid got is. is }
+later_itself : (m : Machine) → Later (view_of (server_of m)) (view_of (server_of m))
+later_itself m = record { front = omega arith; switches = omega arith; held = λ oid front d within is. is; same = λ unpacked oid front within. refl }
 
-begun_left : (m : Machine) (front switches : ℕ) → front_of m.list ≡ front → switches_of m.journal ≡ switches → IsWorkOf m (record { front = front; switches = switches; changes = no_changes }) (begun (view_of m))
-begun_left m front switches front_is switches_is = record { front = front_is; switches = switches_is; changes = refl; shows = shows_itself m }
+begun_left : (m : Machine) (front switches : ℕ) → front_of m.list ≡ front → switches_of m.journal ≡ switches → IsWorkOf m (new_work front switches) (begun (view_of (server_of m)))
+begun_left m front switches front_is switches_is = record { front = front_is; switches = switches_is; changes = refl; later = later_itself m }
 
 voted_left : (m : Machine) (w : Option Work) (t : Option OpenTransaction) → IsWorkOfIfSome m w t → IsWorkOfIfSome m (work_left w reply.Voted) (transaction_left m t reply.Voted)
 voted_left m None None is = tt
 voted_left m None (Some t) is = absurd is
 voted_left m (Some w) None is = absurd is
-voted_left m (Some w) (Some t) is = record { front = is.front; switches = is.switches; changes = ap (λ (x : Changes). record x { is_voted = true }) is.changes; shows = is.shows }
+voted_left m (Some w) (Some t) is = record { front = is.front; switches = is.switches; changes = ap (λ (x : Changes). record x { is_voted = true }) is.changes; later = is.later }
 
 left_is : (m : Machine) (w : Option Work) (t : Option OpenTransaction) (r : Reply) → ShowsFront m r → IsWorkOfIfSome m w t → IsWorkOfIfSome m (work_left w r) (transaction_left m t r)
 left_is m w t (reply.Front front news switches) shows is = begun_left m front switches shows.0 shows.1

@@ -13,8 +13,7 @@ use Rattle.zb_script.specs.declared.line.Line.{Line}
 use Rattle.zb_script.specs.declared.line.Line.TheVariants as line
 use Rattle.zb_script.specs.declared.line.Turn.{Turn}
 use Rattle.zb_script.specs.declared.tree_call.TreeCall.{TreeCall}
-use Rattle.commit_phases.specs.Pending.{PendingChanges, excess_with, pending_of, with_pending}
-use Rattle.connection_view.specs.Connections.{behind_stored, stored_on, stores_after}
+use Rattle.commit_phases.specs.Pending.{PendingChanges, behind_stored, excess_with, pending_of, stored_on, stores_after, with_pending}
 use Rattle.tree_calls.specs.declared.attempt.Made.{Made}
 use Rattle.zodb_core.specs.declared.reply.Reply.{Reply}
 use Rattle.zodb_core.specs.declared.reply.Reply.TheVariants as reply
@@ -26,9 +25,7 @@ use Rattle.zodb_core.specs.Machine.{Machine, Rules, with_session}
 use Rattle.zodb_core.specs.Outcomes.{machine_left, outcome_of}
 use Rattle.zodb_core.specs.Sound.{GoesOnTo, IsDistinctRequest, IsSoundMachine, moved, unmoved}
 use Rattle.zodb_core.specs.SoundLaws.{comes_twice, grows_not, grows_to, grows_twice, left_goes_on, left_sound, opened_sound, sound_later}
-use Rattle.client_turns.specs.declared.client.Changes.{Changes}
-use Rattle.client_turns.specs.declared.got.Got.{Got}
-use Rattle.client_turns.specs.Clients.{Client, Moment, OpenTransaction, changes_of, place_of_client}
+use Rattle.client_turns.specs.Clients.{Changes, Client, Moment, OpenTransaction, changes_of, place_of_client}
 use Rattle.client_turns.specs.Laws.{AreOnce, Follows, IsOnceClient, IsOncePending, IsSoundMoment}
 use Rattle.client_turns.specs.Lines.{Changed, checked, client_left, is_committed, outcome_of_result, put, request_of, rolled_back, rolled_to, saved, store_unless, stored, transaction_left, with_changes}
 use Rattle.client_turns.specs.Refusing.{connection_refusal}
@@ -37,7 +34,7 @@ use Rattle.client_turns.specs.Trees.{IsRaised, IsTreeEnd, IsTreeLine, all_stored
 use Rattle.client_turns.specs.TurnLaws.{by_name, own_raised}
 use Rattle.client_turns.specs.Steps.{IsChange, IsStepAt}
 use Rattle.client_turns.specs.Turns.{IsAnswered, IsClosed, IsClosing, IsGet, IsLine, IsLineOf, IsLineTaken, IsLineUnless, IsOpening, IsOwnLine, IsPut, IsStepLine, IsTold, IsWithin, Opening}
-use Rattle.client_turns.specs.Views.{View}
+use Rattle.connection_view.specs.Views.{View}
 
 -- ---- machines that steps lead to
 
@@ -104,8 +101,8 @@ stored_once : (t : Changes) (p : PendingStore) (o : Option ℕ) → AreOnce t �
 stored_once t p None once = (pending_once t.pending.stores p once.0, once.1)
 stored_once t p (Some n) once = once
 
-put_once : (t : Changes) (oid : ℕ) (bytes : List ℕ) (read : Result Got Refusal) → AreOnce t → AreOnce (put t oid bytes read).changes
-put_once t oid bytes (Ok got) once = stored_once t (record { oid = oid; base = got.serial; bytes = bytes }) (excess_with t.pending.stores (record { oid = oid; base = got.serial; bytes = bytes })) once
+put_once : (t : Changes) (oid : ℕ) (bytes : List ℕ) (read : Result (ℕ × List ℕ) Refusal) → AreOnce t → AreOnce (put t oid bytes read).changes
+put_once t oid bytes (Ok got) once = stored_once t (record { oid = oid; base = got.0; bytes = bytes }) (excess_with t.pending.stores (record { oid = oid; base = got.0; bytes = bytes })) once
 put_once t oid bytes (Err refusal.TidsSpent) once = once
 put_once t oid bytes (Err refusal.StoreFault) once = once
 put_once t oid bytes (Err (refusal.Conflict a0 a1 a2 a3)) once = once

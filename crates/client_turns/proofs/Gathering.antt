@@ -21,21 +21,20 @@ use Rattle.tree_calls.specs.declared.known.Seen.{Seen}
 use Rattle.tree_calls.specs.declared.operation.TreeOperation.{TreeOperation}
 use Rattle.tree_calls.specs.Calls.{IsRefused}
 use Rattle.tree_calls.specs.Known.{Agrees, known_at}
-use Rattle.client_turns.specs.declared.client.Changes.{Changes}
 use Rattle.client_turns.specs.declared.client.Client.{Client}
-use Rattle.client_turns.specs.declared.client.Work.{Work}
-use Rattle.client_turns.specs.declared.got.Got.{Got}
-use Rattle.client_turns.specs.Clients.{Moment, OpenTransaction}
+use Rattle.connection_view.specs.declared.work.Work.{Work}
+use Rattle.client_turns.specs.Clients.{Changes, Moment, OpenTransaction}
 use Rattle.client_turns.specs.Clients as seen
 use Rattle.client_turns.specs.DrawLaws.{new_reply, refused_answers}
 use Rattle.client_turns.specs.Gathering.{IsDrawIn, IsDrawOf, IsListKept, IsSightIn, IsSightOf, number_in, objects_kept, objects_over, over_known, seen_as, seen_or, seen_read}
 use Rattle.client_turns.specs.Lines.{IsCountedBy, outcome_of_read, outcome_of_result}
-use Rattle.client_turns.specs.Reads.{IsMissing, held_below}
-use Rattle.client_turns.specs.Standing.{ClientsState, IsReadIn, IsReadOf, IsWorkOf, LeadsTo, MayReadAt, Shows, StandsForMoment}
+use Rattle.connection_view.specs.Loading.{IsMissing}
+use Rattle.client_turns.specs.Standing.{ClientsState, IsReadIn, IsReadOf, IsWorkOf, LeadsTo, MayReadAt, StandsForMoment}
 use Rattle.client_turns.specs.Steps.{IsReadAt, IsStepAt}
 use Rattle.client_turns.specs.Trees.{Draws, IsDrawn, IsInView, IsSeen, IsSeenIn}
 use Rattle.client_turns.specs.TurnLaws.{step_at_left}
-use Rattle.client_turns.specs.Views.{View}
+use Rattle.connection_view.specs.Views.{Later, View, read_below, view_of}
+use Rattle.client_turns.specs.Views.{server_of}
 use Rattle.client_turns.proofs.Owning.{IsAt, is_at}
 use Rattle.client_turns.proofs.Placing.{IsClientAt, client_at, there_at}
 
@@ -59,27 +58,27 @@ known_more P before now oid seen learned all one o x there = by_number (eqb oid 
 
 -- ---- what a transaction has
 
-in_view : (m : Machine) (v : View) (oid : ℕ) (o : Option Got) → Shows m v → held_below oid v.front m.list ≡ o → IsInView m v oid (option_map seen_as o)
-in_view m v oid (Some got) shows is = shows.held oid got is
-in_view m v oid None shows is = by_switches (nat_lt v.switches (switches_of m.journal)) refl
+in_view : (m : Machine) (v : View) (oid : ℕ) (o : Option (ℕ × List ℕ)) → Later v (view_of (server_of m)) → read_below oid v.front m.list ≡ o → IsInView m v oid (option_map seen_as o)
+in_view m v oid (Some got) later is = later.held oid v.front got (omega arith) is
+in_view m v oid None later is = by_switches (nat_lt v.switches (switches_of m.journal)) refl
   where
-    by_switches : (b : Bool) → nat_lt v.switches (switches_of m.journal) ≡ b → (packed : Bool) × IsMissing m v oid packed
+    by_switches : (b : Bool) → nat_lt v.switches (switches_of m.journal) ≡ b → (packed : Bool) × IsMissing v (server_of m) oid packed
     by_switches true less = (true, (ltb-true v.switches (switches_of m.journal) less, is))
     by_switches false not =
-        let same : v.switches ≡ switches_of m.journal = omega (arith, ltb-false v.switches (switches_of m.journal) not, shows.switches) in
-        (false, (sym same, sym (shows.same same oid) ∙ is))
+        let same : v.switches ≡ switches_of m.journal = omega (arith, ltb-false v.switches (switches_of m.journal) not, later.switches) in
+        (false, (sym same, sym (later.same same oid v.front (omega arith)) ∙ is))
 
-seen_waiting : (m : Machine) (v : View) (oid : ℕ) (p : Option PendingStore) (o : Option Got) → Shows m v → held_below oid v.front m.list ≡ o → IsSeen m v oid p (seen_or p o)
-seen_waiting m v oid (Some p) o shows is = refl
-seen_waiting m v oid None o shows is = in_view m v oid o shows is
+seen_waiting : (m : Machine) (v : View) (oid : ℕ) (p : Option PendingStore) (o : Option (ℕ × List ℕ)) → Later v (view_of (server_of m)) → read_below oid v.front m.list ≡ o → IsSeen m v oid p (seen_or p o)
+seen_waiting m v oid (Some p) o later is = refl
+seen_waiting m v oid None o later is = in_view m v oid o later is
 
 -- what a transaction keeps has of an object what the transaction has
 pub seen_kept : (m : Machine) (w : Work) (t : OpenTransaction) (list : List Transaction) (oid : ℕ) → IsWorkOf m w t → m.list ≡ list → IsSeenIn m t oid (objects_kept list w oid)
 seen_kept m w t list oid is same =
     subst (λ (l : List Transaction). IsSeenIn m t oid (objects_kept l w oid)) same
-    (subst (λ (f : ℕ). IsSeenIn m t oid (seen_or (pending_of w.changes.pending.stores oid) (held_below oid f m.list))) is.front
-    (subst (λ (ch : Changes). IsSeenIn m t oid (seen_or (pending_of ch.pending.stores oid) (held_below oid t.view.front m.list))) is.changes
-    (seen_waiting m t.view oid (pending_of t.changes.pending.stores oid) (held_below oid t.view.front m.list) is.shows refl)))
+    (subst (λ (f : ℕ). IsSeenIn m t oid (seen_or (pending_of w.pending.stores oid) (read_below oid f m.list))) is.front
+    (subst (λ (ch : Changes). IsSeenIn m t oid (seen_or (pending_of ch.pending.stores oid) (read_below oid t.view.front m.list))) is.changes
+    (seen_waiting m t.view oid (pending_of t.changes.pending.stores oid) (read_below oid t.view.front m.list) is.later refl)))
 
 pub seen_over : (m : Machine) (t : OpenTransaction) (oid : ℕ) (o : Option (Option Seen)) (x : Option Seen) → ((y : Option Seen) → o ≡ Some y → IsSeenIn m t oid y) → IsSeenIn m t oid x → IsSeenIn m t oid (over_known o x)
 seen_over m t oid (Some y) x known kept = known y refl
@@ -88,7 +87,7 @@ seen_over m t oid None x known kept = kept
 -- a machine with the same list and journal, for reads
 in_same : (a b : Machine) (v : View) (oid : ℕ) (x : Option Seen) → b.list ≡ a.list → b.journal ≡ a.journal → IsInView a v oid x → IsInView b v oid x
 in_same a b v oid (Some x) list journal is = is
-in_same a b v oid None list journal (true, (less, none)) = (true, (subst (λ j. v.switches < switches_of j) (sym journal) less, ap (λ (l : List Transaction). held_below oid v.front l) list ∙ none))
+in_same a b v oid None list journal (true, (less, none)) = (true, (subst (λ j. v.switches < switches_of j) (sym journal) less, ap (λ (l : List Transaction). read_below oid v.front l) list ∙ none))
 in_same a b v oid None list journal (false, (same, none)) = (false, (ap switches_of journal ∙ same, none))
 
 pub seen_same : (a b : Machine) (v : View) (oid : ℕ) (p : Option PendingStore) (x : Option Seen) → b.list ≡ a.list → b.journal ≡ a.journal → IsSeen a v oid p x → IsSeen b v oid p x
@@ -142,7 +141,7 @@ draw_keeps rules m n r new after leads = record { now = leads.now; holds = step_
 counts_same : (m now : Moment) → now.counts ≡ m.counts → now ≡ record m { counts = now.counts } → now ≡ m
 counts_same m now counts rest = rest ∙ ap (λ (k : FaultCounts). let x : Moment = record { machine = m.machine; clients = m.clients; stamps = m.stamps; counts = k } in x) counts
 
-read_sight : (m now : Moment) (t : OpenTransaction) (oid : ℕ) (read : Result Got Refusal) → pending_of t.changes.pending.stores oid ≡ None → IsReadAt m t.view oid read now → IsSightIn m (Some t) oid (seen_read read) now
+read_sight : (m now : Moment) (t : OpenTransaction) (oid : ℕ) (read : Result (ℕ × List ℕ) Refusal) → pending_of t.changes.pending.stores oid ≡ None → IsReadAt m t.view oid read now → IsSightIn m (Some t) oid (seen_read read) now
 read_sight m now t oid (Ok got) none read =
     (counts_same m now read.counts read.rest, subst (λ (p : Option PendingStore). IsSeen m.machine t.view oid p (Some (seen_as got))) (sym none) read.ends)
 read_sight m now t oid (Err (refusal.Missing o packed)) none read =
@@ -196,7 +195,7 @@ sight_starved m at oid old before stands may =
     record { now = m; holds = (k.client, k.there, sight_at m m k.transaction k.client oid (Err refusal.Memory) k.begun (inr (refl, refl))); stands = stands }
 
 pub sight_waiting : {R F : Type 0} (m : Moment) (at oid : ℕ) (p : PendingStore) (x : Seen) (old : ClientsState R F) (before : Option (List Stamp)) → StandsForMoment old before m → MayReadAt m at
-    → ((y : Client) (w : Work) → slice_get old.clients at ≡ Some y → y.transaction ≡ Some w → pending_of w.changes.pending.stores oid ≡ Some p) → x ≡ record { serial = p.base; bytes = p.bytes }
+    → ((y : Client) (w : Work) → slice_get old.clients at ≡ Some y → y.transaction ≡ Some w → pending_of w.pending.stores oid ≡ Some p) → x ≡ record { serial = p.base; bytes = p.bytes }
     → LeadsTo (IsSightOf m at oid (Ok (Some x))) old before
 sight_waiting m at oid p x old before stands may waits is =
     let k : IsAt m at old = is_at m at old before stands may in
@@ -212,8 +211,8 @@ sight_waiting m at oid p x old before stands may waits is =
       stands = stands;
     }
 
-pub sight_read : {R F : Type 0} (m : Moment) (at oid : ℕ) (read : Result Got Refusal) (result : Result (Option Seen) Refusal) (old new : ClientsState R F) (before after : Option (List Stamp)) → StandsForMoment old before m → MayReadAt m at
-    → ((y : Client) (w : Work) → slice_get old.clients at ≡ Some y → y.transaction ≡ Some w → pending_of w.changes.pending.stores oid ≡ None) → result ≡ seen_read read
+pub sight_read : {R F : Type 0} (m : Moment) (at oid : ℕ) (read : Result (ℕ × List ℕ) Refusal) (result : Result (Option Seen) Refusal) (old new : ClientsState R F) (before after : Option (List Stamp)) → StandsForMoment old before m → MayReadAt m at
+    → ((y : Client) (w : Work) → slice_get old.clients at ≡ Some y → y.transaction ≡ Some w → pending_of w.pending.stores oid ≡ None) → result ≡ seen_read read
     → LeadsTo (IsReadOf m at oid read) new after → LeadsTo (IsSightOf m at oid result) new after
 sight_read m at oid read result old new before after stands may waits is leads =
     let k : IsAt m at old = is_at m at old before stands may in
@@ -232,7 +231,7 @@ sight_read m at oid read result old new before after stands may waits is leads =
       stands = leads.stands;
     }
 
-seen_outcome : (read : Result Got Refusal) → outcome_of_result (seen_read read) ≡ outcome_of_read read
+seen_outcome : (read : Result (ℕ × List ℕ) Refusal) → outcome_of_result (seen_read read) ≡ outcome_of_read read
 seen_outcome (Ok got) = refl
 seen_outcome (Err (refusal.Missing o packed)) = refl
 seen_outcome (Err refusal.TidsSpent) = refl
@@ -272,7 +271,7 @@ seen_outcome (Err (refusal.Connected a0)) = refl
 seen_outcome (Err refusal.StepsSpent) = refl
 seen_outcome (Err refusal.Memory) = refl
 
-pub sight_cause : (before now : FaultCounts) (read : Result Got Refusal) (result : Result (Option Seen) Refusal) → result ≡ seen_read read → IsCountedBy before now (outcome_of_read read) → IsCountedBy before now (outcome_of_result result)
+pub sight_cause : (before now : FaultCounts) (read : Result (ℕ × List ℕ) Refusal) (result : Result (Option Seen) Refusal) → result ≡ seen_read read → IsCountedBy before now (outcome_of_read read) → IsCountedBy before now (outcome_of_result result)
 sight_cause before now read result is counts = subst (IsCountedBy before now) (sym (ap outcome_of_result is ∙ seen_outcome read)) counts
 
 -- ---- draws

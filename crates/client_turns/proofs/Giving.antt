@@ -31,9 +31,7 @@ use Rattle.zodb_core.specs.Machine.{Machine, MachineVote, Rules, front_of, with_
 use Rattle.zodb_core.specs.Outcomes.{EndsFor, FaultCounts, outcome_of}
 use Rattle.pack_reach.specs.Reached.{unreadable}
 use Rattle.zodb_core.specs.Steps.{Stepped, changes_in_journal, early_refusal, finish_gives, finish_step, journal_limit, loaded, pack_tid, replied_refusal, request_step, step_of, switch_unless, transaction_with, unless_early, vote_at, vote_counted, vote_step, with_vote}
-use Rattle.client_turns.specs.declared.client.Changes.{Changes}
-use Rattle.client_turns.specs.declared.got.Got.{Got}
-use Rattle.client_turns.specs.Clients.{Client, Moment, OpenTransaction, changes_of, place_of_client}
+use Rattle.client_turns.specs.Clients.{Changes, Client, Moment, OpenTransaction, changes_of, place_of_client}
 use Rattle.client_turns.specs.Laws.{front_given, number_given}
 use Rattle.client_turns.specs.Lines.{answer_of, data_of, is_committed, object_of, pending_in, put, request_of, rolled_back, rolled_to, saved, store_unless, stored}
 use Rattle.client_turns.specs.Refusing.{connection_refusal}
@@ -41,7 +39,7 @@ use Rattle.client_turns.specs.DrawLaws.{tree_answer}
 use Rattle.client_turns.specs.Trees.{answer_told}
 use Rattle.client_turns.specs.TurnLaws.{by_name}
 use Rattle.client_turns.specs.Turns.{IsGet, IsLine, IsLineOf, IsLineTaken, IsLineUnless, IsOpening, IsOwnLine, IsPut, IsStepLine, IsTold, IsWithin, Opening}
-use Rattle.client_turns.specs.Views.{View}
+use Rattle.connection_view.specs.Views.{View}
 
 -- ---- one number at a time
 
@@ -196,20 +194,20 @@ store_quiet m now t p (Some n) = quiet m now (answer.Refused (refusal.TooLong n)
 as_quiet : (m now : Machine) (a b : Answer) → a ≡ b → Gives m now b → Gives m now a
 as_quiet m now a b is gives = subst (Gives m now) (sym is) gives
 
-data_quiet : (m now : Machine) (r : Result Got Refusal) → Gives m now (data_of r)
-data_quiet m now (Ok got) = quiet m now (answer.Data got.serial got.bytes) refl refl
+data_quiet : (m now : Machine) (r : Result (ℕ × List ℕ) Refusal) → Gives m now (data_of r)
+data_quiet m now (Ok got) = quiet m now (answer.Data got.0 got.1) refl refl
 data_quiet m now (Err why) = quiet m now (answer.Refused why) refl refl
 
-object_quiet : (m now : Machine) (r : Result Got Refusal) → Gives m now (object_of r)
-object_quiet m now (Ok got) = quiet m now (answer.Object got.serial got.bytes) refl refl
+object_quiet : (m now : Machine) (r : Result (ℕ × List ℕ) Refusal) → Gives m now (object_of r)
+object_quiet m now (Ok got) = quiet m now (answer.Object got.0 got.1) refl refl
 object_quiet m now (Err why) = quiet m now (answer.Refused why) refl refl
 
 get_gives : (m now : Moment) (v : View) (oid : ℕ) (o : Option PendingStore) (a : Answer) → IsGet m v oid o a now → Gives m.machine now.machine a
 get_gives m now v oid None a is = as_quiet m.machine now.machine a (object_of is.0) is.2 (object_quiet m.machine now.machine is.0)
 get_gives m now v oid (Some p) a is = as_quiet m.machine now.machine a (answer.Object p.base p.bytes) is.0 (quiet m.machine now.machine (answer.Object p.base p.bytes) refl refl)
 
-put_quiet : (m now : Machine) (t : Changes) (oid : ℕ) (bytes : List ℕ) (read : Result Got Refusal) → Gives m now (put t oid bytes read).answer
-put_quiet m now t oid bytes (Ok got) = store_quiet m now t (record { oid = oid; base = got.serial; bytes = bytes }) (excess_with t.pending.stores (record { oid = oid; base = got.serial; bytes = bytes }))
+put_quiet : (m now : Machine) (t : Changes) (oid : ℕ) (bytes : List ℕ) (read : Result (ℕ × List ℕ) Refusal) → Gives m now (put t oid bytes read).answer
+put_quiet m now t oid bytes (Ok got) = store_quiet m now t (record { oid = oid; base = got.0; bytes = bytes }) (excess_with t.pending.stores (record { oid = oid; base = got.0; bytes = bytes }))
 put_quiet m now t oid bytes (Err refusal.TidsSpent) = refused_gives m now (answer.Refused refusal.TidsSpent) refusal.TidsSpent refl
 put_quiet m now t oid bytes (Err refusal.StoreFault) = refused_gives m now (answer.Refused refusal.StoreFault) refusal.StoreFault refl
 put_quiet m now t oid bytes (Err (refusal.Conflict a0 a1 a2 a3)) = refused_gives m now (answer.Refused (refusal.Conflict a0 a1 a2 a3)) (refusal.Conflict a0 a1 a2 a3) refl

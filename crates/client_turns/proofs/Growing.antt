@@ -1,4 +1,4 @@
--- How a machine goes on by a step, and what it then still shows.
+-- How a machine goes on by a step, and which views its list then came of.
 use Rattle.std.proofs.Common.{◌≡◌, ℕ, ◌<◌, ◌≤◌, inl, inr, Bool, true, false, cond, List, Option, Some, None, refl, sym, ap, subst, ◌∙◌, arith}
 use Rattle.std.specs.Prelude.{IfSome}
 use Rattle.std.specs.Option.{option_and_then}
@@ -17,10 +17,9 @@ use Rattle.zodb_core.specs.SoundLaws.{front_later, grows_to, left_goes_on, no_sw
 use Rattle.zodb_core.specs.StepCases.{StepCases, by_ending, by_step}
 use Rattle.zodb_core.specs.Steps.{Stepped, step_of}
 use Rattle.zodb_core.specs.SwitchLaws.{record_becomes}
-use Rattle.client_turns.specs.declared.got.Got.{Got}
-use Rattle.client_turns.specs.Reads.{got_as, got_of, held_below}
-use Rattle.client_turns.specs.Standing.{Shows, WritesLater}
-use Rattle.client_turns.specs.Views.{View}
+use Rattle.connection_view.specs.Views.{Later, View, read_as, read_below, read_from, view_of}
+use Rattle.client_turns.specs.Standing.{WritesLater}
+use Rattle.client_turns.specs.Views.{server_of}
 
 -- ---- steps
 
@@ -97,48 +96,47 @@ made_as rules m n q stamp made a b StoreFailed ends is = absurd cc
 -- ---- what is below a front
 
 -- a record that a list has there, as its revision, and back
-held_content : (serial : ℕ) (content : Content) (got : Got) → got_as serial content ≡ Some got → ◌≡◌ {A = Option ObjectRevision} (Some (record { serial = serial; content = content })) (Some (record { serial = got.serial; content = Held got.bytes }))
-held_content serial Absent got is = absurd cc
-held_content serial (Held bytes) got is =
-    let made : Got = record { serial = serial; bytes = bytes } in
-    ap (λ (g : Got). let r : ObjectRevision = record { serial = g.serial; content = Held g.bytes } in Some r) (same_Some made got is)
+held_content : (serial : ℕ) (content : Content) (d : ℕ × List ℕ) → read_as serial content ≡ Some d → ◌≡◌ {A = Option ObjectRevision} (Some (record { serial = serial; content = content })) (Some (record { serial = d.0; content = Held d.1 }))
+held_content serial Absent d is = absurd cc
+held_content serial (Held bytes) d is =
+    ap (λ (g : ℕ × List ℕ). let r : ObjectRevision = record { serial = g.0; content = Held g.1 } in Some r) (same_Some (serial, bytes) d is)
 
-held_revision : (o : Option ObjectRevision) (got : Got) → option_and_then got_of o ≡ Some got → o ≡ Some (record { serial = got.serial; content = Held got.bytes })
-held_revision None got is = absurd cc
-held_revision (Some r) got is = held_content r.serial r.content got is
+held_revision : (o : Option ObjectRevision) (d : ℕ × List ℕ) → option_and_then read_from o ≡ Some d → o ≡ Some (record { serial = d.0; content = Held d.1 })
+held_revision None d is = absurd cc
+held_revision (Some r) d is = held_content r.serial r.content d is
 
-grown_held : (oid front : ℕ) (before now : List Transaction) → front ≤ front_of before → GrowsByOne before now → held_below oid front now ≡ held_below oid front before
-grown_held oid front before now within grows = ap (option_and_then got_of) (revision_grown oid front before now (grows_to before now grows) within)
+grown_read : (oid front : ℕ) (before now : List Transaction) → front ≤ front_of before → GrowsByOne before now → read_below oid front now ≡ read_below oid front before
+grown_read oid front before now within grows = ap (option_and_then read_from) (revision_grown oid front before now (grows_to before now grows) within)
 
-shows_grown : (m now : Machine) (v : View) → GrowsOn m now → Shows m v → Shows now v
-shows_grown m now v grows shows = record {
-  front = omega (arith, shows.front, front_later m.list now.list (inl grows.list));
-  switches = omega (arith, shows.switches, grows.switches);
-  same = λ unpacked oid. grown_held oid v.front m.list now.list shows.front grows.list ∙ shows.same (unpacked ∙ grows.switches) oid;
-  held = λ oid got found. shows.held oid got (sym (grown_held oid v.front m.list now.list shows.front grows.list) ∙ found);
+later_grown : (m now : Machine) (v : View) → GrowsOn m now → Later v (view_of (server_of m)) → Later v (view_of (server_of now))
+later_grown m now v grows later = record {
+  front = omega (arith, later.front, front_later m.list now.list (inl grows.list));
+  switches = omega (arith, later.switches, grows.switches);
+  held = λ oid front d within found. later.held oid front d within (sym (grown_read oid front m.list now.list (omega (arith, within, later.front)) grows.list) ∙ found);
+  same = λ unpacked oid front within. grown_read oid front m.list now.list (omega (arith, within, later.front)) grows.list ∙ later.same (unpacked ∙ grows.switches) oid front within;
 }
 
-shows_later : (m now : Machine) (v : View) → IsDatabase m.list → GoesOnTo m now → Shows m v → Shows now v
-shows_later m now v is goes shows = record {
-  front = omega (arith, shows.front, front_later m.list now.list goes.becomes);
-  switches = omega (arith, shows.switches, goes.switches);
-  same = λ unpacked oid.
-      let still : switches_of now.journal ≡ switches_of m.journal = omega (arith, unpacked, shows.switches, goes.switches) in
-      grown_held oid v.front m.list now.list shows.front (goes.grows still) ∙ shows.same (unpacked ∙ still) oid;
-  held = λ oid got found. shows.held oid got
-      (ap (option_and_then got_of) (record_becomes oid v.front got.serial got.bytes m.list now.list is goes.becomes shows.front (held_revision (revision_below oid v.front now.list) got found)));
+later_becomes : (m now : Machine) (v : View) → IsDatabase m.list → GoesOnTo m now → Later v (view_of (server_of m)) → Later v (view_of (server_of now))
+later_becomes m now v is goes later = record {
+  front = omega (arith, later.front, front_later m.list now.list goes.becomes);
+  switches = omega (arith, later.switches, goes.switches);
+  held = λ oid front d within found. later.held oid front d within
+      (ap (option_and_then read_from) (record_becomes oid front d.0 d.1 m.list now.list is goes.becomes (omega (arith, within, later.front)) (held_revision (revision_below oid front now.list) d found)));
+  same = λ unpacked oid front within.
+      let still : switches_of now.journal ≡ switches_of m.journal = omega (arith, unpacked, later.switches, goes.switches) in
+      grown_read oid front m.list now.list (omega (arith, within, later.front)) (goes.grows still) ∙ later.same (unpacked ∙ still) oid front within;
 }
 
--- a step still shows each view: it is one of a database, where it packed
-pub made_shows : (rules : Rules) (m : Machine) (n : ℕ) (q : Request) (stamp : ℕ) (made : Stepped) (before now : FaultCounts) (v : View) → WritesLater m.list m.vote → (is_packed made.reply ≡ true → IsDatabase m.list)
-    → IsStepMade rules m n q stamp made before now → Shows m v → Shows made.machine v
-made_shows rules m n q stamp made before now v writes database step shows =
-    subst (λ (x : Machine). Shows x v) (sym step.left) (by_reply (is_packed made.reply) refl)
+-- a step's list came of each view of which the list before it came: it is one of a database, where it packed
+pub made_later : (rules : Rules) (m : Machine) (n : ℕ) (q : Request) (stamp : ℕ) (made : Stepped) (before now : FaultCounts) (v : View) → WritesLater m.list m.vote → (is_packed made.reply ≡ true → IsDatabase m.list)
+    → IsStepMade rules m n q stamp made before now → Later v (view_of (server_of m)) → Later v (view_of (server_of made.machine))
+made_later rules m n q stamp made before now v writes database step later =
+    subst (λ (x : Machine). Later v (view_of (server_of x))) (sym step.left) (by_reply (is_packed made.reply) refl)
   where
-    by_reply : (b : Bool) → is_packed made.reply ≡ b → Shows (machine_left rules m n q stamp (outcome_of made.reply)) v
-    by_reply true is = shows_later m _ v (database is) (left_goes_on rules m n q stamp (outcome_of made.reply) (votes_later m.list m.vote writes)) shows
+    by_reply : (b : Bool) → is_packed made.reply ≡ b → Later v (view_of (server_of (machine_left rules m n q stamp (outcome_of made.reply))))
+    by_reply true is = later_becomes m _ v (database is) (left_goes_on rules m n q stamp (outcome_of made.reply) (votes_later m.list m.vote writes)) later
     by_reply false is =
-        shows_grown m _ v
+        later_grown m _ v
         (left_grown rules m n q stamp (outcome_of made.reply) (votes_later m.list m.vote writes)
         (λ answered. ap (λ (s : Stepped). is_packed s.reply) (sym (made_as rules m n q stamp made before now (outcome_of made.reply) step.cause answered)) ∙ is))
-        shows
+        later

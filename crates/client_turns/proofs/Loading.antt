@@ -19,15 +19,15 @@ use Rattle.zodb_core.specs.Machine.{Machine, Rules, is_open_in, switches_of}
 use Rattle.zodb_core.specs.Outcomes.{Answered, EndsFor, FaultCounts, NoMemory, ReadingFailed, StepOutcome, StoreFailed, machine_left, outcome_of, outcome_of_refusal}
 use Rattle.zodb_core.specs.Steps.{Stepped, loaded, refuse_if, replied, step_of, unless_early}
 use Rattle.client_turns.specs.declared.client.Client.{Client}
-use Rattle.client_turns.specs.declared.client.Work.{Work}
-use Rattle.client_turns.specs.declared.got.Got.{Got}
+use Rattle.connection_view.specs.declared.work.Work.{Work}
 use Rattle.client_turns.specs.Clients.{Moment, OpenTransaction}
 use Rattle.client_turns.specs.Clients as clients
 use Rattle.client_turns.specs.Lines.{IsCountedBy, outcome_of_read}
-use Rattle.client_turns.specs.Reads.{EndsReading, Reads, got_as, got_of}
-use Rattle.client_turns.specs.Standing.{ClientsState, IsReadIn, IsReadOf, IsWorkOf, IsWorkOfIfSome, LeadsTo, MayReadAt, Shows, StandsForMoment, reply_read}
+use Rattle.client_turns.specs.Reads.{EndsReading, IsMissedFor}
+use Rattle.client_turns.specs.Standing.{ClientsState, IsReadIn, IsReadOf, IsWorkOf, IsWorkOfIfSome, LeadsTo, MayReadAt, StandsForMoment, reply_read}
 use Rattle.client_turns.specs.Steps.{IsReadAt, IsStepAt}
-use Rattle.client_turns.specs.Views.{View}
+use Rattle.connection_view.specs.Views.{Later, View, read_as, read_from, view_of}
+use Rattle.client_turns.specs.Views.{server_of}
 use Rattle.client_turns.proofs.Placing.{IsKeptAt, kept_at}
 
 -- ---- what a load of an open session is
@@ -39,12 +39,12 @@ load_step rules m n oid front stamp is_open =
 
 -- a reply with a record
 held_content : (m : Machine) (oid serial : ℕ) (bytes : List ℕ) (end : Option ℕ) (upto : ℕ) (s : ℕ) (c : Content) (e : Option ℕ)
-    → reply.Loaded serial bytes end upto ≡ loaded m oid (found_as c s e) → got_as s c ≡ Some (record { serial = serial; bytes = bytes })
+    → reply.Loaded serial bytes end upto ≡ loaded m oid (found_as c s e) → read_as s c ≡ Some (serial, bytes)
 held_content m oid serial bytes end upto s (Held b) e is = cc
 held_content m oid serial bytes end upto s Absent e is = absurd cc
 
 held_found : (m : Machine) (oid serial : ℕ) (bytes : List ℕ) (end : Option ℕ) (upto : ℕ) (r : Option ObjectRevision) (e : Option ℕ)
-    → reply.Loaded serial bytes end upto ≡ loaded m oid (found_of r e) → option_and_then got_of r ≡ Some (record { serial = serial; bytes = bytes })
+    → reply.Loaded serial bytes end upto ≡ loaded m oid (found_of r e) → option_and_then read_from r ≡ Some (serial, bytes)
 held_found m oid serial bytes end upto None e is = absurd cc
 held_found m oid serial bytes end upto (Some r) e is = held_content m oid serial bytes end upto r.serial r.content e is
 
@@ -52,17 +52,17 @@ held_found m oid serial bytes end upto (Some r) e is = held_content m oid serial
 pub record IsNothing (m : Machine) (oid o packed : ℕ) (r : Option ObjectRevision) : Type 0 where
   pub object : o ≡ oid
   pub switches : packed ≡ switches_of m.journal
-  pub none : option_and_then got_of r ≡ None
+  pub none : option_and_then read_from r ≡ None
 
 none_content : (m : Machine) (oid o packed s : ℕ) (c : Content) (e : Option ℕ) → reply.Nothing o packed ≡ loaded m oid (found_as c s e)
-    → (o ≡ oid) × (packed ≡ switches_of m.journal) × (got_as s c ≡ None)
+    → (o ≡ oid) × (packed ≡ switches_of m.journal) × (read_as s c ≡ None)
 none_content m oid o packed s (Held b) e is = absurd cc
 none_content m oid o packed s Absent e is = (cc, cc, refl)
 
 none_found : (m : Machine) (oid o packed : ℕ) (r : Option ObjectRevision) (e : Option ℕ) → reply.Nothing o packed ≡ loaded m oid (found_of r e) → IsNothing m oid o packed r
 none_found m oid o packed None e is = record { object = cc; switches = cc; none = refl }
 none_found m oid o packed (Some r) e is =
-    let both : (o ≡ oid) × (packed ≡ switches_of m.journal) × (got_as r.serial r.content ≡ None) = none_content m oid o packed r.serial r.content e is in
+    let both : (o ≡ oid) × (packed ≡ switches_of m.journal) × (read_as r.serial r.content ≡ None) = none_content m oid o packed r.serial r.content e is in
     record { object = both.0; switches = both.1; none = both.2 }
 
 -- any other reply is none of a load
@@ -78,12 +78,12 @@ each_load m oid (Some r) e P held none = no_content m oid r.serial r.content e P
 
 -- ---- how a read ends
 
-missing_is : (m : Machine) (v : View) (oid o packed : ℕ) (b : Bool) → nat_lt v.switches packed ≡ b → Shows m v → IsNothing m oid o packed (revision_below oid v.front m.list)
-    → Reads m v oid (Err (refusal.Missing o b))
-missing_is m v oid o packed true is shows none = (none.object, (omega (arith, ltb-true v.switches packed is, none.switches), none.none))
-missing_is m v oid o packed false is shows none =
-    let unpacked : v.switches ≡ switches_of m.journal = omega (arith, ltb-false v.switches packed is, none.switches, shows.switches) in
-    (none.object, (sym unpacked, sym (shows.same unpacked oid) ∙ none.none))
+missing_is : (m : Machine) (v : View) (oid o packed : ℕ) (b : Bool) → nat_lt v.switches packed ≡ b → Later v (view_of (server_of m)) → IsNothing m oid o packed (revision_below oid v.front m.list)
+    → IsMissedFor m v oid (refusal.Missing o b)
+missing_is m v oid o packed true is later none = (none.object, (omega (arith, ltb-true v.switches packed is, none.switches), none.none))
+missing_is m v oid o packed false is later none =
+    let unpacked : v.switches ≡ switches_of m.journal = omega (arith, ltb-false v.switches packed is, none.switches, later.switches) in
+    (none.object, (sym unpacked, sym (later.same unpacked oid v.front (omega arith)) ∙ none.none))
 
 refused_ends : (m : Machine) (v : View) (oid : ℕ) (before now : FaultCounts) (why : Refusal) → (outcome_of_refusal why ≡ Answered → ⊥) → (outcome_of_refusal why ≡ ReadingFailed → Rose before.reads now.reads)
     → (outcome_of_refusal why ≡ NoMemory → now ≡ before) → (outcome_of_refusal why ≡ StoreFailed → ⊥) → EndsReading m v oid before now (Err why)
@@ -125,7 +125,7 @@ refused_ends m v oid before now (refusal.Connected a0) answered failed starved b
 refused_ends m v oid before now refusal.StepsSpent answered failed starved broke = absurd (answered refl)
 refused_ends m v oid before now refusal.Memory answered failed starved broke = starved refl
 
-module _ (rules : Rules) (m : Moment) (n oid stamp : ℕ) (v : View) (made : Stepped) (now : FaultCounts) (shows : Shows m.machine v) (is_open : is_open_in m.machine.sessions n ≡ true) where
+module _ (rules : Rules) (m : Moment) (n oid stamp : ℕ) (v : View) (made : Stepped) (now : FaultCounts) (later : Later v (view_of (server_of m.machine))) (is_open : is_open_in m.machine.sessions n ≡ true) where
   abbrev Ends : StepOutcome → Type 0
   Ends o = EndsFor rules m.machine n (request.LoadBefore oid v.front) stamp made m.counts now o
 
@@ -163,10 +163,10 @@ module _ (rules : Rules) (m : Moment) (n oid stamp : ℕ) (v : View) (made : Ste
 
   reply_ends : (r : Reply) → made.reply ≡ r → (outcome_of r ≡ NoMemory → now ≡ m.counts) → Ends (outcome_of r) → EndsReading m.machine v oid m.counts now (reply_read r v.switches)
   reply_ends (reply.Loaded serial bytes end upto) is calm ends =
-      shows.held oid (record { serial = serial; bytes = bytes })
+      later.held oid v.front (serial, bytes) (omega arith)
       (held_found m.machine oid serial bytes end upto (revision_below oid v.front m.machine.list) (end_of oid v.front m.machine.list) (sym is ∙ answered_reply ends))
   reply_ends (reply.Nothing o packed) is calm ends =
-      missing_is m.machine v oid o packed (nat_lt v.switches packed) refl shows
+      missing_is m.machine v oid o packed (nat_lt v.switches packed) refl later
       (none_found m.machine oid o packed (revision_below oid v.front m.machine.list) (end_of oid v.front m.machine.list) (sym is ∙ answered_reply ends))
   reply_ends (reply.Refused why) is calm ends =
       refused_ends m.machine v oid m.counts now why (λ o. never_answered why (outcome_of_refusal why) is o ends) (λ o. failed_rose (outcome_of_refusal why) o ends) calm (λ o. never_broke (outcome_of_refusal why) o ends)
@@ -215,12 +215,12 @@ read_outcome (reply.Nothing oid packed) switches = refl
 read_outcome (reply.Refused why) switches = refl
 read_outcome _ switches = refl
 
--- a load in an open session is a read in a view that the list still shows
-step_reads : (rules : Rules) (m : Moment) (n oid : ℕ) (v : View) (r : Reply) (now : Moment) → Shows m.machine v → is_open_in m.machine.sessions n ≡ true
+-- a load in an open session is a read in a view of which the list came
+step_reads : (rules : Rules) (m : Moment) (n oid : ℕ) (v : View) (r : Reply) (now : Moment) → Later v (view_of (server_of m.machine)) → is_open_in m.machine.sessions n ≡ true
     → (outcome_of r ≡ NoMemory → now.counts ≡ m.counts) → IsStepAt rules m n (request.LoadBefore oid v.front) r now → IsReadAt m v oid (reply_read r v.switches) now
-step_reads rules m n oid v r now shows is_open calm step = record {
+step_reads rules m n oid v r now later is_open calm step = record {
   later = step.made.later;
-  ends = reply_ends rules m n oid step.stamp v (record { reply = r; machine = now.machine; ticks = step.ticks }) now.counts shows is_open r refl calm step.made.cause;
+  ends = reply_ends rules m n oid step.stamp v (record { reply = r; machine = now.machine; ticks = step.ticks }) now.counts later is_open r refl calm step.made.cause;
   counts = subst (λ (o : StepOutcome). IsCountedBy m.counts now.counts o) (sym (read_outcome r v.switches)) step.counts;
   rest = moment_is m now
       (step.made.left ∙ load_left rules m.machine n oid v.front step.stamp (record { reply = r; machine = now.machine; ticks = step.ticks }) m.counts now.counts (outcome_of r) is_open step.made.cause)
@@ -257,7 +257,7 @@ module _ {R F : Type 0} (rules : Rules) (m : Moment) (at oid : ℕ) (old new : C
       same_work : (a b : Work) → Some a ≡ Some b → a ≡ b
       same_work a b e = cc
 
-  pub read_done : (w : Work) (n : ℕ) (r : Reply) (result : Result Got Refusal) → result ≡ reply_read r w.switches → ((x : Client) → slice_get old.clients at ≡ Some x → Some w ≡ x.transaction) → ((x : Client) → slice_get old.clients at ≡ Some x → n ≡ x.session)
+  pub read_done : (w : Work) (n : ℕ) (r : Reply) (result : Result (ℕ × List ℕ) Refusal) → result ≡ reply_read r w.switches → ((x : Client) → slice_get old.clients at ≡ Some x → Some w ≡ x.transaction) → ((x : Client) → slice_get old.clients at ≡ Some x → n ≡ x.session)
       → (outcome_of r ≡ NoMemory → counts_of new.hub.store ≡ counts_of old.hub.store) → LeadsTo (IsStepAt rules m n (request.LoadBefore oid w.front) r) new after
       → LeadsTo (IsReadOf m at oid result) new after
   read_done w n r result gives tells session calm leads =
@@ -268,9 +268,9 @@ module _ {R F : Type 0} (rules : Rules) (m : Moment) (at oid : ℕ) (old new : C
       subst (λ (f : ℕ). IsStepAt rules m n (request.LoadBefore oid f) r leads.now) (sym u.2.front) leads.holds in
       let quiet : outcome_of r ≡ NoMemory → leads.now.counts ≡ m.counts = λ is. leads.stands.counts ∙ calm is ∙ sym stands.counts in
       let read : IsReadAt m u.0.view oid (reply_read r u.0.view.switches) leads.now =
-      step_reads rules m n oid u.0.view r leads.now u.2.shows (ap (is_open_in m.machine.sessions) here ∙ may.2) quiet step in
+      step_reads rules m n oid u.0.view r leads.now u.2.later (ap (is_open_in m.machine.sessions) here ∙ may.2) quiet step in
       record {
         now = leads.now;
-        holds = (may.0, may.1, subst (λ (t : Option OpenTransaction). IsReadIn m t oid result leads.now) (sym u.1) (subst (λ (x : Result Got Refusal). IsReadAt m u.0.view oid x leads.now) (ap (reply_read r) u.2.switches ∙ sym gives) read));
+        holds = (may.0, may.1, subst (λ (t : Option OpenTransaction). IsReadIn m t oid result leads.now) (sym u.1) (subst (λ (x : Result (ℕ × List ℕ) Refusal). IsReadAt m u.0.view oid x leads.now) (ap (reply_read r) u.2.switches ∙ sym gives) read));
         stands = leads.stands;
       }

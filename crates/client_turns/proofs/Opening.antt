@@ -60,7 +60,7 @@ open_leads m name n old new left stands number room hub store pushed =
         vote = stands.vote;
         clients = subst (λ (xs : List Client). AreClientsOf (with_session m.machine) xs (m.clients ++ record { name = name; session = n; transaction = None } ∷ [])) (sym pushed)
             (push_at (with_session m.machine) old.clients m.clients (record { name = name; session = n; transaction = None }) (record { name = name; session = n; transaction = None })
-            (clients_later m.machine (with_session m.machine) (λ v shows. record { front = shows.front; switches = shows.switches; same = shows.same; held = shows.held }) old.clients m.clients stands.clients) (record { name = refl; session = refl; transaction = tt }));
+            (clients_later m.machine (with_session m.machine) (λ v later. later) old.clients m.clients stands.clients) (record { name = refl; session = refl; transaction = tt }));
         counts = stands.counts ∙ ap counts_of (sym store);
         stamps = stands.stamps;
       };

@@ -13,14 +13,12 @@ use Rattle.commit_phases.specs.Pending.{pending_of}
 use Rattle.zodb_core.specs.HubState.{HubState, StandsForMachine, counts_of}
 use Rattle.zodb_core.specs.Machine.{Machine}
 use Rattle.zodb_core.specs.Outcomes.{FaultCounts}
-use Rattle.client_turns.specs.declared.client.Changes.{Changes}
 use Rattle.client_turns.specs.declared.client.Client.{Client}
-use Rattle.client_turns.specs.declared.client.Work.{Work}
-use Rattle.client_turns.specs.declared.got.Got.{Got}
-use Rattle.client_turns.specs.Clients.{Moment, OpenTransaction, with_client}
+use Rattle.connection_view.specs.declared.work.Work.{Work}
+use Rattle.client_turns.specs.Clients.{Changes, Moment, OpenTransaction, with_client}
 use Rattle.client_turns.specs.Clients as seen
 use Rattle.client_turns.specs.Lines.{Changed, data_of, object_of, object_pending, put, stored, with_changes}
-use Rattle.client_turns.specs.Standing.{AreClientsOf, ClientsState, IsChangedAt, IsChangedBy, IsClientOf, IsOwnOf, IsReadIn, IsReadOf, IsWorkOf, IsWorkOfIfSome, LeadsTo, MayReadAt, OrAsBefore, StandsForMoment, found_or_missing, with_work}
+use Rattle.client_turns.specs.Standing.{AreClientsOf, ClientsState, IsChangedAt, IsChangedBy, IsClientOf, IsOwnOf, IsReadIn, IsReadOf, IsWorkOf, IsWorkOfIfSome, LeadsTo, MayReadAt, OrAsBefore, StandsForMoment, changes_kept, found_or_missing, with_kept, with_work}
 use Rattle.client_turns.specs.Steps.{IsChange, IsReadAt}
 use Rattle.client_turns.specs.Turns.{IsGet, IsOwnLine, IsPut}
 use Rattle.client_turns.proofs.Placing.{IsKeptAt, kept_at, set_at}
@@ -58,11 +56,11 @@ same_client a b e = cc
 
 -- ---- reads
 
-read_within : (m now : Moment) (at oid : ℕ) (c : seen.Client) (t : Option OpenTransaction) (result : Result Got Refusal) → IsReadIn m t oid result now → IsOwnLine m at c t (line.Load oid) (data_of result) now
+read_within : (m now : Moment) (at oid : ℕ) (c : seen.Client) (t : Option OpenTransaction) (result : Result (ℕ × List ℕ) Refusal) → IsReadIn m t oid result now → IsOwnLine m at c t (line.Load oid) (data_of result) now
 read_within m now at oid c None result read = absurd read
 read_within m now at oid c (Some t) result read = (result, read, refl)
 
-pub load_line : {R F : Type 0} (m : Moment) (at oid : ℕ) (result : Result Got Refusal) (a : Answer) (new : ClientsState R F) (after : Option (List Stamp)) → a ≡ data_of result
+pub load_line : {R F : Type 0} (m : Moment) (at oid : ℕ) (result : Result (ℕ × List ℕ) Refusal) (a : Answer) (new : ClientsState R F) (after : Option (List Stamp)) → a ≡ data_of result
     → LeadsTo (IsReadOf m at oid result) new after → LeadsTo (OrAsBefore (IsOwnOf m at (line.Load oid)) m (Ok a)) new after
 load_line m at oid result a new after answers leads = record {
   now = leads.now;
@@ -77,7 +75,7 @@ load_line m at oid result a new after answers leads = record {
 
 -- get of what waits
 pub get_waiting : {R F : Type 0} (m : Moment) (at oid : ℕ) (p : PendingStore) (a : Answer) (old : ClientsState R F) (before : Option (List Stamp)) → StandsForMoment old before m → MayReadAt m at
-    → ((x : Client) (w : Work) → slice_get old.clients at ≡ Some x → x.transaction ≡ Some w → pending_of w.changes.pending.stores oid ≡ Some p) → a ≡ object_pending p
+    → ((x : Client) (w : Work) → slice_get old.clients at ≡ Some x → x.transaction ≡ Some w → pending_of w.pending.stores oid ≡ Some p) → a ≡ object_pending p
     → LeadsTo (OrAsBefore (IsOwnOf m at (line.Get oid)) m (Ok a)) old before
 get_waiting m at oid p a old before stands may waits answers =
     let k : IsAt m at old = is_at m at old before stands may in
@@ -93,7 +91,7 @@ get_waiting m at oid p a old before stands may waits answers =
       stands = stands;
     }
 
-get_within : (m now : Moment) (at oid : ℕ) (c : seen.Client) (u : OpenTransaction) (t : Option OpenTransaction) (result : Result Got Refusal) → t ≡ Some u → pending_of u.changes.pending.stores oid ≡ None
+get_within : (m now : Moment) (at oid : ℕ) (c : seen.Client) (u : OpenTransaction) (t : Option OpenTransaction) (result : Result (ℕ × List ℕ) Refusal) → t ≡ Some u → pending_of u.changes.pending.stores oid ≡ None
     → IsReadIn m t oid result now → IsOwnLine m at c t (line.Get oid) (object_of result) now
 get_within m now at oid c u None result is none read = absurd read
 get_within m now at oid c u (Some t) result is none read =
@@ -104,8 +102,8 @@ get_within m now at oid c u (Some t) result is none read =
     same_open a b e = cc
 
 -- get of what doesn't
-pub get_line : {R F : Type 0} (m : Moment) (at oid : ℕ) (result : Result Got Refusal) (a : Answer) (old new : ClientsState R F) (before after : Option (List Stamp)) → StandsForMoment old before m → MayReadAt m at
-    → ((x : Client) (w : Work) → slice_get old.clients at ≡ Some x → x.transaction ≡ Some w → pending_of w.changes.pending.stores oid ≡ None) → a ≡ object_of result
+pub get_line : {R F : Type 0} (m : Moment) (at oid : ℕ) (result : Result (ℕ × List ℕ) Refusal) (a : Answer) (old new : ClientsState R F) (before after : Option (List Stamp)) → StandsForMoment old before m → MayReadAt m at
+    → ((x : Client) (w : Work) → slice_get old.clients at ≡ Some x → x.transaction ≡ Some w → pending_of w.pending.stores oid ≡ None) → a ≡ object_of result
     → LeadsTo (IsReadOf m at oid result) new after → LeadsTo (OrAsBefore (IsOwnOf m at (line.Get oid)) m (Ok a)) new after
 get_line m at oid result a old new before after stands may waits answers leads =
     let k : IsAt m at old = is_at m at old before stands may in
@@ -126,16 +124,16 @@ get_line m at oid result a old new before after stands may waits answers leads =
 -- ---- changes
 
 changed_to : (f : Changes → Changed) (a : Answer) (o : Option Work) (w : Work) (v : Option Work) → o ≡ Some w → IsChangedBy f o a v
-    → (a ≡ (f w.changes).answer) × (v ≡ Some (record { front = w.front; switches = w.switches; changes = (f w.changes).changes }))
+    → (a ≡ (f (changes_kept w)).answer) × (v ≡ Some (with_kept w (f (changes_kept w)).changes))
 changed_to f a o w v is by = subst (λ (x : Option Work). IsChangedBy f x a v) is by
 
 pub change_done : {R F : Type 0} (b : Moment) (at : ℕ) (c : seen.Client) (t : OpenTransaction) (x : Client) (w : Work) (f : Changes → Changed) (a : Answer) (mid new : ClientsState R F) (between : Option (List Stamp))
     → StandsForMoment mid between b → IsClientOf b.machine x c → x.transaction ≡ Some w → IsWorkOf b.machine w t → IsChangedAt f mid.clients at x a new.clients → new.hub ≡ mid.hub
     → LeadsTo (IsChange b at c t (f t.changes) a) new between
 change_done {R} {F} b at c t x w f a mid new between stands is working tied changed hub =
-    let by : (a ≡ (f w.changes).answer) × (changed.0 ≡ Some (record { front = w.front; switches = w.switches; changes = (f w.changes).changes })) = changed_to f a x.transaction w changed.0 working changed.1 in
-    let work : IsWorkOf b.machine (record { front = w.front; switches = w.switches; changes = (f w.changes).changes }) (record { view = t.view; changes = (f t.changes).changes }) =
-    record { front = tied.front; switches = tied.switches; changes = ap (λ (ch : Changes). (f ch).changes) tied.changes; shows = tied.shows } in
+    let by : (a ≡ (f (changes_kept w)).answer) × (changed.0 ≡ Some (with_kept w (f (changes_kept w)).changes)) = changed_to f a x.transaction w changed.0 working changed.1 in
+    let work : IsWorkOf b.machine (with_kept w (f (changes_kept w)).changes) (record { view = t.view; changes = (f t.changes).changes }) =
+    record { front = tied.front; switches = tied.switches; changes = ap (λ (ch : Changes). (f ch).changes) tied.changes; later = tied.later } in
     let client : IsClientOf b.machine (with_work x changed.0) (with_changes c t (f t.changes).changes) = record {
       name = is.name;
       session = is.session;
@@ -174,7 +172,7 @@ same_base n k e = cc
 
 -- put of what waits: the base stays
 pub put_waiting : {R F : Type 0} (m : Moment) (at oid base : ℕ) (bytes : List ℕ) (a : Answer) (old new : ClientsState R F) (before : Option (List Stamp)) → StandsForMoment old before m → MayReadAt m at
-    → ((x : Client) (w : Work) → slice_get old.clients at ≡ Some x → x.transaction ≡ Some w → Some base ≡ option_map (λ (p : PendingStore). p.base) (pending_of w.changes.pending.stores oid))
+    → ((x : Client) (w : Work) → slice_get old.clients at ≡ Some x → x.transaction ≡ Some w → Some base ≡ option_map (λ (p : PendingStore). p.base) (pending_of w.pending.stores oid))
     → ((x : Client) → slice_get old.clients at ≡ Some x → IsChangedAt (λ t. stored t (record { oid = oid; base = base; bytes = bytes })) old.clients at x a new.clients) → new.hub ≡ old.hub
     → LeadsTo (OrAsBefore (IsOwnOf m at (line.Put oid bytes)) m (Ok a)) new before
 put_waiting m at oid base bytes a old new before stands may waits changed hub =
@@ -200,9 +198,9 @@ put_waiting m at oid base bytes a old new before stands may waits changed hub =
     by_waiting c t (Some p) now is change = subst (λ (n : ℕ). IsChange m at c t (stored t.changes (record { oid = oid; base = n; bytes = bytes })) a now) (same_base base p.base is) change
 
 -- put of what doesn't: the base is the serial that a read answers
-pub put_line : {R F : Type 0} (m : Moment) (at oid : ℕ) (bytes : List ℕ) (result : Result Got Refusal) (a : Answer) (old mid new : ClientsState R F) (before between : Option (List Stamp))
+pub put_line : {R F : Type 0} (m : Moment) (at oid : ℕ) (bytes : List ℕ) (result : Result (ℕ × List ℕ) Refusal) (a : Answer) (old mid new : ClientsState R F) (before between : Option (List Stamp))
     → StandsForMoment old before m → MayReadAt m at
-    → ((x : Client) (w : Work) → slice_get old.clients at ≡ Some x → x.transaction ≡ Some w → None ≡ option_map (λ (p : PendingStore). p.base) (pending_of w.changes.pending.stores oid))
+    → ((x : Client) (w : Work) → slice_get old.clients at ≡ Some x → x.transaction ≡ Some w → None ≡ option_map (λ (p : PendingStore). p.base) (pending_of w.pending.stores oid))
     → LeadsTo (IsReadOf m at oid result) mid between → mid.clients ≡ old.clients
     → ((x : Client) → slice_get mid.clients at ≡ Some x → IsChangedAt (λ t. put t oid bytes result) mid.clients at x a new.clients) → new.hub ≡ mid.hub
     → LeadsTo (OrAsBefore (IsOwnOf m at (line.Put oid bytes)) m (Ok a)) new between
@@ -235,7 +233,7 @@ put_line m at oid bytes result a old mid new before between stands may waits lea
     by_waiting c t (Some p) behind now is read change = absurd cc
 
 -- memory ran out behind a read that moved no count
-pub put_starved : {R F : Type 0} (e : AllocError) (m : Moment) (at oid : ℕ) (result : Result Got Refusal) (Q : Answer → Moment → Type 0) (old mid new : ClientsState R F) (before between : Option (List Stamp)) → StandsForMoment old before m → MayReadAt m at
+pub put_starved : {R F : Type 0} (e : AllocError) (m : Moment) (at oid : ℕ) (result : Result (ℕ × List ℕ) Refusal) (Q : Answer → Moment → Type 0) (old mid new : ClientsState R F) (before between : Option (List Stamp)) → StandsForMoment old before m → MayReadAt m at
     → LeadsTo (IsReadOf m at oid result) mid between → counts_of mid.hub.store ≡ counts_of old.hub.store → new.clients ≡ mid.clients → new.hub ≡ mid.hub
     → LeadsTo (OrAsBefore Q m (Err e)) new between
 put_starved {R} {F} e m at oid result Q old mid new before between stands may leads calm same hub =
@@ -280,15 +278,15 @@ change_result m at taken l f (Ok a) old new before stands may changed err hub ow
 change_result m at taken l f (Err e) old new before stands may changed err hub own is = starved_same m (IsOwnOf m at taken) e old new before stands err hub
 
 pub put_waiting_result : {R F : Type 0} (m : Moment) (at oid base : ℕ) (bytes : List ℕ) (result : Result Answer AllocError) (old new : ClientsState R F) (before : Option (List Stamp)) → StandsForMoment old before m → MayReadAt m at
-    → ((x : Client) (w : Work) → slice_get old.clients at ≡ Some x → x.transaction ≡ Some w → Some base ≡ option_map (λ (p : PendingStore). p.base) (pending_of w.changes.pending.stores oid))
+    → ((x : Client) (w : Work) → slice_get old.clients at ≡ Some x → x.transaction ≡ Some w → Some base ≡ option_map (λ (p : PendingStore). p.base) (pending_of w.pending.stores oid))
     → ((x : Client) → slice_get old.clients at ≡ Some x → IfOk result (λ a. IsChangedAt (λ t. stored t (record { oid = oid; base = base; bytes = bytes })) old.clients at x a new.clients)) → OnErr result (new.clients ≡ old.clients)
     → new.hub ≡ old.hub → LeadsTo (OrAsBefore (IsOwnOf m at (line.Put oid bytes)) m result) new before
 put_waiting_result m at oid base bytes (Ok a) old new before stands may waits changed err hub = put_waiting m at oid base bytes a old new before stands may waits changed hub
 put_waiting_result m at oid base bytes (Err e) old new before stands may waits changed err hub = starved_same m (IsOwnOf m at (line.Put oid bytes)) e old new before stands err hub
 
-pub put_result : {R F : Type 0} (m : Moment) (at oid : ℕ) (bytes : List ℕ) (read : Result Got Refusal) (result : Result Answer AllocError) (old mid new : ClientsState R F) (before between : Option (List Stamp))
+pub put_result : {R F : Type 0} (m : Moment) (at oid : ℕ) (bytes : List ℕ) (read : Result (ℕ × List ℕ) Refusal) (result : Result Answer AllocError) (old mid new : ClientsState R F) (before between : Option (List Stamp))
     → StandsForMoment old before m → MayReadAt m at
-    → ((x : Client) (w : Work) → slice_get old.clients at ≡ Some x → x.transaction ≡ Some w → None ≡ option_map (λ (p : PendingStore). p.base) (pending_of w.changes.pending.stores oid))
+    → ((x : Client) (w : Work) → slice_get old.clients at ≡ Some x → x.transaction ≡ Some w → None ≡ option_map (λ (p : PendingStore). p.base) (pending_of w.pending.stores oid))
     → LeadsTo (IsReadOf m at oid read) mid between → mid.clients ≡ old.clients → (found_or_missing read ≡ true → counts_of mid.hub.store ≡ counts_of old.hub.store)
     → ((x : Client) → slice_get mid.clients at ≡ Some x → IfOk result (λ a. IsChangedAt (λ t. put t oid bytes read) mid.clients at x a new.clients)) → OnErr result (new.clients ≡ mid.clients)
     → OnErr result (found_or_missing read ≡ true) → new.hub ≡ mid.hub → LeadsTo (OrAsBefore (IsOwnOf m at (line.Put oid bytes)) m result) new between

@@ -12,26 +12,27 @@ use Rattle.zodb_core.specs.Machine.{Machine, Rules, machine_over}
 use Rattle.zodb_core.specs.Outcomes.{FaultCounts, IsStepMade, is_packed, outcome_of}
 use Rattle.zodb_core.specs.Steps.{Stepped}
 use Rattle.client_turns.specs.declared.client.Client.{Client}
-use Rattle.client_turns.specs.declared.client.Work.{Work}
+use Rattle.connection_view.specs.declared.work.Work.{Work}
 use Rattle.client_turns.specs.Clients.{Moment, OpenTransaction, first_moment}
 use Rattle.client_turns.specs.Clients as clients
 use Rattle.client_turns.specs.Lines.{IsCountedBy}
-use Rattle.client_turns.specs.Standing.{AreClientsOf, ClientsState, IsWorkOfIfSome, LeadsTo, Shows, StandsForMoment, WritesLater}
+use Rattle.client_turns.specs.Standing.{AreClientsOf, ClientsState, IsWorkOfIfSome, LeadsTo, StandsForMoment, WritesLater}
 use Rattle.client_turns.specs.Steps.{IsStepAt}
 use Rattle.client_turns.specs.Turns.{IsTold}
-use Rattle.client_turns.specs.Views.{View}
-use Rattle.client_turns.proofs.Growing.{left_writes, made_shows}
+use Rattle.connection_view.specs.Views.{Later, View, view_of}
+use Rattle.client_turns.specs.Views.{server_of}
+use Rattle.client_turns.proofs.Growing.{left_writes, made_later}
 
 -- ---- clients over a later machine
 
-work_later : (m now : Machine) → ((v : View) → Shows m v → Shows now v) → (w : Option Work) (t : Option OpenTransaction) → IsWorkOfIfSome m w t → IsWorkOfIfSome now w t
+work_later : (m now : Machine) → ((v : View) → Later v (view_of (server_of m)) → Later v (view_of (server_of now))) → (w : Option Work) (t : Option OpenTransaction) → IsWorkOfIfSome m w t → IsWorkOfIfSome now w t
 work_later m now later None None is = tt
 work_later m now later None (Some t) is = absurd is
 work_later m now later (Some w) None is = absurd is
-work_later m now later (Some w) (Some t) is = record { front = is.front; switches = is.switches; changes = is.changes; shows = later t.view is.shows }
+work_later m now later (Some w) (Some t) is = record { front = is.front; switches = is.switches; changes = is.changes; later = later t.view is.later }
 
--- each of their views is still shown
-pub clients_later : (m now : Machine) → ((v : View) → Shows m v → Shows now v) → (xs : List Client) (cs : List clients.Client) → AreClientsOf m xs cs → AreClientsOf now xs cs
+-- the list came of each of their views
+pub clients_later : (m now : Machine) → ((v : View) → Later v (view_of (server_of m)) → Later v (view_of (server_of now))) → (xs : List Client) (cs : List clients.Client) → AreClientsOf m xs cs → AreClientsOf now xs cs
 clients_later m now later [] [] are = tt
 clients_later m now later [] (c ∷ cs) are = absurd are
 clients_later m now later (x ∷ xs) [] are = absurd are
@@ -70,7 +71,7 @@ step_leads rules m n q r old new before after stands database made cause same =
         hub = made.stands;
         vote = subst (λ (x : Machine). WritesLater x.list x.vote) (sym made.made.left) (left_writes rules m.machine n q made.stamp (outcome_of r) stands.vote);
         clients = subst (λ (xs : List Client). AreClientsOf made.left xs m.clients) (sym same)
-            (clients_later m.machine made.left (λ v. made_shows rules m.machine n q made.stamp given (counts_of old.hub.store) (counts_of new.hub.store) v stands.vote database made.made) old.clients m.clients stands.clients);
+            (clients_later m.machine made.left (λ v. made_later rules m.machine n q made.stamp given (counts_of old.hub.store) (counts_of new.hub.store) v stands.vote database made.made) old.clients m.clients stands.clients);
         counts = refl;
         stamps = refl;
       };

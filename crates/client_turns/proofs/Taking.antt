@@ -17,12 +17,11 @@ use Rattle.zodb_core.specs.declared.session.Session.{Session}
 use Rattle.zodb_core.specs.HubState.{sessions_with}
 use Rattle.zodb_core.specs.Machine.{Machine, Rules, is_open_in}
 use Rattle.zodb_core.specs.Steps.{refuse_if}
-use Rattle.client_turns.specs.declared.client.Changes.{Changes}
 use Rattle.client_turns.specs.declared.client.Client.{Client}
-use Rattle.client_turns.specs.declared.client.Work.{Work}
+use Rattle.connection_view.specs.declared.work.Work.{Work}
 use Rattle.client_turns.specs.declared.errors.TurnError.{TurnError}
 use Rattle.client_turns.specs.declared.errors.TurnError.TheVariants as error
-use Rattle.client_turns.specs.Clients.{Moment, OpenTransaction, changes_of, place_of_client}
+use Rattle.client_turns.specs.Clients.{Changes, Moment, OpenTransaction, changes_of, place_of_client}
 use Rattle.client_turns.specs.Clients as seen
 use Rattle.client_turns.specs.Lines.{end_of, request_of}
 use Rattle.client_turns.specs.Refusing.{connection_refusal, line_refusal, opens_session}

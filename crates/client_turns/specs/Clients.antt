@@ -7,8 +7,14 @@ use Rattle.zb_model.specs.declared.data.Transaction.{Transaction}
 use Rattle.commit_phases.specs.Pending.{PendingChanges}
 use Rattle.zodb_core.specs.Machine.{Machine, machine_over}
 use Rattle.zodb_core.specs.Outcomes.{FaultCounts}
-use Rattle.client_turns.specs.declared.client.Changes.{Changes}
-use Rattle.client_turns.specs.Views.{View}
+use Rattle.connection_view.specs.Views.{View}
+
+-- what an open transaction would change: the stores and checks that wait for a vote, what waited at each of its savepoints, and whether they, or an undo, are
+-- voted
+pub record Changes : Type 0 where
+  pub pending : PendingChanges
+  pub savepoints : List PendingChanges
+  pub is_voted : Bool
 
 -- an open transaction: its view, and what it would change
 pub record OpenTransaction : Type 0 where

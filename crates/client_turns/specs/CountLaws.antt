@@ -18,11 +18,9 @@ use Rattle.zodb_core.specs.DecisionLaws.{AnswersIfSome, answers_or}
 use Rattle.zodb_core.specs.Machine.{Machine, Rules, is_open_in, with_session}
 use Rattle.zodb_core.specs.Outcomes.{Answered, EndsFor, FaultCounts, NoMemory, ReadingFailed, StepOutcome, StoreFailed, outcome_of, outcome_of_refusal}
 use Rattle.zodb_core.specs.Steps.{Stepped, refuse_if}
-use Rattle.client_turns.specs.declared.client.Changes.{Changes}
 use Rattle.client_turns.specs.declared.errors.TurnError.{TurnError}
 use Rattle.client_turns.specs.declared.errors.TurnError.TheVariants as error
-use Rattle.client_turns.specs.declared.got.Got.{Got}
-use Rattle.client_turns.specs.Clients.{Client, Moment, OpenTransaction, changes_of, place_of_client}
+use Rattle.client_turns.specs.Clients.{Changes, Client, Moment, OpenTransaction, changes_of, place_of_client}
 use Rattle.client_turns.specs.Lines.{Changed, IsCountedBy, answer_of, data_of, end_in, end_of, is_committed, object_of, outcome_of_answer, outcome_of_read, outcome_of_turn, put, request_of, rolled_back, rolled_to, saved, store_unless, stored}
 use Rattle.client_turns.specs.Output.{Out, TurnAnswer, has_read_fault, is_last, is_read_fault}
 use Rattle.client_turns.specs.Refusing.{connection_refusal, line_refusal, mixed, pending_count, refusal_within, transaction_refusal}
@@ -30,7 +28,7 @@ use Rattle.client_turns.specs.Steps.{IsChange, IsStepAt}
 use Rattle.client_turns.specs.Turns.{IsAnswered, IsBroken, IsClosed, IsClosing, IsGet, IsLine, IsLineOf, IsLineTaken, IsLineUnless, IsOpening, IsOwnLine, IsPut, IsStepLine, IsTold, IsWithin, Opening, by_closing, by_line, by_memory}
 use Rattle.client_turns.specs.DrawLaws.{tree_counts}
 use Rattle.client_turns.specs.TurnLaws.{by_name, reply_fine, starved_so}
-use Rattle.client_turns.specs.Views.{View}
+use Rattle.connection_view.specs.Views.{View}
 
 -- ---- steps beside a line
 
@@ -148,11 +146,11 @@ step_by rules m now at c q a is =
     subst (λ (k : FaultCounts). IsCountedBy m.counts k (outcome_of_answer a)) (sym (ap (λ (x : Moment). x.counts) is.left ∙ told_calm rules is.behind is.told c.session (is_committed is.reply) is.front))
     (subst (λ (o : StepOutcome). IsCountedBy m.counts is.behind.counts o) (sym (ap outcome_of_answer is.answer ∙ answer_outcome is.reply)) is.step.counts)
 
-data_outcome : (r : Result Got Refusal) → outcome_of_answer (data_of r) ≡ outcome_of_read r
+data_outcome : (r : Result (ℕ × List ℕ) Refusal) → outcome_of_answer (data_of r) ≡ outcome_of_read r
 data_outcome (Ok got) = refl
 data_outcome (Err why) = refl
 
-pub object_outcome : (r : Result Got Refusal) → outcome_of_answer (object_of r) ≡ outcome_of_read r
+pub object_outcome : (r : Result (ℕ × List ℕ) Refusal) → outcome_of_answer (object_of r) ≡ outcome_of_read r
 object_outcome (Ok got) = refl
 object_outcome (Err why) = refl
 
@@ -160,14 +158,14 @@ store_outcome : (t : Changes) (p : PendingStore) (excess : Option ℕ) → outco
 store_outcome t p None = refl
 store_outcome t p (Some n) = refl
 
-put_outcome : (t : Changes) (oid : ℕ) (bytes : List ℕ) (r : Result Got Refusal) → outcome_of_answer (put t oid bytes r).answer ≡ outcome_of_read r
-put_outcome t oid bytes (Ok got) = store_outcome t (record { oid = oid; base = got.serial; bytes = bytes }) (excess_with t.pending.stores (record { oid = oid; base = got.serial; bytes = bytes }))
+put_outcome : (t : Changes) (oid : ℕ) (bytes : List ℕ) (r : Result (ℕ × List ℕ) Refusal) → outcome_of_answer (put t oid bytes r).answer ≡ outcome_of_read r
+put_outcome t oid bytes (Ok got) = store_outcome t (record { oid = oid; base = got.0; bytes = bytes }) (excess_with t.pending.stores (record { oid = oid; base = got.0; bytes = bytes }))
 put_outcome t oid bytes (Err (refusal.Missing o false)) = store_outcome t (record { oid = oid; base = 0; bytes = bytes }) (excess_with t.pending.stores (record { oid = oid; base = 0; bytes = bytes }))
 put_outcome t oid bytes (Err (refusal.Missing o true)) = refl
 put_outcome t oid bytes (Err _) = refl
 
 -- an answer that tells how a read ended
-read_by : (m : Moment) (a b : Answer) (r : Result Got Refusal) (now : Moment) → a ≡ b → outcome_of_answer b ≡ outcome_of_read r → IsCountedBy m.counts now.counts (outcome_of_read r) → CountsBy m a now
+read_by : (m : Moment) (a b : Answer) (r : Result (ℕ × List ℕ) Refusal) (now : Moment) → a ≡ b → outcome_of_answer b ≡ outcome_of_read r → IsCountedBy m.counts now.counts (outcome_of_read r) → CountsBy m a now
 read_by m a b r now is tells counts = subst (λ (o : StepOutcome). IsCountedBy m.counts now.counts o) (sym (ap outcome_of_answer is ∙ tells)) counts
 
 get_by : (m now : Moment) (v : View) (oid : ℕ) (o : Option PendingStore) (a : Answer) → IsGet m v oid o a now → CountsBy m a now

@@ -7,7 +7,7 @@ use Rattle.zb_model.specs.declared.refusal.Refusal.TheVariants as refusal
 use Rattle.zb_script.specs.declared.answer.Answer.{Answer}
 use Rattle.zb_script.specs.declared.answer.Answer.TheVariants as answer
 use Rattle.zb_script.specs.declared.tree_call.TreeCall.{TreeCall}
-use Rattle.connection_view.specs.Connections.{stores_after}
+use Rattle.commit_phases.specs.Pending.{stores_after}
 use Rattle.tree_calls.specs.declared.attempt.Made.{Made}
 use Rattle.tree_calls.specs.declared.operation.TreeAnswer.{TreeAnswer}
 use Rattle.tree_calls.specs.declared.operation.TreeAnswer.TheVariants as answered
@@ -20,8 +20,7 @@ use Rattle.zodb_core.specs.declared.request.Request.TheVariants as request
 use Rattle.zodb_core.specs.Machine.{Machine, Rules}
 use Rattle.zodb_core.specs.Outcomes.{Answered, EndsFor, FaultCounts, NoMemory, ReadingFailed, StepOutcome, StoreFailed, machine_left, outcome_of, outcome_of_refusal}
 use Rattle.zodb_core.specs.Steps.{Stepped, early_refusal, oids_step, step_of, unless_early}
-use Rattle.client_turns.specs.declared.client.Changes.{Changes}
-use Rattle.client_turns.specs.Clients.{Client, Moment, OpenTransaction}
+use Rattle.client_turns.specs.Clients.{Changes, Client, Moment, OpenTransaction}
 use Rattle.client_turns.specs.Lines.{Changed, IsCountedBy, outcome_of_answer, outcome_of_result}
 use Rattle.client_turns.specs.Steps.{IsStepAt}
 use Rattle.client_turns.specs.Trees.{CallEnds, Draws, IsRaised, IsTreeEnd, IsTreeLine, IsUncalled, all_stored, answer_told, by_draw, by_want, by_read, by_tree, operation_of, puts_stored}

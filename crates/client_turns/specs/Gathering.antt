@@ -18,28 +18,27 @@ use Rattle.tree_calls.specs.declared.attempt.Made.{Made}
 use Rattle.tree_calls.specs.declared.known.Seen.{Seen}
 use Rattle.tree_calls.specs.declared.operation.TreeOperation.{TreeOperation}
 use Rattle.tree_calls.specs.Known.{known_at}
-use Rattle.client_turns.specs.declared.client.Work.{Work}
-use Rattle.client_turns.specs.declared.got.Got.{Got}
+use Rattle.connection_view.specs.declared.work.Work.{Work}
 use Rattle.client_turns.specs.Clients.{Client, Moment, OpenTransaction}
 use Rattle.client_turns.specs.Lines.{IsCountedBy, outcome_of_result}
-use Rattle.client_turns.specs.Reads.{held_below}
+use Rattle.connection_view.specs.Views.{read_below}
 use Rattle.client_turns.specs.Standing.{ClientsState, LeadsTo, StandsForMoment}
 use Rattle.client_turns.specs.Steps.{IsReadAt}
 use Rattle.client_turns.specs.Trees.{CallEnds, Draws, IsDrawn, IsSeenIn, IsUndrawn, is_missing}
 
 -- ---- what a transaction has
 
-abbrev pub seen_as : Got → Seen
-seen_as got = record { serial = got.serial; bytes = got.bytes }
+abbrev pub seen_as : (ℕ × List ℕ) → Seen
+seen_as got = record { serial = got.0; bytes = got.1 }
 
 -- what waits for an object, else what a list has of it
-abbrev pub seen_or : Option PendingStore → Option Got → Option Seen
+abbrev pub seen_or : Option PendingStore → Option (ℕ × List ℕ) → Option Seen
 seen_or (Some p) got = Some (record { serial = p.base; bytes = p.bytes })
 seen_or None got = option_map seen_as got
 
 -- what a transaction has of an object, over a list
 abbrev pub objects_kept : List Transaction → Work → ℕ → Option Seen
-objects_kept list work oid = seen_or (pending_of work.changes.pending.stores oid) (held_below oid work.front list)
+objects_kept list work oid = seen_or (pending_of work.pending.stores oid) (read_below oid work.front list)
 
 abbrev pub over_known : Option (Option Seen) → Option Seen → Option Seen
 over_known (Some x) y = x
@@ -52,7 +51,7 @@ objects_over known list work oid = over_known (known_at known oid) (objects_kept
 -- ---- what is read and drawn
 
 -- what a read gives of an object: nothing, where it is missing
-abbrev pub seen_read : Result Got Refusal → Result (Option Seen) Refusal
+abbrev pub seen_read : Result (ℕ × List ℕ) Refusal → Result (Option Seen) Refusal
 seen_read (Ok got) = Ok (Some (seen_as got))
 seen_read (Err (refusal.Missing oid packed)) = Ok None
 seen_read (Err why) = Err why

@@ -15,8 +15,7 @@ use Rattle.zb_script.specs.declared.answer.Answer.TheVariants as answer
 use Rattle.zb_script.specs.declared.line.Line.TheVariants as line
 use Rattle.zb_script.specs.declared.line.Turn.{Turn}
 use Rattle.zb_script.specs.declared.tree_call.TreeCall.{TreeCall}
-use Rattle.commit_phases.specs.Pending.{PendingChanges, excess_with}
-use Rattle.connection_view.specs.Connections.{stores_after}
+use Rattle.commit_phases.specs.Pending.{PendingChanges, excess_with, stores_after}
 use Rattle.tree_calls.specs.declared.known.Seen.{Seen}
 use Rattle.tree_calls.specs.declared.operation.TreeAnswer.{TreeAnswer}
 use Rattle.tree_calls.specs.Calls.{IsMade, IsRefused}
@@ -27,11 +26,10 @@ use Rattle.zodb_core.specs.Machine.{Machine, Rules, session_limit, switches_of}
 use Rattle.zodb_core.specs.Outcomes.{FaultCounts}
 use Rattle.zodb_core.specs.Sound.{ComesTo, GrowsTo, IsSoundMachine}
 use Rattle.zodb_core.specs.Steps.{step_of}
-use Rattle.client_turns.specs.declared.client.Changes.{Changes}
-use Rattle.client_turns.specs.Clients.{Client, Moment, OpenTransaction, changes_of, first_moment, place_of_client}
+use Rattle.client_turns.specs.Clients.{Changes, Client, Moment, OpenTransaction, changes_of, first_moment, place_of_client}
 use Rattle.client_turns.specs.Lines.{request_of}
 use Rattle.client_turns.specs.Output.{Out, TurnAnswer}
-use Rattle.client_turns.specs.Reads.{Reads}
+use Rattle.client_turns.specs.Reads.{IsMissedFor}
 use Rattle.client_turns.specs.Refusing.{connection_refusal}
 use Rattle.client_turns.specs.Trees.{IsRaised, Sees, operation_of}
 use Rattle.client_turns.specs.Turns.{IsTurn}
@@ -153,7 +151,7 @@ pub data IsRefusedFor (rules : Rules) (m : Moment) (t : Turn) (why : Refusal) (n
   by_connection : (c : Client) → IsNamed m t.client c → connection_refusal m.machine c t.line ≡ Some why → IsRefusedFor rules m t why now
   by_step : (c : Client) (q : Request) (stamp : ℕ) → IsNamed m t.client c → request_of (changes_of c) t.line ≡ Some q
       → (step_of rules m.machine c.session q stamp).reply ≡ reply.Refused why → IsRefusedFor rules m t why now
-  by_view : (o : OpenTransaction) (oid : ℕ) → HasOpen m t.client o → Reads m.machine o.view oid (Err why) → IsRefusedFor rules m t why now
+  by_view : (o : OpenTransaction) (oid : ℕ) → HasOpen m t.client o → IsMissedFor m.machine o.view oid why → IsRefusedFor rules m t why now
   by_length : (o : OpenTransaction) (p : PendingStore) (n : ℕ) → HasOpen m t.client o → excess_with o.changes.pending.stores p ≡ Some n → why ≡ refusal.TooLong n → IsRefusedFor rules m t why now
   by_call : (o : OpenTransaction) (objects : ℕ → Option Seen) (root : ℕ) (call : TreeCall) (numbers : List ℕ) → HasOpen m t.client o → t.line ≡ line.Tree root call → Sees m.machine o objects
       → IsRefused objects root (operation_of call) numbers why → IsRefusedFor rules m t why now

@@ -17,12 +17,11 @@ use Rattle.zodb_core.specs.declared.request.Request.{Request}
 use Rattle.zodb_core.specs.declared.request.Request.TheVariants as request
 use Rattle.zodb_core.specs.Machine.{Machine}
 use Rattle.zodb_core.specs.Outcomes.{Answered, FaultCounts, NoMemory, ReadingFailed, StepOutcome, StoreFailed, outcome_of_refusal}
-use Rattle.client_turns.specs.declared.client.Changes.{Changes}
 use Rattle.client_turns.specs.declared.errors.TurnError.{TurnError}
 use Rattle.client_turns.specs.declared.errors.TurnError.TheVariants as error
-use Rattle.client_turns.specs.declared.got.Got.{Got}
-use Rattle.client_turns.specs.Clients.{Client, OpenTransaction, begun, nothing_pending, with_transaction}
-use Rattle.client_turns.specs.Views.{view_of}
+use Rattle.client_turns.specs.Clients.{Changes, Client, OpenTransaction, begun, nothing_pending, with_transaction}
+use Rattle.client_turns.specs.Views.{server_of}
+use Rattle.connection_view.specs.Views.{view_of}
 
 -- ---- lines that are one step
 
@@ -66,7 +65,7 @@ as_voted t = record { view = t.view; changes = record t.changes { is_voted = tru
 
 -- what is left of the open transaction, in the machine behind the step: a front begins one, a vote is kept, and what ends it drops it
 abbrev pub transaction_left : Machine → Option OpenTransaction → Reply → Option OpenTransaction
-transaction_left m t (reply.Front front news switches) = Some (begun (view_of m))
+transaction_left m t (reply.Front front news switches) = Some (begun (view_of (server_of m)))
 transaction_left m t reply.Voted = option_map as_voted t
 transaction_left m t (reply.Committed tid) = None
 transaction_left m t reply.Empty = None
@@ -101,7 +100,7 @@ IsCountedBy before now StoreFailed = Rose before.others now.others
 IsCountedBy before now _ = now ≡ before
 
 -- how a read ended, and a line, as it says: with an answer, or since something failed
-abbrev pub outcome_of_read : Result Got Refusal → StepOutcome
+abbrev pub outcome_of_read : Result (ℕ × List ℕ) Refusal → StepOutcome
 outcome_of_read (Ok got) = Answered
 outcome_of_read (Err why) = outcome_of_refusal why
 
@@ -149,8 +148,8 @@ abbrev pub stored : Changes → PendingStore → Changed
 stored t p = store_unless t p (excess_with t.pending.stores p)
 
 -- put: the base is the serial that a read answers, or 0 where the object is missing
-abbrev pub put : Changes → ℕ → List ℕ → Result Got Refusal → Changed
-put t oid bytes (Ok got) = stored t (record { oid = oid; base = got.serial; bytes = bytes })
+abbrev pub put : Changes → ℕ → List ℕ → Result (ℕ × List ℕ) Refusal → Changed
+put t oid bytes (Ok got) = stored t (record { oid = oid; base = got.0; bytes = bytes })
 put t oid bytes (Err (refusal.Missing o false)) = stored t (record { oid = oid; base = 0; bytes = bytes })
 put t oid bytes (Err why) = unchanged t (answer.Refused why)
 
@@ -159,12 +158,12 @@ abbrev pub checked : Changes → PendingCheck → Changed
 checked t c = record { answer = answer.Checked; changes = record t { pending = record { stores = t.pending.stores; checks = t.pending.checks ++ c ∷ [] } } }
 
 -- load and get: what a read answers
-abbrev pub data_of : Result Got Refusal → Answer
-data_of (Ok got) = answer.Data got.serial got.bytes
+abbrev pub data_of : Result (ℕ × List ℕ) Refusal → Answer
+data_of (Ok got) = answer.Data got.0 got.1
 data_of (Err why) = answer.Refused why
 
-abbrev pub object_of : Result Got Refusal → Answer
-object_of (Ok got) = answer.Object got.serial got.bytes
+abbrev pub object_of : Result (ℕ × List ℕ) Refusal → Answer
+object_of (Ok got) = answer.Object got.0 got.1
 object_of (Err why) = answer.Refused why
 
 -- get of what waits: its base stands as its serial

@@ -8,8 +8,7 @@ use Rattle.zb_script.specs.declared.line.Line.TheVariants as line
 use Rattle.commit_phases.specs.Pending.{PendingChanges}
 use Rattle.zodb_core.specs.Machine.{Machine, is_open_in}
 use Rattle.zodb_core.specs.Steps.{refuse_if}
-use Rattle.client_turns.specs.declared.client.Changes.{Changes}
-use Rattle.client_turns.specs.Clients.{Client, changes_of}
+use Rattle.client_turns.specs.Clients.{Changes, Client, changes_of}
 
 -- how many stores and checks wait
 abbrev pub pending_count : PendingChanges → ℕ

@@ -1,5 +1,5 @@
 -- What contracts see of clients over a hub, and the moments that they stand for. Own.
-use Rattle.std.specs.Prelude.{◌≡◌, ◌⊎◌, ℕ, ◌<◌, ◌≤◌, List, [], ◌∷◌, ◌++◌, Option, Some, None, Result, Ok, Err, Bool, true, false, IfSome, IsSome, nat_lt, not, slice_get, slice_set}
+use Rattle.std.specs.Prelude.{◌≡◌, ◌⊎◌, ℕ, ◌<◌, List, [], ◌∷◌, ◌++◌, Option, Some, None, Result, Ok, Err, Bool, true, false, IfSome, IsSome, nat_lt, not, slice_get, slice_set}
 use Rattle.std.specs.Option.{IsSomeAnd, option_map, option_or}
 use Rattle.std.specs.declared.alloc.AllocError.{AllocError}
 use Rattle.zb_ids.specs.declared.stamp.Stamp.{Stamp}
@@ -19,50 +19,48 @@ use Rattle.zodb_core.specs.declared.session.Session.{Session}
 use Rattle.pack_reach.specs.Packed.{packed_of}
 use Rattle.zodb_core.specs.Steps.{pack_tid, refuse_if}
 use Rattle.zodb_core.specs.HubState.{HubState, StandsForMachine, counts_of, is_store_failed}
-use Rattle.zodb_core.specs.Machine.{Machine, MachineVote, Rules, front_of, is_open_in, switches_of}
+use Rattle.zodb_core.specs.Machine.{Machine, MachineVote, Rules, is_open_in}
 use Rattle.zodb_core.specs.Outcomes.{Answered, AreLaterCounts, FaultCounts, outcome_of, outcome_of_refusal}
-use Rattle.client_turns.specs.declared.client.Changes.{Changes}
 use Rattle.client_turns.specs.declared.client.Client.{Client}
-use Rattle.client_turns.specs.declared.client.Work.{Work}
+use Rattle.connection_view.specs.declared.work.Work.{Work}
 use Rattle.client_turns.specs.declared.errors.TurnError.{TurnError}
-use Rattle.client_turns.specs.declared.got.Got.{Got}
-use Rattle.client_turns.specs.Clients.{Moment, OpenTransaction, no_changes, place_of_client}
+use Rattle.client_turns.specs.Clients.{Changes, Moment, OpenTransaction, nothing_pending, place_of_client}
 use Rattle.client_turns.specs.Clients as clients
 use Rattle.client_turns.specs.Lines.{Changed, IsCountedBy, answer_of, end_of, outcome_of_answer, outcome_of_read}
 use Rattle.client_turns.specs.Refusing.{line_refusal}
-use Rattle.client_turns.specs.Reads.{held_below}
 use Rattle.client_turns.specs.Steps.{IsReadAt}
 use Rattle.client_turns.specs.Turns.{IsClosingAt, IsOwnLine, IsStepLine}
-use Rattle.client_turns.specs.Views.{View}
+use Rattle.connection_view.specs.Views.{Later, view_of}
+use Rattle.client_turns.specs.Views.{server_of}
 
 -- what contracts see of clients over a hub
 pub record ClientsState (R F : Type 0) : Type 0 where
   pub hub : HubState R F
   pub clients : List Client
 
--- A machine's list still shows a view: where it wasn't packed since, each object has the same record below the front; and where it has one there, so it
--- had in the view.
-pub record Shows (m : Machine) (v : View) : Type 0 where
-  pub front : v.front ≤ front_of m.list
-  pub switches : v.switches ≤ switches_of m.journal
-  pub same : v.switches ≡ switches_of m.journal → (oid : ℕ) → held_below oid v.front m.list ≡ held_below oid v.front v.list
-  pub held : (oid : ℕ) (got : Got) → held_below oid v.front m.list ≡ Some got → held_below oid v.front v.list ≡ Some got
-
 -- what is voted is later than the list
 abbrev pub WritesLater : List Transaction → Option MachineVote → Type 0
 WritesLater list None = Unit {0}
 WritesLater list (Some v) = IfSome v.writes (λ t. newest_tid list < t.tid)
 
+-- what a transaction would change, as it is kept
+abbrev pub changes_kept : Work → Changes
+changes_kept w = record { pending = w.pending; savepoints = w.savepoints; is_voted = w.is_voted }
+
+-- a transaction that is kept, with these changes
+abbrev pub with_kept : Work → Changes → Work
+with_kept w ch = record { front = w.front; switches = w.switches; pending = ch.pending; savepoints = ch.savepoints; is_voted = ch.is_voted }
+
 -- what a client's open transaction would change
 abbrev pub changes_in : Option Work → Option Changes
-changes_in work = option_map (λ w. w.changes) work
+changes_in work = option_map changes_kept work
 
--- a transaction as the client keeps it: of its view the front, and how often the list had been packed
+-- A transaction as the client keeps it: of its view the front, and how often the list had been packed. The list as it stands came of the view's.
 pub record IsWorkOf (m : Machine) (w : Work) (t : OpenTransaction) : Type 0 where
   pub front : t.view.front ≡ w.front
   pub switches : t.view.switches ≡ w.switches
-  pub changes : t.changes ≡ w.changes
-  pub shows : Shows m t.view
+  pub changes : t.changes ≡ changes_kept w
+  pub later : Later t.view (view_of (server_of m))
 
 abbrev pub IsWorkOfIfSome : Machine → Option Work → Option OpenTransaction → Type 0
 IsWorkOfIfSome m None None = Unit {0}
@@ -94,11 +92,15 @@ pub record LeadsTo {R F : Type 0} (Q : Moment → Type 0) (seen : ClientsState R
   pub stands : StandsForMoment seen left now
 
 abbrev pub work_voted : Work → Work
-work_voted w = record { front = w.front; switches = w.switches; changes = record w.changes { is_voted = true } }
+work_voted w = record w { is_voted = true }
+
+-- a transaction that has just begun, as it is kept
+abbrev pub new_work : ℕ → ℕ → Work
+new_work front switches = record { front = front; switches = switches; pending = nothing_pending; savepoints = []; is_voted = false }
 
 -- what is left of the open transaction behind a reply
 abbrev pub work_left : Option Work → Reply → Option Work
-work_left w (reply.Front front news switches) = Some (record { front = front; switches = switches; changes = no_changes })
+work_left w (reply.Front front news switches) = Some (new_work front switches)
 work_left w reply.Voted = option_map work_voted w
 work_left w (reply.Committed tid) = None
 work_left w reply.Empty = None
@@ -110,16 +112,20 @@ abbrev pub with_work : Client → Option Work → Client
 with_work x w = record { name = x.name; session = x.session; transaction = w }
 
 -- what a reply says of a load, for a view that had seen so many packs
-abbrev pub reply_read : Reply → ℕ → Result Got Refusal
-reply_read (reply.Loaded serial bytes end upto) switches = Ok (record { serial = serial; bytes = bytes })
+abbrev pub reply_read : Reply → ℕ → Result (ℕ × List ℕ) Refusal
+reply_read (reply.Loaded serial bytes end upto) switches = Ok (serial, bytes)
 reply_read (reply.Nothing oid packed) switches = Err (refusal.Missing oid (nat_lt switches packed))
 reply_read (reply.Refused why) switches = Err why
 reply_read _ switches = Err refusal.NotOpen
 
+-- a transaction got these changes, with this answer
+abbrev pub IsChangedTo : Changed → Work → Answer → Work → Type 0
+IsChangedTo changed w a now = (a ≡ changed.answer) × (now ≡ with_kept w changed.changes)
+
 -- the changes of an open transaction became these, with this answer; where none is open it was refused
 abbrev pub IsChangedBy : (Changes → Changed) → Option Work → Answer → Option Work → Type 0
 IsChangedBy change None a now = (a ≡ answer.Refused refusal.NoTransaction) × (now ≡ None)
-IsChangedBy change (Some w) a now = (a ≡ (change w.changes).answer) × (now ≡ Some (record { front = w.front; switches = w.switches; changes = (change w.changes).changes }))
+IsChangedBy change (Some w) a now = (a ≡ (change (changes_kept w)).answer) × (now ≡ Some (with_kept w (change (changes_kept w)).changes))
 
 -- and so for the client at a place
 abbrev pub IsChangedAt : (Changes → Changed) → List Client → ℕ → Client → Answer → List Client → Type 0
@@ -168,18 +174,18 @@ abbrev pub HasTurnCause : FaultCounts → FaultCounts → Answer → Type 0
 HasTurnCause before now a = IsCountedBy before now (outcome_of_answer a)
 
 -- a read that found the object, or found it missing
-abbrev pub found_or_missing : Result Got Refusal → Bool
+abbrev pub found_or_missing : Result (ℕ × List ℕ) Refusal → Bool
 found_or_missing (Ok got) = true
 found_or_missing (Err (refusal.Missing oid packed)) = true
 found_or_missing (Err _) = false
 
 -- a read in an open transaction
-abbrev pub IsReadIn : Moment → Option OpenTransaction → ℕ → Result Got Refusal → Moment → Type 0
+abbrev pub IsReadIn : Moment → Option OpenTransaction → ℕ → Result (ℕ × List ℕ) Refusal → Moment → Type 0
 IsReadIn m None oid result now = ⊥
 IsReadIn m (Some t) oid result now = IsReadAt m t.view oid result now
 
 -- a read in the open transaction of the client at a place
-abbrev pub IsReadOf : Moment → ℕ → ℕ → Result Got Refusal → Moment → Type 0
+abbrev pub IsReadOf : Moment → ℕ → ℕ → Result (ℕ × List ℕ) Refusal → Moment → Type 0
 IsReadOf m at oid result now = (c : clients.Client) × (slice_get m.clients at ≡ Some c) × IsReadIn m c.transaction oid result now
 
 -- the session of the client at a place is open, and so is a transaction
@@ -187,7 +193,7 @@ abbrev pub MayReadAt : Moment → ℕ → Type 0
 MayReadAt m at = (c : clients.Client) × (slice_get m.clients at ≡ Some c) × (is_open_in m.machine.sessions c.session ≡ true) × IsSome c.transaction
 
 -- and so of a read
-abbrev pub HasReadCause : FaultCounts → FaultCounts → Result Got Refusal → Type 0
+abbrev pub HasReadCause : FaultCounts → FaultCounts → Result (ℕ × List ℕ) Refusal → Type 0
 HasReadCause before now result = IsCountedBy before now (outcome_of_read result)
 
 -- ---- what a crash leaves

@@ -1,5 +1,5 @@
 -- Steps, reads and changes at a moment, of which turns are made. Source: connections of ZODB.
-use Rattle.std.specs.Prelude.{◌≡◌, ℕ, Result, Bool}
+use Rattle.std.specs.Prelude.{◌≡◌, ℕ, List, Result, Bool}
 use Rattle.zb_model.specs.declared.refusal.Refusal.{Refusal}
 use Rattle.zb_script.specs.declared.answer.Answer.{Answer}
 use Rattle.zb_script.specs.declared.answer.Answer.TheVariants as answer
@@ -8,11 +8,10 @@ use Rattle.zodb_core.specs.declared.request.Request.{Request}
 use Rattle.zodb_core.specs.HubState.{HasTicked}
 use Rattle.zodb_core.specs.Machine.{Rules}
 use Rattle.zodb_core.specs.Outcomes.{AreLaterCounts, IsStepMade, outcome_of}
-use Rattle.client_turns.specs.declared.got.Got.{Got}
 use Rattle.client_turns.specs.Clients.{Client, Moment, OpenTransaction, with_client}
 use Rattle.client_turns.specs.Lines.{Changed, IsCountedBy, outcome_of_read, with_changes}
 use Rattle.client_turns.specs.Reads.{EndsReading}
-use Rattle.client_turns.specs.Views.{View}
+use Rattle.connection_view.specs.Views.{View}
 
 -- A step of session n leads from one moment to another. Only the machine, the clock, where it was read, and the counts have changed, and these as the reply says: a
 -- count rose where something failed, and else none has moved.
@@ -25,7 +24,7 @@ pub record IsStepAt (rules : Rules) (m : Moment) (n : ℕ) (q : Request) (r : Re
   pub clients : now.clients ≡ m.clients
 
 -- A read of an object in a view leads from one moment to another, where just the counts may have risen, and that of failed reads alone where it says so.
-pub record IsReadAt (m : Moment) (v : View) (oid : ℕ) (result : Result Got Refusal) (now : Moment) : Type 0 where
+pub record IsReadAt (m : Moment) (v : View) (oid : ℕ) (result : Result (ℕ × List ℕ) Refusal) (now : Moment) : Type 0 where
   pub later : AreLaterCounts m.counts now.counts
   pub ends : EndsReading m.machine v oid m.counts now.counts result
   pub counts : IsCountedBy m.counts now.counts (outcome_of_read result)

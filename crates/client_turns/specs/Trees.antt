@@ -7,8 +7,7 @@ use Rattle.zb_script.specs.declared.answer.Answer.{Answer}
 use Rattle.zb_script.specs.declared.answer.Answer.TheVariants as answer
 use Rattle.zb_script.specs.declared.tree_call.TreeCall.{TreeCall}
 use Rattle.zb_script.specs.declared.tree_call.TreeCall.TheVariants as tree
-use Rattle.commit_phases.specs.Pending.{pending_of}
-use Rattle.connection_view.specs.Connections.{stores_after}
+use Rattle.commit_phases.specs.Pending.{pending_of, stores_after}
 use Rattle.tree_calls.specs.declared.known.Seen.{Seen}
 use Rattle.tree_calls.specs.declared.operation.TreeAnswer.{TreeAnswer}
 use Rattle.tree_calls.specs.declared.operation.TreeAnswer.TheVariants as answered
@@ -18,13 +17,13 @@ use Rattle.tree_calls.specs.Calls.{IsMade, IsRefused}
 use Rattle.zodb_core.specs.declared.reply.Reply.TheVariants as reply
 use Rattle.zodb_core.specs.declared.request.Request.TheVariants as request
 use Rattle.zodb_core.specs.Machine.{Machine, Rules}
-use Rattle.client_turns.specs.declared.client.Changes.{Changes}
 use Rattle.tree_calls.specs.declared.attempt.Made.{Made}
-use Rattle.client_turns.specs.Clients.{Client, Moment, OpenTransaction}
+use Rattle.client_turns.specs.Clients.{Changes, Client, Moment, OpenTransaction}
 use Rattle.client_turns.specs.Lines.{Changed, unchanged}
-use Rattle.client_turns.specs.Reads.{IsMissing, Reads}
+use Rattle.connection_view.specs.Loading.{IsMissing}
 use Rattle.client_turns.specs.Steps.{IsChange, IsReadAt, IsStepAt}
-use Rattle.client_turns.specs.Views.{View}
+use Rattle.client_turns.specs.Views.{server_of}
+use Rattle.connection_view.specs.Views.{View, current}
 
 -- ---- what a line says
 
@@ -48,8 +47,8 @@ answer_told (answered.Items list is_set) = answer.Items list is_set
 
 -- what a view has of an object: what a read may answer, or nothing where it may say that the object is missing
 abbrev pub IsInView : Machine → View → ℕ → Option Seen → Type 0
-IsInView m v oid (Some x) = Reads m v oid (Ok (record { serial = x.serial; bytes = x.bytes }))
-IsInView m v oid None = (packed : Bool) × IsMissing m v oid packed
+IsInView m v oid (Some x) = current v oid ≡ Some (x.serial, x.bytes)
+IsInView m v oid None = (packed : Bool) × IsMissing v (server_of m) oid packed
 
 -- what a transaction has of an object: what waits for it, with its base as its serial, or else what its view has
 abbrev pub IsSeen : Machine → View → ℕ → Option PendingStore → Option Seen → Type 0

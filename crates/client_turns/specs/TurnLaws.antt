@@ -24,8 +24,7 @@ use Rattle.zodb_core.specs.Machine.{Machine, MachineVote, Rules, with_session}
 use Rattle.zodb_core.specs.Outcomes.{Answered, EndsFor, FaultCounts, NoMemory, ReadingFailed, StepOutcome, StoreFailed, machine_left, outcome_of, outcome_of_refusal}
 use Rattle.zodb_core.specs.StepCases.{StepCases, by_step}
 use Rattle.zodb_core.specs.Steps.{Stepped, changes_in_journal, early_refusal, journal_limit, pack_step, pack_tid, replied_refusal, request_step, step_of, switch_unless, transaction_with, unless_early, vote_at, vote_step, with_vote}
-use Rattle.client_turns.specs.Clients.{Client, Moment, OpenTransaction, changes_of, place_of_client}
-use Rattle.client_turns.specs.declared.client.Changes.{Changes}
+use Rattle.client_turns.specs.Clients.{Changes, Client, Moment, OpenTransaction, changes_of, place_of_client}
 use Rattle.client_turns.specs.declared.errors.TurnError.TheVariants as error
 use Rattle.client_turns.specs.Lines.{answer_of, end_in, end_of, is_committed, pending_in, request_of}
 use Rattle.client_turns.specs.Refusing.{connection_refusal}
@@ -33,7 +32,7 @@ use Rattle.client_turns.specs.Steps.{IsStepAt}
 use Rattle.client_turns.specs.DrawLaws.{raised_same, tree_raised}
 use Rattle.client_turns.specs.Trees.{IsRaised}
 use Rattle.client_turns.specs.Turns.{IsAnswered, IsClosed, IsClosing, IsGet, IsLine, IsLineOf, IsLineTaken, IsLineUnless, IsOpening, IsOwnLine, IsPut, IsStepLine, IsTold, IsWithin, Opening}
-use Rattle.client_turns.specs.Views.{View}
+use Rattle.connection_view.specs.Views.{View}
 
 -- ---- the list behind a step
 

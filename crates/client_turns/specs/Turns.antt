@@ -14,14 +14,13 @@ use Rattle.zodb_core.specs.declared.request.Request.TheVariants as request
 use Rattle.zodb_core.specs.Machine.{Rules, session_limit, with_session}
 use Rattle.client_turns.specs.declared.errors.TurnError.{TurnError}
 use Rattle.client_turns.specs.declared.errors.TurnError.TheVariants as error
-use Rattle.client_turns.specs.declared.got.Got.{Got}
 use Rattle.commit_phases.specs.Pending.{pending_of}
 use Rattle.client_turns.specs.Clients.{Client, Moment, OpenTransaction, changes_of, place_of_client, with_client}
 use Rattle.client_turns.specs.Lines.{answer_of, checked, client_left, data_of, end_of, is_committed, object_of, object_pending, put, request_of, rolled_back, saved, stored}
 use Rattle.client_turns.specs.Steps.{IsChange, IsReadAt, IsRefusedAt, IsStepAt}
 use Rattle.client_turns.specs.Trees.{IsTreeLine}
 use Rattle.client_turns.specs.Refusing.{connection_refusal}
-use Rattle.client_turns.specs.Views.{View}
+use Rattle.connection_view.specs.Views.{View}
 
 -- ---- lines of an open connection
 
@@ -41,8 +40,8 @@ pub record IsStepLine (rules : Rules) (m : Moment) (at : ℕ) (c : Client) (q : 
   pub left : now ≡ with_client told at (client_left told.machine c reply)
 
 -- a line that is answered by a read
-abbrev pub IsReadLine : Moment → View → ℕ → (Result Got Refusal → Answer) → Answer → Moment → Type 0
-IsReadLine m v oid answer_to a now = (result : Result Got Refusal) × IsReadAt m v oid result now × (a ≡ answer_to result)
+abbrev pub IsReadLine : Moment → View → ℕ → (Result (ℕ × List ℕ) Refusal → Answer) → Answer → Moment → Type 0
+IsReadLine m v oid answer_to a now = (result : Result (ℕ × List ℕ) Refusal) × IsReadAt m v oid result now × (a ≡ answer_to result)
 
 -- get: what waits is answered, and no read is made
 abbrev pub IsGet : Moment → View → ℕ → Option PendingStore → Answer → Moment → Type 0
@@ -52,7 +51,7 @@ IsGet m v oid None a now = IsReadLine m v oid object_of a now
 -- put: what waits keeps its base, and no read is made; else the base is the serial that a read answers
 abbrev pub IsPut : Moment → ℕ → Client → OpenTransaction → ℕ → List ℕ → Option PendingStore → Answer → Moment → Type 0
 IsPut m at c t oid bytes (Some p) a now = IsChange m at c t (stored t.changes (record { oid = oid; base = p.base; bytes = bytes })) a now
-IsPut m at c t oid bytes None a now = (result : Result Got Refusal) × (behind : Moment) × IsReadAt m t.view oid result behind × IsChange behind at c t (put t.changes oid bytes result) a now
+IsPut m at c t oid bytes None a now = (result : Result (ℕ × List ℕ) Refusal) × (behind : Moment) × IsReadAt m t.view oid result behind × IsChange behind at c t (put t.changes oid bytes result) a now
 
 -- a line of an open transaction that is no step; no other line comes here
 abbrev pub IsWithin : Moment → ℕ → Client → OpenTransaction → Line → Answer → Moment → Type 0

@@ -1,14 +1,7 @@
--- What a transaction sees. Source: MVCC of ZODB, where a connection reads the state just before one transaction.
-use Rattle.std.specs.Prelude.{ℕ, List}
-use Rattle.zb_model.specs.declared.data.Transaction.{Transaction}
-use Rattle.zodb_core.specs.Machine.{Machine, front_of, switches_of}
+-- What a machine is to a connection. Source: MVCC of ZODB, where a connection reads the state just before one transaction.
+use Rattle.zodb_core.specs.Machine.{Machine, switches_of}
+use Rattle.connection_view.specs.Views.{Server}
 
--- a front, the list that it was taken of, and how often that had been packed by then
-pub record View : Type 0 where
-  pub front : ℕ
-  pub list : List Transaction
-  pub switches : ℕ
-
--- the view of the list as it stands
-abbrev pub view_of : Machine → View
-view_of m = record { front = front_of m.list; list = m.list; switches = switches_of m.journal }
+-- a machine as connections see it: its list, how often that was packed, and the greatest number of an object
+abbrev pub server_of : Machine → Server
+server_of m = record { list = m.list; switches = switches_of m.journal; greatest = m.greatest }

@@ -5,12 +5,11 @@ ghost use Rattle.zodb_core.specs.Outcomes.{Answered, FaultCounts};
 ghost use Rattle.client_turns.specs.declared.client.Client.{Client};
 ghost use Rattle.client_turns.specs.Lines.{checked, outcome_of_answer, put, rolled_back, saved, stored};
 ghost use Rattle.client_turns.specs.Trees.{all_stored};
-ghost use Rattle.client_turns.specs.Standing.{HasReadCause, HasTurnCause, IsChangedAt, IsChangedBy, found_or_missing};
+ghost use Rattle.client_turns.specs.Standing.{HasReadCause, HasTurnCause, IsChangedAt, IsChangedBy, IsChangedTo, changes_kept, found_or_missing};
 
-use crate::client::{Changes, Client, Work};
-use crate::got::Got;
+use crate::client::Client;
 use commit_phases::PendingError;
-use connection_view::with_stores;
+use connection_view::Work;
 use savepoints::SavepointError;
 use std::alloc::AllocError;
 use zb_ids::{ListOf, Oid, Text8, Tid};
@@ -18,14 +17,14 @@ use zb_model::{PendingStore, Refusal};
 use zb_script::Answer;
 
 /// An object's new bytes wait for the vote, unless they are too long, by themselves or with the others.
-fn store(changes: &mut Changes, oid: Oid, base: Tid, bytes: Text8) -> Result<Answer, AllocError>
+fn store(work: &mut Work, oid: Oid, base: Tid, bytes: Text8) -> Result<Answer, AllocError>
     requires filled { 0 < length bytes }
-    ensures stored { IfOk result (λ a. record { answer = a; changes = changes.new }
-        ≡ stored changes.old (record { oid = oid; base = base; bytes = bytes })) }
+    ensures stored { IfOk result (λ a. IsChangedTo (stored (changes_kept work.old)
+        (record { oid = oid; base = base; bytes = bytes })) work.old a work.new) }
     ensures quiet { IfOk result (λ a. outcome_of_answer a ≡ Answered) }
-    ensures err { OnErr result (changes.new ≡ changes.old) }
+    ensures err { OnErr result (work.new ≡ work.old) }
 {
-    match changes.pending.store(oid, base, bytes) {
+    match work.pending.store(oid, base, bytes) {
         Ok(()) => Ok(Answer::Stored),
         Err(PendingError::TooLong { length }) => Ok(Answer::Refused(Refusal::TooLong { length })),
         Err(PendingError::Memory) => Err(AllocError),
@@ -36,61 +35,60 @@ fn store(changes: &mut Changes, oid: Oid, base: Tid, bytes: Text8) -> Result<Ans
 /// was none.
 #[tactic(auto, using(crate::proofs::Causes::quiet_result))]
 fn put(
-    changes: &mut Changes,
+    work: &mut Work,
     oid: Oid,
     bytes: Text8,
-    read: Result<Got, Refusal>,
+    read: Result<(Tid, Text8), Refusal>,
 ) -> Result<Answer, AllocError>
     requires filled { 0 < length bytes }
-    ensures put { IfOk result (λ a. record { answer = a; changes = changes.new }
-        ≡ put changes.old oid bytes read) }
+    ensures put { IfOk result (λ a. IsChangedTo (put (changes_kept work.old) oid bytes read) work.old a work.new) }
     ensures cause { (before now : FaultCounts) → HasReadCause before now read →
         IfOk result (HasTurnCause before now) }
     ensures failed { OnErr result (found_or_missing read ≡ true) }
-    ensures err { OnErr result (changes.new ≡ changes.old) }
+    ensures err { OnErr result (work.new ≡ work.old) }
 {
     match read {
-        Ok(got) => store(changes, oid, got.serial, bytes),
+        Ok(read) => store(work, oid, read.0, bytes),
         Err(
             Refusal::Missing {
                 oid: _,
                 packed: false,
             },
-        ) => store(changes, oid, Tid(0), bytes),
+        ) => store(work, oid, Tid(0), bytes),
         Err(why) => Ok(Answer::Refused(why)),
     }
 }
 
 /// A check waits for the vote.
-fn check(changes: &mut Changes, oid: Oid, serial: Tid) -> Result<Answer, AllocError>
-    ensures checked { IfOk result (λ a. record { answer = a; changes = changes.new }
-        ≡ checked changes.old (record { oid = oid; serial = serial })) }
+fn check(work: &mut Work, oid: Oid, serial: Tid) -> Result<Answer, AllocError>
+    ensures checked { IfOk result (λ a. IsChangedTo (checked (changes_kept work.old)
+        (record { oid = oid; serial = serial })) work.old a work.new) }
     ensures quiet { IfOk result (λ a. outcome_of_answer a ≡ Answered) }
-    ensures err { OnErr result (changes.new ≡ changes.old) }
+    ensures err { OnErr result (work.new ≡ work.old) }
 {
-    changes.pending.check(oid, serial)?;
+    work.pending.check(oid, serial)?;
     Ok(Answer::Checked)
 }
 
 /// What waits is saved.
-fn save(changes: &mut Changes) -> Result<Answer, AllocError>
-    ensures saved { IfOk result (λ a. record { answer = a; changes = changes.new } ≡ saved changes.old) }
+fn save(work: &mut Work) -> Result<Answer, AllocError>
+    ensures saved { IfOk result (λ a. IsChangedTo (saved (changes_kept work.old)) work.old a work.new) }
     ensures quiet { IfOk result (λ a. outcome_of_answer a ≡ Answered) }
-    ensures err { OnErr result (changes.new ≡ changes.old) }
+    ensures err { OnErr result (work.new ≡ work.old) }
 {
-    let number = changes.savepoints.save(&changes.pending)?;
+    let number = work.savepoints.save(&work.pending)?;
     Ok(Answer::Savepoint { number })
 }
 
 /// What waits is again what waited at a savepoint.
-fn roll_back(changes: &mut Changes, number: u64) -> Result<Answer, AllocError>
-    ensures rolled { IfOk result (λ a. record { answer = a; changes = changes.new } ≡ rolled_back changes.old number) }
+fn roll_back(work: &mut Work, number: u64) -> Result<Answer, AllocError>
+    ensures rolled { IfOk result (λ a. IsChangedTo (rolled_back (changes_kept work.old) number) work.old a work.new) }
     ensures quiet { IfOk result (λ a. outcome_of_answer a ≡ Answered) }
-    ensures err { OnErr result (changes.new ≡ changes.old) }
+    ensures err { OnErr result (work.new ≡ work.old) }
 {
-    match changes.savepoints.rollback(number) {
+    match work.savepoints.rollback(number) {
         Ok(pending) => {
-            changes.pending = pending;
+            work.pending = pending;
             Ok(Answer::Rolled { number })
         }
         Err(SavepointError::NoSavepoint { number }) => {
@@ -102,29 +100,24 @@ fn roll_back(changes: &mut Changes, number: u64) -> Result<Answer, AllocError>
 
 /// What a call on a tree puts waits for the vote, all of it or nothing.
 fn put_all(
-    changes: &mut Changes,
+    work: &mut Work,
     answer: Answer,
     puts: ListOf<PendingStore>,
 ) -> Result<Answer, AllocError>
     requires filled { All (λ p. 0 < length p.bytes) puts }
     requires answered { outcome_of_answer answer ≡ Answered }
-    ensures stored { IfOk result (λ a. record { answer = a; changes = changes.new }
-        ≡ all_stored changes.old answer puts) }
+    ensures stored { IfOk result (λ a. IsChangedTo (all_stored (changes_kept work.old) answer puts) work.old a work.new) }
     ensures quiet { IfOk result (λ a. outcome_of_answer a ≡ Answered) }
-    ensures err { OnErr result (changes.new ≡ changes.old) }
+    ensures err { OnErr result (work.new ≡ work.old) }
 {
     if puts.is_empty() {
         return Ok(answer);
     }
-    if changes.is_voted {
+    if work.is_voted {
         return Ok(Answer::Refused(Refusal::Voted));
     }
-    let pending = changes.pending.copy()?;
-    match with_stores(pending, puts) {
-        Ok(pending) => {
-            changes.pending = pending;
-            Ok(answer)
-        }
+    match work.pending.store_all(puts) {
+        Ok(()) => Ok(answer),
         Err(PendingError::TooLong { length }) => Ok(Answer::Refused(Refusal::TooLong { length })),
         Err(PendingError::Memory) => Err(AllocError),
     }
@@ -144,7 +137,7 @@ fn store_in(
     ensures err { OnErr result (work.new ≡ work.old) }
 {
     match work {
-        Some(work) => store(&mut work.changes, oid, base, bytes),
+        Some(work) => store(work, oid, base, bytes),
         None => Ok(Answer::Refused(Refusal::NoTransaction)),
     }
 }
@@ -154,7 +147,7 @@ fn put_in(
     work: &mut Option<Work>,
     oid: Oid,
     bytes: Text8,
-    read: Result<Got, Refusal>,
+    read: Result<(Tid, Text8), Refusal>,
 ) -> Result<Answer, AllocError>
     requires filled { 0 < length bytes }
     ensures changed { IfOk result (λ a. IsChangedBy (λ t. put t oid bytes read) work.old a work.new) }
@@ -164,7 +157,7 @@ fn put_in(
     ensures err { OnErr result (work.new ≡ work.old) }
 {
     match work {
-        Some(work) => put(&mut work.changes, oid, bytes, read),
+        Some(work) => put(work, oid, bytes, read),
         None => Ok(Answer::Refused(Refusal::NoTransaction)),
     }
 }
@@ -177,7 +170,7 @@ fn check_in(work: &mut Option<Work>, oid: Oid, serial: Tid) -> Result<Answer, Al
     ensures err { OnErr result (work.new ≡ work.old) }
 {
     match work {
-        Some(work) => check(&mut work.changes, oid, serial),
+        Some(work) => check(work, oid, serial),
         None => Ok(Answer::Refused(Refusal::NoTransaction)),
     }
 }
@@ -189,7 +182,7 @@ fn save_in(work: &mut Option<Work>) -> Result<Answer, AllocError>
     ensures err { OnErr result (work.new ≡ work.old) }
 {
     match work {
-        Some(work) => save(&mut work.changes),
+        Some(work) => save(work),
         None => Ok(Answer::Refused(Refusal::NoTransaction)),
     }
 }
@@ -201,7 +194,7 @@ fn roll_back_in(work: &mut Option<Work>, number: u64) -> Result<Answer, AllocErr
     ensures err { OnErr result (work.new ≡ work.old) }
 {
     match work {
-        Some(work) => roll_back(&mut work.changes, number),
+        Some(work) => roll_back(work, number),
         None => Ok(Answer::Refused(Refusal::NoTransaction)),
     }
 }
@@ -219,7 +212,7 @@ fn put_all_in(
     ensures err { OnErr result (work.new ≡ work.old) }
 {
     match work {
-        Some(work) => put_all(&mut work.changes, answer, puts),
+        Some(work) => put_all(work, answer, puts),
         None => Ok(Answer::Refused(Refusal::NoTransaction)),
     }
 }
@@ -251,7 +244,7 @@ pub(crate) fn put_at(
     at: usize,
     oid: Oid,
     bytes: Text8,
-    read: Result<Got, Refusal>,
+    read: Result<(Tid, Text8), Refusal>,
 ) -> Result<Answer, AllocError>
     requires place { at < length clients.old.items }
     requires filled { 0 < length bytes }

@@ -2,11 +2,11 @@
 
 ghost use Rattle.std.specs.Prelude.{◌≡◌, ◌<◌, Some, length, slice_get, slice_set};
 ghost use Rattle.client_turns.specs.declared.client.Client.{Client};
-ghost use Rattle.client_turns.specs.Clients.{no_changes};
-ghost use Rattle.client_turns.specs.Standing.{with_work, work_left, work_voted};
+ghost use Rattle.client_turns.specs.Standing.{new_work, with_work, work_left, work_voted};
 
-use crate::client::{Changes, Client, Work};
+use crate::client::Client;
 use commit_phases::Pending;
+use connection_view::Work;
 use savepoints::Savepoints;
 use std::alloc::Global;
 use zb_ids::Tid;
@@ -14,16 +14,14 @@ use zodb_core::Reply;
 
 /// A transaction begins.
 fn begun(alloc: Global, front: Tid, switches: u64) -> Work
-    ensures { result ≡ record { front = front; switches = switches; changes = no_changes } }
+    ensures { result ≡ new_work front switches }
 {
     Work {
         front,
         switches,
-        changes: Changes {
-            pending: Pending::new(alloc),
-            savepoints: Savepoints::new(alloc),
-            is_voted: false,
-        },
+        pending: Pending::new(alloc),
+        savepoints: Savepoints::new(alloc),
+        is_voted: false,
     }
 }
 
@@ -31,15 +29,9 @@ fn begun(alloc: Global, front: Tid, switches: u64) -> Work
 fn voted(work: Work) -> Work
     ensures { result ≡ work_voted work }
 {
-    Work {
-        front: work.front,
-        switches: work.switches,
-        changes: Changes {
-            pending: work.changes.pending,
-            savepoints: work.changes.savepoints,
-            is_voted: true,
-        },
-    }
+    let mut work = work;
+    work.is_voted = true;
+    work
 }
 
 /// What is left of the open transaction behind a reply.

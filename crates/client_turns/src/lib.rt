@@ -5,7 +5,6 @@ mod changing;
 mod client;
 mod clients;
 mod errors;
-mod got;
 mod last;
 mod laws;
 mod leaving;
@@ -17,10 +16,9 @@ mod steps;
 mod trees;
 mod turns;
 
-pub use client::{Changes, Client, Work};
+pub use client::Client;
 pub use clients::Clients;
 pub use errors::TurnError;
-pub use got::Got;
 pub use last::last_turns;
 pub use laws::{
     fronts_never_fall, new_numbers_are_new, reads_stay_below_the_front, refusals_have_their_cause,

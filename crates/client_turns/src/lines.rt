@@ -12,7 +12,6 @@ ghost use Rattle.client_turns.specs.Standing.{HasReadCause, HasTurnCause, IsOwnO
 use crate::changing::{check_at, put_at, roll_back_at, save_at, store_at};
 use crate::client::{session_at, work_at};
 use crate::clients::Clients;
-use crate::got::Got;
 use crate::reading::{data_of, object_of, object_pending, reply_read};
 use std::alloc::{AllocError, Global};
 use zb_ids::{Oid, Text8, Tid};
@@ -30,7 +29,7 @@ impl<St: Store, R: Resolver, F: Refs> Clients<St, R, F> {
         at: usize,
         oid: Oid,
         clock: &mut C,
-    ) -> Result<Got, Refusal>
+    ) -> Result<(Tid, Text8), Refusal>
         requires place { at < length self.old.clients }
         ensures read { St.told → (m : Moment) → StandsForMoment self.old (C.stamps clock.old) m →
             MayReadAt m at → LeadsTo (IsReadOf m at oid result) self.new (C.stamps clock.new) }
@@ -115,7 +114,7 @@ impl<St: Store, R: Resolver, F: Refs> Clients<St, R, F> {
         let Some(work) = work_at(self.clients.as_slice(), at) else {
             return Ok(Answer::Refused(Refusal::NoTransaction));
         };
-        if let Some(store) = work.changes.pending.copy_of(oid)? {
+        if let Some(store) = work.pending.copy_of(oid)? {
             return Ok(object_pending(store));
         }
         Ok(object_of(self.read(alloc, at, oid, clock)))
@@ -151,7 +150,7 @@ impl<St: Store, R: Resolver, F: Refs> Clients<St, R, F> {
         let Some(work) = work_at(self.clients.as_slice(), at) else {
             return Ok(Answer::Refused(Refusal::NoTransaction));
         };
-        if let Some(base) = work.changes.pending.base_of(oid) {
+        if let Some(base) = work.pending.base_of(oid) {
             return store_at(&mut self.clients, at, oid, base, bytes);
         }
         let read = self.read(alloc, at, oid, clock);

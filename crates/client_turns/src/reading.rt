@@ -4,13 +4,13 @@ ghost use Rattle.std.specs.Prelude.{◌≡◌};
 ghost use Rattle.client_turns.specs.Lines.{data_of, object_of, object_pending};
 ghost use Rattle.client_turns.specs.Standing.{reply_read};
 
-use crate::got::Got;
+use zb_ids::{Text8, Tid};
 use zb_model::{PendingStore, Refusal};
 use zb_script::Answer;
 use zodb_core::Reply;
 
 /// What a reply says of a load, for a view that had seen so many packs.
-pub(crate) fn reply_read(reply: Reply, switches: u64) -> Result<Got, Refusal>
+pub(crate) fn reply_read(reply: Reply, switches: u64) -> Result<(Tid, Text8), Refusal>
     ensures { result ≡ reply_read reply switches }
 {
     match reply {
@@ -19,7 +19,7 @@ pub(crate) fn reply_read(reply: Reply, switches: u64) -> Result<Got, Refusal>
             bytes,
             end: _,
             upto: _,
-        } => Ok(Got { serial, bytes }),
+        } => Ok((serial, bytes)),
         Reply::Nothing {
             oid,
             switches: packed,
@@ -33,21 +33,21 @@ pub(crate) fn reply_read(reply: Reply, switches: u64) -> Result<Got, Refusal>
 }
 
 /// What `load` is answered.
-pub(crate) fn data_of(read: Result<Got, Refusal>) -> Answer
+pub(crate) fn data_of(read: Result<(Tid, Text8), Refusal>) -> Answer
     ensures { result ≡ data_of read }
 {
     match read {
-        Ok(Got { serial, bytes }) => Answer::Data { serial, bytes },
+        Ok((serial, bytes)) => Answer::Data { serial, bytes },
         Err(why) => Answer::Refused(why),
     }
 }
 
 /// What `get` is answered where nothing waits.
-pub(crate) fn object_of(read: Result<Got, Refusal>) -> Answer
+pub(crate) fn object_of(read: Result<(Tid, Text8), Refusal>) -> Answer
     ensures { result ≡ object_of read }
 {
     match read {
-        Ok(Got { serial, bytes }) => Answer::Object { serial, bytes },
+        Ok((serial, bytes)) => Answer::Object { serial, bytes },
         Err(why) => Answer::Refused(why),
     }
 }

@@ -1,20 +1,20 @@
 //! What a connection refuses by itself.
 
 ghost use Rattle.std.specs.Prelude.{◌≡◌, IfSome};
-ghost use Rattle.std.specs.Option.{option_copied, option_map};
-ghost use Rattle.client_turns.specs.Standing.{IsQuiet};
+ghost use Rattle.std.specs.Option.{option_copied};
+ghost use Rattle.client_turns.specs.Standing.{IsQuiet, changes_in, changes_kept};
 ghost use Rattle.client_turns.specs.Refusing.{line_refusal, mixed, refusal_within, transaction_refusal};
 
-use crate::client::Changes;
 use commit_phases::Pending;
+use connection_view::Work;
 use zb_model::Refusal;
 use zb_script::Line;
 
-fn voted_refusal(changes: &Changes) -> Option<Refusal>
-    ensures refusal { result ≡ transaction_refusal changes.now (Line.Check 0 0) }
+fn voted_refusal(work: &Work) -> Option<Refusal>
+    ensures refusal { result ≡ transaction_refusal (changes_kept work.now) (Line.Check 0 0) }
     ensures quiet { IfSome result IsQuiet }
 {
-    if changes.is_voted {
+    if work.is_voted {
         return Some(Refusal::Voted);
     }
     None
@@ -33,48 +33,48 @@ fn mixed(pending: &Pending) -> Option<Refusal>
 }
 
 /// What an open transaction doesn't take.
-fn transaction_refusal(changes: &Changes, line: &Line) -> Option<Refusal>
-    ensures refusal { result ≡ transaction_refusal changes.now line.now }
+fn transaction_refusal(work: &Work, line: &Line) -> Option<Refusal>
+    ensures refusal { result ≡ transaction_refusal (changes_kept work.now) line.now }
     ensures quiet { IfSome result IsQuiet }
 {
     match line {
-        Line::Store { .. } => voted_refusal(changes),
-        Line::Put { .. } => voted_refusal(changes),
-        Line::Check { .. } => voted_refusal(changes),
-        Line::Savepoint => voted_refusal(changes),
-        Line::Rollback { .. } => voted_refusal(changes),
-        Line::Vote { .. } => voted_refusal(changes),
-        Line::Undo { .. } => match voted_refusal(changes) {
+        Line::Store { .. } => voted_refusal(work),
+        Line::Put { .. } => voted_refusal(work),
+        Line::Check { .. } => voted_refusal(work),
+        Line::Savepoint => voted_refusal(work),
+        Line::Rollback { .. } => voted_refusal(work),
+        Line::Vote { .. } => voted_refusal(work),
+        Line::Undo { .. } => match voted_refusal(work) {
             Some(why) => Some(why),
-            None => mixed(&changes.pending),
+            None => mixed(&work.pending),
         },
         _ => None,
     }
 }
 
 /// What a line that needs an open transaction is refused.
-fn refusal_within(changes: Option<&Changes>, line: &Line) -> Option<Refusal>
-    ensures refusal { result ≡ refusal_within (option_copied changes.entry) line.now }
+fn refusal_within(work: Option<&Work>, line: &Line) -> Option<Refusal>
+    ensures refusal { result ≡ refusal_within (changes_in (option_copied work.entry)) line.now }
     ensures quiet { IfSome result IsQuiet }
 {
-    match changes {
-        Some(changes) => transaction_refusal(changes, line),
+    match work {
+        Some(work) => transaction_refusal(work, line),
         None => Some(Refusal::NoTransaction),
     }
 }
 
-/// What an open connection refuses, with these changes in its transaction, where one is open.
-pub(crate) fn line_refusal(changes: Option<&Changes>, line: &Line) -> Option<Refusal>
-    ensures refusal { result ≡ line_refusal (option_copied changes.entry) line.now }
+/// What an open connection refuses, with this transaction, where one is open.
+pub(crate) fn line_refusal(work: Option<&Work>, line: &Line) -> Option<Refusal>
+    ensures refusal { result ≡ line_refusal (changes_in (option_copied work.entry)) line.now }
     ensures quiet { IfSome result IsQuiet }
 {
     match line {
         Line::Open | Line::New | Line::UndoLog | Line::Close => None,
         Line::History { .. } | Line::Pack { .. } => None,
-        Line::Begin => match changes {
+        Line::Begin => match work {
             Some(_) => Some(Refusal::InTransaction),
             None => None,
         },
-        _ => refusal_within(changes, line),
+        _ => refusal_within(work, line),
     }
 }

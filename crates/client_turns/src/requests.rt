@@ -4,11 +4,12 @@ ghost use Rattle.std.specs.Prelude.{◌≡◌, IfOk, IfSome};
 ghost use Rattle.std.specs.Option.{option_copied};
 ghost use Rattle.zodb_core.specs.HubState.{IsFitting};
 ghost use Rattle.client_turns.specs.Refusing.{IsFittingLine};
+ghost use Rattle.client_turns.specs.Standing.{changes_in};
 ghost use Rattle.client_turns.specs.Lines.{answer_of, end_of, is_committed, pending_in, request_of};
 
-use crate::client::Changes;
 use crate::errors::TurnError;
 use commit_phases::Pending;
+use connection_view::Work;
 use std::alloc::{AllocError, Global};
 use zb_ids::Text8;
 use zb_model::Refusal;
@@ -16,11 +17,11 @@ use zb_script::{Answer, Line};
 use zodb_core::{Reply, Request};
 
 /// What waits for a vote, once more, so that it is still there where the vote is refused.
-fn pending_in(alloc: Global, changes: Option<&Changes>) -> Result<Pending, AllocError>
-    ensures { IfOk result (λ pending. pending ≡ pending_in (option_copied changes.entry)) }
+fn pending_in(alloc: Global, work: Option<&Work>) -> Result<Pending, AllocError>
+    ensures { IfOk result (λ pending. pending ≡ pending_in (changes_in (option_copied work.entry))) }
 {
-    match changes {
-        Some(changes) => changes.pending.copy(),
+    match work {
+        Some(work) => work.pending.copy(),
         None => Ok(Pending::new(alloc)),
     }
 }
@@ -28,10 +29,10 @@ fn pending_in(alloc: Global, changes: Option<&Changes>) -> Result<Pending, Alloc
 /// The request of a line that is one step.
 pub(crate) fn request_of(
     alloc: Global,
-    changes: Option<&Changes>,
+    work: Option<&Work>,
     line: &Line,
 ) -> Result<Option<Request>, AllocError>
-    ensures request { IfOk result (λ request. request ≡ request_of (option_copied changes.entry) line.now) }
+    ensures request { IfOk result (λ request. request ≡ request_of (changes_in (option_copied work.entry)) line.now) }
     ensures fitting { IsFittingLine line.now → IfOk result (λ request. IfSome request IsFitting) }
 {
     match line {
@@ -41,7 +42,7 @@ pub(crate) fn request_of(
             user: user.clone()?,
             description: description.clone()?,
             extension: Text8::new(alloc),
-            pending: pending_in(alloc, changes)?,
+            pending: pending_in(alloc, work)?,
         })),
         Line::Undo {
             user,

@@ -16,13 +16,13 @@ ghost use Rattle.client_turns.specs.Standing.{HasTurnCause, IsOwnOf, LeadsTo, Ma
 ghost use Rattle.client_turns.specs.Trees.{Sees, answer_told, operation_of};
 
 use crate::changing::put_all_at;
-use crate::client::{Work, session_at, work_at};
+use crate::client::{session_at, work_at};
 use crate::clients::Clients;
-use crate::got::Got;
+use connection_view::Work;
 use std::alloc::{AllocError, Global};
 use std::marker::Brand;
 use tree_calls::{Attempt, Known, Made, Seen, TreeAnswer, TreeOperation, call_tree};
-use zb_ids::Oid;
+use zb_ids::{Oid, Text8, Tid};
 use zb_model::{PendingStore, Refs, Refusal, Resolver, Store};
 use zb_outside::Clock;
 use zb_script::{Answer, Line, TreeCall};
@@ -82,11 +82,11 @@ fn seen_waiting(store: PendingStore) -> Seen
 }
 
 /// What a read gives of an object: nothing, where it is missing.
-fn seen_read(read: Result<Got, Refusal>) -> Result<Option<Seen>, Refusal>
+fn seen_read(read: Result<(Tid, Text8), Refusal>) -> Result<Option<Seen>, Refusal>
     ensures { result ≡ Gathering.seen_read read }
 {
     match read {
-        Ok(Got { serial, bytes }) => Ok(Some(Seen { serial, bytes })),
+        Ok((serial, bytes)) => Ok(Some(Seen { serial, bytes })),
         Err(Refusal::Missing { oid: _, packed: _ }) => Ok(None),
         Err(why) => Err(why),
     }
@@ -159,7 +159,7 @@ impl<St: Store, R: Resolver, F: Refs> Clients<St, R, F> {
         let Some(work) = work_at(self.clients.as_slice(), at) else {
             return Err(Refusal::NoTransaction);
         };
-        match work.changes.pending.copy_of(oid) {
+        match work.pending.copy_of(oid) {
             Err(_) => return Err(Refusal::Memory),
             Ok(Some(store)) => return Ok(Some(seen_waiting(store))),
             Ok(None) => {}

@@ -14,7 +14,7 @@ ghost use Rattle.client_turns.specs.Refusing.{IsFittingLine, opens_session};
 ghost use Rattle.client_turns.specs.Standing.{ClosesAs, ClosesIf, HasTurnCause, IsListIn, IsQuiet, LeadsTo, OrAsBefore, StandsForMoment, packs_list, refusal_kept};
 ghost use Rattle.client_turns.specs.Turns.{IsLine, IsLineAt, IsOpening, IsTurn};
 
-use crate::client::{Client, changes_at, place_of, session_at};
+use crate::client::{Client, place_of, session_at, work_at};
 use crate::clients::Clients;
 use crate::errors::TurnError;
 use crate::refusing::line_refusal;
@@ -82,7 +82,7 @@ impl<St: Store, R: Resolver, F: Refs> Clients<St, R, F> {
         if !self.hub.is_open(session) {
             return Some(Refusal::NotOpen);
         }
-        line_refusal(changes_at(self.clients.as_slice(), at), line)
+        line_refusal(work_at(self.clients.as_slice(), at), line)
     }
 
     /// A line of the client at a place.
@@ -115,7 +115,7 @@ impl<St: Store, R: Resolver, F: Refs> Clients<St, R, F> {
         if let Some(why) = self.refusal_at(at, line) {
             return Ok(Answer::Refused(why));
         }
-        match request_of(alloc, changes_at(self.clients.as_slice(), at), line)? {
+        match request_of(alloc, work_at(self.clients.as_slice(), at), line)? {
             Some(request) => Ok(self.take_step(alloc, at, request, clock)),
             None => self.own_line(alloc, at, line, clock),
         }

@@ -22,11 +22,9 @@ use Rattle.zodb_core.specs.declared.request.Request.TheVariants as request
 use Rattle.zodb_core.specs.Machine.{Machine, Rules, session_limit, with_session}
 use Rattle.zodb_core.specs.Outcomes.{NoMemory, StoreFailed, outcome_of}
 use Rattle.zodb_core.specs.Outcomes as core
-use Rattle.client_turns.specs.declared.client.Changes.{Changes}
 use Rattle.client_turns.specs.declared.errors.TurnError.{TurnError}
 use Rattle.client_turns.specs.declared.errors.TurnError.TheVariants as turn_error
-use Rattle.client_turns.specs.declared.got.Got.{Got}
-use Rattle.client_turns.specs.Clients.{Client, Moment, OpenTransaction, changes_of, place_of_client}
+use Rattle.client_turns.specs.Clients.{Changes, Client, Moment, OpenTransaction, changes_of, place_of_client}
 use Rattle.client_turns.specs.Lines.{Changed, answer_of, data_of, end_of, is_committed, object_of, object_pending, put, request_of, rolled_back, rolled_to, saved, store_unless, stored}
 use Rattle.client_turns.specs.DrawLaws.{tree_answer, tree_raised}
 use Rattle.client_turns.specs.Trees.{IsRaised, IsTreeLine, answer_told}
@@ -34,7 +32,7 @@ use Rattle.client_turns.specs.Output.{Out, TurnAnswer, is_last}
 use Rattle.client_turns.specs.Refusing.{connection_refusal}
 use Rattle.client_turns.specs.Steps.{IsChange, IsRefusedAt, IsStepAt}
 use Rattle.client_turns.specs.Turns.{IsAnswered, IsBroken, IsClosed, IsClosing, IsClosingAt, IsGet, IsLine, IsLineOf, IsLineTaken, IsLineUnless, IsOpening, IsOwnLine, IsPut, IsReadLine, IsStepLine, IsTold, IsTurn, IsWithin, Opening, by_closing, by_line, by_memory, opened}
-use Rattle.client_turns.specs.Views.{View}
+use Rattle.connection_view.specs.Views.{View}
 use Rattle.zodb_top.specs.Committed.{BeginsWith, CommittedStays, HasCommitted, IsInIfCommitted, IsLeftIfCommitted, IsLeftOf, has_packed, is_packed}
 use Rattle.zodb_top.proofs.Keeping.{GoesTo, HasIfCommitted, IsHeld, MadeKeeps, answered_on, close_fed, committed_on, committed_so, fails_so, front_whole, goes_both, goes_is, goes_then, in_later, left_later, made_keeps, packed_so, starved_so}
 
@@ -135,11 +133,11 @@ step_line rules m at c q a now l =
 refused_line : (m : Moment) (why : Refusal) (a : Answer) (now : Moment) → IsRefusedAt m why a now → LineKeeps m a now
 refused_line m why a now (is, same) = same_line m a (answer.Refused why) now is tt (ap (λ (x : Moment). x.machine) same)
 
-plain_data : (r : Result Got Refusal) → IsPlain (data_of r)
+plain_data : (r : Result (ℕ × List ℕ) Refusal) → IsPlain (data_of r)
 plain_data (Ok got) = tt
 plain_data (Err why) = tt
 
-plain_object : (r : Result Got Refusal) → IsPlain (object_of r)
+plain_object : (r : Result (ℕ × List ℕ) Refusal) → IsPlain (object_of r)
 plain_object (Ok got) = tt
 plain_object (Err why) = tt
 
@@ -147,8 +145,8 @@ plain_store : (t : Changes) (p : PendingStore) (excess : Option ℕ) → IsPlain
 plain_store t p None = tt
 plain_store t p (Some n) = tt
 
-plain_put : (t : Changes) (oid : ℕ) (bytes : List ℕ) (r : Result Got Refusal) → IsPlain (put t oid bytes r).answer
-plain_put t oid bytes (Ok got) = plain_store t (record { oid = oid; base = got.serial; bytes = bytes }) (excess_with t.pending.stores (record { oid = oid; base = got.serial; bytes = bytes }))
+plain_put : (t : Changes) (oid : ℕ) (bytes : List ℕ) (r : Result (ℕ × List ℕ) Refusal) → IsPlain (put t oid bytes r).answer
+plain_put t oid bytes (Ok got) = plain_store t (record { oid = oid; base = got.0; bytes = bytes }) (excess_with t.pending.stores (record { oid = oid; base = got.0; bytes = bytes }))
 plain_put t oid bytes (Err (refusal.Missing o false)) = plain_store t (record { oid = oid; base = 0; bytes = bytes }) (excess_with t.pending.stores (record { oid = oid; base = 0; bytes = bytes }))
 plain_put t oid bytes (Err (refusal.Missing o true)) = tt
 plain_put t oid bytes (Err _) = tt
@@ -156,7 +154,7 @@ plain_put t oid bytes (Err _) = tt
 change_line : (m : Moment) (at : ℕ) (c : Client) (t : OpenTransaction) (w : Changed) (a : Answer) (now : Moment) → IsPlain w.answer → IsChange m at c t w a now → LineKeeps m a now
 change_line m at c t w a now plain (is, left) = same_line m a w.answer now is plain (ap (λ (x : Moment). x.machine) left)
 
-read_line : (m : Moment) (v : View) (oid : ℕ) (answer_to : Result Got Refusal → Answer) (a : Answer) (now : Moment) → ((r : Result Got Refusal) → IsPlain (answer_to r)) → IsReadLine m v oid answer_to a now → LineKeeps m a now
+read_line : (m : Moment) (v : View) (oid : ℕ) (answer_to : Result (ℕ × List ℕ) Refusal → Answer) (a : Answer) (now : Moment) → ((r : Result (ℕ × List ℕ) Refusal) → IsPlain (answer_to r)) → IsReadLine m v oid answer_to a now → LineKeeps m a now
 read_line m v oid answer_to a now plain (r, read, is) = same_line m a (answer_to r) now is (plain r) (ap (λ (x : Moment). x.machine) read.rest)
 
 get_line : (m : Moment) (v : View) (oid : ℕ) (p : Option PendingStore) (a : Answer) (now : Moment) → IsGet m v oid p a now → LineKeeps m a now

@@ -5,7 +5,7 @@ use Rattle.std.specs.Option.{option_copied, option_map}
 use Rattle.zb_model.specs.declared.pending.PendingStore.{PendingStore}
 use Rattle.commit_phases.specs.Pending.{pending_of}
 use Rattle.client_turns.specs.declared.client.Client.{Client}
-use Rattle.client_turns.specs.declared.client.Work.{Work}
+use Rattle.connection_view.specs.declared.work.Work.{Work}
 use Rattle.zb_volume.specs.declared.areas.Area.TheVariants.{Main}
 use Rattle.zb_volume.specs.Moments.{LeavesOnly}
 use Rattle.zodb_core.specs.HubState.{counts_of}
@@ -30,7 +30,7 @@ pub returns-in-Some-base_of-clause-line : goal.returns-in-Some-base_of-clause-li
 returns-in-Some-base_of-clause-line g c = λ told m stands may.
     put_waiting_result m c.args.at c.args.oid c.in-Some-base_of.base c.args.bytes c.store_at.result c.args.self.now _ _ stands may
     (λ x w there is. sym c.in-Some-base_of.is ∙ c.base_of.ensures
-    ∙ ap (λ (v : Work). option_map (λ (p : PendingStore). p.base) (pending_of v.changes.pending.stores c.args.oid))
+    ∙ ap (λ (v : Work). option_map (λ (p : PendingStore). p.base) (pending_of v.pending.stores c.args.oid))
     (sym (same_work c.in-Some.work.now w (sym (ap option_copied c.in-Some.is)
     ∙ c.work_at.ensures.work x (ap (λ (xs : List Client). slice_get xs c.args.at) (c.as_slice.ensures.value ∙ ap (λ s. s.clients) c.self.view_is) ∙ there) ∙ is))))
     (λ x there. subst (λ (xs : List Client). IfOk c.store_at.result (λ a. IsChangedAt (λ t. stored t (record { oid = c.args.oid; base = c.in-Some-base_of.base; bytes = c.args.bytes })) xs c.args.at x a c.store_at.new.clients.items)) (ap (λ s. s.clients) c.self.view_is) (c.store_at.ensures.changed x (ap (λ s. slice_get s.clients c.args.at) c.self.view_is ∙ there)))
@@ -41,7 +41,7 @@ pub returns-clause-line : goal.returns-clause-line
 returns-clause-line g c = λ told m stands may.
     put_result m c.args.at c.args.oid c.args.bytes c.read-read.result c.put_at.result c.args.self.now c.read-read.new.self _ _ _ stands may
     (λ x w there is. sym c.in_default-base_of.is ∙ c.base_of.ensures
-    ∙ ap (λ (v : Work). option_map (λ (p : PendingStore). p.base) (pending_of v.changes.pending.stores c.args.oid))
+    ∙ ap (λ (v : Work). option_map (λ (p : PendingStore). p.base) (pending_of v.pending.stores c.args.oid))
     (sym (same_work c.in-Some.work.now w (sym (ap option_copied c.in-Some.is)
     ∙ c.work_at.ensures.work x (ap (λ (xs : List Client). slice_get xs c.args.at) (c.as_slice.ensures.value ∙ ap (λ s. s.clients) c.self.view_is) ∙ there) ∙ is))))
     (c.read-read.ensures.read told m stands may) c.read-read.ensures.clients c.read-read.ensures.calm

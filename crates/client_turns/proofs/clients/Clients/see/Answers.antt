@@ -4,7 +4,7 @@ use Rattle.std.specs.Prelude.{slice_get}
 use Rattle.std.specs.Option.{option_copied}
 use Rattle.commit_phases.specs.Pending.{pending_of}
 use Rattle.client_turns.specs.declared.client.Client.{Client}
-use Rattle.client_turns.specs.declared.client.Work.{Work}
+use Rattle.connection_view.specs.declared.work.Work.{Work}
 use Rattle.client_turns.proofs.Gathering.{sight_cause, sight_read, sight_waiting}
 use Rattle.client_turns.proofs.Loading.{never_without}
 use Rattle.client_turns.proofs.clients.Clients.see.Goals as goal
@@ -21,7 +21,7 @@ returns-in_default-clause-sight g c = λ told m stands may.
 pub returns-in-Ok-Some-clause-sight : goal.returns-in-Ok-Some-clause-sight
 returns-in-Ok-Some-clause-sight g c = λ told m stands may.
     sight_waiting m c.args.at c.args.oid c.in-Ok-Some.store _ c.args.self.now _ stands may
-    (λ x w there is. ap (λ (v : Work). pending_of v.changes.pending.stores c.args.oid)
+    (λ x w there is. ap (λ (v : Work). pending_of v.pending.stores c.args.oid)
     (same_work c.in-Some.work.now w (sym (ap option_copied c.in-Some.is)
     ∙ c.work_at.ensures.work x (ap (λ (xs : List Client). slice_get xs c.args.at) (c.as_slice.ensures.value ∙ ap (λ s. s.clients) c.self.view_is) ∙ there) ∙ is))
     ∙ sym c.in-Ok-Some.ensures ∙ c.in-Ok-Some.field-0-is)
@@ -30,7 +30,7 @@ returns-in-Ok-Some-clause-sight g c = λ told m stands may.
 pub returns-clause-sight : goal.returns-clause-sight
 returns-clause-sight g c = λ told m stands may.
     sight_read m c.args.at c.args.oid _ _ c.args.self.now _ _ _ stands may
-    (λ x w there is. ap (λ (v : Work). pending_of v.changes.pending.stores c.args.oid)
+    (λ x w there is. ap (λ (v : Work). pending_of v.pending.stores c.args.oid)
     (same_work c.in-Some.work.now w (sym (ap option_copied c.in-Some.is)
     ∙ c.work_at.ensures.work x (ap (λ (xs : List Client). slice_get xs c.args.at) (c.as_slice.ensures.value ∙ ap (λ s. s.clients) c.self.view_is) ∙ there) ∙ is))
     ∙ sym c.in-Ok-None.ensures ∙ c.in-Ok-None.field-0-is)

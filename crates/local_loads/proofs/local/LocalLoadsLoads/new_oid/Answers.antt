@@ -1,0 +1,11 @@
+use Rattle.local_loads.proofs.Calls.{kept_call, oid_refused}
+use Rattle.local_loads.proofs.local.LocalLoadsLoads.new_oid.Goals as goal
+
+pub returns-clause-same : goal.returns-clause-same
+returns-clause-same g c = λ x may. (may.0, kept_call _ _ _ _ _ _ _ _ _ _ _ c.step-reply.result c.args.self.now.told _ x.told x.known c.step-reply.ensures.made c.step-reply.ensures.told may.0 may.1)
+
+pub returns-clause-refusal : goal.returns-clause-refusal
+returns-clause-refusal g c = oid_refused c.step-reply.result c.oid_answer.result c.oid_answer.ensures
+
+pub returns-clause-makes : goal.returns-clause-makes
+returns-clause-makes g c = record { reply = c.step-reply.result; step = c.step-reply.ensures.made; answer = c.oid_answer.ensures; last = c.step-reply.ensures.told }
