@@ -1,11 +1,15 @@
 -- How a call on a tree goes from one attempt to the next.
-use Rattle.std.proofs.Common.{◌≡◌, ℕ, false, List, [], ◌∷◌, ◌++◌, Option, Some, None, Result, Ok, Err, refl, sym, ap, subst, ◌∙◌, inl, inr}
+use Rattle.std.proofs.Common.{◌≡◌, ℕ, false, List, [], ◌∷◌, ◌++◌, Option, Some, None, Result, Ok, Err, refl, sym, ap, subst, ◌∙◌, arith, inl, inr}
 use Rattle.std.specs.Prelude.{IsSome, if◌then◌else◌, nat_eq, slice_get}
 use Rattle.zb_ids.specs.declared.stamp.Stamp.{Stamp}
+use Rattle.zb_volume.specs.Moments.{here}
+use Rattle.zb_model.specs.declared.data.Transaction.{Transaction}
 use Rattle.zb_model.specs.declared.refusal.Refusal.{Refusal}
 use Rattle.zb_model.specs.declared.refusal.Refusal.TheVariants as refusal
 use Rattle.zodb_core.specs.declared.reply.Reply.TheVariants as reply
+use Rattle.zodb_core.specs.HubState.{HubState, counts_of}
 use Rattle.zodb_core.specs.Machine.{Machine, is_open_in}
+use Rattle.zodb_core.specs.Outcomes.{Answered, StepOutcome, outcome_of_refusal}
 use Rattle.tree_calls.specs.declared.attempt.Made.{Made}
 use Rattle.tree_calls.specs.declared.known.Seen.{Seen}
 use Rattle.tree_calls.specs.declared.operation.TreeOperation.{TreeOperation}
@@ -13,27 +17,76 @@ use Rattle.tree_calls.specs.Calls.{IsMade, IsRefused}
 use Rattle.tree_calls.specs.Known.{known_at}
 use Rattle.client_turns.specs.declared.client.Client.{Client}
 use Rattle.connection_view.specs.declared.work.Work.{Work}
+use Rattle.client_turns.specs.Asking.{IsCalm}
 use Rattle.client_turns.specs.Clients.{Moment, OpenTransaction}
 use Rattle.client_turns.specs.Clients as seen
-use Rattle.client_turns.specs.DrawLaws.{new_raised}
-use Rattle.client_turns.specs.Gathering.{AdvancesTo, IsCallOf, IsDrawIn, IsDrawOf, IsSightIn, IsSightOf, StandsGathering, objects_kept, objects_over}
-use Rattle.client_turns.specs.Standing.{ClientsState, IsWorkOf, LeadsTo, MayReadAt, StandsForMoment}
+use Rattle.client_turns.specs.DrawLaws.{new_raised, refused_answers}
+use Rattle.client_turns.specs.Gathering.{AdvancesTo, IsCallOf, IsDrawIn, IsDrawOf, IsSightIn, IsSightOf, StandsGathering, objects_of, objects_over}
+use Rattle.client_turns.specs.Standing.{ClientsState, IsOpenAs, IsWorkOf, LeadsTo, MayReadAt, ReadsHub, StandsForMoment}
+use Rattle.client_turns.specs.Views.{server_of}
+use Rattle.connection_view.specs.declared.connection.Connection.{Connection}
+use Rattle.connection_view.specs.Connections.{work_of}
+use Rattle.connection_view.specs.ViewLaws.{IsSeenFrom, later_later, seen_from}
+use Rattle.connection_view.specs.Views.{Later, view_of}
+use Rattle.local_loads.specs.LocalLaws.{view_whole}
 use Rattle.client_turns.specs.Trees.{Draws, IsDrawn, IsRaised, IsSeenIn, IsUncalled, Sees, by_draw, by_read, by_tree, by_want}
-use Rattle.client_turns.proofs.Gathering.{draws_more, known_more, open_whole, seen_kept, seen_over, seen_same}
-use Rattle.client_turns.proofs.Owning.{IsAt, is_at}
+use Rattle.client_turns.proofs.Changing.{opened_work}
+use Rattle.client_turns.proofs.Framing.{calm_counts, calm_other, calm_whole}
+use Rattle.client_turns.proofs.Gathering.{draws_more, known_more, seen_kept, seen_over, seen_same}
+use Rattle.client_turns.proofs.Hubs.{open_whole}
+use Rattle.client_turns.proofs.Placing.{IsKeptAt, kept_at}
+
+-- ---- what is done to the hub
+
+module _ {R F : Type 0} (told lasts : Type 0) (stands : List ℕ → List Transaction → Type 0) where
+  -- nothing
+  pub still_reads : (o : StepOutcome) → IsCalm o → (h : HubState R F) → ReadsHub told lasts stands o h h
+  still_reads o calm h = record {
+    keeps = record {
+      resolver = refl;
+      refs = refl;
+      later = record { reads = omega arith; others = omega arith };
+      cause = calm_counts o (counts_of h.store) calm;
+      broken = λ whole. whole ∙ sym (calm_whole o calm);
+      side = λ on packs. here refl;
+      moments = λ on tells whole m is leaves. here leaves;
+    };
+    list = λ tells whole. refl;
+    whole = calm_whole o calm;
+  }
+
+  -- what was answered, and then ended otherwise
+  pub calm_reads : (o : StepOutcome) → IsCalm o → (h g : HubState R F) → ReadsHub told lasts stands Answered h g → ReadsHub told lasts stands o h g
+  calm_reads o calm h g reads = record {
+    keeps = record {
+      resolver = reads.keeps.resolver;
+      refs = reads.keeps.refs;
+      later = reads.keeps.later;
+      cause = calm_other (counts_of h.store) (counts_of g.store) Answered o (inl refl) calm reads.keeps.cause;
+      broken = λ whole. reads.keeps.broken whole ∙ sym (calm_whole o calm);
+      side = reads.keeps.side;
+      moments = reads.keeps.moments;
+    };
+    list = reads.list;
+    whole = calm_whole o calm;
+  }
+
+-- a tree refuses a call
+pub refused_calm : (objects : ℕ → Option Seen) (root : ℕ) (op : TreeOperation) (numbers : List ℕ) (why : Refusal) → IsRefused objects root op numbers why → IsCalm (outcome_of_refusal why)
+refused_calm objects root op numbers why is = inl (refused_answers objects root op numbers why is)
 
 -- ---- the first attempt
 
 pub starts : {R F : Type 0} (m : Moment) (at : ℕ) (old : ClientsState R F) (before : Option (List Stamp)) → StandsForMoment old before m → MayReadAt m at → StandsGathering old before m at [] []
 starts m at old before stands may =
-    let k : IsAt m at old = is_at m at old before stands may in
+    let t : (u : OpenTransaction) × (may.0.transaction ≡ Some u) = some_there may.0.transaction may.3 in
     record {
       now = m;
       stands = stands;
       client = may.0;
       there = may.1;
-      transaction = k.transaction;
-      begun = ap (λ (c : seen.Client). c.transaction) (same may.0 k.client (sym may.1 ∙ k.there)) ∙ k.begun;
+      transaction = t.0;
+      begun = t.1;
       may = may.2;
       draws = refl;
       list = refl;
@@ -42,8 +95,9 @@ starts m at old before stands may =
       sees = λ oid x is. absurd cc;
     }
   where
-    same : (a b : seen.Client) → Some a ≡ Some b → a ≡ b
-    same a b e = cc
+    some_there : (o : Option OpenTransaction) → IsSome o → (u : OpenTransaction) × (o ≡ Some u)
+    some_there None some = absurd cc
+    some_there (Some u) some = (u, refl)
 
 -- ---- what one may read
 
@@ -144,26 +198,21 @@ module _ {R F : Type 0} (m : Moment) (at : ℕ) (old : ClientsState R F) (before
 
   -- ---- an attempt
 
-  at_work : (work : Work) → ((x : Client) → slice_get old.clients at ≡ Some x → Some work ≡ x.transaction) → IsWorkOf g.now.machine work g.transaction
-  at_work work tells =
-      let k : IsAt g.now at old = is_at g.now at old before g.stands may_now in
-      let client : k.client ≡ g.client = same_client k.client k.there in
-      let opened : k.transaction ≡ g.transaction = same_open (sym k.begun ∙ ap (λ (c : seen.Client). c.transaction) client ∙ g.begun) in
-      let mine : work ≡ k.work = same_work (tells k.kept k.kept_there ∙ k.working) in
-      subst (λ (w : Work). IsWorkOf g.now.machine w g.transaction) (sym mine) (subst (IsWorkOf g.now.machine k.work) opened k.tied)
-    where
-      same_open : {a b : OpenTransaction} → Some a ≡ Some b → a ≡ b
-      same_open e = cc
-
-      same_work : {a b : Work} → Some a ≡ Some b → a ≡ b
-      same_work e = cc
-
-  pub sees_over : (work : Work) → ((x : Client) → slice_get old.clients at ≡ Some x → Some work ≡ x.transaction) → Sees m.machine g.transaction (objects_over known old.hub.store.list work)
-  sees_over work tells oid =
+  pub sees_over : (k : Connection) → ((x : Client) → slice_get old.clients at ≡ Some x → k ≡ x.connection) → Sees m.machine g.transaction (objects_over known old.hub.store.list (work_of k))
+  sees_over k tells oid =
+      let kept : IsKeptAt old.hub old.clients at g.client = kept_at old.hub old.clients g.now.clients at g.client g.stands.clients there_now in
       let whole : old.hub.store.broken ≡ false = open_whole old.hub g.now.machine g.client.session g.stands.hub g.may in
-      let kept : IsSeenIn g.now.machine g.transaction oid (objects_kept old.hub.store.list work oid) = seen_kept g.now.machine work g.transaction old.hub.store.list oid (at_work work tells) (g.stands.hub.list whole) in
-      seen_over m.machine g.transaction oid (known_at known oid) (objects_kept old.hub.store.list work oid) (λ y is. g.sees oid y is)
-      (seen_same g.now.machine m.machine g.transaction.view oid _ (objects_kept old.hub.store.list work oid) (sym g.list) (sym g.journal) kept)
+      let here : k ≡ kept.kept.connection = tells kept.kept kept.there in
+      let w : (v : Work) × (work_of kept.kept.connection ≡ Ok v) × IsWorkOf kept.kept.connection kept.is.told v g.transaction =
+      opened_work kept.kept.connection kept.is.told (work_of kept.kept.connection) g.transaction (subst (IsOpenAs kept.kept.connection kept.is.told (work_of kept.kept.connection)) g.begun kept.is.transaction) in
+      let from : IsSeenFrom w.0 g.transaction.view kept.is.told = seen_from kept.kept.connection g.transaction.view kept.is.told w.0 w.2.view w.1 in
+      let later : Later g.transaction.view (view_of (server_of g.now.machine)) =
+      later_later g.transaction.view kept.is.told.told (view_of (server_of g.now.machine)) from.later (subst (Later kept.is.told.told) (view_whole old.hub g.now.machine g.stands.hub whole) kept.is.may.later) in
+      let over : IsSeenIn g.now.machine g.transaction oid (objects_of old.hub.store.list (work_of k) oid) =
+      subst (λ (wr : Result Work Refusal). IsSeenIn g.now.machine g.transaction oid (objects_of old.hub.store.list wr oid)) (sym (ap work_of here ∙ w.1))
+      (seen_kept g.now.machine kept.kept.connection kept.is.told w.0 g.transaction old.hub.store.list oid w.2 w.1 later (g.stands.hub.list whole)) in
+      seen_over m.machine g.transaction oid (known_at known oid) (objects_of old.hub.store.list (work_of k) oid) (λ y is. g.sees oid y is)
+      (seen_same g.now.machine m.machine g.transaction.view oid _ (objects_of old.hub.store.list (work_of k) oid) (sym g.list) (sym g.journal) over)
 
   pub made_on : (objects : ℕ → Option Seen) (root : ℕ) (op : TreeOperation) (made : Made) → Sees m.machine g.transaction objects → IsMade objects root op numbers made.answer made.puts → LeadsTo (IsCallOf m at root op (Ok made)) old before
   made_on objects root op made sees is = record {
@@ -174,12 +223,3 @@ module _ {R F : Type 0} (m : Moment) (at : ℕ) (old : ClientsState R F) (before
 
   pub refused_on : (objects : ℕ → Option Seen) (root : ℕ) (op : TreeOperation) (why : Refusal) → Sees m.machine g.transaction objects → IsRefused objects root op numbers why → LeadsTo (IsCallOf m at root op (Err why)) old before
   refused_on objects root op why sees is = ends_at root op why old before g.now g.stands (by_tree objects numbers sees g.draws is)
-
-  -- a client that has no transaction isn't gathering
-  pub never_none : ((x : Client) → slice_get old.clients at ≡ Some x → None ≡ x.transaction) → ⊥
-  never_none tells =
-      let k : IsAt g.now at old = is_at g.now at old before g.stands may_now in
-      no_work (tells k.kept k.kept_there ∙ k.working)
-    where
-      no_work : {w : Work} → None ≡ Some w → ⊥
-      no_work e = absurd cc

@@ -1,46 +1,78 @@
 -- How a call on a tree ends its line.
-use Rattle.std.proofs.Common.{◌≡◌, ℕ, List, Option, Some, None, Result, Ok, Err, refl, sym, ap, subst, ◌∙◌, inl, inr}
-use Rattle.std.specs.Prelude.{IfOk, OnErr, slice_get}
-use Rattle.std.specs.declared.alloc.AllocError.{AllocError}
+use Rattle.std.proofs.Common.{◌≡◌, ◌⊎◌, ℕ, List, [], ◌∷◌, Option, Some, None, Result, Ok, Err, refl, sym, ap, subst, ◌∙◌, inl, inr}
+use Rattle.std.specs.Prelude.{IsSome, slice_get, slice_set}
+use Rattle.std.specs.Option.{option_map}
 use Rattle.zb_ids.specs.declared.stamp.Stamp.{Stamp}
-use Rattle.zb_volume.specs.Calls.{Event}
-use Rattle.zb_volume.specs.declared.areas.Area.TheVariants.{Main}
-use Rattle.zb_volume.specs.Moments.{Leaves, LeavesOnly}
-use Rattle.zb_volume.specs.Runs.{along_now, joined}
-use Rattle.zb_model.specs.declared.data.Transaction.{Transaction}
 use Rattle.zb_model.specs.declared.pending.PendingStore.{PendingStore}
 use Rattle.zb_model.specs.declared.refusal.Refusal.{Refusal}
+use Rattle.zb_model.specs.declared.refusal.Refusal.TheVariants as refusal
 use Rattle.zb_script.specs.declared.answer.Answer.{Answer}
 use Rattle.zb_script.specs.declared.answer.Answer.TheVariants as answer
+use Rattle.zb_script.specs.declared.line.Line.{Line}
 use Rattle.zb_script.specs.declared.line.Line.TheVariants as line
 use Rattle.zb_script.specs.declared.tree_call.TreeCall.{TreeCall}
-use Rattle.zodb_core.specs.Machine.{Machine}
+use Rattle.commit_phases.specs.Pending.{stores_after}
+use Rattle.zodb_core.specs.HubState.{HubState, StandsForMachine, counts_of}
+use Rattle.zodb_core.specs.Machine.{Rules}
+use Rattle.zodb_core.specs.Outcomes.{Answered, outcome_of_refusal}
+use Rattle.connection_view.specs.declared.connection.Connection.{Connection}
+use Rattle.connection_view.specs.declared.work.Work.{Work}
+use Rattle.connection_view.specs.Connections.{InView, LeavesWork, changeable, followed_by, stored_all, stored_all_as, work_of}
+use Rattle.connection_view.specs.Views.{View}
+use Rattle.connection_view.specs.Views as views
+use Rattle.local_loads.specs.declared.told.Told.{Told}
+use Rattle.local_loads.specs.Local.{MayBeTold}
 use Rattle.tree_calls.specs.declared.attempt.Made.{Made}
 use Rattle.tree_calls.specs.declared.operation.TreeOperation.{TreeOperation}
 use Rattle.client_turns.specs.declared.client.Client.{Client}
-use Rattle.connection_view.specs.declared.work.Work.{Work}
-use Rattle.client_turns.specs.Clients.{Moment, OpenTransaction}
+use Rattle.client_turns.specs.Asking.{IsCalm, IsPutAll, IsPutAs, IsSameBut, answered}
+use Rattle.client_turns.specs.Clients.{Moment, OpenTransaction, with_client}
 use Rattle.client_turns.specs.Clients as seen
 use Rattle.client_turns.specs.DrawLaws.{call_leaves}
-use Rattle.client_turns.specs.Gathering.{IsCallOf, IsListKept, or_starved}
-use Rattle.client_turns.specs.Standing.{ClientsState, IsChangedAt, IsOwnOf, IsWorkOf, IsWorkOfIfSome, LeadsTo, OrAsBefore}
+use Rattle.client_turns.specs.Gathering.{IsCallOf}
+use Rattle.client_turns.specs.Lines.{outcome_of_answer, outcome_of_result, request_of, with_changes}
+use Rattle.client_turns.specs.Refusing.{line_refusal}
+use Rattle.client_turns.specs.Standing.{AreClientsOf, ClientsState, IsClientOf, IsLineOpen, IsOpenAs, IsOpenLineOf, IsOwnOf, LeadsTo, MayAskAt, MayReadAt, OrStarved, StandsForMoment}
 use Rattle.client_turns.specs.Steps.{IsChange}
 use Rattle.client_turns.specs.Trees.{CallEnds, IsTreeEnd, IsTreeLine, all_stored, answer_told, operation_of}
 use Rattle.client_turns.specs.Turns.{IsOwnLine}
-use Rattle.client_turns.proofs.Owning.{change_done, starved_same}
-use Rattle.client_turns.proofs.Placing.{IsKeptAt, kept_at}
+use Rattle.client_turns.proofs.Asked.{none_of, opened_of}
+use Rattle.client_turns.proofs.Changing.{puts_leave}
+use Rattle.client_turns.proofs.Framing.{leaves_calm}
+use Rattle.client_turns.proofs.One.{own_open, refused_open, set_there, starved_open}
+use Rattle.client_turns.proofs.Placing.{IsKeptAt, kept_at, set_at}
 
--- ---- from one attempt to the next
+-- ---- what is put
 
-pub kept_on : {R F : Type 0} (m b : Moment) (new : ClientsState R F) (after : Option (List Stamp)) → IsListKept m b → LeadsTo (IsListKept b) new after → LeadsTo (IsListKept m) new after
-kept_on m b new after so_far leads = record { now = leads.now; holds = leads.holds ∙ so_far; stands = leads.stands }
+-- nothing
+pub nothing_put : (x : Client) (a : Answer) (puts : List PendingStore) → puts ≡ [] → IsPutAll x x a puts a
+nothing_put x a puts none = subst (λ (ps : List PendingStore). IsPutAll x x a ps a) (sym none) (λ told t is. record { same = record { name = refl; session = refl; told = refl }; put = inl (refl, is) })
 
-pub moments_on : (stands : List ℕ → List Transaction → Type 0) (l k : List Transaction) (old mid new : List Event) → k ≡ l → LeavesOnly Main (λ bytes. stands bytes l) old mid
-    → (Leaves Main (λ bytes. stands bytes k) mid → LeavesOnly Main (λ bytes. stands bytes k) mid new) → LeavesOnly Main (λ bytes. stands bytes l) old new
-moments_on stands l k old mid new is so_far next =
-    joined (Leaves Main (λ bytes. stands bytes l)) old mid new so_far
-    (subst (λ (x : List Transaction). LeavesOnly Main (λ bytes. stands bytes x) mid new) is
-    (next (subst (λ (x : List Transaction). Leaves Main (λ bytes. stands bytes x) mid) (sym is) (along_now (Leaves Main (λ bytes. stands bytes l)) old mid so_far))))
+-- something
+pub all_put : (x y : Client) (a : Answer) (puts : List PendingStore) (reply : Answer) (result : Result (Unit {0}) Refusal) → IsSameBut x y → ((u : View) (v : views.Client) → InView x.connection u v → InView y.connection u v) → (puts ≡ [] → ⊥)
+    → LeavesWork (followed_by (changeable (work_of x.connection)) (stored_all puts)) (work_of x.connection) (work_of y.connection) result → reply ≡ answered result a → IsPutAll x y a puts reply
+all_put x y a [] reply result but view some leaves answers = absurd (some refl)
+all_put x y a (p ∷ ps) reply result but view some leaves answers = puts_leave x y a p ps but view reply result leaves answers
+
+stored_calm : (puts : List PendingStore) (w : Work) (r : Refusal) → stored_all puts w ≡ Err r → IsCalm (outcome_of_refusal r)
+stored_calm puts w r is = by_length (stores_after w.pending.stores puts) is
+  where
+    same_refusal : (a b : Refusal) → (let e : Result Work Refusal = Err a in e) ≡ Err b → b ≡ a
+    same_refusal a b e = cc
+
+    by_length : (o : Result (List PendingStore) ℕ) → stored_all_as w o ≡ Err r → IsCalm (outcome_of_refusal r)
+    by_length (Ok stores) is = absurd cc
+    by_length (Err n) is = inl (ap outcome_of_refusal (same_refusal (refusal.TooLong n) r is))
+
+answered_calm : {T : Type 0} (result : Result T Refusal) (a : Answer) → outcome_of_answer a ≡ Answered → IsCalm (outcome_of_result result) → IsCalm (outcome_of_answer (answered result a))
+answered_calm (Ok x) a quiet calm = inl quiet
+answered_calm (Err r) a quiet calm = calm
+
+-- either way no count moves
+pub put_calm : {T : Type 0} (k l : Connection) (puts : List PendingStore) (result : Result T Refusal) (a reply : Answer) → outcome_of_answer a ≡ Answered → LeavesWork (followed_by (changeable (work_of k)) (stored_all puts)) (work_of k) (work_of l) result
+    → reply ≡ answered result a → IsCalm (outcome_of_answer reply)
+put_calm k l puts result a reply quiet leaves answers =
+    subst (λ (z : Answer). IsCalm (outcome_of_answer z)) (sym answers) (answered_calm result a quiet (leaves_calm k l (stored_all puts) result (stored_calm puts) leaves))
 
 -- ---- lines
 
@@ -53,10 +85,10 @@ line_at m b now at root call c t op result a begun is ends end =
 
 -- a call that is refused
 pub call_refused : {R F : Type 0} (m : Moment) (at root : ℕ) (call : TreeCall) (op : TreeOperation) (why : Refusal) (new : ClientsState R F) (after : Option (List Stamp)) → op ≡ operation_of call
-    → LeadsTo (IsCallOf m at root op (Err why)) new after → LeadsTo (OrAsBefore (IsOwnOf m at (line.Tree root call)) m (Ok (answer.Refused why))) new after
+    → LeadsTo (IsCallOf m at root op (Err why)) new after → LeadsTo (OrStarved (IsOwnOf m at (line.Tree root call)) m (answer.Refused why)) new after
 call_refused m at root call op why new after is leads = record {
   now = leads.now;
-  holds = (
+  holds = inl (
     leads.holds.0,
     leads.holds.1,
     line_at m leads.now leads.now at root call leads.holds.0 leads.holds.2 op (Err why) (answer.Refused why) leads.holds.3 is leads.holds.4 (refl, refl),
@@ -64,36 +96,123 @@ call_refused m at root call op why new after is leads = record {
   stands = leads.stands;
 }
 
-work_of : (m : Machine) (w : Option Work) (o : Option OpenTransaction) (t : OpenTransaction) → o ≡ Some t → IsWorkOfIfSome m w o → (v : Work) × (w ≡ Some v) × IsWorkOf m v t
-work_of m w o t is tied = by_work w (subst (IsWorkOfIfSome m w) is tied)
-  where
-    by_work : (w : Option Work) → IsWorkOfIfSome m w (Some t) → (v : Work) × (w ≡ Some v) × IsWorkOf m v t
-    by_work None tied = absurd tied
-    by_work (Some v) tied = (v, refl, tied)
+-- the clients, with this one as another of the same hub
+with_one : {R F : Type 0} (b : Moment) (at : ℕ) (d : seen.Client) (y : Client) (mid new : ClientsState R F) (between : Option (List Stamp)) → StandsForMoment mid between b → new.hub ≡ mid.hub → new.clients ≡ slice_set mid.clients at y → IsClientOf mid.hub y d
+    → StandsForMoment new between (with_client b at d)
+with_one {R} {F} b at d y mid new between stood hub clients is = record {
+  hub = subst (λ (h : HubState R F). StandsForMachine h b.machine) (sym hub) stood.hub;
+  vote = stood.vote;
+  clients = subst (λ (h : HubState R F). AreClientsOf h new.clients (slice_set b.clients at d)) (sym hub)
+      (subst (λ (xs : List Client). AreClientsOf mid.hub xs (slice_set b.clients at d)) (sym clients) (set_at mid.hub mid.clients b.clients at y d stood.clients is));
+  counts = stood.counts ∙ ap (λ (h : HubState R F). counts_of h.store) (sym hub);
+  stamps = stood.stamps;
+}
+
+same_moment : (b : Moment) (at : ℕ) (c : seen.Client) → slice_get b.clients at ≡ Some c → with_client b at c ≡ b
+same_moment b at c there = ap (λ (cs : List seen.Client). let n : Moment = record { machine = b.machine; clients = cs; stamps = b.stamps; counts = b.counts } in n) (sym (set_there b.clients at c there))
 
 -- a call that is answered, and what it puts
-pub call_made : {R F : Type 0} (m : Moment) (at root : ℕ) (call : TreeCall) (op : TreeOperation) (made : Made) (told : Answer) (puts : List PendingStore) (result : Result Answer AllocError) (mid new : ClientsState R F) (between : Option (List Stamp))
+pub call_made : {R F : Type 0} (m : Moment) (at root : ℕ) (call : TreeCall) (op : TreeOperation) (made : Made) (told : Answer) (puts : List PendingStore) (reply : Answer) (mid new : ClientsState R F) (between : Option (List Stamp))
     → op ≡ operation_of call → told ≡ answer_told made.answer → puts ≡ made.puts → LeadsTo (IsCallOf m at root op (Ok made)) mid between
-    → ((x : Client) → slice_get mid.clients at ≡ Some x → IfOk result (λ a. IsChangedAt (λ t. all_stored t told puts) mid.clients at x a new.clients))
-    → OnErr result (new.clients ≡ mid.clients) → new.hub ≡ mid.hub → LeadsTo (OrAsBefore (IsOwnOf m at (line.Tree root call)) m (Ok (or_starved result))) new between
-call_made m at root call op made told puts (Ok a) mid new between is tells same leads changed err hub =
-    let c : seen.Client = leads.holds.0 in
-    let t : OpenTransaction = leads.holds.2 in
-    let there : slice_get leads.now.clients at ≡ Some c = ap (λ (cs : List seen.Client). slice_get cs at) (call_leaves m c.session t root op (Ok made) leads.now leads.holds.4).clients ∙ leads.holds.1 in
-    let k : IsKeptAt leads.now.machine mid.clients at c = kept_at leads.now.machine mid.clients leads.now.clients at c leads.stands.clients there in
-    let w : (v : Work) × (k.kept.transaction ≡ Some v) × IsWorkOf leads.now.machine v t = work_of leads.now.machine k.kept.transaction c.transaction t leads.holds.3 k.is.transaction in
-    let done : LeadsTo (IsChange leads.now at c t (all_stored t.changes told puts) a) new between =
-    change_done leads.now at c t k.kept w.0 (λ ch. all_stored ch told puts) a mid new between leads.stands k.is w.1 w.2 (changed k.kept k.there) hub in
-    let change : IsChange leads.now at c t (all_stored t.changes (answer_told made.answer) made.puts) a done.now =
-    subst (λ (ps : List PendingStore). IsChange leads.now at c t (all_stored t.changes (answer_told made.answer) ps) a done.now) same
-    (subst (λ (x : Answer). IsChange leads.now at c t (all_stored t.changes x puts) a done.now) tells done.holds) in
-    record { now = done.now; holds = (c, leads.holds.1, line_at m leads.now done.now at root call c t op (Ok made) a leads.holds.3 is leads.holds.4 (inl change)); stands = done.stands }
-call_made m at root call op made told puts (Err e) mid new between is tells same leads changed err hub =
-    let c : seen.Client = leads.holds.0 in
-    let t : OpenTransaction = leads.holds.2 in
-    let stays : LeadsTo (OrAsBefore (IsOwnOf m at (line.Tree root call)) leads.now (Err e)) new between = starved_same leads.now (IsOwnOf m at (line.Tree root call)) e mid new between leads.stands err hub in
-    record {
-      now = stays.now;
-      holds = (c, leads.holds.1, line_at m leads.now stays.now at root call c t op (Ok made) (or_starved (Err e)) leads.holds.3 is leads.holds.4 (inr (refl, stays.holds)));
-      stands = stays.stands;
+    → ((x : Client) → slice_get mid.clients at ≡ Some x → (y : Client) × (new.clients ≡ slice_set mid.clients at y) × IsPutAll x y told puts reply) → new.hub ≡ mid.hub → LeadsTo (OrStarved (IsOwnOf m at (line.Tree root call)) m reply) new between
+call_made {R} {F} m at root call op made told puts reply mid new between is tells same leads changed hub =
+    by_put y.0 (y.2 k.is.told t (subst (IsOpenAs k.kept.connection k.is.told (work_of k.kept.connection)) leads.holds.3 k.is.transaction)) y.1
+  where
+    c : seen.Client
+    c = leads.holds.0
+
+    t : OpenTransaction
+    t = leads.holds.2
+
+    b : Moment
+    b = leads.now
+
+    there : slice_get b.clients at ≡ Some c
+    there = ap (λ (cs : List seen.Client). slice_get cs at) (call_leaves m c.session t root op (Ok made) b leads.holds.4).clients ∙ leads.holds.1
+
+    k : IsKeptAt mid.hub mid.clients at c
+    k = kept_at mid.hub mid.clients b.clients at c leads.stands.clients there
+
+    y : (y : Client) × (new.clients ≡ slice_set mid.clients at y) × IsPutAll k.kept y told puts reply
+    y = changed k.kept k.there
+
+    client : (z : Client) (d : seen.Client) (o : Option OpenTransaction) → IsSameBut k.kept z → d.name ≡ c.name → d.session ≡ c.session → d.transaction ≡ o → IsOpenAs z.connection k.is.told (work_of z.connection) o → IsClientOf mid.hub z d
+    client z d o but name session begun opened = record {
+      name = name ∙ k.is.name ∙ sym but.name;
+      session = session ∙ k.is.session ∙ sym but.session;
+      told = k.is.told;
+      may = subst (λ (l : Option Told). MayBeTold l mid.hub k.is.told.told k.is.told.known) (sym but.told) k.is.may;
+      transaction = subst (IsOpenAs z.connection k.is.told (work_of z.connection)) (sym begun) opened;
     }
+
+    by_put : (z : Client) → IsPutAs k.kept z told puts reply k.is.told t → new.clients ≡ slice_set mid.clients at z → LeadsTo (OrStarved (IsOwnOf m at (line.Tree root call)) m reply) new between
+    by_put z put clients = by_either put.put
+      where
+        by_either : ((reply ≡ (all_stored t.changes told puts).answer) × IsOpenAs z.connection k.is.told (work_of z.connection) (Some (record { view = t.view; changes = (all_stored t.changes told puts).changes }))) ⊎ ((reply ≡ answer.Refused refusal.Memory) × IsOpenAs z.connection k.is.told (work_of z.connection) (Some t))
+            → LeadsTo (OrStarved (IsOwnOf m at (line.Tree root call)) m reply) new between
+        by_either (inl so) =
+            let d : seen.Client = with_changes c t (all_stored t.changes told puts).changes in
+            let change : IsChange b at c t (all_stored t.changes (answer_told made.answer) made.puts) reply (with_client b at d) =
+            subst (λ (ps : List PendingStore). IsChange b at c t (all_stored t.changes (answer_told made.answer) ps) reply (with_client b at d)) same
+            (subst (λ (z : Answer). IsChange b at c t (all_stored t.changes z puts) reply (with_client b at d)) tells (so.0, refl)) in
+            record {
+              now = with_client b at d;
+              holds = inl (c, leads.holds.1, line_at m b (with_client b at d) at root call c t op (Ok made) reply leads.holds.3 is leads.holds.4 (inl change));
+              stands = with_one b at d z mid new between leads.stands hub clients (client z d (Some (record { view = t.view; changes = (all_stored t.changes told puts).changes })) put.same refl refl refl so.1);
+            }
+        by_either (inr starved) =
+            record {
+              now = with_client b at c;
+              holds = inl (c, leads.holds.1, line_at m b (with_client b at c) at root call c t op (Ok made) reply leads.holds.3 is leads.holds.4 (inr (starved.0, same_moment b at c there)));
+              stands = with_one b at c z mid new between leads.stands hub clients (client z c (Some t) put.same refl refl leads.holds.3 starved.1);
+            }
+
+-- there was no memory to begin with
+pub line_starved : {R F : Type 0} (m : Moment) (at : ℕ) (l : Line) (old : ClientsState R F) (before : Option (List Stamp)) → StandsForMoment old before m → LeadsTo (OrStarved (IsOwnOf m at l) m (answer.Refused refusal.Memory)) old before
+line_starved m at l old before stands = record { now = m; holds = inr (refl, refl); stands = stands }
+
+-- ---- whatever is open
+
+module _ {R F : Type 0} (m : Moment) (at : ℕ) (old : ClientsState R F) (before : Option (List Stamp)) (stands : StandsForMoment old before m) (asks : MayAskAt m at) (k : Connection) (tells : (x : Client) → slice_get old.clients at ≡ Some x → k ≡ x.connection) where
+  kept : IsKeptAt old.hub old.clients at asks.0
+  kept = kept_at old.hub old.clients m.clients at asks.0 stands.clients asks.1
+
+  -- a transaction
+  pub may_read : (w : Work) × (work_of k ≡ Ok w) → MayReadAt m at
+  may_read (w, works) =
+      let o = opened_of kept.kept.connection kept.is.told (work_of kept.kept.connection) w asks.0 kept.is.transaction (ap work_of (sym (tells kept.kept kept.there)) ∙ works) in
+      (asks.0, asks.1, asks.2, subst (λ (z : Option OpenTransaction). IsSome z) (sym o.begun) refl)
+
+  -- none
+  pub closed_line : (rules : Rules) (root : ℕ) (call : TreeCall) → (r : Refusal) × (work_of k ≡ Err r) → LeadsTo (IsOpenLineOf rules m at (line.Tree root call) (answer.Refused refusal.NoTransaction)) old before
+  closed_line rules root call (r, works) =
+      let none = none_of kept.kept.connection kept.is.told (work_of kept.kept.connection) r asks.0 kept.is.transaction (ap work_of (sym (tells kept.kept kept.there)) ∙ works) in
+      record {
+        now = m;
+        holds = (
+          asks.0,
+          asks.1,
+          refused_open rules m at asks.0 (line.Tree root call) (answer.Refused refusal.NoTransaction) m refusal.NoTransaction
+              (ap (λ (o : Option OpenTransaction). line_refusal (option_map (λ (t : OpenTransaction). t.changes) o) (line.Tree root call)) none.1) refl refl,
+        );
+        stands = stands;
+      }
+
+-- a line of a tree is one of an open session, where a transaction is open
+own_tree : (rules : Rules) (m now : Moment) (at root : ℕ) (call : TreeCall) (c : seen.Client) (o : Option OpenTransaction) (a : Answer) → c.transaction ≡ o → IsSome o → IsOwnLine m at c o (line.Tree root call) a now → IsLineOpen rules m at c (line.Tree root call) a now
+own_tree rules m now at root call c None a begun some own = absurd cc
+own_tree rules m now at root call c (Some t) a begun some own =
+    own_open rules m at c (line.Tree root call) a now t begun (ap (λ (o : Option OpenTransaction). line_refusal (option_map (λ (t : OpenTransaction). t.changes) o) (line.Tree root call)) begun)
+    (ap (λ (o : Option OpenTransaction). request_of (option_map (λ (t : OpenTransaction). t.changes) o) (line.Tree root call)) begun) own
+
+pub open_line : {R F : Type 0} (rules : Rules) (m : Moment) (at root : ℕ) (call : TreeCall) (a : Answer) (new : ClientsState R F) (after : Option (List Stamp)) → MayReadAt m at
+    → LeadsTo (OrStarved (IsOwnOf m at (line.Tree root call)) m a) new after → LeadsTo (IsOpenLineOf rules m at (line.Tree root call) a) new after
+open_line rules m at root call a new after may leads = record { now = leads.now; holds = by_either leads.holds; stands = leads.stands }
+  where
+    same_client : (a b : seen.Client) → Some a ≡ Some b → a ≡ b
+    same_client a b e = cc
+
+    by_either : OrStarved (IsOwnOf m at (line.Tree root call)) m a leads.now → IsOpenLineOf rules m at (line.Tree root call) a leads.now
+    by_either (inl (c, there, own)) =
+        (c, there, own_tree rules m leads.now at root call c c.transaction a refl (subst (λ (d : seen.Client). IsSome d.transaction) (same_client may.0 c (sym may.1 ∙ there)) may.3) own)
+    by_either (inr (answers, same)) = (may.0, may.1, starved_open rules m at may.0 (line.Tree root call) a leads.now answers same)

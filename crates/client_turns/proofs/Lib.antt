@@ -1,3 +1,4 @@
+pub mod Hubs
 pub mod Calling
 pub mod Causes
 pub mod Causing
@@ -7,13 +8,19 @@ pub mod Ending
 pub mod Following
 pub mod Gathering
 pub mod Advancing
+pub mod Asked
+pub mod Changing
+pub mod Framed
+pub mod Framing
 pub mod Giving
-pub mod Growing
 pub mod Lasting
 pub mod Lawful
+pub mod Lined
 pub mod Loading
+pub mod One
 pub mod Opening
-pub mod Owning
 pub mod Placing
+pub mod Putting
+pub mod Served
 pub mod Stepping
 pub mod Taking

@@ -1,8 +1,7 @@
 -- How a load of the hub is a read in a view.
-use Rattle.std.proofs.Common.{◌≡◌, ℕ, Bool, true, false, not, List, Option, Some, None, Result, Err, nat_lt, refl, sym, ap, subst, ◌∙◌, arith, IsTrue}
-use Rattle.std.specs.Prelude.{slice_get, IsSome}
+use Rattle.std.proofs.Common.{◌≡◌, ℕ, Bool, true, false, not, eqb, ◌==◌, List, Option, Some, None, Result, Ok, Err, refl, sym, ap, subst, ◌∙◌, ◌≤◌, ◌<◌, arith, IsTrue, inl, inr}
 use Rattle.std.specs.Option.{option_and_then, option_or}
-use Rattle.std.proofs.lemmas.Bool.{ltb-true, ltb-false}
+use Rattle.std.proofs.lemmas.Bool.{eqb-true, eqb-false}
 use Rattle.zb_base.specs.Counts.{Rose}
 use Rattle.zb_ids.specs.declared.stamp.Stamp.{Stamp}
 use Rattle.zb_model.specs.declared.data.Content.{Content}
@@ -14,21 +13,21 @@ use Rattle.zb_model.specs.Queries.{end_of, found_as, found_below, found_of}
 use Rattle.zodb_core.specs.declared.reply.Reply.{Reply}
 use Rattle.zodb_core.specs.declared.reply.Reply.TheVariants as reply
 use Rattle.zodb_core.specs.declared.request.Request.TheVariants as request
-use Rattle.zodb_core.specs.HubState.{HasTicked, counts_of}
+use Rattle.zodb_core.specs.HubState.{HasTicked}
 use Rattle.zodb_core.specs.Machine.{Machine, Rules, is_open_in, switches_of}
 use Rattle.zodb_core.specs.Outcomes.{Answered, EndsFor, FaultCounts, NoMemory, ReadingFailed, StepOutcome, StoreFailed, machine_left, outcome_of, outcome_of_refusal}
 use Rattle.zodb_core.specs.Steps.{Stepped, loaded, refuse_if, replied, step_of, unless_early}
-use Rattle.client_turns.specs.declared.client.Client.{Client}
-use Rattle.connection_view.specs.declared.work.Work.{Work}
-use Rattle.client_turns.specs.Clients.{Moment, OpenTransaction}
+use Rattle.connection_view.specs.declared.loads.Loaded.{Loaded}
+use Rattle.connection_view.specs.Connections.{IsReadAnswered}
+use Rattle.connection_view.specs.Loading.{IsMissing}
+use Rattle.connection_view.specs.Views.{Later, View, read_as, read_from, view_of}
+use Rattle.local_loads.specs.Answers.{load_answer, server_refusal}
+use Rattle.client_turns.specs.Clients.{Moment}
 use Rattle.client_turns.specs.Clients as clients
 use Rattle.client_turns.specs.Lines.{IsCountedBy, outcome_of_read}
 use Rattle.client_turns.specs.Reads.{EndsReading, IsMissedFor}
-use Rattle.client_turns.specs.Standing.{ClientsState, IsReadIn, IsReadOf, IsWorkOf, IsWorkOfIfSome, LeadsTo, MayReadAt, StandsForMoment, reply_read}
 use Rattle.client_turns.specs.Steps.{IsReadAt, IsStepAt}
-use Rattle.connection_view.specs.Views.{Later, View, read_as, read_from, view_of}
 use Rattle.client_turns.specs.Views.{server_of}
-use Rattle.client_turns.proofs.Placing.{IsKeptAt, kept_at}
 
 -- ---- what a load of an open session is
 
@@ -78,52 +77,28 @@ each_load m oid (Some r) e P held none = no_content m oid r.serial r.content e P
 
 -- ---- how a read ends
 
-missing_is : (m : Machine) (v : View) (oid o packed : ℕ) (b : Bool) → nat_lt v.switches packed ≡ b → Later v (view_of (server_of m)) → IsNothing m oid o packed (revision_below oid v.front m.list)
-    → IsMissedFor m v oid (refusal.Missing o b)
-missing_is m v oid o packed true is later none = (none.object, (omega (arith, ltb-true v.switches packed is, none.switches), none.none))
-missing_is m v oid o packed false is later none =
-    let unpacked : v.switches ≡ switches_of m.journal = omega (arith, ltb-false v.switches packed is, none.switches, later.switches) in
-    (none.object, (sym unpacked, sym (later.same unpacked oid v.front (omega arith)) ∙ none.none))
+-- how a read ends, and what it does to the counts
+pub record EndsSo (m : Machine) (v : View) (oid : ℕ) (before now : FaultCounts) (result : Result (ℕ × List ℕ) Refusal) : Type 0 where
+  pub ends : EndsReading m v oid before now result
+  pub counts : IsCountedBy before now (outcome_of_read result)
 
-refused_ends : (m : Machine) (v : View) (oid : ℕ) (before now : FaultCounts) (why : Refusal) → (outcome_of_refusal why ≡ Answered → ⊥) → (outcome_of_refusal why ≡ ReadingFailed → Rose before.reads now.reads)
-    → (outcome_of_refusal why ≡ NoMemory → now ≡ before) → (outcome_of_refusal why ≡ StoreFailed → ⊥) → EndsReading m v oid before now (Err why)
-refused_ends m v oid before now refusal.TidsSpent answered failed starved broke = absurd (answered refl)
-refused_ends m v oid before now refusal.StoreFault answered failed starved broke = absurd (broke refl)
-refused_ends m v oid before now (refusal.Conflict a0 a1 a2 a3) answered failed starved broke = absurd (answered refl)
-refused_ends m v oid before now (refusal.ReadConflict a0 a1 a2) answered failed starved broke = absurd (answered refl)
-refused_ends m v oid before now (refusal.TooLong a0) answered failed starved broke = absurd (answered refl)
-refused_ends m v oid before now (refusal.UndoUnknown a0) answered failed starved broke = absurd (answered refl)
-refused_ends m v oid before now (refusal.UndoPacked a0) answered failed starved broke = absurd (answered refl)
-refused_ends m v oid before now (refusal.UndoConflict a0 a1) answered failed starved broke = absurd (answered refl)
-refused_ends m v oid before now (refusal.Overtaken a0 a1) answered failed starved broke = absurd (answered refl)
-refused_ends m v oid before now (refusal.Unreadable a0 a1) answered failed starved broke = absurd (answered refl)
-refused_ends m v oid before now (refusal.PackedAlready a0) answered failed starved broke = absurd (answered refl)
-refused_ends m v oid before now (refusal.Missing a0 a1) answered failed starved broke = absurd (answered refl)
-refused_ends m v oid before now refusal.NoTransaction answered failed starved broke = absurd (answered refl)
-refused_ends m v oid before now refusal.InTransaction answered failed starved broke = absurd (answered refl)
-refused_ends m v oid before now refusal.NotVoted answered failed starved broke = absurd (answered refl)
-refused_ends m v oid before now refusal.Voted answered failed starved broke = absurd (answered refl)
-refused_ends m v oid before now (refusal.Busy a0) answered failed starved broke = absurd (answered refl)
-refused_ends m v oid before now (refusal.PackRunning a0) answered failed starved broke = absurd (answered refl)
-refused_ends m v oid before now refusal.OidsSpent answered failed starved broke = absurd (answered refl)
-refused_ends m v oid before now (refusal.JournalFull a0) answered failed starved broke = absurd (answered refl)
-refused_ends m v oid before now (refusal.TooManySessions a0) answered failed starved broke = absurd (answered refl)
-refused_ends m v oid before now refusal.NotOpen answered failed starved broke = absurd (answered refl)
-refused_ends m v oid before now (refusal.NoSavepoint a0) answered failed starved broke = absurd (answered refl)
-refused_ends m v oid before now (refusal.FrameTooLong a0) answered failed starved broke = absurd (answered refl)
-refused_ends m v oid before now refusal.BadMessage answered failed starved broke = absurd (answered refl)
-refused_ends m v oid before now refusal.LinkFault answered failed starved broke = absurd (answered refl)
-refused_ends m v oid before now refusal.Closed answered failed starved broke = absurd (answered refl)
-refused_ends m v oid before now (refusal.Mixed a0) answered failed starved broke = absurd (answered refl)
-refused_ends m v oid before now refusal.NoPack answered failed starved broke = absurd (answered refl)
-refused_ends m v oid before now (refusal.NotATree a0) answered failed starved broke = absurd (answered refl)
-refused_ends m v oid before now (refusal.NodeMissing a0) answered failed starved broke = absurd (answered refl)
-refused_ends m v oid before now refusal.BadKey answered failed starved broke = absurd (answered refl)
-refused_ends m v oid before now refusal.ReadFault answered failed starved broke = failed refl
-refused_ends m v oid before now (refusal.NothingToDelete a0 a1) answered failed starved broke = absurd (answered refl)
-refused_ends m v oid before now (refusal.Connected a0) answered failed starved broke = absurd (answered refl)
-refused_ends m v oid before now refusal.StepsSpent answered failed starved broke = absurd (answered refl)
-refused_ends m v oid before now refusal.Memory answered failed starved broke = starved refl
+missing_as : (m : Machine) (v : View) (oid o packed : ℕ) (b : Bool) → (packed == v.switches) ≡ b → Later v (view_of (server_of m)) → IsNothing m oid o packed (revision_below oid v.front m.list)
+    → IsMissing v (server_of m) oid (not b)
+missing_as m v oid o packed true is later none =
+    let unpacked : v.switches ≡ switches_of m.journal = omega (arith, eqb-true packed v.switches is, none.switches) in
+    (sym unpacked, sym (later.same unpacked oid v.front (omega arith)) ∙ none.none)
+missing_as m v oid o packed false is later none =
+    (less v.switches (switches_of m.journal) later.switches (λ e. eqb-false packed v.switches is (none.switches ∙ sym e)), none.none)
+  where
+    less : (a b : ℕ) → a ≤ b → (a ≡ b → ⊥) → a < b
+    less a b within other = omega (arith, within, other)
+
+refused_so : (m : Machine) (v : View) (oid : ℕ) (before now : FaultCounts) (why : Refusal) → (outcome_of_refusal why ≡ Answered → ⊥) → (outcome_of_refusal why ≡ ReadingFailed → Rose before.reads now.reads)
+    → (outcome_of_refusal why ≡ StoreFailed → ⊥) → IsCountedBy before now (outcome_of_refusal why) → EndsSo m v oid before now (Err (server_refusal why))
+refused_so m v oid before now refusal.ReadFault answered failed broke counts = record { ends = failed refl; counts = counts }
+refused_so m v oid before now refusal.Memory answered failed broke counts = record { ends = counts; counts = counts }
+refused_so m v oid before now refusal.StoreFault answered failed broke counts = absurd (broke refl)
+refused_so m v oid before now _ answered failed broke counts = absurd (answered refl)
 
 module _ (rules : Rules) (m : Moment) (n oid stamp : ℕ) (v : View) (made : Stepped) (now : FaultCounts) (later : Later v (view_of (server_of m.machine))) (is_open : is_open_in m.machine.sessions n ≡ true) where
   abbrev Ends : StepOutcome → Type 0
@@ -161,25 +136,36 @@ module _ (rules : Rules) (m : Moment) (n oid stamp : ℕ) (v : View) (made : Ste
   other_reply r held none is ends =
       each_load m.machine oid (revision_below oid v.front m.machine.list) (end_of oid v.front m.machine.list) (λ x. r ≡ x → ⊥) held none (sym is ∙ answered_reply ends)
 
-  reply_ends : (r : Reply) → made.reply ≡ r → (outcome_of r ≡ NoMemory → now ≡ m.counts) → Ends (outcome_of r) → EndsReading m.machine v oid m.counts now (reply_read r v.switches)
-  reply_ends (reply.Loaded serial bytes end upto) is calm ends =
-      later.held oid v.front (serial, bytes) (omega arith)
-      (held_found m.machine oid serial bytes end upto (revision_below oid v.front m.machine.list) (end_of oid v.front m.machine.list) (sym is ∙ answered_reply ends))
-  reply_ends (reply.Nothing o packed) is calm ends =
-      missing_is m.machine v oid o packed (nat_lt v.switches packed) refl later
-      (none_found m.machine oid o packed (revision_below oid v.front m.machine.list) (end_of oid v.front m.machine.list) (sym is ∙ answered_reply ends))
-  reply_ends (reply.Refused why) is calm ends =
-      refused_ends m.machine v oid m.counts now why (λ o. never_answered why (outcome_of_refusal why) is o ends) (λ o. failed_rose (outcome_of_refusal why) o ends) calm (λ o. never_broke (outcome_of_refusal why) o ends)
-  reply_ends (reply.Front front news switches) is calm ends = absurd (other_reply _ (λ serial bytes end upto e. absurd cc) (λ o packed e. absurd cc) is ends)
-  reply_ends (reply.Oids first count) is calm ends = absurd (other_reply _ (λ serial bytes end upto e. absurd cc) (λ o packed e. absurd cc) is ends)
-  reply_ends reply.Voted is calm ends = absurd (other_reply _ (λ serial bytes end upto e. absurd cc) (λ o packed e. absurd cc) is ends)
-  reply_ends (reply.Committed tid) is calm ends = absurd (other_reply _ (λ serial bytes end upto e. absurd cc) (λ o packed e. absurd cc) is ends)
-  reply_ends reply.Empty is calm ends = absurd (other_reply _ (λ serial bytes end upto e. absurd cc) (λ o packed e. absurd cc) is ends)
-  reply_ends reply.Aborted is calm ends = absurd (other_reply _ (λ serial bytes end upto e. absurd cc) (λ o packed e. absurd cc) is ends)
-  reply_ends (reply.History list) is calm ends = absurd (other_reply _ (λ serial bytes end upto e. absurd cc) (λ o packed e. absurd cc) is ends)
-  reply_ends (reply.UndoLog list) is calm ends = absurd (other_reply _ (λ serial bytes end upto e. absurd cc) (λ o packed e. absurd cc) is ends)
-  reply_ends (reply.Packed kept dropped) is calm ends = absurd (other_reply _ (λ serial bytes end upto e. absurd cc) (λ o packed e. absurd cc) is ends)
-  reply_ends reply.Closed is calm ends = absurd (other_reply _ (λ serial bytes end upto e. absurd cc) (λ o packed e. absurd cc) is ends)
+  reply_so : (r : Reply) (result : Result (ℕ × List ℕ) Refusal) → made.reply ≡ r → IsCountedBy m.counts now (outcome_of r) → Ends (outcome_of r) → IsReadAnswered oid v.switches (load_answer r) result → EndsSo m.machine v oid m.counts now result
+  reply_so (reply.Loaded serial bytes end upto) result is counts ends (inl so) =
+      subst (EndsSo m.machine v oid m.counts now) (sym so) (record {
+        ends = later.held oid v.front (serial, bytes) (omega arith)
+            (held_found m.machine oid serial bytes end upto (revision_below oid v.front m.machine.list) (end_of oid v.front m.machine.list) (sym is ∙ answered_reply ends));
+        counts = counts;
+      })
+  reply_so (reply.Loaded serial bytes end upto) result is counts ends (inr so) = subst (EndsSo m.machine v oid m.counts now) (sym so) (record { ends = counts; counts = counts })
+  reply_so (reply.Nothing o packed) result is counts ends so =
+      subst (EndsSo m.machine v oid m.counts now) (sym so) (record {
+        ends = (
+          refl,
+          missing_as m.machine v oid o packed (packed == v.switches) refl later
+              (none_found m.machine oid o packed (revision_below oid v.front m.machine.list) (end_of oid v.front m.machine.list) (sym is ∙ answered_reply ends)),
+        );
+        counts = counts;
+      })
+  reply_so (reply.Refused why) result is counts ends so =
+      subst (EndsSo m.machine v oid m.counts now) (sym so.0)
+      (refused_so m.machine v oid m.counts now why (λ o. never_answered why (outcome_of_refusal why) is o ends) (λ o. failed_rose (outcome_of_refusal why) o ends) (λ o. never_broke (outcome_of_refusal why) o ends) counts)
+  reply_so (reply.Front front news switches) result is counts ends so = absurd (other_reply _ (λ serial bytes end upto e. absurd cc) (λ o packed e. absurd cc) is ends)
+  reply_so (reply.Oids first count) result is counts ends so = absurd (other_reply _ (λ serial bytes end upto e. absurd cc) (λ o packed e. absurd cc) is ends)
+  reply_so reply.Voted result is counts ends so = absurd (other_reply _ (λ serial bytes end upto e. absurd cc) (λ o packed e. absurd cc) is ends)
+  reply_so (reply.Committed tid) result is counts ends so = absurd (other_reply _ (λ serial bytes end upto e. absurd cc) (λ o packed e. absurd cc) is ends)
+  reply_so reply.Empty result is counts ends so = absurd (other_reply _ (λ serial bytes end upto e. absurd cc) (λ o packed e. absurd cc) is ends)
+  reply_so reply.Aborted result is counts ends so = absurd (other_reply _ (λ serial bytes end upto e. absurd cc) (λ o packed e. absurd cc) is ends)
+  reply_so (reply.History list) result is counts ends so = absurd (other_reply _ (λ serial bytes end upto e. absurd cc) (λ o packed e. absurd cc) is ends)
+  reply_so (reply.UndoLog list) result is counts ends so = absurd (other_reply _ (λ serial bytes end upto e. absurd cc) (λ o packed e. absurd cc) is ends)
+  reply_so (reply.Packed kept dropped) result is counts ends so = absurd (other_reply _ (λ serial bytes end upto e. absurd cc) (λ o packed e. absurd cc) is ends)
+  reply_so reply.Closed result is counts ends so = absurd (other_reply _ (λ serial bytes end upto e. absurd cc) (λ o packed e. absurd cc) is ends)
 
 -- the machine is as it was
 load_left : (rules : Rules) (m : Machine) (n oid front stamp : ℕ) (made : Stepped) (before now : FaultCounts) (o : StepOutcome) → is_open_in m.sessions n ≡ true
@@ -209,68 +195,18 @@ moment_is m now machine others stamps =
     ∙ ap (λ (x : List clients.Client). let n : Moment = record { machine = m.machine; clients = x; stamps = now.stamps; counts = now.counts } in n) others
     ∙ ap (λ (x : Option (List Stamp)). let n : Moment = record { machine = m.machine; clients = m.clients; stamps = x; counts = now.counts } in n) stamps
 
-read_outcome : (r : Reply) (switches : ℕ) → outcome_of_read (reply_read r switches) ≡ outcome_of r
-read_outcome (reply.Loaded serial bytes end upto) switches = refl
-read_outcome (reply.Nothing oid packed) switches = refl
-read_outcome (reply.Refused why) switches = refl
-read_outcome _ switches = refl
-
 -- a load in an open session is a read in a view of which the list came
-step_reads : (rules : Rules) (m : Moment) (n oid : ℕ) (v : View) (r : Reply) (now : Moment) → Later v (view_of (server_of m.machine)) → is_open_in m.machine.sessions n ≡ true
-    → (outcome_of r ≡ NoMemory → now.counts ≡ m.counts) → IsStepAt rules m n (request.LoadBefore oid v.front) r now → IsReadAt m v oid (reply_read r v.switches) now
-step_reads rules m n oid v r now later is_open calm step = record {
-  later = step.made.later;
-  ends = reply_ends rules m n oid step.stamp v (record { reply = r; machine = now.machine; ticks = step.ticks }) now.counts later is_open r refl calm step.made.cause;
-  counts = subst (λ (o : StepOutcome). IsCountedBy m.counts now.counts o) (sym (read_outcome r v.switches)) step.counts;
-  rest = moment_is m now
-      (step.made.left ∙ load_left rules m.machine n oid v.front step.stamp (record { reply = r; machine = now.machine; ticks = step.ticks }) m.counts now.counts (outcome_of r) is_open step.made.cause)
-      step.clients
-      (unread_clock step.ticks step.stamp m.stamps now.stamps (λ t. load_quiet rules m.machine n oid v.front step.stamp is_open (step.made.ticks t)) step.clock);
-}
-
--- a client that may read has a transaction
-no_work : (m : Machine) (w : Option Work) (t : Option OpenTransaction) → w ≡ None → IsSome t → IsWorkOfIfSome m w t → ⊥
-no_work m None None is some tied = absurd cc
-no_work m None (Some t) is some tied = tied
-no_work m (Some w) t is some tied = absurd cc
-
-pub never_without : {R F : Type 0} (m : Moment) (at : ℕ) (old : ClientsState R F) (before : Option (List Stamp)) → StandsForMoment old before m → MayReadAt m at
-    → ((x : Client) → slice_get old.clients at ≡ Some x → None ≡ x.transaction) → ⊥
-never_without m at old before stands may tells =
-    let k : IsKeptAt m.machine old.clients at may.0 = kept_at m.machine old.clients m.clients at may.0 stands.clients may.1 in
-    no_work m.machine k.kept.transaction may.0.transaction (sym (tells k.kept k.there)) may.3 k.is.transaction
-
--- where memory ran out no count has moved
-pub calm_of : (before now : FaultCounts) (o : StepOutcome) → IsCountedBy before now o → o ≡ NoMemory → now ≡ before
-calm_of before now NoMemory cause is = cause
-calm_of before now Answered cause is = absurd cc
-calm_of before now ReadingFailed cause is = absurd cc
-calm_of before now StoreFailed cause is = absurd cc
-
--- a client's read, by what it keeps of its transaction
-module _ {R F : Type 0} (rules : Rules) (m : Moment) (at oid : ℕ) (old new : ClientsState R F) (before after : Option (List Stamp)) (stands : StandsForMoment old before m) (may : MayReadAt m at) where
-  work_tied : (w : Work) (o : Option Work) (t : Option OpenTransaction) → Some w ≡ o → IsWorkOfIfSome m.machine o t → (u : OpenTransaction) × (t ≡ Some u) × IsWorkOf m.machine w u
-  work_tied w None t is tied = absurd cc
-  work_tied w (Some v) None is tied = absurd tied
-  work_tied w (Some v) (Some u) is tied = (u, refl, subst (λ (z : Work). IsWorkOf m.machine z u) (sym (same_work w v is)) tied)
-    where
-      same_work : (a b : Work) → Some a ≡ Some b → a ≡ b
-      same_work a b e = cc
-
-  pub read_done : (w : Work) (n : ℕ) (r : Reply) (result : Result (ℕ × List ℕ) Refusal) → result ≡ reply_read r w.switches → ((x : Client) → slice_get old.clients at ≡ Some x → Some w ≡ x.transaction) → ((x : Client) → slice_get old.clients at ≡ Some x → n ≡ x.session)
-      → (outcome_of r ≡ NoMemory → counts_of new.hub.store ≡ counts_of old.hub.store) → LeadsTo (IsStepAt rules m n (request.LoadBefore oid w.front) r) new after
-      → LeadsTo (IsReadOf m at oid result) new after
-  read_done w n r result gives tells session calm leads =
-      let k : IsKeptAt m.machine old.clients at may.0 = kept_at m.machine old.clients m.clients at may.0 stands.clients may.1 in
-      let u : (t : OpenTransaction) × (may.0.transaction ≡ Some t) × IsWorkOf m.machine w t = work_tied w k.kept.transaction may.0.transaction (tells k.kept k.there) k.is.transaction in
-      let here : n ≡ may.0.session = session k.kept k.there ∙ sym k.is.session in
-      let step : IsStepAt rules m n (request.LoadBefore oid u.0.view.front) r leads.now =
-      subst (λ (f : ℕ). IsStepAt rules m n (request.LoadBefore oid f) r leads.now) (sym u.2.front) leads.holds in
-      let quiet : outcome_of r ≡ NoMemory → leads.now.counts ≡ m.counts = λ is. leads.stands.counts ∙ calm is ∙ sym stands.counts in
-      let read : IsReadAt m u.0.view oid (reply_read r u.0.view.switches) leads.now =
-      step_reads rules m n oid u.0.view r leads.now u.2.later (ap (is_open_in m.machine.sessions) here ∙ may.2) quiet step in
-      record {
-        now = leads.now;
-        holds = (may.0, may.1, subst (λ (t : Option OpenTransaction). IsReadIn m t oid result leads.now) (sym u.1) (subst (λ (x : Result (ℕ × List ℕ) Refusal). IsReadAt m u.0.view oid x leads.now) (ap (reply_read r) u.2.switches ∙ sym gives) read));
-        stands = leads.stands;
-      }
+pub load_reads : (rules : Rules) (m : Moment) (n oid : ℕ) (v : View) (r : Reply) (result : Result (ℕ × List ℕ) Refusal) (now : Moment) → Later v (view_of (server_of m.machine)) → is_open_in m.machine.sessions n ≡ true
+    → IsStepAt rules m n (request.LoadBefore oid v.front) r now → IsReadAnswered oid v.switches (load_answer r) result → IsReadAt m v oid result now
+load_reads rules m n oid v r result now later is_open step answered =
+    let so : EndsSo m.machine v oid m.counts now.counts result =
+    reply_so rules m n oid step.stamp v (record { reply = r; machine = now.machine; ticks = step.ticks }) now.counts later is_open r result refl step.counts step.made.cause answered in
+    record {
+      later = step.made.later;
+      ends = so.ends;
+      counts = so.counts;
+      rest = moment_is m now
+          (step.made.left ∙ load_left rules m.machine n oid v.front step.stamp (record { reply = r; machine = now.machine; ticks = step.ticks }) m.counts now.counts (outcome_of r) is_open step.made.cause)
+          step.clients
+          (unread_clock step.ticks step.stamp m.stamps now.stamps (λ t. load_quiet rules m.machine n oid v.front step.stamp is_open (step.made.ticks t)) step.clock);
+    }

@@ -1,43 +1,37 @@
--- How a step of a hub leads its clients from one moment to another.
-use Rattle.std.proofs.Common.{◌≡◌, ℕ, Bool, true, false, List, [], ◌∷◌, Option, Some, None, refl, sym, ap, subst, ◌∙◌}
-use Rattle.std.proofs.lemmas.Bool.{true≢false}
+-- How the clients stand for moments.
+use Rattle.std.proofs.Common.{◌≡◌, ℕ, ◌<◌, Bool, false, List, [], length, Option, Some, None, Result, Ok, Err, refl, sym, ap, subst, ◌∙◌}
+use Rattle.std.specs.Prelude.{slice_get, slice_set}
 use Rattle.zb_ids.specs.declared.stamp.Stamp.{Stamp}
+use Rattle.zb_model.specs.declared.data.Transaction.{Transaction}
+use Rattle.zb_model.specs.declared.refusal.Refusal.{Refusal}
 use Rattle.zb_model.specs.declared.refusal.Refusal.TheVariants as refusal
-use Rattle.zb_model.specs.Database.{IsDatabase}
+use Rattle.zb_model.specs.Rules.{MergeRules}
+use Rattle.zb_script.specs.declared.answer.Answer.{Answer}
 use Rattle.zodb_core.specs.declared.reply.Reply.{Reply}
 use Rattle.zodb_core.specs.declared.reply.Reply.TheVariants as reply
 use Rattle.zodb_core.specs.declared.request.Request.{Request}
-use Rattle.zodb_core.specs.HubState.{HasTicked, HubState, MakesStep, StandsForMachine, counts_of}
+use Rattle.zodb_core.specs.declared.request.Request.TheVariants as request
+use Rattle.zodb_core.specs.HubState.{HubState, StandsForMachine, counts_of, rules_of}
 use Rattle.zodb_core.specs.Machine.{Machine, Rules, machine_over}
-use Rattle.zodb_core.specs.Outcomes.{FaultCounts, IsStepMade, is_packed, outcome_of}
-use Rattle.zodb_core.specs.Steps.{Stepped}
-use Rattle.client_turns.specs.declared.client.Client.{Client}
+use Rattle.connection_view.specs.declared.connection.Connection.{Connection}
 use Rattle.connection_view.specs.declared.work.Work.{Work}
-use Rattle.client_turns.specs.Clients.{Moment, OpenTransaction, first_moment}
-use Rattle.client_turns.specs.Clients as clients
-use Rattle.client_turns.specs.Lines.{IsCountedBy}
-use Rattle.client_turns.specs.Standing.{AreClientsOf, ClientsState, IsWorkOfIfSome, LeadsTo, StandsForMoment, WritesLater}
+use Rattle.connection_view.specs.Connections.{work_of}
+use Rattle.connection_view.specs.Views as views
+use Rattle.local_loads.specs.declared.told.Told.{Told}
+use Rattle.local_loads.specs.Local.{MayBeTold}
+use Rattle.local_loads.specs.LocalLaws.{kept_behind}
+use Rattle.local_loads.specs.Making.{IsHubStep}
+use Rattle.client_turns.specs.declared.client.Client.{Client}
+use Rattle.client_turns.specs.Asking.{IsLeftBy, IsPlain}
+use Rattle.client_turns.specs.Clients.{Moment, OpenTransaction, first_moment, with_client}
+use Rattle.client_turns.specs.Clients as seen
+use Rattle.client_turns.specs.Lines.{answer_of, client_left, is_committed}
+use Rattle.client_turns.specs.Standing.{AreClientsOf, ClientsState, IsClientOf, IsOpenAs, IsStepOf, LeadsTo, MayAskAt, MayTakeAt, OneLeadsTo, StandsForMoment}
 use Rattle.client_turns.specs.Steps.{IsStepAt}
 use Rattle.client_turns.specs.Turns.{IsTold}
-use Rattle.connection_view.specs.Views.{Later, View, view_of}
-use Rattle.client_turns.specs.Views.{server_of}
-use Rattle.client_turns.proofs.Growing.{left_writes, made_later}
-
--- ---- clients over a later machine
-
-work_later : (m now : Machine) → ((v : View) → Later v (view_of (server_of m)) → Later v (view_of (server_of now))) → (w : Option Work) (t : Option OpenTransaction) → IsWorkOfIfSome m w t → IsWorkOfIfSome now w t
-work_later m now later None None is = tt
-work_later m now later None (Some t) is = absurd is
-work_later m now later (Some w) None is = absurd is
-work_later m now later (Some w) (Some t) is = record { front = is.front; switches = is.switches; changes = is.changes; later = later t.view is.later }
-
--- the list came of each of their views
-pub clients_later : (m now : Machine) → ((v : View) → Later v (view_of (server_of m)) → Later v (view_of (server_of now))) → (xs : List Client) (cs : List clients.Client) → AreClientsOf m xs cs → AreClientsOf now xs cs
-clients_later m now later [] [] are = tt
-clients_later m now later [] (c ∷ cs) are = absurd are
-clients_later m now later (x ∷ xs) [] are = absurd are
-clients_later m now later (x ∷ xs) (c ∷ cs) are =
-    (record { name = are.0.name; session = are.0.session; transaction = work_later m now later x.transaction c.transaction are.0.transaction }, clients_later m now later xs cs are.1)
+use Rattle.client_turns.proofs.One.{StepsTo, client_with, clients_later, lift, steps_to, writes_on}
+use Rattle.client_turns.proofs.Placing.{IsClientAt, IsKeptAt, client_at, kept_at, set_at, there_at}
+use Rattle.client_turns.proofs.Served.{Fits, fits_at}
 
 -- ---- the first moment
 
@@ -46,56 +40,160 @@ pub first_stands : {R F : Type 0} (seen : ClientsState R F) (list : List _) (lef
 first_stands seen list left none stands = record {
   hub = stands;
   vote = tt;
-  clients = subst (λ (xs : List Client). AreClientsOf (machine_over list) xs []) (sym none) tt;
+  clients = subst (λ (xs : List Client). AreClientsOf seen.hub xs []) (sym none) tt;
   counts = refl;
   stamps = refl;
 }
 
 -- ---- a step
 
-pub step_leads : {R F : Type 0} (rules : Rules) (m : Moment) (n : ℕ) (q : Request) (r : Reply) (old new : ClientsState R F) (before after : Option (List Stamp))
-    → StandsForMoment old before m → (is_packed r ≡ true → IsDatabase m.machine.list) → MakesStep rules m.machine n q r old.hub new.hub before after → IsCountedBy (counts_of old.hub.store) (counts_of new.hub.store) (outcome_of r) → new.clients ≡ old.clients → LeadsTo (IsStepAt rules m n q r) new after
-step_leads rules m n q r old new before after stands database made cause same =
-    let given : Stepped = record { reply = r; machine = made.left; ticks = made.ticks } in
+pub step_leads : {R F : Type 0} (told lasts : Type 0) (stands : List ℕ → List Transaction → Type 0) (rules_in : R → MergeRules) (named_in : F → List ℕ → Option (List ℕ)) (tells : told) (m : Moment) (n : ℕ) (q : Request) (r : Reply) (old new : ClientsState R F) (before after : Option (List Stamp))
+    → StandsForMoment old before m → IsHubStep told lasts stands rules_in named_in n q r old.hub new.hub before after → new.clients ≡ old.clients → LeadsTo (IsStepAt (rules_of rules_in named_in old.hub) m n q r) new after
+step_leads told lasts stands rules_in named_in tells m n q r old new before after stood step same =
+    let s : StepsTo (rules_of rules_in named_in old.hub) m n q r new.hub after = steps_to told lasts stands rules_in named_in tells m n q r old.hub new.hub before after step stood.hub stood.counts stood.stamps in
     record {
-      now = record { machine = made.left; clients = m.clients; stamps = after; counts = counts_of new.hub.store };
-      holds = record {
-        stamp = made.stamp;
-        ticks = made.ticks;
-        made = subst (λ (c : FaultCounts). IsStepMade rules m.machine n q made.stamp given c (counts_of new.hub.store)) (sym stands.counts) made.made;
-        counts = subst (λ (k : FaultCounts). IsCountedBy k (counts_of new.hub.store) (outcome_of r)) (sym stands.counts) cause;
-        clock = subst (λ (s : Option (List Stamp)). HasTicked made.ticks made.stamp s after) (sym stands.stamps) made.clock;
-        clients = refl;
-      };
+      now = s.now;
+      holds = s.holds;
       stands = record {
-        hub = made.stands;
-        vote = subst (λ (x : Machine). WritesLater x.list x.vote) (sym made.made.left) (left_writes rules m.machine n q made.stamp (outcome_of r) stands.vote);
-        clients = subst (λ (xs : List Client). AreClientsOf made.left xs m.clients) (sym same)
-            (clients_later m.machine made.left (λ v. made_later rules m.machine n q made.stamp given (counts_of old.hub.store) (counts_of new.hub.store) v stands.vote database made.made) old.clients m.clients stands.clients);
-        counts = refl;
-        stamps = refl;
+        hub = s.hub;
+        vote = writes_on _ m n q r s.now s.holds stood.vote;
+        clients = subst (λ cs. AreClientsOf new.hub new.clients cs) (sym s.holds.clients) (subst (λ (xs : List Client). AreClientsOf new.hub xs m.clients) (sym same)
+            (clients_later old.hub new.hub (λ last v known may. kept_behind told lasts stands rules_in named_in n q r old.hub new.hub before after tells step last v known may) old.clients m.clients stood.clients));
+        counts = s.counts;
+        stamps = s.stamps;
       };
     }
 
--- no Front step is taken where nothing was committed
-pub untold : {R F : Type 0} (rules : Rules) (m : Moment) (n : ℕ) (b : Bool) (seen : ClientsState R F) (left : Option (List Stamp)) → b ≡ false → StandsForMoment seen left m → LeadsTo (IsTold rules b m n) seen left
-untold rules m n false seen left is stands = record { now = m; holds = refl; stands = stands }
-untold rules m n true seen left is stands = absurd cc
+-- ---- one client
 
--- a step that packed was one of a database: the store that failed packs nothing
-pub packed_of_database : {R F : Type 0} (hub : HubState R F) (m : Machine) (r : Reply) → StandsForMachine hub m → (hub.store.broken ≡ true → r ≡ reply.Refused refusal.NotOpen) → (hub.store.broken ≡ false → IsDatabase hub.store.list) → is_packed r ≡ true → IsDatabase m.list
-packed_of_database hub m r stands failed database packed = by_broken hub.store.broken refl
+-- the client at a place, whose session is open, may take its turn
+pub may_take : {R F : Type 0} (m : Moment) (at : ℕ) (old : ClientsState R F) (before : Option (List Stamp)) → (stood : StandsForMoment old before m) → (may : MayAskAt m at) → (k : IsKeptAt old.hub old.clients at may.0) → MayTakeAt old.hub before m at k.kept may.0
+may_take m at old before stood may k = record {
+  stands = record { hub = stood.hub; vote = stood.vote; counts = stood.counts; stamps = stood.stamps; client = k.is };
+  there = may.1;
+  may = may.2;
+}
+
+-- what it does is what all do
+pub all_lead : {R F : Type 0} (Q : seen.Client → Moment → Type 0) (m : Moment) (at : ℕ) (old new : ClientsState R F) (before after : Option (List Stamp)) → StandsForMoment old before m → MayAskAt m at
+    → ((x : Client) → slice_get old.clients at ≡ Some x → (y : Client) × (new.clients ≡ slice_set old.clients at y) × ((c : seen.Client) → MayTakeAt old.hub before m at x c → OneLeadsTo (Q c) m at old.hub new.hub y after))
+    → LeadsTo (λ now. (c : seen.Client) × (slice_get m.clients at ≡ Some c) × Q c now) new after
+all_lead Q m at old new before after stood may takes =
+    let k : IsKeptAt old.hub old.clients at may.0 = kept_at old.hub old.clients m.clients at may.0 stood.clients may.1 in
+    let y = takes k.kept k.there in
+    let leads : LeadsTo (Q may.0) new after = lift (Q may.0) m at old new y.0 before after stood (y.2 may.0 (may_take m at old before stood may k)) y.1 in
+    record { now = leads.now; holds = (may.0, may.1, leads.holds); stands = leads.stands }
+
+-- ---- a line that is one step, and asks nothing of the connection
+
+-- a reply of such a step
+abbrev IsPlainReply : Reply → Type 0
+IsPlainReply (reply.Oids first count) = Unit {0}
+IsPlainReply (reply.History list) = Unit {0}
+IsPlainReply (reply.UndoLog list) = Unit {0}
+IsPlainReply (reply.Packed kept dropped) = Unit {0}
+IsPlainReply reply.Closed = Unit {0}
+IsPlainReply (reply.Refused why) = Unit {0}
+IsPlainReply _ = ⊥
+
+oids_reply : (r : Reply) (count : ℕ) → Fits r (request.NewOids count) → IsPlainReply r
+oids_reply (reply.Oids first n) count fits = tt
+oids_reply (reply.Refused why) count fits = tt
+oids_reply _ count fits = absurd fits
+
+history_reply : (r : Reply) (oid : ℕ) → Fits r (request.History oid) → IsPlainReply r
+history_reply (reply.History list) oid fits = tt
+history_reply (reply.Refused why) oid fits = tt
+history_reply _ oid fits = absurd fits
+
+log_reply : (r : Reply) → Fits r request.UndoLog → IsPlainReply r
+log_reply (reply.UndoLog list) fits = tt
+log_reply (reply.Refused why) fits = tt
+log_reply _ fits = absurd fits
+
+pack_reply : (r : Reply) (tid : ℕ) → Fits r (request.Pack tid) → IsPlainReply r
+pack_reply (reply.Packed kept dropped) tid fits = tt
+pack_reply (reply.Refused why) tid fits = tt
+pack_reply _ tid fits = absurd fits
+
+close_reply : (r : Reply) → Fits r request.Close → IsPlainReply r
+close_reply reply.Closed fits = tt
+close_reply (reply.Refused why) fits = tt
+close_reply _ fits = absurd fits
+
+plain_reply : (q : Request) (r : Reply) → IsPlain q → Fits r q → IsPlainReply r
+plain_reply (request.NewOids count) r plain fits = oids_reply r count fits
+plain_reply (request.History oid) r plain fits = history_reply r oid fits
+plain_reply request.UndoLog r plain fits = log_reply r fits
+plain_reply (request.Pack tid) r plain fits = pack_reply r tid fits
+plain_reply request.Close r plain fits = close_reply r fits
+plain_reply _ r plain fits = absurd plain
+
+uncommitted : (r : Reply) → IsPlainReply r → is_committed r ≡ false
+uncommitted (reply.Committed tid) plain = absurd plain
+uncommitted _ plain = refl
+
+-- a client's connection is open
+not_closed : (k : Connection) (told : views.Client) (w : Result Work Refusal) (o : Option OpenTransaction) → IsOpenAs k told w o → w ≡ Err refusal.NotOpen → ⊥
+not_closed k told (Ok w) o is e = absurd cc
+not_closed k told (Err r) (Some t) is e = absurd is
+not_closed k told (Err r) None is e = other (ap (λ (s : Refusal). let x : Result Work Refusal = Err s in x) (sym is.0) ∙ e)
   where
-    by_broken : (b : Bool) → hub.store.broken ≡ b → IsDatabase m.list
-    by_broken true is = absurd (true≢false (sym packed ∙ ap is_packed (failed is)))
-    by_broken false is = subst IsDatabase (sym (stands.list is)) (database is)
+    other : (let x : Result Work Refusal = Err refusal.NoTransaction in x) ≡ Err refusal.NotOpen → ⊥
+    other e = absurd cc
 
--- the same of a hub that is seen as this
-pub step_seen : {R F : Type 0} (rules : HubState R F → Rules) (m : Moment) (n : ℕ) (q : Request) (r : Reply) (old new : ClientsState R F) (hub : HubState R F) (before after : Option (List Stamp))
-    → old.hub ≡ hub → StandsForMoment old before m → (is_packed r ≡ true → IsDatabase m.machine.list) → (StandsForMachine hub m.machine → MakesStep (rules hub) m.machine n q r hub new.hub before after) → IsCountedBy (counts_of hub.store) (counts_of new.hub.store) (outcome_of r)
-    → new.clients ≡ old.clients
-    → LeadsTo (IsStepAt (rules old.hub) m n q r) new after
-step_seen {R} {F} rules m n q r old new hub before after seen stands database made cause same =
-    let step : StandsForMachine old.hub m.machine → MakesStep (rules old.hub) m.machine n q r old.hub new.hub before after =
-    subst (λ (h : HubState R F). StandsForMachine h m.machine → MakesStep (rules h) m.machine n q r h new.hub before after) (sym seen) made in
-    step_leads (rules old.hub) m n q r old new before after stands database (step stands.hub) (subst (λ (h : HubState R F). IsCountedBy (counts_of h.store) (counts_of new.hub.store) (outcome_of r)) (sym seen) cause) same
+-- a reply that closes no session leaves its client
+pub left_same : (x : Client) (r : Reply) → ¬ (r ≡ reply.Closed) → IsLeftBy x x r
+left_same x reply.Closed other = absurd (other refl)
+left_same x _ other = refl
+
+-- the client behind its step
+client_behind : {R F : Type 0} (hub : HubState R F) (m : Machine) (x y : Client) (c : seen.Client) (r : Reply) → IsPlainReply r → IsClientOf hub x c → IsLeftBy x y r → IsClientOf hub y (client_left m c r)
+client_behind hub m x y c reply.Closed plain is left =
+    let told : views.Client = views.unvoted is.told in
+    client_with hub x y c told None is.name is.session left.0.name left.0.session
+    (subst (λ (l : Option Told). MayBeTold l hub told.told told.known) (sym left.0.told) is.may)
+    (subst (λ (w : Result Work Refusal). IsOpenAs y.connection told w None) (sym (left.1 (not_closed x.connection is.told (work_of x.connection) c.transaction is.transaction))) (refl, left.2 told (λ oid. refl)))
+client_behind hub m x y c (reply.Oids first count) plain is left = subst (λ (z : Client). IsClientOf hub z c) (sym left) is
+client_behind hub m x y c (reply.History list) plain is left = subst (λ (z : Client). IsClientOf hub z c) (sym left) is
+client_behind hub m x y c (reply.UndoLog list) plain is left = subst (λ (z : Client). IsClientOf hub z c) (sym left) is
+client_behind hub m x y c (reply.Packed kept dropped) plain is left = subst (λ (z : Client). IsClientOf hub z c) (sym left) is
+client_behind hub m x y c (reply.Refused why) plain is left = subst (λ (z : Client). IsClientOf hub z c) (sym left) is
+client_behind hub m x y c _ plain is left = absurd plain
+
+pub plain_leads : {R F : Type 0} (rules : Rules) (m : Moment) (at n : ℕ) (q : Request) (r : Reply) (a : Answer) (old mid new : ClientsState R F) (after : Option (List Stamp)) → at < length old.clients → IsPlain q
+    → ((x : Client) → slice_get old.clients at ≡ Some x → n ≡ x.session) → LeadsTo (IsStepAt rules m n q r) mid after → mid.clients ≡ old.clients → new.hub ≡ mid.hub
+    → ((x : Client) → slice_get old.clients at ≡ Some x → (y : Client) × (new.clients ≡ slice_set old.clients at y) × IsLeftBy x y r) → a ≡ answer_of r → LeadsTo (IsStepOf rules m at q a) new after
+plain_leads {R} {F} rules m at n q r a old mid new after within plain session leads same hub left answers =
+    let x : (x : Client) × (slice_get old.clients at ≡ Some x) = there_at old.clients at within in
+    let there : slice_get mid.clients at ≡ Some x.0 = ap (λ (xs : List Client). slice_get xs at) same ∙ x.1 in
+    let c : IsClientAt mid.hub leads.now.clients at x.0 = client_at mid.hub mid.clients leads.now.clients at x.0 leads.stands.clients there in
+    let y = left x.0 x.1 in
+    let plainly : IsPlainReply r = plain_reply q r plain (fits_at rules m n q r leads.now leads.holds) in
+    let d : seen.Client = client_left leads.now.machine c.client r in
+    let number : n ≡ c.client.session = session x.0 x.1 ∙ sym c.is.session in
+    let placed : new.clients ≡ slice_set mid.clients at y.0 = y.1 ∙ ap (λ (xs : List Client). slice_set xs at y.0) (sym same) in
+    let set : AreClientsOf mid.hub (slice_set mid.clients at y.0) (slice_set leads.now.clients at d) = set_at mid.hub mid.clients leads.now.clients at y.0 d leads.stands.clients (client_behind mid.hub leads.now.machine x.0 y.0 c.client r plainly c.is y.2) in
+    record {
+      now = with_client leads.now at d;
+      holds = (
+        c.client,
+        ap (λ (cs : List seen.Client). slice_get cs at) (sym leads.holds.clients) ∙ c.there,
+        record {
+          reply = r;
+          behind = leads.now;
+          told = leads.now;
+          step = subst (λ (k : ℕ). IsStepAt rules m k q r leads.now) number leads.holds;
+          front = subst (λ (b : Bool). IsTold rules b leads.now c.client.session leads.now) (sym (uncommitted r plainly)) refl;
+          answer = answers;
+          left = refl;
+        },
+      );
+      stands = record {
+        hub = subst (λ (h : HubState R F). StandsForMachine h leads.now.machine) (sym hub) leads.stands.hub;
+        vote = leads.stands.vote;
+        clients = subst (λ (h : HubState R F). AreClientsOf h new.clients (slice_set leads.now.clients at d)) (sym hub) (subst (λ (xs : List Client). AreClientsOf mid.hub xs (slice_set leads.now.clients at d)) (sym placed) set);
+        counts = leads.stands.counts ∙ ap (λ (h : HubState R F). counts_of h.store) (sym hub);
+        stamps = leads.stands.stamps;
+      };
+    }

@@ -1,9 +1,8 @@
 -- How a line, and a turn, lead from one moment to another.
-use Rattle.std.proofs.Common.{◌≡◌, ℕ, ◌<◌, Bool, true, false, not, List, length, Option, Some, None, Result, Ok, Err, refl, sym, ap, subst, ◌∙◌}
+use Rattle.std.proofs.Common.{◌≡◌, ℕ, ◌<◌, Bool, true, false, not, List, length, Option, Some, None, Ok, Err, refl, sym, ap, subst, ◌∙◌, inl, inr}
 use Rattle.std.specs.Prelude.{IsSome, bytes_eq, slice_get}
 use Rattle.std.specs.List.{position}
 use Rattle.std.specs.Option.{option_map, option_or}
-use Rattle.std.specs.declared.alloc.AllocError.{AllocError}
 use Rattle.zb_ids.specs.declared.stamp.Stamp.{Stamp}
 use Rattle.zb_model.specs.declared.refusal.Refusal.{Refusal}
 use Rattle.zb_model.specs.declared.refusal.Refusal.TheVariants as refusal
@@ -12,154 +11,155 @@ use Rattle.zb_script.specs.declared.answer.Answer.TheVariants as answer
 use Rattle.zb_script.specs.declared.line.Line.{Line}
 use Rattle.zb_script.specs.declared.line.Line.TheVariants as line
 use Rattle.zb_script.specs.declared.line.Turn.{Turn}
+use Rattle.zb_script.specs.declared.tree_call.TreeCall.{TreeCall}
 use Rattle.zodb_core.specs.declared.request.Request.{Request}
 use Rattle.zodb_core.specs.declared.session.Session.{Session}
 use Rattle.zodb_core.specs.HubState.{sessions_with}
-use Rattle.zodb_core.specs.Machine.{Machine, Rules, is_open_in}
+use Rattle.zodb_core.specs.Machine.{Rules, is_open_in}
 use Rattle.zodb_core.specs.Steps.{refuse_if}
 use Rattle.client_turns.specs.declared.client.Client.{Client}
+use Rattle.connection_view.specs.declared.connection.Connection.{Connection}
 use Rattle.connection_view.specs.declared.work.Work.{Work}
+use Rattle.connection_view.specs.Connections.{work_of}
+use Rattle.connection_view.specs.Views as views
 use Rattle.client_turns.specs.declared.errors.TurnError.{TurnError}
 use Rattle.client_turns.specs.declared.errors.TurnError.TheVariants as error
 use Rattle.client_turns.specs.Clients.{Changes, Moment, OpenTransaction, changes_of, place_of_client}
 use Rattle.client_turns.specs.Clients as seen
 use Rattle.client_turns.specs.Lines.{end_of, request_of}
 use Rattle.client_turns.specs.Refusing.{connection_refusal, line_refusal, opens_session}
-use Rattle.client_turns.specs.Standing.{ClientsState, ClosesAs, ClosesIf, IsClientOf, IsOwnOf, IsStepOf, IsWorkOfIfSome, LeadsTo, MayReadAt, OrAsBefore, StandsForMoment, changes_in, refusal_kept}
-use Rattle.client_turns.specs.Turns.{IsBroken, IsClosed, IsClosing, IsLine, IsLineAt, IsLineOf, IsLineTaken, IsLineUnless, IsOpening, IsTurn, by_closing, by_line, by_memory}
-use Rattle.client_turns.proofs.Placing.{IsClientAt, client_at, same_place, there_at}
-
--- ---- what a connection refuses, as it is kept
-
-changes_same : (m : Machine) (w : Option Work) (t : Option OpenTransaction) → IsWorkOfIfSome m w t → changes_in w ≡ option_map (λ (o : OpenTransaction). o.changes) t
-changes_same m None None is = refl
-changes_same m None (Some t) is = absurd is
-changes_same m (Some w) None is = absurd is
-changes_same m (Some w) (Some t) is = ap (λ (ch : Changes). Some ch) (sym is.changes)
-
-refusal_same : (m : Machine) (sessions : List Session) (x : Client) (c : seen.Client) (l : Line) → IsClientOf m x c → m.sessions ≡ sessions → refusal_kept sessions x l ≡ connection_refusal m c l
-refusal_same m sessions x c l is same =
-    ap (λ (s : List Session). option_or (refuse_if (not (is_open_in s x.session)) refusal.NotOpen) (line_refusal (changes_in x.transaction) l)) (sym same)
-    ∙ ap (λ (n : ℕ). option_or (refuse_if (not (is_open_in m.sessions n)) refusal.NotOpen) (line_refusal (changes_in x.transaction) l)) (sym is.session)
-    ∙ ap (λ (ch : Option Changes). option_or (refuse_if (not (is_open_in m.sessions c.session)) refusal.NotOpen) (line_refusal ch l)) (changes_same m x.transaction c.transaction is.transaction)
+use Rattle.client_turns.specs.Asking.{plain_request}
+use Rattle.client_turns.specs.Standing.{ClientsState, ClosesAs, ClosesIf, IsLineOpen, IsOpenAs, IsOpenLineOf, IsOwnOf, IsStepOf, LeadsTo, MayAskAt, MayReadAt, OrStarved, StandsForMoment}
+use Rattle.client_turns.specs.Turns.{IsBroken, IsClosed, IsClosing, IsLine, IsLineAt, IsLineOf, IsLineUnless, IsOpening, IsOwnLine, IsTurn, IsWithin, by_closing, by_line, by_memory}
+use Rattle.client_turns.proofs.Asked.{IsOpened, none_of, opened_of}
+use Rattle.client_turns.proofs.One.{own_open, refused_open, step_open}
+use Rattle.client_turns.proofs.Placing.{IsClientAt, IsKeptAt, client_at, kept_at, same_place, there_at}
 
 same_client : (a b : seen.Client) → Some a ≡ Some b → a ≡ b
 same_client a b e = cc
 
--- a line that is neither refused nor a step has an open transaction
-has_changes : (ch : Option Changes) (l : Line) → opens_session l ≡ false → line_refusal ch l ≡ None → request_of ch l ≡ None → IsSome ch
-has_changes ch line.Open opened allowed asks = absurd cc
-has_changes ch line.Begin opened allowed asks = absurd cc
-has_changes None (line.Load oid) opened allowed asks = absurd cc
-has_changes (Some t) (line.Load oid) opened allowed asks = refl
-has_changes None (line.Get oid) opened allowed asks = absurd cc
-has_changes (Some t) (line.Get oid) opened allowed asks = refl
-has_changes None (line.Store oid base bytes) opened allowed asks = absurd cc
-has_changes (Some t) (line.Store oid base bytes) opened allowed asks = refl
-has_changes None (line.Put oid bytes) opened allowed asks = absurd cc
-has_changes (Some t) (line.Put oid bytes) opened allowed asks = refl
-has_changes None (line.Check oid serial) opened allowed asks = absurd cc
-has_changes None line.Savepoint opened allowed asks = absurd cc
-has_changes None (line.Rollback number) opened allowed asks = absurd cc
-has_changes None (line.Tree root call) opened allowed asks = absurd cc
-has_changes (Some t) (line.Check oid serial) opened allowed asks = refl
-has_changes (Some t) line.Savepoint opened allowed asks = refl
-has_changes (Some t) (line.Rollback number) opened allowed asks = refl
-has_changes (Some t) (line.Tree root call) opened allowed asks = refl
-has_changes ch line.New opened allowed asks = absurd cc
-has_changes ch (line.Vote user description) opened allowed asks = absurd cc
-has_changes ch (line.Undo user description tids) opened allowed asks = absurd cc
-has_changes ch line.Finish opened allowed asks = absurd cc
-has_changes ch line.Abort opened allowed asks = absurd cc
-has_changes ch (line.History oid) opened allowed asks = absurd cc
-has_changes ch line.UndoLog opened allowed asks = absurd cc
-has_changes ch (line.Pack tid) opened allowed asks = absurd cc
-has_changes ch line.Close opened allowed asks = absurd cc
-
-has_transaction : (t : Option OpenTransaction) → IsSome (option_map (λ (o : OpenTransaction). o.changes) t) → IsSome t
-has_transaction None some = some
-has_transaction (Some t) some = refl
-
-both_none : (b : Bool) (rest : Option Refusal) → option_or (refuse_if (not b) refusal.NotOpen) rest ≡ None → (b ≡ true) × (rest ≡ None)
-both_none true rest none = (refl, none)
-both_none false rest none = absurd cc
-
-may_read : (m : Machine) (c : seen.Client) (l : Line) → opens_session l ≡ false → connection_refusal m c l ≡ None → request_of (changes_of c) l ≡ None → (is_open_in m.sessions c.session ≡ true) × IsSome c.transaction
-may_read m c l opened allowed asks =
-    let both : (is_open_in m.sessions c.session ≡ true) × (line_refusal (changes_of c) l ≡ None) = both_none (is_open_in m.sessions c.session) (line_refusal (changes_of c) l) allowed in
-    (both.0, has_transaction c.transaction (has_changes (changes_of c) l opened both.1 asks))
-
 -- ---- a line of the client at a place
 
--- the client at a place, as it is kept
-pub record Stands {R F : Type 0} (m : Moment) (at : ℕ) (old : ClientsState R F) : Type 0 where
-  pub kept : Client
-  pub kept_there : slice_get old.clients at ≡ Some kept
+-- an open session refuses nothing by itself
+open_refusal : (m : Moment) (c : seen.Client) (l : Line) → is_open_in m.machine.sessions c.session ≡ true → connection_refusal m.machine c l ≡ line_refusal (changes_of c) l
+open_refusal m c l may = ap (λ (b : Bool). option_or (refuse_if (not b) refusal.NotOpen) (line_refusal (changes_of c) l)) may
+
+closed_refusal : (m : Moment) (c : seen.Client) (l : Line) → is_open_in m.machine.sessions c.session ≡ false → connection_refusal m.machine c l ≡ Some refusal.NotOpen
+closed_refusal m c l may = ap (λ (b : Bool). option_or (refuse_if (not b) refusal.NotOpen) (line_refusal (changes_of c) l)) may
+
+or_line : (rules : Rules) (m : Moment) (at : ℕ) (c : seen.Client) (l : Line) (a : Answer) (now : Moment) → slice_get m.clients at ≡ Some c → is_open_in m.machine.sessions c.session ≡ true → IsLineOpen rules m at c l a now → OrStarved (IsLineAt rules m at l) m a now
+or_line rules m at c l a now there may (inl line) = inl (c, there, subst (λ (o : Option Refusal). IsLineUnless rules m at c l o a now) (sym (open_refusal m c l may)) line)
+or_line rules m at c l a now there may (inr starved) = inr starved
+
+-- of an open session
+pub line_opened : {R F : Type 0} (rules : Rules) (m : Moment) (at : ℕ) (l : Line) (a : Answer) (new : ClientsState R F) (after : Option (List Stamp)) → MayAskAt m at → LeadsTo (IsOpenLineOf rules m at l a) new after → LeadsTo (OrStarved (IsLineAt rules m at l) m a) new after
+line_opened rules m at l a new after may leads = record {
+  now = leads.now;
+  holds = or_line rules m at leads.holds.0 l a leads.now leads.holds.1 (ap (λ (c : seen.Client). is_open_in m.machine.sessions c.session) (same_client leads.holds.0 may.0 (sym leads.holds.1 ∙ may.1)) ∙ may.2) leads.holds.2;
+  stands = leads.stands;
+}
+
+-- the client at a place, and what its session is
+pub record IsSessionAt {R F : Type 0} (m : Moment) (at : ℕ) (old : ClientsState R F) : Type 0 where
   pub client : seen.Client
   pub there : slice_get m.clients at ≡ Some client
-  pub is : IsClientOf m.machine kept client
+  pub kept : Client
+  pub kept_there : slice_get old.clients at ≡ Some kept
+  pub session : client.session ≡ kept.session
 
-stands_at : {R F : Type 0} (m : Moment) (at : ℕ) (old : ClientsState R F) (before : Option (List Stamp)) → StandsForMoment old before m → at < length old.clients → Stands m at old
-stands_at m at old before stands within =
-    let x : (y : Client) × (slice_get old.clients at ≡ Some y) = there_at old.clients at within in
-    let c : IsClientAt m.machine m.clients at x.0 = client_at m.machine old.clients m.clients at x.0 stands.clients x.1 in
-    record { kept = x.0; kept_there = x.1; client = c.client; there = c.there; is = c.is }
+pub session_there : {R F : Type 0} (m : Moment) (at : ℕ) (old : ClientsState R F) (before : Option (List Stamp)) → StandsForMoment old before m → at < length old.clients → IsSessionAt m at old
+session_there m at old before stood within =
+    let kept : (x : Client) × (slice_get old.clients at ≡ Some x) = there_at old.clients at within in
+    let k : IsClientAt old.hub m.clients at kept.0 = client_at old.hub old.clients m.clients at kept.0 stood.clients kept.1 in
+    record { client = k.client; there = k.there; kept = kept.0; kept_there = kept.1; session = k.is.session }
 
-module _ {R F : Type 0} (rules : Rules) (m : Moment) (at : ℕ) (l : Line) (old new : ClientsState R F) (before after : Option (List Stamp)) (stands : StandsForMoment old before m) (within : at < length old.clients) where
-  refused_as : (refused : Option Refusal) → ((x : Client) → slice_get old.clients at ≡ Some x → refused ≡ refusal_kept (sessions_with old.hub.store.broken old.hub.sessions) x l)
-      → (k : Stands m at old) → refused ≡ connection_refusal m.machine k.client l
-  refused_as refused tells k = tells k.kept k.kept_there ∙ refusal_same m.machine (sessions_with old.hub.store.broken old.hub.sessions) k.kept k.client l k.is stands.hub.sessions
+-- a session that is open, as the hub says
+pub opened_there : {R F : Type 0} (m : Moment) (at n : ℕ) (b : Bool) (old : ClientsState R F) (before : Option (List Stamp)) → StandsForMoment old before m → at < length old.clients → ((x : Client) → slice_get old.clients at ≡ Some x → n ≡ x.session)
+    → b ≡ is_open_in (sessions_with old.hub.store.broken old.hub.sessions) n → (k : IsSessionAt m at old) × (is_open_in m.machine.sessions k.client.session ≡ b)
+opened_there m at n b old before stood within session is =
+    let k : IsSessionAt m at old = session_there m at old before stood within in
+    (k, ap (λ (s : List Session). is_open_in s k.client.session) stood.hub.sessions ∙ ap (λ (z : ℕ). is_open_in (sessions_with old.hub.store.broken old.hub.sessions) z) (k.session ∙ sym (session k.kept k.kept_there)) ∙ sym is)
 
-  pub line_refused : (why : Refusal) → ((x : Client) → slice_get old.clients at ≡ Some x → Some why ≡ refusal_kept (sessions_with old.hub.store.broken old.hub.sessions) x l)
-      → LeadsTo (OrAsBefore (IsLineAt rules m at l) m (Ok (answer.Refused why))) old before
-  line_refused why tells =
-      let k : Stands m at old = stands_at m at old before stands within in
-      record {
-        now = m;
-        holds = (k.client, k.there, subst (λ (o : Option Refusal). IsLineUnless rules m at k.client l o (answer.Refused why) m) (refused_as (Some why) tells k) (refl, refl));
-        stands = stands;
-      }
+pub line_closed : {R F : Type 0} (rules : Rules) (m : Moment) (at n : ℕ) (l : Line) (old : ClientsState R F) (before : Option (List Stamp)) → StandsForMoment old before m → at < length old.clients → ((x : Client) → slice_get old.clients at ≡ Some x → n ≡ x.session)
+    → false ≡ is_open_in (sessions_with old.hub.store.broken old.hub.sessions) n → LeadsTo (OrStarved (IsLineAt rules m at l) m (answer.Refused refusal.NotOpen)) old before
+line_closed rules m at n l old before stood within session is =
+    let k : (k : IsSessionAt m at old) × (is_open_in m.machine.sessions k.client.session ≡ false) = opened_there m at n false old before stood within session is in
+    record {
+      now = m;
+      holds = inl (k.0.client, k.0.there, subst (λ (o : Option Refusal). IsLineUnless rules m at k.0.client l o (answer.Refused refusal.NotOpen) m) (sym (closed_refusal m k.0.client l k.1)) (refl, refl));
+      stands = stood;
+    }
 
-  pub line_step : (q : Request) (a : Answer) → ((x : Client) → slice_get old.clients at ≡ Some x → None ≡ refusal_kept (sessions_with old.hub.store.broken old.hub.sessions) x l)
-      → ((x : Client) → slice_get old.clients at ≡ Some x → Some q ≡ request_of (changes_in x.transaction) l) → LeadsTo (IsStepOf rules m at q a) new after
-      → LeadsTo (OrAsBefore (IsLineAt rules m at l) m (Ok a)) new after
-  line_step q a allowed asks leads =
-      let k : Stands m at old = stands_at m at old before stands within in
-      let none : None ≡ connection_refusal m.machine k.client l = refused_as None allowed k in
-      let request : Some q ≡ request_of (changes_of k.client) l = asks k.kept k.kept_there ∙ ap (λ (ch : Option Changes). request_of ch l) (changes_same m.machine k.kept.transaction k.client.transaction k.is.transaction) in
-      let alike : leads.holds.0 ≡ k.client = same_client leads.holds.0 k.client (sym leads.holds.1 ∙ k.there) in
-      record {
-        now = leads.now;
-        holds = (
-          k.client,
-          k.there,
-          subst (λ (o : Option Refusal). IsLineUnless rules m at k.client l o a leads.now) none
-              (subst (λ (o : Option Request). IsLineTaken rules m at k.client l o a leads.now) request (subst (λ (c : seen.Client). IsLineTaken rules m at c l (Some q) a leads.now) alike leads.holds.2)),
-        );
-        stands = leads.stands;
-      }
+pub may_ask : {R F : Type 0} (m : Moment) (at n : ℕ) (old : ClientsState R F) (before : Option (List Stamp)) → StandsForMoment old before m → at < length old.clients → ((x : Client) → slice_get old.clients at ≡ Some x → n ≡ x.session)
+    → true ≡ is_open_in (sessions_with old.hub.store.broken old.hub.sessions) n → MayAskAt m at
+may_ask m at n old before stood within session is =
+    let k : (k : IsSessionAt m at old) × (is_open_in m.machine.sessions k.client.session ≡ true) = opened_there m at n true old before stood within session is in
+    (k.0.client, k.0.there, k.1)
 
-  own_taken : (result : Result Answer AllocError) (now : Moment) (k : Stands m at old) → None ≡ connection_refusal m.machine k.client l → None ≡ request_of (changes_of k.client) l
-      → OrAsBefore (IsOwnOf m at l) m result now → OrAsBefore (IsLineAt rules m at l) m result now
-  own_taken (Ok a) now k none request own =
-      let alike : own.0 ≡ k.client = same_client own.0 k.client (sym own.1 ∙ k.there) in (
-        k.client,
-        k.there,
-        subst (λ (o : Option Refusal). IsLineUnless rules m at k.client l o a now) none
-            (subst (λ (o : Option Request). IsLineTaken rules m at k.client l o a now) request (subst (λ (c : seen.Client). IsLineTaken rules m at c l None a now) alike own.2)),
-      )
-  own_taken (Err e) now k none request own = own
+-- ---- a line of an open session that its connection doesn't answer
 
-  pub line_own : (result : Result Answer AllocError) → opens_session l ≡ false → ((x : Client) → slice_get old.clients at ≡ Some x → None ≡ refusal_kept (sessions_with old.hub.store.broken old.hub.sessions) x l)
-      → ((x : Client) → slice_get old.clients at ≡ Some x → None ≡ request_of (changes_in x.transaction) l) → (MayReadAt m at → LeadsTo (OrAsBefore (IsOwnOf m at l) m result) new after)
-      → LeadsTo (OrAsBefore (IsLineAt rules m at l) m result) new after
-  line_own result opened allowed asks own =
-      let k : Stands m at old = stands_at m at old before stands within in
-      let none : None ≡ connection_refusal m.machine k.client l = refused_as None allowed k in
-      let request : None ≡ request_of (changes_of k.client) l = asks k.kept k.kept_there ∙ ap (λ (ch : Option Changes). request_of ch l) (changes_same m.machine k.kept.transaction k.client.transaction k.is.transaction) in
-      let may : (is_open_in m.machine.sessions k.client.session ≡ true) × IsSome k.client.transaction = may_read m.machine k.client l opened (sym none) (sym request) in
-      let leads : LeadsTo (OrAsBefore (IsOwnOf m at l) m result) new after = own (k.client, k.there, may.0, may.1) in
-      record { now = leads.now; holds = own_taken result leads.now k none request leads.holds; stands = leads.stands }
+plain_free : (l : Line) (q : Request) (ch : Option Changes) → plain_request l ≡ Some q → (line_refusal ch l ≡ None) × (request_of ch l ≡ Some q)
+plain_free line.New q ch is = (refl, is)
+plain_free (line.History oid) q ch is = (refl, is)
+plain_free line.UndoLog q ch is = (refl, is)
+plain_free (line.Pack tid) q ch is = (refl, is)
+plain_free line.Close q ch is = (refl, is)
+plain_free _ q ch is = absurd cc
+
+pub line_step : {R F : Type 0} (rules : Rules) (m : Moment) (at : ℕ) (l : Line) (q : Request) (a : Answer) (new : ClientsState R F) (after : Option (List Stamp)) → Some q ≡ plain_request l → LeadsTo (IsStepOf rules m at q a) new after → LeadsTo (IsOpenLineOf rules m at l a) new after
+line_step rules m at l q a new after is leads =
+    let free = plain_free l q (changes_of leads.holds.0) (sym is) in
+    record { now = leads.now; holds = (leads.holds.0, leads.holds.1, step_open rules m at leads.holds.0 l a leads.now q free.0 free.1 leads.holds.2); stands = leads.stands }
+
+-- what the connection of the client at a place has open
+connection_there : {R F : Type 0} (m : Moment) (at : ℕ) (old : ClientsState R F) (before : Option (List Stamp)) → StandsForMoment old before m → (may : MayAskAt m at) → (k : Connection) → ((x : Client) → slice_get old.clients at ≡ Some x → k ≡ x.connection)
+    → (told : views.Client) × IsOpenAs k told (work_of k) may.0.transaction
+connection_there m at old before stood may k tells =
+    let kept : IsKeptAt old.hub old.clients at may.0 = kept_at old.hub old.clients m.clients at may.0 stood.clients may.1 in
+    (kept.is.told, subst (λ (z : Connection). IsOpenAs z kept.is.told (work_of z) may.0.transaction) (sym (tells kept.kept kept.there)) kept.is.transaction)
+
+-- a line of a tree, where a transaction is open
+pub tree_may : {R F : Type 0} (m : Moment) (at : ℕ) (old : ClientsState R F) (before : Option (List Stamp)) → StandsForMoment old before m → (may : MayAskAt m at) → (k : Connection) → ((x : Client) → slice_get old.clients at ≡ Some x → k ≡ x.connection)
+    → (w : Work) × (work_of k ≡ Ok w) → MayReadAt m at
+tree_may m at old before stood may k tells open_work =
+    let there = connection_there m at old before stood may k tells in
+    let o : IsOpened k there.0 open_work.0 may.0 = opened_of k there.0 (work_of k) open_work.0 may.0 there.1 open_work.1 in
+    (may.0, may.1, may.2, subst IsSome (sym o.begun) refl)
+
+-- and where none is
+pub tree_refused : {R F : Type 0} (rules : Rules) (m : Moment) (at root : ℕ) (call : TreeCall) (old : ClientsState R F) (before : Option (List Stamp)) → StandsForMoment old before m → (may : MayAskAt m at) → (k : Connection) → ((x : Client) → slice_get old.clients at ≡ Some x → k ≡ x.connection)
+    → (r : Refusal) × (work_of k ≡ Err r) → LeadsTo (IsOpenLineOf rules m at (line.Tree root call) (answer.Refused refusal.NoTransaction)) old before
+tree_refused rules m at root call old before stood may k tells closed =
+    let there = connection_there m at old before stood may k tells in
+    let none = none_of k there.0 (work_of k) closed.0 may.0 there.1 closed.1 in
+    record {
+      now = m;
+      holds = (may.0, may.1, refused_open rules m at may.0 (line.Tree root call) (answer.Refused refusal.NoTransaction) m refusal.NoTransaction (ap (λ (o : Option OpenTransaction). line_refusal (option_map (λ (t : OpenTransaction). t.changes) o) (line.Tree root call)) none.1) refl refl);
+      stands = stood;
+    }
+
+pub line_tree : {R F : Type 0} (rules : Rules) (m : Moment) (at root : ℕ) (call : TreeCall) (a : Answer) (new : ClientsState R F) (after : Option (List Stamp)) → MayReadAt m at → LeadsTo (OrStarved (IsOwnOf m at (line.Tree root call)) m a) new after
+    → LeadsTo (IsOpenLineOf rules m at (line.Tree root call) a) new after
+line_tree {R} {F} rules m at root call a new after may leads = by_either leads.holds
+  where
+    begun : (o : Option OpenTransaction) → IsSome o → (t : OpenTransaction) × (o ≡ Some t)
+    begun None some = absurd cc
+    begun (Some t) some = (t, refl)
+
+    t : (t : OpenTransaction) × (may.0.transaction ≡ Some t)
+    t = begun may.0.transaction may.3
+
+    by_either : OrStarved (IsOwnOf m at (line.Tree root call)) m a leads.now → LeadsTo (IsOpenLineOf rules m at (line.Tree root call) a) new after
+    by_either (inl own) =
+        let alike : own.0 ≡ may.0 = same_client own.0 may.0 (sym own.1 ∙ may.1) in
+        let within : IsWithin m at may.0 t.0 (line.Tree root call) a leads.now =
+        subst (λ (o : Option OpenTransaction). IsOwnLine m at may.0 o (line.Tree root call) a leads.now) t.1 (subst (λ (c : seen.Client). IsOwnLine m at c c.transaction (line.Tree root call) a leads.now) alike own.2) in
+        record {
+          now = leads.now;
+          holds = (may.0, may.1, own_open rules m at may.0 (line.Tree root call) a leads.now t.0 t.1 (ap (λ (o : Option OpenTransaction). line_refusal (option_map (λ (u : OpenTransaction). u.changes) o) (line.Tree root call)) t.1) (ap (λ (o : Option OpenTransaction). request_of (option_map (λ (u : OpenTransaction). u.changes) o) (line.Tree root call)) t.1) within);
+          stands = leads.stands;
+        }
+    by_either (inr starved) = record { now = leads.now; holds = (may.0, may.1, inr starved); stands = leads.stands }
 
 -- ---- a line of a client, by its name
 
@@ -184,31 +184,27 @@ line_by_name rules m name line.UndoLog a now opened is = is
 line_by_name rules m name (line.Pack tid) a now opened is = is
 line_by_name rules m name line.Close a now opened is = is
 
-named_result : (rules : Rules) (m : Moment) (name : List ℕ) (at : ℕ) (l : Line) (result : Result Answer AllocError) (now : Moment) → opens_session l ≡ false → Some at ≡ place_of_client name m.clients
-    → OrAsBefore (IsLineAt rules m at l) m result now → OrAsBefore (IsLine rules m name l) m result now
-named_result rules m name at l (Ok a) now opened place is = line_by_name rules m name l a now opened (subst (λ (o : Option ℕ). IsLineOf rules m o l a now) place is)
-named_result rules m name at l (Err e) now opened place is = is
+named_result : (rules : Rules) (m : Moment) (name : List ℕ) (at : ℕ) (l : Line) (a : Answer) (now : Moment) → opens_session l ≡ false → Some at ≡ place_of_client name m.clients
+    → OrStarved (IsLineAt rules m at l) m a now → OrStarved (IsLine rules m name l) m a now
+named_result rules m name at l a now opened place (inl is) = inl (line_by_name rules m name l a now opened (subst (λ (o : Option ℕ). IsLineOf rules m o l a now) place is))
+named_result rules m name at l a now opened place (inr starved) = inr starved
 
-pub line_found : {R F : Type 0} (rules : Rules) (m : Moment) (name : List ℕ) (at : ℕ) (l : Line) (result : Result Answer AllocError) (old new : ClientsState R F) (before after : Option (List Stamp)) → StandsForMoment old before m
-    → opens_session l ≡ false → Some at ≡ position (λ (x : Client). bytes_eq x.name name) old.clients → LeadsTo (OrAsBefore (IsLineAt rules m at l) m result) new after → LeadsTo (OrAsBefore (IsLine rules m name l) m result) new after
+pub line_found : {R F : Type 0} (rules : Rules) (m : Moment) (name : List ℕ) (at : ℕ) (l : Line) (result : Answer) (old new : ClientsState R F) (before after : Option (List Stamp)) → StandsForMoment old before m
+    → opens_session l ≡ false → Some at ≡ position (λ (x : Client). bytes_eq x.name name) old.clients → LeadsTo (OrStarved (IsLineAt rules m at l) m result) new after → LeadsTo (OrStarved (IsLine rules m name l) m result) new after
 line_found rules m name at l result old new before after stands opened place leads = record {
   now = leads.now;
-  holds = named_result rules m name at l result leads.now opened (place ∙ same_place m.machine old.clients m.clients name stands.clients) leads.holds;
+  holds = named_result rules m name at l result leads.now opened (place ∙ same_place old.hub old.clients m.clients name stands.clients) leads.holds;
   stands = leads.stands;
 }
 
 pub line_missing : {R F : Type 0} (rules : Rules) (m : Moment) (name : List ℕ) (l : Line) (old : ClientsState R F) (before : Option (List Stamp)) → StandsForMoment old before m
-    → opens_session l ≡ false → None ≡ position (λ (x : Client). bytes_eq x.name name) old.clients → LeadsTo (OrAsBefore (IsLine rules m name l) m (Ok (answer.Refused refusal.NotOpen))) old before
+    → opens_session l ≡ false → None ≡ position (λ (x : Client). bytes_eq x.name name) old.clients → LeadsTo (OrStarved (IsLine rules m name l) m (answer.Refused refusal.NotOpen)) old before
 line_missing rules m name l old before stands opened place = record {
   now = m;
-  holds = line_by_name rules m name l (answer.Refused refusal.NotOpen) m opened
-      (subst (λ (o : Option ℕ). IsLineOf rules m o l (answer.Refused refusal.NotOpen) m) (place ∙ same_place m.machine old.clients m.clients name stands.clients) (refl, refl));
+  holds = inl (line_by_name rules m name l (answer.Refused refusal.NotOpen) m opened
+      (subst (λ (o : Option ℕ). IsLineOf rules m o l (answer.Refused refusal.NotOpen) m) (place ∙ same_place old.hub old.clients m.clients name stands.clients) (refl, refl)));
   stands = stands;
 }
-
-opening_result : (rules : Rules) (m : Moment) (name : List ℕ) (result : Result Answer AllocError) (now : Moment) → OrAsBefore (IsOpening m name) m result now → OrAsBefore (IsLine rules m name line.Open) m result now
-opening_result rules m name (Ok a) now is = is
-opening_result rules m name (Err e) now is = is
 
 opens_is : (l : Line) → opens_session l ≡ true → l ≡ line.Open
 opens_is line.Open is = refl
@@ -231,11 +227,11 @@ opens_is (line.Pack tid) is = absurd cc
 opens_is line.Close is = absurd cc
 opens_is line.Begin is = absurd cc
 
-pub line_opens : {R F : Type 0} (rules : Rules) (m : Moment) (name : List ℕ) (l : Line) (result : Result Answer AllocError) (new : ClientsState R F) (left : Option (List Stamp)) → opens_session l ≡ true
-    → LeadsTo (OrAsBefore (IsOpening m name) m result) new left → LeadsTo (OrAsBefore (IsLine rules m name l) m result) new left
+pub line_opens : {R F : Type 0} (rules : Rules) (m : Moment) (name : List ℕ) (l : Line) (result : Answer) (new : ClientsState R F) (left : Option (List Stamp)) → opens_session l ≡ true
+    → LeadsTo (OrStarved (IsOpening m name) m result) new left → LeadsTo (OrStarved (IsLine rules m name l) m result) new left
 line_opens rules m name l result new left is leads = record {
   now = leads.now;
-  holds = subst (λ (k : Line). OrAsBefore (IsLine rules m name k) m result leads.now) (sym (opens_is l is)) (opening_result rules m name result leads.now leads.holds);
+  holds = subst (λ (k : Line). OrStarved (IsLine rules m name k) m result leads.now) (sym (opens_is l is)) leads.holds;
   stands = leads.stands;
 }
 
@@ -268,28 +264,42 @@ module _ (rules : Rules) (m : Moment) (t : Turn) where
   broken_of a behind now false why line ends closes = absurd cc
   broken_of a behind now true why line ends closes = broken_at a behind now (place_of_client t.client behind.clients) why line ends refl closes
 
-module _ {R F : Type 0} (rules : Rules) (m : Moment) (t : Turn) (last : Bool) where
-  pub turn_starved : (e : AllocError) (new : ClientsState R F) (after : Option (List Stamp)) → LeadsTo (OrAsBefore (IsLine rules m t.client t.line) m (Err e)) new after
-      → LeadsTo (IsTurn rules m t last (Err error.Memory)) new after
-  turn_starved e new after leads = record { now = leads.now; holds = by_memory refl leads.holds; stands = leads.stands }
+module _ (rules : Rules) (m : Moment) (t : Turn) (last : Bool) where
+  starved_end : (a : Answer) (why : TurnError) → a ≡ answer.Refused refusal.Memory → Some why ≡ end_of a → why ≡ error.Memory
+  starved_end a why is ends = same_error why error.Memory (ends ∙ ap end_of is)
+    where
+      same_error : (x y : TurnError) → Some x ≡ Some y → x ≡ y
+      same_error x y e = cc
 
-  pub turn_broken : (a : Answer) (why : TurnError) (new : ClientsState R F) (after : Option (List Stamp)) → LeadsTo (OrAsBefore (IsLine rules m t.client t.line) m (Ok a)) new after → Some why ≡ end_of a
+  ends_by : (a : Answer) (why : TurnError) (now : Moment) → OrStarved (IsLine rules m t.client t.line) m a now → Some why ≡ end_of a → IsBroken rules m t last why now
+  ends_by a why now (inl line) ends = by_line a line (sym ends)
+  ends_by a why now (inr starved) ends = by_memory (starved_end a why starved.0 ends) starved.1
+
+  pub turn_broken : {R F : Type 0} (a : Answer) (why : TurnError) (new : ClientsState R F) (after : Option (List Stamp)) → LeadsTo (OrStarved (IsLine rules m t.client t.line) m a) new after → Some why ≡ end_of a
       → LeadsTo (IsTurn rules m t last (Err why)) new after
-  turn_broken a why new after leads ends = record { now = leads.now; holds = by_line a leads.holds (sym ends); stands = leads.stands }
+  turn_broken a why new after leads ends = record { now = leads.now; holds = ends_by a why leads.now leads.holds ends; stands = leads.stands }
+
+-- a line that doesn't end the run wasn't starved
+pub line_whole_of : (rules : Rules) (m : Moment) (t : Turn) (a : Answer) (now : Moment) → OrStarved (IsLine rules m t.client t.line) m a now → None ≡ end_of a → IsLine rules m t.client t.line a now
+line_whole_of rules m t a now (inl line) ends = line
+line_whole_of rules m t a now (inr starved) ends = absurd (no_end (ends ∙ ap end_of starved.0))
+  where
+    no_end : None ≡ Some error.Memory → ⊥
+    no_end e = absurd cc
 
 module _ {R F : Type 0} (rules rules' : Rules) (m : Moment) (t : Turn) (last : Bool) (a : Answer) (mid new : ClientsState R F) (between after : Option (List Stamp)) where
-  pub turn_done : LeadsTo (OrAsBefore (IsLine rules m t.client t.line) m (Ok a)) mid between → None ≡ end_of a → rules' ≡ rules
+  pub turn_done : LeadsTo (OrStarved (IsLine rules m t.client t.line) m a) mid between → None ≡ end_of a → rules' ≡ rules
       → ((b : Moment) → StandsForMoment mid between b → LeadsTo (ClosesIf rules' b t.client last None) new after) → LeadsTo (IsTurn rules m t last (Ok a)) new after
   turn_done leads ends alike close =
       let closes : LeadsTo (ClosesIf rules leads.now t.client last None) new after = subst (λ (x : Rules). LeadsTo (ClosesIf x leads.now t.client last None) new after) alike (close leads.now leads.stands) in
       record {
         now = closes.now;
-        holds = record { behind = leads.now; line = leads.holds; whole = sym ends; closing = closing_of rules m t leads.now closes.now last closes.holds };
+        holds = record { behind = leads.now; line = line_whole_of rules m t a leads.now leads.holds ends; whole = sym ends; closing = closing_of rules m t leads.now closes.now last closes.holds };
         stands = closes.stands;
       }
 
-  pub turn_cut : (why : TurnError) → LeadsTo (OrAsBefore (IsLine rules m t.client t.line) m (Ok a)) mid between → None ≡ end_of a → rules' ≡ rules
+  pub turn_cut : (why : TurnError) → LeadsTo (OrStarved (IsLine rules m t.client t.line) m a) mid between → None ≡ end_of a → rules' ≡ rules
       → ((b : Moment) → StandsForMoment mid between b → LeadsTo (ClosesIf rules' b t.client last (Some why)) new after) → LeadsTo (IsTurn rules m t last (Err why)) new after
   turn_cut why leads ends alike close =
       let closes : LeadsTo (ClosesIf rules leads.now t.client last (Some why)) new after = subst (λ (x : Rules). LeadsTo (ClosesIf x leads.now t.client last (Some why)) new after) alike (close leads.now leads.stands) in
-      record { now = closes.now; holds = broken_of rules m t a leads.now closes.now last why leads.holds ends closes.holds; stands = closes.stands }
+      record { now = closes.now; holds = broken_of rules m t a leads.now closes.now last why (line_whole_of rules m t a leads.now leads.holds ends) ends closes.holds; stands = closes.stands }

@@ -13,14 +13,14 @@ use Rattle.commit_phases.specs.Pending.{pending_of}
 use Rattle.zodb_core.specs.declared.reply.Reply.{Reply}
 use Rattle.zodb_core.specs.declared.reply.Reply.TheVariants as reply
 use Rattle.zodb_core.specs.Machine.{is_open_in}
-use Rattle.zodb_core.specs.Outcomes.{FaultCounts}
+use Rattle.zodb_core.specs.Outcomes.{Answered, StepOutcome}
 use Rattle.tree_calls.specs.declared.attempt.Made.{Made}
 use Rattle.tree_calls.specs.declared.known.Seen.{Seen}
 use Rattle.tree_calls.specs.declared.operation.TreeOperation.{TreeOperation}
 use Rattle.tree_calls.specs.Known.{known_at}
 use Rattle.connection_view.specs.declared.work.Work.{Work}
 use Rattle.client_turns.specs.Clients.{Client, Moment, OpenTransaction}
-use Rattle.client_turns.specs.Lines.{IsCountedBy, outcome_of_result}
+use Rattle.client_turns.specs.Lines.{outcome_of_result}
 use Rattle.connection_view.specs.Views.{read_below}
 use Rattle.client_turns.specs.Standing.{ClientsState, LeadsTo, StandsForMoment}
 use Rattle.client_turns.specs.Steps.{IsReadAt}
@@ -44,9 +44,14 @@ abbrev pub over_known : Option (Option Seen) → Option Seen → Option Seen
 over_known (Some x) y = x
 over_known None y = y
 
+-- and so where one is open
+abbrev pub objects_of : List Transaction → Result Work Refusal → ℕ → Option Seen
+objects_of list (Ok work) oid = objects_kept list work oid
+objects_of list (Err r) oid = None
+
 -- the same, but for what is known
-abbrev pub objects_over : List (ℕ × Option Seen) → List Transaction → Work → ℕ → Option Seen
-objects_over known list work oid = over_known (known_at known oid) (objects_kept list work oid)
+abbrev pub objects_over : List (ℕ × Option Seen) → List Transaction → Result Work Refusal → ℕ → Option Seen
+objects_over known list work oid = over_known (known_at known oid) (objects_of list work oid)
 
 -- ---- what is read and drawn
 
@@ -84,10 +89,6 @@ abbrev pub IsCallOf : Moment → ℕ → ℕ → TreeOperation → Result Made R
 IsCallOf m at root op result now =
     (c : Client) × (slice_get m.clients at ≡ Some c) × (t : OpenTransaction) × (c.transaction ≡ Some t) × CallEnds m c.session t root op result now
 
--- what it did to the counts of faults, as it says
-abbrev pub HasResultCause : {T : Type 0} → FaultCounts → FaultCounts → Result T Refusal → Type 0
-HasResultCause before now result = IsCountedBy before now (outcome_of_result result)
-
 -- ---- gathering
 
 -- The clients stand for a moment to which the draws of a call led. What is known is what the transaction has, the session is open, and but for the machine's
@@ -111,20 +112,11 @@ abbrev pub AdvancesTo : {R F : Type 0} → Moment → ℕ → ℕ → TreeOperat
 AdvancesTo m at root op seen left known numbers None = StandsGathering seen left m at known numbers
 AdvancesTo m at root op seen left known numbers (Some result) = LeadsTo (IsCallOf m at root op result) seen left
 
--- an attempt that is made again moves no count
-abbrev pub HasAdvanceCause : FaultCounts → FaultCounts → Option (Result Made Refusal) → Type 0
-HasAdvanceCause before now None = now ≡ before
-HasAdvanceCause before now (Some result) = HasResultCause before now result
+-- how an attempt ended that is made again, or a call
+abbrev pub outcome_of_advance : Option (Result Made Refusal) → StepOutcome
+outcome_of_advance None = Answered
+outcome_of_advance (Some result) = outcome_of_result result
 
 -- each of the puts has bytes
 abbrev pub IsFilled : Made → Type 0
 IsFilled made = All (λ p. 0 < length p.bytes) made.puts
-
--- an answer, or that memory ran out
-abbrev pub or_starved : Result Answer AllocError → Answer
-or_starved (Ok a) = a
-or_starved (Err e) = answer.Refused refusal.Memory
-
--- the list is as it was
-abbrev pub IsListKept : Moment → Moment → Type 0
-IsListKept m now = now.machine.list ≡ m.machine.list

@@ -9,6 +9,7 @@ pub mod Trees
 pub mod Turns
 pub mod Output
 pub mod Standing
+pub mod Asking
 pub mod Gathering
 pub mod DrawLaws
 pub mod TurnLaws

@@ -1,12 +1,10 @@
 -- What contracts see of clients over a hub, and the moments that they stand for. Own.
-use Rattle.std.specs.Prelude.{◌≡◌, ◌⊎◌, ℕ, ◌<◌, List, [], ◌∷◌, ◌++◌, Option, Some, None, Result, Ok, Err, Bool, true, false, IfSome, IsSome, nat_lt, not, slice_get, slice_set}
+use Rattle.std.specs.Prelude.{◌≡◌, ◌⊎◌, ℕ, ◌<◌, ◌≤◌, List, [], ◌∷◌, ◌++◌, Option, Some, None, Result, Ok, Err, Bool, true, false, IfSome, IsSome, nat_lt, not, slice_get, slice_set}
 use Rattle.std.specs.Option.{IsSomeAnd, option_map, option_or}
-use Rattle.std.specs.declared.alloc.AllocError.{AllocError}
 use Rattle.zb_ids.specs.declared.stamp.Stamp.{Stamp}
 use Rattle.zb_model.specs.declared.data.Transaction.{Transaction}
 use Rattle.zb_model.specs.declared.refusal.Refusal.{Refusal}
 use Rattle.zb_model.specs.declared.refusal.Refusal.TheVariants as refusal
-use Rattle.zb_model.specs.Database.{newest_tid}
 use Rattle.zb_script.specs.declared.answer.Answer.{Answer}
 use Rattle.zb_script.specs.declared.answer.Answer.TheVariants as answer
 use Rattle.zb_script.specs.declared.line.Line.{Line}
@@ -20,28 +18,31 @@ use Rattle.pack_reach.specs.Packed.{packed_of}
 use Rattle.zodb_core.specs.Steps.{pack_tid, refuse_if}
 use Rattle.zodb_core.specs.HubState.{HubState, StandsForMachine, counts_of, is_store_failed}
 use Rattle.zodb_core.specs.Machine.{Machine, MachineVote, Rules, is_open_in}
-use Rattle.zodb_core.specs.Outcomes.{Answered, AreLaterCounts, FaultCounts, outcome_of, outcome_of_refusal}
+use Rattle.zodb_core.specs.Outcomes.{Answered, AreLaterCounts, FaultCounts, StepOutcome, outcome_of, outcome_of_refusal}
 use Rattle.client_turns.specs.declared.client.Client.{Client}
 use Rattle.connection_view.specs.declared.work.Work.{Work}
 use Rattle.client_turns.specs.declared.errors.TurnError.{TurnError}
-use Rattle.client_turns.specs.Clients.{Changes, Moment, OpenTransaction, nothing_pending, place_of_client}
+use Rattle.client_turns.specs.Clients.{Changes, Moment, OpenTransaction, changes_of, place_of_client}
 use Rattle.client_turns.specs.Clients as clients
-use Rattle.client_turns.specs.Lines.{Changed, IsCountedBy, answer_of, end_of, outcome_of_answer, outcome_of_read}
+use Rattle.client_turns.specs.Lines.{IsCountedBy, answer_of, end_of, outcome_of_answer}
 use Rattle.client_turns.specs.Refusing.{line_refusal}
 use Rattle.client_turns.specs.Steps.{IsReadAt}
-use Rattle.client_turns.specs.Turns.{IsClosingAt, IsOwnLine, IsStepLine}
-use Rattle.connection_view.specs.Views.{Later, view_of}
-use Rattle.client_turns.specs.Views.{server_of}
+use Rattle.client_turns.specs.Turns.{IsClosingAt, IsLineUnless, IsOwnLine, IsStepLine}
+use Rattle.connection_view.specs.declared.connection.Connection.{Connection}
+use Rattle.connection_view.specs.Connections.{Between, InView, work_of}
+use Rattle.connection_view.specs.Views.{View}
+use Rattle.connection_view.specs.Views as views
+use Rattle.local_loads.specs.declared.told.Told.{Told}
+use Rattle.local_loads.specs.Local.{MayBeTold, WritesLater}
+use Rattle.commit_phases.specs.Pending.{pending_of}
+use Rattle.zb_model.specs.declared.pending.PendingStore.{PendingStore}
+use Rattle.zb_volume.specs.declared.areas.Area.TheVariants.{Main, Side}
+use Rattle.zb_volume.specs.Moments.{Leaves, LeavesOnly, StaysAs}
 
 -- what contracts see of clients over a hub
 pub record ClientsState (R F : Type 0) : Type 0 where
   pub hub : HubState R F
   pub clients : List Client
-
--- what is voted is later than the list
-abbrev pub WritesLater : List Transaction → Option MachineVote → Type 0
-WritesLater list None = Unit {0}
-WritesLater list (Some v) = IfSome v.writes (λ t. newest_tid list < t.tid)
 
 -- what a transaction would change, as it is kept
 abbrev pub changes_kept : Work → Changes
@@ -51,37 +52,35 @@ changes_kept w = record { pending = w.pending; savepoints = w.savepoints; is_vot
 abbrev pub with_kept : Work → Changes → Work
 with_kept w ch = record { front = w.front; switches = w.switches; pending = ch.pending; savepoints = ch.savepoints; is_voted = ch.is_voted }
 
--- what a client's open transaction would change
-abbrev pub changes_in : Option Work → Option Changes
-changes_in work = option_map changes_kept work
-
--- A transaction as the client keeps it: of its view the front, and how often the list had been packed. The list as it stands came of the view's.
-pub record IsWorkOf (m : Machine) (w : Work) (t : OpenTransaction) : Type 0 where
-  pub front : t.view.front ≡ w.front
-  pub switches : t.view.switches ≡ w.switches
+-- a transaction that is kept by a connection which has it: what it would change is the same, and what is read in it is its view
+pub record IsWorkOf (k : Connection) (told : views.Client) (w : Work) (t : OpenTransaction) : Type 0 where
   pub changes : t.changes ≡ changes_kept w
-  pub later : Later t.view (view_of (server_of m))
+  pub view : InView k t.view told
 
-abbrev pub IsWorkOfIfSome : Machine → Option Work → Option OpenTransaction → Type 0
-IsWorkOfIfSome m None None = Unit {0}
-IsWorkOfIfSome m (Some w) (Some t) = IsWorkOf m w t
-IsWorkOfIfSome m _ _ = ⊥
+-- the open transaction of a connection, or that none is open
+abbrev pub IsOpenAs : Connection → views.Client → Result Work Refusal → Option OpenTransaction → Type 0
+IsOpenAs k told (Ok w) (Some t) = IsWorkOf k told w t
+IsOpenAs k told (Err r) None = (r ≡ refusal.NoTransaction) × Between k told
+IsOpenAs k told _ _ = ⊥
 
-pub record IsClientOf (m : Machine) (x : Client) (c : clients.Client) : Type 0 where
+-- A client as it is kept, over a hub. What its session told it, and what its connection may have cached, is right for one of those that may be at its session.
+pub record IsClientOf {R F : Type 0} (hub : HubState R F) (x : Client) (c : clients.Client) : Type 0 where
   pub name : c.name ≡ x.name
   pub session : c.session ≡ x.session
-  pub transaction : IsWorkOfIfSome m x.transaction c.transaction
+  pub told : views.Client
+  pub may : MayBeTold x.told hub told.told told.known
+  pub transaction : IsOpenAs x.connection told (work_of x.connection) c.transaction
 
-abbrev pub AreClientsOf : Machine → List Client → List clients.Client → Type 0
-AreClientsOf m [] [] = Unit {0}
-AreClientsOf m (x ∷ xs) (c ∷ cs) = IsClientOf m x c × AreClientsOf m xs cs
-AreClientsOf m _ _ = ⊥
+abbrev pub AreClientsOf : {R F : Type 0} → HubState R F → List Client → List clients.Client → Type 0
+AreClientsOf hub [] [] = Unit {0}
+AreClientsOf hub (x ∷ xs) (c ∷ cs) = IsClientOf hub x c × AreClientsOf hub xs cs
+AreClientsOf hub _ _ = ⊥
 
 -- The clients stand for a moment: their hub for its machine, and each of them for its client there.
 pub record StandsForMoment {R F : Type 0} (seen : ClientsState R F) (left : Option (List Stamp)) (m : Moment) : Type 0 where
   pub hub : StandsForMachine seen.hub m.machine
   pub vote : WritesLater m.machine.list m.machine.vote
-  pub clients : AreClientsOf m.machine seen.clients m.clients
+  pub clients : AreClientsOf seen.hub seen.clients m.clients
   pub counts : m.counts ≡ counts_of seen.hub.store
   pub stamps : m.stamps ≡ left
 
@@ -91,50 +90,17 @@ pub record LeadsTo {R F : Type 0} (Q : Moment → Type 0) (seen : ClientsState R
   pub holds : Q now
   pub stands : StandsForMoment seen left now
 
-abbrev pub work_voted : Work → Work
-work_voted w = record w { is_voted = true }
-
--- a transaction that has just begun, as it is kept
-abbrev pub new_work : ℕ → ℕ → Work
-new_work front switches = record { front = front; switches = switches; pending = nothing_pending; savepoints = []; is_voted = false }
-
--- what is left of the open transaction behind a reply
-abbrev pub work_left : Option Work → Reply → Option Work
-work_left w (reply.Front front news switches) = Some (new_work front switches)
-work_left w reply.Voted = option_map work_voted w
-work_left w (reply.Committed tid) = None
-work_left w reply.Empty = None
-work_left w reply.Aborted = None
-work_left w reply.Closed = None
-work_left w _ = w
-
-abbrev pub with_work : Client → Option Work → Client
-with_work x w = record { name = x.name; session = x.session; transaction = w }
-
--- what a reply says of a load, for a view that had seen so many packs
-abbrev pub reply_read : Reply → ℕ → Result (ℕ × List ℕ) Refusal
-reply_read (reply.Loaded serial bytes end upto) switches = Ok (serial, bytes)
-reply_read (reply.Nothing oid packed) switches = Err (refusal.Missing oid (nat_lt switches packed))
-reply_read (reply.Refused why) switches = Err why
-reply_read _ switches = Err refusal.NotOpen
-
--- a transaction got these changes, with this answer
-abbrev pub IsChangedTo : Changed → Work → Answer → Work → Type 0
-IsChangedTo changed w a now = (a ≡ changed.answer) × (now ≡ with_kept w changed.changes)
-
--- the changes of an open transaction became these, with this answer; where none is open it was refused
-abbrev pub IsChangedBy : (Changes → Changed) → Option Work → Answer → Option Work → Type 0
-IsChangedBy change None a now = (a ≡ answer.Refused refusal.NoTransaction) × (now ≡ None)
-IsChangedBy change (Some w) a now = (a ≡ (change (changes_kept w)).answer) × (now ≡ Some (with_kept w (change (changes_kept w)).changes))
-
--- and so for the client at a place
-abbrev pub IsChangedAt : (Changes → Changed) → List Client → ℕ → Client → Answer → List Client → Type 0
-IsChangedAt change xs at x a ys = (w : Option Work) × IsChangedBy change x.transaction a w × (ys ≡ slice_set xs at (with_work x w))
-
 -- what a line is answered and the moment behind it, or, for want of memory, the moment as it was
-abbrev pub OrAsBefore : (Answer → Moment → Type 0) → Moment → Result Answer AllocError → Moment → Type 0
-OrAsBefore Q m (Ok a) now = Q a now
-OrAsBefore Q m (Err _) now = now ≡ m
+abbrev pub OrStarved : (Answer → Moment → Type 0) → Moment → Answer → Moment → Type 0
+OrStarved Q m a now = Q a now ⊎ ((a ≡ answer.Refused refusal.Memory) × (now ≡ m))
+
+-- what a line of the client at a place is answered whose session is open
+abbrev pub IsLineOpen : Rules → Moment → ℕ → clients.Client → Line → Answer → Moment → Type 0
+IsLineOpen rules m at c l = OrStarved (IsLineUnless rules m at c l (line_refusal (changes_of c) l)) m
+
+-- a line of the client at a place, whose session is open
+abbrev pub IsOpenLineOf : Rules → Moment → ℕ → Line → Answer → Moment → Type 0
+IsOpenLineOf rules m at l a now = (c : clients.Client) × (slice_get m.clients at ≡ Some c) × IsLineOpen rules m at c l a now
 
 -- a line that is one step, of the client at a place
 abbrev pub IsStepOf : Rules → Moment → ℕ → Request → Answer → Moment → Type 0
@@ -154,9 +120,50 @@ abbrev pub ClosesIf : Rules → Moment → List ℕ → Bool → Option TurnErro
 ClosesIf rules m name false ended now = (ended ≡ None) × (now ≡ m)
 ClosesIf rules m name true ended now = ClosesAs rules m (place_of_client name m.clients) ended now
 
--- what a connection refuses, as it is kept
-abbrev pub refusal_kept : List Session → Client → Line → Option Refusal
-refusal_kept sessions x l = option_or (refuse_if (not (is_open_in sessions x.session)) refusal.NotOpen) (line_refusal (changes_in x.transaction) l)
+-- ---- one client
+
+-- A hub and one client stand for those of a moment, whoever else is there.
+pub record StandsForOne {R F : Type 0} (h : HubState R F) (left : Option (List Stamp)) (m : Moment) (x : Client) (c : clients.Client) : Type 0 where
+  pub hub : StandsForMachine h m.machine
+  pub vote : WritesLater m.machine.list m.machine.vote
+  pub counts : m.counts ≡ counts_of h.store
+  pub stamps : m.stamps ≡ left
+  pub client : IsClientOf h x c
+
+-- and the client stands at this place, in an open session
+pub record MayTakeAt {R F : Type 0} (hub : HubState R F) (left : Option (List Stamp)) (m : Moment) (at : ℕ) (x : Client) (c : clients.Client) : Type 0 where
+  pub stands : StandsForOne hub left m x c
+  pub there : slice_get m.clients at ≡ Some c
+  pub may : is_open_in m.machine.sessions c.session ≡ true
+
+-- A moment of which this holds, and for which the hub and this client stand, which has the place of that one; any other client may be told behind it what it may
+-- have been told before.
+pub record OneLeadsTo {R F : Type 0} (Q : Moment → Type 0) (m : Moment) (at : ℕ) (old new : HubState R F) (y : Client) (left : Option (List Stamp)) : Type 0 where
+  pub now : Moment
+  pub holds : Q now
+  pub client : clients.Client
+  pub placed : now.clients ≡ slice_set m.clients at client
+  pub stands : StandsForOne new left now y client
+  pub others : (last : Option Told) (told known : View) → MayBeTold last old told known → MayBeTold last new told known
+
+-- ---- reads
+
+-- a read in an open transaction, or that none is open
+abbrev pub IsReadWhere : Moment → Option OpenTransaction → ℕ → Result (ℕ × List ℕ) Refusal → Moment → Type 0
+IsReadWhere m None oid result now = (result ≡ Err refusal.NoTransaction) × (now ≡ m)
+IsReadWhere m (Some t) oid result now = IsReadAt m t.view oid result now
+
+-- what a transaction has of an object: what waits for it, for which memory is free to run out, or else what its view has
+abbrev pub IsGotAs : Moment → View → ℕ → Option PendingStore → Result (ℕ × List ℕ) Refusal → Moment → Type 0
+IsGotAs m v oid (Some p) result now = ((result ≡ Ok (p.base, p.bytes)) ⊎ (result ≡ Err refusal.Memory)) × (now ≡ m)
+IsGotAs m v oid None result now = IsReadAt m v oid result now
+
+abbrev pub IsGotWhere : Moment → Option OpenTransaction → ℕ → Result (ℕ × List ℕ) Refusal → Moment → Type 0
+IsGotWhere m None oid result now = (result ≡ Err refusal.NoTransaction) × (now ≡ m)
+IsGotWhere m (Some t) oid result now = IsGotAs m t.view oid (pending_of t.changes.pending.stores oid) result now
+
+abbrev pub IsGotOf : Moment → ℕ → ℕ → Result (ℕ × List ℕ) Refusal → Moment → Type 0
+IsGotOf m at oid result now = (c : clients.Client) × (slice_get m.clients at ≡ Some c) × IsGotWhere m c.transaction oid result now
 
 -- ---- what holds whatever the store tells
 
@@ -173,28 +180,13 @@ pub record MakesSafely {R F : Type 0} (r : Reply) (old new : HubState R F) : Typ
 abbrev pub HasTurnCause : FaultCounts → FaultCounts → Answer → Type 0
 HasTurnCause before now a = IsCountedBy before now (outcome_of_answer a)
 
--- a read that found the object, or found it missing
-abbrev pub found_or_missing : Result (ℕ × List ℕ) Refusal → Bool
-found_or_missing (Ok got) = true
-found_or_missing (Err (refusal.Missing oid packed)) = true
-found_or_missing (Err _) = false
+-- the session of the client at a place is open
+abbrev pub MayAskAt : Moment → ℕ → Type 0
+MayAskAt m at = (c : clients.Client) × (slice_get m.clients at ≡ Some c) × (is_open_in m.machine.sessions c.session ≡ true)
 
--- a read in an open transaction
-abbrev pub IsReadIn : Moment → Option OpenTransaction → ℕ → Result (ℕ × List ℕ) Refusal → Moment → Type 0
-IsReadIn m None oid result now = ⊥
-IsReadIn m (Some t) oid result now = IsReadAt m t.view oid result now
-
--- a read in the open transaction of the client at a place
-abbrev pub IsReadOf : Moment → ℕ → ℕ → Result (ℕ × List ℕ) Refusal → Moment → Type 0
-IsReadOf m at oid result now = (c : clients.Client) × (slice_get m.clients at ≡ Some c) × IsReadIn m c.transaction oid result now
-
--- the session of the client at a place is open, and so is a transaction
+-- and so is a transaction
 abbrev pub MayReadAt : Moment → ℕ → Type 0
 MayReadAt m at = (c : clients.Client) × (slice_get m.clients at ≡ Some c) × (is_open_in m.machine.sessions c.session ≡ true) × IsSome c.transaction
-
--- and so of a read
-abbrev pub HasReadCause : FaultCounts → FaultCounts → Result (ℕ × List ℕ) Refusal → Type 0
-HasReadCause before now result = IsCountedBy before now (outcome_of_read result)
 
 -- ---- what a crash leaves
 
@@ -227,6 +219,28 @@ IsListIn stands rules m _ = λ bytes. stands bytes m.list
 abbrev pub packs_list : Line → Bool
 packs_list (line.Pack tid) = true
 packs_list _ = false
+
+-- What a line, or a part of one, did to a hub: the rules stay, neither count has fallen, and they say how it ended; the store is broken exactly where that says so;
+-- Side stays where nothing was packed, and at each moment each image of Main stands for a list that may be seen then.
+pub record KeepsHub {R F : Type 0} (told lasts : Type 0) (stands : List ℕ → List Transaction → Type 0) (packs : Bool) (may : Machine → List ℕ → Type 0) (o : StepOutcome) (old new : HubState R F) : Type 0 where
+  pub resolver : new.resolver ≡ old.resolver
+  pub refs : new.refs ≡ old.refs
+  pub later : AreLaterCounts (counts_of old.store) (counts_of new.store)
+  pub cause : IsCountedBy (counts_of old.store) (counts_of new.store) o
+  pub broken : old.store.broken ≡ false → new.store.broken ≡ is_store_failed o
+  pub side : lasts → packs ≡ false → StaysAs Side old.store.log new.store.log
+  pub moments : lasts → told → old.store.broken ≡ false → (m : Machine) → StandsForMachine old m → Leaves Main (λ bytes. stands bytes m.list) old.store.log
+      → LeavesOnly Main (may m) old.store.log new.store.log
+
+-- and so a whole line
+abbrev pub LeavesHub : {R F : Type 0} → Type 0 → Type 0 → (List ℕ → List Transaction → Type 0) → Rules → Line → StepOutcome → HubState R F → HubState R F → Type 0
+LeavesHub told lasts stands rules l o old new = KeepsHub told lasts stands (packs_list l) (λ m. IsListIn stands rules m l) o old new
+
+-- A part of a line that changes no list.
+pub record ReadsHub {R F : Type 0} (told lasts : Type 0) (stands : List ℕ → List Transaction → Type 0) (o : StepOutcome) (old new : HubState R F) : Type 0 where
+  pub keeps : KeepsHub told lasts stands false (λ m bytes. stands bytes m.list) o old new
+  pub list : told → old.store.broken ≡ false → new.store.list ≡ old.store.list
+  pub whole : is_store_failed o ≡ false
 
 -- a refusal that says nothing of a fault
 abbrev pub IsQuiet : Refusal → Type 0

@@ -2,10 +2,10 @@
 
 ghost use Rattle.std.specs.Prelude.{◌≡◌, ◌<◌, IfSome, Some, bytes_eq, length, slice_get};
 ghost use Rattle.std.specs.List.{position};
-ghost use Rattle.std.specs.Option.{option_copied};
 ghost use Rattle.client_turns.specs.declared.client.Client.{Client};
 
-use connection_view::Work;
+use connection_view::Connection;
+use local_loads::Told;
 use zb_script::Name;
 
 /// A client that has opened a session.
@@ -15,8 +15,10 @@ pub struct Client {
     pub name: Name,
     /// The number of its session.
     pub session: u32,
-    /// Its open transaction.
-    pub transaction: Option<Work>,
+    /// What its last front told it, if it had one.
+    pub told: Option<Told>,
+    /// Its connection, with its open transaction and the objects that it read last.
+    pub connection: Connection,
 }
 
 /// The number of the session of the client at a place.
@@ -27,12 +29,12 @@ pub(crate) fn session_at(clients: &[Client], at: usize) -> u32
     clients[at].session
 }
 
-/// The open transaction of the client at a place.
-pub(crate) fn work_at(clients: &[Client], at: usize) -> Option<&Work>
+/// The connection of the client at a place.
+pub(crate) fn connection_at(clients: &[Client], at: usize) -> &Connection
     requires place { at < length clients.now }
-    ensures work { (x : Client) → slice_get clients.now at ≡ Some x → option_copied result ≡ x.transaction }
+    ensures connection { (x : Client) → slice_get clients.now at ≡ Some x → result.now ≡ x.connection }
 {
-    clients[at].transaction.as_ref()
+    &clients[at].connection
 }
 
 /// Whether a client has this name.

@@ -1,16 +1,14 @@
 //! Turns of clients: each line of a client becomes steps of the hub, and is answered.
 #![tactic(auto)]
 
-mod changing;
+mod answers;
+mod asking;
 mod client;
 mod clients;
 mod errors;
 mod last;
 mod laws;
-mod leaving;
 mod lines;
-mod reading;
-mod refusing;
 mod requests;
 mod steps;
 mod trees;

@@ -1,28 +1,29 @@
 //! Lines of trees.
 
-ghost use Rattle.std.specs.Prelude.{◌≡◌, ◌<◌, ℕ, List, IfOk, IfSome, OnErr, Option, false, length};
-ghost use Rattle.zb_volume.specs.declared.areas.Area.TheVariants.{Main, Side};
-ghost use Rattle.zb_volume.specs.Moments.{Leaves, LeavesOnly, StaysAs};
-ghost use Rattle.zodb_core.specs.HubState.{counts_of};
-ghost use Rattle.zodb_core.specs.Outcomes.{AreLaterCounts, Answered};
+ghost use Rattle.std.specs.Prelude.{◌≡◌, ◌<◌, ℕ, List, All, IfOk, IfSome, Option, Some, length, slice_get, slice_set};
+ghost use Rattle.zodb_core.specs.HubState.{rules_of};
+ghost use Rattle.zodb_core.specs.Outcomes.{Answered};
 ghost use Rattle.tree_calls.specs.Calls.{IsAttempt};
-ghost use Rattle.client_turns.specs.Clients.{Moment};
-ghost use Rattle.tree_calls.specs.declared.operation.TreeOperation.{TreeOperation};
 ghost use Rattle.tree_calls.specs.declared.known.Seen.{Seen};
+ghost use Rattle.tree_calls.specs.declared.operation.TreeOperation.{TreeOperation};
+ghost use Rattle.connection_view.specs.Connections.{work_of};
+ghost use Rattle.client_turns.specs.declared.client.Client.{Client};
+ghost use Rattle.client_turns.specs.Asking.{IsCalm, IsPutAll};
+ghost use Rattle.client_turns.specs.Clients.{Moment};
 ghost use Rattle.client_turns.specs.Gathering;
-ghost use Rattle.client_turns.specs.Gathering.{AdvancesTo, HasAdvanceCause, HasResultCause, IsCallOf, IsDrawOf, IsFilled, IsListKept, IsSightOf, StandsGathering, objects_over};
-ghost use Rattle.client_turns.specs.Lines.{outcome_of_answer};
-ghost use Rattle.client_turns.specs.Standing.{HasTurnCause, IsOwnOf, LeadsTo, MayReadAt, OrAsBefore, StandsForMoment};
+ghost use Rattle.client_turns.specs.Gathering.{AdvancesTo, IsCallOf, IsDrawOf, IsFilled, IsSightOf, StandsGathering, objects_over, outcome_of_advance};
+ghost use Rattle.client_turns.specs.Lines.{outcome_of_answer, outcome_of_result};
+ghost use Rattle.client_turns.specs.Standing.{IsOpenLineOf, IsOwnOf, LeadsTo, LeavesHub, MayAskAt, MayReadAt, OrStarved, ReadsHub, StandsForMoment};
 ghost use Rattle.client_turns.specs.Trees.{Sees, answer_told, operation_of};
 
-use crate::changing::put_all_at;
-use crate::client::{session_at, work_at};
+use crate::answers::answered;
+use crate::client::{Client, connection_at, session_at};
 use crate::clients::Clients;
-use connection_view::Work;
+use connection_view::Connection;
 use std::alloc::{AllocError, Global};
 use std::marker::Brand;
 use tree_calls::{Attempt, Known, Made, Seen, TreeAnswer, TreeOperation, call_tree};
-use zb_ids::{Oid, Text8, Tid};
+use zb_ids::{ListOf, Oid, Text8, Tid};
 use zb_model::{PendingStore, Refs, Refusal, Resolver, Store};
 use zb_outside::Clock;
 use zb_script::{Answer, Line, TreeCall};
@@ -66,21 +67,6 @@ fn answer_told(answer: TreeAnswer) -> Answer
     }
 }
 
-/// What waits for an object, as a transaction has it.
-fn seen_waiting(store: PendingStore) -> Seen
-    ensures { result ≡ record { serial = store.base; bytes = store.bytes } }
-{
-    let PendingStore {
-        oid: _,
-        base,
-        bytes,
-    } = store;
-    Seen {
-        serial: base,
-        bytes,
-    }
-}
-
 /// What a read gives of an object: nothing, where it is missing.
 fn seen_read(read: Result<(Tid, Text8), Refusal>) -> Result<Option<Seen>, Refusal>
     ensures { result ≡ Gathering.seen_read read }
@@ -103,14 +89,35 @@ fn number_in(reply: Reply) -> Result<Oid, Refusal>
     }
 }
 
-/// An answer, or that memory ran out.
-fn or_starved(answer: Result<Answer, AllocError>) -> Answer
-    ensures { result ≡ Gathering.or_starved answer }
+/// What a call on a tree puts waits for the vote, all of it or nothing.
+fn put_all(client: &mut Client, answer: Answer, puts: ListOf<PendingStore>) -> Answer
+    requires filled { All (λ p. 0 < length p.bytes) puts }
+    requires answered { outcome_of_answer answer ≡ Answered }
+    ensures put { IsPutAll client.old client.new answer puts result }
+    ensures calm { IsCalm (outcome_of_answer result) }
 {
-    match answer {
-        Ok(answer) => answer,
-        Err(_) => Answer::Refused(Refusal::Memory),
+    if puts.is_empty() {
+        return answer;
     }
+    answered(client.connection.store_all(puts), answer)
+}
+
+/// What a call on a tree puts waits for the vote of the client at a place.
+fn put_all_at(
+    clients: &mut Vec<Client>,
+    at: usize,
+    answer: Answer,
+    puts: ListOf<PendingStore>,
+) -> Answer
+    requires place { at < length clients.old.items }
+    requires filled { All (λ p. 0 < length p.bytes) puts }
+    requires answered { outcome_of_answer answer ≡ Answered }
+    ensures put { (x : Client) → slice_get clients.old.items at ≡ Some x → (y : Client)
+        × (clients.new.items ≡ slice_set clients.old.items at y) × IsPutAll x y answer puts result }
+    ensures calm { IsCalm (outcome_of_answer result) }
+    ensures kept { length clients.new.items ≡ length clients.old.items }
+{
+    put_all(&mut clients[at], answer, puts)
 }
 
 /// Attempts a call over what is known, and over what else the transaction has.
@@ -118,20 +125,22 @@ fn or_starved(answer: Result<Answer, AllocError>) -> Answer
 fn attempt<St: Store, R: Resolver, F: Refs>(
     alloc: Global,
     hub: &Hub<St, R, F>,
-    work: &Work,
+    connection: &Connection,
     known: &Known,
     numbers: &[Oid],
     root: Oid,
     operation: &TreeOperation,
 ) -> Result<Attempt, AllocError>
-    ensures { IfOk result (IsAttempt (objects_over known.now hub.now.store.list work.now) root operation.now numbers.now) }
+    ensures { IfOk result (IsAttempt (objects_over known.now hub.now.store.list (work_of connection.now))
+        root operation.now numbers.now) }
 {
-    call_tree::<Brand, Hub<St, R, F>, Work>(alloc, hub, work, known, numbers, root, operation)
+    call_tree::<Brand, Hub<St, R, F>, Connection>(
+        alloc, hub, connection, known, numbers, root, operation,
+    )
 }
 
 impl<St: Store, R: Resolver, F: Refs> Clients<St, R, F> {
     /// What the transaction of the client at a place has of an object.
-    #[tactic(auto, using(crate::proofs::Crashes::unmoved, crate::proofs::Gathering::sight_cause, crate::proofs::Gathering::kept_same, zb_model::specs::StayLaws::stays_same))]
     fn see<C: Clock>(
         &mut self,
         alloc: Global,
@@ -142,49 +151,18 @@ impl<St: Store, R: Resolver, F: Refs> Clients<St, R, F> {
         requires place { at < length self.old.clients }
         ensures sight { St.told → (m : Moment) → StandsForMoment self.old (C.stamps clock.old) m →
             MayReadAt m at → LeadsTo (IsSightOf m at oid result) self.new (C.stamps clock.new) }
-        ensures any_moment { St.lasts → St.told → self.old.hub.store.broken ≡ false →
-            (m : Moment) → StandsForMoment self.old (C.stamps clock.old) m →
-            Leaves Main (λ bytes. St.stands bytes m.machine.list) self.old.hub.store.log →
-            LeavesOnly Main (λ bytes. St.stands bytes m.machine.list) self.old.hub.store.log self.new.hub.store.log }
-        ensures keeps { St.told → (m : Moment) → StandsForMoment self.old (C.stamps clock.old) m →
-            LeadsTo (IsListKept m) self.new (C.stamps clock.new) }
-        ensures broken { self.old.hub.store.broken ≡ false → self.new.hub.store.broken ≡ false }
-        ensures side { St.lasts → StaysAs Side self.old.hub.store.log self.new.hub.store.log }
-        ensures resolver { self.new.hub.resolver ≡ self.old.hub.resolver }
-        ensures refs { self.new.hub.refs ≡ self.old.hub.refs }
-        ensures later { AreLaterCounts (counts_of self.old.hub.store) (counts_of self.new.hub.store) }
-        ensures cause { HasResultCause (counts_of self.old.hub.store) (counts_of self.new.hub.store) result }
-        ensures clients { self.new.clients ≡ self.old.clients }
+        ensures hub { ReadsHub St.told St.lasts St.stands (outcome_of_result result) self.old.hub self.new.hub }
+        ensures kept { length self.new.clients ≡ length self.old.clients }
     {
-        let Some(work) = work_at(self.clients.as_slice(), at) else {
-            return Err(Refusal::NoTransaction);
-        };
-        match work.pending.copy_of(oid) {
-            Err(_) => return Err(Refusal::Memory),
-            Ok(Some(store)) => return Ok(Some(seen_waiting(store))),
-            Ok(None) => {}
-        }
-        seen_read(self.read(alloc, at, oid, clock))
+        seen_read(self.get(alloc, at, oid, clock))
     }
 
     /// A number for a new object, which the session of the client at a place draws.
-    #[tactic(auto, using(crate::proofs::Gathering::draw_cause, crate::proofs::Gathering::whole_step, crate::proofs::Gathering::draw_keeps))]
     fn draw<C: Clock>(&mut self, alloc: Global, at: usize, clock: &mut C) -> Result<Oid, Refusal>
         requires place { at < length self.old.clients }
         ensures draw { St.told → (m : Moment) → StandsForMoment self.old (C.stamps clock.old) m →
             LeadsTo (IsDrawOf m at result) self.new (C.stamps clock.new) }
-        ensures any_moment { St.lasts → St.told → self.old.hub.store.broken ≡ false →
-            (m : Moment) → StandsForMoment self.old (C.stamps clock.old) m →
-            Leaves Main (λ bytes. St.stands bytes m.machine.list) self.old.hub.store.log →
-            LeavesOnly Main (λ bytes. St.stands bytes m.machine.list) self.old.hub.store.log self.new.hub.store.log }
-        ensures keeps { St.told → (m : Moment) → StandsForMoment self.old (C.stamps clock.old) m →
-            LeadsTo (IsListKept m) self.new (C.stamps clock.new) }
-        ensures broken { self.old.hub.store.broken ≡ false → self.new.hub.store.broken ≡ false }
-        ensures side { St.lasts → StaysAs Side self.old.hub.store.log self.new.hub.store.log }
-        ensures resolver { self.new.hub.resolver ≡ self.old.hub.resolver }
-        ensures refs { self.new.hub.refs ≡ self.old.hub.refs }
-        ensures later { AreLaterCounts (counts_of self.old.hub.store) (counts_of self.new.hub.store) }
-        ensures cause { HasResultCause (counts_of self.old.hub.store) (counts_of self.new.hub.store) result }
+        ensures hub { ReadsHub St.told St.lasts St.stands (outcome_of_result result) self.old.hub self.new.hub }
         ensures clients { self.new.clients ≡ self.old.clients }
     {
         let session = session_at(self.clients.as_slice(), at);
@@ -204,20 +182,9 @@ impl<St: Store, R: Resolver, F: Refs> Clients<St, R, F> {
         ensures advances { (root : ℕ) (op : TreeOperation) (numbers : List ℕ) → St.told → (m : Moment)
             → StandsGathering self.old (C.stamps clock.old) m at known.old numbers
             → AdvancesTo m at root op self.new (C.stamps clock.new) known.new numbers result }
-        ensures any_moment { St.lasts → St.told → self.old.hub.store.broken ≡ false →
-            (m : Moment) → StandsForMoment self.old (C.stamps clock.old) m →
-            Leaves Main (λ bytes. St.stands bytes m.machine.list) self.old.hub.store.log →
-            LeavesOnly Main (λ bytes. St.stands bytes m.machine.list) self.old.hub.store.log self.new.hub.store.log }
-        ensures keeps { St.told → (m : Moment) → StandsForMoment self.old (C.stamps clock.old) m →
-            LeadsTo (IsListKept m) self.new (C.stamps clock.new) }
-        ensures broken { self.old.hub.store.broken ≡ false → self.new.hub.store.broken ≡ false }
-        ensures side { St.lasts → StaysAs Side self.old.hub.store.log self.new.hub.store.log }
-        ensures resolver { self.new.hub.resolver ≡ self.old.hub.resolver }
-        ensures refs { self.new.hub.refs ≡ self.old.hub.refs }
-        ensures later { AreLaterCounts (counts_of self.old.hub.store) (counts_of self.new.hub.store) }
-        ensures cause { HasAdvanceCause (counts_of self.old.hub.store) (counts_of self.new.hub.store) result }
+        ensures hub { ReadsHub St.told St.lasts St.stands (outcome_of_advance result) self.old.hub self.new.hub }
         ensures filled { IfSome result (λ ended. IfOk ended IsFilled) }
-        ensures clients { self.new.clients ≡ self.old.clients }
+        ensures kept { length self.new.clients ≡ length self.old.clients }
     {
         match self.see(alloc, at, oid, clock) {
             Err(why) => Some(Err(why)),
@@ -240,20 +207,9 @@ impl<St: Store, R: Resolver, F: Refs> Clients<St, R, F> {
         ensures advances { (root : ℕ) (op : TreeOperation) (known : List (ℕ × Option Seen)) → St.told → (m : Moment)
             → StandsGathering self.old (C.stamps clock.old) m at known numbers.old.items
             → AdvancesTo m at root op self.new (C.stamps clock.new) known numbers.new.items result }
-        ensures any_moment { St.lasts → St.told → self.old.hub.store.broken ≡ false →
-            (m : Moment) → StandsForMoment self.old (C.stamps clock.old) m →
-            Leaves Main (λ bytes. St.stands bytes m.machine.list) self.old.hub.store.log →
-            LeavesOnly Main (λ bytes. St.stands bytes m.machine.list) self.old.hub.store.log self.new.hub.store.log }
-        ensures keeps { St.told → (m : Moment) → StandsForMoment self.old (C.stamps clock.old) m →
-            LeadsTo (IsListKept m) self.new (C.stamps clock.new) }
-        ensures broken { self.old.hub.store.broken ≡ false → self.new.hub.store.broken ≡ false }
-        ensures side { St.lasts → StaysAs Side self.old.hub.store.log self.new.hub.store.log }
-        ensures resolver { self.new.hub.resolver ≡ self.old.hub.resolver }
-        ensures refs { self.new.hub.refs ≡ self.old.hub.refs }
-        ensures later { AreLaterCounts (counts_of self.old.hub.store) (counts_of self.new.hub.store) }
-        ensures cause { HasAdvanceCause (counts_of self.old.hub.store) (counts_of self.new.hub.store) result }
+        ensures hub { ReadsHub St.told St.lasts St.stands (outcome_of_advance result) self.old.hub self.new.hub }
         ensures filled { IfSome result (λ ended. IfOk ended IsFilled) }
-        ensures clients { self.new.clients ≡ self.old.clients }
+        ensures kept { length self.new.clients ≡ length self.old.clients }
     {
         match self.draw(alloc, at, clock) {
             Err(why) => Some(Err(why)),
@@ -265,7 +221,6 @@ impl<St: Store, R: Resolver, F: Refs> Clients<St, R, F> {
     }
 
     /// What follows an attempt: the call has ended, or more is known or drawn.
-    #[tactic(auto, using(crate::proofs::Crashes::unmoved, crate::proofs::Gathering::kept_same, crate::proofs::Gathering::refused_counts, zb_model::specs::StayLaws::stays_same))]
     fn go_on<C: Clock>(
         &mut self,
         alloc: Global,
@@ -276,25 +231,16 @@ impl<St: Store, R: Resolver, F: Refs> Clients<St, R, F> {
         clock: &mut C,
     ) -> Option<Result<Made, Refusal>>
         requires place { at < length self.old.clients }
-        requires attempted { (objects : ℕ → Option Seen) × (root : ℕ) × (op : TreeOperation) × IsAttempt objects root op numbers.old.items attempt }
-        ensures advances { (objects : ℕ → Option Seen) (root : ℕ) (op : TreeOperation) → IsAttempt objects root op numbers.old.items attempt
+        requires attempted { (objects : ℕ → Option Seen) × (root : ℕ) × (op : TreeOperation)
+            × IsAttempt objects root op numbers.old.items attempt }
+        ensures advances { (objects : ℕ → Option Seen) (root : ℕ) (op : TreeOperation)
+            → IsAttempt objects root op numbers.old.items attempt
             → St.told → (m : Moment) → (g : StandsGathering self.old (C.stamps clock.old) m at known.old numbers.old.items)
             → Sees m.machine g.transaction objects
             → AdvancesTo m at root op self.new (C.stamps clock.new) known.new numbers.new.items result }
-        ensures any_moment { St.lasts → St.told → self.old.hub.store.broken ≡ false →
-            (m : Moment) → StandsForMoment self.old (C.stamps clock.old) m →
-            Leaves Main (λ bytes. St.stands bytes m.machine.list) self.old.hub.store.log →
-            LeavesOnly Main (λ bytes. St.stands bytes m.machine.list) self.old.hub.store.log self.new.hub.store.log }
-        ensures keeps { St.told → (m : Moment) → StandsForMoment self.old (C.stamps clock.old) m →
-            LeadsTo (IsListKept m) self.new (C.stamps clock.new) }
-        ensures broken { self.old.hub.store.broken ≡ false → self.new.hub.store.broken ≡ false }
-        ensures side { St.lasts → StaysAs Side self.old.hub.store.log self.new.hub.store.log }
-        ensures resolver { self.new.hub.resolver ≡ self.old.hub.resolver }
-        ensures refs { self.new.hub.refs ≡ self.old.hub.refs }
-        ensures later { AreLaterCounts (counts_of self.old.hub.store) (counts_of self.new.hub.store) }
-        ensures cause { HasAdvanceCause (counts_of self.old.hub.store) (counts_of self.new.hub.store) result }
+        ensures hub { ReadsHub St.told St.lasts St.stands (outcome_of_advance result) self.old.hub self.new.hub }
         ensures filled { IfSome result (λ ended. IfOk ended IsFilled) }
-        ensures clients { self.new.clients ≡ self.old.clients }
+        ensures kept { length self.new.clients ≡ length self.old.clients }
     {
         match attempt {
             Attempt::Made(made) => Some(Ok(made)),
@@ -306,7 +252,6 @@ impl<St: Store, R: Resolver, F: Refs> Clients<St, R, F> {
 
     /// Attempts a call of the client at a place. `None` is answered where it is to be made again, with more known or
     /// drawn.
-    #[tactic(auto, using(crate::proofs::Crashes::unmoved, crate::proofs::Gathering::kept_same, zb_model::specs::StayLaws::stays_same))]
     fn advance<C: Clock>(
         &mut self,
         alloc: Global,
@@ -321,28 +266,14 @@ impl<St: Store, R: Resolver, F: Refs> Clients<St, R, F> {
         ensures advances { St.told → (m : Moment)
             → StandsGathering self.old (C.stamps clock.old) m at known.old numbers.old.items
             → AdvancesTo m at root operation.now self.new (C.stamps clock.new) known.new numbers.new.items result }
-        ensures any_moment { St.lasts → St.told → self.old.hub.store.broken ≡ false →
-            (m : Moment) → StandsForMoment self.old (C.stamps clock.old) m →
-            Leaves Main (λ bytes. St.stands bytes m.machine.list) self.old.hub.store.log →
-            LeavesOnly Main (λ bytes. St.stands bytes m.machine.list) self.old.hub.store.log self.new.hub.store.log }
-        ensures keeps { St.told → (m : Moment) → StandsForMoment self.old (C.stamps clock.old) m →
-            LeadsTo (IsListKept m) self.new (C.stamps clock.new) }
-        ensures broken { self.old.hub.store.broken ≡ false → self.new.hub.store.broken ≡ false }
-        ensures side { St.lasts → StaysAs Side self.old.hub.store.log self.new.hub.store.log }
-        ensures resolver { self.new.hub.resolver ≡ self.old.hub.resolver }
-        ensures refs { self.new.hub.refs ≡ self.old.hub.refs }
-        ensures later { AreLaterCounts (counts_of self.old.hub.store) (counts_of self.new.hub.store) }
-        ensures cause { HasAdvanceCause (counts_of self.old.hub.store) (counts_of self.new.hub.store) result }
+        ensures hub { ReadsHub St.told St.lasts St.stands (outcome_of_advance result) self.old.hub self.new.hub }
         ensures filled { IfSome result (λ ended. IfOk ended IsFilled) }
-        ensures clients { self.new.clients ≡ self.old.clients }
+        ensures kept { length self.new.clients ≡ length self.old.clients }
     {
-        let Some(work) = work_at(self.clients.as_slice(), at) else {
-            return Some(Err(Refusal::NoTransaction));
-        };
         let Ok(attempt) = attempt(
             alloc,
             &self.hub,
-            work,
+            connection_at(self.clients.as_slice(), at),
             known,
             numbers.as_slice(),
             root,
@@ -365,19 +296,9 @@ impl<St: Store, R: Resolver, F: Refs> Clients<St, R, F> {
         requires place { at < length self.old.clients }
         ensures ends { St.told → (m : Moment) → StandsForMoment self.old (C.stamps clock.old) m →
             MayReadAt m at → LeadsTo (IsCallOf m at root operation.now result) self.new (C.stamps clock.new) }
-        ensures any_moment { St.lasts → St.told → self.old.hub.store.broken ≡ false →
-            (m : Moment) → StandsForMoment self.old (C.stamps clock.old) m →
-            Leaves Main (λ bytes. St.stands bytes m.machine.list) self.old.hub.store.log →
-            LeavesOnly Main (λ bytes. St.stands bytes m.machine.list) self.old.hub.store.log self.new.hub.store.log }
-        ensures keeps { St.told → (m : Moment) → StandsForMoment self.old (C.stamps clock.old) m →
-            LeadsTo (IsListKept m) self.new (C.stamps clock.new) }
-        ensures side { St.lasts → StaysAs Side self.old.hub.store.log self.new.hub.store.log }
-        ensures resolver { self.new.hub.resolver ≡ self.old.hub.resolver }
-        ensures refs { self.new.hub.refs ≡ self.old.hub.refs }
-        ensures later { AreLaterCounts (counts_of self.old.hub.store) (counts_of self.new.hub.store) }
-        ensures cause { HasResultCause (counts_of self.old.hub.store) (counts_of self.new.hub.store) result }
+        ensures hub { ReadsHub St.told St.lasts St.stands (outcome_of_result result) self.old.hub self.new.hub }
         ensures filled { IfOk result IsFilled }
-        ensures clients { self.new.clients ≡ self.old.clients }
+        ensures kept { length self.new.clients ≡ length self.old.clients }
     {
         let mut known = Known::new(alloc);
         let mut numbers: Vec<Oid> = Vec::new(alloc);
@@ -398,7 +319,6 @@ impl<St: Store, R: Resolver, F: Refs> Clients<St, R, F> {
     }
 
     /// A line of a tree.
-    #[tactic(auto, using(crate::proofs::Crashes::unmoved, zb_model::specs::StayLaws::stays_same))]
     pub(crate) fn tree<C: Clock>(
         &mut self,
         alloc: Global,
@@ -406,30 +326,45 @@ impl<St: Store, R: Resolver, F: Refs> Clients<St, R, F> {
         root: Oid,
         call: &TreeCall,
         clock: &mut C,
-    ) -> Result<Answer, AllocError>
+    ) -> Answer
         requires place { at < length self.old.clients }
         ensures line { St.told → (m : Moment) → StandsForMoment self.old (C.stamps clock.old) m →
-            MayReadAt m at → LeadsTo (OrAsBefore (IsOwnOf m at (Line.Tree root call.now)) m result)
+            MayReadAt m at → LeadsTo (OrStarved (IsOwnOf m at (Line.Tree root call.now)) m result)
             self.new (C.stamps clock.new) }
-        ensures any_moment { St.lasts → St.told → self.old.hub.store.broken ≡ false →
-            (m : Moment) → StandsForMoment self.old (C.stamps clock.old) m →
-            Leaves Main (λ bytes. St.stands bytes m.machine.list) self.old.hub.store.log →
-            LeavesOnly Main (λ bytes. St.stands bytes m.machine.list) self.old.hub.store.log self.new.hub.store.log }
-        ensures side { St.lasts → StaysAs Side self.old.hub.store.log self.new.hub.store.log }
-        ensures resolver { self.new.hub.resolver ≡ self.old.hub.resolver }
-        ensures refs { self.new.hub.refs ≡ self.old.hub.refs }
-        ensures later { AreLaterCounts (counts_of self.old.hub.store) (counts_of self.new.hub.store) }
-        ensures cause { IfOk result (HasTurnCause (counts_of self.old.hub.store) (counts_of self.new.hub.store)) }
-        ensures starved { OnErr result (counts_of self.new.hub.store ≡ counts_of self.old.hub.store) }
+        ensures hub { LeavesHub St.told St.lasts St.stands (rules_of R.rules F.named self.old.hub)
+            (Line.Tree root call.now) (outcome_of_answer result) self.old.hub self.new.hub }
         ensures kept { length self.new.clients ≡ length self.old.clients }
     {
-        let operation = operation_of(call)?;
+        let Ok(operation) = operation_of(call) else {
+            return Answer::Refused(Refusal::Memory);
+        };
         match self.call(alloc, at, root, &operation, clock) {
-            Err(why) => Ok(Answer::Refused(why)),
+            Err(why) => Answer::Refused(why),
             Ok(Made { answer, puts }) => {
-                let answer = answer_told(answer);
-                Ok(or_starved(put_all_at(&mut self.clients, at, answer, puts)))
+                put_all_at(&mut self.clients, at, answer_told(answer), puts)
             }
         }
+    }
+
+    /// A line of a tree, in whatever the connection has open.
+    pub(crate) fn tree_line<C: Clock>(
+        &mut self,
+        alloc: Global,
+        at: usize,
+        root: Oid,
+        call: &TreeCall,
+        clock: &mut C,
+    ) -> Answer
+        requires place { at < length self.old.clients }
+        ensures line { St.told → (m : Moment) → StandsForMoment self.old (C.stamps clock.old) m → MayAskAt m at →
+            LeadsTo (IsOpenLineOf (rules_of R.rules F.named self.old.hub) m at (Line.Tree root call.now) result)
+            self.new (C.stamps clock.new) }
+        ensures hub { LeavesHub St.told St.lasts St.stands (rules_of R.rules F.named self.old.hub)
+            (Line.Tree root call.now) (outcome_of_answer result) self.old.hub self.new.hub }
+    {
+        if !connection_at(self.clients.as_slice(), at).is_in_transaction() {
+            return Answer::Refused(Refusal::NoTransaction);
+        }
+        self.tree(alloc, at, root, call, clock)
     }
 }

@@ -1,26 +1,25 @@
 //! Turns.
 
-ghost use Rattle.std.specs.Prelude.{◌≡◌, ◌<◌, ◌∷◌, ◌++◌, [], List, Option, Some, IfOk, IfSome, IsErrOf, None, OnErr, false, length, slice_get, vec_capacity};
+ghost use Rattle.std.specs.Prelude.{◌≡◌, ◌<◌, ◌∷◌, ◌++◌, [], List, Option, Some, IfOk, IsErrOf, None, false, length, vec_capacity};
 ghost use Rattle.zb_base.specs.Counts.{Rose};
 ghost use Rattle.zb_ids.specs.declared.stamp.Stamp.{Stamp};
 ghost use Rattle.zb_volume.specs.declared.areas.Area.TheVariants.{Main, Side};
-ghost use Rattle.zb_volume.specs.Moments.{Leaves, LeavesOnly, StaysAs};
-ghost use Rattle.zodb_core.specs.HubState.{counts_of, rules_of, sessions_with};
+ghost use Rattle.zb_volume.specs.Moments.{LeavesOnly, StaysAs};
+ghost use Rattle.zodb_core.specs.HubState.{counts_of, rules_of};
 ghost use Rattle.zodb_core.specs.Outcomes.{AreLaterCounts};
-ghost use Rattle.client_turns.specs.declared.client.Client.{Client};
+ghost use Rattle.client_turns.specs.Asking.{IsCalm};
 ghost use Rattle.client_turns.specs.Clients.{Moment, place_of_client};
-ghost use Rattle.client_turns.specs.Lines.{IsCountedBy, end_of, outcome_of_end, outcome_of_turn};
+ghost use Rattle.client_turns.specs.Lines.{IsCountedBy, end_of, outcome_of_answer, outcome_of_end, outcome_of_turn};
 ghost use Rattle.client_turns.specs.Refusing.{IsFittingLine, opens_session};
-ghost use Rattle.client_turns.specs.Standing.{ClosesAs, ClosesIf, HasTurnCause, IsListIn, IsQuiet, LeadsTo, OrAsBefore, StandsForMoment, packs_list, refusal_kept};
+ghost use Rattle.client_turns.specs.Standing.{ClosesAs, ClosesIf, IsListIn, IsOpenLineOf, KeepsHub, LeadsTo, LeavesHub, MayAskAt, OrStarved, StandsForMoment, packs_list};
 ghost use Rattle.client_turns.specs.Turns.{IsLine, IsLineAt, IsOpening, IsTurn};
 
-use crate::client::{Client, place_of, session_at, work_at};
+use crate::client::{Client, place_of, session_at};
 use crate::clients::Clients;
 use crate::errors::TurnError;
-use crate::refusing::line_refusal;
-use crate::requests::{answer_of, end_of, request_of};
-use std::alloc::{AllocError, Global};
-use zb_ids::Text8;
+use crate::requests::{answer_of, end_of, is_of_connection, plain_request};
+use connection_view::Connection;
+use std::alloc::Global;
 use zb_model::{Refs, Refusal, Resolver, Store};
 use zb_outside::Clock;
 use zb_script::{Answer, Line, Name, Turn};
@@ -43,133 +42,116 @@ fn opens_session(line: &Line) -> bool
 
 impl<St: Store, R: Resolver, F: Refs> Clients<St, R, F> {
     /// A client opens its session, with the next number.
-    #[tactic(auto, using(crate::proofs::Opening::too_many))]
-    fn open(&mut self, name: Name) -> Result<Answer, AllocError>
+    fn open(&mut self, alloc: Global, name: Name) -> Answer
         ensures opening { St.told → (m : Moment) → (left : Option (List Stamp)) → StandsForMoment self.old left m →
-            LeadsTo (OrAsBefore (IsOpening m name) m result) self.new left }
+            LeadsTo (OrStarved (IsOpening m name) m result) self.new left }
         ensures store { self.new.hub.store ≡ self.old.hub.store }
         ensures resolver { self.new.hub.resolver ≡ self.old.hub.resolver }
         ensures refs { self.new.hub.refs ≡ self.old.hub.refs }
-        ensures cause { IfOk result (HasTurnCause (counts_of self.old.hub.store) (counts_of self.new.hub.store)) }
+        ensures calm { IsCalm (outcome_of_answer result) }
     {
-        self.clients.reserve(1)?;
+        let Ok(connection) = Connection::new(alloc) else {
+            return Answer::Refused(Refusal::Memory);
+        };
+        if self.clients.reserve(1).is_err() {
+            return Answer::Refused(Refusal::Memory);
+        }
         match self.hub.open_session() {
             Ok(session) => {
                 let client = Client {
                     name,
                     session,
-                    transaction: None,
+                    told: None,
+                    connection,
                 };
                 push_client(&mut self.clients, client);
-                Ok(Answer::Opened { session })
+                Answer::Opened { session }
             }
             Err(SessionRefusal::TooManySessions { count }) => {
-                Ok(Answer::Refused(Refusal::TooManySessions { count }))
+                Answer::Refused(Refusal::TooManySessions { count })
             }
-            Err(SessionRefusal::StepsSpent) => Ok(Answer::Refused(Refusal::StepsSpent)),
-            Err(SessionRefusal::Memory) => Err(AllocError),
+            Err(SessionRefusal::StepsSpent) => Answer::Refused(Refusal::StepsSpent),
+            Err(SessionRefusal::Memory) => Answer::Refused(Refusal::Memory),
         }
     }
 
-    /// What the connection of the client at a place refuses.
-    fn refusal_at(&self, at: usize, line: &Line) -> Option<Refusal>
-        requires place { at < length self.now.clients }
-        ensures refusal { (x : Client) → slice_get self.now.clients at ≡ Some x →
-            result ≡ refusal_kept (sessions_with self.now.hub.store.broken self.now.hub.sessions) x line.now }
-        ensures quiet { IfSome result IsQuiet }
+    /// A line of the client at a place, whose session is open.
+    fn open_line<C: Clock>(
+        &mut self,
+        alloc: Global,
+        at: usize,
+        line: &Line,
+        clock: &mut C,
+    ) -> Answer
+        requires place { at < length self.old.clients }
+        requires fitting { IsFittingLine line.now }
+        requires opened { opens_session line.now ≡ false }
+        ensures line { St.told → (m : Moment) → StandsForMoment self.old (C.stamps clock.old) m → MayAskAt m at →
+            LeadsTo (IsOpenLineOf (rules_of R.rules F.named self.old.hub) m at line.now result)
+            self.new (C.stamps clock.new) }
+        ensures hub { LeavesHub St.told St.lasts St.stands (rules_of R.rules F.named self.old.hub) line.now
+            (outcome_of_answer result) self.old.hub self.new.hub }
     {
-        let session = session_at(self.clients.as_slice(), at);
-        if !self.hub.is_open(session) {
-            return Some(Refusal::NotOpen);
+        if is_of_connection(line) {
+            return self.ask(alloc, at, line, clock);
         }
-        line_refusal(work_at(self.clients.as_slice(), at), line)
+        if let Some(request) = plain_request(line) {
+            return self.take_step(alloc, at, request, clock);
+        }
+        match line {
+            Line::Tree { root, call } => self.tree_line(alloc, at, *root, call, clock),
+            _ => unreachable!(),
+        }
     }
 
     /// A line of the client at a place.
-    #[tactic(auto, using(crate::proofs::Crashes::unmoved_in, crate::proofs::Crashes::in_kept, zb_model::specs::StayLaws::stays_same))]
     fn take_line<C: Clock>(
         &mut self,
         alloc: Global,
         at: usize,
         line: &Line,
         clock: &mut C,
-    ) -> Result<Answer, AllocError>
+    ) -> Answer
         requires place { at < length self.old.clients }
         requires fitting { IsFittingLine line.now }
         requires opened { opens_session line.now ≡ false }
         ensures line { St.told → (m : Moment) → StandsForMoment self.old (C.stamps clock.old) m →
-            LeadsTo (OrAsBefore (IsLineAt (rules_of R.rules F.named self.old.hub) m at line.now) m result)
+            LeadsTo (OrStarved (IsLineAt (rules_of R.rules F.named self.old.hub) m at line.now) m result)
             self.new (C.stamps clock.new) }
-        ensures any_moment { St.lasts → St.told → self.old.hub.store.broken ≡ false →
-            (m : Moment) → StandsForMoment self.old (C.stamps clock.old) m →
-            Leaves Main (λ bytes. St.stands bytes m.machine.list) self.old.hub.store.log →
-            LeavesOnly Main (IsListIn St.stands (rules_of R.rules F.named self.old.hub) m.machine line.now)
-            self.old.hub.store.log self.new.hub.store.log }
-        ensures side { St.lasts → packs_list line.now ≡ false → StaysAs Side self.old.hub.store.log self.new.hub.store.log }
-        ensures resolver { self.new.hub.resolver ≡ self.old.hub.resolver }
-        ensures refs { self.new.hub.refs ≡ self.old.hub.refs }
-        ensures later { AreLaterCounts (counts_of self.old.hub.store) (counts_of self.new.hub.store) }
-        ensures cause { IfOk result (HasTurnCause (counts_of self.old.hub.store) (counts_of self.new.hub.store)) }
-        ensures starved { OnErr result (counts_of self.new.hub.store ≡ counts_of self.old.hub.store) }
+        ensures hub { LeavesHub St.told St.lasts St.stands (rules_of R.rules F.named self.old.hub) line.now
+            (outcome_of_answer result) self.old.hub self.new.hub }
     {
-        if let Some(why) = self.refusal_at(at, line) {
-            return Ok(Answer::Refused(why));
+        if !self.hub.is_open(session_at(self.clients.as_slice(), at)) {
+            return Answer::Refused(Refusal::NotOpen);
         }
-        match request_of(alloc, work_at(self.clients.as_slice(), at), line)? {
-            Some(request) => Ok(self.take_step(alloc, at, request, clock)),
-            None => self.own_line(alloc, at, line, clock),
-        }
+        self.open_line(alloc, at, line, clock)
     }
 
     /// A line of a client, by its name.
-    #[tactic(auto, using(crate::proofs::Crashes::unmoved_in, zb_model::specs::StayLaws::stays_same))]
-    fn line<C: Clock>(
-        &mut self,
-        alloc: Global,
-        name: Name,
-        line: &Line,
-        clock: &mut C,
-    ) -> Result<Answer, AllocError>
+    fn line<C: Clock>(&mut self, alloc: Global, name: Name, line: &Line, clock: &mut C) -> Answer
         requires fitting { IsFittingLine line.now }
         ensures line { St.told → (m : Moment) → StandsForMoment self.old (C.stamps clock.old) m →
-            LeadsTo (OrAsBefore (IsLine (rules_of R.rules F.named self.old.hub) m name line.now) m result)
+            LeadsTo (OrStarved (IsLine (rules_of R.rules F.named self.old.hub) m name line.now) m result)
             self.new (C.stamps clock.new) }
-        ensures any_moment { St.lasts → St.told → self.old.hub.store.broken ≡ false →
-            (m : Moment) → StandsForMoment self.old (C.stamps clock.old) m →
-            Leaves Main (λ bytes. St.stands bytes m.machine.list) self.old.hub.store.log →
-            LeavesOnly Main (IsListIn St.stands (rules_of R.rules F.named self.old.hub) m.machine line.now)
-            self.old.hub.store.log self.new.hub.store.log }
-        ensures side { St.lasts → packs_list line.now ≡ false → StaysAs Side self.old.hub.store.log self.new.hub.store.log }
-        ensures resolver { self.new.hub.resolver ≡ self.old.hub.resolver }
-        ensures refs { self.new.hub.refs ≡ self.old.hub.refs }
-        ensures later { AreLaterCounts (counts_of self.old.hub.store) (counts_of self.new.hub.store) }
-        ensures cause { IfOk result (HasTurnCause (counts_of self.old.hub.store) (counts_of self.new.hub.store)) }
-        ensures starved { OnErr result (counts_of self.new.hub.store ≡ counts_of self.old.hub.store) }
+        ensures hub { LeavesHub St.told St.lasts St.stands (rules_of R.rules F.named self.old.hub) line.now
+            (outcome_of_answer result) self.old.hub self.new.hub }
     {
         if opens_session(line) {
-            return self.open(name);
+            return self.open(alloc, name);
         }
         match place_of(self.clients.as_slice(), &name) {
             Some(at) => self.take_line(alloc, at, line, clock),
-            None => Ok(Answer::Refused(Refusal::NotOpen)),
+            None => Answer::Refused(Refusal::NotOpen),
         }
     }
 
     /// The closing of a client's session, where it has one, and how that ends the run, if it does.
-    #[tactic(auto, using(crate::proofs::Crashes::unmoved, crate::proofs::Causes::never_starved, crate::proofs::Causes::closed_counts, zb_model::specs::StayLaws::stays_same))]
     fn close<C: Clock>(&mut self, alloc: Global, name: &Name, clock: &mut C) -> Option<TurnError>
         ensures closing { St.told → (m : Moment) → StandsForMoment self.old (C.stamps clock.old) m →
             LeadsTo (ClosesAs (rules_of R.rules F.named self.old.hub) m (place_of_client name.now m.clients) result)
             self.new (C.stamps clock.new) }
-        ensures quiet { St.lasts → St.told → self.old.hub.store.broken ≡ false →
-            (m : Moment) → StandsForMoment self.old (C.stamps clock.old) m →
-            Leaves Main (λ bytes. St.stands bytes m.machine.list) self.old.hub.store.log →
-            LeavesOnly Main (λ bytes. St.stands bytes m.machine.list) self.old.hub.store.log self.new.hub.store.log }
-        ensures side { St.lasts → StaysAs Side self.old.hub.store.log self.new.hub.store.log }
-        ensures resolver { self.new.hub.resolver ≡ self.old.hub.resolver }
-        ensures refs { self.new.hub.refs ≡ self.old.hub.refs }
-        ensures later { AreLaterCounts (counts_of self.old.hub.store) (counts_of self.new.hub.store) }
-        ensures counts { IsCountedBy (counts_of self.old.hub.store) (counts_of self.new.hub.store) (outcome_of_end result) }
+        ensures hub { KeepsHub St.told St.lasts St.stands false (λ machine bytes. St.stands bytes machine.list)
+            (outcome_of_end result) self.old.hub self.new.hub }
         ensures fed { ¬ (result ≡ Some TurnError.Memory) }
     {
         let Some(at) = place_of(self.clients.as_slice(), name) else {
@@ -181,7 +163,6 @@ impl<St: Store, R: Resolver, F: Refs> Clients<St, R, F> {
     }
 
     /// Behind a client's last line its session is closed; how that ends the run, if it does.
-    #[tactic(auto, using(crate::proofs::Taking::unclosed, crate::proofs::Taking::closes_last, crate::proofs::Crashes::unmoved, zb_model::specs::StayLaws::stays_same))]
     fn close_if<C: Clock>(
         &mut self,
         alloc: Global,
@@ -192,15 +173,8 @@ impl<St: Store, R: Resolver, F: Refs> Clients<St, R, F> {
         ensures closing { St.told → (m : Moment) → StandsForMoment self.old (C.stamps clock.old) m →
             LeadsTo (ClosesIf (rules_of R.rules F.named self.old.hub) m name.now is_last result)
             self.new (C.stamps clock.new) }
-        ensures quiet { St.lasts → St.told → self.old.hub.store.broken ≡ false →
-            (m : Moment) → StandsForMoment self.old (C.stamps clock.old) m →
-            Leaves Main (λ bytes. St.stands bytes m.machine.list) self.old.hub.store.log →
-            LeavesOnly Main (λ bytes. St.stands bytes m.machine.list) self.old.hub.store.log self.new.hub.store.log }
-        ensures side { St.lasts → StaysAs Side self.old.hub.store.log self.new.hub.store.log }
-        ensures resolver { self.new.hub.resolver ≡ self.old.hub.resolver }
-        ensures refs { self.new.hub.refs ≡ self.old.hub.refs }
-        ensures later { AreLaterCounts (counts_of self.old.hub.store) (counts_of self.new.hub.store) }
-        ensures counts { IsCountedBy (counts_of self.old.hub.store) (counts_of self.new.hub.store) (outcome_of_end result) }
+        ensures hub { KeepsHub St.told St.lasts St.stands false (λ machine bytes. St.stands bytes machine.list)
+            (outcome_of_end result) self.old.hub self.new.hub }
         ensures fed { ¬ (result ≡ Some TurnError.Memory) }
     {
         if !is_last {
@@ -238,7 +212,7 @@ impl<St: Store, R: Resolver, F: Refs> Clients<St, R, F> {
         ensures counts { IsCountedBy (counts_of self.old.hub.store) (counts_of self.new.hub.store) (outcome_of_turn result) }
     {
         self.lasting();
-        let answer = self.line(alloc, turn.client, &turn.line, clock)?;
+        let answer = self.line(alloc, turn.client, &turn.line, clock);
         self.lasting();
         if let Some(why) = end_of(&answer) {
             return Err(why);

@@ -6,25 +6,10 @@ use Rattle.connection_view.specs.declared.loads.FrontView.{FrontView}
 use Rattle.connection_view.specs.declared.named.Named.{Named}
 use Rattle.connection_view.specs.Views.{View, Client, Later, committed, current, is_news_of, renewed, unvoted, voting}
 use Rattle.connection_view.specs.Loading.{IsFront}
+use Rattle.connection_view.specs.ViewLaws.{later_later, later_same}
 use Rattle.connection_view.specs.Named.{CoversNamed, KeepsUnnamed, names}
 use Rattle.connection_view.specs.declared.work.Work.{Work}
 use Rattle.connection_view.specs.Connections.{CachesTold, CachesView, IsNewWork, IsInView, KeepsSight, SeesView, open_work}
-
-pub later_same : (v : View) → Later v v
-later_same v = record { front = omega arith; switches = omega arith; held = λ oid front d low h. h; same = λ e oid front low. refl }
-
-pub later_later : (u v w : View) → Later u v → Later v w → Later u w
-later_later u v w a b =
-    let af = a.front in let bf = b.front in let asw = a.switches in let bsw = b.switches in
-    record {
-      front = omega arith;
-      switches = omega arith;
-      held = λ oid front d low h. a.held oid front d low (b.held oid front d (omega arith) h);
-      same = λ e oid front low.
-          let e1 : u.switches ≡ v.switches = omega arith in
-          let e2 : v.switches ≡ w.switches = omega arith in
-          b.same e2 oid front (omega arith) ∙ a.same e1 oid front low;
-    }
 
 or_both : (a b : Bool) → a ≡ false → b ≡ false → (a || b) ≡ false
 or_both a b h k = rw (h, k) refl

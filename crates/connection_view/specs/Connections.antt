@@ -202,3 +202,4 @@ pub record IsPutAsRead {S : Type 0} (makes : S → LoadsCall → S → Type 0) (
   pub reads : (u : View) (c : Client) → stands c → InView old u c → Reads u state oid read
   pub made : IsReadBy makes before after oid w.front w.switches read
   pub leaves : LeavesWork (followed_by (base_read read) (λ base. stored_in_work (record { oid = oid; base = base; bytes = bytes }) w)) (work_of old) (work_of new) result
+  pub refused : (r : Refusal) → base_read read ≡ Err r → result ≡ Err r

@@ -2,3 +2,4 @@ pub mod Views
 pub mod Loading
 pub mod Named
 pub mod Connections
+pub mod ViewLaws

@@ -60,6 +60,18 @@ impl Connection {
         self.work = None;
     }
 
+    /// Drops the open transaction, if there is one, and all that is cached. No call is made: this is for a client
+    /// whose session is closed by a step of its own.
+    #[tactic(auto, using(crate::proofs::Told::told_none))]
+    pub fn clear(&mut self)
+        ensures none { (work_of self.old ≢ Err refusal.NotOpen) → work_of self.new ≡ Err refusal.NoTransaction }
+        ensures between { (c : Client) → ((oid : ℕ) → c.voted oid ≡ false) → Between self.new c }
+    {
+        self.work = None;
+        self.stale = Named::none(self.alloc);
+        self.cache.clear();
+    }
+
     /// Begins a transaction: its view is the one that a front gives, and nothing of an older view is read in it. Its
     /// front is answered. `NotOpen` comes exactly where the connection is closed, then `InTransaction` where a
     /// transaction is open; other refusals are those of the front. After each the connection is as before.
@@ -164,6 +176,14 @@ impl Connection {
             Ok(sight) => sight,
         };
         read(&mut self.cache, loads, &sight, oid)
+    }
+
+    /// Whether a transaction is open.
+    pub fn is_in_transaction(&self) -> bool
+        ensures yes { result ≡ true → (w : Work) × (work_of self.now ≡ Ok w) }
+        ensures no { result ≡ false → (r : Refusal) × (work_of self.now ≡ Err r) }
+    {
+        self.sight().is_ok()
     }
 
     /// Where the open transaction sees from.

@@ -1,7 +1,8 @@
 -- One more number is drawn.
-use Rattle.std.proofs.Common.{None, subst, sym}
+use Rattle.std.proofs.Common.{None, inr, refl, subst, sym}
+use Rattle.zodb_core.specs.Outcomes.{NoMemory}
 use Rattle.client_turns.specs.Gathering.{AdvancesTo}
-use Rattle.client_turns.proofs.Advancing.{draws_on, undrawn, undrawn_on}
+use Rattle.client_turns.proofs.Advancing.{calm_reads, draws_on, undrawn, undrawn_on}
 use Rattle.client_turns.proofs.clients.Clients.draw_more.Goals as goal
 
 pub returns-in-Err-clause-advances : goal.returns-in-Err-clause-advances
@@ -16,3 +17,6 @@ returns-in-Ok-push-clause-advances g c = λ root op known told m gathers.
 pub returns-in-Err-push-clause-advances : goal.returns-in-Err-push-clause-advances
 returns-in-Err-push-clause-advances g c = λ root op known told m gathers.
     undrawn_on m c.args.at c.args.self.now _ known c.args.numbers.now.items gathers root op c.in-Ok.oid _ _ (c.in-Ok.ensures.draw told gathers.now gathers.stands)
+
+pub returns-in-Err-push-clause-hub : goal.returns-in-Err-push-clause-hub
+returns-in-Err-push-clause-hub g c = calm_reads g.St.Store.told g.St.Store.lasts g.St.Store.stands NoMemory (inr refl) c.args.self.now.hub c.draw.new.self.hub c.in-Ok.ensures.hub

@@ -1,38 +1,18 @@
--- `get`.
-use Rattle.std.proofs.Common.{◌≡◌, ◌∙◌, List, Some, ap, sym}
-use Rattle.std.specs.Prelude.{slice_get}
-use Rattle.std.specs.Option.{option_copied}
-use Rattle.commit_phases.specs.Pending.{pending_of}
-use Rattle.client_turns.specs.declared.client.Client.{Client}
-use Rattle.connection_view.specs.declared.work.Work.{Work}
-use Rattle.client_turns.proofs.Loading.{never_without}
-use Rattle.client_turns.proofs.Owning.{get_line, get_waiting}
+-- What the transaction of the client at a place has of an object.
+use Rattle.std.proofs.Common.{◌∙◌, ap, subst}
+use Rattle.std.specs.Prelude.{slice_get, slice_set}
+use Rattle.client_turns.specs.Asking.{TakesRead}
+use Rattle.client_turns.specs.Standing.{IsGotWhere}
+use Rattle.client_turns.proofs.Stepping.{all_lead}
 use Rattle.client_turns.proofs.clients.Clients.get.Goals as goal
 
-same_work : (a b : Work) → Some a ≡ Some b → b ≡ a
-same_work a b e = cc
-
-pub returns-in_default-clause-line : goal.returns-in_default-clause-line
-returns-in_default-clause-line g c = λ told m stands may.
-    absurd (never_without m c.args.at c.args.self.now _ stands may (λ x there.
-    sym (ap option_copied c.in_default.is)
-    ∙ c.work_at.ensures.work x (ap (λ (xs : List Client). slice_get xs c.args.at) (c.as_slice.ensures.value ∙ ap (λ s. s.clients) c.self.view_is) ∙ there)))
-
-pub returns-in-Some-2-clause-line : goal.returns-in-Some-2-clause-line
-returns-in-Some-2-clause-line g c = λ told m stands may.
-    get_waiting m c.args.at c.args.oid c.in-Some-2.store _ c.args.self.now _ stands may
-    (λ x w there is. ap (λ (v : Work). pending_of v.pending.stores c.args.oid)
-    (same_work c.in-Some.work.now w (sym (ap option_copied c.in-Some.is)
-    ∙ c.work_at.ensures.work x (ap (λ (xs : List Client). slice_get xs c.args.at) (c.as_slice.ensures.value ∙ ap (λ s. s.clients) c.self.view_is) ∙ there) ∙ is))
-    ∙ sym c.in_ok-store.ensures ∙ c.in-Some-2.is)
-    c.object_pending.ensures
-
-pub returns-clause-line : goal.returns-clause-line
-returns-clause-line g c = λ told m stands may.
-    get_line m c.args.at c.args.oid _ _ c.args.self.now _ _ _ stands may
-    (λ x w there is. ap (λ (v : Work). pending_of v.pending.stores c.args.oid)
-    (same_work c.in-Some.work.now w (sym (ap option_copied c.in-Some.is)
-    ∙ c.work_at.ensures.work x (ap (λ (xs : List Client). slice_get xs c.args.at) (c.as_slice.ensures.value ∙ ap (λ s. s.clients) c.self.view_is) ∙ there) ∙ is))
-    ∙ sym c.in_ok-store.ensures ∙ c.in_default-2.is)
-    c.object_of.ensures
-    (c.read.ensures.read told m stands may)
+pub returns-clause-read : goal.returns-clause-read
+returns-clause-read g c = λ told m stands may.
+    all_lead (λ d. IsGotWhere m d.transaction c.args.oid c.get_at.result) m c.args.at c.args.self.now _ _ _ stands may
+    (λ x there.
+    let y = c.get_at.ensures.read x (ap (λ s. slice_get s.clients c.args.at) c.self.view_is ∙ there) in (
+      y.0,
+      y.1 ∙ ap (λ s. slice_set s.clients c.args.at y.0) c.self.view_is,
+      λ d takes.
+          subst (λ s. TakesRead g.St.Store.told IsGotWhere c.args.oid c.get_at.result s.hub c.get_at.new.hub x y.0 (g.C.Clock.stamps c.args.clock.now) (g.C.Clock.stamps c.get_at.new.clock)) c.self.view_is y.2 told m c.args.at d takes,
+    ))

@@ -1,7 +1,8 @@
 -- What follows an attempt.
-use Rattle.std.proofs.Common.{subst}
+use Rattle.std.proofs.Common.{inl, refl, subst}
 use Rattle.tree_calls.specs.Calls.{IsAttempt}
-use Rattle.client_turns.proofs.Advancing.{made_on, refused_on}
+use Rattle.zodb_core.specs.Outcomes.{Answered, outcome_of_refusal}
+use Rattle.client_turns.proofs.Advancing.{made_on, refused_calm, refused_on, still_reads}
 use Rattle.client_turns.proofs.clients.Clients.go_on.Goals as goal
 
 pub returns-in-Made-clause-advances : goal.returns-in-Made-clause-advances
@@ -9,10 +10,22 @@ returns-in-Made-clause-advances g c = λ objects root op attempted told m gather
     made_on m c.args.at c.args.self.now _ c.args.known.now c.args.numbers.now.items gathers objects root op c.in-Made.made sees
     (subst (IsAttempt objects root op c.args.numbers.now.items) c.in-Made.is attempted).0
 
+pub returns-in-Made-clause-hub : goal.returns-in-Made-clause-hub
+returns-in-Made-clause-hub g c = still_reads g.St.Store.told g.St.Store.lasts g.St.Store.stands Answered (inl refl) c.args.self.now.hub
+
+pub returns-in-Made-clause-filled : goal.returns-in-Made-clause-filled
+returns-in-Made-clause-filled g c = let a = c.requires.attempted in (subst (IsAttempt a.0 a.1 a.2 c.args.numbers.now.items) c.in-Made.is a.3).1
+
 pub returns-in-Refused-clause-advances : goal.returns-in-Refused-clause-advances
 returns-in-Refused-clause-advances g c = λ objects root op attempted told m gathers sees.
     refused_on m c.args.at c.args.self.now _ c.args.known.now c.args.numbers.now.items gathers objects root op c.in-Refused.why sees
     (subst (IsAttempt objects root op c.args.numbers.now.items) c.in-Refused.is attempted)
+
+pub returns-in-Refused-clause-hub : goal.returns-in-Refused-clause-hub
+returns-in-Refused-clause-hub g c =
+    let a = c.requires.attempted in
+    still_reads g.St.Store.told g.St.Store.lasts g.St.Store.stands (outcome_of_refusal c.in-Refused.why)
+    (refused_calm a.0 a.1 a.2 c.args.numbers.now.items c.in-Refused.why (subst (IsAttempt a.0 a.1 a.2 c.args.numbers.now.items) c.in-Refused.is a.3)) c.args.self.now.hub
 
 pub returns-in-WantsObject-clause-advances : goal.returns-in-WantsObject-clause-advances
 returns-in-WantsObject-clause-advances g c = λ objects root op attempted told m gathers sees. c.learn.ensures.advances root op c.args.numbers.now.items told m gathers

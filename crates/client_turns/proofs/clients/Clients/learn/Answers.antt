@@ -1,5 +1,7 @@
 -- One more object is known.
-use Rattle.client_turns.proofs.Advancing.{learns, may_now, unlearned, unseen}
+use Rattle.std.proofs.Common.{inr, refl}
+use Rattle.zodb_core.specs.Outcomes.{NoMemory}
+use Rattle.client_turns.proofs.Advancing.{calm_reads, learns, may_now, unlearned, unseen}
 use Rattle.client_turns.proofs.clients.Clients.learn.Goals as goal
 
 pub returns-in-Err-clause-advances : goal.returns-in-Err-clause-advances
@@ -16,3 +18,6 @@ pub returns-in-Err-learn-clause-advances : goal.returns-in-Err-learn-clause-adva
 returns-in-Err-learn-clause-advances g c = λ root op numbers told m gathers.
     unlearned m c.args.at c.args.self.now _ c.args.known.now numbers gathers root op c.args.oid c.in-Ok.seen _ _
     (c.in-Ok.ensures.sight told gathers.now gathers.stands (may_now m c.args.at c.args.self.now _ c.args.known.now numbers gathers))
+
+pub returns-in-Err-learn-clause-hub : goal.returns-in-Err-learn-clause-hub
+returns-in-Err-learn-clause-hub g c = calm_reads g.St.Store.told g.St.Store.lasts g.St.Store.stands NoMemory (inr refl) c.args.self.now.hub c.see.new.self.hub c.in-Ok.ensures.hub

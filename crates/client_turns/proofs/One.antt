@@ -1,0 +1,267 @@
+-- One client over a hub, and the others beside it.
+use Rattle.std.proofs.Common.{◌≡◌, ℕ, zero, suc, Bool, true, false, List, [], ◌∷◌, Option, Some, None, Result, Ok, Err, refl, sym, ap, subst, ◌∙◌, inl, inr}
+use Rattle.std.specs.Prelude.{slice_get, slice_set}
+use Rattle.zb_ids.specs.declared.stamp.Stamp.{Stamp}
+use Rattle.zb_model.specs.declared.data.Transaction.{Transaction}
+use Rattle.zb_model.specs.declared.refusal.Refusal.{Refusal}
+use Rattle.zb_model.specs.declared.refusal.Refusal.TheVariants as refusal
+use Rattle.zb_model.specs.Rules.{MergeRules}
+use Rattle.zb_script.specs.declared.answer.Answer.{Answer}
+use Rattle.zb_script.specs.declared.answer.Answer.TheVariants as answer
+use Rattle.zb_script.specs.declared.line.Line.{Line}
+use Rattle.zodb_core.specs.declared.reply.Reply.{Reply}
+use Rattle.zodb_core.specs.declared.request.Request.{Request}
+use Rattle.zodb_core.specs.declared.request.Request.TheVariants as request
+use Rattle.zodb_core.specs.HubState.{HasTicked, HubState, StandsForMachine, counts_of, rules_of}
+use Rattle.zodb_core.specs.Machine.{Machine, Rules}
+use Rattle.zodb_core.specs.Outcomes.{FaultCounts, IsStepMade, outcome_of}
+use Rattle.zodb_core.specs.Steps.{Stepped}
+use Rattle.connection_view.specs.declared.connection.Connection.{Connection}
+use Rattle.connection_view.specs.declared.work.Work.{Work}
+use Rattle.connection_view.specs.Connections.{Between, InView, work_of}
+use Rattle.connection_view.specs.Views.{View}
+use Rattle.connection_view.specs.Views as views
+use Rattle.local_loads.specs.declared.told.Told.{Told}
+use Rattle.local_loads.specs.Local.{MayBeTold, WritesLater}
+use Rattle.local_loads.specs.LocalLaws.{kept_behind, left_writes}
+use Rattle.local_loads.specs.Making.{IsHubStep}
+use Rattle.client_turns.specs.declared.client.Client.{Client}
+use Rattle.client_turns.specs.Asking.{IsSameBut}
+use Rattle.client_turns.specs.Clients.{Moment, OpenTransaction, changes_of, with_client}
+use Rattle.client_turns.specs.Clients as seen
+use Rattle.client_turns.specs.Lines.{IsCountedBy, answer_of, client_left, is_committed, request_of}
+use Rattle.client_turns.specs.Refusing.{line_refusal}
+use Rattle.client_turns.specs.Standing.{AreClientsOf, ClientsState, IsClientOf, IsLineOpen, IsOpenAs, LeadsTo, MayTakeAt, OneLeadsTo, StandsForMoment}
+use Rattle.client_turns.specs.Steps.{IsStepAt}
+use Rattle.client_turns.specs.Turns.{IsLineTaken, IsLineUnless, IsOwnLine, IsStepLine, IsTold, IsWithin}
+use Rattle.client_turns.proofs.Causes.{counted_of}
+use Rattle.client_turns.proofs.Placing.{set_at}
+
+-- ---- steps
+
+-- A step of the hub is one from this moment on.
+pub record StepsTo {R F : Type 0} (rules : Rules) (m : Moment) (n : ℕ) (q : Request) (r : Reply) (new : HubState R F) (after : Option (List Stamp)) : Type 0 where
+  pub now : Moment
+  pub holds : IsStepAt rules m n q r now
+  pub hub : StandsForMachine new now.machine
+  pub counts : now.counts ≡ counts_of new.store
+  pub stamps : now.stamps ≡ after
+
+pub steps_to : {R F : Type 0} (told lasts : Type 0) (stands : List ℕ → List Transaction → Type 0) (rules_in : R → MergeRules) (named_in : F → List ℕ → Option (List ℕ)) (tells : told) (m : Moment) (n : ℕ) (q : Request) (r : Reply) (old new : HubState R F) (before after : Option (List Stamp))
+    → IsHubStep told lasts stands rules_in named_in n q r old new before after → StandsForMachine old m.machine → m.counts ≡ counts_of old.store → m.stamps ≡ before → StepsTo (rules_of rules_in named_in old) m n q r new after
+steps_to told lasts stands rules_in named_in tells m n q r old new before after step hub counts stamps =
+    let made = step.step tells m.machine hub in
+    let given : Stepped = record { reply = r; machine = made.left; ticks = made.ticks } in
+    record {
+      now = record { machine = made.left; clients = m.clients; stamps = after; counts = counts_of new.store };
+      holds = record {
+        stamp = made.stamp;
+        ticks = made.ticks;
+        made = subst (λ (c : FaultCounts). IsStepMade (rules_of rules_in named_in old) m.machine n q made.stamp given c (counts_of new.store)) (sym counts) made.made;
+        counts = subst (λ (k : FaultCounts). IsCountedBy k (counts_of new.store) (outcome_of r)) (sym counts) (counted_of _ _ _ step.safe.cause step.safe.others);
+        clock = subst (λ (s : Option (List Stamp)). HasTicked made.ticks made.stamp s after) (sym stamps) made.clock;
+        clients = refl;
+      };
+      hub = made.stands;
+      counts = refl;
+      stamps = refl;
+    }
+
+-- what is voted behind a step is later than the list there
+pub writes_on : (rules : Rules) (m : Moment) (n : ℕ) (q : Request) (r : Reply) (now : Moment) → IsStepAt rules m n q r now → WritesLater m.machine.list m.machine.vote → WritesLater now.machine.list now.machine.vote
+writes_on rules m n q r now step writes =
+    subst (λ (x : Machine). WritesLater x.list x.vote) (sym step.made.left) (left_writes rules m.machine n q step.stamp (outcome_of r) writes)
+
+-- ---- the others
+
+pub clients_later : {R F : Type 0} (old new : HubState R F) → ((last : Option Told) (told known : View) → MayBeTold last old told known → MayBeTold last new told known) → (xs : List Client) (cs : List seen.Client)
+    → AreClientsOf old xs cs → AreClientsOf new xs cs
+clients_later old new others [] [] are = tt
+clients_later old new others [] (c ∷ cs) are = absurd are
+clients_later old new others (x ∷ xs) [] are = absurd are
+clients_later old new others (x ∷ xs) (c ∷ cs) are =
+    (record { name = are.0.name; session = are.0.session; told = are.0.told; may = others x.told are.0.told.told are.0.told.known are.0.may; transaction = are.0.transaction }, clients_later old new others xs cs are.1)
+
+pub set_there : (cs : List seen.Client) (at : ℕ) (c : seen.Client) → slice_get cs at ≡ Some c → cs ≡ slice_set cs at c
+set_there [] at c is = absurd cc
+set_there (d ∷ cs) zero c is = ap (λ (x : seen.Client). x ∷ cs) (same d c is)
+  where
+    same : (a b : seen.Client) → Some a ≡ Some b → a ≡ b
+    same a b e = cc
+set_there (d ∷ cs) (suc at) c is = ap (λ (xs : List seen.Client). d ∷ xs) (set_there cs at c is)
+
+-- one client's way is that of all
+pub lift : {R F : Type 0} (Q : Moment → Type 0) (m : Moment) (at : ℕ) (old new : ClientsState R F) (y : Client) (before after : Option (List Stamp)) → StandsForMoment old before m → OneLeadsTo Q m at old.hub new.hub y after
+    → new.clients ≡ slice_set old.clients at y → LeadsTo Q new after
+lift Q m at old new y before after stands leads is = record {
+  now = leads.now;
+  holds = leads.holds;
+  stands = record {
+    hub = leads.stands.hub;
+    vote = leads.stands.vote;
+    clients = subst (λ (xs : List Client). AreClientsOf new.hub xs leads.now.clients) (sym is) (subst (λ (cs : List seen.Client). AreClientsOf new.hub (slice_set old.clients at y) cs) (sym leads.placed)
+        (set_at new.hub old.clients m.clients at y leads.client (clients_later old.hub new.hub leads.others old.clients m.clients stands.clients) leads.stands.client));
+    counts = leads.stands.counts;
+    stamps = leads.stands.stamps;
+  };
+}
+
+-- ---- one client
+
+-- the client with another connection, which has the same transaction
+pub opened_as : (k l : Connection) (told : views.Client) → ((u : View) → InView k u told → InView l u told) → (Between k told → Between l told) → (w : Result Work Refusal) (t : Option OpenTransaction) → IsOpenAs k told w t → IsOpenAs l told w t
+opened_as k l told view between (Ok w) (Some t) is = record { changes = is.changes; view = view t.view is.view }
+opened_as k l told view between (Ok w) None is = absurd is
+opened_as k l told view between (Err r) (Some t) is = absurd is
+opened_as k l told view between (Err r) None is = (is.0, between is.1)
+
+abbrev pub client_kept : {R F : Type 0} (old new : HubState R F) (x y : Client) (c : seen.Client) → (is : IsClientOf old x c) → IsSameBut x y → MayBeTold x.told new is.told.told is.told.known → work_of y.connection ≡ work_of x.connection
+    → ((u : View) → InView x.connection u is.told → InView y.connection u is.told) → (Between x.connection is.told → Between y.connection is.told) → IsClientOf new y c
+client_kept old new x y c is same may work view between = record {
+  name = is.name ∙ sym same.name;
+  session = is.session ∙ sym same.session;
+  told = is.told;
+  may = subst (λ (l : Option Told). MayBeTold l new is.told.told is.told.known) (sym same.told) may;
+  transaction = subst (λ (w : Result Work Refusal). IsOpenAs y.connection is.told w c.transaction) (sym work) (opened_as x.connection y.connection is.told view between (work_of x.connection) c.transaction is.transaction);
+}
+
+-- the same with another transaction
+pub client_with : {R F : Type 0} (new : HubState R F) (x y : Client) (c : seen.Client) (told : views.Client) (o : Option OpenTransaction) → c.name ≡ x.name → c.session ≡ x.session → y.name ≡ x.name → y.session ≡ x.session → MayBeTold y.told new told.told told.known
+    → IsOpenAs y.connection told (work_of y.connection) o → IsClientOf new y (record c { transaction = o })
+client_with new x y c told o name session same also may is = record { name = name ∙ sym same; session = session ∙ sym also; told = told; may = may; transaction = is }
+
+-- nothing was done, but what the client keeps may be another
+pub stays : {R F : Type 0} (Q : Moment → Type 0) (m : Moment) (at : ℕ) (old new : HubState R F) (x y : Client) (c : seen.Client) (before after : Option (List Stamp)) → MayTakeAt old before m at x c → new ≡ old → after ≡ before
+    → IsClientOf old y c → Q m → OneLeadsTo Q m at old new y after
+stays {R} {F} Q m at old new x y c before after takes same ticks client holds =
+    subst (λ (h : HubState R F). OneLeadsTo Q m at old h y after) (sym same) (subst (λ (s : Option (List Stamp)). OneLeadsTo Q m at old old y s) (sym ticks) (record {
+      now = m;
+      holds = holds;
+      client = c;
+      placed = set_there m.clients at c takes.there;
+      stands = record { hub = takes.stands.hub; vote = takes.stands.vote; counts = takes.stands.counts; stamps = takes.stands.stamps; client = client };
+      others = λ last told known may. may;
+    }))
+
+-- nothing was done, but the client's transaction has become another
+pub changes_to : {R F : Type 0} (Q : Moment → Type 0) (m : Moment) (at : ℕ) (old new : HubState R F) (x y : Client) (c d : seen.Client) (before after : Option (List Stamp)) → MayTakeAt old before m at x c → new ≡ old → after ≡ before
+    → IsClientOf old y d → Q (with_client m at d) → OneLeadsTo Q m at old new y after
+changes_to {R} {F} Q m at old new x y c d before after takes same ticks client holds =
+    subst (λ (h : HubState R F). OneLeadsTo Q m at old h y after) (sym same) (subst (λ (s : Option (List Stamp)). OneLeadsTo Q m at old old y s) (sym ticks) (record {
+      now = with_client m at d;
+      holds = holds;
+      client = d;
+      placed = refl;
+      stands = record { hub = takes.stands.hub; vote = takes.stands.vote; counts = takes.stands.counts; stamps = takes.stands.stamps; client = client };
+      others = λ last told known may. may;
+    }))
+
+-- what holds less is led to as well
+pub weaken_one : {R F : Type 0} {P Q : Moment → Type 0} {m : Moment} {at : ℕ} {old new : HubState R F} {y : Client} {left : Option (List Stamp)} → OneLeadsTo P m at old new y left → ((now : Moment) → P now → Q now) → OneLeadsTo Q m at old new y left
+weaken_one leads less = record { now = leads.now; holds = less leads.now leads.holds; client = leads.client; placed = leads.placed; stands = leads.stands; others = leads.others }
+
+-- ---- what a line of an open session is
+
+module _ (rules : Rules) (m : Moment) (at : ℕ) (c : seen.Client) (l : Line) (a : Answer) (now : Moment) where
+  -- its connection refuses it
+  pub refused_open : (why : Refusal) → line_refusal (changes_of c) l ≡ Some why → a ≡ answer.Refused why → now ≡ m → IsLineOpen rules m at c l a now
+  refused_open why is answers same = inl (subst (λ (o : Option Refusal). IsLineUnless rules m at c l o a now) (sym is) (answers, same))
+
+  -- there was no memory
+  pub starved_open : a ≡ answer.Refused refusal.Memory → now ≡ m → IsLineOpen rules m at c l a now
+  starved_open answers same = inr (answers, same)
+
+  -- it is a step, or none
+  pub step_open : (q : Request) → line_refusal (changes_of c) l ≡ None → request_of (changes_of c) l ≡ Some q → IsStepLine rules m at c q a now → IsLineOpen rules m at c l a now
+  step_open q free asks line =
+      inl (subst (λ (o : Option Refusal). IsLineUnless rules m at c l o a now) (sym free) (subst (λ (o : Option Request). IsLineTaken rules m at c l o a now) (sym asks) line))
+
+  pub own_open : (t : OpenTransaction) → c.transaction ≡ Some t → line_refusal (changes_of c) l ≡ None → request_of (changes_of c) l ≡ None → IsWithin m at c t l a now → IsLineOpen rules m at c l a now
+  own_open t begun free asks within =
+      inl (subst (λ (o : Option Refusal). IsLineUnless rules m at c l o a now) (sym free) (subst (λ (o : Option Request). IsLineTaken rules m at c l o a now) (sym asks)
+      (subst (λ (o : Option OpenTransaction). IsOwnLine m at c o l a now) (sym begun) within)))
+
+-- ---- a line that is one step of the hub, and a front behind it, if one is
+
+pub record BehindIt {R F : Type 0} (rules : Rules) (b : Bool) (m : Moment) (n : ℕ) (old new : HubState R F) (after : Option (List Stamp)) : Type 0 where
+  pub now : Moment
+  pub told : IsTold rules b m n now
+  pub hub : StandsForMachine new now.machine
+  pub vote : WritesLater now.machine.list now.machine.vote
+  pub counts : now.counts ≡ counts_of new.store
+  pub stamps : now.stamps ≡ after
+  pub clients : now.clients ≡ m.clients
+  pub others : (last : Option Told) (told known : View) → MayBeTold last old told known → MayBeTold last new told known
+
+pub none_behind : {R F : Type 0} (rules : Rules) (m : Moment) (n : ℕ) (old : HubState R F) (after : Option (List Stamp)) → StandsForMachine old m.machine → WritesLater m.machine.list m.machine.vote → m.counts ≡ counts_of old.store → m.stamps ≡ after
+    → BehindIt rules false m n old old after
+none_behind rules m n old after hub vote counts stamps =
+    record { now = m; told = refl; hub = hub; vote = vote; counts = counts; stamps = stamps; clients = refl; others = λ last told known may. may }
+
+module _ {R F : Type 0} (told lasts : Type 0) (stands : List ℕ → List Transaction → Type 0) (rules_in : R → MergeRules) (named_in : F → List ℕ → Option (List ℕ)) (tells : told) where
+  pub front_behind : (rules : Rules) (m : Moment) (n : ℕ) (r : Reply) (old new : HubState R F) (before after : Option (List Stamp)) → IsHubStep told lasts stands rules_in named_in n request.Front r old new before after → rules ≡ rules_of rules_in named_in old
+      → StandsForMachine old m.machine → WritesLater m.machine.list m.machine.vote → m.counts ≡ counts_of old.store → m.stamps ≡ before → BehindIt rules true m n old new after
+  front_behind rules m n r old new before after step same hub vote counts stamps =
+      let s : StepsTo (rules_of rules_in named_in old) m n request.Front r new after = steps_to told lasts stands rules_in named_in tells m n request.Front r old new before after step hub counts stamps in
+      record {
+        now = s.now;
+        told = (r, subst (λ (x : Rules). IsStepAt x m n request.Front r s.now) (sym same) s.holds);
+        hub = s.hub;
+        vote = writes_on _ m n request.Front r s.now s.holds vote;
+        counts = s.counts;
+        stamps = s.stamps;
+        clients = s.holds.clients;
+        others = λ last v known may. kept_behind told lasts stands rules_in named_in n request.Front r old new before after tells step last v known may;
+      }
+
+  -- the line, by its step, what is behind it, and what is left of the client
+  pub step_one : (Q : Moment → Type 0) (m : Moment) (at : ℕ) (x y : Client) (c d : seen.Client) (q : Request) (r : Reply) (a : Answer) (old mid new : HubState R F) (before between after : Option (List Stamp))
+      → MayTakeAt old before m at x c → IsHubStep told lasts stands rules_in named_in x.session q r old mid before between
+      → (s : StepsTo (rules_of rules_in named_in old) m x.session q r mid between)
+      → (b : BehindIt (rules_of rules_in named_in old) (is_committed r) s.now x.session mid new after)
+      → a ≡ answer_of r → d ≡ client_left b.now.machine c r → IsClientOf new y d
+      → (IsStepLine (rules_of rules_in named_in old) m at c q a (with_client b.now at d) → Q (with_client b.now at d))
+      → OneLeadsTo Q m at old new y after
+  step_one Q m at x y c d q r a old mid new before between after takes step s b answers left client holds =
+      let number : x.session ≡ c.session = sym takes.stands.client.session in
+      record {
+        now = with_client b.now at d;
+        holds = holds (record {
+          reply = r;
+          behind = s.now;
+          told = b.now;
+          step = subst (λ (k : ℕ). IsStepAt (rules_of rules_in named_in old) m k q r s.now) number s.holds;
+          front = subst (λ (k : ℕ). IsTold (rules_of rules_in named_in old) (is_committed r) s.now k b.now) number b.told;
+          answer = answers;
+          left = ap (λ (z : seen.Client). with_client b.now at z) left;
+        });
+        client = d;
+        placed = ap (λ (cs : List seen.Client). slice_set cs at d) (b.clients ∙ s.holds.clients);
+        stands = record { hub = b.hub; vote = b.vote; counts = b.counts; stamps = b.stamps; client = client };
+        others = λ last v known may. b.others last v known (kept_behind told lasts stands rules_in named_in x.session q r old mid before between tells step last v known may);
+      }
+
+  -- the line, by its step alone
+  pub step_alone : (Q : Moment → Type 0) (m : Moment) (at : ℕ) (x y : Client) (c : seen.Client) (q : Request) (r : Reply) (a : Answer) (old new : HubState R F) (before after : Option (List Stamp))
+      → MayTakeAt old before m at x c → IsHubStep told lasts stands rules_in named_in x.session q r old new before after → (s : StepsTo (rules_of rules_in named_in old) m x.session q r new after)
+      → is_committed r ≡ false → a ≡ answer_of r → IsClientOf new y (client_left s.now.machine c r)
+      → (IsStepLine (rules_of rules_in named_in old) m at c q a (with_client s.now at (client_left s.now.machine c r)) → Q (with_client s.now at (client_left s.now.machine c r)))
+      → OneLeadsTo Q m at old new y after
+  step_alone Q m at x y c q r a old new before after takes step s uncommitted answers client holds =
+      let number : x.session ≡ c.session = sym takes.stands.client.session in
+      record {
+        now = with_client s.now at (client_left s.now.machine c r);
+        holds = holds (record {
+          reply = r;
+          behind = s.now;
+          told = s.now;
+          step = subst (λ (k : ℕ). IsStepAt (rules_of rules_in named_in old) m k q r s.now) number s.holds;
+          front = subst (λ (b : Bool). IsTold (rules_of rules_in named_in old) b s.now c.session s.now) (sym uncommitted) refl;
+          answer = answers;
+          left = refl;
+        });
+        client = client_left s.now.machine c r;
+        placed = ap (λ (cs : List seen.Client). slice_set cs at (client_left s.now.machine c r)) s.holds.clients;
+        stands = record { hub = s.hub; vote = writes_on _ m x.session q r s.now s.holds takes.stands.vote; counts = s.counts; stamps = s.stamps; client = client };
+        others = λ last v known may. kept_behind told lasts stands rules_in named_in x.session q r old new before after tells step last v known may;
+      }

@@ -1,0 +1,19 @@
+use Rattle.std.proofs.Common.{rules, ap, refl}
+use Rattle.client_turns.specs.declared.client.Client.{Client}
+use Rattle.client_turns.proofs.Lined.{abort_over, state_is}
+use Rattle.client_turns.proofs.Framed.{abort_framed}
+use Rattle.client_turns.proofs.asking.abort_line.Goals as goal
+
+pub returns-clause-line : goal.returns-clause-line
+returns-clause-line g c =
+    abort_over g.St.Store.told g.St.Store.lasts g.St.Store.stands g.R.Resolver.rules g.F.Refs.named c.args.client.now (let y : Client = record { name = c.args.client.now.name; session = c.args.client.now.session; told = c.abort.new.loads.told; connection = c.abort.new.self } in y) c.args.hub.now _ _ _
+    (λ l. record { hub = l.hub.now; stamps = g.C.Clock.stamps l.clock.now; last = l.told }) (λ l. l.session) c.new-loads.result c.abort.new.loads c.new-loads.ensures.session
+    (state_is _ _ _ _ _ _ c.new-loads.ensures.hub (ap g.C.Clock.stamps c.new-loads.ensures.clock) c.new-loads.ensures.told)
+    (state_is _ _ _ _ _ _ (search rules) (ap g.C.Clock.stamps (search rules)) refl) refl refl
+    c.abort.result c.abort.ensures.ended c.abort.ensures.dropped c.abort.ensures.refused c.abort.ensures.makes c.abort.ensures.err c.answered-answer.result c.answered-answer.ensures
+
+pub returns-clause-hub : goal.returns-clause-hub
+returns-clause-hub g c =
+    abort_framed g.St.Store.told g.St.Store.lasts g.St.Store.stands g.R.Resolver.rules g.F.Refs.named c.args.hub.now _ c.args.client.now.connection c.abort.new.self
+    (λ l. record { hub = l.hub.now; stamps = g.C.Clock.stamps l.clock.now; last = l.told }) (λ l. l.session) c.new-loads.result c.abort.new.loads c.new-loads.ensures.hub (search rules)
+    c.abort.result c.abort.ensures.refused c.abort.ensures.makes c.answered-answer.result c.answered-answer.ensures

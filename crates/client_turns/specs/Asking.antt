@@ -1,0 +1,118 @@
+-- What a client's connection is asked, and what comes of it. Own.
+use Rattle.std.specs.Prelude.{◌≡◌, ◌≢◌, ◌⊎◌, ℕ, List, Option, Some, None, Result, Ok, Err, Bool, true, false}
+use Rattle.zb_ids.specs.declared.stamp.Stamp.{Stamp}
+use Rattle.zb_model.specs.declared.pending.PendingStore.{PendingStore}
+use Rattle.zb_model.specs.declared.refusal.Refusal.{Refusal}
+use Rattle.zb_model.specs.declared.refusal.Refusal.TheVariants as refusal
+use Rattle.zb_script.specs.declared.answer.Answer.{Answer}
+use Rattle.zb_script.specs.declared.answer.Answer.TheVariants as answer
+use Rattle.zb_script.specs.declared.line.Line.{Line}
+use Rattle.zb_script.specs.declared.line.Line.TheVariants as line
+use Rattle.zodb_core.specs.declared.reply.Reply.{Reply}
+use Rattle.zodb_core.specs.declared.reply.Reply.TheVariants as reply
+use Rattle.zodb_core.specs.declared.request.Request.{Request}
+use Rattle.zodb_core.specs.declared.request.Request.TheVariants as request
+use Rattle.zodb_core.specs.HubState.{HubState}
+use Rattle.zodb_core.specs.Machine.{Rules}
+use Rattle.zodb_core.specs.Outcomes.{Answered, NoMemory, StepOutcome}
+use Rattle.client_turns.specs.declared.client.Client.{Client}
+use Rattle.client_turns.specs.Clients.{Moment, OpenTransaction}
+use Rattle.client_turns.specs.Clients as clients
+use Rattle.client_turns.specs.Standing.{IsLineOpen, IsOpenAs, MayTakeAt, OneLeadsTo}
+use Rattle.client_turns.specs.Trees.{all_stored}
+use Rattle.connection_view.specs.Connections.{Between, work_of}
+use Rattle.connection_view.specs.Views as views
+
+-- a line that a connection answers
+abbrev pub is_of_connection : Line → Bool
+is_of_connection line.Begin = true
+is_of_connection (line.Load oid) = true
+is_of_connection (line.Get oid) = true
+is_of_connection (line.Store oid base bytes) = true
+is_of_connection (line.Put oid bytes) = true
+is_of_connection (line.Check oid serial) = true
+is_of_connection line.Savepoint = true
+is_of_connection (line.Rollback number) = true
+is_of_connection (line.Vote user description) = true
+is_of_connection (line.Undo user description tids) = true
+is_of_connection line.Finish = true
+is_of_connection line.Abort = true
+is_of_connection _ = false
+
+-- the request of a line that asks nothing of the connection
+abbrev pub plain_request : Line → Option Request
+plain_request line.New = Some (request.NewOids 1)
+plain_request (line.History oid) = Some (request.History oid)
+plain_request line.UndoLog = Some request.UndoLog
+plain_request (line.Pack tid) = Some (request.Pack tid)
+plain_request line.Close = Some request.Close
+plain_request _ = None
+
+-- a request of such a line
+abbrev pub IsPlain : Request → Type 0
+IsPlain (request.NewOids count) = count ≡ 1
+IsPlain (request.History oid) = Unit {0}
+IsPlain request.UndoLog = Unit {0}
+IsPlain (request.Pack tid) = Unit {0}
+IsPlain request.Close = Unit {0}
+IsPlain _ = ⊥
+
+-- ---- answers
+
+-- what a line is answered that gives nothing: this, or the refusal
+abbrev pub answered : {T : Type 0} → Result T Refusal → Answer → Answer
+answered (Ok x) a = a
+answered (Err why) a = answer.Refused why
+
+abbrev pub begun_as : Result ℕ Refusal → Answer
+begun_as (Ok front) = answer.Begun front
+begun_as (Err why) = answer.Refused why
+
+abbrev pub saved_as : Result ℕ Refusal → Answer
+saved_as (Ok number) = answer.Savepoint number
+saved_as (Err why) = answer.Refused why
+
+abbrev pub finished_as : Result (Option ℕ) Refusal → Answer
+finished_as (Ok (Some tid)) = answer.Committed tid
+finished_as (Ok None) = answer.Empty
+finished_as (Err why) = answer.Refused why
+
+-- ---- calls of one client
+
+-- a line of a client, at whatever moment it takes its turn
+abbrev pub TakesLine : {R F : Type 0} → Type 0 → Rules → Line → Answer → HubState R F → HubState R F → Client → Client → Option (List Stamp) → Option (List Stamp) → Type 0
+TakesLine told rules l a old new x y before after =
+    told → (m : Moment) (at : ℕ) (c : clients.Client) → MayTakeAt old before m at x c → OneLeadsTo (IsLineOpen rules m at c l a) m at old new y after
+
+-- and so what it has of an object
+abbrev pub TakesRead : {R F : Type 0} → Type 0 → (Moment → Option OpenTransaction → ℕ → Result (ℕ × List ℕ) Refusal → Moment → Type 0) → ℕ → Result (ℕ × List ℕ) Refusal → HubState R F → HubState R F → Client → Client
+    → Option (List Stamp) → Option (List Stamp) → Type 0
+TakesRead told is oid result old new x y before after =
+    told → (m : Moment) (at : ℕ) (c : clients.Client) → MayTakeAt old before m at x c → OneLeadsTo (is m c.transaction oid result) m at old new y after
+
+-- a client that is kept but for its connection
+pub record IsSameBut (x y : Client) : Type 0 where
+  pub name : y.name ≡ x.name
+  pub session : y.session ≡ x.session
+  pub told : y.told ≡ x.told
+
+-- what the closing of its session leaves of a client: no transaction; any other reply leaves it
+abbrev pub IsLeftBy : Client → Client → Reply → Type 0
+IsLeftBy x y reply.Closed =
+    IsSameBut x y × ((work_of x.connection ≢ Err refusal.NotOpen) → work_of y.connection ≡ Err refusal.NoTransaction) × ((told : views.Client) → ((oid : ℕ) → told.voted oid ≡ false) → Between y.connection told)
+IsLeftBy x y _ = y ≡ x
+
+-- ---- puts
+
+-- an answer that moves no count
+abbrev pub IsCalm : StepOutcome → Type 0
+IsCalm o = (o ≡ Answered) ⊎ (o ≡ NoMemory)
+
+-- What a call puts waits for the vote of a client's transaction, all of it or nothing; memory is free to run out.
+pub record IsPutAs (x y : Client) (a : Answer) (puts : List PendingStore) (result : Answer) (told : views.Client) (t : OpenTransaction) : Type 0 where
+  pub same : IsSameBut x y
+  pub put : ((result ≡ (all_stored t.changes a puts).answer) × IsOpenAs y.connection told (work_of y.connection) (Some (record { view = t.view; changes = (all_stored t.changes a puts).changes })))
+      ⊎ ((result ≡ answer.Refused refusal.Memory) × IsOpenAs y.connection told (work_of y.connection) (Some t))
+
+abbrev pub IsPutAll : Client → Client → Answer → List PendingStore → Answer → Type 0
+IsPutAll x y a puts result = (told : views.Client) (t : OpenTransaction) → IsOpenAs x.connection told (work_of x.connection) (Some t) → IsPutAs x y a puts result told t
