@@ -11,13 +11,11 @@ use Rattle.zb_script.specs.declared.answer.Answer.TheVariants as answer
 use Rattle.zb_script.specs.declared.line.Line.{Line}
 use Rattle.zb_script.specs.declared.line.Line.TheVariants as line
 use Rattle.zb_script.specs.declared.tree_call.TreeCall.{TreeCall}
-use Rattle.commit_phases.specs.Pending.{stores_after}
 use Rattle.zodb_core.specs.HubState.{HubState, StandsForMachine, counts_of}
 use Rattle.zodb_core.specs.Machine.{Rules}
-use Rattle.zodb_core.specs.Outcomes.{Answered, outcome_of_refusal}
 use Rattle.connection_view.specs.declared.connection.Connection.{Connection}
 use Rattle.connection_view.specs.declared.work.Work.{Work}
-use Rattle.connection_view.specs.Connections.{InView, LeavesWork, changeable, followed_by, stored_all, stored_all_as, work_of}
+use Rattle.connection_view.specs.Connections.{InView, LeavesWork, changeable, followed_by, stored_all, work_of}
 use Rattle.connection_view.specs.Views.{View}
 use Rattle.connection_view.specs.Views as views
 use Rattle.local_loads.specs.declared.told.Told.{Told}
@@ -25,12 +23,12 @@ use Rattle.local_loads.specs.Local.{MayBeTold}
 use Rattle.tree_calls.specs.declared.attempt.Made.{Made}
 use Rattle.tree_calls.specs.declared.operation.TreeOperation.{TreeOperation}
 use Rattle.client_turns.specs.declared.client.Client.{Client}
-use Rattle.client_turns.specs.Asking.{IsCalm, IsPutAll, IsPutAs, IsSameBut, answered}
+use Rattle.client_turns.specs.Asking.{IsPutAll, IsPutAs, IsSameBut, answered}
 use Rattle.client_turns.specs.Clients.{Moment, OpenTransaction, with_client}
 use Rattle.client_turns.specs.Clients as seen
 use Rattle.client_turns.specs.DrawLaws.{call_leaves}
 use Rattle.client_turns.specs.Gathering.{IsCallOf}
-use Rattle.client_turns.specs.Lines.{outcome_of_answer, outcome_of_result, request_of, with_changes}
+use Rattle.client_turns.specs.Lines.{request_of, with_changes}
 use Rattle.client_turns.specs.Refusing.{line_refusal}
 use Rattle.client_turns.specs.Standing.{AreClientsOf, ClientsState, IsClientOf, IsLineOpen, IsOpenAs, IsOpenLineOf, IsOwnOf, LeadsTo, MayAskAt, MayReadAt, OrStarved, StandsForMoment}
 use Rattle.client_turns.specs.Steps.{IsChange}
@@ -38,41 +36,15 @@ use Rattle.client_turns.specs.Trees.{CallEnds, IsTreeEnd, IsTreeLine, all_stored
 use Rattle.client_turns.specs.Turns.{IsOwnLine}
 use Rattle.client_turns.proofs.Asked.{none_of, opened_of}
 use Rattle.client_turns.proofs.Changing.{puts_leave}
-use Rattle.client_turns.proofs.Framing.{leaves_calm}
 use Rattle.client_turns.proofs.One.{own_open, refused_open, set_there, starved_open}
 use Rattle.client_turns.proofs.Placing.{IsKeptAt, kept_at, set_at}
 
 -- ---- what is put
 
--- nothing
-pub nothing_put : (x : Client) (a : Answer) (puts : List PendingStore) → puts ≡ [] → IsPutAll x x a puts a
-nothing_put x a puts none = subst (λ (ps : List PendingStore). IsPutAll x x a ps a) (sym none) (λ told t is. record { same = record { name = refl; session = refl; told = refl }; put = inl (refl, is) })
-
--- something
 pub all_put : (x y : Client) (a : Answer) (puts : List PendingStore) (reply : Answer) (result : Result (Unit {0}) Refusal) → IsSameBut x y → ((u : View) (v : views.Client) → InView x.connection u v → InView y.connection u v) → (puts ≡ [] → ⊥)
     → LeavesWork (followed_by (changeable (work_of x.connection)) (stored_all puts)) (work_of x.connection) (work_of y.connection) result → reply ≡ answered result a → IsPutAll x y a puts reply
 all_put x y a [] reply result but view some leaves answers = absurd (some refl)
 all_put x y a (p ∷ ps) reply result but view some leaves answers = puts_leave x y a p ps but view reply result leaves answers
-
-stored_calm : (puts : List PendingStore) (w : Work) (r : Refusal) → stored_all puts w ≡ Err r → IsCalm (outcome_of_refusal r)
-stored_calm puts w r is = by_length (stores_after w.pending.stores puts) is
-  where
-    same_refusal : (a b : Refusal) → (let e : Result Work Refusal = Err a in e) ≡ Err b → b ≡ a
-    same_refusal a b e = cc
-
-    by_length : (o : Result (List PendingStore) ℕ) → stored_all_as w o ≡ Err r → IsCalm (outcome_of_refusal r)
-    by_length (Ok stores) is = absurd cc
-    by_length (Err n) is = inl (ap outcome_of_refusal (same_refusal (refusal.TooLong n) r is))
-
-answered_calm : {T : Type 0} (result : Result T Refusal) (a : Answer) → outcome_of_answer a ≡ Answered → IsCalm (outcome_of_result result) → IsCalm (outcome_of_answer (answered result a))
-answered_calm (Ok x) a quiet calm = inl quiet
-answered_calm (Err r) a quiet calm = calm
-
--- either way no count moves
-pub put_calm : {T : Type 0} (k l : Connection) (puts : List PendingStore) (result : Result T Refusal) (a reply : Answer) → outcome_of_answer a ≡ Answered → LeavesWork (followed_by (changeable (work_of k)) (stored_all puts)) (work_of k) (work_of l) result
-    → reply ≡ answered result a → IsCalm (outcome_of_answer reply)
-put_calm k l puts result a reply quiet leaves answers =
-    subst (λ (z : Answer). IsCalm (outcome_of_answer z)) (sym answers) (answered_calm result a quiet (leaves_calm k l (stored_all puts) result (stored_calm puts) leaves))
 
 -- ---- lines
 

@@ -13,7 +13,6 @@ use Rattle.client_turns.specs.declared.errors.TurnError.{TurnError}
 use Rattle.client_turns.specs.declared.errors.TurnError.TheVariants as error
 use Rattle.client_turns.specs.CountLaws.{whole_others}
 use Rattle.client_turns.specs.Lines.{IsCountedBy, answer_of, end_in, end_of, outcome_of_answer, outcome_of_end, outcome_of_error}
-use Rattle.client_turns.specs.TurnLaws.{starved_so}
 use Rattle.client_turns.specs.Standing.{HasTurnCause}
 
 -- ---- steps
@@ -33,9 +32,6 @@ calm_step before now ReadingFailed counts read whole = absurd (read refl)
 calm_step before now StoreFailed counts read whole = absurd (whole refl)
 
 -- ---- endings
-
-pub never_starved : (r : Reply) (a : Answer) (ended : Option TurnError) → ended ≡ end_of a → a ≡ answer_of r → ¬ (outcome_of r ≡ NoMemory) → ¬ (ended ≡ Some error.Memory)
-never_starved r a ended is answers fed = λ none. fed (starved_so r (sym (ap end_of answers) ∙ sym is ∙ none))
 
 closed_so : (before now : FaultCounts) (r : Reply) → IsCountedBy before now (outcome_of r) → ¬ (outcome_of r ≡ ReadingFailed) → IsCountedBy before now (outcome_of_end (end_of (answer_of r)))
 closed_so before now (reply.Refused why) counts read = by_refusal why counts read

@@ -42,12 +42,11 @@ use Rattle.local_loads.specs.Making.{IsFinishStep, IsFrontBehind, IsFrontStep, I
 use Rattle.client_turns.specs.Asking.{IsCalm, answered, begun_as, finished_as, plain_request}
 use Rattle.client_turns.specs.Clients.{Moment}
 use Rattle.client_turns.specs.declared.errors.TurnError.{TurnError}
-use Rattle.client_turns.specs.declared.errors.TurnError.TheVariants as error
-use Rattle.client_turns.specs.Lines.{IsCountedBy, answer_of, end_in, end_of, is_committed, outcome_of_answer, outcome_of_end, outcome_of_read, outcome_of_result, request_of}
+use Rattle.client_turns.specs.Lines.{IsCountedBy, answer_of, end_in, end_of, outcome_of_answer, outcome_of_end, outcome_of_read, outcome_of_result, request_of}
 use Rattle.client_turns.specs.Standing.{IsListAround, IsListFor, KeepsHub, LeavesHub, ReadsHub}
 use Rattle.client_turns.specs.Steps.{IsStepAt}
 use Rattle.client_turns.specs.TurnLaws.{step_at_left}
-use Rattle.client_turns.proofs.Causes.{calm_step, closed_counts, counted_of, never_starved}
+use Rattle.client_turns.proofs.Causes.{calm_step, closed_counts, counted_of}
 use Rattle.client_turns.proofs.Crashes.{asked_no_pack, in_step, left_moments, step_moments, unmoved_in}
 use Rattle.client_turns.proofs.Hubs.{not_failed}
 use Rattle.client_turns.proofs.One.{StepsTo, steps_to}
@@ -337,11 +336,6 @@ close_keeps told lasts stands rules_in named_in n r a ended h g before after ste
       moments = keeps.moments;
     }
 
--- and it ends none for want of memory
-pub close_fed : {R F : Type 0} (told lasts : Type 0) (stands : List ℕ → List Transaction → Type 0) (rules_in : R → MergeRules) (named_in : F → List ℕ → Option (List ℕ)) (n : ℕ) (r : Reply) (a : Answer) (ended : Option TurnError) (h g : HubState R F) (before after : Option (List Stamp))
-    → IsHubStep told lasts stands rules_in named_in n request.Close r h g before after → ended ≡ end_of a → a ≡ answer_of r → ¬ (ended ≡ Some error.Memory)
-close_fed told lasts stands rules_in named_in n r a ended h g before after step ends answers = never_starved r a ended ends answers (step.memory refl)
-
 -- nothing was done behind a line
 pub none_closed : {R F : Type 0} (told lasts : Type 0) (stands : List ℕ → List Transaction → Type 0) (rules : Rules) (h : HubState R F) → KeepsHub told lasts stands false (λ m bytes. stands bytes m.list) Answered h h
 none_closed told lasts stands rules h = none_leaves told lasts stands rules h h line.Close Answered (inl refl) refl
@@ -479,7 +473,7 @@ module _ {R F S : Type 0} (told lasts : Type 0) (stands : List ℕ → List Tran
   refused_left l to result r said errs answers is calm still =
       none_left l said (subst (λ (z : Answer). IsCalm (outcome_of_answer z)) (sym (answers ∙ ap to is ∙ errs)) calm) still
 
-  -- a line that is one step of which no list but the machine's is seen
+  -- whatever was done, it ended so
   step_left_as : (l : Line) (said : Answer) (o : StepOutcome) → outcome_of_answer said ≡ o → LeftAs l o → Left l said
   step_left_as l said o is left = subst (LeftAs l) (sym is) left
 

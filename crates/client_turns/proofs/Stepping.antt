@@ -142,11 +142,6 @@ not_closed k told (Err r) None is e = other (ap (λ (s : Refusal). let x : Resul
     other : (let x : Result Work Refusal = Err refusal.NoTransaction in x) ≡ Err refusal.NotOpen → ⊥
     other e = absurd cc
 
--- a reply that closes no session leaves its client
-pub left_same : (x : Client) (r : Reply) → ¬ (r ≡ reply.Closed) → IsLeftBy x x r
-left_same x reply.Closed other = absurd (other refl)
-left_same x _ other = refl
-
 -- the client behind its step
 client_behind : {R F : Type 0} (hub : HubState R F) (m : Machine) (x y : Client) (c : seen.Client) (r : Reply) → IsPlainReply r → IsClientOf hub x c → IsLeftBy x y r → IsClientOf hub y (client_left m c r)
 client_behind hub m x y c reply.Closed plain is left =
