@@ -216,3 +216,7 @@ module _ {R F S : Type 0} (told lasts : Type 0) (stands : List ℕ → List Tran
 pub starved_takes : {R F : Type 0} (told : Type 0) (rules : Rules) (l : Line) (h : HubState R F) (x : Client) (stamps : Option (List Stamp)) → TakesLine told rules l (answer.Refused refusal.Memory) h h x x stamps stamps
 starved_takes told rules l h x stamps tells m at c takes =
     stays _ m at h h x x c stamps stamps takes refl refl takes.stands.client (starved_open rules m at c l (answer.Refused refusal.Memory) m refl refl)
+
+-- the same line by another name
+pub line_at : {R F : Type 0} (told : Type 0) (rules : Rules) (l k : Line) (a : Answer) (h g : HubState R F) (x y : Client) (before after : Option (List Stamp)) → l ≡ k → TakesLine told rules k a h g x y before after → TakesLine told rules l a h g x y before after
+line_at told rules l k a h g x y before after is takes = subst (λ (z : Line). TakesLine told rules z a h g x y before after) (sym is) takes
