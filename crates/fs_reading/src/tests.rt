@@ -206,6 +206,39 @@ fn transactions_are_read_whole(rt: HostRuntime) -> Result<(), Fail> {
     Ok(())
 }
 
+fn outlined(oid: u64, at: u64, length: u64) -> OutlinedChange {
+    OutlinedChange {
+        oid: Oid(oid),
+        source: Some(Source { at, length }),
+    }
+}
+
+/// A content that is taken over, one that replaces another of its transaction, and an object that
+/// isn't there.
+#[test]
+fn transactions_are_outlined(rt: HostRuntime) -> Result<(), Fail> {
+    let alloc = rt.alloc();
+    let mut volume = volume_of_file(alloc, &rt)?;
+    let taken_over = read_outline_at(alloc, &mut volume, place(4, 90))?;
+    assert_eq!(rt;
+        taken_over.changes.as_slice(),
+        [outlined(5, 35, 5)].as_slice()
+    );
+    assert_eq!(rt; taken_over.description.as_slice(), b"b".as_slice());
+    let twice = read_outline_at(alloc, &mut volume, place(6, 259))?;
+    assert_eq!(rt; twice.changes.as_slice(), [outlined(5, 334, 10)].as_slice());
+    let gone = read_outline_at(alloc, &mut volume, place(7, 394))?;
+    let absent = OutlinedChange {
+        oid: Oid(5),
+        source: None,
+    };
+    assert_eq!(rt;
+        gone.changes.as_slice(),
+        [outlined(9, 417, 1), absent].as_slice()
+    );
+    Ok(())
+}
+
 #[test]
 fn transactions_are_found(rt: HostRuntime) -> Result<(), Fail> {
     let alloc = rt.alloc();
