@@ -92,6 +92,17 @@ awk -v lines="$lines" 'BEGIN { print "a open local"
     for (i = 1; i < lines; i++) print "a new" }' >new.txt
 row "$lines lines, all but one new" "$(cost new.txt "$program" new.fs run)" "cat of the script" "$(cost new.txt cat)"
 
+# keys that are set in a tree in mixed order, in one transaction: the time of a line grows with the height of the tree
+set_script() { # KEYS
+    awk -v keys="$1" 'BEGIN { print "a open local"; print "a begin"; print "a new"
+        print "a put 0000000000000001 <BTrees.OOBTree:OOBTree> None"
+        for (i = 0; i < keys; i++) printf "a set 0000000000000001 %d %d\n", (i * 7919) % keys, i
+        print "a vote \"\" \"\""; print "a finish" }'
+}
+set_script 1000 >few.txt; set_script 10000 >more.txt
+row "10000 keys set, a tenth of it" "$(cost_anew more.fs more.txt | awk '{ print $1 / 10, $2, $3 / 10 }')" \
+    "ours, 1000 keys set" "$(cost_anew few.fs few.txt)"
+
 # two writers of one bucket, who both commit: merges of three buckets of so many items, with the script read and the
 # commits. The script of the row below has the same puts and commits, one behind the other, so that nothing is merged.
 python=
