@@ -1,6 +1,6 @@
 //! The arguments of opcodes.
 
-ghost use Rattle.std.specs.Prelude.{◌≡◌, IfOk, ◌==◌, position, ◌+◌, ◌≤◌, length};
+ghost use Rattle.std.specs.Prelude.{◌≡◌, true, IsTrue, IfOk, ◌==◌, position, ◌+◌, ◌≤◌, length};
 ghost use Rattle.std.specs.Str.{is_utf8};
 ghost use Rattle.pickle_ops.specs.Arguments.{argument_in, is_newline, number_argument, signed_number, span, counted_bytes, signed_counted, text, two_lines, version};
 
@@ -27,10 +27,26 @@ pub(crate) enum Fault {
     BadText,
 }
 
+/// Whether each byte is below 128.
+fn is_ascii(bytes: &[u8]) -> bool
+    ensures { IsTrue result → is_utf8 bytes.now ≡ true }
+{
+    let mut most: u8 = 0;
+    for byte in bytes {
+        if *byte > most {
+            most = *byte;
+        }
+    }
+    most < 128
+}
+
 /// Whether the bytes are UTF-8.
 fn is_text(bytes: &[u8]) -> bool
     ensures { result ≡ is_utf8 bytes.now }
 {
+    if is_ascii(bytes) {
+        return true;
+    }
     match std::str::from_utf8(bytes) {
         Ok(_) => true,
         Err(_) => false,
@@ -45,6 +61,7 @@ fn line_length(bytes: &[u8]) -> Option<usize>
 }
 
 /// One byte, the version of a protocol.
+#[inline(always)]
 fn read_version(rest: &[u8]) -> Result<Argument, Fault>
     ensures argument { result ≡ version rest.now }
     ensures within { IfOk result (λ a. a.before + a.length ≤ length rest.now) }
@@ -66,6 +83,7 @@ fn read_version(rest: &[u8]) -> Result<Argument, Fault>
 
 /// A number of `size` bytes.
 #[tactic(auto, using(crate::proofs::Numbers::number_is_small))]
+#[inline(always)]
 fn read_number(size: usize, rest: &[u8]) -> Result<Argument, Fault>
     requires low { 1 ≤ size }
     requires high { size ≤ 4 }
@@ -83,6 +101,7 @@ fn read_number(size: usize, rest: &[u8]) -> Result<Argument, Fault>
 }
 
 /// A number of four bytes in two's complement.
+#[inline(always)]
 fn read_signed(rest: &[u8]) -> Result<Argument, Fault>
     ensures argument { result ≡ signed_number rest.now }
     ensures within { IfOk result (λ a. a.before + a.length ≤ length rest.now) }
@@ -98,6 +117,7 @@ fn read_signed(rest: &[u8]) -> Result<Argument, Fault>
 }
 
 /// So many bytes behind the first ones.
+#[inline(always)]
 fn read_span(before: usize, count: usize, rest: &[u8]) -> Result<Argument, Fault>
     requires { before ≤ length rest.now }
     ensures argument { result ≡ span before count rest.now }
@@ -114,6 +134,7 @@ fn read_span(before: usize, count: usize, rest: &[u8]) -> Result<Argument, Fault
 }
 
 /// A length of `size` bytes, and so many bytes.
+#[inline(always)]
 fn read_counted(size: usize, rest: &[u8]) -> Result<Argument, Fault>
     requires low { 1 ≤ size }
     requires high { size ≤ 4 }
@@ -129,6 +150,7 @@ fn read_counted(size: usize, rest: &[u8]) -> Result<Argument, Fault>
 
 /// A length of four bytes in two's complement, and so many bytes. A negative length is seen before
 /// bytes behind it are missed.
+#[inline(always)]
 fn read_signed_counted(rest: &[u8]) -> Result<Argument, Fault>
     ensures argument { result ≡ signed_counted rest.now }
     ensures within { IfOk result (λ a. a.before + a.length ≤ length rest.now) }
@@ -144,6 +166,7 @@ fn read_signed_counted(rest: &[u8]) -> Result<Argument, Fault>
 }
 
 /// A length of four bytes, and so many bytes of UTF-8.
+#[inline(always)]
 fn read_text(rest: &[u8]) -> Result<Argument, Fault>
     ensures argument { result ≡ text rest.now }
     ensures within { IfOk result (λ a. a.before + a.length ≤ length rest.now) }
@@ -182,6 +205,7 @@ fn read_lines(rest: &[u8]) -> Result<Argument, Fault>
 }
 
 /// The argument of a kind in the bytes behind its opcode.
+#[inline(always)]
 pub(crate) fn read_argument(kind: Kind, rest: &[u8]) -> Result<Argument, Fault>
     ensures argument { result ≡ argument_in kind rest.now }
     ensures within { IfOk result (λ a. a.before + a.length ≤ length rest.now) }

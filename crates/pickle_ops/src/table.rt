@@ -183,8 +183,6 @@ macro_rules! op_rows {
     };
 }
 
-pub(crate) use op_rows;
-
 /// The rows as values.
 macro_rules! row_values {
     ([] $($byte:literal $op:ident $kind:ident,)*) => {
@@ -192,11 +190,11 @@ macro_rules! row_values {
     };
 }
 
-/// The opcode of the byte `$seen`.
-macro_rules! op_arms {
+/// The row of the byte `$seen`.
+macro_rules! row_arms {
     ([$seen:ident] $($byte:literal $op:ident $kind:ident,)*) => {
         match $seen {
-            $($byte => Some(Op::$op),)*
+            $($byte => Some(Row { byte: $byte, op: Op::$op, kind: Kind::$kind }),)*
             _ => None,
         }
     };
@@ -211,7 +209,18 @@ pub const TABLE: OpTable<40> = OpTable {
 pub fn op_of(byte: u8) -> Option<Op>
     ensures { result ≡ op_in (row_in TABLE.rows byte) }
 {
-    op_rows!(op_arms byte)
+    match row_of(byte) {
+        Some(row) => Some(row.op),
+        None => None,
+    }
+}
+
+/// The row of a byte, where the table has one.
+#[inline(always)]
+pub(crate) fn row_of(byte: u8) -> Option<Row>
+    ensures { result ≡ row_in TABLE.rows byte }
+{
+    op_rows!(row_arms byte)
 }
 
 impl<const N: usize> OpTable<N> {

@@ -8,7 +8,7 @@ ghost use Rattle.pickle_ops.specs.Grammar.{IsToken};
 ghost use Rattle.pickle_ops.specs.Fits.{Fits};
 
 use crate::argument::{Argument, Fault, read_argument};
-use crate::table::{Kind, Op, TABLE, op_rows};
+use crate::table::{Op, TABLE, row_of};
 use std::error::Error;
 use std::fmt;
 
@@ -56,6 +56,7 @@ impl fmt::Display for TokenError {
 impl Error for TokenError {}
 
 /// The token of an opcode at a place, from its argument.
+#[inline(always)]
 fn place_token(
     op: Op,
     at: usize,
@@ -82,22 +83,16 @@ fn place_token(
     }
 }
 
-/// The token of the opcode `$seen` at the place `$at`, with the bytes `$rest` behind it.
-macro_rules! token_arms {
-    ([$seen:ident $at:ident $rest:ident] $($byte:literal $op:ident $kind:ident,)*) => {
-        match $seen {
-            $($byte => place_token(Op::$op, $at, read_argument(Kind::$kind, $rest)),)*
-            _ => Err(TokenError::UnknownOp { at: $at, byte: $seen }),
-        }
-    };
-}
-
 /// The token whose opcode is `byte`, with `rest` behind it.
+#[inline(always)]
 fn token_behind(byte: u8, at: usize, rest: &[u8]) -> Result<(Token, usize), TokenError>
     requires { at + 1 + length rest.now < 2 ^ 64 }
     ensures { result ≡ row_token at byte rest.now (row_in TABLE.rows byte) }
 {
-    op_rows!(token_arms byte at rest)
+    match row_of(byte) {
+        Some(row) => place_token(row.op, at, read_argument(row.kind, rest)),
+        None => Err(TokenError::UnknownOp { at, byte }),
+    }
 }
 
 /// The token at a place of the input, and the place behind it. Nothing is read past the token.
@@ -107,6 +102,7 @@ fn token_behind(byte: u8, at: usize, rest: &[u8]) -> Result<(Token, usize), Toke
 /// the argument is not whole. `UnknownOp` one place further, where a protocol's version is above 3.
 /// `BadText` at the place, where a length is negative, or where a text or a line is not UTF-8; a
 /// negative length is seen before the bytes behind it are missed.
+#[inline(always)]
 pub fn next_token(input: &[u8], at: usize) -> Result<(Token, usize), TokenError>
     ensures token { result ≡ token_at at (drop at input.now) }
     ensures within { IfOk result (λ r. IsWithin at (length input.now) r.0 r.1) }

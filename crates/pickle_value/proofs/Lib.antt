@@ -31,3 +31,4 @@ pub mod Tables
 pub mod Memos
 pub mod Shown
 pub mod Partless
+pub mod PartPlaces

@@ -98,3 +98,8 @@ items_of node = items_in (parts_in node)
 -- the nodes to which edges lead from the node of a number, in the order in which its text has them
 abbrev pub items_at : List Node → ℕ → List ℕ
 items_at ns m = items_of (slice_get ns m)
+
+-- the parts of an object; of other nodes none
+abbrev pub object_parts_of : Node → List Part
+object_parts_of (kinds.Object callee arguments by_new acts) = object_parts callee arguments by_new acts
+object_parts_of _ = []

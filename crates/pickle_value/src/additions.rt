@@ -1,6 +1,7 @@
 //! What a token adds to a node that stands already.
 
-ghost use Rattle.std.specs.Prelude.{◌≡◌, ◌++◌, IfOk, Some};
+ghost use Rattle.std.specs.Prelude.{◌≡◌, [], ◌∷◌, ◌++◌, IfOk, Some};
+ghost use Rattle.pickle_value.specs.declared.node.Act.TheVariants.{Build};
 ghost use Rattle.pickle_value.specs.Additions.{pairs_of, append_acts, set_acts, acts_with, added};
 
 use crate::node::{Act, Node};
@@ -26,7 +27,7 @@ pub(crate) fn in_pairs(
 ) -> Result<Option<ListOf<(u32, u32)>>, AllocError>
     ensures { IfOk result (λ pairs. pairs ≡ pairs_of values.now) }
 {
-    let mut pairs: Vec<(u32, u32)> = Vec::new(alloc);
+    let mut pairs: Vec<(u32, u32)> = Vec::with_capacity(alloc, values.len() / 2)?;
     let mut index = 0;
     while index < values.len() {
         if values.len() - index == 1 {
@@ -60,12 +61,23 @@ fn with_pairs(acts: ListOf<Act>, pairs: &[(u32, u32)]) -> Result<ListOf<Act>, Al
     Ok(ListOf::from_vec(all))
 }
 
-/// The items with others behind them.
-fn joined<T: Copy>(items: ListOf<T>, more: &[T]) -> Result<ListOf<T>, AllocError>
-    ensures { IfOk result (λ all. all ≡ items ++ more.now) }
+/// The acts, and behind them that a state is given.
+fn with_state(mut acts: ListOf<Act>, state: u32) -> Result<ListOf<Act>, AllocError>
+    ensures { IfOk result (λ all. all ≡ acts ++ Build state ∷ []) }
 {
+    acts.push(Act::Build(state))?;
+    Ok(acts)
+}
+
+/// The items with others behind them.
+fn joined<T: Copy>(items: ListOf<T>, more: ListOf<T>) -> Result<ListOf<T>, AllocError>
+    ensures { IfOk result (λ all. all ≡ items ++ more) }
+{
+    if items.is_empty() {
+        return Ok(more);
+    }
     let mut all = items.into_vec();
-    all.extend_from_slice(more)?;
+    all.extend_from_slice(more.as_slice())?;
     Ok(ListOf::from_vec(all))
 }
 
@@ -75,11 +87,11 @@ pub(crate) fn add(node: Node, addition: Addition) -> Result<Option<Node>, AllocE
 {
     let changed = match node {
         Node::List(items) => match addition {
-            Addition::Values(values) => Node::List(joined(items, values.as_slice())?),
+            Addition::Values(values) => Node::List(joined(items, values)?),
             _ => return Ok(None),
         },
         Node::Dict(pairs) => match addition {
-            Addition::Pairs(new) => Node::Dict(joined(pairs, new.as_slice())?),
+            Addition::Pairs(new) => Node::Dict(joined(pairs, new)?),
             _ => return Ok(None),
         },
         Node::Object {
@@ -105,6 +117,6 @@ fn with_addition(acts: ListOf<Act>, addition: Addition) -> Result<ListOf<Act>, A
     match addition {
         Addition::Values(values) => with_values(acts, values.as_slice()),
         Addition::Pairs(pairs) => with_pairs(acts, pairs.as_slice()),
-        Addition::State(state) => joined(acts, &[Act::Build(state)]),
+        Addition::State(state) => with_state(acts, state),
     }
 }

@@ -2,14 +2,14 @@
 
 ghost use Rattle.std.specs.Prelude.{◌≡◌, ◌+◌, [], true, Some, None, slice_get, OnOk, IfOk, IfErr};
 ghost use Rattle.pickle_value.specs.declared.error.WriteError.TheVariants.{TooDeep};
-ghost use Rattle.pickle_value.specs.Parts.{items_in};
+ghost use Rattle.pickle_value.specs.Parts.{items_in, object_parts_of, parts_of};
 ghost use Rattle.pickle_value.specs.Walks.{has_walk};
 ghost use Rattle.pickle_value.specs.Numbers.{number_of, IsMeasured, IsOpen, AllOpen, IsMeasuredSince, Measures, MeasuresAll, counted_for, IsTally, walks_in};
 
 use crate::error::WriteError;
 use crate::node::Node;
 use crate::node_map::NodeMap;
-use crate::parts::{Part, is_held_at, parts_at};
+use crate::parts::{Part, is_held, listed_parts, part_count, part_of};
 use crate::shared::{count, count_items};
 use std::alloc::Global;
 use zb_ids::ListOf;
@@ -27,6 +27,7 @@ pub(crate) struct Measured {
 }
 
 /// A height that is known already.
+#[inline(always)]
 #[tactic(auto, using(crate::proofs::Heights::recalled))]
 fn recall(
     nodes: &ListOf<Node>,
@@ -46,33 +47,35 @@ fn recall(
     Ok(height)
 }
 
-/// Measures the items among parts. Each walk from them may have one edge less than there are levels.
+/// Measures the items of a node. Each walk from them may have one edge less than there are levels.
 #[cycle(measuring)]
 #[tactic(auto, using(crate::proofs::Heights::deep_at, crate::proofs::Heights::deep_zero, crate::proofs::Heights::all_none))]
 fn measure_items(
     alloc: Global,
     measured: &mut Measured,
     nodes: &ListOf<Node>,
-    parts: &[Part],
+    node: &Node,
+    listed: &[Part],
     levels: u64,
 ) -> Result<u64, WriteError>
+    requires listed { listed.now ≡ object_parts_of node.now }
     requires measured { IsMeasured nodes.now measured.old.heights }
-    requires way { AllOpen nodes.now measured.old.begun measured.old.heights (items_in parts.now) }
+    requires way { AllOpen nodes.now measured.old.begun measured.old.heights (items_in (parts_of node.now)) }
     requires counted { measured.old.counts ≡ counted_for nodes.now measured.old.heights }
-    ensures ok { IfOk result (λ h. MeasuresAll nodes.now levels measured.old.heights (items_in parts.now) measured.new.heights h) }
+    ensures ok { IfOk result (λ h. MeasuresAll nodes.now levels measured.old.heights (items_in (parts_of node.now)) measured.new.heights h) }
     ensures settled { OnOk result (IsMeasuredSince measured.old.begun measured.new.begun measured.new.heights) }
     ensures counted { OnOk result (measured.new.counts ≡ counted_for nodes.now measured.new.heights) }
-    ensures err { IfErr result (λ e. e ≡ TooDeep → walks_in (levels + 1) nodes.now (items_in parts.now) ≡ true) }
+    ensures err { IfErr result (λ e. e ≡ TooDeep → walks_in (levels + 1) nodes.now (items_in (parts_of node.now)) ≡ true) }
 {
     let mut height = 0;
-    for part in parts {
-        match part {
+    for index in 0..part_count(node, listed) {
+        match part_of(node, listed, index) {
             Part::Byte(_) => {}
             Part::Item(item) => {
                 if levels == 0 {
                     return Err(WriteError::TooDeep);
                 }
-                let below = measure(alloc, measured, nodes, *item, levels - 1)?;
+                let below = measure(alloc, measured, nodes, item, levels - 1)?;
                 if below >= height {
                     height = below + 1;
                 }
@@ -90,8 +93,10 @@ fn measure_new(
     measured: &mut Measured,
     nodes: &ListOf<Node>,
     node: u32,
+    found: &Node,
     levels: u64,
 ) -> Result<u64, WriteError>
+    requires found { slice_get nodes.now node ≡ Some found.now }
     requires measured { IsMeasured nodes.now measured.old.heights }
     requires unknown { number_of node measured.old.heights ≡ None }
     requires way { IsOpen nodes.now measured.old.begun measured.old.heights node }
@@ -101,10 +106,10 @@ fn measure_new(
     ensures counted { OnOk result (measured.new.counts ≡ counted_for nodes.now measured.new.heights) }
     ensures err { IfErr result (λ e. e ≡ TooDeep → has_walk (levels + 1) nodes.now node ≡ true) }
 {
-    let parts = parts_at(alloc, nodes, node)?;
+    let listed = listed_parts(alloc, found)?;
     measured.begun.push(node, 0)?;
-    let height = measure_items(alloc, measured, nodes, parts.as_slice(), levels)?;
-    count_items(&mut measured.counts, nodes, parts.as_slice())?;
+    let height = measure_items(alloc, measured, nodes, found, listed.as_slice(), levels)?;
+    count_items(&mut measured.counts, nodes, found, listed.as_slice())?;
     measured.heights.push(node, height)?;
     Ok(height)
 }
@@ -112,6 +117,7 @@ fn measure_new(
 /// Measures a node, from which each walk may have so many edges as there are levels. A node is begun
 /// once, however many edges lead to it. One that was begun and isn't measured lies on a cycle. Of a node at
 /// which no edge starts nothing is kept.
+#[inline(always)]
 #[cycle(measuring)]
 #[tactic(auto, using(crate::proofs::Heights::settled_none))]
 fn measure(
@@ -129,14 +135,17 @@ fn measure(
     ensures counted { OnOk result (measured.new.counts ≡ counted_for nodes.now measured.new.heights) }
     ensures err { IfErr result (λ e. e ≡ TooDeep → has_walk (levels + 1) nodes.now node ≡ true) }
 {
-    if !is_held_at(nodes, node) {
+    let Some(found) = nodes.get(node as usize) else {
+        return Ok(0);
+    };
+    if !is_held(found) {
         return Ok(0);
     }
     match measured.heights.get(node) {
         Some(height) => recall(nodes, node, measured, height, levels),
         None => match measured.begun.get(node) {
             Some(_) => Err(WriteError::TooDeep),
-            None => measure_new(alloc, measured, nodes, node, levels),
+            None => measure_new(alloc, measured, nodes, node, found, levels),
         },
     }
 }

@@ -72,6 +72,7 @@ fn global(alloc: Global, bytes: &[u8]) -> Result<Node, AllocError>
 }
 
 /// The node that a token with these bytes makes by itself, or `None` where it is one that doesn't.
+#[inline(always)]
 pub(crate) fn leaf(alloc: Global, token: Token, bytes: &[u8]) -> Result<Option<Node>, AllocError>
     ensures { IfOk result (λ node. node ≡ leaf_of token.op token.number bytes.now) }
 {

@@ -59,6 +59,7 @@ fn widen(table: &mut Vec<Option<u64>>, places: usize) -> Result<(), AllocError>
 
 /// Writes a number in the place of a node.
 #[tactic(auto, using(crate::proofs::Tables::in_set))]
+#[inline(always)]
 fn write_number(table: &mut Vec<Option<u64>>, node: u32, number: u64) -> Result<(), AllocError>
     ensures { OnOk result
         ((m : ℕ) → Numbers.number_in table.new.items m ≡ (if node == m then Some number else Numbers.number_in table.old.items m)) }
@@ -75,6 +76,7 @@ fn write_number(table: &mut Vec<Option<u64>>, node: u32, number: u64) -> Result<
 
 /// The number in the place of a node.
 #[tactic(auto, using(crate::proofs::Tables::in_some, crate::proofs::Tables::in_none))]
+#[inline(always)]
 fn number_in(table: &[Option<u64>], node: u32) -> Option<u64>
     ensures { result ≡ Numbers.number_in table.now node }
 {
@@ -101,6 +103,7 @@ fn table_of(
 }
 
 /// Keeps one more number in a map.
+#[inline(always)]
 fn insert_number(few: &mut BTreeMap<u32, u64>, node: u32, number: u64) -> Result<(), AllocError>
     ensures { OnOk result ((m : ℕ) → get nat_cmp few.new m ≡ (if node == m then Some number else get nat_cmp few.old m)) }
 {
@@ -109,6 +112,7 @@ fn insert_number(few: &mut BTreeMap<u32, u64>, node: u32, number: u64) -> Result
 }
 
 /// The table of these nodes with their numbers, the oldest first, and of one more.
+#[inline(never)]
 fn table_with(
     alloc: Global,
     pairs: &[(u32, u64)],
@@ -124,6 +128,7 @@ fn table_with(
 }
 
 /// Keeps one more number, in a table once there are many.
+#[inline(always)]
 fn find(
     alloc: Global,
     found: &mut Found,
@@ -148,6 +153,7 @@ fn find(
 }
 
 /// Keeps one more number, and the pair of it and its node.
+#[inline(always)]
 fn keep(
     found: &mut Found,
     pairs: &mut Vec<(u32, u64)>,
@@ -184,6 +190,7 @@ impl NodeMap {
     }
 
     /// The number kept last for a node.
+    #[inline(always)]
     pub fn get(&self, node: u32) -> Option<u64>
         ensures { result ≡ number_of node self.now }
     {
@@ -201,6 +208,7 @@ impl NodeMap {
     }
 
     /// Keeps one more number, for a node. Where there is no memory, none is left.
+    #[inline(always)]
     pub fn push(&mut self, node: u32, number: u64) -> Result<(), AllocError>
         ensures ok { OnOk result (self.new ≡ (node, number) ∷ self.old) }
         ensures err { OnErr result (self.new ≡ []) }

@@ -1,7 +1,7 @@
 //! What the text of a node with items is made of.
 
-ghost use Rattle.std.specs.Prelude.{◌≡◌, [], ◌∷◌, ◌++◌, IfOk, slice_get};
-ghost use Rattle.pickle_value.specs.Parts.{item_parts, pair_parts, act_parts, tuple_parts, list_parts, dict_parts, object_parts, object_byte, parts_of, parts_in, held_in};
+ghost use Rattle.std.specs.Prelude.{◌≡◌, ◌<◌, [], ◌∷◌, ◌++◌, IfOk, length, slice_get, slice_index_or};
+ghost use Rattle.pickle_value.specs.Parts.{item_parts, pair_parts, act_parts, many_parts, tuple_parts, list_parts, dict_parts, object_parts, object_parts_of, parts_of, held_in};
 ghost use Rattle.pickle_value.specs.Parts;
 
 use crate::node::{Act, Node};
@@ -18,6 +18,7 @@ pub enum Part {
 }
 
 /// Whether a node stands once, whichever edges lead to it. Leaves and the empty tuple don't.
+#[inline(always)]
 pub(crate) fn is_held(node: &Node) -> bool
     ensures { result ≡ Parts.is_held node.now }
 {
@@ -29,6 +30,7 @@ pub(crate) fn is_held(node: &Node) -> bool
 }
 
 /// Whether the node of a number stands once, whichever edges lead to it.
+#[inline(always)]
 pub(crate) fn is_held_at(nodes: &ListOf<Node>, node: u32) -> bool
     ensures { result ≡ held_in (slice_get nodes.now node) }
 {
@@ -43,38 +45,6 @@ fn few(alloc: Global, parts: &[Part]) -> Result<ListOf<Part>, AllocError>
     ensures { IfOk result (λ list. list ≡ parts.now) }
 {
     Ok(ListOf::from_vec(Vec::from_slice(alloc, parts)?))
-}
-
-/// These parts, with room for so many behind them.
-fn few_before(alloc: Global, parts: &[Part], room: usize) -> Result<ListOf<Part>, AllocError>
-    ensures { IfOk result (λ list. list ≡ parts.now) }
-{
-    let mut list = Vec::with_capacity(alloc, parts.len().saturating_add(room))?;
-    list.extend_from_slice(parts)?;
-    Ok(ListOf::from_vec(list))
-}
-
-/// The parts, and behind them the items.
-fn with_items(parts: ListOf<Part>, items: &[u32]) -> Result<ListOf<Part>, AllocError>
-    ensures { IfOk result (λ all. all ≡ parts ++ item_parts items.now) }
-{
-    let mut all = parts.into_vec();
-    for item in items {
-        all.push(Part::Item(*item))?;
-    }
-    Ok(ListOf::from_vec(all))
-}
-
-/// The parts, and behind them keys and values.
-fn with_pairs(parts: ListOf<Part>, pairs: &[(u32, u32)]) -> Result<ListOf<Part>, AllocError>
-    ensures { IfOk result (λ all. all ≡ parts ++ pair_parts pairs.now) }
-{
-    let mut all = parts.into_vec();
-    for pair in pairs {
-        all.push(Part::Item(pair.0))?;
-        all.push(Part::Item(pair.1))?;
-    }
-    Ok(ListOf::from_vec(all))
 }
 
 /// The parts, and behind them an act.
@@ -110,82 +80,152 @@ fn with_acts(parts: ListOf<Part>, acts: &[Act]) -> Result<ListOf<Part>, AllocErr
     Ok(ListOf::from_vec(all))
 }
 
-/// The parts of a tuple.
-fn tuple(alloc: Global, items: &[u32]) -> Result<ListOf<Part>, AllocError>
-    ensures { IfOk result (λ parts. parts ≡ tuple_parts items.now) }
+/// A part of items that stand above a mark, with an opcode behind them.
+#[inline(always)]
+#[tactic(auto, using(crate::proofs::PartPlaces::item_above, crate::proofs::PartPlaces::items_end))]
+fn many_part(items: &[u32], byte: u8, index: usize) -> Part
+    requires { index < length (many_parts (item_parts items.now) byte) }
+    ensures { slice_index_or (many_parts (item_parts items.now) byte) index result ≡ result }
+{
+    if index == 0 {
+        return Part::Byte(0x28);
+    }
+    let place = index - 1;
+    if place < items.len() {
+        return Part::Item(items[place]);
+    }
+    Part::Byte(byte)
+}
+
+/// A part of keys and values that stand above a mark.
+#[inline(always)]
+#[tactic(auto, using(crate::proofs::PartPlaces::key_above, crate::proofs::PartPlaces::value_above, crate::proofs::PartPlaces::pairs_end))]
+fn many_pair_part(pairs: &[(u32, u32)], index: usize) -> Part
+    requires { index < length (many_parts (pair_parts pairs.now) 0x75) }
+    ensures { slice_index_or (many_parts (pair_parts pairs.now) 0x75) index result ≡ result }
+{
+    if index == 0 {
+        return Part::Byte(0x28);
+    }
+    let place = (index - 1) / 2;
+    if place >= pairs.len() {
+        return Part::Byte(0x75);
+    }
+    if index % 2 == 1 {
+        return Part::Item(pairs[place].0);
+    }
+    Part::Item(pairs[place].1)
+}
+
+/// How many parts a tuple has.
+#[inline(always)]
+#[tactic(auto, using(crate::proofs::PartPlaces::items_length))]
+fn tuple_count(items: &[u32]) -> usize
+    ensures { result ≡ length (tuple_parts items.now) }
 {
     match items {
-        [] => Ok(ListOf::new(alloc)),
-        [a] => few(alloc, &[Part::Item(*a), Part::Byte(0x85)]),
-        [a, b] => few(alloc, &[Part::Item(*a), Part::Item(*b), Part::Byte(0x86)]),
-        [a, b, c] => few(
-            alloc,
-            &[
-                Part::Item(*a),
-                Part::Item(*b),
-                Part::Item(*c),
-                Part::Byte(0x87),
-            ],
-        ),
+        [] => 0,
+        [_] => 2,
+        [_, _] => 3,
+        [_, _, _] => 4,
+        _ => items.len() + 2,
+    }
+}
+
+/// A part of a tuple.
+#[inline(always)]
+fn tuple_part(items: &[u32], index: usize) -> Part
+    requires { index < length (tuple_parts items.now) }
+    ensures { slice_index_or (tuple_parts items.now) index result ≡ result }
+{
+    match items {
+        [] => Part::Byte(0x29),
+        [a] => match index {
+            0 => Part::Item(*a),
+            _ => Part::Byte(0x85),
+        },
+        [a, b] => match index {
+            0 => Part::Item(*a),
+            1 => Part::Item(*b),
+            _ => Part::Byte(0x86),
+        },
+        [a, b, c] => match index {
+            0 => Part::Item(*a),
+            1 => Part::Item(*b),
+            2 => Part::Item(*c),
+            _ => Part::Byte(0x87),
+        },
+        _ => many_part(items, 0x74, index),
+    }
+}
+
+/// How many parts a list has.
+#[inline(always)]
+#[tactic(auto, using(crate::proofs::PartPlaces::items_length))]
+fn list_count(items: &[u32]) -> usize
+    ensures { result ≡ length (list_parts items.now) }
+{
+    match items {
+        [] => 1,
+        [_] => 3,
+        _ => items.len() + 3,
+    }
+}
+
+/// A part of a list.
+#[inline(always)]
+fn list_part(items: &[u32], index: usize) -> Part
+    requires { index < length (list_parts items.now) }
+    ensures { slice_index_or (list_parts items.now) index result ≡ result }
+{
+    match items {
+        [] => Part::Byte(0x5d),
+        [a] => match index {
+            0 => Part::Byte(0x5d),
+            1 => Part::Item(*a),
+            _ => Part::Byte(0x61),
+        },
         _ => {
-            let mut parts = with_items(
-                few_before(alloc, &[Part::Byte(0x28)], items.len().saturating_add(1))?,
-                items,
-            )?;
-            parts.push(Part::Byte(0x74))?;
-            Ok(parts)
+            if index == 0 {
+                return Part::Byte(0x5d);
+            }
+            many_part(items, 0x65, index - 1)
         }
     }
 }
 
-/// The parts of a list.
-fn list(alloc: Global, items: &[u32]) -> Result<ListOf<Part>, AllocError>
-    ensures { IfOk result (λ parts. parts ≡ list_parts items.now) }
-{
-    match items {
-        [] => few(alloc, &[Part::Byte(0x5d)]),
-        [a] => few(alloc, &[Part::Byte(0x5d), Part::Item(*a), Part::Byte(0x61)]),
-        _ => {
-            let mut parts = with_items(
-                few_before(
-                    alloc,
-                    &[Part::Byte(0x5d), Part::Byte(0x28)],
-                    items.len().saturating_add(1),
-                )?,
-                items,
-            )?;
-            parts.push(Part::Byte(0x65))?;
-            Ok(parts)
-        }
-    }
-}
-
-/// The parts of a dictionary.
-fn dict(alloc: Global, pairs: &[(u32, u32)]) -> Result<ListOf<Part>, AllocError>
-    ensures { IfOk result (λ parts. parts ≡ dict_parts pairs.now) }
+/// How many parts a dictionary has.
+#[inline(always)]
+#[tactic(auto, using(crate::proofs::PartPlaces::pairs_length))]
+fn dict_count(pairs: &[(u32, u32)]) -> usize
+    ensures { result ≡ length (dict_parts pairs.now) }
 {
     match pairs {
-        [] => few(alloc, &[Part::Byte(0x7d)]),
-        [pair] => few(
-            alloc,
-            &[
-                Part::Byte(0x7d),
-                Part::Item(pair.0),
-                Part::Item(pair.1),
-                Part::Byte(0x73),
-            ],
-        ),
+        [] => 1,
+        [_] => 4,
+        _ => 2 * pairs.len() + 3,
+    }
+}
+
+/// A part of a dictionary.
+#[inline(always)]
+fn dict_part(pairs: &[(u32, u32)], index: usize) -> Part
+    requires { index < length (dict_parts pairs.now) }
+    ensures { slice_index_or (dict_parts pairs.now) index result ≡ result }
+{
+    match pairs {
+        [] => Part::Byte(0x7d),
+        [pair] => match index {
+            0 => Part::Byte(0x7d),
+            1 => Part::Item(pair.0),
+            2 => Part::Item(pair.1),
+            _ => Part::Byte(0x73),
+        },
         _ => {
-            let mut parts = with_pairs(
-                few_before(
-                    alloc,
-                    &[Part::Byte(0x7d), Part::Byte(0x28)],
-                    pairs.len().saturating_mul(2).saturating_add(1),
-                )?,
-                pairs,
-            )?;
-            parts.push(Part::Byte(0x75))?;
-            Ok(parts)
+            if index == 0 {
+                return Part::Byte(0x7d);
+            }
+            many_pair_part(pairs, index - 1)
         }
     }
 }
@@ -208,15 +248,11 @@ fn object(
     with_acts(parts, acts)
 }
 
-/// The parts of a node with items. A leaf has none.
-fn node_parts(alloc: Global, node: &Node) -> Result<ListOf<Part>, AllocError>
-    ensures { IfOk result (λ parts. parts ≡ parts_of node.now) }
+/// The parts of an object as a list. Those of other nodes need none, and the list is empty.
+pub(crate) fn listed_parts(alloc: Global, node: &Node) -> Result<ListOf<Part>, AllocError>
+    ensures { IfOk result (λ listed. listed ≡ object_parts_of node.now) }
 {
     match node {
-        Node::Tuple(items) => tuple(alloc, items.as_slice()),
-        Node::List(items) => list(alloc, items.as_slice()),
-        Node::Dict(pairs) => dict(alloc, pairs.as_slice()),
-        Node::Reference(id) => few(alloc, &[Part::Item(*id), Part::Byte(0x51)]),
         Node::Object {
             callee,
             arguments,
@@ -227,16 +263,38 @@ fn node_parts(alloc: Global, node: &Node) -> Result<ListOf<Part>, AllocError>
     }
 }
 
-/// The parts of the node of a number. A leaf has none.
-pub(crate) fn parts_at(
-    alloc: Global,
-    nodes: &ListOf<Node>,
-    node: u32,
-) -> Result<ListOf<Part>, AllocError>
-    ensures { IfOk result (λ parts. parts ≡ parts_in (slice_get nodes.now node)) }
+/// How many parts a node has. A leaf has none.
+#[inline(always)]
+pub(crate) fn part_count(node: &Node, listed: &[Part]) -> usize
+    requires { listed.now ≡ object_parts_of node.now }
+    ensures { result ≡ length (parts_of node.now) }
 {
-    match nodes.get(node as usize) {
-        Some(found) => node_parts(alloc, found),
-        None => Ok(ListOf::new(alloc)),
+    match node {
+        Node::Tuple(items) => tuple_count(items.as_slice()),
+        Node::List(items) => list_count(items.as_slice()),
+        Node::Dict(pairs) => dict_count(pairs.as_slice()),
+        Node::Reference(_) => 2,
+        Node::Object { .. } => listed.len(),
+        _ => 0,
+    }
+}
+
+/// A part of a node.
+#[inline(always)]
+pub(crate) fn part_of(node: &Node, listed: &[Part], index: usize) -> Part
+    requires listed { listed.now ≡ object_parts_of node.now }
+    requires inside { index < length (parts_of node.now) }
+    ensures { slice_index_or (parts_of node.now) index result ≡ result }
+{
+    match node {
+        Node::Tuple(items) => tuple_part(items.as_slice(), index),
+        Node::List(items) => list_part(items.as_slice(), index),
+        Node::Dict(pairs) => dict_part(pairs.as_slice(), index),
+        Node::Reference(id) => match index {
+            0 => Part::Item(*id),
+            _ => Part::Byte(0x51),
+        },
+        Node::Object { .. } => listed[index],
+        _ => Part::Byte(0x29),
     }
 }

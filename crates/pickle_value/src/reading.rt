@@ -7,7 +7,7 @@ ghost use Rattle.pickle_value.specs.Reading.{is_stop, root_of, graph_at};
 
 use crate::error::PickleError;
 use crate::pickle::Pickle;
-use crate::state::{Item, State};
+use crate::state::{Item, State, first_room};
 use crate::steps::take_step;
 use pickle_ops::{Op, next_token};
 use std::alloc::Global;
@@ -48,7 +48,8 @@ pub(crate) fn read_within(
     ensures behind { IfOk result (λ r. at < r.1) }
     ensures inside { IfOk result (λ r. r.1 ≤ length input.now) }
 {
-    let mut state = State::new(alloc, limit);
+    let room = first_room(input.len().saturating_sub(at));
+    let mut state = State::new(alloc, limit, room);
     let mut place = at;
     loop {
         let (token, next) = next_token(input, place)?;

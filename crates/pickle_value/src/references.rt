@@ -7,7 +7,7 @@ ghost use Rattle.pickle_value.specs.References.{oids_at, oids_from};
 use crate::error::PickleError;
 use crate::reading::{NODE_LIMIT, ends};
 use crate::sights::{Sight, look};
-use crate::state::Item;
+use crate::state::{Item, first_room};
 use pickle_ops::next_token;
 use std::alloc::Global;
 use zb_ids::{ListOf, Oid};
@@ -45,7 +45,8 @@ pub(crate) fn references_within(
     ensures behind { IfOk result (λ r. at < r.1) }
     ensures inside { IfOk result (λ r. r.1 ≤ length input.now) }
 {
-    let mut sight = Sight::new(alloc, limit);
+    let room = first_room(input.len().saturating_sub(at));
+    let mut sight = Sight::new(alloc, limit, room);
     let mut place = at;
     loop {
         let (token, next) = next_token(input, place)?;

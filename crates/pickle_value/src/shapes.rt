@@ -61,6 +61,7 @@ fn bytes_shape(bytes: &[u8]) -> Shape
 
 /// The shape of the node that an opcode with these bytes makes by itself, or `None` where it is one that
 /// doesn't.
+#[inline(always)]
 pub(crate) fn leaf_shape(op: Op, bytes: &[u8]) -> Option<Shape>
     ensures { result ≡ Shapes.leaf_shape op bytes.now }
 {
@@ -94,13 +95,13 @@ impl Model for ShapeTable {
 }
 
 impl ShapeTable {
-    /// No shapes.
-    pub fn new(alloc: Global) -> ShapeTable
+    /// No shapes, with room for so many where there is memory for it.
+    pub fn new(alloc: Global, room: usize) -> ShapeTable
         ensures { result ≡ [] }
     {
-        ShapeTable {
-            items: Vec::new(alloc),
-        }
+        let mut items = Vec::new(alloc);
+        let _ = items.reserve(room);
+        ShapeTable { items }
     }
 
     /// How many nodes there are.

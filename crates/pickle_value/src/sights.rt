@@ -28,8 +28,8 @@ pub(crate) struct Sight {
 }
 
 impl Sight {
-    /// What is kept before the first token.
-    pub fn new(alloc: Global, limit: u32) -> Sight
+    /// What is kept before the first token, with room for the shapes of so many nodes.
+    pub fn new(alloc: Global, limit: u32, room: usize) -> Sight
         ensures limit { result.limit ≡ limit }
         ensures shapes { result.shapes ≡ [] }
         ensures stack { result.stack ≡ [] }
@@ -38,7 +38,7 @@ impl Sight {
     {
         Sight {
             limit,
-            shapes: ShapeTable::new(alloc),
+            shapes: ShapeTable::new(alloc, room),
             stack: Stack::new(alloc),
             memo: Memo::new(alloc),
             oids: ListOf::new(alloc),
@@ -47,6 +47,7 @@ impl Sight {
 }
 
 /// Keeps the shape of a new node, and pushes its number.
+#[inline(always)]
 fn show(sight: &mut Sight, at: usize, shape: Shape) -> Result<(), PickleError>
     ensures ok { OnOk result (shown at shape sight.old ≡ Ok sight.new) }
     ensures err { IfErr result (λ e. RefusesAs e (shown at shape sight.old)) }
@@ -60,6 +61,7 @@ fn show(sight: &mut Sight, at: usize, shape: Shape) -> Result<(), PickleError>
     Ok(())
 }
 
+#[inline(always)]
 fn push_item(sight: &mut Sight, item: Item) -> Result<(), PickleError>
     ensures ok { OnOk result (pushed item sight.old ≡ Ok sight.new) }
     ensures err { IfErr result (λ e. RefusesAs e (pushed item sight.old)) }
@@ -201,6 +203,7 @@ fn refer(sight: &mut Sight, at: usize) -> Result<(), PickleError>
     keep(sight, at, named)
 }
 
+#[inline(always)]
 fn put(sight: &mut Sight, at: usize, number: u64) -> Result<(), PickleError>
     ensures ok { OnOk result (put_of at number sight.old (top_of sight.old.stack) ≡ Ok sight.new) }
     ensures err { IfErr result (λ e. RefusesAs e (put_of at number sight.old (top_of sight.old.stack))) }
@@ -223,6 +226,7 @@ fn get(sight: &mut Sight, at: usize, number: u64) -> Result<(), PickleError>
 }
 
 /// What a token does whose opcode makes no node by itself.
+#[inline(always)]
 fn act(sight: &mut Sight, token: Token, at: usize) -> Result<(), PickleError>
     ensures ok { OnOk result (sight_act token.op at token.number sight.old ≡ Ok sight.new) }
     ensures err { IfErr result (λ e. RefusesAs e (sight_act token.op at token.number sight.old)) }
@@ -251,6 +255,7 @@ fn act(sight: &mut Sight, token: Token, at: usize) -> Result<(), PickleError>
 }
 
 /// What the token at a place, whose argument has these bytes, does.
+#[inline(always)]
 pub(crate) fn look(
     sight: &mut Sight,
     token: Token,

@@ -1,6 +1,6 @@
 //! What a reader keeps.
 
-ghost use Rattle.std.specs.Prelude.{◌≡◌, ◌<◌, [], ◌∷◌, ◌++◌, length, slice_get, slice_set, OnOk, OnErr, IfOk, MatchOption, Some, None};
+ghost use Rattle.std.specs.Prelude.{◌≡◌, ◌<◌, ◌≤◌, [], ◌∷◌, ◌++◌, length, slice_get, slice_set, OnOk, OnErr, IfOk, MatchOption, Some, None};
 ghost use Rattle.std.specs.Option.{option_copied};
 ghost use Rattle.pickle_value.specs.Stacks.{top_of, above_mark, top_values, values_taken, put_at, node_at};
 ghost use Rattle.pickle_value.specs.Shapes.{none_passed, to_mark, past_top, values_passed};
@@ -223,6 +223,7 @@ impl Memo {
     }
 
     /// Puts a node under a number, in place of what stood there.
+    #[inline(always)]
     #[tactic(auto, using(crate::proofs::Memos::put_below, crate::proofs::Memos::put_next, crate::proofs::Memos::put_above))]
     pub fn put(&mut self, number: u64, node: u32) -> Result<(), AllocError>
         ensures { OnOk result (self.new ≡ put_at self.old number node) }
@@ -241,6 +242,7 @@ impl Memo {
     }
 
     /// The node that was put under a number last.
+    #[inline(always)]
     #[tactic(auto, using(crate::proofs::Memos::get_below, crate::proofs::Memos::get_above))]
     pub fn get(&self, number: u64) -> Option<u32>
         ensures { result ≡ node_at self.now number }
@@ -250,6 +252,19 @@ impl Memo {
         }
         self.pairs.get(&number).copied()
     }
+}
+
+/// A node is expected for each so many bytes of a pickle.
+const BYTES_FOR_A_NODE: usize = 8;
+
+/// Room is made for no more nodes than these before the first token.
+const MOST_ROOM: usize = 32_768;
+
+/// For how many nodes room is made before the first token, where so many bytes are left.
+pub(crate) fn first_room(bytes: usize) -> usize
+    ensures { result ≤ 32_768 }
+{
+    (bytes / BYTES_FOR_A_NODE).min(MOST_ROOM)
 }
 
 /// The nodes so far, by number.
@@ -268,13 +283,13 @@ impl Model for NodeTable {
 }
 
 impl NodeTable {
-    /// No nodes.
-    pub fn new(alloc: Global) -> NodeTable
+    /// No nodes, with room for so many where there is memory for it.
+    pub fn new(alloc: Global, room: usize) -> NodeTable
         ensures { result ≡ [] }
     {
-        NodeTable {
-            items: Vec::new(alloc),
-        }
+        let mut items = Vec::new(alloc);
+        let _ = items.reserve(room);
+        NodeTable { items }
     }
 
     /// How many nodes there are.
@@ -326,8 +341,8 @@ pub(crate) struct State {
 }
 
 impl State {
-    /// The state before the first token.
-    pub fn new(alloc: Global, limit: u32) -> State
+    /// The state before the first token, with room for so many nodes.
+    pub fn new(alloc: Global, limit: u32, room: usize) -> State
         ensures limit { result.limit ≡ limit }
         ensures nodes { result.nodes ≡ [] }
         ensures stack { result.stack ≡ [] }
@@ -335,7 +350,7 @@ impl State {
     {
         State {
             limit,
-            nodes: NodeTable::new(alloc),
+            nodes: NodeTable::new(alloc, room),
             stack: Stack::new(alloc),
             memo: Memo::new(alloc),
         }

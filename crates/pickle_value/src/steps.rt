@@ -17,6 +17,7 @@ use std::alloc::Global;
 use zb_ids::ListOf;
 
 /// Makes a node, and pushes its number.
+#[inline(always)]
 fn make_node(state: &mut State, at: usize, node: Node) -> Result<(), PickleError>
     ensures ok { OnOk result (make at node state.old ≡ Ok state.new) }
     ensures err { IfErr result (λ e. RefusesAs e (make at node state.old)) }
@@ -30,6 +31,7 @@ fn make_node(state: &mut State, at: usize, node: Node) -> Result<(), PickleError
     Ok(())
 }
 
+#[inline(always)]
 fn push_item(state: &mut State, item: Item) -> Result<(), PickleError>
     ensures ok { OnOk result (push item state.old ≡ Ok state.new) }
     ensures err { IfErr result (λ e. RefusesAs e (push item state.old)) }
@@ -181,14 +183,14 @@ fn refer(state: &mut State, at: usize) -> Result<(), PickleError>
     make_node(state, at, Node::Reference(id))
 }
 
+#[inline(always)]
 fn put(state: &mut State, at: usize, number: u64) -> Result<(), PickleError>
     ensures ok { OnOk result (put_of at number state.old state.old.stack ≡ Ok state.new) }
     ensures err { IfErr result (λ e. RefusesAs e (put_of at number state.old state.old.stack)) }
 {
-    let Some(Item::Value(value)) = state.stack.pop() else {
+    let Some(Item::Value(value)) = state.stack.top() else {
         return Err(PickleError::Stack { at });
     };
-    state.stack.push(Item::Value(value))?;
     state.memo.put(number, value)?;
     Ok(())
 }
@@ -204,6 +206,7 @@ fn get(state: &mut State, at: usize, number: u64) -> Result<(), PickleError>
 }
 
 /// What a token does whose opcode makes no node by itself.
+#[inline(always)]
 fn act(alloc: Global, state: &mut State, token: Token, at: usize) -> Result<(), PickleError>
     ensures ok { OnOk result (act_of token.op at token.number state.old ≡ Ok state.new) }
     ensures err { IfErr result (λ e. RefusesAs e (act_of token.op at token.number state.old)) }
@@ -233,6 +236,7 @@ fn act(alloc: Global, state: &mut State, token: Token, at: usize) -> Result<(), 
 }
 
 /// What the token at a place, whose argument has these bytes, does.
+#[inline(always)]
 pub(crate) fn take_step(
     alloc: Global,
     state: &mut State,
@@ -243,6 +247,10 @@ pub(crate) fn take_step(
     ensures ok { OnOk result (step token.op at token.number bytes.now state.old ≡ Ok state.new) }
     ensures err { IfErr result (λ e. RefusesAs e (step token.op at token.number bytes.now state.old)) }
 {
+    // Puts stand behind most nodes, so they are told apart first.
+    if let Op::BinPut | Op::LongBinPut = token.op {
+        return put(state, at, token.number.unsigned_abs());
+    }
     match leaf(alloc, token, bytes)? {
         Some(node) => make_node(state, at, node),
         None => act(alloc, state, token, at),

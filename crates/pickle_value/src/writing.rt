@@ -1,8 +1,9 @@
 //! Writing graphs.
 
-ghost use Rattle.std.specs.Prelude.{◌≡◌, ◌<◌, ◌+◌, ◌++◌, [], ◌∷◌, length, slice_get, true, OnOk, IfOk, IfErr};
+ghost use Rattle.std.specs.Prelude.{◌≡◌, ◌<◌, ◌+◌, ◌++◌, [], ◌∷◌, Some, length, slice_get, true, OnOk, IfOk, IfErr};
 ghost use Rattle.pickle_value.specs.declared.error.WriteError.TheVariants.{TooDeep};
 ghost use Rattle.pickle_value.specs.Numbers.{is_many};
+ghost use Rattle.pickle_value.specs.Parts.{object_parts_of, parts_of};
 ghost use Rattle.pickle_value.specs.Spelling.{get_text, put_number, parts_piece, piece_of, spelling_of, pickle_text, Writes};
 ghost use Rattle.pickle_value.specs.Writing.{with_piece, after_put, held_at, IsRootWritten};
 ghost use Rattle.pickle_value.specs.Walks.{has_walk};
@@ -14,7 +15,7 @@ use crate::error::WriteError;
 use crate::leaf_text::{write_leaf, write_numbered};
 use crate::node::Node;
 use crate::node_map::NodeMap;
-use crate::parts::{Part, is_held, parts_at};
+use crate::parts::{Part, is_held, listed_parts, part_count, part_of};
 use crate::pickle::Pickle;
 use crate::shared::is_many;
 pub use putting::{PutNumbers, put_numbers};
@@ -90,6 +91,7 @@ fn write_get(writing: &mut Writing, number: u64) -> Result<(), AllocError>
 }
 
 /// Writes a put of a node, if it is shared.
+#[inline(always)]
 fn write_put(writing: &mut Writing, node: u32, shared: bool) -> Result<(), AllocError>
     ensures { OnOk result (writing.new ≡ after_put shared node writing.old) }
 {
@@ -101,22 +103,24 @@ fn write_put(writing: &mut Writing, node: u32, shared: bool) -> Result<(), Alloc
     writing.puts.push(node)
 }
 
-/// Writes parts, one behind the other.
+/// Writes the parts of a node, one behind the other.
 #[cycle(writing)]
 fn write_parts(
     alloc: Global,
     writing: &mut Writing,
     nodes: &ListOf<Node>,
     counts: &NodeMap,
-    parts: &[Part],
+    node: &Node,
+    listed: &[Part],
     levels: u32,
 ) -> Result<(), AllocError>
-    ensures { OnOk result (writing.new ≡ with_piece writing.old (parts_piece (piece_of levels nodes.now (is_many counts.now)) parts.now writing.old.puts)) }
+    requires { listed.now ≡ object_parts_of node.now }
+    ensures { OnOk result (writing.new ≡ with_piece writing.old (parts_piece (piece_of levels nodes.now (is_many counts.now)) (parts_of node.now) writing.old.puts)) }
 {
-    for part in parts {
-        match part {
-            Part::Byte(byte) => writing.text.push(*byte)?,
-            Part::Item(item) => write_node(alloc, writing, nodes, counts, *item, levels)?,
+    for index in 0..part_count(node, listed) {
+        match part_of(node, listed, index) {
+            Part::Byte(byte) => writing.text.push(byte)?,
+            Part::Item(item) => write_node(alloc, writing, nodes, counts, item, levels)?,
         }
     }
     Ok(())
@@ -130,15 +134,25 @@ fn write_held(
     nodes: &ListOf<Node>,
     counts: &NodeMap,
     node: u32,
+    found: &Node,
     levels: u32,
 ) -> Result<(), AllocError>
+    requires { slice_get nodes.now node ≡ Some found.now }
     ensures { OnOk result (writing.new ≡ with_piece writing.old (held_at levels nodes.now (is_many counts.now) node writing.old.puts)) }
 {
     match writing.puts.number(node) {
         Some(number) => write_get(writing, number),
         None => {
-            let parts = parts_at(alloc, nodes, node)?;
-            write_parts(alloc, writing, nodes, counts, parts.as_slice(), levels)?;
+            let listed = listed_parts(alloc, found)?;
+            write_parts(
+                alloc,
+                writing,
+                nodes,
+                counts,
+                found,
+                listed.as_slice(),
+                levels,
+            )?;
             write_put(writing, node, is_many(counts, node))
         }
     }
@@ -164,7 +178,7 @@ fn write_node(
         None => Ok(()),
         Some(found) => {
             if is_held(found) {
-                return write_held(alloc, writing, nodes, counts, node, levels - 1);
+                return write_held(alloc, writing, nodes, counts, node, found, levels - 1);
             }
             write_leaf(&mut writing.text, found)
         }

@@ -1,5 +1,5 @@
-use Rattle.std.proofs.Common.{◌+◌, ◌*◌, take, ◌≡◌}
-use Rattle.pickle_value.specs.Parts.{items_in}
+use Rattle.std.proofs.Common.{◌+◌, ◌*◌, take, length, ◌≡◌}
+use Rattle.pickle_value.specs.Parts.{items_in, parts_of}
 use Rattle.pickle_value.specs.Numbers.{MeasuresAll, IsMeasuredSince, counted_for}
 use Rattle.pickle_value.proofs.depth.+measuring.Given as goal
 
@@ -13,9 +13,10 @@ abbrev pub decreases-measure : goal.decreases-measure
 decreases-measure l = 3 * l.levels + 2
 
 -- the items so far were measured
-abbrev pub invariant-measure_items-loop-part : goal.invariant-measure_items-loop-part
-invariant-measure_items-loop-part l = record {
-  all : MeasuresAll l.nodes l.levels l.fn.measured.heights (items_in (take l.part-index l.parts)) l.measured.heights l.height;
+abbrev pub invariant-measure_items-loop-index : goal.invariant-measure_items-loop-index
+invariant-measure_items-loop-index l = record {
+  all : MeasuresAll l.nodes l.levels l.fn.measured.heights (items_in (take l.index (parts_of l.node))) l.measured.heights l.height;
+  end : l.index-end ≡ length (parts_of l.node);
   settled : IsMeasuredSince l.fn.measured.begun l.measured.begun l.measured.heights;
   counted : l.measured.counts ≡ counted_for l.nodes l.measured.heights;
 }

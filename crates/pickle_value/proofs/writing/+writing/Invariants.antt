@@ -1,5 +1,6 @@
-use Rattle.std.proofs.Common.{◌≡◌, ◌+◌, ◌*◌, drop}
+use Rattle.std.proofs.Common.{◌≡◌, ◌+◌, ◌*◌, drop, length}
 use Rattle.pickle_value.specs.Numbers.{is_many}
+use Rattle.pickle_value.specs.Parts.{parts_of}
 use Rattle.pickle_value.specs.Spelling.{parts_piece, piece_of}
 use Rattle.pickle_value.specs.Writing.{with_piece}
 use Rattle.pickle_value.proofs.writing.+writing.Given as goal
@@ -14,7 +15,10 @@ abbrev pub decreases-write_node : goal.decreases-write_node
 decreases-write_node l = 3 * l.levels
 
 -- the parts that are left, behind what is written, are all of them behind what was
-abbrev pub invariant-write_parts-loop-part : goal.invariant-write_parts-loop-part
-invariant-write_parts-loop-part l =
-    with_piece l.writing (parts_piece (piece_of l.levels l.nodes (is_many l.counts)) (drop l.part-index l.parts) l.writing.puts)
-    ≡ with_piece l.fn.writing (parts_piece (piece_of l.fn.levels l.fn.nodes (is_many l.fn.counts)) l.fn.parts l.fn.writing.puts)
+abbrev pub invariant-write_parts-loop-index : goal.invariant-write_parts-loop-index
+invariant-write_parts-loop-index l = record {
+  all :
+      with_piece l.writing (parts_piece (piece_of l.levels l.nodes (is_many l.counts)) (drop l.index (parts_of l.node)) l.writing.puts)
+      ≡ with_piece l.fn.writing (parts_piece (piece_of l.fn.levels l.fn.nodes (is_many l.fn.counts)) (parts_of l.fn.node) l.fn.writing.puts);
+  end : l.index-end ≡ length (parts_of l.node);
+}
