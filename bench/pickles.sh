@@ -6,7 +6,8 @@
 #
 # It copies the crates that pickle_value stands on there, beside a small program that does one call many times, has rt prove
 # and build that program, and makes five pickles of protocol 3. It needs rt and python3. Each time is that of a processor, the
-# least of some runs. With valgrind there are instructions for each node too, which say the same on a loaded machine.
+# least of some runs, without the start of the process. With valgrind there are instructions for each node too, which say the
+# same on a loaded machine.
 # Python's side is pickle.loads and pickle.dumps of protocol 3. Of the record it is an Unpickler over an io.BytesIO that calls a
 # persistent_load in C, since loads reads no persistent ids; and its writer writes what that gave, without persistent ids.
 set -eu
@@ -170,15 +171,21 @@ def least(call, times):
     return best / times
 
 
+def run(mode, times, name):
+    before = resource.getrusage(resource.RUSAGE_CHILDREN)
+    with open(name, 'rb') as data:
+        subprocess.run([program, str(mode), str(times)], stdin=data, stdout=subprocess.DEVNULL, check=True)
+    after = resource.getrusage(resource.RUSAGE_CHILDREN)
+    return after.ru_utime + after.ru_stime - before.ru_utime - before.ru_stime
+
+
 def ours(mode, times, name):
-    best = 1e9
-    for _ in range(5):
-        before = resource.getrusage(resource.RUSAGE_CHILDREN)
-        with open(name, 'rb') as data:
-            subprocess.run([program, str(mode), str(times)], stdin=data, stdout=subprocess.DEVNULL, check=True)
-        after = resource.getrusage(resource.RUSAGE_CHILDREN)
-        best = min(best, after.ru_utime + after.ru_stime - before.ru_utime - before.ru_stime)
-    return best / times
+    """A call, without the start of the process, which reads the pickle, and once more where it is to be written."""
+    start = call = 1e9
+    for _ in range(7):
+        start = min(start, run(mode, 0, name))
+        call = min(call, run(mode, times, name))
+    return (call - start) / times
 
 
 def instructions(mode, times, name):
@@ -193,7 +200,7 @@ for name, data in pickles.items():
     path = folder + '/pickles/' + name.replace(' ', '_')
     with open(path, 'wb') as file:
         file.write(data)
-    times = min(3000, max(1, 1000000 // len(data)))
+    times = min(3000, max(20, 6000000 // len(data)))
     value = load(data)
     loads = least((lambda: load(data)) if name == 'a persistent record' else (lambda: pickle.loads(data)), times)
     dumps = least(lambda: pickle.dumps(value, 3), times)
