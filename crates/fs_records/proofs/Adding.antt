@@ -80,6 +80,6 @@ pub of_ok : {T E A : Type 0} (r : Result T E) → IsOk r → OnOk r A → A
 of_ok (Ok x) is holds = holds
 of_ok (Err e) is holds = absurd cc
 
-pub pushed : {T E : Type 0} (r : Result T E) (old new : List Place) (p : Place) → IsOk r → new ≡ cond (is_ok r) (old ++ p ∷ []) old → new ≡ old ++ p ∷ []
+pub pushed : {T E A : Type 0} (r : Result T E) (old new : List A) (p : A) → IsOk r → new ≡ cond (is_ok r) (old ++ p ∷ []) old → new ≡ old ++ p ∷ []
 pushed (Ok x) old new p is items = items
 pushed (Err e) old new p is items = absurd cc

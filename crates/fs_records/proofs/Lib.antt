@@ -1,8 +1,9 @@
+pub mod Alone
 pub mod Adding
-pub mod Rising
-pub mod Searching
-pub mod Voting
-pub mod Written
 pub mod Keeping
 pub mod RecordsInRow
+pub mod Rising
+pub mod Searching
 pub mod Slots
+pub mod Voting
+pub mod Written

@@ -12,7 +12,7 @@ use Rattle.fs_records.proofs.Adding.{Changes, added_by, same_by, room_by, room_s
 
 -- ---- what is looked up
 
-abbrev or_else : Option PlacesKept → Option PlacesKept → Option PlacesKept
+abbrev pub or_else : Option PlacesKept → Option PlacesKept → Option PlacesKept
 or_else None y = y
 or_else (Some k) y = Some k
 
@@ -59,7 +59,7 @@ get_other (x ∷ xs) zero (suc j) k apart = refl
 get_other (x ∷ xs) (suc i) zero k apart = refl
 get_other (x ∷ xs) (suc i) (suc j) k apart = get_other xs i j k (λ e. apart (omega (arith, e)))
 
-get_set : (ks : List PlacesKept) (i j : ℕ) (k : PlacesKept) → i < length ks → slice_get (slice_set ks i k) j ≡ cond (eqb i j) (Some k) (slice_get ks j)
+pub get_set : (ks : List PlacesKept) (i j : ℕ) (k : PlacesKept) → i < length ks → slice_get (slice_set ks i k) j ≡ cond (eqb i j) (Some k) (slice_get ks j)
 get_set ks i j k within = by_cases (eqb i j) refl
   where
     by_cases : (b : Bool) → eqb i j ≡ b → slice_get (slice_set ks i k) j ≡ cond b (Some k) (slice_get ks j)
@@ -181,9 +181,45 @@ pub pushed_none : (b : Bool) (old new : List PlacesKept) (k : PlacesKept) → k.
 pushed_none true old new k none is = ap (slots_from 0) is ∙ none_behind 0 old k none
 pushed_none false old new k none is = ap (slots_from 0) is
 
+-- ---- the next object gets its first place
+
+abbrev nothing : PlacesKept
+nothing = record { places = []; room = 0 }
+
+next_within : (ks : List PlacesKept) (oid : ℕ) → oid ≡ length ks → oid < length (ks ++ nothing ∷ [])
+next_within [] oid next = omega (arith, next)
+next_within (x ∷ xs) zero next = omega (arith, next)
+next_within (x ∷ xs) (suc oid) next = let h = next_within xs oid (omega (arith, next)) in omega (arith, h)
+
+next_absent : (ks : List PlacesKept) (oid : ℕ) → oid ≡ length ks → if_held (slice_get (ks ++ nothing ∷ []) oid) ≡ None
+next_absent [] zero next = refl
+next_absent [] (suc oid) next = absurd (omega (arith, next))
+next_absent (x ∷ xs) zero next = absurd (omega (arith, next))
+next_absent (x ∷ xs) (suc oid) next = next_absent xs oid (omega (arith, next))
+
+next_set : (ks : List PlacesKept) (oid : ℕ) (now : PlacesKept) → oid ≡ length ks → slice_set (ks ++ nothing ∷ []) oid now ≡ ks ++ now ∷ []
+next_set [] zero now next = refl
+next_set [] (suc oid) now next = absurd (omega (arith, next))
+next_set (x ∷ xs) zero now next = absurd (omega (arith, next))
+next_set (x ∷ xs) (suc oid) now next = ap (λ (l : List PlacesKept). x ∷ l) (next_set xs oid now (omega (arith, next)))
+
+pub next_added : (ks new : List PlacesKept) (oid : ℕ) (now : PlacesKept) (place : Place) (rest : List (ℕ × PlacesKept)) → oid ≡ length ks → new ≡ ks ++ now ∷ [] → lookup (nat_eq oid) rest ≡ None
+    → now.places ≡ place ∷ [] → Added (slots_from 0 ks ++ rest) oid place (slots_from 0 new ++ rest)
+next_added ks new oid now place rest next new_is none one =
+    subst (λ (l : List PlacesKept). Added (slots_from 0 ks ++ rest) oid place (slots_from 0 l ++ rest)) (next_set ks oid now next ∙ sym new_is)
+    (subst (λ (es : List (ℕ × PlacesKept)). Added (es ++ rest) oid place (slots_from 0 (slice_set (ks ++ nothing ∷ []) oid now) ++ rest)) (none_behind 0 ks nothing refl)
+    (first_added (ks ++ nothing ∷ []) oid oid now place rest refl (next_within ks oid next) (next_absent ks oid next) none one))
+
+pub next_keeps : (ks new : List PlacesKept) (oid : ℕ) (now : PlacesKept) (place : Place) (rest : List (ℕ × PlacesKept)) (o : ℕ) → oid ≡ length ks → new ≡ ks ++ now ∷ [] → now.places ≡ place ∷ []
+    → eqb o oid ≡ false → HasRoomIn (slots_from 0 ks ++ rest) o → HasRoomIn (slots_from 0 new ++ rest) o
+next_keeps ks new oid now place rest o next new_is one other room =
+    subst (λ (l : List PlacesKept). HasRoomIn (slots_from 0 l ++ rest) o) (next_set ks oid now next ∙ sym new_is)
+    (others_keep (ks ++ nothing ∷ []) oid oid now rest o refl (next_within ks oid next) (first_any now place one) other
+    (subst (λ (es : List (ℕ × PlacesKept)). HasRoomIn (es ++ rest) o) (sym (none_behind 0 ks nothing refl)) room))
+
 -- ---- an object that has none there is looked up in the table
 
-looked_up : (ks : List PlacesKept) (es : List (ℕ × PlacesKept)) (o : ℕ) (x : Option PlacesKept) → if_held (slice_get ks o) ≡ x → lookup (nat_eq o) (slots_from 0 ks ++ es) ≡ or_else x (lookup (nat_eq o) es)
+pub looked_up : (ks : List PlacesKept) (es : List (ℕ × PlacesKept)) (o : ℕ) (x : Option PlacesKept) → if_held (slice_get ks o) ≡ x → lookup (nat_eq o) (slots_from 0 ks ++ es) ≡ or_else x (lookup (nat_eq o) es)
 looked_up ks es o x e = found ks es o ∙ ap (λ (y : Option PlacesKept). or_else y (lookup (nat_eq o) es)) e
 
 pub held_places : (ks : List PlacesKept) (es : List (ℕ × PlacesKept)) (o : ℕ) (k : PlacesKept) → if_held (slice_get ks o) ≡ Some k → places_in (slots_from 0 ks ++ es) o ≡ k.places

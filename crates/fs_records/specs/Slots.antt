@@ -1,5 +1,5 @@
 -- The places of objects in a list by number. Source: own.
-use Rattle.std.specs.Prelude.{ℕ, ◌+◌, List, [], ◌∷◌, ◌++◌, Option, None, Some}
+use Rattle.std.specs.Prelude.{ℕ, ◌+◌, ◌==◌, if◌then◌else◌, List, [], ◌∷◌, ◌++◌, map, Option, None, Some}
 use Rattle.fs_records.specs.declared.place.Place.{Place}
 use Rattle.fs_records.specs.Places.{PlacesKept}
 
@@ -26,3 +26,19 @@ if_any k (p ∷ ps) = Some k
 abbrev pub if_held : Option PlacesKept → Option PlacesKept
 if_held None = None
 if_held (Some k) = if_any k k.places
+
+-- where no record stands
+abbrev pub nowhere : ℕ
+nowhere = 18446744073709551615
+
+-- what is kept of an object that has this place alone, or none where that is nowhere
+abbrev pub alone_of : Place → PlacesKept
+alone_of p = record { places = if p.at == nowhere then [] else p ∷ []; room = 0 }
+
+abbrev pub alone_kept : List Place → List PlacesKept
+alone_kept places = map alone_of places
+
+-- what is kept of an object that has one place
+abbrev pub if_one : Option Place → Option PlacesKept
+if_one None = None
+if_one (Some p) = Some (record { places = p ∷ []; room = 0 })

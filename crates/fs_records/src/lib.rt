@@ -10,6 +10,7 @@ mod objects;
 mod place;
 mod places;
 mod placing;
+mod several;
 mod verdict;
 mod writing;
 

@@ -1,195 +1,207 @@
 //! The places of the records of each object.
 
-ghost use Rattle.std.specs.Prelude.{◌≡◌, ◌==◌, ◌+◌, ◌<◌, ◌≤◌, ℕ, true, false, None, nat_eq, List, [], ◌++◌, length, slice_get, option_copied, IsOk, IsSome, OnOk, OnErr};
+ghost use Rattle.std.specs.Prelude.{◌≡◌, ◌==◌, ◌+◌, ◌<◌, ◌≤◌, ℕ, true, false, None, Some, if◌then◌else◌, nat_eq, List, [], ◌++◌, length, take, drop, vec_len, vec_capacity, slice_get, IsOk, IsSome, OnOk, OnErr};
 ghost use Rattle.std.specs.Map.{lookup};
-ghost use Rattle.indexmap.specs.IndexMap.{spare};
 ghost use Rattle.fs_records.specs.Places.{PlacesKept, places_in, Added, HasRoomIn};
-ghost use Rattle.fs_records.specs.Slots.{slots_from, if_held};
+ghost use Rattle.fs_records.specs.Slots.{slots_from, if_any, if_held, if_one, nowhere, alone_kept};
 
 use crate::place::Place;
 use crate::places::Places;
-use indexmap::IndexMap;
+use crate::several::Several;
 use std::alloc::{AllocError, Global};
 use std::marker::Model;
-use zb_ids::Oid;
+use zb_ids::{Oid, Tid};
 
 /// How much longer than twice the number of objects the list by number may be.
 const MORE_SLOTS: usize = 64;
 
-/// The places of the data records of each object, in order. Objects are numbered from 0 on, so most
-/// have theirs in a list by number, at most twice as long as there are objects and a few more; one
-/// whose number is too great for that has them in a table. Contracts see the places of each object
+/// Where no record stands, since no file is as long.
+const NOWHERE: u64 = u64::MAX;
+
+/// The places of the data records of each object, in order. Most objects have one record and are
+/// numbered from 0 on: their places are in a list by number, at most twice as long as there are objects
+/// and a few more, and a place at `NOWHERE` stands for none. Contracts see the places of each object
 /// that has some, and for how many objects more there is room.
 #[derive(Drop)]
 pub(crate) struct Objects {
     alloc: Global,
-    slots: Vec<Places>,
-    // How many objects have places in the list.
+    alone: Vec<Place>,
+    // How many objects have had their place in the list.
     held: usize,
-    others: IndexMap<Oid, Places>,
+    // Those of objects with several records, and of those whose number is too great for the list.
+    several: Several,
 }
 
 impl Model for Objects {
     ghost use Rattle.std.specs.Prelude.{◌++◌};
-    ghost use Rattle.indexmap.specs.IndexMap.{spare};
-    ghost use Rattle.fs_records.specs.Slots.{ObjectsKept, slots_from};
+    ghost use Rattle.fs_records.specs.Slots.{ObjectsKept, slots_from, alone_kept};
 
     ghost Value = { ObjectsKept };
 
     ghost view = { λ a. record {
-      entries = slots_from 0 a.slots.items ++ a.others.entries;
-      room = spare a.others;
+      entries = slots_from 0 (alone_kept a.alone.items) ++ a.several.entries;
+      room = a.several.room;
     } };
 }
 
-/// The places of an object in the list by number, where it has some there.
-fn slot_of(slots: &[Places], oid: Oid) -> Option<&Places>
-    ensures { option_copied result ≡ if_held (slice_get slots.now oid) }
+/// Whether no record stands at a place.
+#[inline(always)]
+fn is_nowhere(place: &Place) -> bool
+    ensures { result ≡ (place.now.at == nowhere) }
 {
-    match slots.get(oid.0 as usize) {
+    place.at == NOWHERE
+}
+
+/// No place.
+fn no_place() -> Place
+    ensures { result.at ≡ nowhere }
+{
+    Place {
+        serial: Tid(0),
+        at: NOWHERE,
+    }
+}
+
+/// The place of an object in the list, where it has one there.
+#[inline(always)]
+fn one_of(alone: &[Place], oid: Oid) -> Option<Place>
+    ensures held { if_held (slice_get (alone_kept alone.now) oid) ≡ if_one result }
+    ensures within { IsSome result → oid < length alone.now }
+{
+    match alone.get(oid.0 as usize) {
         None => None,
-        Some(places) => {
-            if places.is_empty() {
+        Some(place) => {
+            if is_nowhere(place) {
                 return None;
             }
-            Some(places)
+            Some(*place)
         }
     }
 }
 
-/// Whether an object has places in the list by number.
-fn is_held(slots: &[Places], oid: Oid) -> bool
-    ensures held { result ≡ true → IsSome (if_held (slice_get slots.now oid)) }
-    ensures absent { result ≡ false → if_held (slice_get slots.now oid) ≡ None }
+/// The one place at a number of the list.
+#[inline(always)]
+fn ones_at(alone: &[Place], oid: Oid) -> &[Place]
+    requires { oid < length alone.now }
+    ensures { result.now ≡ take 1 (drop oid alone.now) }
 {
-    slot_of(slots, oid).is_some()
+    let at = oid.0 as usize;
+    &alone[at..at + 1]
 }
 
-/// The places of an object in the table, where it has some there.
-fn other_of(others: &IndexMap<Oid, Places>, oid: Oid) -> Option<&Places>
-    ensures { option_copied result ≡ lookup (nat_eq oid) others.now.entries }
+/// Whether the list is long enough for an object, a place can stand there, and none is kept elsewhere.
+#[inline(always)]
+fn is_free(alone: &[Place], several: &Several, oid: Oid, place: &Place) -> bool
+    ensures within { result ≡ true → oid < length alone.now }
+    ensures absent { result ≡ true → lookup (nat_eq oid) several.now.entries ≡ None }
+    ensures there { result ≡ true → (place.now.at == nowhere) ≡ false }
 {
-    if others.is_empty() {
-        return None;
-    }
-    others.get(&oid)
-}
-
-/// Whether the list is long enough for an object, and the table has no places of it.
-fn is_free(slots: &[Places], others: &IndexMap<Oid, Places>, oid: Oid) -> bool
-    ensures within { result ≡ true → oid < length slots.now }
-    ensures absent { result ≡ true → lookup (nat_eq oid) others.now.entries ≡ None }
-{
-    if oid.0 >= slots.len() as u64 {
+    if oid.0 >= alone.len() as u64 {
         return false;
     }
-    other_of(others, oid).is_none()
-}
-
-/// Puts a place at the end of those of an object that has some in the list. Where there is room for it,
-/// it takes no memory.
-fn keep_held(
-    alloc: Global,
-    slots: &mut Vec<Places>,
-    oid: Oid,
-    place: Place,
-) -> Result<(), AllocError>
-    requires { IsSome (if_held (slice_get slots.old.items oid)) }
-    ensures ok { (rest : List (ℕ × PlacesKept)) → OnOk result
-        (Added (slots_from 0 slots.old.items ++ rest) oid place (slots_from 0 slots.new.items ++ rest)) }
-    ensures err { (rest : List (ℕ × PlacesKept)) → OnErr result ((o : ℕ) →
-        places_in (slots_from 0 slots.new.items ++ rest) o ≡ places_in (slots_from 0 slots.old.items ++ rest) o) }
-    ensures succeeds { (rest : List (ℕ × PlacesKept)) →
-        HasRoomIn (slots_from 0 slots.old.items ++ rest) oid → IsOk result }
-    ensures others { (rest : List (ℕ × PlacesKept)) (o : ℕ) → (o == oid) ≡ false
-        → HasRoomIn (slots_from 0 slots.old.items ++ rest) o
-        → HasRoomIn (slots_from 0 slots.new.items ++ rest) o }
-{
-    slots[oid.0 as usize].push(alloc, place)
+    if is_nowhere(place) {
+        return false;
+    }
+    several.lacks(oid)
 }
 
 /// Puts the first place of an object into the list, which is long enough. It takes no memory.
-fn keep_first(slots: &mut Vec<Places>, oid: Oid, place: Place)
-    requires within { oid < length slots.old.items }
-    requires absent { if_held (slice_get slots.old.items oid) ≡ None }
+fn keep_first(alone: &mut Vec<Place>, oid: Oid, place: Place)
+    requires within { oid < length alone.old.items }
+    requires absent { if_held (slice_get (alone_kept alone.old.items) oid) ≡ None }
+    requires there { (place.at == nowhere) ≡ false }
     ensures added { (rest : List (ℕ × PlacesKept)) → lookup (nat_eq oid) rest ≡ None
-        → Added (slots_from 0 slots.old.items ++ rest) oid place (slots_from 0 slots.new.items ++ rest) }
+        → Added (slots_from 0 (alone_kept alone.old.items) ++ rest) oid place
+        (slots_from 0 (alone_kept alone.new.items) ++ rest) }
     ensures others { (rest : List (ℕ × PlacesKept)) (o : ℕ) → (o == oid) ≡ false
-        → HasRoomIn (slots_from 0 slots.old.items ++ rest) o
-        → HasRoomIn (slots_from 0 slots.new.items ++ rest) o }
+        → HasRoomIn (slots_from 0 (alone_kept alone.old.items) ++ rest) o
+        → HasRoomIn (slots_from 0 (alone_kept alone.new.items) ++ rest) o }
 {
-    slots[oid.0 as usize] = Places::one(place);
+    alone[oid.0 as usize] = place;
 }
 
-/// Puts a place at the end of those of an object in the table. Where there is room for it, it takes no
-/// memory.
-fn keep_other(
-    alloc: Global,
-    others: &mut IndexMap<Oid, Places>,
-    oid: Oid,
-    place: Place,
-) -> Result<(), AllocError>
-    ensures ok { OnOk result (Added others.old.entries oid place others.new.entries) }
-    ensures err { OnErr result ((o : ℕ) →
-        places_in others.new.entries o ≡ places_in others.old.entries o) }
-    ensures succeeds { 0 < spare others.old → HasRoomIn others.old.entries oid → IsOk result }
-    ensures others { (o : ℕ) → (o == oid) ≡ false → HasRoomIn others.old.entries o
-        → HasRoomIn others.new.entries o }
-    ensures room { spare others.old ≤ spare others.new + 1 }
+/// Whether an object is the next one in the list, which has room for it, a place can stand there, and
+/// none is kept elsewhere.
+#[inline(always)]
+fn is_next(alone: &Vec<Place>, several: &Several, oid: Oid, place: &Place) -> bool
+    ensures next { result ≡ true → oid ≡ length alone.now.items }
+    ensures room { result ≡ true → vec_len alone.now < vec_capacity alone.now }
+    ensures absent { result ≡ true → lookup (nat_eq oid) several.now.entries ≡ None }
+    ensures there { result ≡ true → (place.now.at == nowhere) ≡ false }
 {
-    if let Some(places) = others.get_mut(&oid) {
-        return places.push(alloc, place);
+    if oid.0 != alone.len() as u64 {
+        return false;
     }
-    others.insert(oid, Places::one(place))?;
+    if is_nowhere(place) {
+        return false;
+    }
+    alone.len() < alone.capacity() && several.lacks(oid)
+}
+
+/// Puts the first place of the next object behind the list, which has room for it. It takes no memory.
+#[inline(always)]
+fn keep_next(alone: &mut Vec<Place>, oid: Oid, place: Place)
+    requires next { oid ≡ length alone.old.items }
+    requires room { vec_len alone.old < vec_capacity alone.old }
+    requires there { (place.at == nowhere) ≡ false }
+    ensures added { (rest : List (ℕ × PlacesKept)) → lookup (nat_eq oid) rest ≡ None
+        → Added (slots_from 0 (alone_kept alone.old.items) ++ rest) oid place
+        (slots_from 0 (alone_kept alone.new.items) ++ rest) }
+    ensures others { (rest : List (ℕ × PlacesKept)) (o : ℕ) → (o == oid) ≡ false
+        → HasRoomIn (slots_from 0 (alone_kept alone.old.items) ++ rest) o
+        → HasRoomIn (slots_from 0 (alone_kept alone.new.items) ++ rest) o }
+{
+    let _ = alone.push(place);
+}
+
+/// Takes the place of an object out of the list.
+fn forget(alone: &mut Vec<Place>, oid: Oid)
+    requires { oid < length alone.old.items }
+    ensures { (rest : List (ℕ × PlacesKept)) (o : ℕ) →
+        lookup (nat_eq o) (slots_from 0 (alone_kept alone.new.items) ++ rest)
+        ≡ (if oid == o then lookup (nat_eq o) rest
+        else lookup (nat_eq o) (slots_from 0 (alone_kept alone.old.items) ++ rest)) }
+{
+    alone[oid.0 as usize] = no_place();
+}
+
+/// Puts places, of which there are some, in the place of the one that an object has in the list. The one
+/// error is want of memory.
+fn replace(
+    alone: &mut Vec<Place>,
+    several: &mut Several,
+    oid: Oid,
+    places: Places,
+) -> Result<(), AllocError>
+    requires within { oid < length alone.old.items }
+    requires some { if_any places places.places ≡ Some places }
+    ensures ok { OnOk result ((o : ℕ) →
+        lookup (nat_eq o) (slots_from 0 (alone_kept alone.new.items) ++ several.new.entries)
+        ≡ (if oid == o then Some places
+        else lookup (nat_eq o) (slots_from 0 (alone_kept alone.old.items) ++ several.old.entries))) }
+    ensures err_alone { OnErr result (alone.new.items ≡ alone.old.items) }
+    ensures err_several { OnErr result (several.new.entries ≡ several.old.entries) }
+    ensures room { several.old.room ≤ several.new.room + 1 }
+{
+    several.set(oid, places)?;
+    forget(alone, oid);
     Ok(())
-}
-
-/// Makes room for one place more of an object that has places in the list. The one error is want of
-/// memory.
-fn reserve_held(alloc: Global, slots: &mut Vec<Places>, oid: Oid) -> Result<(), AllocError>
-    requires { IsSome (if_held (slice_get slots.old.items oid)) }
-    ensures ok { (rest : List (ℕ × PlacesKept)) →
-        OnOk result (HasRoomIn (slots_from 0 slots.new.items ++ rest) oid) }
-    ensures others { (rest : List (ℕ × PlacesKept)) (o : ℕ) →
-        HasRoomIn (slots_from 0 slots.old.items ++ rest) o
-        → HasRoomIn (slots_from 0 slots.new.items ++ rest) o }
-    ensures places { (rest : List (ℕ × PlacesKept)) (o : ℕ) →
-        places_in (slots_from 0 slots.new.items ++ rest) o ≡ places_in (slots_from 0 slots.old.items ++ rest) o }
-{
-    slots[oid.0 as usize].reserve(alloc)
-}
-
-/// Makes room for one place more of an object that has places in the table. The one error is want of
-/// memory.
-fn reserve_other(
-    alloc: Global,
-    others: &mut IndexMap<Oid, Places>,
-    oid: Oid,
-) -> Result<(), AllocError>
-    ensures ok { OnOk result (HasRoomIn others.new.entries oid) }
-    ensures others { (o : ℕ) → HasRoomIn others.old.entries o → HasRoomIn others.new.entries o }
-    ensures places { (o : ℕ) → places_in others.new.entries o ≡ places_in others.old.entries o }
-{
-    match others.get_mut(&oid) {
-        None => Ok(()),
-        Some(places) => places.reserve(alloc),
-    }
 }
 
 /// Lengthens the list up to an object that lies near, as far as there is room for it. It takes no
 /// memory.
-fn lengthen(slots: &mut Vec<Places>, oid: Oid, near: bool)
-    ensures { slots_from 0 slots.new.items ≡ slots_from 0 slots.old.items }
+fn lengthen(alone: &mut Vec<Place>, oid: Oid, near: bool)
+    ensures { slots_from 0 (alone_kept alone.new.items) ≡ slots_from 0 (alone_kept alone.old.items) }
 {
     if !near {
         return;
     }
-    let more = slots.capacity().saturating_sub(slots.len());
+    let more = alone.capacity().saturating_sub(alone.len());
     'more: for _i in 0..more {
-        if oid.0 < slots.len() as u64 {
+        if oid.0 < alone.len() as u64 {
             return;
         }
-        let _ = slots.push(Places::none());
+        let _ = alone.push(no_place());
     }
 }
 
@@ -200,9 +212,9 @@ impl Objects {
     {
         Objects {
             alloc,
-            slots: Vec::new(alloc),
+            alone: Vec::new(alloc),
             held: 0,
-            others: IndexMap::new(alloc),
+            several: Several::new(alloc),
         }
     }
 
@@ -210,41 +222,41 @@ impl Objects {
     pub(crate) fn places(&self, oid: Oid) -> &[Place]
         ensures { result.now ≡ places_in self.now.entries oid }
     {
-        if let Some(places) = slot_of(self.slots.as_slice(), oid) {
-            return places.as_slice();
+        if let Some(_) = one_of(self.alone.as_slice(), oid) {
+            return ones_at(self.alone.as_slice(), oid);
         }
-        match other_of(&self.others, oid) {
-            None => &[],
-            Some(places) => places.as_slice(),
-        }
+        self.several.places(oid)
     }
 
     /// Whether the list may be as long as an object needs it, with so many objects more.
     fn is_near(&self, oid: Oid, more: usize) -> bool {
         let objects = self
             .held
-            .saturating_add(self.others.len())
+            .saturating_add(self.several.count())
             .saturating_add(more);
         oid.0 < objects.saturating_mul(2).saturating_add(MORE_SLOTS) as u64
     }
 
     /// Makes room in the list for an object that lies near, with so many objects more. Where there is no
-    /// memory for it, the object goes into the table.
+    /// memory for it, the object goes elsewhere.
+    #[inline(always)]
     pub(crate) fn make_room(&mut self, oid: Oid, more: usize)
         ensures { self.new ≡ self.old }
     {
-        if oid.0 < self.slots.capacity() as u64 || !self.is_near(oid, more) {
+        if oid.0 < self.alone.capacity() as u64 || !self.is_near(oid, more) {
             return;
         }
-        let _ = self.slots.reserve(
+        let _ = self.alone.reserve(
             (oid.0 as usize)
-                .saturating_sub(self.slots.len())
+                .saturating_sub(self.alone.len())
                 .saturating_add(1),
         );
     }
 
-    /// Puts a place at the end of an object's places. Where there is room for it, it takes no memory.
-    pub(crate) fn keep(&mut self, oid: Oid, place: Place) -> Result<(), AllocError>
+    /// Puts a place at the end of an object's places, wherever these are. Where there is room for it, it
+    /// takes no memory.
+    #[inline(never)]
+    fn keep_any(&mut self, oid: Oid, place: Place) -> Result<(), AllocError>
         ensures ok { OnOk result (Added self.old.entries oid place self.new.entries) }
         ensures err { OnErr result ((o : ℕ) →
             places_in self.new.entries o ≡ places_in self.old.entries o) }
@@ -254,16 +266,36 @@ impl Objects {
         ensures room { self.old.room ≤ self.new.room + 1 }
     {
         let near = self.is_near(oid, 1);
-        lengthen(&mut self.slots, oid, near);
-        if is_held(self.slots.as_slice(), oid) {
-            return keep_held(self.alloc, &mut self.slots, oid, place);
+        lengthen(&mut self.alone, oid, near);
+        if let Some(one) = one_of(self.alone.as_slice(), oid) {
+            let two = Places::two(self.alloc, one, place)?;
+            return replace(&mut self.alone, &mut self.several, oid, two);
         }
-        if is_free(self.slots.as_slice(), &self.others, oid) {
-            keep_first(&mut self.slots, oid, place);
+        if is_free(self.alone.as_slice(), &self.several, oid, &place) {
+            keep_first(&mut self.alone, oid, place);
             self.held = self.held.saturating_add(1);
             return Ok(());
         }
-        keep_other(self.alloc, &mut self.others, oid, place)
+        self.several.keep(oid, place)
+    }
+
+    /// Puts a place at the end of an object's places. Where there is room for it, it takes no memory.
+    #[inline(always)]
+    pub(crate) fn keep(&mut self, oid: Oid, place: Place) -> Result<(), AllocError>
+        ensures ok { OnOk result (Added self.old.entries oid place self.new.entries) }
+        ensures err { OnErr result ((o : ℕ) →
+            places_in self.new.entries o ≡ places_in self.old.entries o) }
+        ensures succeeds { 0 < self.old.room → HasRoomIn self.old.entries oid → IsOk result }
+        ensures others { (o : ℕ) → (o == oid) ≡ false → HasRoomIn self.old.entries o
+            → HasRoomIn self.new.entries o }
+        ensures room { self.old.room ≤ self.new.room + 1 }
+    {
+        if !is_next(&self.alone, &self.several, oid, &place) {
+            return self.keep_any(oid, place);
+        }
+        keep_next(&mut self.alone, oid, place);
+        self.held = self.held.saturating_add(1);
+        Ok(())
     }
 
     /// Makes room for one place more of an object that has places. The one error is want of memory.
@@ -272,10 +304,11 @@ impl Objects {
         ensures others { (o : ℕ) → HasRoomIn self.old.entries o → HasRoomIn self.new.entries o }
         ensures places { (o : ℕ) → places_in self.new.entries o ≡ places_in self.old.entries o }
     {
-        if is_held(self.slots.as_slice(), oid) {
-            return reserve_held(self.alloc, &mut self.slots, oid);
+        if let Some(one) = one_of(self.alone.as_slice(), oid) {
+            let roomy = Places::roomy(self.alloc, one)?;
+            return replace(&mut self.alone, &mut self.several, oid, roomy);
         }
-        reserve_other(self.alloc, &mut self.others, oid)
+        self.several.reserve_one(oid)
     }
 
     /// Makes room for so many objects more. The one error is want of memory.
@@ -283,6 +316,6 @@ impl Objects {
         ensures ok { OnOk result (more ≤ self.new.room) }
         ensures entries { self.new.entries ≡ self.old.entries }
     {
-        self.others.reserve(more)
+        self.several.reserve(more)
     }
 }

@@ -67,6 +67,27 @@ impl Places {
         }
     }
 
+    /// One place, with room for more. The one error is want of memory.
+    pub(crate) fn roomy(alloc: Global, place: Place) -> Result<Places, AllocError>
+        ensures places { IfOk result (λ p. p.places ≡ place ∷ []) }
+        ensures room { IfOk result (λ p. 0 < p.room) }
+    {
+        Ok(Places {
+            held: Held::Several(on_heap(alloc, place)?),
+        })
+    }
+
+    /// Two places. The one error is want of memory.
+    pub(crate) fn two(alloc: Global, first: Place, second: Place) -> Result<Places, AllocError>
+        ensures { IfOk result (λ p. p.places ≡ first ∷ second ∷ []) }
+    {
+        let mut places = on_heap(alloc, first)?;
+        places.push(second)?;
+        Ok(Places {
+            held: Held::Several(places),
+        })
+    }
+
     /// The places, in order.
     pub(crate) fn as_slice(&self) -> &[Place]
         ensures { result.now ≡ self.now.places }

@@ -142,6 +142,7 @@ impl Numbers {
 
     /// With one transaction more, of which this was counted. Where room was made for it, it takes no
     /// memory. The one error is want of memory, and then the numbers are as before.
+    #[inline(always)]
     pub fn add_counted(
         &mut self,
         tid: Tid,

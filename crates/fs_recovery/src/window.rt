@@ -69,7 +69,6 @@ impl Ahead {
     }
 
     /// Holds the bytes at a place, of which there are `room`, as many as there is room for.
-    #[inline(never)]
     fn fill<V: Volume>(&mut self, volume: &mut V, at: u64, room: u64) -> Result<(), StoreFault>
         requires within { V.told → at + room ≤ length (main_bytes (V.log volume.old)) }
         ensures holds { V.told →
@@ -189,9 +188,9 @@ impl<const N: usize> Window<N> {
         &all[from..from + n]
     }
 
-    /// Fills `out` with the bytes at a place.
-    #[inline(always)]
-    pub fn read<V: Volume>(
+    /// Fills `out` with the bytes at a place, which may have to be read first.
+    #[inline(never)]
+    fn read_far<V: Volume>(
         &mut self,
         volume: &mut V,
         at: u64,
@@ -223,10 +222,43 @@ impl<const N: usize> Window<N> {
         Ok(())
     }
 
-    /// Fills `out` with the bytes at a place, and keeps what it holds, wherever that is: where it
-    /// doesn't hold them, they are read with a few that stand behind them.
+    /// Fills `out` with the bytes at a place.
     #[inline(always)]
-    pub fn peek<V: Volume>(
+    pub fn read<V: Volume, const M: usize>(
+        &mut self,
+        volume: &mut V,
+        at: u64,
+        out: &mut [u8; M],
+    ) -> Result<(), StoreFault>
+        requires small { length out.old ≤ 42 }
+        requires room { 42 ≤ N }
+        requires within { at + length out.old ≤ self.old.length }
+        requires length { V.told → self.old.length ≡ length (main_bytes (V.log volume.old)) }
+        requires shows { V.told →
+            Shows self.old.at self.old.count self.old.held self.old.ahead (main_bytes (V.log volume.old)) }
+        ensures bytes { V.told →
+            OnOk result (out.new ≡ take (length out.old) (drop at (main_bytes (V.log volume.old)))) }
+        ensures shows { V.told →
+            Shows self.new.at self.new.count self.new.held self.new.ahead (main_bytes (V.log volume.old)) }
+        ensures length { self.new.length ≡ self.old.length }
+        ensures same { V.log volume.new ≡ V.log volume.old }
+        ensures cause { HasCause (V.read_faults volume.old) (V.read_faults volume.new) result }
+        ensures uncounted { OnOk result (V.read_faults volume.new ≡ V.read_faults volume.old) }
+        ensures write_faults { V.write_faults volume.new ≡ V.write_faults volume.old }
+    {
+        let n = out.len();
+        if self.covers(at, n) {
+            out.copy_from_slice(self.piece(at, n));
+            return Ok(());
+        }
+        self.read_far(volume, at, out.as_mut_slice())
+    }
+
+    /// Fills `out` with the bytes at a place, and keeps what it holds, wherever that is: where it
+    /// doesn't hold them, they are read with a few that stand behind them. It is made for few calls, and
+    /// `peek` for many.
+    #[inline(never)]
+    pub fn peek_apart<V: Volume>(
         &mut self,
         volume: &mut V,
         at: u64,
@@ -259,5 +291,37 @@ impl<const N: usize> Window<N> {
         self.ahead.fill(volume, at, self.length - at)?;
         out.copy_from_slice(self.ahead.piece(at, n));
         Ok(())
+    }
+
+    /// Fills `out` with the bytes at a place, and keeps what it holds, wherever that is: where it
+    /// doesn't hold them, they are read with a few that stand behind them.
+    #[inline(always)]
+    pub fn peek<V: Volume, const M: usize>(
+        &mut self,
+        volume: &mut V,
+        at: u64,
+        out: &mut [u8; M],
+    ) -> Result<(), StoreFault>
+        requires small { length out.old ≤ 128 }
+        requires within { at + length out.old ≤ self.old.length }
+        requires length { V.told → self.old.length ≡ length (main_bytes (V.log volume.old)) }
+        requires shows { V.told →
+            Shows self.old.at self.old.count self.old.held self.old.ahead (main_bytes (V.log volume.old)) }
+        ensures bytes { V.told →
+            OnOk result (out.new ≡ take (length out.old) (drop at (main_bytes (V.log volume.old)))) }
+        ensures shows { V.told →
+            Shows self.new.at self.new.count self.new.held self.new.ahead (main_bytes (V.log volume.old)) }
+        ensures length { self.new.length ≡ self.old.length }
+        ensures same { V.log volume.new ≡ V.log volume.old }
+        ensures cause { HasCause (V.read_faults volume.old) (V.read_faults volume.new) result }
+        ensures uncounted { OnOk result (V.read_faults volume.new ≡ V.read_faults volume.old) }
+        ensures write_faults { V.write_faults volume.new ≡ V.write_faults volume.old }
+    {
+        let n = out.len();
+        if self.covers(at, n) {
+            out.copy_from_slice(self.piece(at, n));
+            return Ok(());
+        }
+        self.peek_apart(volume, at, out.as_mut_slice())
     }
 }

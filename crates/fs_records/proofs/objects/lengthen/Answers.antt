@@ -1,10 +1,9 @@
-use Rattle.std.proofs.Common.{ap, ◌∙◌}
+use Rattle.std.proofs.Common.{◌∙◌}
 use Rattle.std.specs.Prelude.{is_ok}
-use Rattle.fs_records.specs.Places.{PlacesKept}
-use Rattle.fs_records.proofs.Slots.{pushed_none}
+use Rattle.fs_records.proofs.Alone.{alone_pushed}
 use Rattle.fs_records.proofs.objects.lengthen.Goals as goal
 
 pub more-preserved : goal.more-preserved
 more-preserved c = record {
-  same = pushed_none (is_ok c.push.result) c.more.slots.items c.push.new.self.items c.none.result (ap (λ (k : PlacesKept). k.places) c.none.ensures) c.push.ensures.items ∙ c.more.invariant.same;
+  same = alone_pushed (is_ok c.push.result) c.more.alone.items c.push.new.self.items c.no_place.result c.no_place.ensures c.push.ensures.items ∙ c.more.invariant.same;
 }

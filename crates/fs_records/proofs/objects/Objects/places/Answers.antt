@@ -1,26 +1,20 @@
-use Rattle.std.proofs.Common.{[], ap, sym, ◌∙◌}
-use Rattle.std.specs.Prelude.{option_copied, slice_get}
-use Rattle.std.specs.Option.{option_map_or}
+use Rattle.std.proofs.Common.{ap, sym, ◌∙◌, take, drop}
+use Rattle.std.specs.Prelude.{slice_get}
 use Rattle.fs_records.specs.Places.{places_in}
-use Rattle.fs_records.specs.Slots.{ObjectsKept, if_held}
+use Rattle.fs_records.specs.Slots.{ObjectsKept, if_held, if_one, alone_kept}
+use Rattle.fs_records.proofs.Alone.{one_there}
 use Rattle.fs_records.proofs.Slots.{held_places, other_places}
 use Rattle.fs_records.proofs.objects.Objects.places.Goals as goal
 
 pub returns-in-Some : goal.returns-in-Some
 returns-in-Some c =
-    let held = ap (λ ks. if_held (slice_get ks c.args.oid)) (sym c.as_slice.ensures.value) ∙ sym c.slot_of.ensures ∙ ap (λ o. option_copied o) c.in-Some.is in
-    c.as_slice-in-Some.ensures ∙ sym (held_places c.self.inside.slots.items c.self.inside.others.entries c.args.oid c.in-Some.places.now held)
+    let held = ap (λ ps. if_held (slice_get (alone_kept ps) c.args.oid)) (sym c.as_slice.ensures.value) ∙ c.one_of.ensures.held ∙ ap if_one c.in-Some.is in
+    c.ones_at.ensures ∙ ap (λ ps. take 1 (drop c.args.oid ps)) c.as_slice-in-Some.ensures.value
+    ∙ sym (held_places (alone_kept c.self.inside.alone.items) c.self.inside.several.entries c.args.oid (record { places = take 1 (drop c.args.oid c.self.inside.alone.items); room = 0 }) (one_there c.self.inside.alone.items c.args.oid _ held))
     ∙ ap (λ (k : ObjectsKept). places_in k.entries c.args.oid) c.self.view_is
 
-pub returns-in-None : goal.returns-in-None
-returns-in-None c =
-    let absent = ap (λ ks. if_held (slice_get ks c.args.oid)) (sym c.as_slice.ensures.value) ∙ sym c.slot_of.ensures ∙ ap (λ o. option_copied o) c.in_default.is in
-    sym (other_places c.self.inside.slots.items c.self.inside.others.entries c.args.oid absent ∙ ap (λ o. option_map_or (λ k. k.places) o []) (sym c.other_of.ensures ∙ ap (λ o. option_copied o) c.in-None.is))
-    ∙ ap (λ (k : ObjectsKept). places_in k.entries c.args.oid) c.self.view_is
-
-pub returns-in-Some-other_of : goal.returns-in-Some-other_of
-returns-in-Some-other_of c =
-    let absent = ap (λ ks. if_held (slice_get ks c.args.oid)) (sym c.as_slice.ensures.value) ∙ sym c.slot_of.ensures ∙ ap (λ o. option_copied o) c.in_default.is in
-    c.as_slice-in-Some-other_of.ensures
-    ∙ sym (other_places c.self.inside.slots.items c.self.inside.others.entries c.args.oid absent ∙ ap (λ o. option_map_or (λ k. k.places) o []) (sym c.other_of.ensures ∙ ap (λ o. option_copied o) c.in-Some-other_of.is))
+pub returns : goal.returns
+returns c =
+    let absent = ap (λ ps. if_held (slice_get (alone_kept ps) c.args.oid)) (sym c.as_slice.ensures.value) ∙ c.one_of.ensures.held ∙ ap if_one c.in_default.is in
+    c.places.ensures ∙ sym (other_places (alone_kept c.self.inside.alone.items) c.self.inside.several.entries c.args.oid absent)
     ∙ ap (λ (k : ObjectsKept). places_in k.entries c.args.oid) c.self.view_is

@@ -1,4 +1,4 @@
-use Rattle.std.proofs.Common.{◌∙◌, length}
+use Rattle.std.proofs.Common.{ℕ, ◌∙◌, ap, sym, take, drop}
 use Rattle.zb_volume.specs.Disk.{main_bytes}
 use Rattle.fs_recovery.proofs.Seen.{shown}
 use Rattle.fs_recovery.proofs.window.Window.read.Goals as goal
@@ -6,9 +6,5 @@ use Rattle.fs_recovery.proofs.window.Window.read.Goals as goal
 pub returns-then-covers-clause-bytes : goal.returns-then-covers-clause-bytes
 returns-then-covers-clause-bytes g c = λ told.
     c.copy_from_slice.ensures.after ∙ c.piece.ensures.bytes
-    ∙ shown c.args.self.now.ahead.at c.args.self.now.ahead.count c.args.at (length c.args.out.now) c.args.self.now.ahead.held (main_bytes (g.V.Volume.log c.args.volume.now)) (c.requires.shows told).far (c.covers.ensures.covers c.if-covers.true)
-
-pub returns-clause-bytes : goal.returns-clause-bytes
-returns-clause-bytes g c = λ told.
-    c.copy_from_slice-2.ensures.after ∙ c.piece-2.ensures.bytes
-    ∙ shown c.fill.new.self.at c.fill.new.self.count c.args.at (length c.args.out.now) c.fill.new.self.held (main_bytes (g.V.Volume.log c.args.volume.now)) (c.fill.ensures.shows told).near c.in_ok-fill.ensures.covers
+    ∙ shown c.args.self.now.at c.args.self.now.count c.args.at g.row.M c.args.self.now.held (main_bytes (g.V.Volume.log c.args.volume.now)) (c.requires.shows told).near (c.covers.ensures c.if-covers.true)
+    ∙ ap (λ (n : ℕ). take n (drop c.args.at (main_bytes (g.V.Volume.log c.args.volume.now)))) (sym c.told-out)
