@@ -7,13 +7,10 @@ ghost use Rattle.fs_records.specs.Slots.{slots_from, if_any, if_held, if_one, no
 
 use crate::place::Place;
 use crate::places::Places;
-use crate::several::Several;
+use crate::several::{Several, lies_near};
 use std::alloc::{AllocError, Global};
 use std::marker::Model;
 use zb_ids::{Oid, Tid};
-
-/// How much longer than twice the number of objects the list by number may be.
-const MORE_SLOTS: usize = 64;
 
 /// Where no record stands, since no file is as long.
 const NOWHERE: u64 = u64::MAX;
@@ -234,7 +231,7 @@ impl Objects {
             .held
             .saturating_add(self.several.count())
             .saturating_add(more);
-        oid.0 < objects.saturating_mul(2).saturating_add(MORE_SLOTS) as u64
+        lies_near(oid, objects)
     }
 
     /// Makes room in the list for an object that lies near, with so many objects more. Where there is no

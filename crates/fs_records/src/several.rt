@@ -41,6 +41,11 @@ impl Model for Several {
     } };
 }
 
+/// Whether a list by number may be as long as an object needs it, where there are so many objects.
+pub(crate) fn lies_near(oid: Oid, objects: usize) -> bool {
+    oid.0 < objects.saturating_mul(2).saturating_add(MORE_SLOTS) as u64
+}
+
 /// The places of an object in the list by number, where it has some there.
 #[inline(always)]
 fn slot_of(slots: &[Places], oid: Oid) -> Option<&Places>
@@ -290,7 +295,7 @@ impl Several {
             .held
             .saturating_add(self.others.len())
             .saturating_add(1);
-        oid.0 < objects.saturating_mul(2).saturating_add(MORE_SLOTS) as u64
+        lies_near(oid, objects)
     }
 
     /// How many objects have places in the table.
