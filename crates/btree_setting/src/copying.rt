@@ -90,7 +90,7 @@ fn copy_nodes(alloc: Global, nodes: &[Node]) -> Result<ListOf<Node>, AllocError>
 }
 
 /// A graph again.
-pub(crate) fn copy_pickle(alloc: Global, pickle: &Pickle) -> Result<Pickle, AllocError>
+pub fn copy_pickle(alloc: Global, pickle: &Pickle) -> Result<Pickle, AllocError>
     ensures same { IfOk result (λ copy. copy ≡ pickle.now) }
     ensures graph { IfOk result (λ copy. IsGraph pickle.now.nodes pickle.now.root) }
 {

@@ -18,7 +18,7 @@ mod value;
 mod writing;
 
 pub use change::{Put, Puts, in_order};
-pub use copying::{with_branches, with_items};
+pub use copying::{copy_pickle, with_branches, with_items};
 pub use items::has_key;
 pub use preparing::Sizes;
 pub use setting::set;

@@ -1,16 +1,16 @@
 //! Reading the objects of a tree.
 
-ghost use Rattle.std.specs.Prelude.{◌≡◌, ◌++◌, [], IfOk, IfErr};
+ghost use Rattle.std.specs.Prelude.{◌≡◌, ◌++◌, [], IfOk, IfErr, IfSome, Ok, Some, true};
 ghost use Rattle.pickle_value.specs.Graph.{IsGlobal};
 ghost use Rattle.btree_family.specs.Classes.{class_seen};
 ghost use Rattle.btree_shapes.specs.Spaces.{handed_on, out_of_memory, IsLogged};
-ghost use Rattle.btree_shapes.specs.Nodes.{held_node, node_of, objects_of};
+ghost use Rattle.btree_shapes.specs.Nodes.{Holds, held_in, held_node, node_of, objects_of};
 ghost use Rattle.btree_shapes.specs.Reading.{IsUnread, HoldsRecord, IsEntry, IsRooted, IsRoot};
 
 use crate::class::class_of;
 use crate::error::TreeError;
 use crate::node::{Node, read_node};
-use crate::space::{Space, SpaceError};
+use crate::space::{Recalled, Space, SpaceError};
 use btree_family::ClassRow;
 use bucket_state::StateError;
 use pickle_value::Pickle;
@@ -70,8 +70,47 @@ fn entry_of(
     }
 }
 
+/// Whether two rows are of the same class.
+fn same_class(a: &ClassRow, b: &ClassRow) -> bool
+    ensures { result ≡ true → class_seen a.now ≡ class_seen b.now }
+{
+    a.kind == b.kind
+        && a.key == b.key
+        && a.value == b.value
+        && a.module.as_bytes() == b.module.as_bytes()
+        && a.name.as_bytes() == b.name.as_bytes()
+}
+
+/// An object of a tree, where the space remembers it as one.
+#[tactic(auto, using(crate::proofs::Entries::held_same))]
+fn recall_entry<S: Space>(space: &S, row: &ClassRow, oid: Oid) -> Option<Entry>
+    ensures holds { IfSome result (λ entry. held_in (Some (class_seen row.now)) (S.contents space.now oid)
+        ≡ Holds entry.class entry.node) }
+{
+    let Recalled { row: own, entry } = space.recall(oid)?;
+    if same_class(own, row) {
+        Some(entry)
+    } else {
+        None
+    }
+}
+
+/// The root of a tree, where the space remembers it as one.
+fn recall_root<S: Space>(space: &S, root: Oid) -> Option<(Rooted, Entry)>
+    ensures root { IfSome result (λ found. IsRoot (S.contents space.now) root (Ok found)) }
+    ensures global { IfSome result (λ found. IsGlobal found.0.row.now.module.now found.0.row.now.name.now) }
+{
+    let Recalled { row: own, entry } = space.recall(root)?;
+    let row = class_of(&entry.class)?;
+    if same_class(own, row) {
+        Some((Rooted { root, row }, entry))
+    } else {
+        None
+    }
+}
+
 /// An object of a tree.
-#[tactic(auto, using(crate::proofs::Entries::logged_more, crate::proofs::Entries::entry_read, crate::proofs::Entries::entry_unread))]
+#[tactic(auto, using(crate::proofs::Entries::logged_more, crate::proofs::Entries::entry_read, crate::proofs::Entries::entry_unread, crate::proofs::Entries::entry_recalled, crate::proofs::Entries::held_entry))]
 pub fn read_entry<S: Space>(
     alloc: Global,
     space: &mut S,
@@ -84,12 +123,18 @@ pub fn read_entry<S: Space>(
     ensures log { S.told → IsLogged oid (out_of_memory result) (S.log space.old) (S.log space.new) }
     ensures refusals { S.told → S.refusals space.new ≡ S.refusals space.old ++ handed_on result }
 {
+    if let Some(entry) = recall_entry(space, tree.row, oid) {
+        space.reread(oid)?;
+        return Ok(entry);
+    }
     let object = read_object(space, oid)?;
-    entry_of(alloc, tree.row, oid, object)
+    let entry = entry_of(alloc, tree.row, oid, object)?;
+    space.remember(oid, tree.row, &entry);
+    Ok(entry)
 }
 
 /// The root of a tree.
-#[tactic(auto, using(crate::proofs::Entries::logged_more, crate::proofs::Entries::root_read, crate::proofs::Entries::root_unread, crate::proofs::Entries::root_classless, crate::proofs::Entries::class_read))]
+#[tactic(auto, using(crate::proofs::Entries::logged_more, crate::proofs::Entries::root_read, crate::proofs::Entries::root_unread, crate::proofs::Entries::root_classless, crate::proofs::Entries::class_read, crate::proofs::Entries::held_entry))]
 pub fn read_root<S: Space>(
     alloc: Global,
     space: &mut S,
@@ -101,10 +146,15 @@ pub fn read_root<S: Space>(
     ensures log { S.told → IsLogged root (out_of_memory result) (S.log space.old) (S.log space.new) }
     ensures refusals { S.told → S.refusals space.new ≡ S.refusals space.old ++ handed_on result }
 {
+    if let Some(found) = recall_root(space, root) {
+        space.reread(root)?;
+        return Ok(found);
+    }
     let object = read_object(space, root)?;
     let Some(row) = class_of(&object.class) else {
         return Err(TreeError::NotATree { oid: root });
     };
     let entry = entry_of(alloc, row, root, object)?;
+    space.remember(root, row, &entry);
     Ok((Rooted { root, row }, entry))
 }

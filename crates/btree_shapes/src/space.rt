@@ -2,6 +2,9 @@
 
 ghost use Rattle.std.specs.Prelude.{◌≡◌};
 
+use crate::reading::Entry;
+use btree_family::ClassRow;
+use std::alloc::AllocError;
 use thiserror::Error;
 use zb_ids::Oid;
 use zb_model::Refusal;
@@ -35,12 +38,21 @@ pub enum Call {
     Wrote(Oid),
 }
 
+/// What an object held when it was read as one of a tree whose root has this class.
+#[derive(Drop)]
+pub struct Recalled {
+    pub row: &'static ClassRow,
+    pub entry: Entry,
+}
+
 /// Objects by their numbers: a tree reads their records, draws numbers for new ones, and puts records.
 pub trait Space {
-    ghost use Rattle.std.specs.Prelude.{ℕ, List, [], ◌∷◌, ◌++◌, Option, IfOk, IfErr, OnOk, OnErr};
+    ghost use Rattle.std.specs.Prelude.{ℕ, List, [], ◌∷◌, ◌++◌, Option, Some, IfOk, IfErr, IfSome, OnOk, OnErr};
+    ghost use Rattle.btree_family.specs.Classes.{class_seen};
+    ghost use Rattle.btree_shapes.specs.Nodes.{Holds, held_in};
     ghost use Rattle.zb_model.specs.declared.refusal.Refusal.{Refusal};
     ghost use Rattle.btree_shapes.specs.declared.space.Call.{Call};
-    ghost use Rattle.btree_shapes.specs.declared.space.Call.TheVariants.{Drew, Wrote};
+    ghost use Rattle.btree_shapes.specs.declared.space.Call.TheVariants.{Drew, Read, Wrote};
     ghost use Rattle.btree_shapes.specs.Spaces.{IsContentOf, IsLogged, lacked_memory, IsFault, refused, with_bytes, record_bytes, IsStorable};
 
     /// The bytes that stand at each number.
@@ -82,4 +94,36 @@ pub trait Space {
         ensures contents { contents self.new ≡ contents self.old }
         ensures fault { IfErr result IsFault }
         ensures refusals { told → refusals self.new ≡ refusals self.old ++ refused result };
+
+    /// What an object holds, where the space remembers it from an earlier reading. This is no call of the space.
+    fn recall(&self, oid: Oid) -> Option<Recalled>
+        ensures holds { IfSome result (λ recalled. held_in (Some (class_seen recalled.row.now)) (contents self.now oid)
+            ≡ Holds recalled.entry.class recalled.entry.node) }
+    {
+        let _ = oid;
+        None
+    }
+
+    /// Counts an object as read that was recalled.
+    fn reread(&mut self, oid: Oid) -> Result<(), AllocError>
+        ensures contents { contents self.new ≡ contents self.old }
+        ensures ok { OnOk result (told → log self.new ≡ log self.old ++ Read oid ∷ []) }
+        ensures err { OnErr result (told → log self.new ≡ log self.old) }
+        ensures refusals { told → refusals self.new ≡ refusals self.old }
+    {
+        let _ = oid;
+        Err(AllocError)
+    }
+
+    /// The space may remember what an object holds.
+    fn remember(&mut self, oid: Oid, row: &'static ClassRow, entry: &Entry)
+        requires holds { held_in (Some (class_seen row.now)) (contents self.old oid) ≡ Holds entry.now.class entry.now.node }
+        ensures contents { contents self.new ≡ contents self.old }
+        ensures log { told → log self.new ≡ log self.old }
+        ensures refusals { told → refusals self.new ≡ refusals self.old }
+    {
+        let _ = oid;
+        let _ = row;
+        let _ = entry;
+    }
 }

@@ -13,6 +13,7 @@ ghost use Rattle.client_turns.specs.Steps.{IsStepAt};
 use crate::client::Client;
 use std::alloc::Global;
 use std::marker::Model;
+use tree_calls::NodeCache;
 use zb_model::{Refs, Resolver, Store};
 use zb_outside::Clock;
 use zodb_core::{Hub, Reply, Request};
@@ -25,6 +26,8 @@ pub struct Clients<St: Store, R: Resolver, F: Refs> {
     pub(crate) hub: Hub<St, R, F>,
     /// The clients, in the order in which they opened their sessions.
     pub(crate) clients: Vec<Client>,
+    /// What objects of trees held when they were read.
+    pub(crate) cache: NodeCache,
 }
 
 impl<St: Store, R: Resolver, F: Refs> Model for Clients<St, R, F> {
@@ -50,6 +53,7 @@ impl<St: Store, R: Resolver, F: Refs> Clients<St, R, F> {
         Clients {
             hub: Hub::new(alloc, store, resolver, refs),
             clients: Vec::new(alloc),
+            cache: NodeCache::new(alloc),
         }
     }
 
@@ -86,7 +90,11 @@ impl<St: Store, R: Resolver + Drop, F: Refs + Drop> Clients<St, R, F> {
     pub fn into_store(self) -> St
         ensures store { St.state result ≡ self.hub.store }
     {
-        let Clients { hub, clients: _ } = self;
+        let Clients {
+            hub,
+            clients: _,
+            cache: _,
+        } = self;
         hub.into_store()
     }
 }

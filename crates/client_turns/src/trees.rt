@@ -6,6 +6,7 @@ ghost use Rattle.zodb_core.specs.Outcomes.{Answered};
 ghost use Rattle.tree_calls.specs.Calls.{IsAttempt};
 ghost use Rattle.tree_calls.specs.declared.known.Seen.{Seen};
 ghost use Rattle.tree_calls.specs.declared.operation.TreeOperation.{TreeOperation};
+ghost use Rattle.connection_view.specs.declared.connection.Connection.{Connection as Open};
 ghost use Rattle.connection_view.specs.Connections.{work_of};
 ghost use Rattle.client_turns.specs.declared.client.Client.{Client};
 ghost use Rattle.client_turns.specs.Asking.{IsCalm, IsPutAll};
@@ -22,7 +23,7 @@ use crate::clients::Clients;
 use connection_view::Connection;
 use std::alloc::{AllocError, Global};
 use std::marker::Brand;
-use tree_calls::{Attempt, Known, Made, Seen, TreeAnswer, TreeOperation, call_tree};
+use tree_calls::{Attempt, Known, Made, NodeCache, Seen, TreeAnswer, TreeOperation, call_tree};
 use zb_ids::{ListOf, Oid, Text8, Tid};
 use zb_model::{PendingStore, Refs, Refusal, Resolver, Store};
 use zb_outside::Clock;
@@ -127,6 +128,7 @@ fn attempt<St: Store, R: Resolver, F: Refs>(
     hub: &Hub<St, R, F>,
     connection: &Connection,
     known: &Known,
+    cache: &mut NodeCache,
     numbers: &[Oid],
     root: Oid,
     operation: &TreeOperation,
@@ -135,7 +137,7 @@ fn attempt<St: Store, R: Resolver, F: Refs>(
         root operation.now numbers.now) }
 {
     call_tree::<Brand, Hub<St, R, F>, Connection>(
-        alloc, hub, connection, known, numbers, root, operation,
+        alloc, hub, connection, known, cache, numbers, root, operation,
     )
 }
 
@@ -250,6 +252,36 @@ impl<St: Store, R: Resolver, F: Refs> Clients<St, R, F> {
         }
     }
 
+    /// Attempts a call of the client at a place over what is known, and over what else its transaction has.
+    fn attempt_at(
+        &mut self,
+        alloc: Global,
+        at: usize,
+        known: &Known,
+        numbers: &[Oid],
+        root: Oid,
+        operation: &TreeOperation,
+    ) -> Result<Attempt, AllocError>
+        requires place { at < length self.old.clients }
+        ensures attempt { IfOk result (λ attempt. (connection : Open)
+            × ((x : Client) → slice_get self.old.clients at ≡ Some x → connection ≡ x.connection)
+            × IsAttempt (objects_over known.now self.old.hub.store.list (work_of connection)) root operation.now
+            numbers.now attempt) }
+        ensures same { self.new ≡ self.old }
+    {
+        let attempt = attempt(
+            alloc,
+            &self.hub,
+            connection_at(self.clients.as_slice(), at),
+            known,
+            &mut self.cache,
+            numbers,
+            root,
+            operation,
+        )?;
+        Ok(attempt)
+    }
+
     /// Attempts a call of the client at a place. `None` is answered where it is to be made again, with more known or
     /// drawn.
     fn advance<C: Clock>(
@@ -270,15 +302,8 @@ impl<St: Store, R: Resolver, F: Refs> Clients<St, R, F> {
         ensures filled { IfSome result (λ ended. IfOk ended IsFilled) }
         ensures kept { length self.new.clients ≡ length self.old.clients }
     {
-        let Ok(attempt) = attempt(
-            alloc,
-            &self.hub,
-            connection_at(self.clients.as_slice(), at),
-            known,
-            numbers.as_slice(),
-            root,
-            operation,
-        ) else {
+        let Ok(attempt) = self.attempt_at(alloc, at, known, numbers.as_slice(), root, operation)
+        else {
             return Some(Err(Refusal::Memory));
         };
         self.go_on(alloc, at, attempt, known, numbers, clock)

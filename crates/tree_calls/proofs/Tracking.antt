@@ -120,6 +120,12 @@ all_filled (p ∷ puts) all = by_first (nat_lt 0 (length p.bytes)) refl (all_fil
     by_first true is others rest = All-cons (λ (q : PendingStore). 0 < length q.bytes) p puts (ltb-true 0 (length p.bytes) is) (others rest)
     by_first false is others rest = absurd cc
 
+pub read_drawn : (calls calls' : List Call) (oid : ℕ) → calls' ≡ calls ++ Read oid ∷ [] → drawn_in calls' ≡ drawn_in calls
+read_drawn calls calls' oid is = ap drawn_in is ∙ drawn_read calls oid
+
+pub read_written : (calls calls' : List Call) (oid : ℕ) → calls' ≡ calls ++ Read oid ∷ [] → written_in calls' ≡ written_in calls
+read_written calls calls' oid is = ap written_in is ∙ written_read calls oid
+
 pub wrote_drawn : (calls calls' : List Call) (oid : ℕ) → calls' ≡ calls ++ Wrote oid ∷ [] → drawn_in calls' ≡ drawn_in calls
 wrote_drawn calls calls' oid is = ap drawn_in is ∙ drawn_wrote calls oid
 

@@ -21,6 +21,7 @@ use Rattle.btree_nodes.specs.Visits.{items_under, range_under}
 use Rattle.tree_calls.specs.declared.known.Seen.{Seen}
 use Rattle.tree_calls.specs.declared.attempt.Attempt.{Attempt}
 use Rattle.tree_calls.specs.declared.attempt.Attempt.TheVariants as attempt
+use Rattle.tree_calls.specs.Known.{known_at}
 use Rattle.tree_calls.specs.Puts.{based_on}
 use Rattle.tree_calls.specs.declared.operation.TreeOperation.{TreeOperation}
 use Rattle.tree_calls.specs.declared.operation.TreeOperation.TheVariants as operation
@@ -136,3 +137,10 @@ IsWant (attempt.Made made) = ⊥
 IsWant (attempt.Refused why) = ⊥
 IsWant (attempt.WantsObject oid) = Unit {0}
 IsWant attempt.WantsNumber = Unit {0}
+
+-- an object that is wanted first isn't known yet
+abbrev pub IsWanted : List (ℕ × Option Seen) → Attempt → Type 0
+IsWanted known (attempt.Made made) = Unit {0}
+IsWanted known (attempt.Refused why) = Unit {0}
+IsWanted known (attempt.WantsObject oid) = known_at known oid ≡ None
+IsWanted known attempt.WantsNumber = Unit {0}

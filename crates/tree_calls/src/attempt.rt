@@ -6,10 +6,11 @@ ghost use Rattle.btree_nodes.specs.Drawn.{drawn_in};
 ghost use Rattle.btree_shapes.specs.Spaces.{handed_on};
 ghost use Rattle.tree_calls.specs.declared.known.Seen.{Seen};
 ghost use Rattle.tree_calls.specs.Calls;
-ghost use Rattle.tree_calls.specs.Calls.{CallEnds, IsAttempt, IsWant, bases_of, contents_after, contents_of, has_members, is_set_kind, oids_of, written_in};
+ghost use Rattle.tree_calls.specs.Calls.{CallEnds, IsAttempt, IsWant, IsWanted, bases_of, contents_after, contents_of, has_members, is_set_kind, oids_of, written_in};
 ghost use Rattle.tree_calls.specs.Known.{Agrees};
 ghost use Rattle.tree_calls.specs.Puts.{are_filled, based_on};
 
+use crate::cache::NodeCache;
 use crate::known::{Known, Seen};
 use crate::operation::{TreeAnswer, TreeOperation};
 use crate::sight::Sight;
@@ -213,12 +214,24 @@ fn operate<B: Sight>(
     }
 }
 
+/// An object that is to be read, where it isn't known yet.
+fn wanted_object(known: &Known, oid: Oid) -> Result<Attempt, AllocError>
+    ensures want { IfOk result IsWant }
+    ensures wants { IfOk result (IsWanted known.now) }
+{
+    match known.find(oid) {
+        Some(_) => Err(AllocError),
+        None => Ok(Attempt::WantsObject { oid }),
+    }
+}
+
 /// What an attempt lacked that ended as for want of memory.
-fn wanted(lack: Lack) -> Result<Attempt, AllocError>
-    ensures { IfOk result IsWant }
+fn wanted(known: &Known, lack: Lack) -> Result<Attempt, AllocError>
+    ensures want { IfOk result IsWant }
+    ensures wants { IfOk result (IsWanted known.now) }
 {
     match lack {
-        Lack::Object(oid) => Ok(Attempt::WantsObject { oid }),
+        Lack::Object(oid) => wanted_object(known, oid),
         Lack::Number => Ok(Attempt::WantsNumber),
         Lack::Nothing => Err(AllocError),
     }
@@ -253,6 +266,7 @@ fn end<B: Sight>(
     is_whole: bool,
     puts: ListOf<PendingStore>,
     lack: Lack,
+    known: &Known,
     _calls: &[Call],
     _root: Oid,
     _operation: &TreeOperation,
@@ -265,6 +279,7 @@ fn end<B: Sight>(
     requires ends { CallEnds (contents_of B.objects) (contents_after puts (contents_of B.objects)) _calls.now _root _operation.now
         answered }
     ensures attempt { IfOk result (IsAttempt B.objects _root _operation.now B.numbers) }
+    ensures wants { IfOk result (IsWanted known.now) }
 {
     match answered {
         Ok(answer) => {
@@ -276,20 +291,22 @@ fn end<B: Sight>(
         }
         Err(error) => match refusal_of(error) {
             Some(why) => refused_if(is_whole, why),
-            None => wanted(lack),
+            None => wanted(known, lack),
         },
     }
 }
 
 /// Attempts a call on the tree with this root, over what is known and with the numbers that were drawn: it is answered or
 /// refused, or tells what has to be read or drawn before it is made again. `_whose` and `_changes` are what the objects
-/// belong to; only proofs look at them. The one error is want of memory; it also comes where a call that is made again takes
-/// fewer of the numbers than were drawn for it, which no call does.
+/// belong to; only proofs look at them. `cache` spares the reading of bytes that were read before; it changes no answer. The
+/// one error is want of memory; it also comes where a call that is made again takes fewer of the numbers than were drawn for
+/// it, or lacks an object that is known, which no call does.
 pub fn call_tree<B: Sight, W, V>(
     alloc: Global,
     _whose: &W,
     _changes: &V,
     known: &Known,
+    cache: &mut NodeCache,
     numbers: &[Oid],
     root: Oid,
     operation: &TreeOperation,
@@ -297,10 +314,12 @@ pub fn call_tree<B: Sight, W, V>(
     requires agrees { Agrees known.now B.objects }
     requires numbered { numbers.now ≡ B.numbers }
     ensures attempt { IfOk result (IsAttempt B.objects root operation.now B.numbers) }
+    ensures wants { IfOk result (IsWanted known.now) }
 {
     let mut space = KnownSpace::<B> {
         alloc,
         known,
+        cache,
         numbers,
         used: 0,
         puts: ListOf::new(alloc),
@@ -321,6 +340,7 @@ pub fn call_tree<B: Sight, W, V>(
         is_whole,
         puts,
         lack,
+        known,
         calls.as_slice(),
         root,
         operation,

@@ -2,12 +2,14 @@
 #![tactic(auto)]
 
 mod attempt;
+mod cache;
 mod known;
 mod operation;
 mod sight;
 mod space;
 
 pub use attempt::{Attempt, Made, call_tree};
+pub use cache::NodeCache;
 pub use known::{Known, Seen};
 pub use operation::{INNER, LEAF, TreeAnswer, TreeOperation};
 pub use sight::Sight;

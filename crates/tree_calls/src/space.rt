@@ -3,18 +3,20 @@
 ghost use Rattle.std.specs.Prelude.{◌≡◌, ◌<◌, ◌++◌, ◌∷◌, [], ℕ, List, Option, map, take, length, slice_get, true, Some, IfOk, IfErr, IfSome, OnOk, OnErr};
 ghost use Rattle.std.specs.Option.{option_map};
 ghost use Rattle.btree_nodes.specs.Drawn.{drawn_in};
-ghost use Rattle.btree_shapes.specs.declared.space.Call.TheVariants.{Wrote};
+ghost use Rattle.btree_shapes.specs.declared.space.Call.TheVariants.{Read, Wrote};
 ghost use Rattle.btree_shapes.specs.Spaces.{IsContentOf, IsFault, IsStorable, record_bytes, refused};
 ghost use Rattle.btree_shapes.specs.Ways.{stands_in};
 ghost use Rattle.tree_calls.specs.declared.known.Seen.{Seen};
 ghost use Rattle.tree_calls.specs.Known.{Agrees};
-ghost use Rattle.tree_calls.specs.Calls.{bases_of, oids_of, written_in};
+ghost use Rattle.tree_calls.specs.Calls.{bases_of, contents_after, contents_of, oids_of, written_in};
 ghost use Rattle.tree_calls.specs.Puts;
 ghost use Rattle.tree_calls.specs.Puts.{are_filled, based_on};
 
+use crate::cache::NodeCache;
 use crate::known::{Known, Seen};
 use crate::sight::Sight;
-use btree_shapes::{Call, Space, SpaceError};
+use btree_family::ClassRow;
+use btree_shapes::{Call, Entry, Recalled, Space, SpaceError};
 use std::alloc::{AllocError, Global};
 use std::marker::PhantomData;
 use zb_ids::{ListOf, Oid, Text8, Tid};
@@ -38,6 +40,7 @@ pub(crate) enum Lack {
 pub(crate) struct KnownSpace<'a, B: Sight> {
     pub alloc: Global,
     pub known: &'a Known,
+    pub cache: &'a mut NodeCache,
     pub numbers: &'a [Oid],
     /// How many of the numbers were given.
     pub used: usize,
@@ -75,6 +78,21 @@ fn read_seen(alloc: Global, seen: &Option<Seen>) -> Result<ObjectRecord, SpaceEr
     match seen {
         Some(seen) => read(alloc, &seen.bytes),
         None => Err(SpaceError::NoNode),
+    }
+}
+
+/// The bytes that stand at an object that is known, where it has some and nothing is put yet.
+#[tactic(auto, using(crate::proofs::Recalled::bytes_stand))]
+fn bytes_standing<'a>(known: &'a Known, puts: &ListOf<PendingStore>, oid: Oid) -> Option<&'a Text8>
+    ensures { (objects : ℕ → Option Seen) → Agrees known.now objects
+        → IfSome result (λ bytes. contents_after puts.now (contents_of objects) oid ≡ Some bytes.now) }
+{
+    if !puts.is_empty() {
+        return None;
+    }
+    match known.find(oid) {
+        Some(Some(seen)) => Some(&seen.bytes),
+        _ => None,
     }
 }
 
@@ -127,6 +145,18 @@ fn note_call(calls: &mut Vec<Call>, call: Call) -> Result<(), AllocError>
     ensures err { OnErr result (calls.new.items ≡ calls.old.items) }
 {
     calls.push(call)?;
+    Ok(())
+}
+
+/// Notes a read.
+#[tactic(auto, using(crate::proofs::Tracking::read_drawn, crate::proofs::Tracking::read_written))]
+fn note_read(calls: &mut Vec<Call>, oid: Oid) -> Result<(), AllocError>
+    ensures ok { OnOk result (calls.new.items ≡ calls.old.items ++ Read oid ∷ []) }
+    ensures err { OnErr result (calls.new.items ≡ calls.old.items) }
+    ensures drawn { drawn_in calls.new.items ≡ drawn_in calls.old.items }
+    ensures written { written_in calls.new.items ≡ written_in calls.old.items }
+{
+    note_call(calls, Call::Read(oid))?;
     Ok(())
 }
 
@@ -226,6 +256,23 @@ impl<'a, B: Sight> Space for KnownSpace<'a, B> {
                 Ok(oid)
             }
             Err(_) => Err(SpaceError::Memory),
+        }
+    }
+
+    #[tactic(auto, using(crate::proofs::Recalled::held_same))]
+    fn recall(&self, oid: Oid) -> Option<Recalled> {
+        let bytes = bytes_standing(self.known, &self.puts, oid)?;
+        self.cache.find(self.alloc, oid, bytes)
+    }
+
+    fn reread(&mut self, oid: Oid) -> Result<(), AllocError> {
+        note_read(&mut self.calls, oid)
+    }
+
+    #[tactic(auto, using(crate::proofs::Recalled::held_same))]
+    fn remember(&mut self, oid: Oid, row: &'static ClassRow, entry: &Entry) {
+        if let Some(bytes) = bytes_standing(self.known, &self.puts, oid) {
+            self.cache.keep(self.alloc, oid, bytes, row, entry);
         }
     }
 }

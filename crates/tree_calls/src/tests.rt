@@ -145,6 +145,78 @@ fn calls_read_each_object_once(rt: HostRuntime) -> Result<(), Fail> {
     Ok(())
 }
 
+/// A root, an object of its tree, its bytes, a place in them and the byte that comes to stand there; a key, and how it is got
+/// before that and after.
+const CHANGED: &[(u64, u64, &[u8], usize, u8, &str, &str, &str)] = &[
+    (
+        5,
+        5,
+        records::LONE,
+        37,
+        b'c',
+        "1",
+        "read 5: value [88, 1, 0, 0, 0, 97]",
+        "read 5: value [88, 1, 0, 0, 0, 99]",
+    ),
+    (
+        1,
+        3,
+        records::RIGHT,
+        90,
+        7,
+        "k20",
+        "read 1 3: value [75, 0]",
+        "read 1 3: value [75, 7]",
+    ),
+    (
+        1,
+        1,
+        records::TREE,
+        72,
+        b'2',
+        "k20",
+        "read 1 3: value [75, 0]",
+        "read 1 2: absent",
+    ),
+];
+
+/// These bytes, but for one of them.
+fn with_byte(alloc: Global, bytes: &[u8], place: usize, byte: u8) -> Result<Text8, Fail> {
+    let mut text = Text8::from_slice(alloc, bytes.get(..place).ok_or("too short")?)?;
+    text.push(byte)?;
+    for next in bytes.iter().skip(place).skip(1) {
+        text.push(*next)?;
+    }
+    Ok(text)
+}
+
+/// Looks a key up, and shows how it went.
+fn got(alloc: Global, objects: &mut Objects, root: u64, key: &str) -> Result<String, Fail> {
+    let operation = operation(alloc, "get", key, "")?;
+    let course = objects.call(Oid(root), &operation)?;
+    shown(alloc, &course)
+}
+
+#[test]
+fn other_bytes_are_read_anew(rt: HostRuntime) -> Result<(), Fail> {
+    let alloc = rt.alloc();
+    for (root, oid, bytes, place, byte, key, before, after) in CHANGED {
+        let mut objects = several(alloc, 100)?;
+        let serial = Tid(oid.saturating_add(10));
+        let first = got(alloc, &mut objects, *root, key)?;
+        let again = got(alloc, &mut objects, *root, key)?;
+        objects.put(Oid(*oid), serial, with_byte(alloc, bytes, *place, *byte)?)?;
+        let other = got(alloc, &mut objects, *root, key)?;
+        objects.put(Oid(*oid), serial, Text8::from_slice(alloc, bytes)?)?;
+        let back = got(alloc, &mut objects, *root, key)?;
+        assert_eq!(rt; first.as_str(), *before, "{key}");
+        assert_eq!(rt; again.as_str(), *before, "{key}");
+        assert_eq!(rt; other.as_str(), *after, "{key}");
+        assert_eq!(rt; back.as_str(), *before, "{key}");
+    }
+    Ok(())
+}
+
 /// Makes a call, keeps what it puts, and shows how it went.
 fn made(alloc: Global, objects: &mut Objects, operation: &TreeOperation) -> Result<String, Fail> {
     let course = objects.call(Oid(1), operation)?;
@@ -259,7 +331,9 @@ fn attempted(
     let numbers = [Oid(2), Oid(3), Oid(4)];
     let drawn = numbers.get(..count).ok_or("too many")?;
     let operation = operation(alloc, name, from, "")?;
-    Ok(end_of(attempt(alloc, known, drawn, Oid(1), &operation)))
+    let mut cache = NodeCache::new(alloc);
+    let attempt = attempt(alloc, known, &mut cache, drawn, Oid(1), &operation);
+    Ok(end_of(attempt))
 }
 
 /// A call on a tree of the texts "k00" to "k29", how many numbers were drawn for it, and what it comes to.

@@ -1,6 +1,6 @@
 //! Calls over objects in memory.
 
-use crate::{Attempt, Known, Made, Seen, TreeAnswer, TreeOperation, call_tree};
+use crate::{Attempt, Known, Made, NodeCache, Seen, TreeAnswer, TreeOperation, call_tree};
 use btree_family::{Item, Key};
 use std::alloc::{AllocError, Global};
 use std::marker::Brand;
@@ -13,6 +13,7 @@ use zb_model::{PendingStore, Refusal};
 pub(super) struct Objects {
     pub alloc: Global,
     pub held: Vec<(Oid, Seen)>,
+    pub cache: NodeCache,
     pub last: u64,
 }
 
@@ -29,11 +30,12 @@ pub(super) struct Course {
 pub(super) fn attempt(
     alloc: Global,
     known: &Known,
+    cache: &mut NodeCache,
     numbers: &[Oid],
     root: Oid,
     operation: &TreeOperation,
 ) -> Result<Attempt, AllocError> {
-    call_tree::<Brand, u8, u8>(alloc, &0, &0, known, numbers, root, operation)
+    call_tree::<Brand, u8, u8>(alloc, &0, &0, known, cache, numbers, root, operation)
 }
 
 impl Objects {
@@ -42,6 +44,7 @@ impl Objects {
         Objects {
             alloc,
             held: Vec::new(alloc),
+            cache: NodeCache::new(alloc),
             last,
         }
     }
@@ -86,7 +89,8 @@ impl Objects {
         let mut wanted = Vec::new(alloc);
         let mut numbers = Vec::new(alloc);
         for _ in 0..100 {
-            match attempt(alloc, &known, numbers.as_slice(), root, operation)? {
+            let cache = &mut self.cache;
+            match attempt(alloc, &known, cache, numbers.as_slice(), root, operation)? {
                 Attempt::Made(made) => {
                     let end = Ok(made);
                     return Ok(Course {

@@ -1,0 +1,157 @@
+//! Objects of trees that were read before.
+
+ghost use Rattle.std.specs.Prelude.{◌≡◌, true, Some, IfOk, IfSome};
+ghost use Rattle.btree_family.specs.Classes.{class_seen};
+ghost use Rattle.btree_shapes.specs.Nodes.{Holds, held_in};
+
+use btree_family::{Bucket, ClassRow};
+use btree_setting::{copy_pickle, with_branches, with_items};
+use btree_shapes::{Entry, Node, Recalled};
+use bucket_state::Inner;
+use indexmap::IndexMap;
+use std::alloc::{AllocError, Global};
+use zb_ids::{ListOf, Oid, Text8};
+
+/// How much the objects that are remembered count together, at most: the next one takes the place of all.
+const LIMIT: usize = 1 << 22;
+
+/// How much an object counts beside its bytes.
+const EACH: usize = 256;
+
+/// What bytes hold, as an object of a tree whose root has this class.
+#[derive(Drop)]
+struct Parsed {
+    bytes: Text8,
+    row: &'static ClassRow,
+    entry: Entry,
+    ghost holds: { held_in (Some (class_seen row.now)) (Some bytes) ≡ Holds entry.class entry.node },
+}
+
+/// What objects of trees held when they were read, so that the same bytes need not be read again. What it holds shows in no
+/// answer.
+#[derive(Drop)]
+pub struct NodeCache {
+    nodes: IndexMap<Oid, Parsed>,
+    // What was remembered since it was empty, by bytes.
+    size: usize,
+}
+
+/// A node again.
+fn copy_node(alloc: Global, node: &Node) -> Result<Node, AllocError>
+    ensures { IfOk result (λ copy. copy ≡ node.now) }
+{
+    match node {
+        Node::Lone(bucket) => {
+            let items = with_items(ListOf::new(alloc), bucket.items().as_slice())?;
+            Ok(Node::Lone(Bucket::new(items, bucket.next())))
+        }
+        Node::Leaf(bucket) => {
+            let items = with_items(ListOf::new(alloc), bucket.items().as_slice())?;
+            Ok(Node::Leaf(Bucket::new(items, bucket.next())))
+        }
+        Node::Inner(inner) => {
+            let tail = with_branches(ListOf::new(alloc), inner.tail.as_slice())?;
+            Ok(Node::Inner(Inner {
+                head: inner.head,
+                tail,
+                first: inner.first,
+            }))
+        }
+    }
+}
+
+/// What an object holds again.
+fn copy_entry(alloc: Global, entry: &Entry) -> Result<Entry, AllocError>
+    ensures { IfOk result (λ copy. copy ≡ entry.now) }
+{
+    let class = copy_pickle(alloc, &entry.class)?;
+    let node = copy_node(alloc, &entry.node)?;
+    Ok(Entry { class, node })
+}
+
+/// What bytes hold, and a copy of them.
+fn parsed_copy(
+    alloc: Global,
+    bytes: &Text8,
+    row: &'static ClassRow,
+    entry: &Entry,
+) -> Result<Parsed, AllocError>
+    requires holds { held_in (Some (class_seen row.now)) (Some bytes.now) ≡ Holds entry.now.class entry.now.node }
+{
+    let bytes = bytes.clone()?;
+    let entry = copy_entry(alloc, entry)?;
+    Ok(Parsed { bytes, row, entry })
+}
+
+/// Whether two texts are the same.
+#[tactic(auto, using(crate::proofs::Recalled::bytes_same))]
+fn same_bytes(a: &Text8, b: &Text8) -> bool
+    ensures { result ≡ true → a.now ≡ b.now }
+{
+    *a == *b
+}
+
+/// What was parsed, where these are its bytes.
+#[tactic(auto, using(crate::proofs::Recalled::held_same))]
+fn parsed_as(alloc: Global, parsed: &Parsed, bytes: &Text8) -> Option<Recalled>
+    ensures { IfSome result (λ recalled. held_in (Some (class_seen recalled.row.now)) (Some bytes.now)
+        ≡ Holds recalled.entry.class recalled.entry.node) }
+{
+    if !same_bytes(&parsed.bytes, bytes) {
+        return None;
+    }
+    match copy_entry(alloc, &parsed.entry) {
+        Ok(entry) => Some(Recalled {
+            row: parsed.row,
+            entry,
+        }),
+        Err(_) => None,
+    }
+}
+
+impl NodeCache {
+    /// No object was read. It takes no memory until one is.
+    pub fn new(alloc: Global) -> NodeCache {
+        NodeCache {
+            nodes: IndexMap::new(alloc),
+            size: 0,
+        }
+    }
+
+    /// What an object holds, where these are the bytes that it had when it was read last.
+    pub(crate) fn find(&self, alloc: Global, oid: Oid, bytes: &Text8) -> Option<Recalled>
+        ensures { IfSome result (λ recalled. held_in (Some (class_seen recalled.row.now)) (Some bytes.now)
+            ≡ Holds recalled.entry.class recalled.entry.node) }
+    {
+        let parsed = self.nodes.get(&oid)?;
+        parsed_as(alloc, parsed, bytes)
+    }
+
+    /// Remembers what an object with these bytes holds, where there is memory for it and it isn't too long. Where too much is
+    /// remembered, it is forgotten first.
+    pub(crate) fn keep(
+        &mut self,
+        alloc: Global,
+        oid: Oid,
+        bytes: &Text8,
+        row: &'static ClassRow,
+        entry: &Entry,
+    )
+        requires holds { held_in (Some (class_seen row.now)) (Some bytes.now) ≡ Holds entry.now.class entry.now.node }
+    {
+        let size = bytes.len().saturating_add(EACH);
+        if size > LIMIT {
+            return;
+        }
+        let Ok(parsed) = parsed_copy(alloc, bytes, row, entry) else {
+            return;
+        };
+        if self.size.saturating_add(size) > LIMIT {
+            self.nodes.clear();
+            self.size = 0;
+        }
+        if self.nodes.insert(oid, parsed).is_ok() {
+            self.size = self.size.saturating_add(size);
+        }
+    }
+}
