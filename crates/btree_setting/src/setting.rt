@@ -11,10 +11,10 @@ ghost use Rattle.btree_setting.specs.Writing.{AreGlobal};
 
 use crate::change::{Puts, in_order};
 use crate::drawing::{draw_all, stand_ins};
-use crate::growing::{Plain, Terms};
+use crate::growing::{Plain, Terms, leaf_grows};
 use crate::planning::plan;
 use crate::preparing::{Sizes, Task, prepare};
-use crate::storing::{all_keep, store_all};
+use crate::storing::{all_keep, leaves_keep, store_all};
 use crate::value::fits_class;
 use crate::writing::{Family, plain_class};
 use btree_family::{Key, key_fits, leaf_of};
@@ -69,6 +69,44 @@ fn try_out(
     Ok(None)
 }
 
+/// How many numbers a set draws, where the space can't give as many and the leaves that it puts can be written and read back.
+/// What stands above them can be, too, and is tried once the numbers are there.
+fn lacked<S: Space>(
+    alloc: Global,
+    space: &S,
+    family: &Family,
+    terms: &Terms,
+    task: &Task,
+) -> Result<Option<usize>, AllocError>
+    requires { AreGlobal family.now }
+{
+    if !leaf_grows(terms.leaf, &task.bottom) {
+        return Ok(None);
+    }
+    let oids = stand_ins(alloc, task.rungs.len())?;
+    let change = plan(alloc, terms, &task.bottom, &task.rungs, oids.as_slice())?;
+    let count = change.news.len();
+    if space.lacks(count)
+        && leaves_keep(alloc, family, &change.news)?
+        && leaves_keep(alloc, family, &change.olds)?
+    {
+        return Ok(Some(count));
+    }
+    Ok(None)
+}
+
+/// Asks for as many numbers as the space can give, and for the one that it lacks.
+#[tactic(auto, using(crate::proofs::Trying::drew_all))]
+fn ask<S: Space>(alloc: Global, space: &mut S, count: usize) -> Result<(), TreeError>
+    ensures log { S.told → DrewSome (S.log space.old) (S.log space.new) }
+    ensures free { IfErr result IsFree }
+    ensures contents { S.contents space.new ≡ S.contents space.old }
+    ensures refusals { S.told → S.refusals space.new ≡ S.refusals space.old ++ handed_on result }
+{
+    draw_all(alloc, space, count)?;
+    Ok(())
+}
+
 /// Draws so many numbers, and gives the puts of the change with these.
 #[tactic(auto, using(crate::proofs::Trying::drew_all, crate::proofs::Trying::is_plan))]
 fn draw_and_plan<S: Space>(
@@ -108,6 +146,10 @@ fn write<S: Space>(
     let Some(terms) = terms_of(alloc, family, sizes, key)? else {
         return Err(TreeError::BadKey);
     };
+    if let Some(count) = lacked(alloc, &*space, family, &terms, task)? {
+        ask(alloc, space, count)?;
+        return Err(TreeError::Memory);
+    }
     let Some(count) = try_out(alloc, family, &terms, task)? else {
         return Err(TreeError::BadKey);
     };

@@ -198,6 +198,26 @@ pub fn all_keep(alloc: Global, family: &Family, puts: &Puts) -> Result<bool, All
     Ok(true)
 }
 
+/// Whether the records of the leaves among puts can be written and read back.
+pub(crate) fn leaves_keep(alloc: Global, family: &Family, puts: &Puts) -> Result<bool, AllocError>
+    requires global { AreGlobal family.now }
+{
+    let mut place = 0;
+    'puts: while place < puts.len() {
+        let put = puts.at(place);
+        match put.node {
+            Node::Inner(_) => {}
+            Node::Lone(_) | Node::Leaf(_) => {
+                if !can_keep(alloc, family, put)? {
+                    return Ok(false);
+                }
+            }
+        }
+        place += 1;
+    }
+    Ok(true)
+}
+
 /// Puts an object whose record can be written and reads back.
 #[tactic(auto, using(crate::proofs::Keeping::kept_writable, crate::proofs::Keeping::kept_class, crate::proofs::Keeping::kept_storable, crate::proofs::Keeping::kept_bytes))]
 fn store<S: Space>(alloc: Global, space: &mut S, family: &Family, put: Put) -> Result<(), TreeError>

@@ -259,6 +259,10 @@ impl<'a, B: Sight> Space for KnownSpace<'a, B> {
         }
     }
 
+    fn lacks(&self, count: usize) -> bool {
+        self.numbers.len() < self.used.saturating_add(count)
+    }
+
     #[tactic(auto, using(crate::proofs::Recalled::held_same))]
     fn recall(&self, oid: Oid) -> Option<Recalled> {
         let bytes = bytes_standing(self.known, &self.puts, oid)?;
