@@ -1,6 +1,6 @@
 //! Undo, by a rule over single bytes.
 mod faults;
-pub mod making;
+mod making;
 mod pair;
 mod plain;
 mod steps;
