@@ -1,5 +1,6 @@
-//! What votes, undo and the hub answer over both stores.
+//! What votes, undo, packs and the hub answer over both stores.
 mod hub;
+mod packs;
 mod stores;
 mod undo;
 mod votes;

@@ -1,6 +1,6 @@
 //! Undo, by a rule over single bytes.
 mod faults;
-mod making;
+pub mod making;
 mod pair;
 mod plain;
 mod steps;

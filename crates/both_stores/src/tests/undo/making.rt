@@ -94,7 +94,7 @@ fn new_changes(alloc: Global, puts: &[(u64, u8)]) -> Result<ListOf<NewChange>, A
 }
 
 /// The same, over the list of a store.
-fn changes_over<St: Store>(
+pub fn changes_over<St: Store>(
     alloc: Global,
     held: &St,
     puts: &[(u64, u8)],
