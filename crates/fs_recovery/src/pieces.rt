@@ -94,32 +94,3 @@ pub fn number_behind<V: Volume, const N: usize>(
     window.peek(volume, at + n, &mut buffer)?;
     Ok(BigEndian::read_u64(&buffer))
 }
-
-/// The number in the 8 bytes that stand n bytes behind a place, as `number_behind`, but made for few
-/// calls.
-#[tactic(auto, unfolding(fs_records::specs::Numbers::number_in))]
-#[inline(never)]
-pub fn number_apart<V: Volume, const N: usize>(
-    volume: &mut V,
-    window: &mut Window<N>,
-    at: u64,
-    n: u64,
-) -> Result<u64, StoreFault>
-    requires within { at + n + 8 ≤ window.old.length }
-    requires length { V.told → window.old.length ≡ length (main_bytes (V.log volume.old)) }
-    requires shows { V.told →
-        Shows window.old.at window.old.count window.old.held window.old.ahead (main_bytes (V.log volume.old)) }
-    ensures value { V.told →
-        IfOk result (λ x. x ≡ number_in 8 (drop n (drop at (main_bytes (V.log volume.old))))) }
-    ensures shows { V.told →
-        Shows window.new.at window.new.count window.new.held window.new.ahead (main_bytes (V.log volume.old)) }
-    ensures length { window.new.length ≡ window.old.length }
-    ensures same { V.log volume.new ≡ V.log volume.old }
-    ensures cause { HasCause (V.read_faults volume.old) (V.read_faults volume.new) result }
-    ensures uncounted { OnOk result (V.read_faults volume.new ≡ V.read_faults volume.old) }
-    ensures write_faults { V.write_faults volume.new ≡ V.write_faults volume.old }
-{
-    let mut buffer = [0; 8];
-    window.peek_apart(volume, at + n, &mut buffer)?;
-    Ok(BigEndian::read_u64(&buffer))
-}

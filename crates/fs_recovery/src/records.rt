@@ -12,7 +12,7 @@ ghost use Rattle.zb_volume.specs.Disk.{main_bytes};
 
 use crate::counted::{Counted, with_record};
 use crate::errors::OpenError;
-use crate::pieces::{data_header_at, number_apart};
+use crate::pieces::{data_header_at, number_behind};
 use crate::window::Window;
 use fs_index::Lookup;
 use fs_records::{DATA_HEADER_LENGTH, DataHeader, Field, Index, Place};
@@ -27,6 +27,7 @@ fn payload_size(header: &DataHeader) -> u64
 }
 
 /// Whether a data record has a back pointer that leads to no record of its object that was read.
+#[inline(never)]
 fn is_astray<V: Volume, const N: usize>(
     volume: &mut V,
     window: &mut Window<N>,
@@ -52,7 +53,7 @@ fn is_astray<V: Volume, const N: usize>(
     if header.length != 0 {
         return Ok(false);
     }
-    let back = number_apart(volume, window, q, DATA_HEADER_LENGTH as u64)?;
+    let back = number_behind(volume, window, q, DATA_HEADER_LENGTH as u64)?;
     if back == 0 {
         return Ok(false);
     }

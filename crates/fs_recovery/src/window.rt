@@ -255,10 +255,10 @@ impl<const N: usize> Window<N> {
     }
 
     /// Fills `out` with the bytes at a place, and keeps what it holds, wherever that is: where it
-    /// doesn't hold them, they are read with a few that stand behind them. It is made for few calls, and
-    /// `peek` for many.
+    /// doesn't hold them, they are read with a few that stand behind them. Called from `peek`, which
+    /// looks first where most are found.
     #[inline(never)]
-    pub fn peek_apart<V: Volume>(
+    fn peek_apart<V: Volume>(
         &mut self,
         volume: &mut V,
         at: u64,
