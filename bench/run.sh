@@ -103,6 +103,11 @@ set_script 1000 >few.txt; set_script 10000 >more.txt
 row "10000 keys set, a tenth of it" "$(cost_anew more.fs more.txt | awk '{ print $1 / 10, $2, $3 / 10 }')" \
     "ours, 1000 keys set" "$(cost_anew few.fs few.txt)"
 
+# all items of that tree: the time grows with their number
+printf 'a open local\na begin\na items 0000000000000001\n' >items.txt
+row "items of 10000 keys, a tenth of it" "$(cost items.txt "$program" more.fs run | awk '{ print $1 / 10, $2, $3 / 10 }')" \
+    "ours, items of 1000 keys" "$(cost items.txt "$program" few.fs run)"
+
 # two writers of one bucket, who both commit: merges of three buckets of so many items, with the script read and the
 # commits. The script of the row below has the same puts and commits, one behind the other, so that nothing is merged.
 python=

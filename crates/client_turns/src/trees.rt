@@ -1,10 +1,11 @@
 //! Lines of trees.
 
-ghost use Rattle.std.specs.Prelude.{◌≡◌, ◌<◌, ℕ, List, All, IfOk, IfSome, Option, Some, length, slice_get, slice_set};
+ghost use Rattle.std.specs.Prelude.{◌≡◌, ◌<◌, ℕ, List, All, IfOk, IfSome, Option, Some, None, true, length, slice_get, slice_set};
 ghost use Rattle.zodb_core.specs.HubState.{rules_of};
 ghost use Rattle.zodb_core.specs.Outcomes.{Answered};
 ghost use Rattle.tree_calls.specs.Calls.{IsAttempt};
 ghost use Rattle.tree_calls.specs.declared.known.Seen.{Seen};
+ghost use Rattle.tree_calls.specs.Known.{known_at};
 ghost use Rattle.tree_calls.specs.declared.operation.TreeOperation.{TreeOperation};
 ghost use Rattle.connection_view.specs.declared.connection.Connection.{Connection as Open};
 ghost use Rattle.connection_view.specs.Connections.{work_of};
@@ -23,7 +24,9 @@ use crate::clients::Clients;
 use connection_view::Connection;
 use std::alloc::{AllocError, Global};
 use std::marker::Brand;
-use tree_calls::{Attempt, Known, Made, NodeCache, Seen, TreeAnswer, TreeOperation, call_tree};
+use tree_calls::{
+    Attempt, Known, Made, NodeCache, Seen, TreeAnswer, TreeOperation, call_tree, objects_ahead,
+};
 use zb_ids::{ListOf, Oid, Text8, Tid};
 use zb_model::{PendingStore, Refs, Refusal, Resolver, Store};
 use zb_outside::Clock;
@@ -87,6 +90,16 @@ fn number_in(reply: Reply) -> Result<Oid, Refusal>
         Reply::Oids { first, count: _ } => Ok(first),
         Reply::Refused(why) => Err(why),
         _ => Err(Refusal::NotOpen),
+    }
+}
+
+/// Whether an object is known to be missing.
+fn is_missing(known: &Known, oid: Oid) -> bool
+    ensures { result ≡ true → known_at known.now oid ≡ Some None }
+{
+    match known.find(oid) {
+        Some(None) => true,
+        _ => false,
     }
 }
 
@@ -197,6 +210,81 @@ impl<St: Store, R: Resolver, F: Refs> Clients<St, R, F> {
         }
     }
 
+    /// An object is known, or the call has ended. It is read where it isn't known yet.
+    fn learn_new<C: Clock>(
+        &mut self,
+        alloc: Global,
+        at: usize,
+        oid: Oid,
+        known: &mut Known,
+        clock: &mut C,
+    ) -> Option<Result<Made, Refusal>>
+        requires place { at < length self.old.clients }
+        ensures advances { (root : ℕ) (op : TreeOperation) (numbers : List ℕ) → St.told → (m : Moment)
+            → StandsGathering self.old (C.stamps clock.old) m at known.old numbers
+            → AdvancesTo m at root op self.new (C.stamps clock.new) known.new numbers result }
+        ensures hub { ReadsHub St.told St.lasts St.stands (outcome_of_advance result) self.old.hub self.new.hub }
+        ensures filled { IfSome result (λ ended. IfOk ended IsFilled) }
+        ensures kept { length self.new.clients ≡ length self.old.clients }
+    {
+        if known.find(oid).is_some() {
+            return None;
+        }
+        self.learn(alloc, at, oid, known, clock)
+    }
+
+    /// Objects are known, up to the first that is missing, or the call has ended.
+    fn learn_all<C: Clock>(
+        &mut self,
+        alloc: Global,
+        at: usize,
+        oids: &[Oid],
+        known: &mut Known,
+        clock: &mut C,
+    ) -> Option<Result<Made, Refusal>>
+        requires place { at < length self.old.clients }
+        ensures advances { (root : ℕ) (op : TreeOperation) (numbers : List ℕ) → St.told → (m : Moment)
+            → StandsGathering self.old (C.stamps clock.old) m at known.old numbers
+            → AdvancesTo m at root op self.new (C.stamps clock.new) known.new numbers result }
+        ensures hub { ReadsHub St.told St.lasts St.stands (outcome_of_advance result) self.old.hub self.new.hub }
+        ensures filled { IfSome result (λ ended. IfOk ended IsFilled) }
+        ensures kept { length self.new.clients ≡ length self.old.clients }
+    {
+        for oid in oids {
+            if let Some(ended) = self.learn_new(alloc, at, *oid, known, clock) {
+                return Some(ended);
+            }
+            if is_missing(known, *oid) {
+                return None;
+            }
+        }
+        None
+    }
+
+    /// What a call over many objects is going to read is known too, or the call has ended.
+    fn look_ahead<C: Clock>(
+        &mut self,
+        alloc: Global,
+        at: usize,
+        root: Oid,
+        operation: &TreeOperation,
+        known: &mut Known,
+        clock: &mut C,
+    ) -> Option<Result<Made, Refusal>>
+        requires place { at < length self.old.clients }
+        ensures advances { (numbers : List ℕ) → St.told → (m : Moment)
+            → StandsGathering self.old (C.stamps clock.old) m at known.old numbers
+            → AdvancesTo m at root operation.now self.new (C.stamps clock.new) known.new numbers result }
+        ensures hub { ReadsHub St.told St.lasts St.stands (outcome_of_advance result) self.old.hub self.new.hub }
+        ensures filled { IfSome result (λ ended. IfOk ended IsFilled) }
+        ensures kept { length self.new.clients ≡ length self.old.clients }
+    {
+        match objects_ahead(alloc, known, root, operation) {
+            Ok(oids) => self.learn_all(alloc, at, oids.as_slice(), known, clock),
+            Err(_) => Some(Err(Refusal::Memory)),
+        }
+    }
+
     /// One more number is drawn, or the call has ended.
     fn draw_more<C: Clock>(
         &mut self,
@@ -284,7 +372,7 @@ impl<St: Store, R: Resolver, F: Refs> Clients<St, R, F> {
 
     /// Attempts a call of the client at a place. `None` is answered where it is to be made again, with more known or
     /// drawn.
-    fn advance<C: Clock>(
+    fn attempt_once<C: Clock>(
         &mut self,
         alloc: Global,
         at: usize,
@@ -307,6 +395,31 @@ impl<St: Store, R: Resolver, F: Refs> Clients<St, R, F> {
             return Some(Err(Refusal::Memory));
         };
         self.go_on(alloc, at, attempt, known, numbers, clock)
+    }
+
+    /// The same, and what the call is going to read besides is known too.
+    fn advance<C: Clock>(
+        &mut self,
+        alloc: Global,
+        at: usize,
+        root: Oid,
+        operation: &TreeOperation,
+        known: &mut Known,
+        numbers: &mut Vec<Oid>,
+        clock: &mut C,
+    ) -> Option<Result<Made, Refusal>>
+        requires place { at < length self.old.clients }
+        ensures advances { St.told → (m : Moment)
+            → StandsGathering self.old (C.stamps clock.old) m at known.old numbers.old.items
+            → AdvancesTo m at root operation.now self.new (C.stamps clock.new) known.new numbers.new.items result }
+        ensures hub { ReadsHub St.told St.lasts St.stands (outcome_of_advance result) self.old.hub self.new.hub }
+        ensures filled { IfSome result (λ ended. IfOk ended IsFilled) }
+        ensures kept { length self.new.clients ≡ length self.old.clients }
+    {
+        if let Some(ended) = self.attempt_once(alloc, at, root, operation, known, numbers, clock) {
+            return Some(ended);
+        }
+        self.look_ahead(alloc, at, root, operation, known, clock)
     }
 
     /// A call of the client at a place on a tree.

@@ -1,6 +1,6 @@
 //! What was read so far.
 
-ghost use Rattle.std.specs.Prelude.{◌≡◌, [], ℕ, Some, OnOk, OnErr, nat_eq, if◌then◌else◌};
+ghost use Rattle.std.specs.Prelude.{◌≡◌, [], ℕ, Some, OnOk, OnErr, length, nat_eq, if◌then◌else◌};
 ghost use Rattle.std.specs.Option.{option_copied};
 ghost use Rattle.tree_calls.specs.Known.{known_at};
 
@@ -53,6 +53,13 @@ impl Known {
     {
         self.objects.insert(oid, seen)?;
         Ok(())
+    }
+
+    /// How many objects are known.
+    pub fn len(&self) -> usize
+        ensures { result ≡ length self.now }
+    {
+        self.objects.len()
     }
 
     /// What is known of an object: `None` where it wasn't read yet.

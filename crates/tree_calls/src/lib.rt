@@ -1,6 +1,7 @@
 //! Calls on trees over objects that the caller reads, one at a time.
 #![tactic(auto)]
 
+mod ahead;
 mod attempt;
 mod cache;
 mod known;
@@ -8,6 +9,7 @@ mod operation;
 mod sight;
 mod space;
 
+pub use ahead::objects_ahead;
 pub use attempt::{Attempt, Made, call_tree};
 pub use cache::NodeCache;
 pub use known::{Known, Seen};

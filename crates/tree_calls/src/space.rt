@@ -71,7 +71,7 @@ fn read(alloc: Global, bytes: &Text8) -> Result<ObjectRecord, SpaceError>
 }
 
 /// The record of an object that is known.
-fn read_seen(alloc: Global, seen: &Option<Seen>) -> Result<ObjectRecord, SpaceError>
+pub(crate) fn read_seen(alloc: Global, seen: &Option<Seen>) -> Result<ObjectRecord, SpaceError>
     ensures content { IsContentOf (option_map (λ x. x.bytes) seen.now) result }
     ensures own { refused result ≡ [] }
 {

@@ -8,7 +8,7 @@ use btree_family::Key;
 use driver::{Objects, attempt, shown};
 use std::alloc::{AllocError, Global};
 use std::test::*;
-use zb_ids::{Oid, Text8, Tid};
+use zb_ids::{ListOf, Oid, Text8, Tid};
 
 /// Objects of several kinds; the serial of each is greater by 10 than its number.
 const HELD: &[(u64, &[u8])] = &[
@@ -21,6 +21,8 @@ const HELD: &[(u64, &[u8])] = &[
     (7, records::MISSING),
     (8, records::ROOT),
     (9, b"abc"),
+    (10, records::HIGH),
+    (11, records::LOOP),
 ];
 
 /// These objects.
@@ -124,7 +126,9 @@ const CALLS: &[(u64, &str, &str, &str, &str)] = &[
     (8, "remove", "1", "", "read 8: not a tree 8"),
     (8, "range", "1", "2", "read 8: not a tree 8"),
     (9, "set", "1", "", "read 9: not a tree 9"),
-    (10, "items", "", "", "read 10: missing 10"),
+    (10, "items", "", "", "read 10 1 2 3 7 99: missing 99"),
+    (10, "range", "k00", "k49", "read 10 1 2 3: items 31 k00 to k30"),
+    (12, "items", "", "", "read 12: missing 12"),
 ];
 
 /// Makes a call that words ask for, and shows how it went.
@@ -357,6 +361,107 @@ fn calls_take_each_number(rt: HostRuntime) -> Result<(), Fail> {
     for (name, from, count, wanted) in DRAWN {
         let end = attempted(alloc, &known, name, from, *count)?;
         assert_eq!(rt; end, *wanted, "{name} {count}");
+    }
+    Ok(())
+}
+
+/// Whether it is remembered what an object with these bytes holds.
+fn is_remembered(objects: &Objects, oid: u64, bytes: &[u8]) -> Result<bool, Fail> {
+    let alloc = objects.alloc;
+    let bytes = Text8::from_slice(alloc, bytes)?;
+    Ok(objects.cache.find(alloc, Oid(oid), &bytes).is_some())
+}
+
+/// An object, bytes, and whether a lookup of "k20" leaves behind what the object with these bytes holds.
+const REMEMBERED: &[(u64, &[u8], bool)] = &[
+    (1, records::TREE, true),
+    (3, records::RIGHT, true),
+    (2, records::LEFT, false),
+    (3, records::LEFT, false),
+    (1, records::MISSING, false),
+];
+
+#[test]
+fn what_was_read_is_remembered_by_its_bytes(rt: HostRuntime) -> Result<(), Fail> {
+    let alloc = rt.alloc();
+    let mut objects = several(alloc, 20)?;
+    for (oid, bytes, _) in REMEMBERED {
+        assert!(rt; !is_remembered(&objects, *oid, bytes)?, "{oid} before");
+    }
+    let operation = operation(alloc, "get", "k20", "")?;
+    objects.call(Oid(1), &operation)?;
+    for (oid, bytes, wanted) in REMEMBERED {
+        let is = is_remembered(&objects, *oid, bytes)?;
+        assert_eq!(rt; is, *wanted, "{oid} after");
+    }
+    Ok(())
+}
+
+/// What a call that words ask for is going to read, where these objects are known, and so many others.
+fn ahead(
+    alloc: Global,
+    others: u64,
+    known: &[u64],
+    root: u64,
+    name: &str,
+    from: &str,
+    to: &str,
+) -> Result<ListOf<Oid>, Fail> {
+    let objects = several(alloc, 20)?;
+    let mut seen = Known::new(alloc);
+    for place in 0..others {
+        seen.learn(Oid(1000 + place % 100), None)?;
+    }
+    for oid in known {
+        seen.learn(Oid(*oid), objects.read(Oid(*oid))?)?;
+    }
+    let operation = operation(alloc, name, from, to)?;
+    Ok(objects_ahead(alloc, &seen, Oid(root), &operation)?)
+}
+
+/// What is known, a root, a call with its keys, and the objects that it is going to read.
+const AHEAD: &[(&[u64], u64, &str, &str, &str, &[u64])] = &[
+    (&[], 1, "items", "", "", &[]),
+    (&[1], 1, "items", "", "", &[2, 3]),
+    (&[1, 2], 1, "items", "", "", &[3]),
+    (&[1, 3], 1, "items", "", "", &[2]),
+    (&[1, 2, 3], 1, "items", "", "", &[]),
+    (&[1, 99], 1, "items", "", "", &[2, 3]),
+    (&[1, 99], 1, "range", "k03", "k05", &[2]),
+    (&[1, 99], 1, "range", "k14", "k16", &[2, 3]),
+    (&[1, 99], 1, "range", "k15", "k99", &[3]),
+    (&[1, 99], 1, "range", "k16", "k14", &[]),
+    (&[1, 99], 1, "get", "k20", "", &[]),
+    (&[1, 99], 1, "set", "k20", "", &[]),
+    (&[1, 99], 1, "remove", "k20", "", &[]),
+    (&[7, 2], 7, "items", "", "", &[99]),
+    (&[7, 99], 7, "items", "", "", &[2]),
+    (&[10, 1], 10, "items", "", "", &[7, 2, 3]),
+    (&[10, 1, 2], 10, "items", "", "", &[7, 3]),
+    (&[10, 1, 2], 10, "range", "k00", "k49", &[3]),
+    (&[10, 7, 3], 10, "items", "", "", &[1, 2, 99]),
+    (&[11, 2], 11, "items", "", "", &[]),
+    (&[8, 2], 8, "items", "", "", &[]),
+    (&[9, 2], 9, "items", "", "", &[]),
+    (&[2, 3], 1, "items", "", "", &[]),
+    (&[3, 2], 3, "items", "", "", &[]),
+];
+
+#[test]
+fn children_are_read_ahead(rt: HostRuntime) -> Result<(), Fail> {
+    let alloc = rt.alloc();
+    for (known, root, name, from, to, wanted) in AHEAD {
+        let list = ahead(alloc, 7, known, *root, name, from, to)?;
+        assert_eq!(rt; list.len(), wanted.len(), "{root} {name} {from} {to}");
+        for (oid, number) in list.as_slice().iter().zip(wanted.iter()) {
+            assert_eq!(rt; oid.0, *number, "{root} {name} {from} {to}");
+        }
+    }
+    for others in 0..7 {
+        assert!(rt;
+            ahead(alloc, others, &[1], 1, "items", "", "")?.is_empty(),
+            "{others}"
+        );
     }
     Ok(())
 }

@@ -42,3 +42,15 @@ pub(super) const LONE: &[u8] =
 
 /// A tree without items.
 pub(super) const EMPTY: &[u8] = b"\x80\x03cBTrees.OOBTree\nOOBTree\n.\x80\x03N.";
+
+/// A tree of two trees, the one above and the one with a missing child.
+pub(super) const HIGH: &[u8] =
+    b"\x80\x03cBTrees.OOBTree\nOOBTree\n.\x80\x03C\x08\x00\x00\x00\x00\x00\x00\x00\x01cBTrees.OOBTree\nOOBTree\n\
+    \x86QX\x03\x00\x00\x00k50C\x08\x00\x00\x00\x00\x00\x00\x00\x07cBTrees.OOBTree\nOOBTree\n\x86Q\x87C\x08\x00\x00\
+    \x00\x00\x00\x00\x00\x02cBTrees.OOBTree\nOOBucket\n\x86Q\x86.";
+
+/// A tree that stands below itself, twice.
+pub(super) const LOOP: &[u8] =
+    b"\x80\x03cBTrees.OOBTree\nOOBTree\n.\x80\x03C\x08\x00\x00\x00\x00\x00\x00\x00\x0bcBTrees.OOBTree\nOOBTree\n\
+    \x86QX\x03\x00\x00\x00k50C\x08\x00\x00\x00\x00\x00\x00\x00\x0bcBTrees.OOBTree\nOOBTree\n\x86Q\x87C\x08\x00\x00\
+    \x00\x00\x00\x00\x00\x02cBTrees.OOBTree\nOOBucket\n\x86Q\x86.";

@@ -1,0 +1,17 @@
+-- Objects, one after another.
+use Rattle.std.proofs.Common.{◌≡◌, ℕ, List, length}
+use Rattle.zodb_core.specs.Outcomes.{Answered}
+use Rattle.client_turns.specs.Clients.{Moment}
+use Rattle.client_turns.specs.Gathering.{StandsGathering}
+use Rattle.client_turns.specs.Standing.{ReadsHub}
+use Rattle.client_turns.proofs.clients.Clients.learn_all.Given as goal
+
+abbrev pub invariant-loop-oid : goal.invariant-loop-oid
+invariant-loop-oid g l =
+    let C = g.C.Clock in
+    let St = g.St.Store in
+    record {
+      gathers : (numbers : List ℕ) → St.told → (m : Moment) → StandsGathering l.fn.self (C.stamps l.fn.clock) m l.at l.fn.known numbers → StandsGathering l.self (C.stamps l.clock) m l.at l.known numbers;
+      hub : ReadsHub St.told St.lasts St.stands Answered l.fn.self.hub l.self.hub;
+      kept : length l.self.clients ≡ length l.fn.self.clients;
+    }
