@@ -1,5 +1,5 @@
 -- What a call on a tree gathers before it is answered. Own.
-use Rattle.std.specs.Prelude.{◌≡◌, ℕ, List, Option, Some, None, Result, Ok, Err, true, false, slice_get, ◌⊎◌, ◌<◌, All, length}
+use Rattle.std.specs.Prelude.{◌≡◌, ℕ, List, Option, Some, None, Result, Ok, Err, true, false, slice_get, ◌⊎◌, ◌+◌, ◌<◌, All, length}
 use Rattle.std.specs.Option.{option_map}
 use Rattle.zb_ids.specs.declared.stamp.Stamp.{Stamp}
 use Rattle.zb_model.specs.declared.data.Transaction.{Transaction}
@@ -120,3 +120,12 @@ outcome_of_advance (Some result) = outcome_of_result result
 -- each of the puts has bytes
 abbrev pub IsFilled : Made → Type 0
 IsFilled made = All (λ p. 0 < length p.bytes) made.puts
+
+-- how many objects are known, and numbers drawn
+abbrev pub gathered : List (ℕ × Option Seen) → List ℕ → ℕ
+gathered known numbers = length known + length numbers
+
+-- an attempt that is made again has more than before
+abbrev pub Gathers : ℕ → ℕ → Option (Result Made Refusal) → Type 0
+Gathers before after None = before < after
+Gathers before after (Some result) = Unit {0}

@@ -1,9 +1,9 @@
 //! Lines of trees.
 
-ghost use Rattle.std.specs.Prelude.{◌≡◌, ◌<◌, ℕ, List, All, IfOk, IfSome, Option, Some, None, true, length, slice_get, slice_set};
+ghost use Rattle.std.specs.Prelude.{◌≡◌, ◌<◌, ◌≤◌, ℕ, List, All, IfOk, IfSome, Option, Some, None, true, is_some, length, slice_get, slice_set};
 ghost use Rattle.zodb_core.specs.HubState.{rules_of};
 ghost use Rattle.zodb_core.specs.Outcomes.{Answered};
-ghost use Rattle.tree_calls.specs.Calls.{IsAttempt};
+ghost use Rattle.tree_calls.specs.Calls.{IsAttempt, IsWanted};
 ghost use Rattle.tree_calls.specs.declared.known.Seen.{Seen};
 ghost use Rattle.tree_calls.specs.Known.{known_at};
 ghost use Rattle.tree_calls.specs.declared.operation.TreeOperation.{TreeOperation};
@@ -13,7 +13,7 @@ ghost use Rattle.client_turns.specs.declared.client.Client.{Client};
 ghost use Rattle.client_turns.specs.Asking.{IsCalm, IsPutAll};
 ghost use Rattle.client_turns.specs.Clients.{Moment};
 ghost use Rattle.client_turns.specs.Gathering;
-ghost use Rattle.client_turns.specs.Gathering.{AdvancesTo, IsCallOf, IsDrawOf, IsFilled, IsSightOf, StandsGathering, objects_over, outcome_of_advance};
+ghost use Rattle.client_turns.specs.Gathering.{AdvancesTo, Gathers, IsCallOf, IsDrawOf, IsFilled, IsSightOf, StandsGathering, gathered, objects_over, outcome_of_advance};
 ghost use Rattle.client_turns.specs.Lines.{outcome_of_answer, outcome_of_result};
 ghost use Rattle.client_turns.specs.Standing.{IsOpenLineOf, IsOwnOf, LeadsTo, LeavesHub, MayAskAt, MayReadAt, OrStarved, ReadsHub, StandsForMoment};
 ghost use Rattle.client_turns.specs.Trees.{Sees, answer_told, operation_of};
@@ -95,7 +95,8 @@ fn number_in(reply: Reply) -> Result<Oid, Refusal>
 
 /// Whether an object is known to be missing.
 fn is_missing(known: &Known, oid: Oid) -> bool
-    ensures { result ≡ true → known_at known.now oid ≡ Some None }
+    ensures missing { result ≡ true → known_at known.now oid ≡ Some None }
+    ensures all { known_at known.now oid ≡ Some None → result ≡ true }
 {
     match known.find(oid) {
         Some(None) => true,
@@ -146,8 +147,9 @@ fn attempt<St: Store, R: Resolver, F: Refs>(
     root: Oid,
     operation: &TreeOperation,
 ) -> Result<Attempt, AllocError>
-    ensures { IfOk result (IsAttempt (objects_over known.now hub.now.store.list (work_of connection.now))
+    ensures attempt { IfOk result (IsAttempt (objects_over known.now hub.now.store.list (work_of connection.now))
         root operation.now numbers.now) }
+    ensures wants { IfOk result (IsWanted known.now) }
 {
     call_tree::<Brand, Hub<St, R, F>, Connection>(
         alloc, hub, connection, known, cache, numbers, root, operation,
@@ -199,6 +201,9 @@ impl<St: Store, R: Resolver, F: Refs> Clients<St, R, F> {
             → AdvancesTo m at root op self.new (C.stamps clock.new) known.new numbers result }
         ensures hub { ReadsHub St.told St.lasts St.stands (outcome_of_advance result) self.old.hub self.new.hub }
         ensures filled { IfSome result (λ ended. IfOk ended IsFilled) }
+        ensures learnt { result ≡ None → is_some (known_at known.new oid) ≡ true }
+        ensures more { known_at known.old oid ≡ None → Gathers (length known.old) (length known.new) result }
+        ensures grows { length known.old ≤ length known.new }
         ensures kept { length self.new.clients ≡ length self.old.clients }
     {
         match self.see(alloc, at, oid, clock) {
@@ -225,6 +230,8 @@ impl<St: Store, R: Resolver, F: Refs> Clients<St, R, F> {
             → AdvancesTo m at root op self.new (C.stamps clock.new) known.new numbers result }
         ensures hub { ReadsHub St.told St.lasts St.stands (outcome_of_advance result) self.old.hub self.new.hub }
         ensures filled { IfSome result (λ ended. IfOk ended IsFilled) }
+        ensures learnt { result ≡ None → is_some (known_at known.new oid) ≡ true }
+        ensures grows { length known.old ≤ length known.new }
         ensures kept { length self.new.clients ≡ length self.old.clients }
     {
         if known.find(oid).is_some() {
@@ -248,6 +255,7 @@ impl<St: Store, R: Resolver, F: Refs> Clients<St, R, F> {
             → AdvancesTo m at root op self.new (C.stamps clock.new) known.new numbers result }
         ensures hub { ReadsHub St.told St.lasts St.stands (outcome_of_advance result) self.old.hub self.new.hub }
         ensures filled { IfSome result (λ ended. IfOk ended IsFilled) }
+        ensures grows { length known.old ≤ length known.new }
         ensures kept { length self.new.clients ≡ length self.old.clients }
     {
         for oid in oids {
@@ -277,6 +285,7 @@ impl<St: Store, R: Resolver, F: Refs> Clients<St, R, F> {
             → AdvancesTo m at root operation.now self.new (C.stamps clock.new) known.new numbers result }
         ensures hub { ReadsHub St.told St.lasts St.stands (outcome_of_advance result) self.old.hub self.new.hub }
         ensures filled { IfSome result (λ ended. IfOk ended IsFilled) }
+        ensures grows { length known.old ≤ length known.new }
         ensures kept { length self.new.clients ≡ length self.old.clients }
     {
         match objects_ahead(alloc, known, root, operation) {
@@ -299,6 +308,7 @@ impl<St: Store, R: Resolver, F: Refs> Clients<St, R, F> {
             → AdvancesTo m at root op self.new (C.stamps clock.new) known numbers.new.items result }
         ensures hub { ReadsHub St.told St.lasts St.stands (outcome_of_advance result) self.old.hub self.new.hub }
         ensures filled { IfSome result (λ ended. IfOk ended IsFilled) }
+        ensures more { Gathers (length numbers.old.items) (length numbers.new.items) result }
         ensures kept { length self.new.clients ≡ length self.old.clients }
     {
         match self.draw(alloc, at, clock) {
@@ -323,6 +333,7 @@ impl<St: Store, R: Resolver, F: Refs> Clients<St, R, F> {
         requires place { at < length self.old.clients }
         requires attempted { (objects : ℕ → Option Seen) × (root : ℕ) × (op : TreeOperation)
             × IsAttempt objects root op numbers.old.items attempt }
+        requires wanted { IsWanted known.old attempt }
         ensures advances { (objects : ℕ → Option Seen) (root : ℕ) (op : TreeOperation)
             → IsAttempt objects root op numbers.old.items attempt
             → St.told → (m : Moment) → (g : StandsGathering self.old (C.stamps clock.old) m at known.old numbers.old.items)
@@ -330,6 +341,7 @@ impl<St: Store, R: Resolver, F: Refs> Clients<St, R, F> {
             → AdvancesTo m at root op self.new (C.stamps clock.new) known.new numbers.new.items result }
         ensures hub { ReadsHub St.told St.lasts St.stands (outcome_of_advance result) self.old.hub self.new.hub }
         ensures filled { IfSome result (λ ended. IfOk ended IsFilled) }
+        ensures more { Gathers (gathered known.old numbers.old.items) (gathered known.new numbers.new.items) result }
         ensures kept { length self.new.clients ≡ length self.old.clients }
     {
         match attempt {
@@ -355,6 +367,7 @@ impl<St: Store, R: Resolver, F: Refs> Clients<St, R, F> {
             × ((x : Client) → slice_get self.old.clients at ≡ Some x → connection ≡ x.connection)
             × IsAttempt (objects_over known.now self.old.hub.store.list (work_of connection)) root operation.now
             numbers.now attempt) }
+        ensures wants { IfOk result (IsWanted known.now) }
         ensures same { self.new ≡ self.old }
     {
         let attempt = attempt(
@@ -388,6 +401,7 @@ impl<St: Store, R: Resolver, F: Refs> Clients<St, R, F> {
             → AdvancesTo m at root operation.now self.new (C.stamps clock.new) known.new numbers.new.items result }
         ensures hub { ReadsHub St.told St.lasts St.stands (outcome_of_advance result) self.old.hub self.new.hub }
         ensures filled { IfSome result (λ ended. IfOk ended IsFilled) }
+        ensures more { Gathers (gathered known.old numbers.old.items) (gathered known.new numbers.new.items) result }
         ensures kept { length self.new.clients ≡ length self.old.clients }
     {
         let Ok(attempt) = self.attempt_at(alloc, at, known, numbers.as_slice(), root, operation)
@@ -414,6 +428,7 @@ impl<St: Store, R: Resolver, F: Refs> Clients<St, R, F> {
             → AdvancesTo m at root operation.now self.new (C.stamps clock.new) known.new numbers.new.items result }
         ensures hub { ReadsHub St.told St.lasts St.stands (outcome_of_advance result) self.old.hub self.new.hub }
         ensures filled { IfSome result (λ ended. IfOk ended IsFilled) }
+        ensures more { Gathers (gathered known.old numbers.old.items) (gathered known.new numbers.new.items) result }
         ensures kept { length self.new.clients ≡ length self.old.clients }
     {
         if let Some(ended) = self.attempt_once(alloc, at, root, operation, known, numbers, clock) {

@@ -1,6 +1,6 @@
 //! What was read so far.
 
-ghost use Rattle.std.specs.Prelude.{◌≡◌, [], ℕ, Some, OnOk, OnErr, length, nat_eq, if◌then◌else◌};
+ghost use Rattle.std.specs.Prelude.{◌≡◌, ◌+◌, [], ℕ, Some, OnOk, OnErr, is_some, length, nat_eq, if◌then◌else◌};
 ghost use Rattle.std.specs.Option.{option_copied};
 ghost use Rattle.tree_calls.specs.Known.{known_at};
 
@@ -49,6 +49,8 @@ impl Known {
     pub fn learn(&mut self, oid: Oid, seen: Option<Seen>) -> Result<(), AllocError>
         ensures known { OnOk result ((other : ℕ) → known_at self.new other
             ≡ (if nat_eq oid other then Some seen else known_at self.old other)) }
+        ensures grows { OnOk result (length self.new
+            ≡ length self.old + (if is_some (known_at self.old oid) then 0 else 1)) }
         ensures err { OnErr result (self.new ≡ self.old) }
     {
         self.objects.insert(oid, seen)?;

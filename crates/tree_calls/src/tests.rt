@@ -127,7 +127,13 @@ const CALLS: &[(u64, &str, &str, &str, &str)] = &[
     (8, "range", "1", "2", "read 8: not a tree 8"),
     (9, "set", "1", "", "read 9: not a tree 9"),
     (10, "items", "", "", "read 10 1 2 3 7 99: missing 99"),
-    (10, "range", "k00", "k49", "read 10 1 2 3: items 31 k00 to k30"),
+    (
+        10,
+        "range",
+        "k00",
+        "k49",
+        "read 10 1 2 3: items 31 k00 to k30",
+    ),
     (12, "items", "", "", "read 12: missing 12"),
 ];
 

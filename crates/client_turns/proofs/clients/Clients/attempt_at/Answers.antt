@@ -12,5 +12,5 @@ returns-clause-attempt g c =
     let connection = c.connection_at.result.now in (
       connection,
       λ x there. c.connection_at.ensures.connection x (ap (λ (xs : List Client). slice_get xs c.args.at) (c.as_slice.ensures.value ∙ ap (λ s. s.clients) c.self.view_is) ∙ there),
-      subst (λ s. IsAttempt (objects_over c.args.known.now s.hub.store.list (work_of connection)) c.args.root c.args.operation.now c.args.numbers.now c.in_ok-attempt.attempt) c.self.view_is c.in_ok-attempt.ensures,
+      subst (λ s. IsAttempt (objects_over c.args.known.now s.hub.store.list (work_of connection)) c.args.root c.args.operation.now c.args.numbers.now c.in_ok-attempt.attempt) c.self.view_is c.in_ok-attempt.ensures.attempt,
     )

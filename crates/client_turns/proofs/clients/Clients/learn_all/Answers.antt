@@ -1,5 +1,5 @@
 -- Objects, one after another.
-use Rattle.std.proofs.Common.{◌∙◌, Option, Result, inl, refl, subst}
+use Rattle.std.proofs.Common.{◌∙◌, Option, Result, arith, inl, refl, subst}
 use Rattle.zb_model.specs.declared.refusal.Refusal.{Refusal}
 use Rattle.tree_calls.specs.declared.attempt.Made.{Made}
 use Rattle.tree_calls.specs.declared.operation.TreeOperation.TheVariants as operation
@@ -16,6 +16,7 @@ loop-oid-init g c = record {
   gathers = λ numbers told m gathers. gathers;
   hub = still_reads g.St.Store.told g.St.Store.lasts g.St.Store.stands Answered (inl refl) c.args.self.now.hub;
   kept = refl;
+  grows = omega arith;
 }
 
 pub returns-in-Some-clause-advances : goal.returns-in-Some-clause-advances
@@ -43,4 +44,5 @@ loop-oid-preserved g c = record {
   hub = reads_then g.St.Store.told g.St.Store.lasts g.St.Store.stands c.args.self.now.hub c.loop-oid.self.hub c.learn_new.new.self.hub Answered c.loop-oid.invariant.hub
       (subst (λ (r : Option (Result Made Refusal)). ReadsHub g.St.Store.told g.St.Store.lasts g.St.Store.stands (outcome_of_advance r) c.loop-oid.self.hub c.learn_new.new.self.hub) c.in_default.is c.learn_new.ensures.hub);
   kept = c.learn_new.ensures.kept ∙ c.loop-oid.invariant.kept;
+  grows = omega (arith, c.loop-oid.invariant.grows, c.learn_new.ensures.grows);
 }

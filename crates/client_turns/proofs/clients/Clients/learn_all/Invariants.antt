@@ -1,5 +1,5 @@
 -- Objects, one after another.
-use Rattle.std.proofs.Common.{◌≡◌, ℕ, List, length}
+use Rattle.std.proofs.Common.{◌≡◌, ◌≤◌, ℕ, List, length}
 use Rattle.zodb_core.specs.Outcomes.{Answered}
 use Rattle.client_turns.specs.Clients.{Moment}
 use Rattle.client_turns.specs.Gathering.{StandsGathering}
@@ -14,4 +14,5 @@ invariant-loop-oid g l =
       gathers : (numbers : List ℕ) → St.told → (m : Moment) → StandsGathering l.fn.self (C.stamps l.fn.clock) m l.at l.fn.known numbers → StandsGathering l.self (C.stamps l.clock) m l.at l.known numbers;
       hub : ReadsHub St.told St.lasts St.stands Answered l.fn.self.hub l.self.hub;
       kept : length l.self.clients ≡ length l.fn.self.clients;
+      grows : length l.fn.known ≤ length l.known;
     }
