@@ -1,5 +1,5 @@
 -- How a call on a tree goes from one attempt to the next.
-use Rattle.std.proofs.Common.{◌≡◌, ℕ, false, List, [], ◌∷◌, ◌++◌, Option, Some, None, Result, Ok, Err, refl, sym, ap, subst, ◌∙◌, arith, inl, inr}
+use Rattle.std.proofs.Common.{true, ◌≡◌, ℕ, false, List, [], ◌∷◌, ◌++◌, Option, Some, None, Result, Ok, Err, refl, sym, ap, subst, ◌∙◌, arith, inl, inr}
 use Rattle.std.specs.Prelude.{IsSome, if◌then◌else◌, nat_eq, slice_get}
 use Rattle.zb_ids.specs.declared.stamp.Stamp.{Stamp}
 use Rattle.zb_volume.specs.Moments.{here}
@@ -13,7 +13,7 @@ use Rattle.zodb_core.specs.Outcomes.{Answered, StepOutcome, outcome_of_refusal}
 use Rattle.tree_calls.specs.declared.attempt.Made.{Made}
 use Rattle.tree_calls.specs.declared.known.Seen.{Seen}
 use Rattle.tree_calls.specs.declared.operation.TreeOperation.{TreeOperation}
-use Rattle.tree_calls.specs.Calls.{IsMade, IsRefused}
+use Rattle.tree_calls.specs.Calls.{IsMade, IsRefused, takes_numbers}
 use Rattle.tree_calls.specs.Known.{known_at}
 use Rattle.client_turns.specs.declared.client.Client.{Client}
 use Rattle.connection_view.specs.declared.work.Work.{Work}
@@ -193,8 +193,8 @@ module _ {R F : Type 0} (m : Moment) (at : ℕ) (old : ClientsState R F) (before
       let drawn : IsDrawn g.now g.client.session oid leads.now = at_draw (Ok oid) leads.now leads.holds in
       ends_at root op refusal.Memory new after leads.now leads.stands (by_want (numbers ++ oid ∷ []) (draws_more m g.client.session numbers oid g.now leads.now g.draws drawn) refl)
 
-  pub undrawn : (root : ℕ) (op : TreeOperation) (why : Refusal) (new : ClientsState R F) (after : Option (List Stamp)) → LeadsTo (IsDrawOf g.now at (Err why)) new after → LeadsTo (IsCallOf m at root op (Err why)) new after
-  undrawn root op why new after leads = ends_at root op why new after leads.now leads.stands (by_draw numbers g.now g.draws (at_draw (Err why) leads.now leads.holds))
+  pub undrawn : (root : ℕ) (op : TreeOperation) (why : Refusal) (new : ClientsState R F) (after : Option (List Stamp)) → takes_numbers op ≡ true → LeadsTo (IsDrawOf g.now at (Err why)) new after → LeadsTo (IsCallOf m at root op (Err why)) new after
+  undrawn root op why new after takes leads = ends_at root op why new after leads.now leads.stands (by_draw numbers g.now takes g.draws (at_draw (Err why) leads.now leads.holds))
 
   -- ---- an attempt
 

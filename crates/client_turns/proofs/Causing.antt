@@ -165,7 +165,7 @@ later_refused rules m t why x y up (by_step c q stamp named asks is) = by_step c
 later_refused rules m t why x y up (by_view o oid has is) = by_view o oid has is
 later_refused rules m t why x y up (by_length o p n has excess is) = by_length o p n has excess is
 later_refused rules m t why x y up (by_call o objects root call numbers has said sees is) = by_call o objects root call numbers has said sees is
-later_refused rules m t why x y up (by_number c root call rules' b stamp named said raised is) = by_number c root call rules' b stamp named said raised is
+later_refused rules m t why x y up (by_number c root call rules' b stamp named said takes raised is) = by_number c root call rules' b stamp named said takes raised is
 later_refused rules m t why x y up (by_vote o root call p puts has said made voted is) = by_vote o root call p puts has said made voted is
 later_refused rules m t why x y up (by_lengths o root call puts n has said made long is) = by_lengths o root call puts n has said made long is
 later_refused rules m t why x y up (by_savepoint o number has said none is) = by_savepoint o number has said none is
@@ -401,8 +401,8 @@ uncalled_refused rules m now t c o root call why said named has whole (by_tree o
 uncalled_refused rules m now t c o root call why said named has whole (by_read numbers behind oid draws read found) =
     let failed : (why ≡ refusal.ReadFault) × Rose behind.counts.reads now.counts.reads = reading_failed behind.machine o.view oid behind.counts now.counts why found read.ends whole in
     by_reading failed.0 (subst (λ (k : FaultCounts). Rose k.reads now.counts.reads) (draws_drawn m c.session numbers behind draws).counts failed.1)
-uncalled_refused rules m now t c o root call why said named has whole (by_draw numbers behind draws (rules', step)) =
-    by_number c root call rules' behind.machine step.stamp named said (draws_drawn m c.session numbers behind draws).machine (new_reply rules' behind c.session (reply.Refused why) now step)
+uncalled_refused rules m now t c o root call why said named has whole (by_draw numbers behind takes draws (rules', step)) =
+    by_number c root call rules' behind.machine step.stamp named said takes (draws_drawn m c.session numbers behind draws).machine (new_reply rules' behind c.session (reply.Refused why) now step)
 uncalled_refused rules m now t c o root call why said named has whole (by_want numbers draws is) = absurd (memory_goes_on why is whole)
 
 told_no_refusal : (X : Type 0) (why : Refusal) (x : TreeAnswer) → answer.Refused why ≡ answer_told x → X

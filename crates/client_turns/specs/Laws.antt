@@ -18,7 +18,7 @@ use Rattle.zb_script.specs.declared.tree_call.TreeCall.{TreeCall}
 use Rattle.commit_phases.specs.Pending.{PendingChanges, excess_with, stores_after}
 use Rattle.tree_calls.specs.declared.known.Seen.{Seen}
 use Rattle.tree_calls.specs.declared.operation.TreeAnswer.{TreeAnswer}
-use Rattle.tree_calls.specs.Calls.{IsMade, IsRefused}
+use Rattle.tree_calls.specs.Calls.{IsMade, IsRefused, takes_numbers}
 use Rattle.zodb_core.specs.declared.reply.Reply.TheVariants as reply
 use Rattle.zodb_core.specs.declared.request.Request.{Request}
 use Rattle.zodb_core.specs.declared.request.Request.TheVariants as request
@@ -143,7 +143,7 @@ abbrev pub WouldPut : Moment → OpenTransaction → ℕ → TreeCall → List P
 WouldPut m o root call puts = (objects : ℕ → Option Seen) × (numbers : List ℕ) × (x : TreeAnswer) × Sees m.machine o objects × IsMade objects root (operation_of call) numbers x puts
 
 -- Why a turn was refused so: the client never opened a session; too many are open; its connection refuses the line; the machine refuses the line's step; the
--- view hasn't got the object; what would wait is too long; a tree refuses the call, over what the transaction has; no number is left for a new object; a call would
+-- view hasn't got the object; what would wait is too long; a tree refuses the call, over what the transaction has; no number is left for a new object of a call that sets a key; a call would
 -- put something once the transaction is voted; there is no such savepoint; or reading failed, and the count of failed reads rose.
 pub data IsRefusedFor (rules : Rules) (m : Moment) (t : Turn) (why : Refusal) (now : Moment) : Type 0 where
   unnamed : place_of_client t.client m.clients ≡ None → why ≡ refusal.NotOpen → IsRefusedFor rules m t why now
@@ -155,7 +155,7 @@ pub data IsRefusedFor (rules : Rules) (m : Moment) (t : Turn) (why : Refusal) (n
   by_length : (o : OpenTransaction) (p : PendingStore) (n : ℕ) → HasOpen m t.client o → excess_with o.changes.pending.stores p ≡ Some n → why ≡ refusal.TooLong n → IsRefusedFor rules m t why now
   by_call : (o : OpenTransaction) (objects : ℕ → Option Seen) (root : ℕ) (call : TreeCall) (numbers : List ℕ) → HasOpen m t.client o → t.line ≡ line.Tree root call → Sees m.machine o objects
       → IsRefused objects root (operation_of call) numbers why → IsRefusedFor rules m t why now
-  by_number : (c : Client) (root : ℕ) (call : TreeCall) (rules' : Rules) (b : Machine) (stamp : ℕ) → IsNamed m t.client c → t.line ≡ line.Tree root call → IsRaised m.machine b → (step_of rules' b c.session (request.NewOids 1) stamp).reply ≡ reply.Refused why → IsRefusedFor rules m t why now
+  by_number : (c : Client) (root : ℕ) (call : TreeCall) (rules' : Rules) (b : Machine) (stamp : ℕ) → IsNamed m t.client c → t.line ≡ line.Tree root call → takes_numbers (operation_of call) ≡ true → IsRaised m.machine b → (step_of rules' b c.session (request.NewOids 1) stamp).reply ≡ reply.Refused why → IsRefusedFor rules m t why now
   by_vote : (o : OpenTransaction) (root : ℕ) (call : TreeCall) (p : PendingStore) (puts : List PendingStore) → HasOpen m t.client o → t.line ≡ line.Tree root call → WouldPut m o root call (p ∷ puts) → o.changes.is_voted ≡ true
       → why ≡ refusal.Voted → IsRefusedFor rules m t why now
   by_lengths : (o : OpenTransaction) (root : ℕ) (call : TreeCall) (puts : List PendingStore) (n : ℕ) → HasOpen m t.client o → t.line ≡ line.Tree root call → WouldPut m o root call puts → stores_after o.changes.pending.stores puts ≡ Err n → why ≡ refusal.TooLong n → IsRefusedFor rules m t why now

@@ -13,7 +13,7 @@ use Rattle.tree_calls.specs.declared.operation.TreeAnswer.{TreeAnswer}
 use Rattle.tree_calls.specs.declared.operation.TreeAnswer.TheVariants as answered
 use Rattle.tree_calls.specs.declared.operation.TreeOperation.{TreeOperation}
 use Rattle.tree_calls.specs.declared.operation.TreeOperation.TheVariants as operation
-use Rattle.tree_calls.specs.Calls.{IsMade, IsRefused}
+use Rattle.tree_calls.specs.Calls.{IsMade, IsRefused, takes_numbers}
 use Rattle.zodb_core.specs.declared.reply.Reply.TheVariants as reply
 use Rattle.zodb_core.specs.declared.request.Request.TheVariants as request
 use Rattle.zodb_core.specs.Machine.{Machine, Rules}
@@ -98,11 +98,11 @@ pub record IsCalled (m : Moment) (n : ℕ) (t : OpenTransaction) (root : ℕ) (o
   pub draws : Draws m n numbers now
   pub made : IsMade objects root op numbers x.answer x.puts
 
--- A call isn't answered: the tree refuses it, a read fails, no number is given, or memory runs out.
+-- A call isn't answered: the tree refuses it, a read fails, it may take numbers and none is given, or memory runs out.
 pub data IsUncalled (m : Moment) (n : ℕ) (t : OpenTransaction) (root : ℕ) (op : TreeOperation) (why : Refusal) (now : Moment) : Type 0 where
   by_tree : (objects : ℕ → Option Seen) (numbers : List ℕ) → Sees m.machine t objects → Draws m n numbers now → IsRefused objects root op numbers why → IsUncalled m n t root op why now
   by_read : (numbers : List ℕ) (behind : Moment) (oid : ℕ) → Draws m n numbers behind → IsReadAt behind t.view oid (Err why) now → is_missing why ≡ false → IsUncalled m n t root op why now
-  by_draw : (numbers : List ℕ) (behind : Moment) → Draws m n numbers behind → IsUndrawn behind n why now → IsUncalled m n t root op why now
+  by_draw : (numbers : List ℕ) (behind : Moment) → takes_numbers op ≡ true → Draws m n numbers behind → IsUndrawn behind n why now → IsUncalled m n t root op why now
   by_want : (numbers : List ℕ) → Draws m n numbers now → why ≡ refusal.Memory → IsUncalled m n t root op why now
 
 abbrev pub CallEnds : Moment → ℕ → OpenTransaction → ℕ → TreeOperation → Result Made Refusal → Moment → Type 0

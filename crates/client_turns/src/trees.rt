@@ -3,7 +3,7 @@
 ghost use Rattle.std.specs.Prelude.{◌≡◌, ◌<◌, ◌≤◌, ℕ, List, All, IfOk, IfSome, Option, Some, None, true, is_some, length, slice_get, slice_set};
 ghost use Rattle.zodb_core.specs.HubState.{rules_of};
 ghost use Rattle.zodb_core.specs.Outcomes.{Answered};
-ghost use Rattle.tree_calls.specs.Calls.{IsAttempt, IsWanted};
+ghost use Rattle.tree_calls.specs.Calls.{IsAttempt, IsWanted, takes_numbers};
 ghost use Rattle.tree_calls.specs.declared.known.Seen.{Seen};
 ghost use Rattle.tree_calls.specs.Known.{known_at};
 ghost use Rattle.tree_calls.specs.declared.operation.TreeOperation.{TreeOperation};
@@ -303,7 +303,8 @@ impl<St: Store, R: Resolver, F: Refs> Clients<St, R, F> {
         clock: &mut C,
     ) -> Option<Result<Made, Refusal>>
         requires place { at < length self.old.clients }
-        ensures advances { (root : ℕ) (op : TreeOperation) (known : List (ℕ × Option Seen)) → St.told → (m : Moment)
+        ensures advances { (root : ℕ) (op : TreeOperation) (known : List (ℕ × Option Seen))
+            → takes_numbers op ≡ true → St.told → (m : Moment)
             → StandsGathering self.old (C.stamps clock.old) m at known numbers.old.items
             → AdvancesTo m at root op self.new (C.stamps clock.new) known numbers.new.items result }
         ensures hub { ReadsHub St.told St.lasts St.stands (outcome_of_advance result) self.old.hub self.new.hub }

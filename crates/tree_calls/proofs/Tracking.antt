@@ -177,11 +177,11 @@ refused_by objects root op numbers puts calls e why is ends drawn = record {
   drawn = drawn;
 }
 
-pub want_attempt : (objects : ℕ → Option Seen) (root : ℕ) (op : TreeOperation) (numbers : List ℕ) (result : Result Attempt AllocError) → IfOk result IsWant → IfOk result (IsAttempt objects root op numbers)
+pub want_attempt : (objects : ℕ → Option Seen) (root : ℕ) (op : TreeOperation) (numbers : List ℕ) (result : Result Attempt AllocError) → IfOk result (IsWant op) → IfOk result (IsAttempt objects root op numbers)
 want_attempt objects root op numbers (Ok (attempt.Made made)) want = absurd want
 want_attempt objects root op numbers (Ok (attempt.Refused why)) want = absurd want
 want_attempt objects root op numbers (Ok (attempt.WantsObject oid)) want = tt
-want_attempt objects root op numbers (Ok attempt.WantsNumber) want = tt
+want_attempt objects root op numbers (Ok attempt.WantsNumber) want = want
 want_attempt objects root op numbers (Err e) want = tt
 
 pub made_by : (objects : ℕ → Option Seen) (root : ℕ) (op : TreeOperation) (numbers : List ℕ) (puts : List PendingStore) (calls : List Call) (a : TreeAnswer) → CallEnds (contents_of objects) (contents_after puts (contents_of objects)) calls root op (Ok a)

@@ -124,19 +124,24 @@ CallEnds before after calls root op (Err error.BadKey) = CallFails before after 
 CallEnds before after calls root op (Err (error.Refused why)) = Unit {0}
 CallEnds before after calls root op (Err error.Memory) = Unit {0}
 
--- how an attempt ends: the call is answered or refused, or something is wanted first
+-- a call may take numbers for new objects: those that set a key may
+abbrev pub takes_numbers : TreeOperation → Bool
+takes_numbers (operation.Set key value) = true
+takes_numbers _ = false
+
+-- how an attempt ends: the call is answered or refused, or something is wanted first, a number only where the call may take some
 abbrev pub IsAttempt : (ℕ → Option Seen) → ℕ → TreeOperation → List ℕ → Attempt → Type 0
 IsAttempt objects root op numbers (attempt.Made made) = IsMade objects root op numbers made.answer made.puts × All (λ p. 0 < length p.bytes) made.puts
 IsAttempt objects root op numbers (attempt.Refused why) = IsRefused objects root op numbers why
 IsAttempt objects root op numbers (attempt.WantsObject oid) = Unit {0}
-IsAttempt objects root op numbers attempt.WantsNumber = Unit {0}
+IsAttempt objects root op numbers attempt.WantsNumber = takes_numbers op ≡ true
 
 -- something is wanted first
-abbrev pub IsWant : Attempt → Type 0
-IsWant (attempt.Made made) = ⊥
-IsWant (attempt.Refused why) = ⊥
-IsWant (attempt.WantsObject oid) = Unit {0}
-IsWant attempt.WantsNumber = Unit {0}
+abbrev pub IsWant : TreeOperation → Attempt → Type 0
+IsWant op (attempt.Made made) = ⊥
+IsWant op (attempt.Refused why) = ⊥
+IsWant op (attempt.WantsObject oid) = Unit {0}
+IsWant op attempt.WantsNumber = takes_numbers op ≡ true
 
 -- an object that is wanted first isn't known yet
 abbrev pub IsWanted : List (ℕ × Option Seen) → Attempt → Type 0

@@ -214,9 +214,19 @@ fn operate<B: Sight>(
     }
 }
 
-/// An object that is to be read, where it isn't known yet.
-fn wanted_object(known: &Known, oid: Oid) -> Result<Attempt, AllocError>
-    ensures want { IfOk result IsWant }
+/// Whether a call may take numbers for new objects.
+fn takes_numbers(operation: &TreeOperation) -> bool
+    ensures { result ≡ Calls.takes_numbers operation.now }
+{
+    match operation {
+        TreeOperation::Set { .. } => true,
+        _ => false,
+    }
+}
+
+/// An object that is to be read for a call, where it isn't known yet.
+fn wanted_object(known: &Known, oid: Oid, _operation: &TreeOperation) -> Result<Attempt, AllocError>
+    ensures want { IfOk result (IsWant _operation.now) }
     ensures wants { IfOk result (IsWanted known.now) }
 {
     match known.find(oid) {
@@ -225,14 +235,26 @@ fn wanted_object(known: &Known, oid: Oid) -> Result<Attempt, AllocError>
     }
 }
 
-/// What an attempt lacked that ended as for want of memory.
-fn wanted(known: &Known, lack: Lack) -> Result<Attempt, AllocError>
-    ensures want { IfOk result IsWant }
+/// A number that is to be drawn for a call, where it may take one.
+fn wanted_number(_known: &Known, operation: &TreeOperation) -> Result<Attempt, AllocError>
+    ensures want { IfOk result (IsWant operation.now) }
+    ensures wants { IfOk result (IsWanted _known.now) }
+{
+    if takes_numbers(operation) {
+        Ok(Attempt::WantsNumber)
+    } else {
+        Err(AllocError)
+    }
+}
+
+/// What an attempt at a call lacked that ended as for want of memory.
+fn wanted(known: &Known, lack: Lack, operation: &TreeOperation) -> Result<Attempt, AllocError>
+    ensures want { IfOk result (IsWant operation.now) }
     ensures wants { IfOk result (IsWanted known.now) }
 {
     match lack {
-        Lack::Object(oid) => wanted_object(known, oid),
-        Lack::Number => Ok(Attempt::WantsNumber),
+        Lack::Object(oid) => wanted_object(known, oid, operation),
+        Lack::Number => wanted_number(known, operation),
         Lack::Nothing => Err(AllocError),
     }
 }
@@ -269,16 +291,16 @@ fn end<B: Sight>(
     known: &Known,
     _calls: &[Call],
     _root: Oid,
-    _operation: &TreeOperation,
+    operation: &TreeOperation,
     answered: Result<TreeAnswer, TreeError>,
 ) -> Result<Attempt, AllocError>
     requires whole { is_whole ≡ true → drawn_in _calls.now ≡ B.numbers }
     requires written { written_in _calls.now ≡ oids_of puts }
     requires based { bases_of puts ≡ map (based_on B.numbers B.objects) (oids_of puts) }
     requires filled { are_filled puts ≡ true }
-    requires ends { CallEnds (contents_of B.objects) (contents_after puts (contents_of B.objects)) _calls.now _root _operation.now
+    requires ends { CallEnds (contents_of B.objects) (contents_after puts (contents_of B.objects)) _calls.now _root operation.now
         answered }
-    ensures attempt { IfOk result (IsAttempt B.objects _root _operation.now B.numbers) }
+    ensures attempt { IfOk result (IsAttempt B.objects _root operation.now B.numbers) }
     ensures wants { IfOk result (IsWanted known.now) }
 {
     match answered {
@@ -291,7 +313,7 @@ fn end<B: Sight>(
         }
         Err(error) => match refusal_of(error) {
             Some(why) => refused_if(is_whole, why),
-            None => wanted(known, lack),
+            None => wanted(known, lack, operation),
         },
     }
 }
@@ -300,7 +322,7 @@ fn end<B: Sight>(
 /// refused, or tells what has to be read or drawn before it is made again. `_whose` and `_changes` are what the objects
 /// belong to; only proofs look at them. `cache` spares the reading of bytes that were read before; it changes no answer. The
 /// one error is want of memory; it also comes where a call that is made again takes fewer of the numbers than were drawn for
-/// it, or lacks an object that is known, which no call does.
+/// it, or lacks an object that is known, or a number and isn't one that sets a key, which no call does.
 pub fn call_tree<B: Sight, W, V>(
     alloc: Global,
     _whose: &W,

@@ -6,16 +6,16 @@ use Rattle.client_turns.proofs.Advancing.{calm_reads, draws_on, undrawn, undrawn
 use Rattle.client_turns.proofs.clients.Clients.draw_more.Goals as goal
 
 pub returns-in-Err-clause-advances : goal.returns-in-Err-clause-advances
-returns-in-Err-clause-advances g c = λ root op known told m gathers.
-    undrawn m c.args.at c.args.self.now _ known c.args.numbers.now.items gathers root op c.in-Err.why _ _ (c.in-Err.ensures.draw told gathers.now gathers.stands)
+returns-in-Err-clause-advances g c = λ root op known takes told m gathers.
+    undrawn m c.args.at c.args.self.now _ known c.args.numbers.now.items gathers root op c.in-Err.why _ _ takes (c.in-Err.ensures.draw told gathers.now gathers.stands)
 
 pub returns-in-Ok-push-clause-advances : goal.returns-in-Ok-push-clause-advances
-returns-in-Ok-push-clause-advances g c = λ root op known told m gathers.
+returns-in-Ok-push-clause-advances g c = λ root op known takes told m gathers.
     subst (λ ns. AdvancesTo m c.args.at root op c.draw.new.self (g.C.Clock.stamps c.draw.new.clock) known ns None) (sym c.in-Ok-push.ensures.items)
     (draws_on m c.args.at c.args.self.now _ known c.args.numbers.now.items gathers root op c.in-Ok.oid _ _ (c.in-Ok.ensures.draw told gathers.now gathers.stands))
 
 pub returns-in-Err-push-clause-advances : goal.returns-in-Err-push-clause-advances
-returns-in-Err-push-clause-advances g c = λ root op known told m gathers.
+returns-in-Err-push-clause-advances g c = λ root op known takes told m gathers.
     undrawn_on m c.args.at c.args.self.now _ known c.args.numbers.now.items gathers root op c.in-Ok.oid _ _ (c.in-Ok.ensures.draw told gathers.now gathers.stands)
 
 pub returns-in-Err-push-clause-hub : goal.returns-in-Err-push-clause-hub

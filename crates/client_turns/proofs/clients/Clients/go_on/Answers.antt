@@ -31,4 +31,5 @@ pub returns-in-WantsObject-clause-advances : goal.returns-in-WantsObject-clause-
 returns-in-WantsObject-clause-advances g c = λ objects root op attempted told m gathers sees. c.learn.ensures.advances root op c.args.numbers.now.items told m gathers
 
 pub returns-in-WantsNumber-clause-advances : goal.returns-in-WantsNumber-clause-advances
-returns-in-WantsNumber-clause-advances g c = λ objects root op attempted told m gathers sees. c.draw_more.ensures.advances root op c.args.known.now told m gathers
+returns-in-WantsNumber-clause-advances g c = λ objects root op attempted told m gathers sees.
+    c.draw_more.ensures.advances root op c.args.known.now (subst (IsAttempt objects root op c.args.numbers.now.items) c.in-WantsNumber.is attempted) told m gathers
