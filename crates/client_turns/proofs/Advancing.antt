@@ -29,7 +29,7 @@ use Rattle.connection_view.specs.Connections.{work_of}
 use Rattle.connection_view.specs.ViewLaws.{IsSeenFrom, later_later, seen_from}
 use Rattle.connection_view.specs.Views.{Later, view_of}
 use Rattle.local_loads.specs.LocalLaws.{view_whole}
-use Rattle.client_turns.specs.Trees.{Draws, IsDrawn, IsRaised, IsSeenIn, IsUncalled, Sees, by_draw, by_read, by_tree, by_want}
+use Rattle.client_turns.specs.Trees.{Draws, IsDrawn, IsRaised, IsSeenIn, IsUncalled, MayDraw, Sees, by_draw, by_read, by_tree, by_want}
 use Rattle.client_turns.proofs.Changing.{opened_work}
 use Rattle.client_turns.proofs.Framing.{calm_counts, calm_other, calm_whole}
 use Rattle.client_turns.proofs.Gathering.{draws_more, known_more, seen_kept, seen_over, seen_same}
@@ -105,6 +105,13 @@ some_of : (o : Option OpenTransaction) (t : OpenTransaction) → o ≡ Some t �
 some_of (Some t) u is = refl
 some_of None u is = absurd cc
 
+-- a call that may take numbers may have drawn any
+pub never_taken : (op : TreeOperation) (ns : List ℕ) → takes_numbers op ≡ true → MayDraw op ns
+never_taken op ns takes none = absurd (no_both (sym none ∙ takes))
+  where
+    no_both : false ≡ true → ⊥
+    no_both e = absurd cc
+
 module _ {R F : Type 0} (m : Moment) (at : ℕ) (old : ClientsState R F) (before : Option (List Stamp)) (known : List (ℕ × Option Seen)) (numbers : List ℕ) (g : StandsGathering old before m at known numbers) where
   there_now : slice_get g.now.clients at ≡ Some g.client
   there_now = ap (λ (cs : List seen.Client). slice_get cs at) g.clients ∙ g.there
@@ -123,8 +130,8 @@ module _ {R F : Type 0} (m : Moment) (at : ℕ) (old : ClientsState R F) (before
       → LeadsTo (IsCallOf m at root op (Err why)) new after
   ends_at root op why new after now stands uncalled = record { now = now; holds = (g.client, g.there, g.transaction, g.begun, uncalled); stands = stands }
 
-  pub starves : (root : ℕ) (op : TreeOperation) → LeadsTo (IsCallOf m at root op (Err refusal.Memory)) old before
-  starves root op = ends_at root op refusal.Memory old before g.now g.stands (by_want numbers g.draws refl)
+  pub starves : (root : ℕ) (op : TreeOperation) → MayDraw op numbers → LeadsTo (IsCallOf m at root op (Err refusal.Memory)) old before
+  starves root op drawn = ends_at root op refusal.Memory old before g.now g.stands (by_want numbers drawn g.draws refl)
 
   -- ---- one more object
 
@@ -152,17 +159,17 @@ module _ {R F : Type 0} (m : Moment) (at : ℕ) (old : ClientsState R F) (before
         sees = known_more (IsSeenIn m.machine g.transaction) known more oid x learned g.sees here;
       }
 
-  pub unlearned : (root : ℕ) (op : TreeOperation) (oid : ℕ) (x : Option Seen) (new : ClientsState R F) (after : Option (List Stamp)) → LeadsTo (IsSightOf g.now at oid (Ok x)) new after → LeadsTo (IsCallOf m at root op (Err refusal.Memory)) new after
-  unlearned root op oid x new after leads =
+  pub unlearned : (root : ℕ) (op : TreeOperation) (oid : ℕ) (x : Option Seen) (new : ClientsState R F) (after : Option (List Stamp)) → LeadsTo (IsSightOf g.now at oid (Ok x)) new after → MayDraw op numbers → LeadsTo (IsCallOf m at root op (Err refusal.Memory)) new after
+  unlearned root op oid x new after leads drawn =
       let sight : (leads.now ≡ g.now) × IsSeenIn g.now.machine g.transaction oid x = at_sight oid (Ok x) leads.now leads.holds in
-      ends_at root op refusal.Memory new after g.now (subst (StandsForMoment new after) sight.0 leads.stands) (by_want numbers g.draws refl)
+      ends_at root op refusal.Memory new after g.now (subst (StandsForMoment new after) sight.0 leads.stands) (by_want numbers drawn g.draws refl)
 
-  unseen_by : (root : ℕ) (op : TreeOperation) (oid : ℕ) (why : Refusal) (now : Moment) → IsSightIn g.now (Some g.transaction) oid (Err why) now → IsUncalled m g.client.session g.transaction root op why now
-  unseen_by root op oid why now (inl read) = by_read numbers g.now oid g.draws read.0 read.1
-  unseen_by root op oid why now (inr starved) = by_want numbers (subst (Draws m g.client.session numbers) (sym starved.1) g.draws) starved.0
+  unseen_by : (root : ℕ) (op : TreeOperation) (oid : ℕ) (why : Refusal) (now : Moment) → MayDraw op numbers → IsSightIn g.now (Some g.transaction) oid (Err why) now → IsUncalled m g.client.session g.transaction root op why now
+  unseen_by root op oid why now drawn (inl read) = by_read numbers g.now oid drawn g.draws read.0 read.1
+  unseen_by root op oid why now drawn (inr starved) = by_want numbers drawn (subst (Draws m g.client.session numbers) (sym starved.1) g.draws) starved.0
 
-  pub unseen : (root : ℕ) (op : TreeOperation) (oid : ℕ) (why : Refusal) (new : ClientsState R F) (after : Option (List Stamp)) → LeadsTo (IsSightOf g.now at oid (Err why)) new after → LeadsTo (IsCallOf m at root op (Err why)) new after
-  unseen root op oid why new after leads = ends_at root op why new after leads.now leads.stands (unseen_by root op oid why leads.now (at_sight oid (Err why) leads.now leads.holds))
+  pub unseen : (root : ℕ) (op : TreeOperation) (oid : ℕ) (why : Refusal) (new : ClientsState R F) (after : Option (List Stamp)) → LeadsTo (IsSightOf g.now at oid (Err why)) new after → MayDraw op numbers → LeadsTo (IsCallOf m at root op (Err why)) new after
+  unseen root op oid why new after leads drawn = ends_at root op why new after leads.now leads.stands (unseen_by root op oid why leads.now drawn (at_sight oid (Err why) leads.now leads.holds))
 
   -- ---- one more number
 
@@ -188,10 +195,10 @@ module _ {R F : Type 0} (m : Moment) (at : ℕ) (old : ClientsState R F) (before
         sees = g.sees;
       }
 
-  pub undrawn_on : (root : ℕ) (op : TreeOperation) (oid : ℕ) (new : ClientsState R F) (after : Option (List Stamp)) → LeadsTo (IsDrawOf g.now at (Ok oid)) new after → LeadsTo (IsCallOf m at root op (Err refusal.Memory)) new after
-  undrawn_on root op oid new after leads =
+  pub undrawn_on : (root : ℕ) (op : TreeOperation) (oid : ℕ) (new : ClientsState R F) (after : Option (List Stamp)) → takes_numbers op ≡ true → LeadsTo (IsDrawOf g.now at (Ok oid)) new after → LeadsTo (IsCallOf m at root op (Err refusal.Memory)) new after
+  undrawn_on root op oid new after takes leads =
       let drawn : IsDrawn g.now g.client.session oid leads.now = at_draw (Ok oid) leads.now leads.holds in
-      ends_at root op refusal.Memory new after leads.now leads.stands (by_want (numbers ++ oid ∷ []) (draws_more m g.client.session numbers oid g.now leads.now g.draws drawn) refl)
+      ends_at root op refusal.Memory new after leads.now leads.stands (by_want (numbers ++ oid ∷ []) (never_taken op (numbers ++ oid ∷ []) takes) (draws_more m g.client.session numbers oid g.now leads.now g.draws drawn) refl)
 
   pub undrawn : (root : ℕ) (op : TreeOperation) (why : Refusal) (new : ClientsState R F) (after : Option (List Stamp)) → takes_numbers op ≡ true → LeadsTo (IsDrawOf g.now at (Err why)) new after → LeadsTo (IsCallOf m at root op (Err why)) new after
   undrawn root op why new after takes leads = ends_at root op why new after leads.now leads.stands (by_draw numbers g.now takes g.draws (at_draw (Err why) leads.now leads.holds))
@@ -214,12 +221,12 @@ module _ {R F : Type 0} (m : Moment) (at : ℕ) (old : ClientsState R F) (before
       seen_over m.machine g.transaction oid (known_at known oid) (objects_of old.hub.store.list (work_of k) oid) (λ y is. g.sees oid y is)
       (seen_same g.now.machine m.machine g.transaction.view oid _ (objects_of old.hub.store.list (work_of k) oid) (sym g.list) (sym g.journal) over)
 
-  pub made_on : (objects : ℕ → Option Seen) (root : ℕ) (op : TreeOperation) (made : Made) → Sees m.machine g.transaction objects → IsMade objects root op numbers made.answer made.puts → LeadsTo (IsCallOf m at root op (Ok made)) old before
-  made_on objects root op made sees is = record {
+  pub made_on : (objects : ℕ → Option Seen) (root : ℕ) (op : TreeOperation) (made : Made) → Sees m.machine g.transaction objects → IsMade objects root op numbers made.answer made.puts → MayDraw op numbers → LeadsTo (IsCallOf m at root op (Ok made)) old before
+  made_on objects root op made sees is may = record {
     now = g.now;
     holds = (g.client, g.there, g.transaction, g.begun, record { objects = objects; sees = sees; numbers = numbers; draws = g.draws; made = is });
     stands = g.stands;
   }
 
-  pub refused_on : (objects : ℕ → Option Seen) (root : ℕ) (op : TreeOperation) (why : Refusal) → Sees m.machine g.transaction objects → IsRefused objects root op numbers why → LeadsTo (IsCallOf m at root op (Err why)) old before
-  refused_on objects root op why sees is = ends_at root op why old before g.now g.stands (by_tree objects numbers sees g.draws is)
+  pub refused_on : (objects : ℕ → Option Seen) (root : ℕ) (op : TreeOperation) (why : Refusal) → Sees m.machine g.transaction objects → IsRefused objects root op numbers why → MayDraw op numbers → LeadsTo (IsCallOf m at root op (Err why)) old before
+  refused_on objects root op why sees is may = ends_at root op why old before g.now g.stands (by_tree objects numbers sees g.draws is)

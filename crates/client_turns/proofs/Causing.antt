@@ -398,12 +398,12 @@ memory_goes_on why is whole = no_end (sym (ap end_in is) ∙ whole)
 uncalled_refused : (rules : Rules) (m now : Moment) (t : Turn) (c : Client) (o : OpenTransaction) (root : ℕ) (call : TreeCall) (why : Refusal) → t.line ≡ line.Tree root call → IsNamed m t.client c → HasOpen m t.client o → end_in why ≡ None
     → IsUncalled m c.session o root (operation_of call) why now → IsRefusedFor rules m t why now
 uncalled_refused rules m now t c o root call why said named has whole (by_tree objects numbers sees draws refused) = by_call o objects root call numbers has said sees refused
-uncalled_refused rules m now t c o root call why said named has whole (by_read numbers behind oid draws read found) =
+uncalled_refused rules m now t c o root call why said named has whole (by_read numbers behind oid may draws read found) =
     let failed : (why ≡ refusal.ReadFault) × Rose behind.counts.reads now.counts.reads = reading_failed behind.machine o.view oid behind.counts now.counts why found read.ends whole in
     by_reading failed.0 (subst (λ (k : FaultCounts). Rose k.reads now.counts.reads) (draws_drawn m c.session numbers behind draws).counts failed.1)
 uncalled_refused rules m now t c o root call why said named has whole (by_draw numbers behind takes draws (rules', step)) =
     by_number c root call rules' behind.machine step.stamp named said takes (draws_drawn m c.session numbers behind draws).machine (new_reply rules' behind c.session (reply.Refused why) now step)
-uncalled_refused rules m now t c o root call why said named has whole (by_want numbers draws is) = absurd (memory_goes_on why is whole)
+uncalled_refused rules m now t c o root call why said named has whole (by_want numbers may draws is) = absurd (memory_goes_on why is whole)
 
 told_no_refusal : (X : Type 0) (why : Refusal) (x : TreeAnswer) → answer.Refused why ≡ answer_told x → X
 told_no_refusal X why (answered.Value None) is = absurd cc

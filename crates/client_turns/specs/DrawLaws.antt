@@ -125,10 +125,10 @@ read_leaves m b now o drawn rest counts = record {
 
 uncalled_leaves : (m : Moment) (n : ℕ) (t : OpenTransaction) (root : ℕ) (op : TreeOperation) (why : Refusal) (now : Moment) → IsUncalled m n t root op why now → LeavesCall m (outcome_of_refusal why) now
 uncalled_leaves m n t root op why now (by_tree objects numbers sees draws refused) = drawn_leaves m now (outcome_of_refusal why) (refused_answers objects root op numbers why refused) (draws_drawn m n numbers now draws)
-uncalled_leaves m n t root op why now (by_read numbers behind oid draws read found) = read_leaves m behind now (outcome_of_refusal why) (draws_drawn m n numbers behind draws) read.rest read.counts
+uncalled_leaves m n t root op why now (by_read numbers behind oid may draws read found) = read_leaves m behind now (outcome_of_refusal why) (draws_drawn m n numbers behind draws) read.rest read.counts
 uncalled_leaves m n t root op why now (by_draw numbers behind takes draws (rules, step)) =
     drawn_leaves m now (outcome_of_refusal why) (new_answered rules behind n (reply.Refused why) now step) (drawn_twice m behind now (draws_drawn m n numbers behind draws) (new_drawn rules behind n (reply.Refused why) now step))
-uncalled_leaves m n t root op why now (by_want numbers draws is) =
+uncalled_leaves m n t root op why now (by_want numbers may draws is) =
     let drawn : IsDrawnTo m now = draws_drawn m n numbers now draws in
     record { machine = drawn.machine; counts = subst (λ (w : Refusal). IsCountedBy m.counts now.counts (outcome_of_refusal w)) (sym is) drawn.counts; clients = drawn.clients }
 

@@ -24,7 +24,7 @@ use Rattle.client_turns.specs.Lines.{outcome_of_result}
 use Rattle.connection_view.specs.Views.{read_below}
 use Rattle.client_turns.specs.Standing.{ClientsState, LeadsTo, StandsForMoment}
 use Rattle.client_turns.specs.Steps.{IsReadAt}
-use Rattle.client_turns.specs.Trees.{CallEnds, Draws, IsDrawn, IsSeenIn, IsUndrawn, is_missing}
+use Rattle.client_turns.specs.Trees.{CallEnds, Draws, IsDrawn, IsSeenIn, IsUndrawn, MayDraw, is_missing}
 
 -- ---- what a transaction has
 
@@ -110,7 +110,7 @@ pub record StandsGathering {R F : Type 0} (seen : ClientsState R F) (left : Opti
 -- how an attempt leaves them: the call has ended, or it is made again
 abbrev pub AdvancesTo : {R F : Type 0} → Moment → ℕ → ℕ → TreeOperation → ClientsState R F → Option (List Stamp) → List (ℕ × Option Seen) → List ℕ → Option (Result Made Refusal) → Type 0
 AdvancesTo m at root op seen left known numbers None = StandsGathering seen left m at known numbers
-AdvancesTo m at root op seen left known numbers (Some result) = LeadsTo (IsCallOf m at root op result) seen left
+AdvancesTo m at root op seen left known numbers (Some result) = MayDraw op numbers → LeadsTo (IsCallOf m at root op result) seen left
 
 -- how an attempt ended that is made again, or a call
 abbrev pub outcome_of_advance : Option (Result Made Refusal) → StepOutcome

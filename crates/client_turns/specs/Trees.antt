@@ -98,12 +98,16 @@ pub record IsCalled (m : Moment) (n : ℕ) (t : OpenTransaction) (root : ℕ) (o
   pub draws : Draws m n numbers now
   pub made : IsMade objects root op numbers x.answer x.puts
 
+-- these numbers may be drawn for a call: none, unless it may take some
+abbrev pub MayDraw : TreeOperation → List ℕ → Type 0
+MayDraw op numbers = takes_numbers op ≡ false → numbers ≡ []
+
 -- A call isn't answered: the tree refuses it, a read fails, it may take numbers and none is given, or memory runs out.
 pub data IsUncalled (m : Moment) (n : ℕ) (t : OpenTransaction) (root : ℕ) (op : TreeOperation) (why : Refusal) (now : Moment) : Type 0 where
   by_tree : (objects : ℕ → Option Seen) (numbers : List ℕ) → Sees m.machine t objects → Draws m n numbers now → IsRefused objects root op numbers why → IsUncalled m n t root op why now
-  by_read : (numbers : List ℕ) (behind : Moment) (oid : ℕ) → Draws m n numbers behind → IsReadAt behind t.view oid (Err why) now → is_missing why ≡ false → IsUncalled m n t root op why now
+  by_read : (numbers : List ℕ) (behind : Moment) (oid : ℕ) → MayDraw op numbers → Draws m n numbers behind → IsReadAt behind t.view oid (Err why) now → is_missing why ≡ false → IsUncalled m n t root op why now
   by_draw : (numbers : List ℕ) (behind : Moment) → takes_numbers op ≡ true → Draws m n numbers behind → IsUndrawn behind n why now → IsUncalled m n t root op why now
-  by_want : (numbers : List ℕ) → Draws m n numbers now → why ≡ refusal.Memory → IsUncalled m n t root op why now
+  by_want : (numbers : List ℕ) → MayDraw op numbers → Draws m n numbers now → why ≡ refusal.Memory → IsUncalled m n t root op why now
 
 abbrev pub CallEnds : Moment → ℕ → OpenTransaction → ℕ → TreeOperation → Result Made Refusal → Moment → Type 0
 CallEnds m n t root op (Ok made) now = IsCalled m n t root op made now

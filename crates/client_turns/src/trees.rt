@@ -16,7 +16,7 @@ ghost use Rattle.client_turns.specs.Gathering;
 ghost use Rattle.client_turns.specs.Gathering.{AdvancesTo, Gathers, IsCallOf, IsDrawOf, IsFilled, IsSightOf, StandsGathering, gathered, objects_over, outcome_of_advance};
 ghost use Rattle.client_turns.specs.Lines.{outcome_of_answer, outcome_of_result};
 ghost use Rattle.client_turns.specs.Standing.{IsOpenLineOf, IsOwnOf, LeadsTo, LeavesHub, MayAskAt, MayReadAt, OrStarved, ReadsHub, StandsForMoment};
-ghost use Rattle.client_turns.specs.Trees.{Sees, answer_told, operation_of};
+ghost use Rattle.client_turns.specs.Trees.{MayDraw, Sees, answer_told, operation_of};
 
 use crate::answers::answered;
 use crate::client::{Client, connection_at, session_at};
@@ -342,6 +342,9 @@ impl<St: Store, R: Resolver, F: Refs> Clients<St, R, F> {
             → AdvancesTo m at root op self.new (C.stamps clock.new) known.new numbers.new.items result }
         ensures hub { ReadsHub St.told St.lasts St.stands (outcome_of_advance result) self.old.hub self.new.hub }
         ensures filled { IfSome result (λ ended. IfOk ended IsFilled) }
+        ensures drawn { (objects : ℕ → Option Seen) (root : ℕ) (op : TreeOperation)
+            → IsAttempt objects root op numbers.old.items attempt
+            → MayDraw op numbers.old.items → MayDraw op numbers.new.items }
         ensures more { Gathers (gathered known.old numbers.old.items) (gathered known.new numbers.new.items) result }
         ensures kept { length self.new.clients ≡ length self.old.clients }
     {
@@ -402,6 +405,7 @@ impl<St: Store, R: Resolver, F: Refs> Clients<St, R, F> {
             → AdvancesTo m at root operation.now self.new (C.stamps clock.new) known.new numbers.new.items result }
         ensures hub { ReadsHub St.told St.lasts St.stands (outcome_of_advance result) self.old.hub self.new.hub }
         ensures filled { IfSome result (λ ended. IfOk ended IsFilled) }
+        ensures drawn { MayDraw operation.now numbers.old.items → MayDraw operation.now numbers.new.items }
         ensures more { Gathers (gathered known.old numbers.old.items) (gathered known.new numbers.new.items) result }
         ensures kept { length self.new.clients ≡ length self.old.clients }
     {
@@ -429,6 +433,7 @@ impl<St: Store, R: Resolver, F: Refs> Clients<St, R, F> {
             → AdvancesTo m at root operation.now self.new (C.stamps clock.new) known.new numbers.new.items result }
         ensures hub { ReadsHub St.told St.lasts St.stands (outcome_of_advance result) self.old.hub self.new.hub }
         ensures filled { IfSome result (λ ended. IfOk ended IsFilled) }
+        ensures drawn { MayDraw operation.now numbers.old.items → MayDraw operation.now numbers.new.items }
         ensures more { Gathers (gathered known.old numbers.old.items) (gathered known.new numbers.new.items) result }
         ensures kept { length self.new.clients ≡ length self.old.clients }
     {

@@ -44,3 +44,10 @@ returns-clause-hub g c =
 
 pub returns-clause-kept : goal.returns-clause-kept
 returns-clause-kept g c = c.go_on.ensures.kept ∙ ap (λ s. length s.clients) c.attempt_at.ensures.same
+
+pub returns-clause-drawn : goal.returns-clause-drawn
+returns-clause-drawn g c = λ may.
+    let a = c.in-Ok.ensures.attempt in
+    let objects = objects_over c.args.known.now c.args.self.now.hub.store.list (work_of a.0) in
+    let attempted = subst (λ (ns : List ℕ). IsAttempt objects c.args.root c.args.operation.now ns c.in-Ok.attempt) c.as_slice.ensures.value a.2 in
+    c.go_on.ensures.drawn objects c.args.root c.args.operation.now attempted may

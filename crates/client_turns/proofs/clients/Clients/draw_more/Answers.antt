@@ -6,7 +6,7 @@ use Rattle.client_turns.proofs.Advancing.{calm_reads, draws_on, undrawn, undrawn
 use Rattle.client_turns.proofs.clients.Clients.draw_more.Goals as goal
 
 pub returns-in-Err-clause-advances : goal.returns-in-Err-clause-advances
-returns-in-Err-clause-advances g c = λ root op known takes told m gathers.
+returns-in-Err-clause-advances g c = λ root op known takes told m gathers may.
     undrawn m c.args.at c.args.self.now _ known c.args.numbers.now.items gathers root op c.in-Err.why _ _ takes (c.in-Err.ensures.draw told gathers.now gathers.stands)
 
 pub returns-in-Ok-push-clause-advances : goal.returns-in-Ok-push-clause-advances
@@ -15,8 +15,8 @@ returns-in-Ok-push-clause-advances g c = λ root op known takes told m gathers.
     (draws_on m c.args.at c.args.self.now _ known c.args.numbers.now.items gathers root op c.in-Ok.oid _ _ (c.in-Ok.ensures.draw told gathers.now gathers.stands))
 
 pub returns-in-Err-push-clause-advances : goal.returns-in-Err-push-clause-advances
-returns-in-Err-push-clause-advances g c = λ root op known takes told m gathers.
-    undrawn_on m c.args.at c.args.self.now _ known c.args.numbers.now.items gathers root op c.in-Ok.oid _ _ (c.in-Ok.ensures.draw told gathers.now gathers.stands)
+returns-in-Err-push-clause-advances g c = λ root op known takes told m gathers may.
+    undrawn_on m c.args.at c.args.self.now _ known c.args.numbers.now.items gathers root op c.in-Ok.oid _ _ takes (c.in-Ok.ensures.draw told gathers.now gathers.stands)
 
 pub returns-in-Err-push-clause-hub : goal.returns-in-Err-push-clause-hub
 returns-in-Err-push-clause-hub g c = calm_reads g.St.Store.told g.St.Store.lasts g.St.Store.stands NoMemory (inr refl) c.args.self.now.hub c.draw.new.self.hub c.in-Ok.ensures.hub

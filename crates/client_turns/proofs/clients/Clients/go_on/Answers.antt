@@ -2,7 +2,7 @@
 use Rattle.std.proofs.Common.{inl, refl, subst}
 use Rattle.tree_calls.specs.Calls.{IsAttempt}
 use Rattle.zodb_core.specs.Outcomes.{Answered, outcome_of_refusal}
-use Rattle.client_turns.proofs.Advancing.{made_on, refused_calm, refused_on, still_reads}
+use Rattle.client_turns.proofs.Advancing.{made_on, never_taken, refused_calm, refused_on, still_reads}
 use Rattle.client_turns.proofs.clients.Clients.go_on.Goals as goal
 
 pub returns-in-Made-clause-advances : goal.returns-in-Made-clause-advances
@@ -33,3 +33,7 @@ returns-in-WantsObject-clause-advances g c = λ objects root op attempted told m
 pub returns-in-WantsNumber-clause-advances : goal.returns-in-WantsNumber-clause-advances
 returns-in-WantsNumber-clause-advances g c = λ objects root op attempted told m gathers sees.
     c.draw_more.ensures.advances root op c.args.known.now (subst (IsAttempt objects root op c.args.numbers.now.items) c.in-WantsNumber.is attempted) told m gathers
+
+pub returns-in-WantsNumber-clause-drawn : goal.returns-in-WantsNumber-clause-drawn
+returns-in-WantsNumber-clause-drawn g c = λ objects root op attempted may.
+    never_taken op c.draw_more.new.numbers.items (subst (IsAttempt objects root op c.args.numbers.now.items) c.in-WantsNumber.is attempted)
