@@ -12,6 +12,3 @@ pub use family::{is_same_kind, key_fits, number_fits};
 pub use key::{Key, key_order};
 pub use laws::{classes_stand_once, keys_are_ordered};
 pub use table::{ClassRow, KeyKind, Kind, ValueKind, leaf_of, row_of};
-
-#[cfg(test)]
-mod tests;

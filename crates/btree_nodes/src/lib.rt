@@ -9,6 +9,3 @@ mod walk;
 
 pub use btree_shapes::{Call, Space, SpaceError, TreeError};
 pub use tree::Tree;
-
-#[cfg(test)]
-mod tests;

@@ -9,6 +9,3 @@ mod walk;
 pub use laws::{exchanged_sides_merge_alike, merges_are_maps, one_changed_side_is_kept};
 pub use merging::merge;
 pub use refusal::MergeRefusal;
-
-#[cfg(test)]
-mod tests;

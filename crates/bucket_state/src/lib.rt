@@ -20,6 +20,3 @@ pub use laws::{
 pub use reading::read_bucket;
 pub use tree::{Branch, Inner, TreeState, read_tree};
 pub use writing::{key_spelling, write_bucket, write_embedded, write_inner};
-
-#[cfg(test)]
-mod tests;

@@ -11,6 +11,3 @@ mod store;
 
 pub use opening::create_if_empty;
 pub use store::FileStore;
-
-#[cfg(test)]
-mod tests;

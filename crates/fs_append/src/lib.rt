@@ -8,6 +8,3 @@ mod creating;
 
 pub use appending::{abort, finish, vote};
 pub use creating::create;
-
-#[cfg(test)]
-mod tests;

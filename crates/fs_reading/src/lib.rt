@@ -25,6 +25,3 @@ pub use outline::{Outline, OutlinedChange, Source};
 pub use outlining::read_outline_at;
 pub use transaction::{read_transaction, read_transaction_at};
 pub use undo_log::{read_undo_log, read_undo_log_at};
-
-#[cfg(test)]
-mod tests;

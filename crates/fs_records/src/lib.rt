@@ -28,6 +28,3 @@ pub use place::{Place, Placed};
 pub use placing::placed_records;
 pub use verdict::Verdict;
 pub use writing::{finishing_sets_the_status, record_length, write_transaction};
-
-#[cfg(test)]
-mod tests;

@@ -19,6 +19,3 @@ pub use errors::OpenError;
 pub use numbers::Numbers;
 pub use opening::{Opened, open_main, read_file};
 pub use tally::Tally;
-
-#[cfg(test)]
-mod tests;

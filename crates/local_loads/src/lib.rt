@@ -10,6 +10,3 @@ mod told;
 pub use laws::{answers_are_the_hubs, steps_keep_clients};
 pub use local::LocalLoads;
 pub use told::Told;
-
-#[cfg(test)]
-mod tests;

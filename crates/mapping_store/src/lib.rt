@@ -8,6 +8,3 @@ mod packing;
 mod walks;
 
 pub use mapping::MappingStore;
-
-#[cfg(test)]
-mod tests;

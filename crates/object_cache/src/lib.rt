@@ -4,6 +4,3 @@
 mod cache;
 
 pub use cache::ObjectCache;
-
-#[cfg(test)]
-mod tests;

@@ -18,6 +18,3 @@ pub use beginning::begin;
 pub use renewing::anew;
 pub use state::{CopyState, changes_of};
 pub use turn::{copy_rest, copy_turn};
-
-#[cfg(test)]
-mod tests;

@@ -12,6 +12,3 @@ pub use laws::{
 };
 pub use marker::{Marked, Marker};
 pub use refusal::PackRefusal;
-
-#[cfg(test)]
-mod tests;

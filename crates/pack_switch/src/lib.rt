@@ -4,6 +4,3 @@
 mod switching;
 
 pub use switching::{Switched, switch};
-
-#[cfg(test)]
-mod tests;

@@ -3,9 +3,6 @@
 ghost use Rattle.std.specs.Prelude.{◌≡◌};
 ghost use Rattle.pickle_ops.specs.Rows.{row_in, op_in};
 
-#[cfg(test)]
-mod tests;
-
 /// What an opcode does. The names are those of Python's `pickletools`, written as Rust writes names.
 #[derive(Clone, Copy, Debug, PartialEq, Eq)]
 pub enum Op {

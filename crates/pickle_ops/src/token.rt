@@ -12,9 +12,6 @@ use crate::table::{Op, TABLE, row_of};
 use std::error::Error;
 use std::fmt;
 
-#[cfg(test)]
-mod tests;
-
 /// An opcode with its argument. The bytes of the argument are the `length` bytes of the input from
 /// `start` on: those of a number, the counted bytes behind a length, or both lines of a global with
 /// their newlines. `number` is the number that the argument says, and 0 where it says none.

@@ -32,6 +32,3 @@ pub use pickle::Pickle;
 pub use reading::{NODE_LIMIT, read_pickle};
 pub use references::references_of;
 pub use writing::{PutNumbers, put_numbers, spelling, write_pickle};
-
-#[cfg(test)]
-mod tests;

@@ -6,6 +6,3 @@ mod savepoints;
 
 pub use error::SavepointError;
 pub use savepoints::Savepoints;
-
-#[cfg(test)]
-mod tests;

@@ -1,3 +1,2 @@
 pub mod Tracking
-pub mod Tested
 mod Recalled

@@ -15,6 +15,3 @@ pub use cache::NodeCache;
 pub use known::{Known, Seen};
 pub use operation::{INNER, LEAF, TreeAnswer, TreeOperation};
 pub use sight::Sight;
-
-#[cfg(test)]
-mod tests;

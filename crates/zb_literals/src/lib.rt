@@ -23,6 +23,3 @@ pub use printing::{node_literal, write_literal};
 pub use reading::read_literal;
 pub use records::{raw_literal, record_literal};
 pub use texts::push_text;
-
-#[cfg(test)]
-mod tests;

@@ -33,6 +33,3 @@ pub use rules::{NoRefs, NoRules, Refs, RefsError, ResolveError, Resolver};
 pub use store::Store;
 pub use store_error::StoreError;
 pub use votable::{is_votable, is_well_formed};
-
-#[cfg(test)]
-mod tests;

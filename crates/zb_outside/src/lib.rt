@@ -27,6 +27,3 @@ pub use sink::Sink;
 pub use source::Source;
 pub use write_sink::WriteSink;
 pub use writing::write_all;
-
-#[cfg(test)]
-mod tests;

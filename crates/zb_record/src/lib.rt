@@ -17,6 +17,3 @@ pub use printing::object_literal;
 pub use reading::{read_record, references};
 pub use record::ObjectRecord;
 pub use writing::write_record;
-
-#[cfg(test)]
-mod tests;

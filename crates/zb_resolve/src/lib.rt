@@ -11,6 +11,3 @@ mod state;
 mod stock;
 
 pub use stock::{StockRefs, StockResolver};
-
-#[cfg(test)]
-mod tests;

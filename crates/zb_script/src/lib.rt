@@ -34,6 +34,3 @@ pub use objects::shown_line;
 pub use payload::Payload;
 pub use script::{clients_open_first, one_script, read_script};
 pub use tree_call::TreeCall;
-
-#[cfg(test)]
-mod tests;

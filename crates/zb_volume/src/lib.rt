@@ -25,6 +25,3 @@ pub use laws::{
 };
 pub use memory::MemoryVolume;
 pub use volumes::Volume;
-
-#[cfg(test)]
-mod tests;

@@ -22,6 +22,3 @@ pub use laws::what_was_committed_stays;
 pub use script::MOST_BYTES;
 pub use status::Status;
 pub use top::zodb_main;
-
-#[cfg(test)]
-mod tests;

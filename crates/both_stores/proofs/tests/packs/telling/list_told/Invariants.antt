@@ -1,8 +1,0 @@
-use Rattle.std.proofs.Common.{◌≡◌, false}
-use Rattle.both_stores.proofs.tests.packs.telling.list_told.Given as goal
-
-abbrev pub invariant-loop-line : goal.invariant-loop-line
-invariant-loop-line g l = record {
-  whole : (g.St.Store.state l.store).broken ≡ false;
-  voted : (g.St.Store.state l.store).voted ≡ (g.St.Store.state l.fn.store).voted;
-}

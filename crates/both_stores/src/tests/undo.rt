@@ -1,6 +1,0 @@
-//! Undo, by a rule over single bytes.
-mod faults;
-pub mod making;
-mod pair;
-mod plain;
-mod steps;

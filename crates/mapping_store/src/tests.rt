@@ -1,4 +1,0 @@
-mod answers;
-mod commits;
-mod making;
-mod packs;

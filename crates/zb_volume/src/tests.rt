@@ -1,5 +1,0 @@
-mod files;
-mod images;
-mod journals;
-mod recorder;
-mod steps;
