@@ -4,7 +4,7 @@ use Rattle.std.proofs.lemmas.Grind.{common_steps}
 use Rattle.std.proofs.lemmas.List.{get_or-take, get_or_append_left, get_or-append_right, get_or-drop, length-append, length-take, length-drop}
 use Rattle.std.proofs.lemmas.Bool.{cases_lt}
 use Rattle.zb_volume.specs.declared.areas.Area.{Area}
-use Rattle.zb_volume.specs.declared.areas.Area.TheVariants.{Main, Side}
+use Rattle.zb_volume.specs.declared.areas.Area.TheVariants.{Main, Side, Hint}
 use Rattle.zb_volume.specs.declared.replay.Replay.{Replay}
 use Rattle.zb_volume.specs.Calls.{Call, WriteAt, SyncOf}
 use Rattle.zb_volume.specs.Disk.{Disk, seen, written}
@@ -57,8 +57,9 @@ found_possible r image possible d is = subst (λ (e : Disk). MayLeave e.pending 
 written_all : (bytes : List ℕ) → written [] 0 bytes ≡ bytes
 written_all bytes = grind (arith, common_steps)
 
--- a volume that holds two images
-pub held : (m s : List ℕ) (done : List Call) → done ≡ SyncOf Side ∷ WriteAt Side 0 s ∷ SyncOf Main ∷ WriteAt Main 0 m ∷ []
-    → (P : Area → List ℕ → Type 0) → P Main m → P Side s → (a : Area) → P a (seen (log_of done) a)
-held m s done is P main side Main = subst (λ (l : List Call). P Main (seen (log_of l) Main)) (sym is) (subst (P Main) (sym (written_all m)) main)
-held m s done is P main side Side = subst (λ (l : List Call). P Side (seen (log_of l) Side)) (sym is) (subst (P Side) (sym (written_all s)) side)
+-- a volume that holds an image of each area
+pub held : (m s h : List ℕ) (done : List Call) → done ≡ SyncOf Hint ∷ WriteAt Hint 0 h ∷ SyncOf Side ∷ WriteAt Side 0 s ∷ SyncOf Main ∷ WriteAt Main 0 m ∷ []
+    → (P : Area → List ℕ → Type 0) → P Main m → P Side s → P Hint h → (a : Area) → P a (seen (log_of done) a)
+held m s h done is P main side hint Main = subst (λ (l : List Call). P Main (seen (log_of l) Main)) (sym is) (subst (P Main) (sym (written_all m)) main)
+held m s h done is P main side hint Side = subst (λ (l : List Call). P Side (seen (log_of l) Side)) (sym is) (subst (P Side) (sym (written_all s)) side)
+held m s h done is P main side hint Hint = subst (λ (l : List Call). P Hint (seen (log_of l) Hint)) (sym is) (subst (P Hint) (sym (written_all h)) hint)

@@ -1,4 +1,3 @@
 mod Contents
 mod Extremes
 mod Log
-mod Mixes

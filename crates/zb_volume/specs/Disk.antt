@@ -1,7 +1,7 @@
 -- What a read gives of an area after some calls, and what is pending there.
 use Rattle.std.specs.Prelude.{Option, Some, None, ◌≡◌, ℕ, ◌+◌, ◌<◌, if◌then◌else◌, List, [], ◌∷◌, ◌++◌, length, take, drop, slice_index}
 use Rattle.zb_volume.specs.declared.areas.Area.{Area}
-use Rattle.zb_volume.specs.declared.areas.Area.TheVariants.{Main, Side}
+use Rattle.zb_volume.specs.declared.areas.Area.TheVariants.{Main, Side, Hint}
 use Rattle.zb_volume.specs.Calls.{Call, WriteAt, CutTo, SyncOf, Replace, Contents, area_content, touches, same_area, Event}
 
 -- what no sync has made sure of: the bytes of the last sync, and each content since then, the newest first
@@ -30,10 +30,11 @@ changed_to bytes d = record { now = bytes; pending = with_content bytes d.pendin
 abbrev pub written : List ℕ → ℕ → List ℕ → List ℕ
 written old at bytes = take at old ++ bytes ++ drop (at + length bytes) old
 
--- Side stands in the place of Main, and Side is empty
+-- Side stands in the place of Main, and Side is empty; the other areas stay
 abbrev pub after_replace : (Area → Disk) → Area → Disk
 after_replace d Main = d Side
 after_replace d Side = settled []
+after_replace d Hint = d Hint
 
 -- each area after a call that was made
 abbrev pub after_call : Call → (Area → Disk) → Area → Disk

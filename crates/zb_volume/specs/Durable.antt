@@ -1,7 +1,7 @@
 -- What a crash leaves at each moment while an area is changed and synced, and while Side takes Main's place.
 use Rattle.std.proofs.Common.{◌≡◌, ◌⊎◌, inl, inr, false, ℕ, List, ◌∷◌, Result, OnOk, OnErr, refl, sym, subst}
 use Rattle.zb_volume.specs.declared.areas.Area.{Area}
-use Rattle.zb_volume.specs.declared.areas.Area.TheVariants.{Main, Side}
+use Rattle.zb_volume.specs.declared.areas.Area.TheVariants.{Main, Side, Hint}
 use Rattle.zb_volume.specs.Calls.{Event, Call, made, Synced, Replaced, touches}
 use Rattle.zb_volume.specs.Disk.{disk, seen, IsSettled}
 use Rattle.zb_volume.specs.Images.{CrashLeaves, CrashLeavesWith}
@@ -25,6 +25,7 @@ sync_leaves r log mid new a w left is so_far = goes_on r a (CrashLeavesWith log 
 pub sure : (mid new : List Event) (a : Area) → new ≡ Synced a ∷ mid → IsSettled new a × (seen new a ≡ seen mid a)
 sure mid new Main is = subst (λ (l : List Event). IsSettled l Main × (seen l Main ≡ seen mid Main)) (sym is) (refl, refl)
 sure mid new Side is = subst (λ (l : List Event). IsSettled l Side × (seen l Side ≡ seen mid Side)) (sym is) (refl, refl)
+sure mid new Hint is = subst (λ (l : List Event). IsSettled l Hint × (seen l Hint ≡ seen mid Hint)) (sym is) (refl, refl)
 
 -- any two calls in a row leave the areas that they aren't about
 pub one_stays : {T E : Type 0} (r : Result T E) (log new : List Event) (call : Call) (b : Area) → touches call b ≡ false → OnOk r (new ≡ made call ∷ log) → OnErr r (Fails (made call) log new) → StaysAs b log new

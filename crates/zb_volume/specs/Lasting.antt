@@ -2,7 +2,7 @@
 use Rattle.std.proofs.Common.{◌≡◌, inl, inr, ⊎_elim, ℕ, ◌+◌, true, List, [], ◌∷◌, ◌++◌, take, drop, length, get_or, refl, sym, ap, subst, ◌∙◌, arith}
 use Rattle.std.proofs.lemmas.List.{ext_get_or, take_all, drop_all, append-nil}
 use Rattle.zb_volume.specs.declared.areas.Area.{Area}
-use Rattle.zb_volume.specs.declared.areas.Area.TheVariants.{Main, Side}
+use Rattle.zb_volume.specs.declared.areas.Area.TheVariants.{Main, Side, Hint}
 use Rattle.zb_volume.specs.Calls.{Event, Wrote, Cut, Synced, same_area}
 use Rattle.zb_volume.specs.Disk.{Pending, Disk, disk, settled, seen, written, with_content, IsSettled}
 use Rattle.zb_volume.specs.Images.{MayRead, MayLeave, IsImage, CrashLeavesWith}
@@ -11,6 +11,7 @@ use Rattle.zb_volume.specs.Moments.{Leaves}
 pub same_area-refl : (a : Area) → same_area a a ≡ true
 same_area-refl Main = refl
 same_area-refl Side = refl
+same_area-refl Hint = refl
 
 pub settled_image : (t c : List ℕ) → IsImage t [] c → c ≡ t
 settled_image t c image =
@@ -58,14 +59,17 @@ settled_mix log a w Q is mix c left = ⊎_elim
 pub wrote_leaves : (log : List Event) (a : Area) (at : ℕ) (bytes : List ℕ) → Leaves a (CrashLeavesWith log a (written (seen log a) at bytes)) (Wrote a at bytes ∷ log)
 wrote_leaves log Main at bytes c left = left
 wrote_leaves log Side at bytes c left = left
+wrote_leaves log Hint at bytes c left = left
 
 pub cut_leaves : (log : List Event) (a : Area) (n : ℕ) → Leaves a (CrashLeavesWith log a (take n (seen log a))) (Cut a n ∷ log)
 cut_leaves log Main n c left = left
 cut_leaves log Side n c left = left
+cut_leaves log Hint n c left = left
 
 pub synced_leaves : (log : List Event) (a : Area) (Q : List ℕ → Type 0) → Q (seen log a) → Leaves a Q (Synced a ∷ log)
 synced_leaves log Main Q q = settled_only (seen log Main) Q q
 synced_leaves log Side Q q = settled_only (seen log Side) Q q
+synced_leaves log Hint Q q = settled_only (seen log Hint) Q q
 
 -- what is written at the end stands behind
 pub written_end : (old text : List ℕ) (end : ℕ) → length old ≡ end → written old end text ≡ old ++ text
@@ -77,11 +81,14 @@ written_end old text end is =
 pub seen-wrote : (log : List Event) (a : Area) (at : ℕ) (bytes : List ℕ) → seen (Wrote a at bytes ∷ log) a ≡ written (seen log a) at bytes
 seen-wrote log Main at bytes = refl
 seen-wrote log Side at bytes = refl
+seen-wrote log Hint at bytes = refl
 
 pub seen-cut : (log : List Event) (a : Area) (n : ℕ) → seen (Cut a n ∷ log) a ≡ take n (seen log a)
 seen-cut log Main n = refl
 seen-cut log Side n = refl
+seen-cut log Hint n = refl
 
 pub disk-synced : (log : List Event) (a : Area) → disk (Synced a ∷ log) a ≡ settled (seen log a)
 disk-synced log Main = refl
 disk-synced log Side = refl
+disk-synced log Hint = refl

@@ -3,7 +3,6 @@ pub mod Disk
 pub mod Durable
 pub mod Faults
 pub mod Images
-pub mod Journal
 pub mod Kept
 pub mod Lasting
 pub mod Laws

@@ -1,7 +1,7 @@
 -- What a read gives of a volume in memory may be left by a crash at the same moment.
 use Rattle.std.specs.Prelude.{Bool, true, false, if◌then◌else◌, List, [], ◌∷◌, take}
 use Rattle.zb_volume.specs.declared.areas.Area.{Area}
-use Rattle.zb_volume.specs.declared.areas.Area.TheVariants.{Main, Side}
+use Rattle.zb_volume.specs.declared.areas.Area.TheVariants.{Main, Side, Hint}
 use Rattle.zb_volume.specs.Calls.{Event, Call, WriteAt, CutTo, SyncOf, Replace, made, same_area}
 use Rattle.zb_volume.specs.Disk.{Disk, disk, seen, settled, changed_to, written}
 use Rattle.zb_volume.specs.Images.{MayLeave, CrashLeaves}
@@ -22,6 +22,7 @@ step (CutTo b n) log before a = let d = disk log a in either (same_area b a) (ch
 step (SyncOf b) log before a = let d = disk log a in either (same_area b a) (settled d.now) d (settled_left d.now) (before a)
 step Replace log before Main = before Side
 step Replace log before Side = settled_left []
+step Replace log before Hint = before Hint
 
 pub seen_is_left : (calls : List Call) (a : Area) → CrashLeaves (log_of calls) a (seen (log_of calls) a)
 seen_is_left [] a = settled_left []

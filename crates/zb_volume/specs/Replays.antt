@@ -1,7 +1,10 @@
 -- What was found of an area, and the greatest and the least that a crash may leave of it.
 use Rattle.std.specs.Prelude.{◌≡◌, Bool, if◌then◌else◌, ℕ, List, [], ◌∷◌, ◌++◌, length, take, drop}
 use Rattle.std.specs.Global.{Vec}
+use Rattle.zb_volume.specs.declared.areas.Area.{Area}
+use Rattle.zb_volume.specs.declared.areas.Area.TheVariants.{Main, Side, Hint}
 use Rattle.zb_volume.specs.declared.replay.Replay.{Replay}
+use Rattle.zb_volume.specs.declared.replay.Areas.{Areas}
 use Rattle.zb_volume.specs.Disk.{Disk, Pending}
 use Rattle.zb_volume.specs.Images.{least_length}
 
@@ -37,3 +40,12 @@ contents_of contents = contents_from [] contents
 -- what was found of an area
 abbrev pub IsReplay : Replay → Disk → Type 0
 IsReplay r d = d ≡ record { now = r.current.items; pending = record { synced = r.synced.items; since = contents_of r.since.items } ∷ [] }
+
+-- what was found of each area
+abbrev pub area_of : Areas → Area → Replay
+area_of areas Main = areas.main
+area_of areas Side = areas.side
+area_of areas Hint = areas.hint
+
+abbrev pub AreReplays : Areas → (Area → Disk) → Type 0
+AreReplays areas d = (a : Area) → IsReplay (area_of areas a) (d a)

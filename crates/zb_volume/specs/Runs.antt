@@ -2,7 +2,7 @@
 use Rattle.std.proofs.Common.{◌≡◌, ◌⊎◌, inl, inr, ⊎_elim, Bool, true, false, if◌then◌else◌, ℕ, zero, suc, ◌+◌, ◌≤◌, length, drop, arith, List, [], ◌∷◌, ◌++◌, Result, Ok, Err, OnOk, OnErr, sym, ◌∙◌, refl, subst}
 use Rattle.std.proofs.lemmas.Bool.{true≢false}
 use Rattle.zb_volume.specs.declared.areas.Area.{Area}
-use Rattle.zb_volume.specs.declared.areas.Area.TheVariants.{Main, Side}
+use Rattle.zb_volume.specs.declared.areas.Area.TheVariants.{Main, Side, Hint}
 use Rattle.zb_volume.specs.Calls.{Event, Call, WriteAt, CutTo, SyncOf, Replace, made, area_content, touches, same_area}
 use Rattle.zb_volume.specs.Disk.{Pending, Disk, disk, after_call}
 use Rattle.zb_volume.specs.Images.{MayLeave}
@@ -45,6 +45,7 @@ after_call-other (CutTo b n) log a not = untouched (same_area b a) (disk log a) 
 after_call-other (SyncOf b) log a not = untouched (same_area b a) (disk log a) _ not
 after_call-other Replace log Main not = absurd (true≢false not)
 after_call-other Replace log Side not = absurd (true≢false not)
+after_call-other Replace log Hint not = refl
 
 -- one call more, which isn't about this area
 pub stays_on : {T E : Type 0} (r : Result T E) (a : Area) (e : Event) (old log new : List Event) → touches e.call a ≡ false → StaysAs a old log

@@ -9,6 +9,8 @@ pub enum Area {
     Main,
     /// A second area, in which a new file is prepared before it takes Main's place.
     Side,
+    /// What helps to open Main without reading it whole. A database is whole without it.
+    Hint,
 }
 
 /// A call of a volume failed: it was not done, or in part, or it was done and said otherwise. The

@@ -3,10 +3,7 @@
 
 mod areas;
 mod durable;
-mod host;
-mod host_files;
 mod images;
-mod journal;
 mod kept;
 mod laws;
 mod memory;
@@ -15,9 +12,6 @@ mod volumes;
 
 pub use areas::{Area, StoreFault};
 pub use durable::{cut_and_sync, sync_and_replace, write_and_sync};
-pub use host::HostVolume;
-pub use host_files::LockFile;
-pub use journal::append_record;
 pub use laws::{
     bytes_mix_one_by_one, calls_have_no_moments_of_their_own, earlier_moments_leave_more,
     fault_leaves_either, images_since_the_start_are_those_of_every_moment, other_areas_stay,

@@ -30,6 +30,7 @@ pub struct MemoryVolume {
     alloc: Global,
     main: Vec<u8>,
     side: Vec<u8>,
+    hint: Vec<u8>,
     kept: Vec<KeptCall>,
     failing: Vec<u64>,
     calls: u64,
@@ -40,7 +41,7 @@ pub struct MemoryVolume {
 
 impl Model for MemoryVolume {
     ghost use Rattle.std.specs.Prelude.{◌≡◌, ◌<◌, ◌^◌, length};
-    ghost use Rattle.zb_volume.specs.declared.areas.Area.TheVariants.{Main, Side};
+    ghost use Rattle.zb_volume.specs.declared.areas.Area.TheVariants.{Main, Side, Hint};
     ghost use Rattle.zb_volume.specs.Disk.{seen};
     ghost use Rattle.zb_volume.specs.Kept.{MemoryState, calls_of, log_of};
 
@@ -57,7 +58,8 @@ impl Model for MemoryVolume {
 
     ghost invariant = { λ v. (v.main.items ≡ seen (log_of (calls_of v.kept.items)) Main)
         × (v.side.items ≡ seen (log_of (calls_of v.kept.items)) Side)
-        × (length v.main.items < 2 ^ 63) × (length v.side.items < 2 ^ 63) };
+        × (v.hint.items ≡ seen (log_of (calls_of v.kept.items)) Hint)
+        × (length v.main.items < 2 ^ 63) × (length v.side.items < 2 ^ 63) × (length v.hint.items < 2 ^ 63) };
 }
 
 // The greatest image of an area, or the least.
@@ -76,10 +78,37 @@ fn chosen(alloc: Global, area: &Replay, all: bool) -> Result<Vec<u8>, AllocError
     Ok(image)
 }
 
+// The calls that leave these contents, with nothing pending.
+fn calls_for(
+    alloc: Global,
+    main: &[u8],
+    side: &[u8],
+    hint: &[u8],
+) -> Result<Vec<KeptCall>, AllocError>
+    ensures { IfOk result (λ kept. calls_of kept.items ≡
+        SyncOf Area.Hint ∷ WriteAt Area.Hint 0 hint.now ∷ SyncOf Area.Side ∷ WriteAt Area.Side 0 side.now
+        ∷ SyncOf Area.Main ∷ WriteAt Area.Main 0 main.now ∷ []) }
+{
+    let mut kept = Vec::new(alloc);
+    keep_write(alloc, &mut kept, Area::Main, 0, main)?;
+    keep(&mut kept, KeptCall::Synced(Area::Main))?;
+    keep_write(alloc, &mut kept, Area::Side, 0, side)?;
+    keep(&mut kept, KeptCall::Synced(Area::Side))?;
+    keep_write(alloc, &mut kept, Area::Hint, 0, hint)?;
+    keep(&mut kept, KeptCall::Synced(Area::Hint))?;
+    Ok(kept)
+}
+
 // A volume with these contents, and nothing pending.
-fn holding(alloc: Global, main: Vec<u8>, side: Vec<u8>) -> Result<MemoryVolume, AllocError>
+fn holding(
+    alloc: Global,
+    main: Vec<u8>,
+    side: Vec<u8>,
+    hint: Vec<u8>,
+) -> Result<MemoryVolume, AllocError>
     ensures { IfOk result (λ v. v ≡ record {
-      done = SyncOf Area.Side ∷ WriteAt Area.Side 0 side.items ∷ SyncOf Area.Main ∷ WriteAt Area.Main 0 main.items ∷ [];
+      done = SyncOf Area.Hint ∷ WriteAt Area.Hint 0 hint.items ∷ SyncOf Area.Side ∷ WriteAt Area.Side 0 side.items
+          ∷ SyncOf Area.Main ∷ WriteAt Area.Main 0 main.items ∷ [];
       failing = [];
       number = 0;
       read_faults = 0;
@@ -87,15 +116,12 @@ fn holding(alloc: Global, main: Vec<u8>, side: Vec<u8>) -> Result<MemoryVolume, 
       starved = 0;
     }) }
 {
-    let mut kept = Vec::new(alloc);
-    keep_write(alloc, &mut kept, Area::Main, 0, &main)?;
-    keep(&mut kept, KeptCall::Synced(Area::Main))?;
-    keep_write(alloc, &mut kept, Area::Side, 0, &side)?;
-    keep(&mut kept, KeptCall::Synced(Area::Side))?;
+    let kept = calls_for(alloc, &main, &side, &hint)?;
     Ok(MemoryVolume {
         alloc,
         main,
         side,
+        hint,
         kept,
         failing: Vec::new(alloc),
         calls: 0,
@@ -129,6 +155,7 @@ impl MemoryVolume {
             alloc,
             main: Vec::new(alloc),
             side: Vec::new(alloc),
+            hint: Vec::new(alloc),
             kept: Vec::new(alloc),
             failing,
             calls: 0,
@@ -157,10 +184,11 @@ impl MemoryVolume {
         ensures fresh { IfOk result (λ v. (v.failing ≡ []) × (v.number ≡ 0) × (v.read_faults ≡ 0)
             × (v.write_faults ≡ 0) × (v.starved ≡ 0)) }
     {
-        let (main, side) = make_again(self.alloc, &self.kept)?;
-        let main = chosen(self.alloc, &main, all)?;
-        let side = chosen(self.alloc, &side, all)?;
-        let image = holding(self.alloc, main, side)?;
+        let areas = make_again(self.alloc, &self.kept)?;
+        let main = chosen(self.alloc, &areas.main, all)?;
+        let side = chosen(self.alloc, &areas.side, all)?;
+        let hint = chosen(self.alloc, &areas.hint, all)?;
+        let image = holding(self.alloc, main, side, hint)?;
         Ok(image)
     }
 
@@ -168,10 +196,11 @@ impl MemoryVolume {
     pub fn may_leave(&self, area: Area, image: &[u8]) -> Result<bool, AllocError>
         ensures { IfOk result (λ b. IsTrue b ↔ CrashLeaves (log_of self.now.done) area image.now) }
     {
-        let (main, side) = make_again(self.alloc, &self.kept)?;
+        let areas = make_again(self.alloc, &self.kept)?;
         match area {
-            Area::Main => Ok(is_image(&main, image)),
-            Area::Side => Ok(is_image(&side, image)),
+            Area::Main => Ok(is_image(&areas.main, image)),
+            Area::Side => Ok(is_image(&areas.side, image)),
+            Area::Hint => Ok(is_image(&areas.hint, image)),
         }
     }
 
@@ -225,6 +254,7 @@ impl MemoryVolume {
         match area {
             Area::Main => &self.main,
             Area::Side => &self.side,
+            Area::Hint => &self.hint,
         }
     }
 
@@ -244,6 +274,7 @@ impl MemoryVolume {
         let done = match area {
             Area::Main => overwrite(&mut self.main, at as usize, bytes),
             Area::Side => overwrite(&mut self.side, at as usize, bytes),
+            Area::Hint => overwrite(&mut self.hint, at as usize, bytes),
         };
         if done.is_err() {
             self.kept.truncate(count);
@@ -262,6 +293,7 @@ impl MemoryVolume {
         match area {
             Area::Main => self.main.truncate(length as usize),
             Area::Side => self.side.truncate(length as usize),
+            Area::Hint => self.hint.truncate(length as usize),
         }
         Ok(())
     }

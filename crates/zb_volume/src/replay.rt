@@ -2,9 +2,10 @@
 
 ghost use Rattle.std.specs.Prelude.{◌≡◌, ℕ, ◌≤◌, List, [], ◌∷◌, length, take, OnOk, OnErr, IfOk};
 ghost use Rattle.zb_volume.specs.declared.areas.Area.{Area};
+ghost use Rattle.zb_volume.specs.Calls.{WriteAt, CutTo, SyncOf};
 ghost use Rattle.zb_volume.specs.Disk.{Disk, written, changed_to, settled, disk, after_call};
 ghost use Rattle.zb_volume.specs.Kept.{log_of, calls_of, call_of};
-ghost use Rattle.zb_volume.specs.Replays.{IsReplay};
+ghost use Rattle.zb_volume.specs.Replays.{IsReplay, AreReplays};
 
 use crate::Area;
 use crate::kept::KeptCall;
@@ -18,6 +19,14 @@ pub struct Replay {
     pub current: Vec<u8>,
     pub synced: Vec<u8>,
     pub since: Vec<Vec<u8>>,
+}
+
+/// The areas.
+#[derive(Drop)]
+pub struct Areas {
+    pub main: Replay,
+    pub side: Replay,
+    pub hint: Replay,
 }
 
 /// An area without bytes, with nothing pending.
@@ -88,43 +97,72 @@ fn sync(alloc: Global, area: &mut Replay) -> Result<(), AllocError>
     Ok(())
 }
 
-// One call more.
-fn step(
+fn write_in(
     alloc: Global,
-    main: &mut Replay,
-    side: &mut Replay,
-    call: &KeptCall,
+    areas: &mut Areas,
+    area: Area,
+    at: u64,
+    bytes: &[u8],
 ) -> Result<(), AllocError>
-    ensures main { OnOk result ((d : Area → Disk) → IsReplay main.old (d Area.Main) →
-        IsReplay side.old (d Area.Side) → IsReplay main.new (after_call (call_of call.now) d Area.Main)) }
-    ensures side { OnOk result ((d : Area → Disk) → IsReplay main.old (d Area.Main) →
-        IsReplay side.old (d Area.Side) → IsReplay side.new (after_call (call_of call.now) d Area.Side)) }
+    ensures { OnOk result ((d : Area → Disk) → AreReplays areas.old d →
+        AreReplays areas.new (after_call (WriteAt area at bytes.now) d)) }
+{
+    match area {
+        Area::Main => write(alloc, &mut areas.main, at, bytes),
+        Area::Side => write(alloc, &mut areas.side, at, bytes),
+        Area::Hint => write(alloc, &mut areas.hint, at, bytes),
+    }
+}
+
+fn cut_in(alloc: Global, areas: &mut Areas, area: Area, length: u64) -> Result<(), AllocError>
+    ensures { OnOk result ((d : Area → Disk) → AreReplays areas.old d →
+        AreReplays areas.new (after_call (CutTo area length) d)) }
+{
+    match area {
+        Area::Main => cut(alloc, &mut areas.main, length),
+        Area::Side => cut(alloc, &mut areas.side, length),
+        Area::Hint => cut(alloc, &mut areas.hint, length),
+    }
+}
+
+fn sync_in(alloc: Global, areas: &mut Areas, area: Area) -> Result<(), AllocError>
+    ensures { OnOk result ((d : Area → Disk) → AreReplays areas.old d →
+        AreReplays areas.new (after_call (SyncOf area) d)) }
+{
+    match area {
+        Area::Main => sync(alloc, &mut areas.main),
+        Area::Side => sync(alloc, &mut areas.side),
+        Area::Hint => sync(alloc, &mut areas.hint),
+    }
+}
+
+// One call more.
+fn step(alloc: Global, areas: &mut Areas, call: &KeptCall) -> Result<(), AllocError>
+    ensures { OnOk result ((d : Area → Disk) → AreReplays areas.old d →
+        AreReplays areas.new (after_call (call_of call.now) d)) }
 {
     match call {
-        KeptCall::Wrote(Area::Main, at, bytes) => write(alloc, main, *at, bytes),
-        KeptCall::Wrote(Area::Side, at, bytes) => write(alloc, side, *at, bytes),
-        KeptCall::Cut(Area::Main, length) => cut(alloc, main, *length),
-        KeptCall::Cut(Area::Side, length) => cut(alloc, side, *length),
-        KeptCall::Synced(Area::Main) => sync(alloc, main),
-        KeptCall::Synced(Area::Side) => sync(alloc, side),
+        KeptCall::Wrote(area, at, bytes) => write_in(alloc, areas, *area, *at, bytes),
+        KeptCall::Cut(area, length) => cut_in(alloc, areas, *area, *length),
+        KeptCall::Synced(area) => sync_in(alloc, areas, *area),
         KeptCall::Replaced => {
-            *main = mem::replace(side, empty(alloc));
+            areas.main = mem::replace(&mut areas.side, empty(alloc));
             Ok(())
         }
     }
 }
 
-/// Main and Side after these calls, the oldest first, on a volume that was empty.
-pub fn make_again(alloc: Global, calls: &[KeptCall]) -> Result<(Replay, Replay), AllocError>
-    ensures main { IfOk result (λ areas.
-        IsReplay areas.0 (disk (log_of (calls_of calls.now)) Area.Main)) }
-    ensures side { IfOk result (λ areas.
-        IsReplay areas.1 (disk (log_of (calls_of calls.now)) Area.Side)) }
+/// The areas after these calls, the oldest first, on a volume that was empty.
+pub fn make_again(alloc: Global, calls: &[KeptCall]) -> Result<Areas, AllocError>
+    ensures { IfOk result (λ areas. AreReplays areas (disk (log_of (calls_of calls.now)))) }
 {
-    let mut main = empty(alloc);
-    let mut side = empty(alloc);
+    let mut areas = Areas {
+        main: empty(alloc),
+        side: empty(alloc),
+        hint: empty(alloc),
+    };
     for call in calls {
-        step(alloc, &mut main, &mut side, call)?;
+        step(alloc, &mut areas, call)?;
     }
-    Ok((main, side))
+    Ok(areas)
 }

@@ -2,11 +2,11 @@
 //! path and the clock to the top call, and ends with its status. Nothing is written to the standard error.
 #![tactic(auto)]
 
+use host_volume::HostVolume;
 use std::env;
 use std::io::ErrorKind;
 use std::process::ExitCode;
 use zb_outside::{HostClock, ReadSource, WriteSink};
-use zb_volume::HostVolume;
 use zodb_top::{Status, zodb_main};
 
 /// The words behind the program's name. Where one isn't UTF-8 there are none, so that they are no

@@ -2,10 +2,11 @@
 
 ghost use Rattle.std.specs.Prelude.{◌≡◌, [], IfOk};
 
-use crate::host_files::{AreaFiles, LockFile};
-use crate::{Area, StoreFault, Volume};
+use crate::area_file::HostFile;
+use crate::files::AreaFiles;
 use std::alloc::{AllocError, Global};
 use std::rt::Files;
+use zb_volume::{Area, StoreFault, Volume};
 
 /// A volume whose areas are two files of one folder: Main is PATH, and Side is PATH followed by
 /// `.side`. Where PATH is a link, its file is meant, and the folder is that file's. It tells nothing of
@@ -46,7 +47,7 @@ pub struct HostVolume<R: Files> {
 
 impl<R: Files + Drop> HostVolume<R>
 where
-    R::File: LockFile,
+    R::File: HostFile,
 {
     /// A volume over the files PATH and PATH.side. Nothing is opened yet.
     pub fn new(alloc: Global, runtime: R, path: &str) -> Result<HostVolume<R>, AllocError>
@@ -63,7 +64,7 @@ where
 
 impl<R: Files + Drop> Volume for HostVolume<R>
 where
-    R::File: LockFile,
+    R::File: HostFile,
 {
     ghost told = { ⊥ };
 
