@@ -544,6 +544,59 @@ else
     skip "files without permission" "setpriv can't be had"
 fi
 
+# ---------------------------------------------------------------- what opening cuts
+
+echo "what opening cuts"
+
+# flip_length PATH: flips the highest bit of the length of the second transaction, so that it and all
+# behind it read as a transaction that was never finished. Prints where it begins.
+flip_length() {
+    local first second
+    first=$(od -An -tu8 --endian=big -j 12 -N 8 "$1" | tr -d ' ')
+    second=$((4 + first + 8))
+    printf '\x80' | dd of="$1" bs=1 seek=$((second + 8)) conv=notrunc status=none
+    echo "$second"
+}
+
+fresh flipped
+make "$F" 20
+chmod 640 "$F"
+at=$(flip_length "$F")
+cp -p "$F" "$WORK/copy"
+program 20 "$F" undolog >"$WORK/out"
+why=$(differs status 0 $?)$(differs "the first line" "cut $at" "$(head -n 1 "$WORK/out")")
+why=$why$(differs "the length" "$at" "$(stat -c %s "$F")")
+cat "$F" "$F.cut-$at" >"$D/both"
+why=$why$(changed "$D/both" "$WORK/copy")
+why=$why$(differs "the mode of what was cut" 640 "$(stat -c %a "$F.cut-$at")")
+check "a flipped bit in a length: what is cut stands beside the file" "$why"
+cp -p "$WORK/copy" "$F"
+program 20 "$F" undolog >"$WORK/out"
+cat "$F" "$F.cut-$at.1" >"$D/both"
+check "the same again, beside what stands there" "$(changed "$D/both" "$WORK/copy")"
+commits 10 1 | program 20 "$F" run >"$WORK/replies"
+why=$(differs status 0 $?)$(lost "$F" "$WORK/replies")
+check "commits go on behind the cut" "$why"
+
+fresh aborted
+make "$F" 2
+printf 'c open local\nc begin\nc store 0000000000000009 0000000000000000 00\nc vote "" ""\nc abort\n' |
+    program 20 "$F" run >"$WORK/out"
+why=$(differs status 0 $?)
+if ls "$F".cut-* >/dev/null 2>&1; then why="${why}a file was kept; "; fi
+check "an abort keeps nothing" "$why"
+
+# The owner of a file stays where a pack by root puts a new one in its place.
+fresh owner
+make "$F" 3
+if [ "$(id -u)" = 0 ] && chown 65534:65534 "$F" 2>/dev/null; then
+    program 20 "$F" pack 2100-01-01T00:00:00 >"$WORK/out"
+    why=$(differs status 0 $?)$(differs "the owner" 65534:65534 "$(stat -c %u:%g "$F")")
+    check "a pack by root of another's file" "$why"
+else
+    skip "a pack by root of another's file" "chown needs root"
+fi
+
 # ---------------------------------------------------------------- words
 
 echo "words that aren't UTF-8"
@@ -588,11 +641,10 @@ cp "$WORK/made" "$D/made"
     exec "$ZODB" "$F" run <"$WORK/script"
 ) 2>/dev/null | cat >"$D/replies"
 status=${PIPESTATUS[0]}
-why=
-if [ "$status" -lt 129 ]; then why="no signal ended it, but status $status; "; fi
+why=$(differs status 5 "$status")$(differs "the last line" "store fault" "$(tail -n 1 "$D/replies")")
 why=$why$(lost "$F" "$D/made" "$D/replies")
 if [ "$(acknowledged "$D/replies" | wc -l)" = 0 ]; then why="${why}nothing was committed; "; fi
-check "a limit on the length of files, as a signal" "$why"
+check "a limit on the length of files, whose signal would end the program" "$why"
 (
     trap '' XFSZ
     ulimit -f 0
@@ -617,6 +669,16 @@ if mount -t tmpfs -o size=24k,mode=755 mishaps "$D/small" 2>/dev/null; then
     commits 5000 5 | program 60 "$F" run >"$D/more"
     why=$(differs status 0 $?)$(lost "$F" "$D/made" "$D/replies" "$D/more")
     check "the same file, once there is room" "$why"
+    rm -f "$D/small"/*
+    mount -o remount,size=48k "$D/small"
+    make "$F" 100
+    flip_length "$F" >/dev/null
+    cp "$F" "$WORK/copy"
+    program 20 "$F" undolog >"$WORK/out"
+    why=$(differs status 5 $?)$(differs "the output" "store fault" "$(cat "$WORK/out")")
+    why=$why$(changed "$F" "$WORK/copy")
+    if ls "$F".cut-* >/dev/null 2>&1; then why="${why}a part of it was left; "; fi
+    check "a disk without room for what is cut" "$why"
     rm -f "$D/small"/*
     mount -o remount,size=8k "$D/small"
     head -c 100000 /dev/zero >"$D/small/filler" 2>/dev/null
