@@ -671,7 +671,7 @@ if mount -t tmpfs -o size=24k,mode=755 mishaps "$D/small" 2>/dev/null; then
     check "the same file, once there is room" "$why"
     rm -f "$D/small"/*
     mount -o remount,size=48k "$D/small"
-    make "$F" 100
+    make "$F" 200
     flip_length "$F" >/dev/null
     cp "$F" "$WORK/copy"
     program 20 "$F" undolog >"$WORK/out"
