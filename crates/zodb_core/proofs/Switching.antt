@@ -14,7 +14,7 @@ use Rattle.zb_model.specs.declared.store_error.StoreError.{StoreError}
 use Rattle.zb_model.specs.declared.store_error.StoreError.TheVariants as store_error
 use Rattle.zb_model.specs.Database.{newest_tid}
 use Rattle.zb_model.specs.Packing.{packed_by}
-use Rattle.zb_model.specs.Packs.{IsCopyOf, StandsForOneOfTwo, new_pack}
+use Rattle.zb_model.specs.Packs.{StandsForOneOfTwo, new_pack}
 use Rattle.zb_model.specs.Queries.{pack_point}
 use Rattle.zb_model.specs.StayLaws.{stays_then}
 use Rattle.zb_model.specs.Stores.{BegunPack, KeepsBegun, MayRefuse, StoreState, UnlessFault}
@@ -43,11 +43,6 @@ use Rattle.zodb_core.proofs.Stepping.{answered, not_early, reading_failed, sessi
 use Rattle.zodb_core.proofs.Votes.{dropped_failed, store_failed}
 
 -- ---- a store whose list is replaced
-
--- nothing is copied of a pack that was just begun
-pub new_copy : (keep : FinSet nat_cmp) (list : List Transaction) (begun : Option BegunPack) (t : ℕ) → begun ≡ Some (new_pack t) → ForSome begun (IsCopyOf keep list)
-new_copy keep list begun t is x some =
-    subst (IsCopyOf keep list) (same_Some (new_pack t) x (sym is ∙ some)) (packed_by t keep list, refl)
 
 for_new : (P : BegunPack → Type 0) (begun : Option BegunPack) (t : ℕ) → begun ≡ Some (new_pack t) → ForSome begun P → P (new_pack t)
 for_new P begun t is each = each (new_pack t) is

@@ -10,6 +10,7 @@ pub mod Machine
 pub mod Outcomes
 pub mod PackLaws
 pub mod Packing
+pub mod PacksGoOn
 pub mod Replies
 pub mod Seen
 pub mod Sound

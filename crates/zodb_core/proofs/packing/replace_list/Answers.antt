@@ -1,5 +1,6 @@
 use Rattle.zb_model.specs.Packing.{packed_by}
-use Rattle.zodb_core.proofs.Switching.{begin_moments, main_stays, new_copy, switch_moments, switched_list}
+use Rattle.zodb_core.proofs.Switching.{begin_moments, main_stays, switch_moments, switched_list}
+use Rattle.zodb_core.specs.PacksGoOn.{new_copy}
 use Rattle.zodb_core.proofs.packing.replace_list.Goals as goal
 
 pub returns-in-Err-clause-any_moment : goal.returns-in-Err-clause-any_moment
