@@ -22,10 +22,10 @@ use Rattle.btree_shapes.specs.Nodes.{node_of, Held, Holds, held_node, held_recor
 use Rattle.btree_shapes.specs.Spaces.{with_bytes, text_or_none}
 use Rattle.btree_shapes.specs.Ways.{stands_in}
 use Rattle.btree_shapes.specs.Shapes.{node_held, nodes_in}
-use Rattle.btree_setting.specs.Types.{Put}
-use Rattle.btree_setting.specs.Items.{same_value, same_item, same_items, same_branch, same_branches}
-use Rattle.btree_setting.specs.Puts.{put_oid, same_link, same_node, is_copy, is_class_kept, reads_as, text_reads_as, state_reads_as, keeps, all_keep, state_bytes, put_bytes, put_all}
-use Rattle.btree_setting.specs.Writing.{node_state}
+use Rattle.btree_putting.specs.declared.puts.Put.{Put}
+use Rattle.btree_putting.specs.Items.{same_value, same_item, same_items, same_branch, same_branches}
+use Rattle.btree_putting.specs.Puts.{put_oid, same_link, same_node, is_copy, is_class_kept, reads_as, text_reads_as, state_reads_as, keeps, all_keep, state_bytes, put_bytes, put_all}
+use Rattle.btree_putting.specs.Writing.{node_state}
 use Rattle.btree_nodes.specs.Drawn.{Differ}
 use Rattle.btree_nodes.proofs.Orders.{eq_is}
 use Rattle.btree_nodes.proofs.SetItems.{bytes_same, value_same}

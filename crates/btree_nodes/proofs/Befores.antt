@@ -13,7 +13,7 @@ use Rattle.btree_shapes.specs.Keys.{is_below}
 use Rattle.btree_shapes.specs.Nodes.{Held, Nothing, Foreign, Holds, node_suits}
 use Rattle.btree_shapes.specs.Ways.{stands_in}
 use Rattle.btree_shapes.specs.Shapes.{LeafShape, Shape, Limb, oid_of, branch_of, EachLimb, joined, node_held, nodes_in, Stands, Link, links_of, first_leaf}
-use Rattle.btree_setting.specs.Rungs.{is_none, first_of, first_held}
+use Rattle.btree_putting.specs.Firsts.{is_none, first_of, first_held}
 use Rattle.btree_removing.specs.Types.{Loss, Gone, Rung, Sides, Start}
 use Rattle.btree_removing.specs.Rungs.{rungs_of}
 use Rattle.btree_removing.specs.Sides.{left_child, head_child, start_at, or_start, head_start, side, sides_from}

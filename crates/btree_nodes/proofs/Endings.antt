@@ -11,7 +11,7 @@ use Rattle.btree_shapes.specs.declared.node.Node.TheVariants as node
 use Rattle.btree_shapes.specs.Nodes.{Held, Holds, node_suits}
 use Rattle.btree_shapes.specs.Ways.{stands_in}
 use Rattle.btree_shapes.specs.Shapes.{Shape, Limb, oid_of, branch_of, EachChild, joined, nodes_in, Stands, Link, links_of}
-use Rattle.btree_setting.specs.Rungs.{first_of, first_held}
+use Rattle.btree_putting.specs.Firsts.{first_of, first_held}
 use Rattle.btree_removing.specs.Types.{Last, Start}
 use Rattle.btree_removing.specs.Lasts.{last_child, last_node, last_held, last_from, last_below, relink, link_before}
 use Rattle.btree_removing.specs.Plans.{known_first, first_head}

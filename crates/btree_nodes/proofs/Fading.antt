@@ -9,9 +9,8 @@ use Rattle.btree_shapes.specs.declared.node.Node.{Node}
 use Rattle.btree_shapes.specs.Nodes.{place_for}
 use Rattle.btree_shapes.specs.Ways.{stands_in}
 use Rattle.btree_shapes.specs.Shapes.{LeafShape, Shape, Limb, oid_of, branch_of, joined, IsFrom, IsUpTo, Parted, Bounded, mapping_of, links_of, first_leaf}
-use Rattle.btree_setting.specs.Types.{Put}
-use Rattle.btree_setting.specs.Puts.{put_oid}
-use Rattle.btree_setting.specs.Changes.{inner_node}
+use Rattle.btree_putting.specs.declared.puts.Put.{Put}
+use Rattle.btree_putting.specs.Puts.{put_oid, inner_node}
 use Rattle.btree_removing.specs.Types.{Loss, Rest, Same, First, Gone, Rung}
 use Rattle.btree_removing.specs.Items.{cut_branch}
 use Rattle.btree_removing.specs.Losses.{put_rung, first_or, lose_child, move_first, lose_by, raise}

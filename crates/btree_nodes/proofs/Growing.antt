@@ -10,8 +10,9 @@ use Rattle.btree_shapes.specs.declared.node.Node.{Node}
 use Rattle.btree_shapes.specs.Keys.{is_below}
 use Rattle.btree_shapes.specs.Shapes.{Shape, Limb, oid_of, branch_of, EachLimb, joined, IsFrom, IsUpTo, AreWithin, AreOfKind, Parted, Bounded, mapping_of, links_of, first_leaf}
 use Rattle.btree_setting.specs.Types.{Sprout}
-use Rattle.btree_setting.specs.Items.{set_item}
-use Rattle.btree_setting.specs.Changes.{branch_up, leaf_node, inner_node}
+use Rattle.btree_setting.specs.Inserting.{set_item}
+use Rattle.btree_setting.specs.Changes.{branch_up}
+use Rattle.btree_putting.specs.Puts.{leaf_node, inner_node}
 use Rattle.btree_nodes.proofs.Orders.{from_below}
 use Rattle.btree_nodes.proofs.Mappings.{within-mapping, within-joined}
 use Rattle.btree_nodes.proofs.SetItems.{within_set, rises_set, kind_set, set_front, set_back, rises_any, rises_left, rises_right, within_left, within_right, bound_at, kind_left, kind_right}

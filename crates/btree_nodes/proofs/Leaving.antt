@@ -8,9 +8,8 @@ use Rattle.btree_shapes.specs.declared.node.Node.{Node}
 use Rattle.btree_shapes.specs.Nodes.{Held, place_for}
 use Rattle.btree_shapes.specs.Ways.{stands_in}
 use Rattle.btree_shapes.specs.Shapes.{LeafShape, Shape, oid_of, Bounded, mapping_of, nodes_in, Stands, links_of, Linked, first_leaf, IsSound, IsLone, IsTree}
-use Rattle.btree_setting.specs.Types.{Put}
-use Rattle.btree_setting.specs.Puts.{put_oid}
-use Rattle.btree_setting.specs.Changes.{lone_node}
+use Rattle.btree_putting.specs.declared.puts.Put.{Put}
+use Rattle.btree_putting.specs.Puts.{put_oid, lone_node}
 use Rattle.btree_removing.specs.Types.{Loss, Rest, Same, First, Gone, Rung}
 use Rattle.btree_removing.specs.Items.{remove_item}
 use Rattle.btree_removing.specs.Rungs.{rung_oid}

@@ -10,7 +10,7 @@ use Rattle.btree_shapes.specs.declared.node.Node.TheVariants as node
 use Rattle.btree_shapes.specs.Keys.{is_below}
 use Rattle.btree_shapes.specs.Shapes.{Shape, Limb, oid_of, branch_of, EachChild, EachLimb, joined, IsFrom, IsUpTo, Parted, Bounded, OfKind, Stands, Link, first_leaf, NamesFirst}
 use Rattle.btree_setting.specs.Types.{Sprout}
-use Rattle.btree_setting.specs.Items.{insert_branch}
+use Rattle.btree_setting.specs.Inserting.{insert_branch}
 use Rattle.btree_setting.specs.Changes.{branch_up}
 use Rattle.btree_nodes.specs.Drawn.{HasNone}
 use Rattle.btree_nodes.proofs.Orders.{below_not, below_below, from_wider, upto_wider}

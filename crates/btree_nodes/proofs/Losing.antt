@@ -9,9 +9,9 @@ use Rattle.btree_shapes.specs.Keys.{is_below}
 use Rattle.btree_shapes.specs.Nodes.{Held, Holds, place_for}
 use Rattle.btree_shapes.specs.Ways.{stands_in}
 use Rattle.btree_shapes.specs.Shapes.{LeafShape, Shape, Limb, oid_of, EachChild, EachLimb, OfKind, Stands, links_of, NamesFirst}
-use Rattle.btree_setting.specs.Types.{Put, Sprout}
-use Rattle.btree_setting.specs.Puts.{put_oid}
-use Rattle.btree_setting.specs.Changes.{inner_node, lone_node}
+use Rattle.btree_putting.specs.declared.puts.Put.{Put}
+use Rattle.btree_setting.specs.Types.{Sprout}
+use Rattle.btree_putting.specs.Puts.{put_oid, inner_node, lone_node}
 use Rattle.btree_removing.specs.Types.{Loss, Rest, Same, First, Gone, Rung}
 use Rattle.btree_removing.specs.Items.{cut_branch}
 use Rattle.btree_removing.specs.Rungs.{rung_oid}

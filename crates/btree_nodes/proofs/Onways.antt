@@ -10,10 +10,11 @@ use Rattle.btree_shapes.specs.declared.node.Node.TheVariants as node
 use Rattle.btree_shapes.specs.Nodes.{Held}
 use Rattle.btree_shapes.specs.Ways.{stands_in}
 use Rattle.btree_shapes.specs.Shapes.{Shape, Limb, oid_of, branch_of, EachChild, EachLimb, joined, nodes_in, Stands, links_of}
-use Rattle.btree_setting.specs.Types.{Bottom, Place, Put, Change, Terms, Plain, Rung}
+use Rattle.btree_putting.specs.declared.puts.Put.{Put}
+use Rattle.btree_setting.specs.Types.{Bottom, Place, Change, Terms, Plain, Rung}
 use Rattle.btree_setting.specs.Types as place
-use Rattle.btree_setting.specs.Puts.{put_oid}
-use Rattle.btree_setting.specs.Changes.{IsSet, IsRootSet, IsLeafSet, Rise, RootRise, grown, inner_node}
+use Rattle.btree_putting.specs.Puts.{put_oid, inner_node}
+use Rattle.btree_setting.specs.Changes.{IsSet, IsRootSet, IsLeafSet, Rise, RootRise, grown}
 use Rattle.btree_nodes.specs.Drawn.{Differ}
 use Rattle.btree_nodes.proofs.Reaching.{one_height}
 use Rattle.btree_nodes.proofs.Chains.{In, Avoids, avoids_in, avoids_parts}

@@ -6,8 +6,8 @@ use Rattle.std.proofs.lemmas.Bool.{cases_lt}
 use Rattle.btree_shapes.specs.declared.node.Node.{Node}
 use Rattle.btree_shapes.specs.declared.node.Node.TheVariants as node
 use Rattle.btree_shapes.specs.Ways.{stands_in}
-use Rattle.btree_setting.specs.Types.{Put}
-use Rattle.btree_setting.specs.Puts.{put_oid, add_put, sort_puts}
+use Rattle.btree_putting.specs.declared.puts.Put.{Put}
+use Rattle.btree_putting.specs.Puts.{put_oid, add_put, sort_puts}
 use Rattle.btree_nodes.specs.Drawn.{Differ}
 
 -- a node as it is read back: a leaf without a number has no next one

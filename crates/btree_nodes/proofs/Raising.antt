@@ -13,11 +13,12 @@ use Rattle.btree_shapes.specs.declared.node.Node.TheVariants as node
 use Rattle.btree_shapes.specs.Nodes.{Held}
 use Rattle.btree_shapes.specs.Ways.{stands_in}
 use Rattle.btree_shapes.specs.Shapes.{Shape, Limb, oid_of, branch_of, IsFrom, IsUpTo, Bounded, nodes_in, links_of, first_leaf}
-use Rattle.btree_setting.specs.Types.{Bottom, Place, Put, Sprout, Change, Terms, Rung}
+use Rattle.btree_putting.specs.declared.puts.Put.{Put}
+use Rattle.btree_setting.specs.Types.{Bottom, Place, Sprout, Change, Terms, Rung}
 use Rattle.btree_setting.specs.Types as place
-use Rattle.btree_setting.specs.Items.{set_item, insert_branch}
-use Rattle.btree_setting.specs.Puts.{put_oid}
-use Rattle.btree_setting.specs.Changes.{leaf_node, inner_node, leaf_grows, IsSet, IsLeafSet, Rise, grown, branch_up, seam_first, BranchesCut}
+use Rattle.btree_setting.specs.Inserting.{set_item, insert_branch}
+use Rattle.btree_putting.specs.Puts.{put_oid, leaf_node, inner_node}
+use Rattle.btree_setting.specs.Changes.{leaf_grows, IsSet, IsLeafSet, Rise, grown, branch_up, seam_first, BranchesCut}
 use Rattle.btree_nodes.proofs.Chains.{Avoids, Distinct}
 use Rattle.btree_nodes.proofs.Limbs.{sprout_of, sprouts_of, keys_up, insert_sprout, insert_up, branches_up, separators_up, insert_branches, sprouts_append, sprouts_length, branches_length, Fine, OldShape, old_head, old_tail}
 use Rattle.btree_nodes.proofs.Seams.{SeamRight}

@@ -12,8 +12,10 @@ use Rattle.btree_shapes.specs.declared.path.Step.{Step}
 use Rattle.btree_shapes.specs.Nodes.{Held, Holds, node_suits, items_in, place_for}
 use Rattle.btree_shapes.specs.Shapes.{Shape, Limb, oid_of, branch_of, EachChild, joined, Parted, Bounded, mapping_of, nodes_in, Stands}
 use Rattle.btree_setting.specs.Types.{Rung, Seam, New, Old, Beside}
-use Rattle.btree_setting.specs.Items.{has_value, set_item}
-use Rattle.btree_setting.specs.Rungs.{child_in, seam_child, seam_of, seam_for, seam_if, is_none, grows, first_below, first_of, first_held, put_first, rung_of, rungs_of, settled_by, settled, then_rungs, settle}
+use Rattle.btree_putting.specs.Items.{has_value}
+use Rattle.btree_setting.specs.Inserting.{set_item}
+use Rattle.btree_setting.specs.Rungs.{child_in, seam_child, seam_of, seam_for, seam_if, grows, first_below, put_first, rung_of, rungs_of, settled_by, settled, then_rungs, settle}
+use Rattle.btree_putting.specs.Firsts.{is_none, first_of, first_held}
 use Rattle.btree_nodes.proofs.Mappings.{within-mapping, within-joined}
 use Rattle.btree_nodes.proofs.Reaching.{Higher, higher_less, higher_last, not_twice, held_as}
 use Rattle.btree_nodes.proofs.SetItems.{set_kept, set_front, set_back}

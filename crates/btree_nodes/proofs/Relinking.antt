@@ -10,7 +10,8 @@ use Rattle.bucket_state.specs.declared.tree.Inner.{Inner}
 use Rattle.btree_shapes.specs.declared.node.Node.{Node}
 use Rattle.btree_shapes.specs.declared.node.Node.TheVariants as node
 use Rattle.btree_shapes.specs.Shapes.{LeafShape, Shape, Limb, oid_of, branch_of, EachLimb, joined, Parted, Bounded, mapping_of, links_of, first_leaf}
-use Rattle.btree_setting.specs.Changes.{branch_up, inner_node}
+use Rattle.btree_setting.specs.Changes.{branch_up}
+use Rattle.btree_putting.specs.Puts.{inner_node}
 use Rattle.btree_removing.specs.Types.{Loss, Rung}
 use Rattle.btree_nodes.proofs.Dropping.{relink_one, map_append, next_other, next_same}
 use Rattle.btree_nodes.proofs.Limbs.{ForKey, sprouts_of, branches_up, Fine, fine_inner}

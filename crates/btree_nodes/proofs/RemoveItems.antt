@@ -9,7 +9,7 @@ use Rattle.btree_family.specs.Rising.{is_key_above, Rises}
 use Rattle.btree_shapes.specs.Keys.{is_below}
 use Rattle.btree_shapes.specs.Nodes.{value_in, shown}
 use Rattle.btree_shapes.specs.Shapes.{AreWithin, AreOfKind}
-use Rattle.btree_setting.specs.Items.{has_key}
+use Rattle.btree_putting.specs.Items.{has_key}
 use Rattle.btree_removing.specs.Items.{remove_item}
 use Rattle.btree_nodes.proofs.Orders.{eq_is, below_eq, above_eq, below_below, below_from}
 use Rattle.btree_nodes.proofs.Putting.{bool_cases}

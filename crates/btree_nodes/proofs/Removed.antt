@@ -19,10 +19,9 @@ use Rattle.btree_shapes.specs.Nodes.{Held, Holds, items_in, class_held, objects_
 use Rattle.btree_shapes.specs.Ways.{way_for, IsRefusal}
 use Rattle.btree_shapes.specs.Shapes.{Shape, Limb, joined, AreOfKind, Parted, Bounded, mapping_of, nodes_in, links_of, IsSound, IsLone, IsTree}
 use Rattle.btree_shapes.specs.Steps.{root_bad_key}
-use Rattle.btree_setting.specs.Types.{Put}
-use Rattle.btree_setting.specs.Items.{has_key}
-use Rattle.btree_setting.specs.Puts.{all_keep, put_all}
-use Rattle.btree_setting.specs.Changes.{leaf_node, lone_node}
+use Rattle.btree_putting.specs.declared.puts.Put.{Put}
+use Rattle.btree_putting.specs.Items.{has_key}
+use Rattle.btree_putting.specs.Puts.{all_keep, put_all, leaf_node, lone_node}
 use Rattle.btree_removing.specs.Types.{Loss, Same, Rung}
 use Rattle.btree_removing.specs.Items.{remove_item}
 use Rattle.btree_removing.specs.Bottoms.{leaf_without, put_leaf, bottom_of, has_none}

@@ -16,8 +16,8 @@ use Rattle.btree_shapes.specs.declared.path.Step.{Step}
 use Rattle.btree_shapes.specs.Nodes.{Held, Holds, class_held, objects_of}
 use Rattle.btree_shapes.specs.Ways.{stands_in}
 use Rattle.btree_shapes.specs.Shapes.{LeafShape, Shape, Limb, Bounded, mapping_of, node_held, nodes_in, Link, links_of, Linked, IsSound, IsTree}
-use Rattle.btree_setting.specs.Types.{Put}
-use Rattle.btree_setting.specs.Puts.{put_oid, same_link, sort_puts, all_keep, put_all}
+use Rattle.btree_putting.specs.declared.puts.Put.{Put}
+use Rattle.btree_putting.specs.Puts.{put_oid, same_link, sort_puts, all_keep, put_all}
 use Rattle.btree_removing.specs.Types.{Last, Loss, Same, Gone, Rung, Start}
 use Rattle.btree_removing.specs.Items.{remove_item}
 use Rattle.btree_removing.specs.Bottoms.{leaf_without, put_leaf}

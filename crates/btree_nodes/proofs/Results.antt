@@ -19,16 +19,20 @@ use Rattle.btree_shapes.specs.Nodes.{Held, Holds, items_in, class_held, objects_
 use Rattle.btree_shapes.specs.Ways.{way_for, step_oid, IsRefusal, reads, reads_of}
 use Rattle.btree_shapes.specs.Shapes.{Shape, IsTree}
 use Rattle.btree_shapes.specs.Steps.{root_bad_key}
-use Rattle.btree_setting.specs.Types.{Bottom, Place, Put, Change, Terms, Plain, Task, Rung}
+use Rattle.btree_putting.specs.declared.puts.Put.{Put}
+use Rattle.btree_setting.specs.Types.{Bottom, Place, Change, Terms, Plain, Task, Rung}
 use Rattle.btree_setting.specs.Types as place
 use Rattle.btree_setting.specs.declared.preparing.Sizes.{Sizes}
 use Rattle.btree_setting.specs.Bottoms.{leaf_at, set_at, bottom_of}
-use Rattle.btree_setting.specs.Items.{has_value, set_item}
-use Rattle.btree_setting.specs.Puts.{put_oid, all_keep, put_all}
+use Rattle.btree_putting.specs.Items.{has_value}
+use Rattle.btree_setting.specs.Inserting.{set_item}
+use Rattle.btree_putting.specs.Puts.{put_oid, all_keep, put_all}
 use Rattle.btree_setting.specs.Changes.{IsRootSet}
-use Rattle.btree_setting.specs.Rungs.{is_none, rungs_of, settle}
-use Rattle.btree_setting.specs.Sets.{wrote, plain_of, terms_with, puts_of, IsWritten, Writes}
-use Rattle.btree_setting.specs.Writing.{plain_class}
+use Rattle.btree_putting.specs.Firsts.{is_none}
+use Rattle.btree_setting.specs.Rungs.{rungs_of, settle}
+use Rattle.btree_putting.specs.Storing.{wrote}
+use Rattle.btree_setting.specs.Sets.{plain_of, terms_with, puts_of, IsWritten, Writes}
+use Rattle.btree_putting.specs.Writing.{plain_class}
 use Rattle.btree_setting.specs.Tasks.{fits_tree, set_way, end_of, rungs_above, splits, with_rungs, task_for, task_found, task_by, task_under, asked_found, reads_by, reads_under}
 use Rattle.btree_setting.specs.Ends.{HasTask, HasNone, Sets}
 use Rattle.btree_nodes.specs.Drawn.{AreNew, drawn_in, DrawsNew}

@@ -14,11 +14,12 @@ use Rattle.btree_shapes.specs.declared.node.Node.TheVariants as node
 use Rattle.btree_shapes.specs.Nodes.{Held, Holds}
 use Rattle.btree_shapes.specs.Ways.{stands_in}
 use Rattle.btree_shapes.specs.Shapes.{Shape, Limb, oid_of, branch_of, EachLimb, joined, AreWithin, AreOfKind, Parted, Bounded, mapping_of, nodes_in, links_of, Linked, first_leaf, IsSound, IsTree}
-use Rattle.btree_setting.specs.Types.{Bottom, Place, Put, Sprout, Change, Terms, Plain, Rung}
+use Rattle.btree_putting.specs.declared.puts.Put.{Put}
+use Rattle.btree_setting.specs.Types.{Bottom, Place, Sprout, Change, Terms, Plain, Rung}
 use Rattle.btree_setting.specs.Types as place
-use Rattle.btree_setting.specs.Items.{set_item}
-use Rattle.btree_setting.specs.Puts.{put_oid}
-use Rattle.btree_setting.specs.Changes.{leaf_node, lone_node, inner_node, IsSet, IsRootSet, IsLeafSet, RootSplits, seam_first}
+use Rattle.btree_setting.specs.Inserting.{set_item}
+use Rattle.btree_putting.specs.Puts.{put_oid, leaf_node, lone_node, inner_node}
+use Rattle.btree_setting.specs.Changes.{IsSet, IsRootSet, IsLeafSet, RootSplits, seam_first}
 use Rattle.btree_nodes.proofs.SetItems.{within_set, rises_set, kind_set, rises_left, rises_right, within_left, within_right, kind_left, kind_right}
 use Rattle.btree_nodes.proofs.Chains.{Avoids, Distinct, relink, linked_relink}
 use Rattle.btree_nodes.proofs.Limbs.{ForKey, sprouts_of, keys_up, limbs_parts, parted_at, parted_left, joined_append, Fine, OldShape, fine_inner}

@@ -17,9 +17,10 @@ use Rattle.btree_shapes.specs.Ways.{stands_in}
 use Rattle.btree_shapes.specs.Shapes.{Shape, Limb, oid_of, branch_of, EachLimb, first_leaf, nodes_in, links_of}
 use Rattle.btree_setting.specs.Types.{Bottom, Place, Sprout, Change, Terms, Rung, Seam, New, Old, Beside}
 use Rattle.btree_setting.specs.Types as place
-use Rattle.btree_setting.specs.Items.{set_item, insert_branch}
+use Rattle.btree_setting.specs.Inserting.{set_item, insert_branch}
 use Rattle.btree_setting.specs.Changes.{IsSet, IsLeafSet, grown, branch_up, leaf_grows}
-use Rattle.btree_setting.specs.Rungs.{is_full, grows, is_none, first_below, first_of, first_held, put_first, with_first, seam_for, seam_if, rung_of, rungs_of, settled_by, settled, then_rungs, settle}
+use Rattle.btree_setting.specs.Rungs.{is_full, grows, first_below, put_first, with_first, seam_for, seam_if, rung_of, rungs_of, settled_by, settled, then_rungs, settle}
+use Rattle.btree_putting.specs.Firsts.{is_none, first_of, first_held}
 use Rattle.btree_setting.specs.Tasks.{splits}
 use Rattle.btree_nodes.proofs.Chains.{In}
 use Rattle.btree_nodes.proofs.Limbs.{ForKey, in_for_key, chosen, for_key_both, for_key_map, sprouts_of, Fine, OldShape, old_head, old_tail}

@@ -11,7 +11,8 @@ use Rattle.btree_family.specs.Rising.{is_key_above, Rises}
 use Rattle.btree_shapes.specs.Keys.{is_below}
 use Rattle.btree_shapes.specs.Nodes.{value_in, shown}
 use Rattle.btree_shapes.specs.Shapes.{IsFrom, IsUpTo, AreWithin, AreOfKind}
-use Rattle.btree_setting.specs.Items.{same_value, has_value, behind, set_item}
+use Rattle.btree_putting.specs.Items.{same_value, has_value}
+use Rattle.btree_setting.specs.Inserting.{behind, set_item}
 use Rattle.btree_nodes.proofs.Orders.{order, below_itself, eq_itself, below_eq, below_not, above_eq, below_below, below_from}
 
 -- ---- the three cases of a set

@@ -19,14 +19,17 @@ use Rattle.btree_shapes.specs.declared.way.Found.{Found}
 use Rattle.btree_shapes.specs.Nodes.{Held, Holds, node_of, held_node, held_record, held_in, class_held, objects_of}
 use Rattle.btree_shapes.specs.Ways.{stands_in}
 use Rattle.btree_shapes.specs.Shapes.{Shape, Limb, mapping_of, node_held, nodes_in, IsSound, IsLone, IsTree}
-use Rattle.btree_setting.specs.Types.{Bottom, Place, Put, Change, Terms, Plain, Rung}
+use Rattle.btree_putting.specs.declared.puts.Put.{Put}
+use Rattle.btree_setting.specs.Types.{Bottom, Place, Change, Terms, Plain, Rung}
 use Rattle.btree_setting.specs.Types as place
 use Rattle.btree_setting.specs.declared.preparing.Sizes.{Sizes}
 use Rattle.btree_setting.specs.Bottoms.{leaf_at, set_at, bottom_of}
-use Rattle.btree_setting.specs.Items.{has_key, has_value, set_item}
-use Rattle.btree_setting.specs.Puts.{put_oid, sort_puts, all_keep, put_all, add_put}
-use Rattle.btree_setting.specs.Changes.{leaf_node, lone_node, inner_node, IsRootSet, IsLeafSet}
-use Rattle.btree_setting.specs.Rungs.{is_none, rungs_of, settle}
+use Rattle.btree_putting.specs.Items.{has_key, has_value}
+use Rattle.btree_setting.specs.Inserting.{set_item}
+use Rattle.btree_putting.specs.Puts.{put_oid, sort_puts, all_keep, put_all, add_put, leaf_node, lone_node, inner_node}
+use Rattle.btree_setting.specs.Changes.{IsRootSet, IsLeafSet}
+use Rattle.btree_putting.specs.Firsts.{is_none}
+use Rattle.btree_setting.specs.Rungs.{rungs_of, settle}
 use Rattle.btree_setting.specs.Sets.{puts_of}
 use Rattle.btree_setting.specs.Tasks.{end_of, rungs_above, splits}
 use Rattle.btree_nodes.specs.Drawn.{Differ, AreNew}

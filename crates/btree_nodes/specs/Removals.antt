@@ -7,7 +7,7 @@ use Rattle.btree_shapes.specs.declared.error.TreeError.{TreeError}
 use Rattle.btree_shapes.specs.declared.error.TreeError.TheVariants.{NotATree, NodeMissing, BadKey, Refused, Memory}
 use Rattle.btree_shapes.specs.Nodes.{class_held, objects_of, value_in}
 use Rattle.btree_shapes.specs.Shapes.{IsTree}
-use Rattle.btree_setting.specs.Items.{has_key}
+use Rattle.btree_putting.specs.Items.{has_key}
 use Rattle.btree_removing.specs.Items.{remove_item}
 
 -- The tree is sound as before, of the same class, and nothing stands at the key; at each other key it has what it had. The

@@ -7,7 +7,7 @@ use Rattle.btree_shapes.specs.declared.error.TreeError.{TreeError}
 use Rattle.btree_shapes.specs.declared.error.TreeError.TheVariants.{NotATree, NodeMissing, BadKey, Refused, Memory}
 use Rattle.btree_shapes.specs.Nodes.{class_held, objects_of, shown, value_in}
 use Rattle.btree_shapes.specs.Shapes.{IsTree}
-use Rattle.btree_setting.specs.Items.{set_item}
+use Rattle.btree_setting.specs.Inserting.{set_item}
 
 -- the tree is sound as before, of the same class, and has this value at the key; at each other key it has what it had
 pub record IsSetAt (before after : ℕ → Option (List ℕ)) (root kind : ℕ) (mapping : List Item) (key : Key) (value : Option (List ℕ)) : Type 0 where

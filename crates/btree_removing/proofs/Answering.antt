@@ -14,10 +14,10 @@ use Rattle.btree_shapes.specs.Nodes.{Held, Nothing, Foreign, Holds, node_suits, 
 use Rattle.btree_shapes.specs.Reading.{IsReadError}
 use Rattle.btree_shapes.specs.Ways.{way_for, IsRefusal, OnlyReads, family_key, reads, reads_of}
 use Rattle.btree_shapes.specs.Steps.{above_root, root_bad_key}
-use Rattle.btree_setting.specs.declared.change.Put.{Put}
-use Rattle.btree_setting.specs.Puts.{all_keep}
-use Rattle.btree_setting.specs.Sets.{IsFree, IsStored, IsStoredFront}
-use Rattle.btree_setting.specs.Values.{has_leaf}
+use Rattle.btree_putting.specs.declared.puts.Put.{Put}
+use Rattle.btree_putting.specs.Puts.{all_keep}
+use Rattle.btree_putting.specs.Storing.{IsFree, IsStored, IsStoredFront}
+use Rattle.btree_putting.specs.Writing.{has_leaf}
 use Rattle.btree_removing.specs.Plans.{plan_found, plan_by, family_leaf, fits_tree, remove_way, plan_under, oids_found, reads_by, reads_under}
 use Rattle.btree_removing.specs.Ends.{Breaks, Writes, HasPuts, Removes}
 

@@ -11,9 +11,9 @@ use Rattle.btree_shapes.specs.declared.space.Call.TheVariants.{Read}
 use Rattle.btree_shapes.specs.declared.way.Found.{Found}
 use Rattle.btree_shapes.specs.Nodes.{Held}
 use Rattle.btree_shapes.specs.Ways.{Answers, stands_in, IsRefusal, reads}
-use Rattle.btree_setting.specs.declared.change.Put.{Put}
-use Rattle.btree_setting.specs.Puts.{sort_puts}
-use Rattle.btree_setting.specs.Rungs.{first_held}
+use Rattle.btree_putting.specs.declared.puts.Put.{Put}
+use Rattle.btree_putting.specs.Puts.{sort_puts}
+use Rattle.btree_putting.specs.Firsts.{first_held}
 use Rattle.btree_removing.specs.declared.last.Last.{Last}
 use Rattle.btree_removing.specs.declared.rung.Rung.{Rung}
 use Rattle.btree_removing.specs.declared.sides.Start.{Start}

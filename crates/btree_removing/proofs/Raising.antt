@@ -4,9 +4,9 @@ use Rattle.std.specs.Prelude.{◌&&◌}
 use Rattle.btree_family.specs.declared.key.Key.{Key}
 use Rattle.bucket_state.specs.declared.tree.Branch.{Branch}
 use Rattle.btree_shapes.specs.declared.path.Step.{Step}
-use Rattle.btree_setting.specs.declared.change.Put.{Put}
-use Rattle.btree_setting.specs.Changes.{inner_node}
-use Rattle.btree_setting.specs.Rungs.{is_none}
+use Rattle.btree_putting.specs.declared.puts.Put.{Put}
+use Rattle.btree_putting.specs.Puts.{inner_node}
+use Rattle.btree_putting.specs.Firsts.{is_none}
 use Rattle.btree_removing.specs.declared.losing.Loss.{Loss}
 use Rattle.btree_removing.specs.declared.losing.Rest.TheVariants.{Same, First, Gone}
 use Rattle.btree_removing.specs.declared.rung.Rung.{Rung}

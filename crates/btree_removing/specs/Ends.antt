@@ -7,9 +7,9 @@ use Rattle.btree_shapes.specs.declared.error.TreeError.TheVariants.{NotATree, No
 use Rattle.btree_shapes.specs.declared.space.Call.{Call}
 use Rattle.btree_shapes.specs.Nodes.{class_held}
 use Rattle.btree_shapes.specs.Ways.{IsRefusal, OnlyReads}
-use Rattle.btree_setting.specs.declared.change.Put.{Put}
-use Rattle.btree_setting.specs.Puts.{all_keep}
-use Rattle.btree_setting.specs.Sets.{IsStored, IsStoredFront}
+use Rattle.btree_putting.specs.declared.puts.Put.{Put}
+use Rattle.btree_putting.specs.Puts.{all_keep}
+use Rattle.btree_putting.specs.Storing.{IsStored, IsStoredFront}
 use Rattle.btree_removing.specs.declared.removing.Finding.{Finding}
 use Rattle.btree_removing.specs.Plans.{plan_under, reads_under}
 

@@ -9,8 +9,8 @@ use Rattle.btree_shapes.specs.declared.node.Node.{Node}
 use Rattle.btree_shapes.specs.declared.node.Node.TheVariants as node
 use Rattle.btree_shapes.specs.Nodes.{Held, Nothing, Foreign, Holds, node_suits}
 use Rattle.btree_shapes.specs.Ways.{stands_in}
-use Rattle.btree_setting.specs.declared.change.Put.{Put}
-use Rattle.btree_setting.specs.Puts.{same_link}
+use Rattle.btree_putting.specs.declared.puts.Put.{Put}
+use Rattle.btree_putting.specs.Puts.{same_link}
 use Rattle.btree_removing.specs.declared.last.Last.{Last}
 use Rattle.btree_removing.specs.declared.sides.Start.{Start}
 use Rattle.btree_removing.specs.Bottoms.{put_leaf}

@@ -5,8 +5,8 @@ use Rattle.bucket_state.specs.declared.tree.Branch.{Branch}
 use Rattle.btree_shapes.specs.declared.node.Node.{Node}
 use Rattle.btree_shapes.specs.declared.node.Node.TheVariants as node
 use Rattle.btree_shapes.specs.Nodes.{place_for}
-use Rattle.btree_setting.specs.declared.change.Put.{Put}
-use Rattle.btree_setting.specs.Changes.{inner_node, lone_node}
+use Rattle.btree_putting.specs.declared.puts.Put.{Put}
+use Rattle.btree_putting.specs.Puts.{inner_node, lone_node}
 use Rattle.btree_removing.specs.declared.losing.Loss.{Loss}
 use Rattle.btree_removing.specs.declared.losing.Rest.{Rest}
 use Rattle.btree_removing.specs.declared.losing.Rest.TheVariants.{Same, First, Gone}

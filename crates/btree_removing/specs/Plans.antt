@@ -9,10 +9,10 @@ use Rattle.btree_shapes.specs.declared.space.Call.{Call}
 use Rattle.btree_shapes.specs.declared.way.Found.{Found}
 use Rattle.btree_shapes.specs.Nodes.{Held, class_held, objects_of}
 use Rattle.btree_shapes.specs.Ways.{stands_in, way_for, family_key, reads, reads_of}
-use Rattle.btree_setting.specs.declared.change.Put.{Put}
-use Rattle.btree_setting.specs.Puts.{sort_puts}
-use Rattle.btree_setting.specs.Rungs.{first_held}
-use Rattle.btree_setting.specs.Values.{has_leaf}
+use Rattle.btree_putting.specs.declared.puts.Put.{Put}
+use Rattle.btree_putting.specs.Puts.{sort_puts}
+use Rattle.btree_putting.specs.Firsts.{first_held}
+use Rattle.btree_putting.specs.Writing.{has_leaf}
 use Rattle.btree_removing.specs.declared.rung.Rung.{Rung}
 use Rattle.btree_removing.specs.declared.sides.Start.{Start}
 use Rattle.btree_removing.specs.declared.sides.Sides.{Sides}

@@ -1,7 +1,7 @@
 -- The objects above a leaf that leaves its tree. Own.
 use Rattle.std.specs.Prelude.{ℕ, Bool, List, [], ◌∷◌, ◌&&◌}
 use Rattle.btree_shapes.specs.declared.path.Step.{Step}
-use Rattle.btree_setting.specs.Rungs.{is_none}
+use Rattle.btree_putting.specs.Firsts.{is_none}
 use Rattle.btree_removing.specs.declared.rung.Rung.{Rung}
 
 abbrev pub rung_of : Bool → Step → Rung

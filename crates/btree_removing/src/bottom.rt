@@ -5,7 +5,7 @@ ghost use Rattle.btree_removing.specs.Bottoms.{leaf_without, node_without, botto
 
 use crate::items::remove_item;
 use btree_family::{Bucket, Key};
-use btree_setting::{Put, has_key};
+use btree_putting::{Put, has_key};
 use btree_shapes::Node;
 use pickle_value::Pickle;
 use std::alloc::{AllocError, Global};

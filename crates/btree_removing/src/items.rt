@@ -4,7 +4,7 @@ ghost use Rattle.std.specs.Prelude.{◌≡◌, ◌<◌, length, IfOk};
 ghost use Rattle.btree_removing.specs.Items.{remove_item, cut_branch};
 
 use btree_family::{Item, Key};
-use btree_setting::{with_branches, with_items};
+use btree_putting::{with_branches, with_items};
 use bucket_state::Branch;
 use std::alloc::{AllocError, Global};
 use zb_ids::ListOf;

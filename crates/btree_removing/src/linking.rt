@@ -11,7 +11,7 @@ ghost use Rattle.btree_removing.specs.Plans.{first_head, head_oids};
 use crate::last::{Last, follow_last, stands_in};
 use crate::sides::Start;
 use btree_family::{Bucket, Key};
-use btree_setting::{Put, Puts, first_below, same_link, with_items};
+use btree_putting::{Put, Puts, first_below, same_link, with_items};
 use btree_shapes::{Node, Rooted, Space, TreeError};
 use std::alloc::{AllocError, Global};
 use zb_ids::{ListOf, Oid};

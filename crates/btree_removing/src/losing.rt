@@ -1,13 +1,13 @@
 //! What goes on above a leaf that leaves its tree.
 
 ghost use Rattle.std.specs.Prelude.{◌≡◌, ◌++◌, ◌∷◌, [], ◌<◌, ◌≤◌, length, IfOk};
-ghost use Rattle.btree_setting.specs.Changes.{lone_node, inner_node};
+ghost use Rattle.btree_putting.specs.Puts.{lone_node, inner_node};
 ghost use Rattle.btree_removing.specs.Losses.{put_rung, first_or, lose_head, lose_child, move_first, lose, raise, leaves_tree};
 
 use crate::items::cut_branch;
 use crate::rung::{Rung, Rungs};
 use btree_family::{Bucket, Key};
-use btree_setting::{Put, Puts, with_branches};
+use btree_putting::{Put, Puts, with_branches};
 use btree_shapes::{Node, place_for};
 use bucket_state::{Branch, Inner};
 use std::alloc::{AllocError, Global};

@@ -14,7 +14,7 @@ use crate::losing::raise;
 use crate::rung::{Rungs, rungs_of};
 use crate::sides::{Sides, Start, sides_of};
 use btree_family::Key;
-use btree_setting::{Put, Puts, in_order};
+use btree_putting::{Put, Puts, in_order};
 use btree_shapes::{Found, Path, Rooted, Space, TreeError};
 use std::alloc::Global;
 

@@ -4,13 +4,13 @@ ghost use Rattle.std.specs.Prelude.{◌≡◌, ◌++◌, IfOk, IfErr, IfSome};
 ghost use Rattle.btree_shapes.specs.Spaces.{handed_on};
 ghost use Rattle.btree_shapes.specs.Ways.{IsRefusal, OnlyReads};
 ghost use Rattle.btree_family.specs.Classes.{class_seen};
-ghost use Rattle.btree_setting.specs.Writing.{AreGlobal};
+ghost use Rattle.btree_putting.specs.Writing.{AreGlobal};
 ghost use Rattle.btree_removing.specs.Plans.{plan_under, reads_under};
 ghost use Rattle.btree_removing.specs.Ends.{IsFinding, Writes, Removes};
 
 use crate::planning::plan;
 use btree_family::{Key, key_fits, leaf_of};
-use btree_setting::{Family, Puts, all_keep, store_all};
+use btree_putting::{Family, Puts, all_keep, store_all};
 use btree_shapes::{Space, TreeError, follow_root, read_root};
 use std::alloc::Global;
 use zb_ids::Oid;

@@ -16,13 +16,15 @@ use Rattle.btree_shapes.specs.Nodes.{Held, Nothing, Foreign, Holds, node_suits, 
 use Rattle.btree_shapes.specs.Reading.{IsReadError}
 use Rattle.btree_shapes.specs.Ways.{way_for, IsRefusal, OnlyReads, family_key, reads, reads_of}
 use Rattle.btree_shapes.specs.Steps.{above_root, root_bad_key}
-use Rattle.btree_setting.specs.declared.change.Put.{Put}
+use Rattle.btree_putting.specs.declared.puts.Put.{Put}
 use Rattle.btree_setting.specs.declared.growing.Terms.{Terms}
 use Rattle.btree_setting.specs.declared.preparing.Sizes.{Sizes}
 use Rattle.btree_setting.specs.declared.preparing.Task.{Task}
-use Rattle.btree_setting.specs.Values.{fits_class, has_leaf, family_value}
+use Rattle.btree_setting.specs.Values.{fits_class, family_value}
+use Rattle.btree_putting.specs.Writing.{has_leaf}
 use Rattle.btree_setting.specs.Tasks.{fits_tree, set_way, task_found, task_by, task_under, asked_found, reads_by, reads_under}
-use Rattle.btree_setting.specs.Sets.{IsFree, IsStored, IsStoredFront, DrewSome, terms_of, Fails, Passes, IsPlan, Plans, IsWritten, IsBrokenOff, IsUnwritten, IsUnwritable, Writes}
+use Rattle.btree_putting.specs.Storing.{IsFree, IsStored, IsStoredFront}
+use Rattle.btree_setting.specs.Sets.{DrewSome, terms_of, Fails, Passes, IsPlan, Plans, IsWritten, IsBrokenOff, IsUnwritten, IsUnwritable, Writes}
 use Rattle.btree_setting.specs.Ends.{HasTask, HasNone, IsRefusedBefore, Sets}
 
 -- ---- writing

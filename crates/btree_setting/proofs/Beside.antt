@@ -1,35 +1,20 @@
 -- Steps of reading the children besides a way.
-use Rattle.std.proofs.Common.{◌≡◌, ℕ, Bool, true, false, List, [], ◌∷◌, ◌++◌, Option, Some, None, Result, Ok, Err, refl, arith, sym, ◌∙◌, ap, subst, append_assoc, append-nil}
-use Rattle.std.specs.Prelude.{◌&&◌, if◌then◌else◌, map}
-use Rattle.pickle_value.specs.Graph.{Graph}
+use Rattle.std.proofs.Common.{◌≡◌, ℕ, Bool, true, false, List, [], ◌∷◌, ◌++◌, Some, None, Result, Ok, Err, refl, sym, ◌∙◌, ap, subst, append_assoc, append-nil}
+use Rattle.std.specs.Prelude.{if◌then◌else◌}
 use Rattle.btree_family.specs.declared.key.Key.{Key}
 use Rattle.btree_shapes.specs.declared.error.TreeError.{TreeError}
 use Rattle.btree_shapes.specs.declared.error.TreeError.TheVariants.{NotATree, NodeMissing, BadKey, Refused, Memory}
-use Rattle.btree_shapes.specs.declared.node.Node.{Node}
 use Rattle.btree_shapes.specs.declared.space.Call.{Call}
 use Rattle.btree_shapes.specs.declared.space.Call.TheVariants.{Read}
-use Rattle.btree_shapes.specs.Nodes.{Held, Nothing, Foreign, Holds, node_suits}
-use Rattle.btree_shapes.specs.Reading.{IsReadError}
-use Rattle.btree_shapes.specs.Ways.{Answers, IsRefusal, stands_in, reads}
+use Rattle.btree_shapes.specs.Nodes.{Held}
+use Rattle.btree_shapes.specs.Ways.{IsRefusal, stands_in, reads}
 use Rattle.btree_setting.specs.declared.rung.Rung.{Rung}
 use Rattle.btree_setting.specs.declared.rung.Seam.{Seam}
 use Rattle.btree_setting.specs.declared.rung.Seam.TheVariants.{New, Old, Beside}
-use Rattle.btree_setting.specs.Rungs.{first_of, first_held, with_first, put_first, child_asked, settled_by, settled, then_rungs, settle, asked, asked_by, behind_rungs}
+use Rattle.btree_putting.specs.Firsts.{first_held}
+use Rattle.btree_setting.specs.Rungs.{with_first, put_first, child_asked, settled_by, settled, then_rungs, settle, asked, asked_by, behind_rungs}
 
 -- ---- one object
-
-pub first_unread : (fits : Bool) (key : Key) (oid : ℕ) (held : Held) (e : TreeError) → IsReadError held oid e → IsRefusal e (first_held fits key oid held)
-first_unread fits key oid held (NotATree other) (o, h) = ap (first_held fits key oid) h ∙ ap (λ x. Err (NotATree x)) (sym o)
-first_unread fits key oid held (NodeMissing other) (o, h) = ap (first_held fits key oid) h ∙ ap (λ x. Err (NodeMissing x)) (sym o)
-first_unread fits key oid held BadKey h = absurd h
-first_unread fits key oid held (Refused refusal) h = tt
-first_unread fits key oid held Memory h = tt
-
-pub first_bad : (fits : Bool) (key : Key) (oid : ℕ) (held : Held) (class : Graph) (node : Node) → held ≡ Holds class node → (fits && node_suits key node) ≡ false → first_held fits key oid held ≡ Err BadKey
-first_bad fits key oid held class node h t = ap (first_held fits key oid) h ∙ ap (λ b. if b then Ok (first_of oid node) else Err BadKey) t
-
-pub first_read : (fits : Bool) (key : Key) (oid : ℕ) (held : Held) (class : Graph) (node : Node) → held ≡ Holds class node → (fits && node_suits key node) ≡ true → first_held fits key oid held ≡ Ok (first_of oid node)
-first_read fits key oid held class node h t = ap (first_held fits key oid) h ∙ ap (λ b. if b then Ok (first_of oid node) else Err BadKey) t
 
 twice_at : (objects : ℕ → Held) (fits : Bool) (key : Key) (above : List ℕ) (rung : Rung) (child : ℕ) → rung.seam ≡ Beside child → stands_in above child ≡ true → settled objects fits key above rung ≡ Err (NotATree child)
 twice_at objects fits key above rung child e s =

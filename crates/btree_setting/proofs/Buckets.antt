@@ -9,7 +9,7 @@ use Rattle.btree_family.specs.Rising.{is_key_above, Rises}
 use Rattle.btree_shapes.specs.Keys.{is_below}
 use Rattle.btree_setting.specs.declared.bottom.Bottom.{Bottom}
 use Rattle.btree_setting.specs.Changes.{leaf_grows}
-use Rattle.btree_setting.specs.Items.{behind, set_item, ItemsCut}
+use Rattle.btree_setting.specs.Inserting.{behind, set_item, ItemsCut}
 use Rattle.btree_setting.proofs.Orders.{eq_is, below_below, order, eq_itself}
 use Rattle.btree_setting.proofs.Placing.{by_test}
 

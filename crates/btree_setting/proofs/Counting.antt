@@ -4,7 +4,7 @@ use Rattle.btree_family.specs.declared.key.Key.{Key}
 use Rattle.btree_setting.specs.declared.bottom.Bottom.{Bottom}
 use Rattle.btree_setting.specs.declared.bottom.Place.{Place}
 use Rattle.btree_setting.specs.declared.bottom.Place.TheVariants as place
-use Rattle.btree_setting.specs.declared.change.Put.{Put}
+use Rattle.btree_putting.specs.declared.puts.Put.{Put}
 use Rattle.btree_setting.specs.declared.change.Sprout.{Sprout}
 use Rattle.btree_setting.specs.declared.change.Change.{Change}
 use Rattle.btree_setting.specs.declared.growing.Plain.{Plain}

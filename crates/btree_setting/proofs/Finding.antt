@@ -15,7 +15,8 @@ use Rattle.btree_setting.specs.declared.preparing.Sizes.{Sizes}
 use Rattle.btree_setting.specs.declared.preparing.Task.{Task}
 use Rattle.btree_setting.specs.declared.rung.Rung.{Rung}
 use Rattle.btree_setting.specs.Bottoms.{bottom_of}
-use Rattle.btree_setting.specs.Rungs.{is_none, settle, asked}
+use Rattle.btree_putting.specs.Firsts.{is_none}
+use Rattle.btree_setting.specs.Rungs.{settle, asked}
 use Rattle.btree_setting.specs.Tasks.{end_of, rungs_above, with_rungs, task_for, task_found, asked_for, asked_found}
 
 -- the end of the way is that of the definition

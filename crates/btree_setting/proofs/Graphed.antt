@@ -15,9 +15,8 @@ use Rattle.bucket_state.specs.Written.{shifted, Laid, no_graphs, laid_on, laid_a
 use Rattle.zb_record.specs.Alike.{AreEight, NodeAlike, NodesAlike, GraphsAlike}
 use Rattle.btree_shapes.specs.declared.node.Node.{Node}
 use Rattle.btree_shapes.specs.declared.node.Node.TheVariants as node
-use Rattle.btree_setting.specs.Writing.{are_writable, child_class, node_writable, node_graph}
-use Rattle.btree_setting.proofs.Numbered.{LinkAlike, BranchesAlike, same_separators}
-use Rattle.btree_setting.proofs.Numbered.{NodeAlike as PutNodeAlike}
+use Rattle.btree_putting.specs.Writing.{are_writable, child_class, node_writable, node_graph}
+use Rattle.btree_setting.proofs.Numbered.{LinkAlike, BranchesAlike, same_separators, NodeAlike as PutNodeAlike}
 
 nodes_same : (ns : List ValueNode) → NodesAlike ns ns
 nodes_same [] = tt

@@ -3,12 +3,8 @@ pub mod Orders
 pub mod Placing
 pub mod Buckets
 pub mod Numbers
-pub mod Sorting
 pub mod Rising
-pub mod Writables
 pub mod Beside
-pub mod Keeping
-pub mod Rows
 pub mod Finding
 pub mod Counting
 pub mod Trying

@@ -9,11 +9,11 @@ use Rattle.bucket_state.specs.Trees.{separators_of}
 use Rattle.btree_shapes.specs.declared.node.Node.{Node}
 use Rattle.btree_shapes.specs.declared.node.Node.TheVariants as node
 use Rattle.btree_shapes.specs.Keys.{is_below}
-use Rattle.btree_setting.specs.declared.change.Put.{Put}
+use Rattle.btree_putting.specs.declared.puts.Put.{Put}
 use Rattle.btree_setting.specs.declared.change.Sprout.{Sprout}
 use Rattle.btree_setting.specs.declared.change.Change.{Change}
-use Rattle.btree_setting.specs.Items.{insert_branch}
-use Rattle.btree_setting.specs.Puts.{put_oid}
+use Rattle.btree_setting.specs.Inserting.{insert_branch}
+use Rattle.btree_putting.specs.Puts.{put_oid}
 
 -- the same number, or a second one of eight bytes
 abbrev pub OidAlike : ℕ → ℕ → Type 0

@@ -9,7 +9,7 @@ use Rattle.btree_shapes.specs.Keys.{is_below}
 use Rattle.btree_shapes.specs.Nodes.{place_for}
 use Rattle.btree_setting.specs.declared.change.Sprout.{Sprout}
 use Rattle.btree_setting.specs.declared.rung.Rung.{Rung}
-use Rattle.btree_setting.specs.Items.{place_in, behind, set_item, insert_branch}
+use Rattle.btree_setting.specs.Inserting.{place_in, behind, set_item, insert_branch}
 use Rattle.btree_setting.specs.Changes.{grown, branch_up, BranchesCut}
 
 pub by_test : (b : Bool) → (b ≡ true) ⊎ (b ≡ false)

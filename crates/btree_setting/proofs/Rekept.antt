@@ -32,13 +32,13 @@ use Rattle.btree_shapes.specs.declared.node.Node.TheVariants as node
 use Rattle.btree_shapes.specs.declared.space.Call.{Call}
 use Rattle.btree_shapes.specs.Classes.{class_named, is_class_of}
 use Rattle.btree_shapes.specs.Nodes.{lone_or_inner, node_of_kind, own_node, node_of_leaf, leaf_named, node_of}
-use Rattle.btree_setting.specs.declared.change.Put.{Put}
+use Rattle.btree_putting.specs.declared.puts.Put.{Put}
 use Rattle.btree_setting.specs.declared.growing.Terms.{Terms}
 use Rattle.btree_setting.specs.declared.preparing.Task.{Task}
-use Rattle.btree_setting.specs.Items.{same_items, same_branch, same_branches}
-use Rattle.btree_setting.specs.Puts.{add_put, add_all, sort_puts, same_link, same_node, is_copy, is_class_kept, reads_as, text_reads_as, state_reads_as, keeps, all_keep, IsSoundPut, AreSound}
+use Rattle.btree_putting.specs.Items.{same_items, same_branch, same_branches}
+use Rattle.btree_putting.specs.Puts.{add_put, add_all, sort_puts, same_link, same_node, is_copy, is_class_kept, reads_as, text_reads_as, state_reads_as, keeps, all_keep, IsSoundPut, AreSound}
 use Rattle.btree_setting.specs.Sets.{Passes, IsPlan}
-use Rattle.btree_setting.specs.Writing.{child_class, node_writable, node_graph, node_state}
+use Rattle.btree_putting.specs.Writing.{child_class, node_writable, node_graph, node_state}
 use Rattle.btree_setting.proofs.Graphed.{graph_same, bucket_alike, inner_alike, same_writable}
 use Rattle.btree_setting.proofs.Numbered.{OidAlike, LinkAlike, BranchAlike, BranchesAlike, NodeAlike, PutAlike, PutsAlike, same_separators}
 use Rattle.btree_setting.proofs.Renumbered.{changes_alike}

@@ -8,7 +8,7 @@ use Rattle.bucket_state.specs.declared.tree.Branch.{Branch}
 use Rattle.btree_setting.specs.declared.bottom.Bottom.{Bottom}
 use Rattle.btree_setting.specs.declared.bottom.Place.{Place}
 use Rattle.btree_setting.specs.declared.bottom.Place.TheVariants as place
-use Rattle.btree_setting.specs.declared.change.Put.{Put}
+use Rattle.btree_putting.specs.declared.puts.Put.{Put}
 use Rattle.btree_setting.specs.declared.change.Sprout.{Sprout}
 use Rattle.btree_setting.specs.declared.change.Change.{Change}
 use Rattle.btree_setting.specs.declared.growing.Plain.{Plain}
@@ -17,8 +17,8 @@ use Rattle.btree_setting.specs.declared.rung.Rung.{Rung}
 use Rattle.btree_setting.specs.declared.rung.Seam.{Seam}
 use Rattle.btree_setting.specs.declared.rung.Seam.TheVariants as seams
 use Rattle.btree_setting.specs.Changes.{LeafSplits, LoneSplits, IsLeafSet, InnerSplits, RootParts, BranchesCut, IsSet, IsRootSet, Rise, RootRise, fitted, grown, branch_up, seam_first}
-use Rattle.btree_setting.specs.Items.{ItemsCut}
-use Rattle.btree_setting.specs.Puts.{put_oid}
+use Rattle.btree_setting.specs.Inserting.{ItemsCut}
+use Rattle.btree_putting.specs.Puts.{put_oid}
 use Rattle.btree_setting.proofs.Numbered.{OidAlike, LinkAlike, BranchAlike, BranchesAlike, NodeAlike, PutAlike, PutsAlike, SproutAlike, UpAlike, ChangeAlike, change_same, change_as, puts_append, as_many, insert_alike, CutAlike, cut_alike, items_cut, below_front, below_behind}
 
 not_both : {X : Type 0} (u v : Option Sprout) (b : Sprout) → UpAlike u v → u ≡ None → v ≡ Some b → X

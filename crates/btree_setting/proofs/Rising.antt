@@ -7,7 +7,8 @@ use Rattle.btree_setting.specs.declared.bottom.Bottom.{Bottom}
 use Rattle.btree_setting.specs.declared.change.Change.{Change}
 use Rattle.btree_setting.specs.declared.growing.Terms.{Terms}
 use Rattle.btree_setting.specs.declared.rung.Rung.{Rung}
-use Rattle.btree_setting.specs.Rungs.{grows, is_none, first_below, rung_of, rungs_of}
+use Rattle.btree_setting.specs.Rungs.{grows, first_below, rung_of, rungs_of}
+use Rattle.btree_putting.specs.Firsts.{is_none}
 use Rattle.btree_setting.specs.Changes.{IsBottom, IsSet, IsRootSet, Rise, RootRise}
 
 -- ---- the objects of a way

@@ -5,11 +5,11 @@ use Rattle.pickle_value.specs.Graph.{AllBelow}
 use Rattle.btree_family.specs.Classes.{Class}
 use Rattle.btree_shapes.specs.declared.space.Call.{Call}
 use Rattle.btree_shapes.specs.declared.space.Call.TheVariants.{Drew}
-use Rattle.btree_setting.specs.declared.change.Put.{Put}
+use Rattle.btree_putting.specs.declared.puts.Put.{Put}
 use Rattle.btree_setting.specs.declared.change.Change.{Change}
 use Rattle.btree_setting.specs.declared.growing.Terms.{Terms}
 use Rattle.btree_setting.specs.declared.preparing.Task.{Task}
-use Rattle.btree_setting.specs.Puts.{put_oid, sort_puts, all_keep, AreSound}
+use Rattle.btree_putting.specs.Puts.{put_oid, sort_puts, all_keep, AreSound}
 use Rattle.btree_setting.specs.Changes.{AreDrawn, IsRootSet}
 use Rattle.btree_setting.specs.Sets.{AreZero, DrewSome, IsTrial, Fails, Passes, CountsNews, IsPlan}
 

@@ -9,7 +9,8 @@ use Rattle.btree_setting.specs.declared.bottom.Bottom.{Bottom}
 use Rattle.btree_setting.specs.declared.bottom.End.{End}
 use Rattle.btree_setting.specs.declared.bottom.Place.{Place}
 use Rattle.btree_setting.specs.declared.bottom.Place.TheVariants.{Lone, Alone, Below}
-use Rattle.btree_setting.specs.Items.{has_key, has_value, set_item}
+use Rattle.btree_putting.specs.Items.{has_key, has_value}
+use Rattle.btree_setting.specs.Inserting.{set_item}
 
 -- the leaf that an object is or has, and where it stands
 abbrev pub leaf_at : Node → Bool → Option (BucketContents × Place)

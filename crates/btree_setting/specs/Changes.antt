@@ -1,5 +1,5 @@
 -- What a set changes, from the leaf up. From: the BTrees package, whose nodes split so; that a root keeps two halves is own.
-use Rattle.std.specs.Prelude.{◌≡◌, ℕ, ◌+◌, ◌/◌, ◌≤◌, ◌<◌, Bool, true, false, List, [], ◌∷◌, ◌++◌, length, map, Option, Some, None, nat_lt, ◌&&◌, ◌⊎◌}
+use Rattle.std.specs.Prelude.{◌≡◌, ℕ, ◌+◌, ◌/◌, ◌≤◌, ◌<◌, Bool, true, false, List, [], ◌∷◌, ◌++◌, length, map, Some, None, nat_lt, ◌&&◌, ◌⊎◌}
 use Rattle.pickle_value.specs.Graph.{Graph}
 use Rattle.btree_family.specs.declared.key.Key.{Key}
 use Rattle.btree_family.specs.declared.bucket.Item.{Item}
@@ -9,7 +9,7 @@ use Rattle.btree_shapes.specs.declared.node.Node.TheVariants as node
 use Rattle.btree_setting.specs.declared.bottom.Bottom.{Bottom}
 use Rattle.btree_setting.specs.declared.bottom.Place.{Place}
 use Rattle.btree_setting.specs.declared.bottom.Place.TheVariants.{Lone, Alone, Below}
-use Rattle.btree_setting.specs.declared.change.Put.{Put}
+use Rattle.btree_putting.specs.declared.puts.Put.{Put}
 use Rattle.btree_setting.specs.declared.change.Sprout.{Sprout}
 use Rattle.btree_setting.specs.declared.change.Change.{Change}
 use Rattle.btree_setting.specs.declared.growing.Plain.{Plain}
@@ -17,22 +17,13 @@ use Rattle.btree_setting.specs.declared.growing.Terms.{Terms}
 use Rattle.btree_setting.specs.declared.rung.Rung.{Rung}
 use Rattle.btree_setting.specs.declared.rung.Seam.{Seam}
 use Rattle.btree_setting.specs.declared.rung.Seam.TheVariants.{New, Old, Beside}
-use Rattle.btree_setting.specs.Items.{insert_branch, ItemsCut}
-use Rattle.btree_setting.specs.Puts.{put_oid}
+use Rattle.btree_setting.specs.Inserting.{insert_branch, ItemsCut}
+use Rattle.btree_putting.specs.Puts.{put_oid}
 
 -- the numbers of the new nodes are the first of these, in their order
 pub record AreDrawn (oids : List ℕ) (news : List Put) : Type 0 where
   pub rest : List ℕ
   pub cut : oids ≡ map put_oid news ++ rest
-
-abbrev pub leaf_node : List Item → Option ℕ → Node
-leaf_node items next = node.Leaf (record { items = items; next = next })
-
-abbrev pub lone_node : List Item → Option ℕ → Node
-lone_node items next = node.Lone (record { items = items; next = next })
-
-abbrev pub inner_node : ℕ → List Branch → ℕ → Node
-inner_node head tail first = node.Inner (record { head = head; tail = tail; first = first })
 
 -- ---- the leaf
 

@@ -1,11 +1,9 @@
-pub mod Writing
 pub mod Values
-pub mod Items
 pub mod Bottoms
 pub mod Rungs
-pub mod Puts
 pub mod Changes
 pub mod Tasks
 pub mod Sets
 pub mod Ends
 pub mod Types
+pub mod Inserting

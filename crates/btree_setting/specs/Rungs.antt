@@ -1,15 +1,13 @@
 -- The objects above a leaf that is set, as far as a split goes up through them. Own.
-use Rattle.std.specs.Prelude.{◌≡◌, ℕ, suc, ◌+◌, ◌-◌, ◌/◌, Bool, true, false, List, [], ◌∷◌, ◌++◌, length, Option, Some, None, Result, Ok, Err, slice_get, nat_lt, ◌==◌, ◌&&◌, if◌then◌else◌}
-use Rattle.pickle_value.specs.Graph.{Graph}
+use Rattle.std.specs.Prelude.{ℕ, ◌+◌, ◌-◌, ◌/◌, Bool, true, false, List, [], ◌∷◌, ◌++◌, length, Option, Some, None, Result, Ok, Err, slice_get, nat_lt, ◌==◌, ◌&&◌, if◌then◌else◌}
 use Rattle.btree_family.specs.declared.key.Key.{Key}
 use Rattle.bucket_state.specs.declared.tree.Branch.{Branch}
 use Rattle.bucket_state.specs.declared.tree.Inner.{Inner}
 use Rattle.btree_shapes.specs.declared.error.TreeError.{TreeError}
-use Rattle.btree_shapes.specs.declared.error.TreeError.TheVariants.{NotATree, NodeMissing, BadKey}
-use Rattle.btree_shapes.specs.declared.node.Node.{Node}
+use Rattle.btree_shapes.specs.declared.error.TreeError.TheVariants.{NotATree}
 use Rattle.btree_shapes.specs.declared.node.Node.TheVariants as node
 use Rattle.btree_shapes.specs.declared.path.Step.{Step}
-use Rattle.btree_shapes.specs.Nodes.{Held, Nothing, Foreign, Holds, node_suits, place_for}
+use Rattle.btree_shapes.specs.Nodes.{Held, place_for}
 use Rattle.btree_shapes.specs.Ways.{stands_in}
 use Rattle.btree_setting.specs.declared.rung.Rung.{Rung}
 use Rattle.btree_setting.specs.declared.rung.Seam.{Seam}
@@ -47,10 +45,6 @@ abbrev pub grows : ℕ → Bool → List Step → Bool
 grows max splits [] = splits
 grows max splits (step ∷ below) = grows max splits below && is_full max step.inner
 
-abbrev pub is_none : List Step → Bool
-is_none [] = true
-is_none (step ∷ below) = false
-
 -- the first leaf below what stands below: the leaf itself, or the one that the next object names
 abbrev pub first_below : ℕ → List Step → ℕ
 first_below leaf [] = leaf
@@ -81,18 +75,6 @@ rung_oid rung = rung.oid
 
 abbrev pub with_first : Rung → ℕ → Rung
 with_first rung first = record { oid = rung.oid; class = rung.class; inner = rung.inner; leaves = rung.leaves; seam = Old first }
-
--- the first leaf below an object, which a leaf is itself
-abbrev pub first_of : ℕ → Node → ℕ
-first_of oid (node.Inner inner) = inner.first
-first_of oid (node.Lone bucket) = oid
-first_of oid (node.Leaf bucket) = oid
-
--- the refusals of an object that is read, in the order in which they are tested
-abbrev pub first_held : Bool → Key → ℕ → Held → Result ℕ TreeError
-first_held fits key oid Nothing = Err (NodeMissing oid)
-first_held fits key oid Foreign = Err (NotATree oid)
-first_held fits key oid (Holds class node) = if fits && node_suits key node then Ok (first_of oid node) else Err BadKey
 
 abbrev pub put_first : Rung → Result ℕ TreeError → Result Rung TreeError
 put_first rung (Ok first) = Ok (with_first rung first)

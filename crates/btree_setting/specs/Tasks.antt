@@ -17,7 +17,8 @@ use Rattle.btree_setting.specs.declared.preparing.Sizes.{Sizes}
 use Rattle.btree_setting.specs.declared.preparing.Task.{Task}
 use Rattle.btree_setting.specs.Bottoms.{bottom_of}
 use Rattle.btree_setting.specs.Changes.{leaf_grows}
-use Rattle.btree_setting.specs.Rungs.{is_none, rungs_of, settle, asked}
+use Rattle.btree_putting.specs.Firsts.{is_none}
+use Rattle.btree_setting.specs.Rungs.{rungs_of, settle, asked}
 use Rattle.btree_setting.specs.Values.{family_value}
 
 -- whether key and value are of the family of the root's class

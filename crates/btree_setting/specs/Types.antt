@@ -2,7 +2,6 @@
 use Rattle.btree_setting.specs.declared.bottom.Bottom.{Bottom as OwnBottom}
 use Rattle.btree_setting.specs.declared.bottom.Place.{Place as OwnPlace}
 use Rattle.btree_setting.specs.declared.bottom.Place.TheVariants as places
-use Rattle.btree_setting.specs.declared.change.Put.{Put as OwnPut}
 use Rattle.btree_setting.specs.declared.change.Sprout.{Sprout as OwnSprout}
 use Rattle.btree_setting.specs.declared.change.Change.{Change as OwnChange}
 use Rattle.btree_setting.specs.declared.growing.Plain.{Plain as OwnPlain}
@@ -27,9 +26,6 @@ Alone = places.Alone
 
 pattern abbrev pub Below : Place
 Below = places.Below
-
-abbrev pub Put : Type 0
-Put = OwnPut
 
 abbrev pub Sprout : Type 0
 Sprout = OwnSprout

@@ -1,8 +1,7 @@
 -- Values of a family, and what a key is set to. From: the BTrees package.
-use Rattle.std.specs.Prelude.{ℕ, Bool, true, false, List, [], ◌∷◌, Option, Some, None, Result, Ok, Err, eqb, not, slice_get, ◌&&◌, if◌then◌else◌}
+use Rattle.std.specs.Prelude.{ℕ, Bool, true, false, List, Option, Some, None, Result, Ok, Err, eqb, not, slice_get, ◌&&◌, if◌then◌else◌}
 use Rattle.std.specs.Cmp.Lexicographic.{pointwise}
 use Rattle.pickle_value.specs.declared.error.PickleError.{PickleError}
-use Rattle.pickle_value.specs.declared.node.Node.{Node}
 use Rattle.pickle_value.specs.declared.reading.TheConstants.{NODE_LIMIT}
 use Rattle.pickle_value.specs.Graph.{Graph}
 use Rattle.pickle_value.specs.Reading.{graph_at}
@@ -33,10 +32,6 @@ is_family_text kind text = is_value_in kind text (graph_at NODE_LIMIT 0 (value_p
 abbrev pub fits_class : Class → Option (List ℕ) → Bool
 fits_class class None = not (has_values class.kind)
 fits_class class (Some text) = if has_values class.kind then is_family_text class.value text else false
-
-abbrev pub has_leaf : Option Class → Bool
-has_leaf None = false
-has_leaf (Some leaf) = true
 
 -- whether a value is one of the family, where the root has a class
 abbrev pub family_value : Option Class → Option (List ℕ) → Bool

@@ -2,11 +2,13 @@
 
 ghost use Rattle.std.specs.Prelude.{◌≡◌, IfOk};
 ghost use Rattle.btree_family.specs.Buckets.{IsValue};
-ghost use Rattle.btree_setting.specs.Items.{has_key, has_value, set_item};
+ghost use Rattle.btree_putting.specs.Items.{has_key, has_value};
+ghost use Rattle.btree_setting.specs.Inserting.{set_item};
 ghost use Rattle.btree_setting.specs.Bottoms.{leaf_at, bottom_of};
 
-use crate::items::{has_key, has_value, set_item};
+use crate::inserting::set_item;
 use btree_family::{Bucket, Key};
+use btree_putting::{has_key, has_value};
 use btree_shapes::Node;
 use pickle_value::Pickle;
 use std::alloc::{AllocError, Global};

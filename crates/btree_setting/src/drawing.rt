@@ -4,7 +4,8 @@ ghost use Rattle.std.specs.Prelude.{◌≡◌, ◌<◌, ◌^◌, ◌++◌, ◌�
 ghost use Rattle.pickle_value.specs.Graph.{AllBelow};
 ghost use Rattle.btree_shapes.specs.declared.space.Call.TheVariants.{Drew};
 ghost use Rattle.btree_shapes.specs.Spaces.{handed_on};
-ghost use Rattle.btree_setting.specs.Sets.{IsFree, AreZero, DrewSome};
+ghost use Rattle.btree_putting.specs.Storing.{IsFree};
+ghost use Rattle.btree_setting.specs.Sets.{AreZero, DrewSome};
 
 use btree_shapes::{Space, SpaceError, TreeError};
 use std::alloc::{AllocError, Global};

@@ -2,15 +2,15 @@
 
 ghost use Rattle.std.specs.Prelude.{◌≡◌, ℕ, List, ◌++◌, ◌<◌, ◌/◌, ◌∷◌, [], length, slice_get, Some, IfOk};
 ghost use Rattle.btree_family.specs.Buckets.{IsBucket};
-ghost use Rattle.btree_setting.specs.Items.{ItemsCut};
+ghost use Rattle.btree_setting.specs.Inserting.{ItemsCut};
 ghost use Rattle.btree_setting.specs.Changes.{AreDrawn, BranchesCut, LeafSplits, LoneSplits, IsBottom, InnerSplits, RootParts, Rise, RootRise, grown, fitted, leaf_grows, one_put, seam_first};
 
 use crate::bottom::{Bottom, Place};
-use crate::change::{Change, Put, Puts, Sprout};
-use crate::copying::{copy_pickle, with_branches, with_items};
-use crate::items::insert_branch;
+use crate::change::{Change, Sprout};
+use crate::inserting::insert_branch;
 use crate::rung::{Rung, Seam};
 use btree_family::{Bucket, Item, Key};
+use btree_putting::{Put, Puts, copy_pickle, with_branches, with_items};
 use btree_shapes::Node;
 use bucket_state::{Branch, Inner};
 use pickle_value::Pickle;

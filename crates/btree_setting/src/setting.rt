@@ -3,22 +3,21 @@
 ghost use Rattle.std.specs.Prelude.{◌≡◌, ◌++◌, IfOk, IfErr, IfSome, OnErr};
 ghost use Rattle.btree_family.specs.Classes.{class_seen};
 ghost use Rattle.btree_shapes.specs.Spaces.{handed_on};
-ghost use Rattle.btree_setting.specs.Sets.{IsFree, DrewSome, terms_of, CountsNews, Tried, IsPlan, Writes};
+ghost use Rattle.btree_putting.specs.Storing.{IsFree};
+ghost use Rattle.btree_setting.specs.Sets.{DrewSome, terms_of, CountsNews, Tried, IsPlan, Writes};
 ghost use Rattle.btree_shapes.specs.Ways.{IsRefusal, OnlyReads};
 ghost use Rattle.btree_setting.specs.Tasks.{task_under, reads_under};
 ghost use Rattle.btree_setting.specs.Ends.{IsFinding, Sets};
-ghost use Rattle.btree_setting.specs.Writing.{AreGlobal};
+ghost use Rattle.btree_putting.specs.Writing.{AreGlobal};
 
-use crate::change::{Puts, in_order};
 use crate::drawing::{draw_all, stand_ins};
 use crate::growing::{Plain, Terms, leaf_grows};
 use crate::planning::plan;
 use crate::preparing::{Sizes, Task, prepare};
-use crate::storing::{all_keep, leaves_keep, store_all};
 use crate::value::fits_class;
-use crate::writing::{Family, plain_class};
 use btree_family::{Key, key_fits, leaf_of};
-use btree_shapes::{Space, TreeError, follow_root, read_root};
+use btree_putting::{Family, Puts, all_keep, can_keep, in_order, plain_class, store_all};
+use btree_shapes::{Node, Space, TreeError, follow_root, read_root};
 use bucket_state::{links_stand_apart, same_graphs_hold_the_same, written_objects_read_back};
 use std::alloc::{AllocError, Global};
 use zb_ids::{Oid, Text8};
@@ -67,6 +66,26 @@ fn try_out(
         return Ok(Some(change.news.len()));
     }
     Ok(None)
+}
+
+/// Whether the records of the leaves among puts can be written and read back.
+fn leaves_keep(alloc: Global, family: &Family, puts: &Puts) -> Result<bool, AllocError>
+    requires global { AreGlobal family.now }
+{
+    let mut place = 0;
+    'puts: while place < puts.len() {
+        let put = puts.at(place);
+        match put.node {
+            Node::Inner(_) => {}
+            Node::Lone(_) | Node::Leaf(_) => {
+                if !can_keep(alloc, family, put)? {
+                    return Ok(false);
+                }
+            }
+        }
+        place += 1;
+    }
+    Ok(true)
 }
 
 /// How many numbers a set draws, where the space can't give as many and the leaves that it puts can be written and read back.

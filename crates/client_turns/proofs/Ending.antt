@@ -11,8 +11,8 @@ use Rattle.zb_model.specs.declared.pending.PendingStore.{PendingStore}
 use Rattle.zb_model.specs.declared.refusal.Refusal.{Refusal}
 use Rattle.zb_model.specs.declared.refusal.Refusal.TheVariants as refusal
 use Rattle.zb_model.specs.Rules.{MergeRules}
-use Rattle.zb_script.specs.declared.answer.Answer.{Answer}
-use Rattle.zb_script.specs.declared.answer.Answer.TheVariants as answer
+use Rattle.zb_answers.specs.declared.answer.Answer.{Answer}
+use Rattle.zb_answers.specs.declared.answer.Answer.TheVariants as answer
 use Rattle.zb_script.specs.declared.line.Line.{Line}
 use Rattle.zb_script.specs.declared.line.Line.TheVariants as line
 use Rattle.commit_phases.specs.Pending.{PendingChanges}
@@ -47,8 +47,7 @@ use Rattle.client_turns.specs.Lines.{answer_of, as_voted, client_left, is_commit
 use Rattle.client_turns.specs.Refusing.{line_refusal, mixed, pending_count}
 use Rattle.client_turns.specs.Standing.{IsClientOf, IsLineOpen, IsOpenAs, IsWorkOf, MayTakeAt, OneLeadsTo, changes_kept}
 use Rattle.client_turns.specs.Steps.{IsStepAt}
-use Rattle.client_turns.specs.Turns.{IsTold}
-use Rattle.client_turns.specs.Turns.{IsStepLine}
+use Rattle.client_turns.specs.Turns.{IsTold, IsStepLine}
 use Rattle.client_turns.specs.Views.{server_of}
 use Rattle.client_turns.proofs.Hubs.{open_whole}
 use Rattle.client_turns.proofs.Asked.{IsOpened, MayStand, end_of_client, none_of, opened_of}

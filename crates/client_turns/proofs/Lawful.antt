@@ -7,7 +7,7 @@ use Rattle.zb_ids.specs.declared.stamp.Stamp.{Stamp}
 use Rattle.zb_model.specs.declared.data.Transaction.{Transaction}
 use Rattle.zb_model.specs.Database.{IsDatabase}
 use Rattle.zb_model.specs.Queries.{greatest_oid}
-use Rattle.zb_script.specs.declared.answer.Answer.{Answer}
+use Rattle.zb_answers.specs.declared.answer.Answer.{Answer}
 use Rattle.zb_script.specs.declared.line.Turn.{Turn}
 use Rattle.zodb_core.specs.Machine.{Rules, front_of}
 use Rattle.zodb_core.specs.Outcomes.{FaultCounts}

@@ -4,8 +4,8 @@ use Rattle.std.specs.Prelude.{if◌then◌else◌}
 use Rattle.zb_model.specs.declared.pending.PendingStore.{PendingStore}
 use Rattle.zb_model.specs.declared.refusal.Refusal.{Refusal}
 use Rattle.zb_model.specs.declared.refusal.Refusal.TheVariants as refusal
-use Rattle.zb_script.specs.declared.answer.Answer.{Answer}
-use Rattle.zb_script.specs.declared.answer.Answer.TheVariants as answer
+use Rattle.zb_answers.specs.declared.answer.Answer.{Answer}
+use Rattle.zb_answers.specs.declared.answer.Answer.TheVariants as answer
 use Rattle.zb_script.specs.declared.tree_call.TreeCall.{TreeCall}
 use Rattle.commit_phases.specs.Pending.{stores_after}
 use Rattle.tree_calls.specs.declared.attempt.Made.{Made}

@@ -2,8 +2,8 @@
 use Rattle.std.specs.Prelude.{◌≡◌, ℕ, List, [], ◌∷◌, ◌++◌, Ok, Bool, true, false, not, bytes_eq}
 use Rattle.std.specs.List.{list_any}
 use Rattle.zb_model.specs.declared.refusal.Refusal.TheVariants as refusal
-use Rattle.zb_script.specs.declared.answer.Answer.{Answer}
-use Rattle.zb_script.specs.declared.answer.Answer.TheVariants as answer
+use Rattle.zb_answers.specs.declared.answer.Answer.{Answer}
+use Rattle.zb_answers.specs.declared.answer.Answer.TheVariants as answer
 use Rattle.zb_script.specs.declared.line.Turn.{Turn}
 use Rattle.zodb_core.specs.Machine.{Rules}
 use Rattle.client_turns.specs.declared.errors.TurnError.{TurnError}

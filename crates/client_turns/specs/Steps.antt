@@ -1,8 +1,8 @@
 -- Steps, reads and changes at a moment, of which turns are made. Source: connections of ZODB.
 use Rattle.std.specs.Prelude.{◌≡◌, ℕ, List, Result, Bool}
 use Rattle.zb_model.specs.declared.refusal.Refusal.{Refusal}
-use Rattle.zb_script.specs.declared.answer.Answer.{Answer}
-use Rattle.zb_script.specs.declared.answer.Answer.TheVariants as answer
+use Rattle.zb_answers.specs.declared.answer.Answer.{Answer}
+use Rattle.zb_answers.specs.declared.answer.Answer.TheVariants as answer
 use Rattle.zodb_core.specs.declared.reply.Reply.{Reply}
 use Rattle.zodb_core.specs.declared.request.Request.{Request}
 use Rattle.zodb_core.specs.HubState.{HasTicked}

@@ -4,9 +4,9 @@ ghost use Rattle.std.specs.Prelude.{◌≡◌};
 ghost use Rattle.client_turns.specs.Asking.{answered, begun_as, finished_as, saved_as};
 ghost use Rattle.client_turns.specs.Lines.{data_of, object_of};
 
+use zb_answers::Answer;
 use zb_ids::{Text8, Tid};
 use zb_model::Refusal;
-use zb_script::Answer;
 
 /// What a line is answered that gives nothing: this, or the refusal.
 pub(crate) fn answered(done: Result<(), Refusal>, answer: Answer) -> Answer

@@ -11,10 +11,11 @@ use crate::answers::{answered, begun, data_of, finished, object_of, saved};
 use crate::client::Client;
 use local_loads::LocalLoads;
 use std::alloc::Global;
+use zb_answers::Answer;
 use zb_ids::{Oid, Text8, Tid};
 use zb_model::{Refs, Refusal, Resolver, Store};
 use zb_outside::Clock;
-use zb_script::{Answer, Line};
+use zb_script::Line;
 use zodb_core::Hub;
 
 /// `begin`: a transaction begins.

@@ -13,10 +13,11 @@ use crate::asking::{connection_line, get_of};
 use crate::client::Client;
 use crate::clients::Clients;
 use std::alloc::Global;
+use zb_answers::Answer;
 use zb_ids::{Oid, Text8, Tid};
 use zb_model::{Refs, Refusal, Resolver, Store};
 use zb_outside::Clock;
-use zb_script::{Answer, Line};
+use zb_script::Line;
 use zodb_core::Hub;
 
 /// A line of the client at a place that its connection answers.

@@ -7,8 +7,9 @@ ghost use Rattle.client_turns.specs.Asking.{IsPlain, plain_request};
 ghost use Rattle.client_turns.specs.Lines.{answer_of, end_of};
 
 use crate::errors::TurnError;
+use zb_answers::Answer;
 use zb_model::Refusal;
-use zb_script::{Answer, Line};
+use zb_script::Line;
 use zodb_core::{Reply, Request};
 
 /// Whether a line is one that a connection answers.

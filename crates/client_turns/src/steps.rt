@@ -13,9 +13,9 @@ use crate::client::{Client, session_at};
 use crate::clients::Clients;
 use crate::requests::answer_of;
 use std::alloc::Global;
+use zb_answers::Answer;
 use zb_model::{Refs, Resolver, Store};
 use zb_outside::Clock;
-use zb_script::Answer;
 use zodb_core::{Reply, Request};
 
 /// A client whose session was closed has no transaction any more.

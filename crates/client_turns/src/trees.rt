@@ -27,10 +27,11 @@ use std::marker::Brand;
 use tree_calls::{
     Attempt, Known, Made, NodeCache, Seen, TreeAnswer, TreeOperation, call_tree, objects_ahead,
 };
+use zb_answers::Answer;
 use zb_ids::{ListOf, Oid, Text8, Tid};
 use zb_model::{PendingStore, Refs, Refusal, Resolver, Store};
 use zb_outside::Clock;
-use zb_script::{Answer, Line, TreeCall};
+use zb_script::{Line, TreeCall};
 use zodb_core::{Hub, Reply, Request};
 
 /// The operation that a line asks for.

@@ -20,9 +20,10 @@ use crate::errors::TurnError;
 use crate::requests::{answer_of, end_of, is_of_connection, plain_request};
 use connection_view::Connection;
 use std::alloc::Global;
+use zb_answers::Answer;
 use zb_model::{Refs, Refusal, Resolver, Store};
 use zb_outside::Clock;
-use zb_script::{Answer, Line, Name, Turn};
+use zb_script::{Line, Name, Turn};
 use zodb_core::{Request, SessionRefusal};
 
 /// Puts a client behind the others, for whom there is room.

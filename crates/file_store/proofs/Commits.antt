@@ -12,7 +12,8 @@ use Rattle.zb_model.specs.declared.data.Transaction.{Transaction}
 use Rattle.zb_model.specs.declared.new_transaction.NewTransaction.{NewTransaction}
 use Rattle.zb_base.specs.Bytes.{AreBytes}
 use Rattle.fs_records.specs.Blocks.{Reached, Begins}
-use Rattle.fs_records.specs.Places.{IsIndexOf, places_in, oids_placed}
+use Rattle.fs_records.specs.Indexed.{IsIndexOf}
+use Rattle.fs_index.specs.Places.{places_in, oids_placed}
 use Rattle.zb_model.specs.Voting.{IsVotable, voted_of}
 use Rattle.fs_records.specs.File.{IsReadAs, a_file}
 use Rattle.fs_records.specs.Listed.{listed, reached_in, reading_stands}

@@ -3,7 +3,7 @@ use Rattle.std.proofs.Common.{◌≡◌, ℕ, ◌<◌, ◌^◌, List, length, So
 use Rattle.zb_model.specs.declared.data.Transaction.{Transaction}
 use Rattle.fs_records.specs.Blocks.{Reached, file_start}
 use Rattle.fs_records.specs.Listed.{reached_in, reached_is, reading_is, reading_stands}
-use Rattle.fs_records.specs.Places.{places_of}
+use Rattle.fs_records.specs.Indexed.{places_of}
 use Rattle.fs_recovery.specs.Numbers.{AreNumbersOf}
 use Rattle.pack_copy.specs.Copying.{CopyKept, IsCopied}
 use Rattle.pack_copy.specs.InFull.{after_full, full_file}

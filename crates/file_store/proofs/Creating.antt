@@ -12,7 +12,8 @@ use Rattle.zb_model.specs.Creation.{first_transaction}
 use Rattle.zb_model.specs.Voting.{IsFilled, IsVotable, IsWellFormed, NamesRevision, voted_of}
 use Rattle.fs_records.specs.Blocks.{Reached, file_start, magic, block_text, after_block, transaction_of, Begins}
 use Rattle.fs_records.specs.File.{IsReadAs, StandsFor, a_file}
-use Rattle.fs_records.specs.Places.{PlacesKept, Kept, IsIndexOf, places_in}
+use Rattle.fs_index.specs.Places.{PlacesKept, Kept, places_in}
+use Rattle.fs_records.specs.Indexed.{IsIndexOf}
 use Rattle.fs_records.specs.StatusLaws.{status_set}
 use Rattle.fs_records.specs.WriteLaws.{block_stands}
 use Rattle.fs_records.specs.Writing.{IsNext, block_of}

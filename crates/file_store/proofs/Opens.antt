@@ -18,13 +18,13 @@ use Rattle.zb_outside.specs.Stamps.{stamps_after}
 use Rattle.zb_volume.specs.Lasting.{settled_leaves}
 use Rattle.zb_volume.specs.Runs.{joined, weaker}
 use Rattle.zb_model.specs.declared.data.Transaction.{Transaction}
-use Rattle.fs_records.specs.declared.place.Place.{Place}
+use Rattle.fs_index.specs.declared.place.Place.{Place}
 use Rattle.zb_base.specs.Bytes.{AreBytes, AreBytes-take}
 use Rattle.fs_records.specs.Blocks.{Reached, Begins, magic, file_start, blocks_text}
 use Rattle.fs_records.specs.File.{IsReadAs, StandsFor, no_bytes, a_file}
 use Rattle.fs_records.specs.Databases.{reading_of}
 use Rattle.fs_records.specs.Listed.{listed, reached_in, reading_is, reached_is}
-use Rattle.fs_records.specs.Places.{places_of}
+use Rattle.fs_records.specs.Indexed.{places_of}
 use Rattle.fs_records.specs.Unique.{one_list, never_both}
 use Rattle.fs_records.specs.WriteLaws.{length-read, without_tail_stands}
 use Rattle.fs_recovery.specs.declared.opening.Opened.{Opened}

@@ -5,9 +5,9 @@ use Rattle.std.specs.List.{IsDistinct}
 use Rattle.std.specs.Option.{ForSome}
 use Rattle.std.proofs.lemmas.List.Elements.{All-nil, All-cons, All-append}
 use Rattle.zb_model.specs.declared.new_transaction.NewChange.{NewChange}
-use Rattle.fs_records.specs.declared.place.Place.{Place}
-use Rattle.fs_records.specs.declared.place.Placed.{Placed}
-use Rattle.fs_records.specs.Places.{Kept, places_in, placed_of, oids_placed, HasRoomFor, IsBefore, StandBehind}
+use Rattle.fs_index.specs.declared.place.Place.{Place}
+use Rattle.fs_index.specs.declared.place.Placed.{Placed}
+use Rattle.fs_index.specs.Places.{Kept, places_in, placed_of, oids_placed, HasRoomFor, IsBefore, StandBehind}
 use Rattle.fs_records.specs.Placing.{placed_from, placed_end}
 use Rattle.fs_records.specs.PlacingLaws.{IsRecordOf, end_behind, further, oids_from, placed_before, placed_behind, records_between}
 use Rattle.file_store.specs.Staging.{StagedKept, IsAllBefore, IsAhead, IsStagedIndex, IsWith}

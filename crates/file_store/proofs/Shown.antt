@@ -7,12 +7,13 @@ use Rattle.zb_volume.specs.Calls.{Event}
 use Rattle.zb_volume.specs.Disk.{seen, IsSettled}
 use Rattle.zb_model.specs.declared.data.Transaction.{Transaction}
 use Rattle.zb_model.specs.Database.{newest_tid, serial_of}
-use Rattle.fs_records.specs.declared.place.Place.{Place}
+use Rattle.fs_index.specs.declared.place.Place.{Place}
 use Rattle.fs_records.specs.Blocks.{Begins, Reached}
 use Rattle.fs_records.specs.Databases.{reading_of}
 use Rattle.fs_records.specs.Listed.{listed, reached_in}
 use Rattle.fs_records.specs.Lookups.{serial_read}
-use Rattle.fs_records.specs.Places.{places_in, places_of}
+use Rattle.fs_index.specs.Places.{places_in}
+use Rattle.fs_records.specs.Indexed.{places_of}
 use Rattle.fs_reading.specs.Main.{ArePlaces, AreStarts}
 use Rattle.pack_copy.specs.Copying.{CopyKept}
 use Rattle.file_store.specs.Kept.{IsCopyKept, IsKept, IsVotedIn, cut_of, length_by}

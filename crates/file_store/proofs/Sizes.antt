@@ -3,7 +3,7 @@ use Rattle.std.proofs.Common.{◌≡◌, ℕ, ◌+◌, ◌≤◌, List, length, 
 use Rattle.zb_model.specs.declared.new_transaction.NewChange.{NewChange}
 use Rattle.zb_model.specs.declared.new_transaction.NewTransaction.{NewTransaction}
 use Rattle.fs_records.specs.Blocks.{records_from, block_text}
-use Rattle.fs_records.specs.Places.{PlacesKept}
+use Rattle.fs_index.specs.Places.{PlacesKept}
 use Rattle.fs_records.specs.Placing.{placed_end}
 use Rattle.fs_records.specs.PlacingLaws.{begins_at, text_end}
 use Rattle.fs_records.specs.Writing.{block_of}

@@ -10,13 +10,14 @@ use Rattle.zb_model.specs.Voting.{IsVotable, voted_of}
 use Rattle.zb_model.specs.VotingLaws.{oids_kept}
 use Rattle.fs_records.specs.Placing.{placed_from}
 use Rattle.fs_records.specs.PlacingLaws.{oids_from, places_read, text_long}
-use Rattle.fs_records.specs.declared.place.Place.{Place}
+use Rattle.fs_index.specs.declared.place.Place.{Place}
 use Rattle.zb_base.specs.Lists.{last_or_push}
 use Rattle.zb_base.specs.Bytes.{AreBytes, AreBytes-take}
 use Rattle.fs_records.specs.Blocks.{Known, Reached, Block, block_text, records_from, length_of, with_records, after_block, transaction_of, Begins}
 use Rattle.fs_records.specs.File.{IsReadAs}
 use Rattle.fs_records.specs.Listed.{listed, reached_in, reading_in, reading_is, reached_is}
-use Rattle.fs_records.specs.Places.{IsIndexOf, places_in, placed_of, places_of, oids_placed}
+use Rattle.fs_records.specs.Indexed.{IsIndexOf, places_of}
+use Rattle.fs_index.specs.Places.{places_in, placed_of, oids_placed}
 use Rattle.fs_records.specs.StatusLaws.{block_status, status_set}
 use Rattle.fs_records.specs.WriteLaws.{block_stands, vote_stands, without_tail_stands, length-block_text}
 use Rattle.fs_records.specs.Writing.{IsNext, block_of}

@@ -5,7 +5,8 @@ use Rattle.zb_model.specs.declared.data.Transaction.{Transaction}
 use Rattle.zb_base.specs.Bytes.{AreBytes}
 use Rattle.fs_records.specs.Blocks.{file_start}
 use Rattle.fs_records.specs.Listed.{listed, reached_in, reading_in}
-use Rattle.fs_records.specs.Places.{places_in, placed_of, places_of, oids_placed}
+use Rattle.fs_index.specs.Places.{places_in, placed_of, oids_placed}
+use Rattle.fs_records.specs.Indexed.{places_of}
 use Rattle.fs_records.specs.File.{StandsFor}
 use Rattle.file_store.specs.declared.staged.Staged.{Staged}
 use Rattle.fs_recovery.specs.Numbers.{NumbersKept, AreNumbersOf, total_of}

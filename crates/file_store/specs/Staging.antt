@@ -2,7 +2,7 @@
 use Rattle.std.specs.Prelude.{◌≡◌, ℕ, ◌-◌, ◌^◌, ◌<◌, [], ◌∷◌, ◌++◌, Option, nat_eq, All}
 use Rattle.std.specs.List.{IsDistinct}
 use Rattle.std.specs.Option.{ForSome}
-use Rattle.fs_records.specs.Places.{Kept, places_in, placed_of, oids_placed, HasRoomFor, IsBefore, AreBefore}
+use Rattle.fs_index.specs.Places.{Kept, places_in, placed_of, oids_placed, HasRoomFor, IsBefore, AreBefore}
 use Rattle.fs_records.specs.PlacingLaws.{IsRecordOf}
 use Rattle.file_store.specs.declared.staged.Staged.{Staged}
 

@@ -7,7 +7,8 @@ ghost use Rattle.fs_records.specs.Blocks.{magic};
 ghost use Rattle.fs_records.specs.File.{StandsFor};
 ghost use Rattle.file_store.specs.First.{file_with};
 
-use fs_records::{COMMITTED, Index, STATUS_PLACE, write_transaction};
+use fs_index::Index;
+use fs_records::{COMMITTED, STATUS_PLACE, write_transaction};
 use pack_copy::anew;
 use std::alloc::{AllocError, Global};
 use zb_ids::{Stamp, Text8};

@@ -24,8 +24,7 @@ ghost use Rattle.file_store.specs.Opening.{GaveAtMostOne, Harm, IsBegun, IsFresh
 use crate::first::first_file;
 use crate::staging::StagedIndex;
 use fs_append as append;
-use fs_index::last_of;
-use fs_records::Place;
+use fs_index::{Place, last_of};
 use fs_recovery::{Numbers, OpenError, Opened, open_main, read_file};
 use std::alloc::Global;
 use zb_ids::{Stamp, Tid};

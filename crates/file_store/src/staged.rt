@@ -1,6 +1,6 @@
 //! A transaction that is voted and not finished.
 
-use fs_records::Placed;
+use fs_index::Placed;
 use zb_ids::{ListOf, Tid};
 
 /// A transaction that stands behind what an index keeps, until it is finished or aborted.

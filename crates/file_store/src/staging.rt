@@ -3,12 +3,13 @@
 ghost use Rattle.std.specs.Prelude.{◌≡◌, ℕ, ◌-◌, ◌^◌, ◌<◌, ◌≤◌, None, Some, map, nat_eq, All, OnOk, OnErr};
 ghost use Rattle.std.specs.List.{IsDistinct};
 ghost use Rattle.std.specs.Option.{ForSome, option_copied};
-ghost use Rattle.fs_records.specs.Places.{HasRoomFor, IsRising, places_in};
+ghost use Rattle.fs_index.specs.Places.{HasRoomFor, IsRising, places_in};
 ghost use Rattle.fs_records.specs.Placing.{placed_end, placed_from};
 ghost use Rattle.file_store.specs.Staging.{IsAllBefore, IsWith};
 
 use crate::staged::Staged;
-use fs_records::{Index, Place, placed_records};
+use fs_index::{Index, Place};
+use fs_records::placed_records;
 use std::alloc::{AllocError, Global};
 use std::marker::Model;
 use zb_ids::{Oid, Tid};

@@ -5,8 +5,8 @@ use Rattle.std.specs.List.{list_any, last_or}
 use Rattle.std.specs.List.Sorted.{IsPartitionPoint, IsNonDecreasingBy}
 use Rattle.std.proofs.lemmas.Bool.{cases_lt, eqb-false, ltb-true, ne_eqb, ltb-false, le-leb, lt-leb}
 use Rattle.std.proofs.lemmas.List.{get_or_default}
-use Rattle.fs_records.specs.declared.place.Place.{Place}
-use Rattle.fs_records.specs.Places.{last_below, is_place_below}
+use Rattle.fs_index.specs.declared.place.Place.{Place}
+use Rattle.fs_index.specs.Places.{last_below, is_place_below}
 use Rattle.fs_index.specs.Found.{is_place_from, first_from}
 use Rattle.zb_base.specs.Lists.{filter_take, last_or_take}
 

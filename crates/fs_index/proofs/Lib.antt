@@ -1,2 +1,6 @@
 pub mod Finding
-pub mod Lasts
+pub mod Alone
+pub mod Adding
+pub mod Keeping
+pub mod Rising
+pub mod Slots

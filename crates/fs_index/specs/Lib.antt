@@ -1,1 +1,4 @@
 pub mod Found
+pub mod Places
+pub mod HeldPlaces
+pub mod Slots

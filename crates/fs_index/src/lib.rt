@@ -1,10 +1,16 @@
-//! Where an object's revisions stand, looked up in an index without taking memory.
+//! The index of a FileStorage file: where the records of each object stand and where the
+//! transactions do, and looking them up without taking memory.
 #![tactic(auto)]
 
-mod laws;
+mod index;
 mod lookup;
+mod objects;
+mod place;
+mod places;
 mod search;
+mod several;
 
-pub use laws::{newest_is_the_last_record, stands_where_a_record_was_read};
+pub use index::Index;
 pub use lookup::Lookup;
+pub use place::{Place, Placed};
 pub use search::{any_at, count_below, first_from, last_before, last_of};

@@ -2,10 +2,10 @@
 
 ghost use Rattle.std.specs.Prelude.{◌≡◌, ℕ, All, OnOk, OnErr};
 ghost use Rattle.std.specs.List.{last_or};
-ghost use Rattle.fs_records.specs.Places.{Kept, places_in, last_below, knows, Added, IsBefore};
+ghost use Rattle.fs_index.specs.Places.{Kept, places_in, last_below, knows, Added, IsBefore};
 
 use crate::search::{any_at, last_before, last_of};
-use fs_records::{Index, Place};
+use crate::{Index, Place};
 use std::alloc::AllocError;
 use zb_ids::{Oid, Tid};
 
@@ -15,7 +15,7 @@ use zb_ids::{Oid, Tid};
 /// stand, a record that a later one of the same object and transaction replaces among them, and the
 /// places of the transactions.
 pub trait Lookup {
-    ghost use Rattle.fs_records.specs.Places.{Kept};
+    ghost use Rattle.fs_index.specs.Places.{Kept};
 
     /// What is kept.
     ghost kept: { Self → Kept };

@@ -2,10 +2,10 @@
 
 ghost use Rattle.std.specs.Prelude.{◌≡◌, ◌==◌, ◌≤◌, length, take, filter};
 ghost use Rattle.std.specs.List.{last_or, list_any};
-ghost use Rattle.fs_records.specs.Places.{is_place_below, last_below, IsRising};
+ghost use Rattle.fs_index.specs.Places.{is_place_below, last_below, IsRising};
 ghost use Rattle.fs_index.specs.Found.{first_from};
 
-use fs_records::Place;
+use crate::Place;
 use zb_ids::Tid;
 
 /// The last of these places, or `None` where there are none. It takes no memory.

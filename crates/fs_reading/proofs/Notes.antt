@@ -7,9 +7,9 @@ use Rattle.zb_model.specs.declared.data.Content.{Content}
 use Rattle.zb_model.specs.declared.lists.Revision.{Revision}
 use Rattle.zb_model.specs.Lists.{size_of}
 use Rattle.fs_records.specs.declared.header.DataHeader.{DataHeader}
-use Rattle.fs_records.specs.declared.place.Place.{Place}
+use Rattle.fs_index.specs.declared.place.Place.{Place}
 use Rattle.fs_records.specs.Blocks.{Known}
-use Rattle.fs_records.specs.Places.{place_of}
+use Rattle.fs_records.specs.Indexed.{place_of}
 use Rattle.fs_reading.specs.declared.outline.Source.{Source}
 use Rattle.fs_reading.specs.declared.noted.Noted.{Noted}
 use Rattle.fs_reading.specs.Sizes.{noted_of, IsNotedAt}

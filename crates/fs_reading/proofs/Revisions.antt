@@ -5,9 +5,10 @@ use Rattle.zb_model.specs.declared.data.Content.{Content}
 use Rattle.zb_model.specs.declared.found.Found.TheVariants.{Nothing}
 use Rattle.zb_model.specs.Database.{ObjectRevision}
 use Rattle.zb_model.specs.Queries.{end_of, found_as, found_of, found_below}
-use Rattle.fs_records.specs.declared.place.Place.{Place}
+use Rattle.fs_index.specs.declared.place.Place.{Place}
 use Rattle.fs_records.specs.Blocks.{Reached, Begins, is_known, content_at}
-use Rattle.fs_records.specs.Places.{last_below, places_of}
+use Rattle.fs_index.specs.Places.{last_below}
+use Rattle.fs_records.specs.Indexed.{places_of}
 use Rattle.fs_records.specs.Lookups.{RevisionRead, revision_read, next_read}
 use Rattle.fs_index.specs.Found.{first_from}
 

@@ -8,9 +8,9 @@ use Rattle.std.proofs.lemmas.List.Folds.{find_at}
 use Rattle.std.proofs.lemmas.List.Elements.{All-head, All-tail, All-weaker}
 use Rattle.zb_model.specs.declared.data.Transaction.{Transaction}
 use Rattle.zb_model.specs.Queries.{transaction_at, first_after}
-use Rattle.fs_records.specs.declared.place.Place.{Place}
+use Rattle.fs_index.specs.declared.place.Place.{Place}
 use Rattle.fs_records.specs.Blocks.{Reached, Begins}
-use Rattle.fs_records.specs.Places.{IsBefore, IsRising}
+use Rattle.fs_index.specs.Places.{IsBefore, IsRising}
 use Rattle.fs_records.specs.Databases.{reading_of}
 use Rattle.fs_records.specs.Lookups.{are_before_end}
 use Rattle.fs_index.specs.Found.{first_from}

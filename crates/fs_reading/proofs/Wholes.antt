@@ -3,7 +3,7 @@ use Rattle.std.proofs.Common.{◌≡◌, ℕ, zero, suc, Bool, List, [], ◌∷�
 use Rattle.std.specs.Prelude.{IfOk, slice_get}
 use Rattle.zb_model.specs.declared.data.Change.{Change}
 use Rattle.zb_model.specs.declared.data.Transaction.{Transaction}
-use Rattle.fs_records.specs.declared.place.Place.{Place}
+use Rattle.fs_index.specs.declared.place.Place.{Place}
 use Rattle.fs_reading.specs.Standing.{TransactionStands, TransactionsStand}
 use Rattle.fs_reading.specs.ChangesStand.{ChangesStand, AllChangesStand}
 

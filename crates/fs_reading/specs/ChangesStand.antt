@@ -9,7 +9,7 @@ use Rattle.zb_model.specs.declared.data.Content.{Content}
 use Rattle.zb_model.specs.declared.data.Change.{Change}
 use Rattle.zb_model.specs.declared.data.Transaction.{Transaction}
 use Rattle.fs_records.specs.declared.header.DataHeader.{DataHeader}
-use Rattle.fs_records.specs.declared.place.Place.{Place}
+use Rattle.fs_index.specs.declared.place.Place.{Place}
 use Rattle.fs_records.specs.NumberLaws.{length-number}
 use Rattle.fs_records.specs.Blocks.{Payload, Full, From, Written, Known, payload_text, payload_length, record_text, records_text, with_record, content_of, changes_of, as_change, IsPayload, AreWritten}
 use Rattle.fs_records.specs.Rules.{texts_length, payload_size}

@@ -16,7 +16,7 @@ use Rattle.fs_records.specs.Rules.{texts_length}
 use Rattle.fs_records.specs.Numbers.{number}
 use Rattle.fs_records.specs.Blocks.{Block, Known, is_known, content_at, Reached, file_start, after_block, after_blocks, texts, records_text, records_from, length_of, header_for, block_text, blocks_text, transaction_of, with_records, as_change, IsBlock, AreBlocks, Begins, magic}
 use Rattle.fs_records.specs.BlockLaws.{after-end}
-use Rattle.fs_records.specs.Places.{is_of}
+use Rattle.fs_records.specs.Indexed.{is_of}
 use Rattle.fs_reading.specs.Cases.{by_bool}
 use Rattle.fs_reading.specs.Standing.{data_head_at, head_at, IsContent, user_at, description_at, RecordStands, TransactionStands, TransactionsStand, is_replaced, lasts, revision_line_of}
 use Rattle.fs_reading.specs.Merged.{read_of, with_records-read, merged}

@@ -1,8 +1,9 @@
 -- What a reader of an open file relies on. Source: own.
 use Rattle.std.specs.Prelude.{◌≡◌, ℕ, ◌<◌, ◌^◌, List, length, Some, slice_get}
-use Rattle.fs_records.specs.declared.place.Place.{Place}
+use Rattle.fs_index.specs.declared.place.Place.{Place}
 use Rattle.fs_records.specs.Blocks.{Reached, Begins}
-use Rattle.fs_records.specs.Places.{Kept, IsIndexOf, places_of}
+use Rattle.fs_index.specs.Places.{Kept}
+use Rattle.fs_records.specs.Indexed.{IsIndexOf, places_of}
 
 -- the bytes begin as a file, whatever stands behind what was reached of them, the index is the one of what was reached, and every place within the bytes is a number of 64 bits
 pub record IsIndexed (bytes : List ℕ) (kept : Kept) : Type 0 where

@@ -10,7 +10,7 @@ use Rattle.zb_model.specs.declared.data.Content.{Content}
 use Rattle.zb_model.specs.declared.data.Change.{Change}
 use Rattle.zb_model.specs.Database.{change_in, is_change_of}
 use Rattle.fs_records.specs.Blocks.{Known, Written, known_at, with_record, with_records, record_text, changes_of, as_change, content_of}
-use Rattle.fs_records.specs.Places.{is_of}
+use Rattle.fs_records.specs.Indexed.{is_of}
 use Rattle.fs_reading.specs.Cases.{by_bool}
 
 -- the data records of a transaction, as they are read

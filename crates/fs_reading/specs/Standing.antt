@@ -8,7 +8,7 @@ use Rattle.zb_model.specs.declared.lists.Revision.{Revision}
 use Rattle.zb_model.specs.Lists.{size_of}
 use Rattle.fs_records.specs.declared.header.Header.{Header}
 use Rattle.fs_records.specs.declared.header.DataHeader.{DataHeader}
-use Rattle.fs_records.specs.declared.place.Place.{Place}
+use Rattle.fs_index.specs.declared.place.Place.{Place}
 use Rattle.fs_records.specs.Numbers.{number_in}
 use Rattle.fs_records.specs.Headers.{header_of, data_header_of}
 use Rattle.fs_records.specs.Blocks.{Known}

@@ -7,7 +7,7 @@ use Rattle.zb_model.specs.declared.data.Transaction.{Transaction}
 use Rattle.zb_model.specs.declared.lists.LogLine.{LogLine}
 use Rattle.zb_model.specs.Lists.{log_line, is_unpacked}
 use Rattle.fs_records.specs.declared.header.Header.{Header}
-use Rattle.fs_records.specs.declared.place.Place.{Place}
+use Rattle.fs_index.specs.declared.place.Place.{Place}
 use Rattle.fs_records.specs.Numbers.{number}
 use Rattle.fs_records.specs.NumberLaws.{length-number}
 use Rattle.fs_records.specs.Headers.{header_of, header_text}

@@ -6,7 +6,7 @@ ghost use Rattle.zb_model.specs.declared.data.Content.{Content};
 ghost use Rattle.zb_model.specs.Lists.{size_of};
 ghost use Rattle.zb_base.specs.Counts.{Rose, HasCause};
 ghost use Rattle.fs_records.specs.Blocks.{Known};
-ghost use Rattle.fs_records.specs.Places.{place_of};
+ghost use Rattle.fs_records.specs.Indexed.{place_of};
 ghost use Rattle.fs_reading.specs.Sizes.{noted_of, IsNotedAt};
 ghost use Rattle.fs_reading.specs.Standing.{data_head_at, IsContent, RecordStands};
 ghost use Rattle.fs_reading.specs.declared.errors.ReadError.TheVariants.{ReadFault, Memory};
@@ -16,7 +16,8 @@ use crate::contents::source_of;
 use crate::errors::ReadError;
 use crate::noted::Noted;
 use crate::pieces::{back_pointer_at, data_header_at};
-use fs_records::{DataHeader, Place};
+use fs_index::Place;
+use fs_records::DataHeader;
 use std::alloc::Global;
 use zb_volume::{StoreFault, Volume};
 

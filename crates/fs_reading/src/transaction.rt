@@ -4,7 +4,7 @@ ghost use Rattle.std.specs.Prelude.{◌≡◌, ℕ, ◌≤◌, ◌<◌, ◌^◌,
 ghost use Rattle.zb_model.specs.declared.data.Transaction.{Transaction};
 ghost use Rattle.zb_base.specs.Counts.{Rose};
 ghost use Rattle.fs_records.specs.Blocks.{Reached, Begins};
-ghost use Rattle.fs_records.specs.Places.{IsIndexOf};
+ghost use Rattle.fs_records.specs.Indexed.{IsIndexOf};
 ghost use Rattle.fs_reading.specs.Main.{IsIndexed, IsStart, IsStartOf};
 ghost use Rattle.fs_reading.specs.ChangesStand.{ChangesStand};
 ghost use Rattle.fs_reading.specs.Formed.{AreFormed, IsFormed};
@@ -17,7 +17,7 @@ use crate::contents::content_from;
 use crate::errors::ReadError;
 use crate::outline::{Outline, OutlinedChange};
 use crate::outlining::outline_at;
-use fs_records::{Index, Place};
+use fs_index::{Index, Place};
 use std::alloc::Global;
 use zb_ids::ListOf;
 use zb_model::{Change, Transaction};

@@ -5,7 +5,7 @@ ghost use Rattle.std.specs.List.{AllByRecursion, filter_map};
 ghost use Rattle.zb_model.specs.Lists.{undo_log_of};
 ghost use Rattle.zb_base.specs.Counts.{Rose};
 ghost use Rattle.fs_records.specs.Blocks.{Reached, Begins};
-ghost use Rattle.fs_records.specs.Places.{IsIndexOf};
+ghost use Rattle.fs_records.specs.Indexed.{IsIndexOf};
 ghost use Rattle.fs_reading.specs.Main.{IsIndexed, AreStarts};
 ghost use Rattle.fs_reading.specs.Standing.{log_line_at, HasTexts};
 ghost use Rattle.fs_reading.specs.declared.errors.ReadError.TheVariants.{ReadFault, Memory};
@@ -13,7 +13,8 @@ ghost use Rattle.zb_volume.specs.Disk.{main_bytes};
 
 use crate::errors::ReadError;
 use crate::pieces::{header_at, keep, user_and_description};
-use fs_records::{Index, PACKED, Place};
+use fs_index::{Index, Place};
+use fs_records::PACKED;
 use std::alloc::Global;
 use zb_ids::ListOf;
 use zb_model::LogLine;

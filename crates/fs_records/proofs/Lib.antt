@@ -1,9 +1,5 @@
-pub mod Alone
-pub mod Adding
-pub mod Keeping
 pub mod RecordsInRow
-pub mod Rising
 pub mod Searching
-pub mod Slots
 pub mod Voting
 pub mod Written
+pub mod Lasts

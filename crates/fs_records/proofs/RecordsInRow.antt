@@ -3,7 +3,7 @@ use Rattle.std.proofs.Common.{◌≡◌, ℕ, ◌+◌, ◌<◌, ◌≤◌, List,
 use Rattle.std.proofs.lemmas.Grind.{common_steps}
 use Rattle.std.proofs.lemmas.List.{take_all, take-append-drop}
 use Rattle.zb_model.specs.declared.new_transaction.NewChange.{NewChange}
-use Rattle.fs_records.specs.declared.place.Placed.{Placed}
+use Rattle.fs_index.specs.declared.place.Placed.{Placed}
 use Rattle.fs_records.specs.Writing.{record_size}
 use Rattle.fs_records.specs.Placing.{placed_from, placed_end}
 use Rattle.fs_records.specs.PlacingLaws.{end_behind}

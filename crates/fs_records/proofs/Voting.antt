@@ -20,11 +20,12 @@ use Rattle.zb_model.specs.declared.new_transaction.NewChange.{NewChange}
 use Rattle.zb_model.specs.declared.new_transaction.NewTransaction.{NewTransaction}
 use Rattle.zb_model.specs.Database.{IsDatabase, ObjectRevision, change_in, revisions, is_below, revision_below}
 use Rattle.zb_model.specs.Voting.{has_serial, revision_at, content_as_of, voted_content, voted_change, voted_of, IsHeld, NamesRevision, IsFilled, IsWellFormed, IsVotable}
-use Rattle.fs_records.specs.declared.place.Place.{Place}
+use Rattle.fs_index.specs.declared.place.Place.{Place}
 use Rattle.fs_records.specs.Blocks.{Known, Written, record_text, records_text, texts, is_at, is_known, content_at, content_of, known_at, with_record, with_records, changes_of, as_change, Reached, file_start, after_block, records_from, Block, IsPayload, AreWritten, after_blocks, Begins}
 use Rattle.fs_records.specs.BlockLaws.{after-end}
 use Rattle.fs_records.specs.Databases.{reading_of}
-use Rattle.fs_records.specs.Places.{PlacesKept, Kept, places_in, ArePlacesOf, IsIndexOf, last_below}
+use Rattle.fs_index.specs.Places.{PlacesKept, Kept, places_in, last_below}
+use Rattle.fs_records.specs.Indexed.{ArePlacesOf, IsIndexOf}
 use Rattle.fs_records.specs.Writing.{at_or_0, earlier_in, payload_of, written_of, block_of, IsNext, PayloadFits, HasRoom}
 use Rattle.fs_records.specs.Lookups.{RevisionRead, revision_read}
 

@@ -12,7 +12,7 @@ use Rattle.fs_records.specs.Headers.{header_text}
 use Rattle.fs_records.specs.Blocks.{Written, record_text, records_text, length_of, header_for, block_text}
 use Rattle.fs_records.specs.Writing.{written_of, block_of, record_size, records_size, text_size, HasRoom}
 use Rattle.fs_records.specs.SizeLaws.{length_is}
-use Rattle.fs_records.specs.Places.{PlacesKept}
+use Rattle.fs_index.specs.Places.{PlacesKept}
 
 -- the first changes as they are written, and one more
 written_more : (entries : List (ℕ × PlacesKept)) (changes : List NewChange) (i : ℕ) (d : NewChange) → i < length changes

@@ -2,9 +2,10 @@
 use Rattle.std.proofs.Common.{◌≡◌, ℕ, Bool, true, false, cond, eqb, ltb, List, [], ◌∷◌, map, filter, Option, Some, None, refl, ap, ◌∙◌}
 use Rattle.std.specs.Prelude.{option_map, ◌&&◌}
 use Rattle.std.specs.List.{last_or}
-use Rattle.fs_records.specs.declared.place.Place.{Place}
+use Rattle.fs_index.specs.declared.place.Place.{Place}
 use Rattle.fs_records.specs.Blocks.{Known, Reached}
-use Rattle.fs_records.specs.Places.{Kept, place_of, is_of, is_place_below, is_of_below, places_in, places_of, last_below, record_below, IsIndexOf}
+use Rattle.fs_index.specs.Places.{Kept, is_place_below, places_in, last_below}
+use Rattle.fs_records.specs.Indexed.{place_of, is_of, is_of_below, places_of, record_below, IsIndexOf}
 
 -- the last of the images is the image of the last
 pub last_map : {A B : Type 0} (f : A → B) (o : Option A) (xs : List A) → last_or (option_map f o) (map f xs) ≡ option_map f (last_or o xs)

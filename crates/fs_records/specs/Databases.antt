@@ -11,7 +11,7 @@ use Rattle.zb_model.specs.declared.data.Change.{Change}
 use Rattle.zb_model.specs.declared.data.Transaction.{Transaction}
 use Rattle.zb_model.specs.Database.{IsDatabase, newest_tid}
 use Rattle.zb_model.specs.VotingLaws.{database-push, newest-push}
-use Rattle.fs_records.specs.declared.place.Place.{Place}
+use Rattle.fs_index.specs.declared.place.Place.{Place}
 use Rattle.fs_records.specs.Blocks.{Known, Written, record_text, content_of, with_record, changes_of, as_change, Reached, file_start, transaction_of, after_block, records_from, Block, IsBlock, AreBlocks, after_blocks, Begins}
 use Rattle.fs_records.specs.File.{StandsFor, no_bytes, a_file}
 

@@ -6,7 +6,8 @@ use Rattle.fs_records.specs.declared.field.Field.{Field}
 use Rattle.zb_base.specs.Bytes.{AreBytes}
 use Rattle.fs_records.specs.Blocks.{Reached, Block, block_text, IsBlock, after_block}
 use Rattle.fs_records.specs.File.{IsReadAs, StandsFor, IsNoFile, IsDamaged}
-use Rattle.fs_records.specs.Places.{Kept, IsIndexOf, places_in, place_of, last_below, record_below, revision_of}
+use Rattle.fs_index.specs.Places.{Kept, places_in, last_below}
+use Rattle.fs_records.specs.Indexed.{IsIndexOf, place_of, record_below, revision_of}
 
 -- bytes stand for at most one list, with a tail cut off at one place at most
 abbrev pub OneList : Type 0

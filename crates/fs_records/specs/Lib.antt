@@ -15,7 +15,6 @@ pub mod Listed
 pub mod Lists
 pub mod Lookups
 pub mod OpenLaws
-pub mod Places
 pub mod RecordLaws
 pub mod Revisions
 pub mod Rules
@@ -25,8 +24,7 @@ pub mod Unique
 pub mod WriteLaws
 pub mod StatusLaws
 pub mod Writing
-pub mod HeldPlaces
-pub mod Slots
 pub mod SizeLaws
 pub mod Placing
 pub mod PlacingLaws
+pub mod Indexed

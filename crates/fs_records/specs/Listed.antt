@@ -10,11 +10,12 @@ use Rattle.std.proofs.lemmas.List.{length-append, length-take, take_at}
 use Rattle.std.proofs.lemmas.Slice.Eq.{bytes_eq-Decides}
 use Rattle.zb_model.specs.declared.data.Content.{Content}
 use Rattle.zb_model.specs.declared.data.Transaction.{Transaction}
-use Rattle.fs_records.specs.declared.place.Place.{Place}
+use Rattle.fs_index.specs.declared.place.Place.{Place}
 use Rattle.zb_base.specs.Bytes.{AreBytes}
 use Rattle.fs_records.specs.Blocks.{Reached, file_start, magic, Begins, blocks_text}
 use Rattle.fs_records.specs.File.{IsReadAs, StandsFor, no_bytes, a_file}
-use Rattle.fs_records.specs.Places.{Kept, IsIndexOf}
+use Rattle.fs_index.specs.Places.{Kept}
+use Rattle.fs_records.specs.Indexed.{IsIndexOf}
 use Rattle.fs_records.specs.Always.{FileOr, file_or_damage}
 use Rattle.fs_records.specs.Unique.{one_list, never_both}
 

@@ -14,9 +14,10 @@ use Rattle.zb_model.specs.declared.data.Change.{Change}
 use Rattle.zb_model.specs.declared.data.Transaction.{Transaction}
 use Rattle.zb_model.specs.Database.{ObjectRevision, change_in, revision_in, revisions, revision_below, serial_of}
 use Rattle.zb_model.specs.Queries.{is_from, end_of}
-use Rattle.fs_records.specs.declared.place.Place.{Place}
+use Rattle.fs_index.specs.declared.place.Place.{Place}
 use Rattle.fs_records.specs.Blocks.{Known, Written, is_at, is_known, content_at, content_of, known_at, with_record, with_records, record_text, records_text, changes_of, Reached, file_start, transaction_of, records_from, length_of, after_block, Block, IsBlock, AreBlocks, after_blocks, Begins}
-use Rattle.fs_records.specs.Places.{Kept, IsIndexOf, IsBefore, AreBefore, place_of, is_of, is_of_below, places_of, last_below, record_below, revision_of}
+use Rattle.fs_index.specs.Places.{Kept, IsBefore, AreBefore, last_below}
+use Rattle.fs_records.specs.Indexed.{IsIndexOf, place_of, is_of, is_of_below, places_of, record_below, revision_of}
 use Rattle.fs_records.specs.Below.{last_below_is}
 use Rattle.fs_records.specs.RecordLaws.{length-record_text}
 use Rattle.fs_records.specs.Revisions.{change_is, none_twice, revises_of}

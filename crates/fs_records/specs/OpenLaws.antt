@@ -6,7 +6,7 @@ use Rattle.fs_records.specs.declared.header.Header.{Header}
 use Rattle.fs_records.specs.declared.verdict.Verdict.TheVariants.{Begun}
 use Rattle.fs_records.specs.Headers.{header_of}
 use Rattle.fs_records.specs.Rules.{texts_length, verdict}
-use Rattle.fs_records.specs.Places.{PlacesKept, places_in, IsBefore, AreBefore}
+use Rattle.fs_index.specs.Places.{PlacesKept, places_in, IsBefore, AreBefore}
 use Rattle.fs_records.specs.BlockLaws.{judged}
 
 -- what holds of a header that was accepted

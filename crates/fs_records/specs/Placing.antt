@@ -1,7 +1,7 @@
 -- Where the data records of a new transaction stand that is written at a place. Source: own.
 use Rattle.std.specs.Prelude.{ℕ, ◌+◌, List, [], ◌∷◌}
 use Rattle.zb_model.specs.declared.new_transaction.NewChange.{NewChange}
-use Rattle.fs_records.specs.declared.place.Placed.{Placed}
+use Rattle.fs_index.specs.declared.place.Placed.{Placed}
 use Rattle.fs_records.specs.Writing.{record_size}
 
 -- where the data records of some changes stand, one behind another from q on

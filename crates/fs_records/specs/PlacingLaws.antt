@@ -6,10 +6,11 @@ use Rattle.zb_model.specs.declared.new_transaction.NewContent.{NewContent}
 use Rattle.zb_model.specs.declared.new_transaction.NewContent.TheVariants as new_content
 use Rattle.zb_model.specs.declared.new_transaction.NewChange.{NewChange}
 use Rattle.zb_model.specs.declared.new_transaction.NewTransaction.{NewTransaction}
-use Rattle.fs_records.specs.declared.place.Place.{Place}
-use Rattle.fs_records.specs.declared.place.Placed.{Placed}
+use Rattle.fs_index.specs.declared.place.Place.{Place}
+use Rattle.fs_index.specs.declared.place.Placed.{Placed}
 use Rattle.fs_records.specs.Blocks.{Known, Written, records_text, records_from, block_text, with_record, with_records, known_at}
-use Rattle.fs_records.specs.Places.{PlacesKept, place_of, is_of, is_placed, placed_of, places_of, places_in, oids_placed, IsBefore, AreBefore, StandBehind}
+use Rattle.fs_index.specs.Places.{PlacesKept, is_placed, placed_of, places_in, oids_placed, IsBefore, AreBefore, StandBehind}
+use Rattle.fs_records.specs.Indexed.{place_of, is_of, places_of}
 use Rattle.fs_records.specs.WriteLaws.{length-block_text}
 use Rattle.fs_records.specs.Writing.{written_of, block_of, record_size, records_size}
 use Rattle.fs_records.specs.SizeLaws.{record_long, records_long}

@@ -12,7 +12,7 @@ use Rattle.zb_model.specs.declared.data.Transaction.{Transaction}
 use Rattle.zb_model.specs.Database as database
 use Rattle.zb_model.specs.Database.{ObjectRevision, is_change_of, change_in, revision_in, revisions, revision_below}
 use Rattle.fs_records.specs.Blocks.{Known, Written, record_text, content_of, known_at, with_record, with_records, changes_of, as_change, Reached, file_start, transaction_of, after_block, records_from, Block, after_blocks, Begins}
-use Rattle.fs_records.specs.Places.{is_of_below, record_below, revision_of}
+use Rattle.fs_records.specs.Indexed.{is_of_below, record_below, revision_of}
 use Rattle.fs_records.specs.Databases.{distinct_changes}
 
 last_append : {A : Type 0} (o : Option A) (xs ys : List A) → last_or o (xs ++ ys) ≡ last_or (last_or o xs) ys

@@ -2,7 +2,8 @@
 use Rattle.std.specs.Prelude.{◌≡◌, ℕ, List}
 use Rattle.fs_records.specs.Blocks.{Known, Written, with_records, Reached, Begins}
 use Rattle.fs_records.specs.Rules.{AreRecordsBetween}
-use Rattle.fs_records.specs.Places.{PlacesKept, Kept, ArePlacesOf, IsIndexOf}
+use Rattle.fs_index.specs.Places.{PlacesKept, Kept}
+use Rattle.fs_records.specs.Indexed.{ArePlacesOf, IsIndexOf}
 
 -- data records stand between two places, and what is kept of each object is where its records stand, these ones too
 pub record RecordsIndexed (bytes : List ℕ) (known : List Known) (place tid from to : ℕ) (entries : List (ℕ × PlacesKept)) : Type 0 where

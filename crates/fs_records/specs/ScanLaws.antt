@@ -5,12 +5,13 @@ use Rattle.std.specs.List.{list_any}
 use Rattle.std.proofs.lemmas.List.{append-nil, length-append, length-drop, drop-drop}
 use Rattle.std.proofs.lemmas.List.Elements.{All-weaker, All-push}
 use Rattle.fs_records.specs.declared.field.Field.{Field}
-use Rattle.fs_records.specs.declared.place.Place.{Place}
+use Rattle.fs_index.specs.declared.place.Place.{Place}
 use Rattle.zb_base.specs.Bytes.{AreBytes}
 use Rattle.fs_records.specs.Blocks.{Known, Written, AreWritten, IsWrittenRecord, with_record, with_records, records_text, record_text, is_known}
 use Rattle.fs_records.specs.Rules.{AreRecordsBetween, record_at, record_in}
 use Rattle.fs_records.specs.File.{RecordFault}
-use Rattle.fs_records.specs.Places.{PlacesKept, place_of, IsBefore, Added, places_in, places_of, is_of, knows, ArePlacesOf, AreBefore}
+use Rattle.fs_index.specs.Places.{PlacesKept, IsBefore, Added, places_in, knows, AreBefore}
+use Rattle.fs_records.specs.Indexed.{place_of, places_of, is_of, ArePlacesOf}
 use Rattle.fs_records.specs.RecordLaws.{record_takes}
 use Rattle.fs_records.specs.Scan.{RecordsIndexed}
 

@@ -7,7 +7,7 @@ use Rattle.zb_model.specs.declared.new_transaction.NewChange.{NewChange}
 use Rattle.zb_model.specs.declared.new_transaction.NewTransaction.{NewTransaction}
 use Rattle.fs_records.specs.NumberLaws.{length-number}
 use Rattle.fs_records.specs.Blocks.{record_text, records_text, payload_text, length_of}
-use Rattle.fs_records.specs.Places.{PlacesKept}
+use Rattle.fs_index.specs.Places.{PlacesKept}
 use Rattle.fs_records.specs.RecordLaws.{length-record_text}
 use Rattle.fs_records.specs.Writing.{earlier_in, payload_of, written_of, block_of, record_size, records_size, text_size}
 

@@ -7,9 +7,9 @@ use Rattle.zb_model.specs.declared.new_transaction.NewContent.{NewContent}
 use Rattle.zb_model.specs.declared.new_transaction.NewContent.TheVariants.{Bytes, Absent, AsOf}
 use Rattle.zb_model.specs.declared.new_transaction.NewChange.{NewChange}
 use Rattle.zb_model.specs.declared.new_transaction.NewTransaction.{NewTransaction}
-use Rattle.fs_records.specs.declared.place.Place.{Place}
+use Rattle.fs_index.specs.declared.place.Place.{Place}
 use Rattle.fs_records.specs.Blocks.{Payload, Full, From, Written, Block, block_text, Reached, transaction_of, IsBlock}
-use Rattle.fs_records.specs.Places.{PlacesKept, places_in, last_below}
+use Rattle.fs_index.specs.Places.{PlacesKept, places_in, last_below}
 
 -- where a place is, or 0 where there is none
 abbrev pub at_or_0 : Option Place → ℕ

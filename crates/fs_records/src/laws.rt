@@ -1,6 +1,7 @@
 //! Laws of files. Each function does nothing: its contract is the law.
 
 ghost use Rattle.fs_records.specs.Laws.{OneList, OneReading, ListOrDamaged, ListOrNoFile, DamagedOrNoFile, OneDamage, AlwaysOne, IndexGivesBelow, ListIsDatabase, RecordsAreRevisions, StartsAreTheirs, BlockIsRead, VoteIsCut};
+ghost use Rattle.fs_records.specs.Indexed.{NewestIsTheLastRecord, StandsWhereARecordWasRead};
 ghost use Rattle.fs_records.specs.Listed.{ReadingIs, ReadingStands};
 ghost use Rattle.fs_records.specs.Lookups.{RevisionsAreRead, SerialsAreRead, NextOnesAreRead};
 
@@ -72,4 +73,14 @@ pub fn lookups_are_revisions()
 pub fn bytes_have_one_reading()
     ensures only { ReadingIs }
     ensures stands { ReadingStands }
+{}
+
+/// An index of what was read gives, as an object's newest place, that of its last record.
+pub fn newest_is_the_last_record()
+    ensures { NewestIsTheLastRecord }
+{}
+
+/// An index of what was read keeps a record of an object at a place exactly where one was read.
+pub fn stands_where_a_record_was_read()
+    ensures { StandsWhereARecordWasRead }
 {}

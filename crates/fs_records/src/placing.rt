@@ -3,8 +3,8 @@
 ghost use Rattle.std.specs.Prelude.{◌≡◌, ◌<◌, ◌^◌, IfOk};
 ghost use Rattle.fs_records.specs.Placing.{placed_end, placed_from};
 
-use crate::place::{Place, Placed};
 use crate::writing::record_length;
+use fs_index::{Place, Placed};
 use std::alloc::{AllocError, Global};
 use zb_ids::{ListOf, Tid};
 use zb_model::NewChange;

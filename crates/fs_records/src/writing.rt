@@ -7,14 +7,14 @@ ghost use Rattle.fs_records.specs.Numbers.{number};
 ghost use Rattle.fs_records.specs.HeaderLaws.{IsDataHeader};
 ghost use Rattle.fs_records.specs.Headers.{data_header_text};
 ghost use Rattle.fs_records.specs.Blocks.{Reached, Begins, record_text, records_text, block_text};
-ghost use Rattle.fs_records.specs.Places.{IsRising, IsIndexOf, last_below};
+ghost use Rattle.fs_index.specs.Places.{IsRising, last_below};
+ghost use Rattle.fs_records.specs.Indexed.{IsIndexOf};
 ghost use Rattle.fs_records.specs.Writing.{at_or_0, written_of, block_of, record_size, text_size, IsNext, HasRoom, StatusIsSet};
 
 use crate::header::{
     DATA_HEADER_LENGTH, DataHeader, HEADER_LENGTH, Header, VOTED, write_data_header, write_header,
 };
-use crate::index::Index;
-use crate::place::Place;
+use fs_index::{Index, Place};
 use std::alloc::{AllocError, Global};
 use zb_ids::{Text8, Tid};
 use zb_model::{NewChange, NewContent, NewTransaction};

@@ -13,7 +13,7 @@ use Rattle.zb_model.specs.declared.data.Content.{Content}
 use Rattle.zb_model.specs.declared.data.Transaction.{Transaction}
 use Rattle.zb_model.specs.Queries.{greatest_of, oids_of}
 use Rattle.fs_records.specs.declared.header.Header.{Header}
-use Rattle.fs_records.specs.declared.place.Place.{Place}
+use Rattle.fs_index.specs.declared.place.Place.{Place}
 use Rattle.fs_records.specs.declared.verdict.Verdict.TheVariants.{Begun}
 use Rattle.fs_records.specs.Headers.{header_of}
 use Rattle.fs_records.specs.Blocks.{Known, known_at, Written, with_record, with_records, changes_of, content_of, as_change, after_block, transaction_of, records_from, records_text, record_text, is_known}
@@ -22,7 +22,8 @@ use Rattle.fs_records.specs.Databases.{oids_are_keys}
 use Rattle.fs_records.specs.Rules.{record_at, record_in, texts_length, verdict}
 use Rattle.fs_records.specs.RecordLaws.{record_takes}
 use Rattle.fs_records.specs.File.{data_from, data_to}
-use Rattle.fs_records.specs.Places.{PlacesKept, Kept, places_in, knows, Added, ArePlacesOf}
+use Rattle.fs_index.specs.Places.{PlacesKept, Kept, places_in, knows, Added}
+use Rattle.fs_records.specs.Indexed.{ArePlacesOf}
 use Rattle.fs_records.specs.ScanLaws.{index_more, knows_is, record_at-same, stand_more}
 use Rattle.fs_recovery.specs.declared.counted.Counted.{Counted}
 use Rattle.fs_recovery.specs.Numbers.{NumbersKept, AreNumbersOf}

@@ -3,7 +3,7 @@ use Rattle.std.proofs.Common.{ℕ, ◌-◌, ◌<◌, List, drop, Err, sym, subst
 use Rattle.fs_records.specs.Blocks.{Known}
 use Rattle.fs_records.specs.Rules.{record_at}
 use Rattle.fs_records.specs.File.{RecordFault}
-use Rattle.fs_records.specs.Places.{PlacesKept, knows}
+use Rattle.fs_index.specs.Places.{PlacesKept, knows}
 use Rattle.fs_records.specs.ScanLaws.{fault_found}
 use Rattle.fs_recovery.specs.declared.errors.OpenError.{OpenError}
 use Rattle.fs_recovery.specs.declared.errors.OpenError.TheVariants.{StoreFault, BadRecord, NotFileStorage, Memory}

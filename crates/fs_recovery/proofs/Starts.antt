@@ -5,8 +5,8 @@ use Rattle.fs_records.specs.Blocks.{magic, file_start}
 use Rattle.fs_records.specs.BlockLaws.{begins_here}
 use Rattle.fs_records.specs.File.{IsNoFile}
 use Rattle.std.proofs.lemmas.List.Elements.{All-nil}
-use Rattle.fs_records.specs.declared.place.Place.{Place}
-use Rattle.fs_records.specs.Places.{PlacesKept, Kept, places_in, IsBefore, AreBefore}
+use Rattle.fs_index.specs.declared.place.Place.{Place}
+use Rattle.fs_index.specs.Places.{PlacesKept, Kept, places_in, IsBefore, AreBefore}
 use Rattle.fs_records.specs.OpenLaws.{none_before}
 use Rattle.fs_recovery.specs.Numbers.{NumbersKept, AreNumbersOf}
 use Rattle.fs_recovery.specs.Counting.{Numbered}

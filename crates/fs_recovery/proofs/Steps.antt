@@ -4,7 +4,7 @@ use Rattle.std.specs.List.{last_or}
 use Rattle.std.specs.Option.{option_map_or}
 use Rattle.std.proofs.lemmas.List.Elements.{All-weaker, All-push}
 use Rattle.fs_records.specs.declared.header.Header.{Header}
-use Rattle.fs_records.specs.declared.place.Place.{Place}
+use Rattle.fs_index.specs.declared.place.Place.{Place}
 use Rattle.fs_records.specs.declared.field.Field.{Field}
 use Rattle.fs_records.specs.declared.verdict.Verdict.{Verdict}
 use Rattle.fs_records.specs.declared.verdict.Verdict.TheVariants.{Ends, Tail, Fault, Begun}
@@ -15,7 +15,8 @@ use Rattle.zb_model.specs.Queries.{greatest_of, oids_of}
 use Rattle.fs_records.specs.Blocks.{Known, Reached}
 use Rattle.fs_records.specs.Rules.{verdict, texts_length}
 use Rattle.fs_records.specs.File.{IsReadAs, a_file, RecordFault, IsDamaged, head, data_record, data_from, data_to}
-use Rattle.fs_records.specs.Places.{PlacesKept, Kept, AreBefore, IsBefore, ArePlacesOf, places_in}
+use Rattle.fs_index.specs.Places.{PlacesKept, Kept, AreBefore, IsBefore, places_in}
+use Rattle.fs_records.specs.Indexed.{ArePlacesOf}
 use Rattle.fs_records.specs.Scan.{Indexed}
 use Rattle.fs_records.specs.Lists.{not_damaged, not_no_file}
 use Rattle.fs_records.specs.WriteLaws.{without_tail_stands}

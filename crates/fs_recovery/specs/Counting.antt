@@ -7,7 +7,8 @@ use Rattle.zb_model.specs.declared.data.Content.{Content}
 use Rattle.zb_model.specs.Queries.{greatest_of}
 use Rattle.fs_records.specs.Blocks.{Known, Written, changes_of, with_records}
 use Rattle.fs_records.specs.Rules.{AreRecordsBetween}
-use Rattle.fs_records.specs.Places.{PlacesKept, Kept, ArePlacesOf, places_in}
+use Rattle.fs_index.specs.Places.{PlacesKept, Kept, places_in}
+use Rattle.fs_records.specs.Indexed.{ArePlacesOf}
 use Rattle.fs_records.specs.Scan.{Indexed}
 use Rattle.fs_recovery.specs.declared.counted.Counted.{Counted}
 use Rattle.fs_recovery.specs.Numbers.{NumbersKept, AreNumbersOf}

@@ -8,10 +8,11 @@ use Rattle.zb_volume.specs.Disk.{IsSettled, main_bytes}
 use Rattle.zb_volume.specs.Images.{CrashLeavesWith}
 use Rattle.zb_volume.specs.Moments.{LeavesOnly}
 use Rattle.fs_records.specs.declared.field.Field.{Field}
-use Rattle.fs_records.specs.declared.place.Place.{Place}
+use Rattle.fs_index.specs.declared.place.Place.{Place}
 use Rattle.fs_records.specs.Blocks.{Reached}
 use Rattle.fs_records.specs.File.{IsReadAs, IsNoFile, IsDamaged}
-use Rattle.fs_records.specs.Places.{Kept, AreBefore, IsBefore, IsIndexOf}
+use Rattle.fs_index.specs.Places.{Kept, AreBefore, IsBefore}
+use Rattle.fs_records.specs.Indexed.{IsIndexOf}
 use Rattle.fs_recovery.specs.declared.errors.OpenError.{OpenError}
 use Rattle.fs_recovery.specs.declared.errors.OpenError.TheVariants.{StoreFault, BadRecord, NotFileStorage, Memory}
 use Rattle.fs_recovery.specs.declared.opening.Opened.{Opened}

@@ -7,7 +7,7 @@ use Rattle.fs_recovery.specs.declared.counted.Counted.{Counted}
 use Rattle.fs_recovery.specs.Counting.{RecordsCounted}
 use Rattle.fs_recovery.specs.declared.errors.OpenError.{OpenError}
 use Rattle.fs_recovery.specs.declared.errors.OpenError.TheVariants.{StoreFault, BadRecord, NotFileStorage, Memory}
-use Rattle.fs_records.specs.Places.{PlacesKept}
+use Rattle.fs_index.specs.Places.{PlacesKept}
 
 -- one data record at q: what the rules say of it, unless a read failed
 abbrev pub RecordGives : Result (ℕ × ℕ) OpenError → ℕ → Result (ℕ × ℕ) Field → Type 0

@@ -3,8 +3,7 @@
 ghost use Rattle.std.specs.Prelude.{◌≡◌, ◌+◌, ◌<◌, ◌^◌, if◌then◌else◌, max};
 ghost use Rattle.fs_recovery.specs.Counting.{is_stored};
 
-use fs_index::Lookup;
-use fs_records::Index;
+use fs_index::{Index, Lookup};
 use zb_ids::{Oid, Tid};
 
 /// How many objects some data records of a transaction change, and the greatest of these.

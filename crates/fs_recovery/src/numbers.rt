@@ -7,12 +7,12 @@ ghost use Rattle.std.specs.Option.{option_map_or};
 ghost use Rattle.zb_model.specs.declared.data.Transaction.{Transaction};
 ghost use Rattle.zb_model.specs.Database.{IsDatabase};
 ghost use Rattle.zb_model.specs.Queries.{changes_up_to, greatest_of, oids_of};
-ghost use Rattle.fs_records.specs.Places.{oids_placed};
+ghost use Rattle.fs_index.specs.Places.{oids_placed};
 ghost use Rattle.fs_recovery.specs.Numbers.{AreNumbersOf, is_tally_up_to, tallies_from, total_of};
 
 use crate::counted::{Counted, greater};
 use crate::tally::Tally;
-use fs_records::Placed;
+use fs_index::Placed;
 use std::alloc::{AllocError, Global};
 use std::marker::Model;
 use zb_ids::{Oid, Tid};

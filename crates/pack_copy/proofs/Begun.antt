@@ -8,12 +8,12 @@ use Rattle.zb_volume.specs.declared.areas.Area.TheVariants.{Side}
 use Rattle.zb_volume.specs.Calls.{Event, Wrote, Cut}
 use Rattle.zb_volume.specs.Disk.{seen}
 use Rattle.zb_base.specs.Bytes.{AreBytes}
-use Rattle.fs_records.specs.declared.place.Place.{Place}
+use Rattle.fs_index.specs.declared.place.Place.{Place}
 use Rattle.fs_records.specs.Blocks.{file_start, magic}
 use Rattle.fs_records.specs.File.{IsReadAs}
 use Rattle.fs_records.specs.Listed.{listed}
 use Rattle.fs_records.specs.OpenLaws.{none_before}
-use Rattle.fs_records.specs.Places.{Kept, PlacesKept, AreBefore, IsBefore, places_in}
+use Rattle.fs_index.specs.Places.{Kept, PlacesKept, AreBefore, IsBefore, places_in}
 use Rattle.fs_records.specs.WriteLaws.{none_ends}
 use Rattle.fs_recovery.specs.Numbers.{NumbersKept, AreNumbersOf}
 use Rattle.fs_recovery.specs.Opens.{IsBounded, newest_kept}

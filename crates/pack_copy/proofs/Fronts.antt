@@ -16,7 +16,7 @@ use Rattle.zb_model.specs.Database.{IsDatabase, newest_tid}
 use Rattle.zb_model.specs.Packing.{packed_form, packed_one, stays}
 use Rattle.zb_model.specs.Queries as queries
 use Rattle.zb_model.specs.Queries.{changes_up_to}
-use Rattle.fs_records.specs.declared.place.Place.{Place}
+use Rattle.fs_index.specs.declared.place.Place.{Place}
 use Rattle.fs_records.specs.Below.{last_map}
 use Rattle.zb_model.specs.Packs.{change_count}
 use Rattle.pack_copy.specs.Copying.{CopyKept}

@@ -6,12 +6,13 @@ use Rattle.zb_base.specs.Bytes.{AreBytes}
 use Rattle.zb_model.specs.declared.data.Change.{Change}
 use Rattle.zb_model.specs.declared.data.Transaction.{Transaction}
 use Rattle.zb_model.specs.Database.{newest_tid}
-use Rattle.fs_records.specs.declared.place.Place.{Place}
-use Rattle.fs_records.specs.declared.place.Placed.{Placed}
+use Rattle.fs_index.specs.declared.place.Place.{Place}
+use Rattle.fs_index.specs.declared.place.Placed.{Placed}
 use Rattle.fs_records.specs.Blocks.{Known, Reached, Block, Written, block_text, records_from, length_of, with_records, after_block, transaction_of}
 use Rattle.fs_records.specs.File.{IsReadAs}
 use Rattle.fs_records.specs.Listed.{listed}
-use Rattle.fs_records.specs.Places.{Kept, oids_placed, places_in, placed_of, places_of}
+use Rattle.fs_index.specs.Places.{Kept, oids_placed, places_in, placed_of}
+use Rattle.fs_records.specs.Indexed.{places_of}
 use Rattle.fs_records.specs.Placing.{placed_from}
 use Rattle.fs_records.specs.PlacingLaws.{begins_at, places_read}
 use Rattle.fs_records.specs.WriteLaws.{block_stands, length-block_text}

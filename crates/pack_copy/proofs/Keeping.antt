@@ -5,9 +5,9 @@ use Rattle.std.specs.List.{last_or, IsDistinct}
 use Rattle.std.specs.Option.{option_map_or}
 use Rattle.std.proofs.lemmas.List.Elements.{All-append, All-cons, All-nil}
 use Rattle.zb_base.specs.Lists.{last_or_push}
-use Rattle.fs_records.specs.declared.place.Place.{Place}
-use Rattle.fs_records.specs.declared.place.Placed.{Placed}
-use Rattle.fs_records.specs.Places.{Kept, IsBefore, StandBehind, oids_placed, places_in, placed_of}
+use Rattle.fs_index.specs.declared.place.Place.{Place}
+use Rattle.fs_index.specs.declared.place.Placed.{Placed}
+use Rattle.fs_index.specs.Places.{Kept, IsBefore, StandBehind, oids_placed, places_in, placed_of}
 use Rattle.fs_records.specs.PlacingLaws.{IsRecordOf, further, placed_before, placed_behind}
 use Rattle.fs_recovery.specs.Numbers.{NumbersKept}
 use Rattle.fs_recovery.specs.Opens.{IsBounded, newest_kept}

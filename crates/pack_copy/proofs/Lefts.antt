@@ -10,11 +10,12 @@ use Rattle.zb_model.specs.declared.data.Change.{Change}
 use Rattle.zb_model.specs.declared.data.Transaction.{Transaction}
 use Rattle.zb_model.specs.Database.{ObjectRevision}
 use Rattle.zb_model.specs.Packing.{is_held, packed_form, packed_one, serial_up_to, stays}
-use Rattle.fs_records.specs.declared.place.Place.{Place}
+use Rattle.fs_index.specs.declared.place.Place.{Place}
 use Rattle.fs_records.specs.Blocks.{Reached, Begins}
 use Rattle.fs_records.specs.Listed.{listed, reached_in, reading_stands}
 use Rattle.fs_records.specs.Lookups.{RevisionRead, revision_read}
-use Rattle.fs_records.specs.Places.{Kept, PlacesKept, places_in, places_of, last_below}
+use Rattle.fs_index.specs.Places.{Kept, PlacesKept, places_in, last_below}
+use Rattle.fs_records.specs.Indexed.{places_of}
 use Rattle.fs_reading.specs.declared.outline.Source.{Source}
 use Rattle.fs_reading.specs.declared.outline.OutlinedChange.{OutlinedChange}
 use Rattle.fs_reading.specs.declared.outline.Outline.{Outline}

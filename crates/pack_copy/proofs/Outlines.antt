@@ -7,9 +7,9 @@ use Rattle.std.proofs.lemmas.List.Elements.{All-cons, All-nil, All-head, All-tai
 use Rattle.zb_model.specs.declared.data.Change.{Change}
 use Rattle.zb_model.specs.declared.data.Content.{Content}
 use Rattle.zb_model.specs.declared.data.Transaction.{Transaction}
-use Rattle.fs_records.specs.declared.place.Placed.{Placed}
+use Rattle.fs_index.specs.declared.place.Placed.{Placed}
 use Rattle.fs_records.specs.Blocks.{Written, block_text, records_from}
-use Rattle.fs_records.specs.Places.{PlacesKept, oids_placed}
+use Rattle.fs_index.specs.Places.{PlacesKept, oids_placed}
 use Rattle.fs_records.specs.Placing.{placed_end, placed_from}
 use Rattle.fs_records.specs.PlacingLaws.{IsRecordOf, begins_at, text_end}
 use Rattle.fs_records.specs.Writing.{block_of, record_size, written_of}

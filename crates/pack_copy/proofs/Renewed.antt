@@ -13,7 +13,7 @@ use Rattle.zb_model.specs.declared.data.Transaction.{Transaction}
 use Rattle.zb_model.specs.Database.{newest_tid}
 use Rattle.fs_records.specs.Blocks.{AreWritten, Begins, IsBlock, IsPayload, Known, Reached, Written, as_change, changes_of, content_of, length_of, record_text, records_from, transaction_of, with_record}
 use Rattle.fs_records.specs.Databases.{reading_of}
-use Rattle.fs_records.specs.Places.{PlacesKept}
+use Rattle.fs_index.specs.Places.{PlacesKept}
 use Rattle.fs_records.specs.Writing.{HasRoom, PayloadFits, block_of, payload_of, written_of}
 use Rattle.fs_reading.specs.Formed.{HasBytes, IsFormed}
 use Rattle.pack_copy.specs.Renewing.{anew, change_anew, content_anew, status_of}

@@ -4,8 +4,8 @@ use Rattle.std.specs.List.{last_or}
 use Rattle.std.specs.List.Sorted.{IsPartitionPoint}
 use Rattle.std.specs.Option.{option_map_or}
 use Rattle.std.proofs.lemmas.Bool.{cases_lt, le-leb, lt-leb, lt-ltb, le-ltb, leb-true, leb-false}
-use Rattle.fs_records.specs.declared.place.Place.{Place}
-use Rattle.fs_records.specs.Places.{last_below, is_place_below}
+use Rattle.fs_index.specs.declared.place.Place.{Place}
+use Rattle.fs_index.specs.Places.{last_below, is_place_below}
 use Rattle.zb_base.specs.Lists.{filter_take, last_or_take}
 use Rattle.pack_copy.specs.Filtering.{serial_among}
 use Rattle.pack_copy.specs.UpTo.{IsCountUpTo}

@@ -10,7 +10,7 @@ use Rattle.fs_records.specs.Blocks.{Payload, Written, block_text, header_for, le
 use Rattle.fs_records.specs.HeaderLaws.{IsDataHeader}
 use Rattle.fs_records.specs.Headers.{data_header_text, header_text}
 use Rattle.fs_records.specs.Numbers.{number}
-use Rattle.fs_records.specs.Places.{PlacesKept}
+use Rattle.fs_index.specs.Places.{PlacesKept}
 use Rattle.fs_records.specs.WriteLaws.{length-block_text}
 use Rattle.fs_records.specs.Writing.{HasRoom, PayloadFits, payload_of, previous_in}
 use Rattle.fs_reading.specs.declared.outline.Source.{Source}

@@ -11,11 +11,11 @@ use Rattle.std.specs.FinSet.{FinSet}
 use Rattle.zb_model.specs.declared.data.Transaction.{Transaction}
 use Rattle.zb_model.specs.Database.{IsDatabase, newest_tid}
 use Rattle.zb_model.specs.Packing.{packed_by, packed_one}
-use Rattle.fs_records.specs.declared.place.Place.{Place}
+use Rattle.fs_index.specs.declared.place.Place.{Place}
 use Rattle.fs_records.specs.Blocks.{Begins, Reached}
 use Rattle.fs_records.specs.Databases.{reading_of}
 use Rattle.fs_records.specs.Listed.{listed, reached_in}
-use Rattle.fs_records.specs.Places.{Kept, IsRising}
+use Rattle.fs_index.specs.Places.{Kept, IsRising}
 use Rattle.fs_reading.specs.Main.{IsStart, IsStartOf}
 use Rattle.fs_recovery.specs.Opens.{newest_kept}
 use Rattle.zb_model.specs.Packs.{IsAllOrATurn, IsCopyTurn, IsPrefixOf, change_count, changes_a_turn}

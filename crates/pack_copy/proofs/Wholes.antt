@@ -6,9 +6,10 @@ use Rattle.zb_model.specs.declared.data.Content.{Content}
 use Rattle.zb_model.specs.declared.data.Content.TheVariants.{Held, Absent}
 use Rattle.zb_model.specs.declared.data.Change.{Change}
 use Rattle.zb_model.specs.declared.data.Transaction.{Transaction}
-use Rattle.fs_records.specs.declared.place.Place.{Place}
+use Rattle.fs_index.specs.declared.place.Place.{Place}
 use Rattle.fs_records.specs.Blocks.{Payload, Written, Block, Reached, file_start, magic, block_text, after_block}
-use Rattle.fs_records.specs.Places.{PlacesKept, ArePlacesOf, places_of}
+use Rattle.fs_index.specs.Places.{PlacesKept}
+use Rattle.fs_records.specs.Indexed.{ArePlacesOf, places_of}
 use Rattle.fs_records.specs.Writing.{at_or_0, payload_of, written_of, block_of}
 use Rattle.pack_copy.specs.InFull.{after_full, full_block, full_file, full_payload, full_record, full_text}
 use Rattle.pack_copy.specs.Renewing.{anew, change_anew, content_anew, status_of}

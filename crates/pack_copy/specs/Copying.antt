@@ -4,7 +4,8 @@ use Rattle.zb_base.specs.Bytes.{AreBytes}
 use Rattle.zb_model.specs.Stores.{BegunPack}
 use Rattle.fs_records.specs.Blocks.{file_start}
 use Rattle.fs_records.specs.Listed.{listed, reached_in, reading_in}
-use Rattle.fs_records.specs.Places.{Kept, IsIndexOf}
+use Rattle.fs_index.specs.Places.{Kept}
+use Rattle.fs_records.specs.Indexed.{IsIndexOf}
 use Rattle.fs_recovery.specs.declared.opening.Opened.{Opened}
 use Rattle.fs_recovery.specs.Numbers.{NumbersKept}
 use Rattle.fs_recovery.specs.Opens.{IsWhole}

@@ -6,8 +6,8 @@ use Rattle.std.specs.FinSet.{FinSet, contains}
 use Rattle.zb_model.specs.declared.data.Change.{Change}
 use Rattle.zb_model.specs.declared.data.Transaction.{Transaction}
 use Rattle.zb_model.specs.Packing.{is_held, packed_form}
-use Rattle.fs_records.specs.declared.place.Place.{Place}
-use Rattle.fs_records.specs.Places.{PlacesKept, places_in, last_below}
+use Rattle.fs_index.specs.declared.place.Place.{Place}
+use Rattle.fs_index.specs.Places.{PlacesKept, places_in, last_below}
 use Rattle.fs_reading.specs.declared.outline.OutlinedChange.{OutlinedChange}
 use Rattle.fs_reading.specs.declared.outline.Outline.{Outline}
 

@@ -2,7 +2,7 @@
 use Rattle.std.specs.Prelude.{◌≡◌, ℕ, ◌+◌, ◌<◌, ◌^◌, ◌++◌, ◌∷◌, [], Bool, List, All, length, map, nat_eq}
 use Rattle.std.specs.List.{IsDistinct}
 use Rattle.zb_model.specs.declared.data.Transaction.{Transaction}
-use Rattle.fs_records.specs.Places.{HasRoomFor, oids_placed, placed_of, places_in}
+use Rattle.fs_index.specs.Places.{HasRoomFor, oids_placed, placed_of, places_in}
 use Rattle.fs_records.specs.PlacingLaws.{IsRecordOf}
 use Rattle.fs_recovery.specs.Numbers.{AreNumbersOf, total_of}
 use Rattle.pack_copy.specs.declared.ready.Ready.{Ready}

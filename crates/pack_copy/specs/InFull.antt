@@ -6,7 +6,7 @@ use Rattle.zb_model.specs.declared.data.Content.TheVariants.{Held, Absent}
 use Rattle.zb_model.specs.declared.data.Change.{Change}
 use Rattle.zb_model.specs.declared.data.Transaction.{Transaction}
 use Rattle.fs_records.specs.Blocks.{Payload, Full, From, Written, Block, Reached, file_start, magic, block_text, after_block}
-use Rattle.fs_records.specs.Places.{places_of}
+use Rattle.fs_records.specs.Indexed.{places_of}
 use Rattle.fs_records.specs.Writing.{at_or_0}
 
 -- a record's bytes, and where there is none back pointer 0

@@ -1,8 +1,8 @@
 -- How an outlined transaction is written behind the file on Side. Source: own.
 use Rattle.std.specs.Prelude.{◌≡◌, ℕ, ◌+◌, ◌<◌, ◌^◌, List, [], ◌∷◌, Option, Some, None, length, map, if◌then◌else◌}
-use Rattle.fs_records.specs.declared.place.Placed.{Placed}
+use Rattle.fs_index.specs.declared.place.Placed.{Placed}
 use Rattle.fs_records.specs.Blocks.{Block, Written}
-use Rattle.fs_records.specs.Places.{PlacesKept}
+use Rattle.fs_index.specs.Places.{PlacesKept}
 use Rattle.fs_records.specs.Writing.{written_of}
 use Rattle.fs_reading.specs.declared.outline.Source.{Source}
 use Rattle.fs_reading.specs.declared.outline.OutlinedChange.{OutlinedChange}

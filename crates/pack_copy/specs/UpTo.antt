@@ -5,7 +5,7 @@ use Rattle.std.specs.Ordering.{nat_cmp}
 use Rattle.std.specs.FinSet.{FinSet}
 use Rattle.zb_model.specs.declared.data.Transaction.{Transaction}
 use Rattle.zb_model.specs.Packing.{packed_one}
-use Rattle.fs_records.specs.declared.place.Place.{Place}
+use Rattle.fs_index.specs.declared.place.Place.{Place}
 use Rattle.fs_records.specs.Listed.{listed}
 use Rattle.pack_copy.specs.Copying.{CopyKept, IsCopied}
 

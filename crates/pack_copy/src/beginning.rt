@@ -9,7 +9,7 @@ ghost use Rattle.fs_records.specs.Listed.{listed};
 ghost use Rattle.pack_copy.specs.Copying.{IsCopied};
 
 use crate::state::CopyState;
-use fs_records::Index;
+use fs_index::Index;
 use fs_recovery::Numbers;
 use std::alloc::Global;
 use zb_ids::Tid;

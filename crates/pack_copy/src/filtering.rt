@@ -1,12 +1,12 @@
 //! What a pack leaves of a transaction.
 
 ghost use Rattle.std.specs.Prelude.{◌≡◌, filter, IfSome};
-ghost use Rattle.fs_records.specs.Places.{IsRising};
+ghost use Rattle.fs_index.specs.Places.{IsRising};
 ghost use Rattle.fs_reading.specs.Outlines.{AreOutlined, IsOutline};
 ghost use Rattle.pack_copy.specs.Filtering.{left_in, serial_among, stays_in};
 
+use fs_index::{Index, Place};
 use fs_reading::{Outline, OutlinedChange};
-use fs_records::{Index, Place};
 use zb_ids::{ListOf, Tid};
 use zb_model::OidSet;
 

@@ -4,8 +4,9 @@ ghost use Rattle.std.specs.Prelude.{◌≡◌, ◌+◌, IfOk, IfSome};
 ghost use Rattle.pack_copy.specs.Outlined.{end_in, placed_in, source_size};
 
 use crate::ready::Ready;
+use fs_index::{Place, Placed};
 use fs_reading::{OutlinedChange, Source};
-use fs_records::{DATA_HEADER_LENGTH, Place, Placed};
+use fs_records::DATA_HEADER_LENGTH;
 use std::alloc::{AllocError, Global};
 use zb_ids::{ListOf, Tid};
 

@@ -1,6 +1,6 @@
 //! Where a transaction is to stand behind the file on Side.
 
-use fs_records::Placed;
+use fs_index::Placed;
 use zb_ids::ListOf;
 
 /// A transaction that is to stand behind the file on Side.

@@ -8,8 +8,7 @@ ghost use Rattle.fs_recovery.specs.Numbers.{AreNumbersOf};
 ghost use Rattle.fs_recovery.specs.Opens.{IsBounded, newest_kept};
 ghost use Rattle.pack_copy.specs.Copying.{opened_of};
 
-use fs_index::last_of;
-use fs_records::Index;
+use fs_index::{Index, last_of};
 use fs_recovery::{Numbers, Opened};
 use std::marker::Model;
 use zb_ids::Tid;

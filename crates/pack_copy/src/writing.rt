@@ -18,10 +18,10 @@ ghost use Rattle.pack_copy.specs.Outlined.{block_in, end_in, record_in, records_
 ghost use Rattle.pack_copy.specs.InFull.{full_payload};
 
 use crate::buffer::Buffer;
+use fs_index::{Index, Place};
 use fs_reading::{Outline, OutlinedChange, Source};
 use fs_records::{
-    COMMITTED, DATA_HEADER_LENGTH, DataHeader, Header, Index, PACKED, Place, write_data_header,
-    write_header,
+    COMMITTED, DATA_HEADER_LENGTH, DataHeader, Header, PACKED, write_data_header, write_header,
 };
 use zb_ids::Tid;
 use zb_model::StoreError;

@@ -5,7 +5,7 @@ ghost use Rattle.btree_family.specs.Classes.{class_seen};
 ghost use Rattle.btree_shapes.specs.Nodes.{Holds, held_in};
 
 use btree_family::{Bucket, ClassRow};
-use btree_setting::{copy_pickle, with_branches, with_items};
+use btree_putting::{copy_pickle, with_branches, with_items};
 use btree_shapes::{Entry, Node, Recalled};
 use bucket_state::Inner;
 use indexmap::IndexMap;

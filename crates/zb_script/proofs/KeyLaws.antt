@@ -16,8 +16,7 @@ use Rattle.zb_literals.specs.Graphs.{last_of, with_value, with_values, with_pair
 use Rattle.zb_literals.specs.Literals.{IsLiteral}
 use Rattle.zb_literals.specs.Texts.{leaf_literal}
 use Rattle.zb_literals.specs.Values.{Value, leaf, tuple, list, dict, reference, IsValue, literal_text}
-use Rattle.zb_script.specs.Keys.{key_node, IsKey, key_literal}
-use Rattle.zb_script.specs.Objects.{text_or_none}
+use Rattle.zb_script.specs.Keys.{key_node, IsKey, key_literal, text_or_none}
 use Rattle.zb_script.specs.Spelling.{IsValueText}
 use Rattle.zb_script.specs.Reading.{key_in, key_at, key_field_at, small_in, small_at, value_at, literal_cut}
 use Rattle.zb_script.proofs.GapLaws.{IsWord, literal_word, word_cut, cut_is}

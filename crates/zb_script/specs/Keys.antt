@@ -1,8 +1,9 @@
--- Keys as literals. Own.
-use Rattle.std.specs.Prelude.{ℕ, List}
+-- Keys as literals, and the text of a value. Own.
+use Rattle.std.specs.Prelude.{ℕ, List, Option, Some, None, Ok, Err}
 use Rattle.std.specs.Fmt.{signed_decimal}
 use Rattle.pickle_value.specs.declared.node.Node.{Node}
 use Rattle.pickle_value.specs.declared.node.Node.TheVariants as kinds
+use Rattle.pickle_value.specs.Spelling.{Spelled}
 use Rattle.btree_family.specs.declared.key.Key.{Key}
 use Rattle.btree_family.specs.declared.key.Key.TheVariants as keys
 use Rattle.zb_literals.specs.Texts.{bytes_text, text_literal}
@@ -23,3 +24,8 @@ abbrev pub key_literal : Key → List ℕ
 key_literal (keys.Text text) = text_literal text
 key_literal (keys.Bytes bytes) = bytes_text bytes
 key_literal (keys.Number number) = signed_decimal number
+
+-- the text of a value, where it isn't too deep to write
+abbrev pub text_or_none : Spelled → Option (List ℕ)
+text_or_none (Ok text) = Some text
+text_or_none (Err e) = None

@@ -8,8 +8,3 @@ pub mod Script
 pub mod Limits
 pub mod Reading
 pub mod Turns
-pub mod Lists
-pub mod Objects
-pub mod Items
-pub mod Refusals
-pub mod Answers

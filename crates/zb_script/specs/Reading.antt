@@ -22,7 +22,7 @@ use Rattle.zb_script.specs.declared.words.Place.TheVariants as places
 use Rattle.zb_script.specs.declared.tree_call.TreeCall.{TreeCall}
 use Rattle.zb_script.specs.declared.tree_call.TreeCall.TheVariants as calls
 use Rattle.zb_script.specs.Names.{is_name}
-use Rattle.zb_script.specs.Objects.{text_or_none}
+use Rattle.zb_script.specs.Keys.{text_or_none}
 use Rattle.zb_script.specs.Shape.{openers, stands_behind}
 
 -- What a function returned, seen by view, is what reading gives, unless memory ran out.

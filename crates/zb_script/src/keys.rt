@@ -1,20 +1,15 @@
-//! Keys as literals.
+//! Reading keys.
 
-ghost use Rattle.std.specs.Prelude.{◌≡◌, ◌++◌, OnOk};
-ghost use Rattle.std.specs.Fmt.{signed_decimal};
+ghost use Rattle.std.specs.Prelude.{◌≡◌};
 ghost use Rattle.std.specs.Option.{option_copied};
-ghost use Rattle.zb_script.specs.Keys.{key_literal};
 ghost use Rattle.zb_script.specs.Reading.{ReadsAs, key_at, key_field_at, key_in, small_at, small_in};
 
 use crate::errors::ReadError;
-use crate::spelling::push_digits;
 use crate::stored::graph_of;
 use crate::words::cut_literal;
 use btree_family::Key;
-use itoa::Buffer;
 use pickle_value::Node;
-use std::alloc::{AllocError, Global};
-use zb_literals::push_text;
+use std::alloc::Global;
 
 /// The key that a node is.
 fn key_in(node: Option<&Node>) -> Result<Key, ReadError>
@@ -67,26 +62,4 @@ pub(crate) fn small_of(alloc: Global, bytes: &[u8]) -> Result<u64, ReadError>
 {
     let key = key_of(alloc, bytes)?;
     small_in(&key)
-}
-
-/// Puts a number in decimal digits at the end.
-fn push_signed(out: &mut Vec<u8>, number: i128) -> Result<(), AllocError>
-    ensures { OnOk result (out.new.items ≡ out.old.items ++ signed_decimal number) }
-{
-    let mut buffer = Buffer::new();
-    out.extend_from_slice(buffer.format(number).as_bytes())
-}
-
-/// Puts the literal of a key at the end.
-pub(crate) fn push_key_literal(out: &mut Vec<u8>, key: &Key) -> Result<(), AllocError>
-    ensures { OnOk result (out.new.items ≡ out.old.items ++ key_literal key.now) }
-{
-    match key {
-        Key::Text(text) => push_text(out, text.as_slice()),
-        Key::Bytes(bytes) => {
-            out.extend_from_slice(b"b:")?;
-            push_digits(out, bytes.as_slice())
-        }
-        Key::Number(number) => push_signed(out, *number),
-    }
 }

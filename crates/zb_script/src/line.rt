@@ -6,7 +6,7 @@ use crate::tree_call::TreeCall;
 use zb_ids::{ListOf, Oid, Text8, Tid};
 
 /// What a client does in one turn.
-#[derive(Debug, Drop)]
+#[derive(Drop)]
 pub enum Line {
     /// `open local`: a session begins.
     Open,
@@ -98,7 +98,7 @@ pub enum Line {
 }
 
 /// One line of a script: who does what.
-#[derive(Debug, Drop)]
+#[derive(Drop)]
 pub struct Turn {
     /// The client.
     pub client: Name,

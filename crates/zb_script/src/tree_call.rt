@@ -4,7 +4,7 @@ use btree_family::Key;
 use zb_ids::Text8;
 
 /// A call on a tree, or on a bucket or a set that stands alone.
-#[derive(Debug, Drop)]
+#[derive(Drop)]
 pub enum TreeCall {
     /// `set OID KEY VALUE`: the key is to have this value.
     Set {

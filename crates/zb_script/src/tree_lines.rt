@@ -3,7 +3,7 @@
 ghost use Rattle.std.specs.Prelude.{◌≡◌};
 ghost use Rattle.pickle_value.specs.Spelling.{spelling_of};
 ghost use Rattle.zb_script.specs.declared.tree_call.TreeCall.TheVariants as calls;
-ghost use Rattle.zb_script.specs.Objects.{text_or_none};
+ghost use Rattle.zb_script.specs.Keys.{text_or_none};
 ghost use Rattle.zb_script.specs.Reading.{ReadsAs, behind_word, items_at, keyed_at, range_at, set_at, tree_line_at, value_at};
 
 use crate::errors::ReadError;

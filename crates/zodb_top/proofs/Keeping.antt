@@ -7,8 +7,8 @@ use Rattle.zb_model.specs.declared.found.Found.TheVariants as found
 use Rattle.zb_model.specs.declared.refusal.Refusal.{Refusal}
 use Rattle.zb_model.specs.declared.refusal.Refusal.TheVariants as refusal
 use Rattle.zb_model.specs.Packing.{packed_by}
-use Rattle.zb_script.specs.declared.answer.Answer.{Answer}
-use Rattle.zb_script.specs.declared.answer.Answer.TheVariants as answer
+use Rattle.zb_answers.specs.declared.answer.Answer.{Answer}
+use Rattle.zb_answers.specs.declared.answer.Answer.TheVariants as answer
 use Rattle.zodb_core.specs.declared.reply.Reply.{Reply}
 use Rattle.zodb_core.specs.declared.reply.Reply.TheVariants as reply
 use Rattle.zodb_core.specs.declared.request.Request.{Request}

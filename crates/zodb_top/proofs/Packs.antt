@@ -15,8 +15,8 @@ use Rattle.zb_model.specs.declared.refusal.Refusal.TheVariants as refusal
 use Rattle.zb_model.specs.Stores.{StoreState}
 use Rattle.zb_outside.specs.Written.{AppendsPrefix}
 use Rattle.zb_outside.specs.WrittenLaws.{all_front}
-use Rattle.zb_script.specs.declared.answer.Answer.{Answer}
-use Rattle.zb_script.specs.Answers.{answer_text}
+use Rattle.zb_answers.specs.declared.answer.Answer.{Answer}
+use Rattle.zb_answers.specs.Answers.{answer_text}
 use Rattle.zb_volume.specs.declared.areas.Area.TheVariants.{Main}
 use Rattle.zb_volume.specs.Calls.{Event}
 use Rattle.zb_volume.specs.Images.{CrashLeaves}

@@ -11,9 +11,9 @@ use Rattle.zb_ids.specs.declared.stamp.Stamp.{Stamp}
 use Rattle.zb_model.specs.declared.data.Transaction.{Transaction}
 use Rattle.zb_outside.specs.Written.{AppendsPrefix}
 use Rattle.zb_outside.specs.WrittenLaws.{all_front}
-use Rattle.zb_script.specs.declared.answer.Answer.{Answer}
+use Rattle.zb_answers.specs.declared.answer.Answer.{Answer}
 use Rattle.zb_script.specs.declared.line.Turn.{Turn}
-use Rattle.zb_script.specs.Answers.{reply_lines}
+use Rattle.zb_answers.specs.Answers.{reply_lines}
 use Rattle.zb_volume.specs.declared.areas.Area.TheVariants.{Main}
 use Rattle.zb_volume.specs.Calls.{Event}
 use Rattle.zb_volume.specs.Moments.{Leaves, LeavesOnly, here}

@@ -10,8 +10,8 @@ use Rattle.zb_model.specs.declared.found.Found.TheVariants as found
 use Rattle.zb_model.specs.Lists.{history_of, undo_log_of}
 use Rattle.zb_model.specs.Queries.{found_below}
 use Rattle.zb_outside.specs.Written.{AppendsPrefix}
-use Rattle.zb_script.specs.Lists.{log_text, revision_text}
-use Rattle.zb_script.specs.Objects.{shown_line}
+use Rattle.zb_answers.specs.Lists.{log_text, revision_text}
+use Rattle.zb_answers.specs.Objects.{shown_line}
 use Rattle.zb_volume.specs.declared.areas.Area.TheVariants.{Main}
 use Rattle.zb_volume.specs.Moments.{Leaves}
 use Rattle.zodb_core.specs.Machine.{front_of}

@@ -9,7 +9,7 @@ use Rattle.zb_outside.specs.Written.{AppendsPrefix}
 use Rattle.zb_resolve.specs.References.{stock_references}
 use Rattle.zb_resolve.specs.Resolution.{stock_rules}
 use Rattle.zb_script.specs.declared.line.Turn.{Turn}
-use Rattle.zb_script.specs.Answers.{reply_lines}
+use Rattle.zb_answers.specs.Answers.{reply_lines}
 use Rattle.zb_volume.specs.declared.areas.Area.TheVariants.{Main}
 use Rattle.zb_volume.specs.Disk.{IsSettled}
 use Rattle.zb_volume.specs.Moments.{Leaves, LeavesOnly}

@@ -2,8 +2,8 @@
 use Rattle.std.specs.Prelude.{◌≡◌, ℕ, List, [], ◌∷◌, ◌++◌, Bool, true, false}
 use Rattle.std.specs.List.{AllByRecursion, list_any}
 use Rattle.zb_model.specs.declared.data.Transaction.{Transaction}
-use Rattle.zb_script.specs.declared.answer.Answer.{Answer}
-use Rattle.zb_script.specs.declared.answer.Answer.TheVariants.{Committed, Packed}
+use Rattle.zb_answers.specs.declared.answer.Answer.{Answer}
+use Rattle.zb_answers.specs.declared.answer.Answer.TheVariants.{Committed, Packed}
 use Rattle.zb_script.specs.declared.line.Turn.{Turn}
 use Rattle.zodb_core.specs.Machine.{Rules}
 use Rattle.zodb_core.specs.Sound.{IsPackOf}

@@ -6,8 +6,8 @@ use Rattle.zb_base.specs.Counts.{Rose}
 use Rattle.zb_model.specs.declared.data.Transaction.{Transaction}
 use Rattle.zb_model.specs.declared.refusal.Refusal.{Refusal}
 use Rattle.zb_outside.specs.Written.{AppendsPrefix}
-use Rattle.zb_script.specs.declared.answer.Answer.TheVariants as answer
-use Rattle.zb_script.specs.Answers.{answer_text}
+use Rattle.zb_answers.specs.declared.answer.Answer.TheVariants as answer
+use Rattle.zb_answers.specs.Answers.{answer_text}
 use Rattle.zb_volume.specs.declared.areas.Area.TheVariants.{Main}
 use Rattle.zb_volume.specs.Moments.{Leaves, LeavesOnly}
 use Rattle.zodb_core.specs.declared.reply.Reply.{Reply}

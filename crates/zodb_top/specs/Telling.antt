@@ -1,6 +1,6 @@
 -- How a reply to a pack is told.
 use Rattle.zb_model.specs.declared.refusal.Refusal.TheVariants as refusal
-use Rattle.zb_script.specs.declared.answer.Answer.TheVariants as answer
+use Rattle.zb_answers.specs.declared.answer.Answer.TheVariants as answer
 use Rattle.zodb_core.specs.declared.reply.Reply.{Reply}
 use Rattle.zodb_core.specs.declared.reply.Reply.TheVariants as reply
 use Rattle.zodb_top.specs.declared.packing.Told.{Told}

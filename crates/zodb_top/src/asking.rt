@@ -3,7 +3,7 @@
 ghost use Rattle.std.specs.Prelude.{◌≡◌, ◌∷◌, [], None, false, true, map, IfOk, IsErrOf};
 ghost use Rattle.zb_base.specs.Counts.{Rose};
 ghost use Rattle.zb_model.specs.Lists.{history_of, undo_log_of};
-ghost use Rattle.zb_script.specs.Lists.{log_text, revision_text};
+ghost use Rattle.zb_answers.specs.Lists.{log_text, revision_text};
 ghost use Rattle.zb_volume.specs.declared.areas.Area.TheVariants.{Main};
 ghost use Rattle.zb_volume.specs.Moments.{Leaves};
 ghost use Rattle.zodb_core.specs.HubState.{IsFitting, StandsForMachine, counts_of};
@@ -16,11 +16,11 @@ ghost use Rattle.zodb_top.specs.Texts.{digest_line};
 use crate::command::Asked;
 use sha2::{Digest, Sha256};
 use std::alloc::{AllocError, Global};
+use zb_answers::{log_line, revision_line, shown_line};
 use zb_ids::{ListOf, Oid, Text8, Tid, hex, hex_pair};
 use zb_model::{LogLine, Refusal, Revision, Store};
 use zb_outside::Clock;
 use zb_resolve::{StockRefs, StockResolver};
-use zb_script::{log_line, revision_line, shown_line};
 use zodb_core::{Hub, Reply, Request};
 
 /// Why something asked isn't answered.

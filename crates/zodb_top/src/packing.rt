@@ -22,11 +22,11 @@ use crate::saying::{cut_lines, say_behind, say_unopened, write_behind};
 use crate::status::Status;
 use file_store::FileStore;
 use std::alloc::Global;
+use zb_answers::{Answer, answer_line};
 use zb_ids::{Text8, Tid};
 use zb_model::{Refusal, Store};
 use zb_outside::{Clock, Failed, Sink};
 use zb_resolve::{StockRefs, StockResolver};
-use zb_script::{Answer, answer_line};
 use zb_volume::Volume;
 use zodb_core::{Hub, Reply, Request};
 
@@ -72,7 +72,7 @@ fn pack_store<St: Store, C: Clock>(alloc: Global, store: St, tid: Tid, clock: &m
 }
 
 /// How a reply to a pack is told.
-#[derive(Debug, Drop)]
+#[derive(Drop)]
 enum Told {
     /// By a line.
     Line(

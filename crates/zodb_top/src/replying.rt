@@ -18,10 +18,11 @@ ghost use Rattle.zodb_top.specs.Running.{IsReplied, IsStopped, RunsOn, Stops, br
 use crate::saying::write_lines;
 use client_turns::{Clients, TurnError};
 use std::alloc::Global;
+use zb_answers::answer_lines;
 use zb_model::Store;
 use zb_outside::{Clock, Failed, Sink};
 use zb_resolve::{StockRefs, StockResolver};
-use zb_script::{Turn, answer_lines};
+use zb_script::Turn;
 
 /// Why a run ended before its last turn.
 #[derive(Clone, Copy, Debug, PartialEq, Eq)]

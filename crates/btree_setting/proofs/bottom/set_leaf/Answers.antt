@@ -1,6 +1,6 @@
 use Rattle.std.proofs.Common.{◌∙◌, sym, ap, subst}
 use Rattle.btree_family.specs.Buckets.{IsBucket}
-use Rattle.btree_setting.specs.Items.{set_item}
+use Rattle.btree_setting.specs.Inserting.{set_item}
 use Rattle.btree_setting.proofs.Buckets.{set_is_bucket}
 use Rattle.btree_setting.proofs.bottom.set_leaf.Goals as goal
 

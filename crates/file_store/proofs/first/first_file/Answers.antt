@@ -8,7 +8,7 @@ use Rattle.pack_copy.specs.Renewing.{anew}
 use Rattle.file_store.specs.First.{file_with}
 use Rattle.file_store.proofs.Creating.{Nexts, text_behind_16, committed_is, first_stands, new_well_formed}
 use Rattle.file_store.proofs.first.first_file.Goals as goal
-use Rattle.fs_records.specs.Places.{PlacesKept}
+use Rattle.fs_index.specs.Places.{PlacesKept}
 
 -- what is written is the first transaction
 new_is : (c : goal.After-drop-new-5) → c.in_ok-new.new ≡ anew (first_by (stamp_number c.args.clock))

@@ -3,7 +3,7 @@ use Rattle.zb_volume.specs.declared.areas.Area.TheVariants.{Main, Side}
 use Rattle.zb_volume.specs.Disk.{seen}
 use Rattle.zb_model.specs.Packing.{packed_by}
 use Rattle.fs_records.specs.Listed.{listed}
-use Rattle.fs_records.specs.Places.{Kept}
+use Rattle.fs_index.specs.Places.{Kept}
 use Rattle.fs_recovery.specs.Numbers.{AreNumbersOf}
 use Rattle.pack_copy.specs.Copying.{IsSource}
 use Rattle.file_store.proofs.Packs.{copy_moments, counted_pack, pack_moments}

@@ -1,6 +1,7 @@
 use Rattle.std.proofs.Common.{◌+◌, arith, sym, subst, ◌∙◌}
 use Rattle.zb_model.specs.Voting.{voted_of}
-use Rattle.fs_records.specs.Places.{Kept, IsIndexOf}
+use Rattle.fs_index.specs.Places.{Kept}
+use Rattle.fs_records.specs.Indexed.{IsIndexOf}
 use Rattle.fs_records.specs.Writing.{IsNext, block_of}
 use Rattle.file_store.proofs.Sizes.{records_within}
 use Rattle.file_store.proofs.preparing.prepare.Goals as goal

@@ -1,6 +1,6 @@
 use Rattle.std.proofs.Common.{rules}
 use Rattle.std.proofs.lemmas.List.Sorted.{IsPartitionPoint-from_clause, IsPartitionedBy-ltb}
-use Rattle.fs_records.specs.Places.{is_place_below}
+use Rattle.fs_index.specs.Places.{is_place_below}
 use Rattle.fs_index.proofs.Finding.{filtered}
 use Rattle.fs_index.proofs.search.count_below.Goals as goal
 

@@ -3,7 +3,7 @@ use Rattle.std.specs.Prelude.{slice_get, IfSome, is_some}
 use Rattle.std.specs.Option.{option_copied}
 use Rattle.std.proofs.lemmas.Bool.{ltb-true, ltb-false}
 use Rattle.std.proofs.lemmas.Option.{slice_get_past, slice_get_read}
-use Rattle.fs_records.specs.declared.place.Place.{Place}
+use Rattle.fs_index.specs.declared.place.Place.{Place}
 use Rattle.fs_index.proofs.Finding.{first_behind}
 use Rattle.fs_index.proofs.search.first_from.Goals as goal
 

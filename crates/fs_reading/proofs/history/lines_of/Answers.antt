@@ -3,9 +3,9 @@ use Rattle.std.specs.Prelude.{reverse}
 use Rattle.std.specs.Option.{option_to_list}
 use Rattle.std.proofs.lemmas.List.{length-map, take_rest}
 use Rattle.zb_model.specs.declared.lists.Revision.{Revision}
-use Rattle.fs_records.specs.declared.place.Place.{Place}
+use Rattle.fs_index.specs.declared.place.Place.{Place}
 use Rattle.fs_records.specs.Blocks.{Known}
-use Rattle.fs_records.specs.Places.{place_of}
+use Rattle.fs_records.specs.Indexed.{place_of}
 use Rattle.zb_volume.specs.Disk.{main_bytes}
 use Rattle.fs_reading.specs.Standing.{RecordStands, lasts, is_replaced, revision_line_of}
 use Rattle.fs_reading.specs.declared.noted.Noted.{Noted}

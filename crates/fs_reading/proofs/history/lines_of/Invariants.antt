@@ -2,7 +2,7 @@ use Rattle.std.proofs.Common.{◌≡◌, ◌≤◌, List, length, map, drop}
 use Rattle.std.specs.Prelude.{reverse}
 use Rattle.std.specs.List.{AllByRecursion}
 use Rattle.fs_records.specs.Blocks.{Known}
-use Rattle.fs_records.specs.Places.{place_of}
+use Rattle.fs_records.specs.Indexed.{place_of}
 use Rattle.zb_volume.specs.Disk.{main_bytes}
 use Rattle.fs_reading.specs.Sizes.{noted_of}
 use Rattle.fs_reading.specs.Standing.{RecordStands, lasts, revision_line_of}

@@ -2,7 +2,7 @@ use Rattle.std.proofs.Common.{◌≡◌, ℕ, ◌∙◌, List, filter, ap}
 use Rattle.std.specs.Prelude.{reverse}
 use Rattle.zb_model.specs.declared.lists.Revision.{Revision}
 use Rattle.fs_records.specs.Blocks.{Known}
-use Rattle.fs_records.specs.Places.{is_of}
+use Rattle.fs_records.specs.Indexed.{is_of}
 use Rattle.zb_volume.specs.Disk.{main_bytes}
 use Rattle.fs_reading.specs.Standing.{RecordStands}
 use Rattle.fs_reading.specs.RecordsStand.{each-filter}

@@ -1,5 +1,5 @@
 use Rattle.std.proofs.Common.{◌≡◌, ℕ, ◌+◌, ◌^◌, ◌<◌, ◌≤◌, List, Option, sym, ap, ◌∙◌, arith}
-use Rattle.fs_records.specs.declared.place.Place.{Place}
+use Rattle.fs_index.specs.declared.place.Place.{Place}
 use Rattle.fs_index.specs.Found.{first_from}
 use Rattle.fs_reading.proofs.Starts.{above_tid, none_above_tid, none_above_all}
 use Rattle.fs_reading.proofs.lookups.read_first_after.Goals as goal

@@ -3,9 +3,9 @@ use Rattle.std.specs.List.{AllByRecursion}
 use Rattle.std.proofs.lemmas.Grind.{common_steps}
 use Rattle.std.proofs.lemmas.List.{length-map, take_all}
 use Rattle.zb_model.specs.Lists.{size_of}
-use Rattle.fs_records.specs.declared.place.Place.{Place}
+use Rattle.fs_index.specs.declared.place.Place.{Place}
 use Rattle.fs_records.specs.Blocks.{Known}
-use Rattle.fs_records.specs.Places.{place_of}
+use Rattle.fs_records.specs.Indexed.{place_of}
 use Rattle.zb_volume.specs.Disk.{main_bytes}
 use Rattle.fs_reading.specs.declared.noted.Noted.{Noted}
 use Rattle.fs_reading.specs.Sizes.{noted_of}

@@ -1,7 +1,7 @@
 use Rattle.std.proofs.Common.{◌≡◌, List, map, take, vec_len}
 use Rattle.std.specs.List.{AllByRecursion}
 use Rattle.fs_records.specs.Blocks.{Known}
-use Rattle.fs_records.specs.Places.{place_of}
+use Rattle.fs_records.specs.Indexed.{place_of}
 use Rattle.zb_volume.specs.Disk.{main_bytes}
 use Rattle.fs_reading.specs.Sizes.{noted_of}
 use Rattle.fs_reading.specs.Standing.{RecordStands}

@@ -1,7 +1,7 @@
 use Rattle.std.proofs.Common.{List, None, ap, ◌∙◌, get_or, length, arith}
 use Rattle.std.proofs.lemmas.List.{length-map}
-use Rattle.fs_records.specs.declared.place.Place.{Place}
-use Rattle.fs_records.specs.Places.{place_of}
+use Rattle.fs_index.specs.declared.place.Place.{Place}
+use Rattle.fs_records.specs.Indexed.{place_of}
 use Rattle.fs_reading.specs.declared.noted.Noted.{Noted}
 use Rattle.fs_reading.proofs.Notes.{noted_there}
 use Rattle.fs_reading.proofs.sizes.noted_at.Goals as goal

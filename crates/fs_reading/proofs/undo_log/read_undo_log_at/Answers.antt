@@ -2,7 +2,7 @@ use Rattle.std.proofs.Common.{◌≡◌, ℕ, List, ap, sym, subst, ◌∙◌}
 use Rattle.std.specs.Prelude.{reverse, IfOk}
 use Rattle.std.specs.List.{AllByRecursion, filter_map}
 use Rattle.zb_model.specs.declared.lists.LogLine.{LogLine}
-use Rattle.fs_records.specs.declared.place.Place.{Place}
+use Rattle.fs_index.specs.declared.place.Place.{Place}
 use Rattle.zb_volume.specs.Disk.{main_bytes}
 use Rattle.fs_reading.specs.Standing.{HasTexts, log_line_at}
 use Rattle.fs_reading.specs.TransactionsStand.{all_have_texts, undo_lines}

@@ -1,5 +1,5 @@
 use Rattle.std.proofs.Common.{◌+◌, ◌++◌, ◌∷◌, [], List, ℕ, arith, sym, subst}
-use Rattle.fs_records.specs.declared.place.Placed.{Placed}
+use Rattle.fs_index.specs.declared.place.Placed.{Placed}
 use Rattle.fs_records.proofs.RecordsInRow.{PlacedSoFar, next_within, one_placed}
 use Rattle.fs_records.proofs.placing.placed_records.Goals as goal
 

@@ -1,6 +1,6 @@
 use Rattle.std.proofs.Common.{◌≡◌, drop, max}
 use Rattle.zb_model.specs.Queries.{greatest_of}
-use Rattle.fs_records.specs.Places.{oids_placed}
+use Rattle.fs_index.specs.Places.{oids_placed}
 use Rattle.fs_recovery.proofs.numbers.greatest_in.Given as goal
 
 abbrev pub invariant-each : goal.invariant-each

@@ -2,7 +2,7 @@ use Rattle.std.proofs.lemmas.Result.{err_from_is_err_and}
 use Rattle.std.proofs.Common.{◌≡◌, ℕ, ◌-◌, List, drop, Err, Ok, refl, sym, ap, subst, arith, ◌∙◌}
 use Rattle.zb_base.specs.Bytes.{AreBytes-drop}
 use Rattle.fs_records.specs.Rules.{record_at}
-use Rattle.fs_records.specs.Places.{knows}
+use Rattle.fs_index.specs.Places.{knows}
 use Rattle.fs_records.specs.ScanLaws.{before_more}
 use Rattle.fs_recovery.specs.Reading.{Shows}
 use Rattle.fs_recovery.specs.Records.{RecordGives}

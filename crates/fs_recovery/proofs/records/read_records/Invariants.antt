@@ -1,6 +1,7 @@
 use Rattle.std.proofs.Common.{◌≡◌, ◌≤◌, ◌-◌, List}
 use Rattle.fs_records.specs.Blocks.{Known}
-use Rattle.fs_records.specs.Places.{AreBefore, ArePlacesOf}
+use Rattle.fs_index.specs.Places.{AreBefore}
+use Rattle.fs_records.specs.Indexed.{ArePlacesOf}
 use Rattle.fs_recovery.specs.Counting.{RecordsCounted}
 use Rattle.fs_recovery.specs.Reading.{Shows}
 use Rattle.fs_recovery.proofs.records.read_records.Given as goal

@@ -3,7 +3,7 @@ use Rattle.std.specs.List.{last_or}
 use Rattle.zb_volume.specs.declared.areas.Area.TheVariants.{Main}
 use Rattle.zb_volume.specs.Disk.{main_bytes}
 use Rattle.fs_records.specs.declared.header.DataHeader.{DataHeader}
-use Rattle.fs_records.specs.declared.place.Place.{Place}
+use Rattle.fs_index.specs.declared.place.Place.{Place}
 use Rattle.fs_records.specs.Blocks.{payload_text}
 use Rattle.fs_records.specs.Headers.{data_header_text}
 use Rattle.fs_records.specs.Writing.{at_or_0, previous_in}

@@ -1,5 +1,5 @@
 use Rattle.std.proofs.Common.{◌≡◌, map, take}
-use Rattle.zb_script.specs.Lists.{log_text}
+use Rattle.zb_answers.specs.Lists.{log_text}
 use Rattle.zodb_top.proofs.asking.log_lines.Given as goal
 
 abbrev pub invariant-loop-line : goal.invariant-loop-line

@@ -1,5 +1,5 @@
 use Rattle.std.proofs.Common.{◌≡◌, map, take}
-use Rattle.zb_script.specs.Lists.{revision_text}
+use Rattle.zb_answers.specs.Lists.{revision_text}
 use Rattle.zodb_top.proofs.asking.revision_lines.Given as goal
 
 abbrev pub invariant-loop-line : goal.invariant-loop-line

@@ -1,5 +1,5 @@
 use Rattle.std.proofs.Common.{◌≡◌, ap, map, subst, ◌∙◌}
-use Rattle.zb_script.specs.Lists.{log_text}
+use Rattle.zb_answers.specs.Lists.{log_text}
 use Rattle.zb_model.specs.Lists.{undo_log_of}
 use Rattle.zodb_core.specs.declared.reply.Reply.{Reply}
 use Rattle.zodb_core.specs.declared.request.Request.TheVariants as request

@@ -1,7 +1,7 @@
 use Rattle.std.proofs.Common.{refl}
 use Rattle.zb_outside.specs.Written.{AppendsPrefix}
 use Rattle.zb_outside.specs.WrittenLaws.{no_front}
-use Rattle.zb_script.specs.Answers.{reply_lines}
+use Rattle.zb_answers.specs.Answers.{reply_lines}
 use Rattle.zodb_top.proofs.Replies.{replied, unanswered}
 use Rattle.zodb_top.proofs.replying.reply.Goals as goal
 

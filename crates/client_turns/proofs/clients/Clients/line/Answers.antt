@@ -3,7 +3,7 @@ use Rattle.std.proofs.Common.{◌∙◌, ap, sym, refl, inl}
 use Rattle.std.specs.Prelude.{bytes_eq}
 use Rattle.std.specs.List.{position}
 use Rattle.zb_model.specs.declared.refusal.Refusal.TheVariants as refusal
-use Rattle.zb_script.specs.declared.answer.Answer.TheVariants as answer
+use Rattle.zb_answers.specs.declared.answer.Answer.TheVariants as answer
 use Rattle.zodb_core.specs.HubState.{rules_of}
 use Rattle.client_turns.specs.declared.client.Client.{Client}
 use Rattle.client_turns.specs.Lines.{outcome_of_answer}

@@ -2,7 +2,7 @@
 use Rattle.std.proofs.Common.{◌∙◌, List, ap, sym, refl, inl}
 use Rattle.std.specs.Prelude.{slice_get}
 use Rattle.zb_model.specs.declared.refusal.Refusal.TheVariants as refusal
-use Rattle.zb_script.specs.declared.answer.Answer.TheVariants as answer
+use Rattle.zb_answers.specs.declared.answer.Answer.TheVariants as answer
 use Rattle.zodb_core.specs.HubState.{rules_of, sessions_with}
 use Rattle.zodb_core.specs.Machine.{is_open_in}
 use Rattle.client_turns.specs.declared.client.Client.{Client}

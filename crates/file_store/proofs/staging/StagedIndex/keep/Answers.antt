@@ -1,6 +1,6 @@
 use Rattle.std.proofs.Common.{◌≡◌, ◌++◌, List, Option, Some, ap, sym, subst, ◌∙◌}
-use Rattle.fs_records.specs.declared.place.Placed.{Placed}
-use Rattle.fs_records.specs.Places.{places_in, placed_of}
+use Rattle.fs_index.specs.declared.place.Placed.{Placed}
+use Rattle.fs_index.specs.Places.{places_in, placed_of}
 use Rattle.file_store.specs.declared.staged.Staged.{Staged}
 use Rattle.file_store.specs.Staging.{IsStagedIndex}
 use Rattle.file_store.proofs.Placing.{index_with, with_staged}

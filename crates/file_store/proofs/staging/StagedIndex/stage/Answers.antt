@@ -1,6 +1,6 @@
 use Rattle.std.proofs.Common.{List, ap, subst, arith}
-use Rattle.fs_records.specs.declared.place.Placed.{Placed}
-use Rattle.fs_records.specs.Places.{HasRoomFor}
+use Rattle.fs_index.specs.declared.place.Placed.{Placed}
+use Rattle.fs_index.specs.Places.{HasRoomFor}
 use Rattle.file_store.specs.Staging.{StagedKept}
 use Rattle.file_store.proofs.Placing.{index_staged}
 use Rattle.file_store.proofs.staging.StagedIndex.stage.Goals as goal

@@ -3,7 +3,7 @@ use Rattle.zb_volume.specs.declared.areas.Area.TheVariants.{Main}
 use Rattle.zb_volume.specs.Disk.{seen}
 use Rattle.file_store.specs.declared.staged.Staged.{Staged}
 use Rattle.file_store.specs.Kept.{IsVotedIn, HasRoomForTally}
-use Rattle.fs_records.specs.Places.{places_in}
+use Rattle.fs_index.specs.Places.{places_in}
 use Rattle.file_store.specs.Staging.{StagedKept}
 use Rattle.file_store.proofs.Commits.{staged_some, none_there, abort_moments, aborted}
 use Rattle.file_store.proofs.Sides.{copied_stays, keeps_begun}

@@ -1,7 +1,7 @@
 use Rattle.std.proofs.Common.{◌∙◌, sym}
 use Rattle.std.proofs.lemmas.List.{length-map}
-use Rattle.fs_records.specs.declared.place.Placed.{Placed}
-use Rattle.fs_records.specs.Places.{oids_placed}
+use Rattle.fs_index.specs.declared.place.Placed.{Placed}
+use Rattle.fs_index.specs.Places.{oids_placed}
 use Rattle.fs_recovery.proofs.Tallies.{counted_objects}
 use Rattle.fs_recovery.proofs.numbers.Numbers.add.Goals as goal
 

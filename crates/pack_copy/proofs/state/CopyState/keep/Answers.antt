@@ -1,7 +1,7 @@
 use Rattle.std.proofs.Common.{◌≡◌, ℕ, ◌+◌, ◌≤◌, All, List, ap, sym, subst, ◌∙◌, arith}
 use Rattle.std.specs.Prelude.{◌++◌}
-use Rattle.fs_records.specs.declared.place.Placed.{Placed}
-use Rattle.fs_records.specs.Places.{Kept, places_in, placed_of}
+use Rattle.fs_index.specs.declared.place.Placed.{Placed}
+use Rattle.fs_index.specs.Places.{Kept, places_in, placed_of}
 use Rattle.fs_records.specs.PlacingLaws.{IsRecordOf}
 use Rattle.fs_recovery.specs.Opens.{newest_kept}
 use Rattle.pack_copy.specs.Copying.{CopyKept}

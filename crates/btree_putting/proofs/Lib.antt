@@ -1,0 +1,5 @@
+pub mod Firsts
+pub mod Keeping
+pub mod Rows
+pub mod Sorting
+pub mod Writables

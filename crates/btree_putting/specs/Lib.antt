@@ -1,0 +1,5 @@
+pub mod Firsts
+pub mod Items
+pub mod Puts
+pub mod Storing
+pub mod Writing

@@ -1,0 +1,17 @@
+//! Putting the objects of a tree of the BTrees package: copies of what was read, objects to put and
+//! their order, whether their records can be written and read back, and putting them.
+#![tactic(auto)]
+
+mod copying;
+mod first;
+mod items;
+mod puts;
+mod storing;
+mod writing;
+
+pub use copying::{copy_pickle, with_branches, with_items};
+pub use first::first_below;
+pub use items::{has_key, has_value};
+pub use puts::{Put, Puts, in_order};
+pub use storing::{all_keep, can_keep, same_link, store_all};
+pub use writing::{Family, plain_class};

@@ -1,6 +1,0 @@
-use Rattle.std.proofs.Common.{◌≡◌, ◌+◌, drop}
-use Rattle.btree_setting.specs.Items.{place_in}
-use Rattle.btree_setting.proofs.items.place_in.Given as goal
-
-abbrev pub invariant-loop-place : goal.invariant-loop-place
-invariant-loop-place l = l.place + place_in (drop l.place l.items) l.fn.key ≡ place_in l.items l.fn.key

@@ -1,0 +1,97 @@
+//! Objects as answers show them, and the key of a conflict.
+
+ghost use Rattle.std.specs.Prelude.{◌≡◌, ◌++◌, IfOk, OnOk};
+ghost use Rattle.zb_answers.specs.Objects;
+ghost use Rattle.zb_answers.specs.Objects.{key_text, object_answer, shown_line};
+
+use crate::spelling::{push_digits, push_number, push_numbered};
+use pickle_value::{PickleError, WriteError, read_pickle};
+use std::alloc::{AllocError, Global};
+use zb_ids::{Text8, Tid};
+use zb_literals::{record_literal, write_literal};
+use zb_record::{RecordError, object_literal, read_record};
+
+/// The literals of the class and the state, or `None` where the bytes are no record or one that is too deep
+/// to write.
+fn record_print(alloc: Global, bytes: &[u8]) -> Result<Option<Text8>, AllocError>
+    ensures { IfOk result (λ text. text ≡ Objects.record_print bytes.now) }
+{
+    let object = match read_record(alloc, bytes) {
+        Ok(object) => object,
+        Err(RecordError::Memory) => return Err(AllocError),
+        Err(RecordError::Pickle(_)) => return Ok(None),
+        Err(RecordError::Rest { at: _ }) => return Ok(None),
+        Err(RecordError::BadClass) => return Ok(None),
+    };
+    match record_literal(alloc, &object.class, &object.state) {
+        Ok(text) => Ok(Some(text)),
+        Err(WriteError::TooDeep) => Ok(None),
+        Err(WriteError::Memory) => Err(AllocError),
+    }
+}
+
+/// Puts an object at the end: `object`, its serial, its class and its state, or `raw`, its serial and two
+/// digits for each byte.
+pub(crate) fn push_object(out: &mut Vec<u8>, serial: Tid, bytes: &[u8]) -> Result<(), AllocError>
+    ensures { OnOk result (out.new.items ≡ out.old.items ++ object_answer serial bytes.now) }
+{
+    match record_print(*out.allocator(), bytes)? {
+        Some(text) => {
+            push_numbered(out, b"object ", serial.0)?;
+            out.push(b' ')?;
+            out.extend_from_slice(text.as_slice())
+        }
+        None => {
+            push_numbered(out, b"raw ", serial.0)?;
+            out.push(b' ')?;
+            push_digits(out, bytes)
+        }
+    }
+}
+
+/// A line that shows an object, with its newline: the serial in sixteen digits, a blank, and the literals of
+/// the class and the state with a blank between them; or `raw` and two digits for each byte, where the bytes
+/// are no record or one that is too deep to write. The one error is want of memory.
+pub fn shown_line(alloc: Global, serial: Tid, bytes: &[u8]) -> Result<Text8, AllocError>
+    ensures { IfOk result (λ text. text ≡ shown_line serial bytes.now) }
+{
+    let object = object_literal(alloc, bytes)?;
+    let mut out = Vec::new(alloc);
+    push_number(&mut out, serial.0)?;
+    out.push(b' ')?;
+    out.extend_from_slice(object.as_slice())?;
+    out.push(b'\n')?;
+    Ok(Text8::from_vec(out))
+}
+
+/// The literal of the value that a pickle spells so, or `None` where the bytes spell none that can be written.
+fn spelled_literal(alloc: Global, spelling: &[u8]) -> Result<Option<Text8>, AllocError>
+    ensures { IfOk result (λ text. text ≡ Objects.spelled_literal spelling.now) }
+{
+    let mut pickle = Vec::from_slice(alloc, &[0x80, 3])?;
+    pickle.extend_from_slice(spelling)?;
+    pickle.push(0x2e)?;
+    let (graph, behind) = match read_pickle(alloc, pickle.as_slice(), 0) {
+        Ok(read) => read,
+        Err(PickleError::Memory) => return Err(AllocError),
+        Err(_) => return Ok(None),
+    };
+    if behind != pickle.len() {
+        return Ok(None);
+    }
+    match write_literal(alloc, &graph) {
+        Ok(text) => Ok(Some(text)),
+        Err(WriteError::TooDeep) => Ok(None),
+        Err(WriteError::Memory) => Err(AllocError),
+    }
+}
+
+/// Puts a key or a value at the end by its literal, or by two digits for each byte where the bytes spell none.
+pub(crate) fn push_key(out: &mut Vec<u8>, spelling: &[u8]) -> Result<(), AllocError>
+    ensures { OnOk result (out.new.items ≡ out.old.items ++ key_text spelling.now) }
+{
+    match spelled_literal(*out.allocator(), spelling)? {
+        Some(text) => out.extend_from_slice(text.as_slice()),
+        None => push_digits(out, spelling),
+    }
+}

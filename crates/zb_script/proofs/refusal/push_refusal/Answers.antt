@@ -1,5 +1,0 @@
-use Rattle.std.proofs.Common.{rules}
-use Rattle.zb_script.proofs.refusal.push_refusal.Goals as goal
-
-pub returns-in-ReadConflict : goal.returns-in-ReadConflict
-returns-in-ReadConflict c = rw c.in-ReadConflict.is (search rules)
