@@ -1,14 +1,5 @@
 pub mod Digits
 pub mod Utf8
-pub mod Steps
-pub mod Loops
-pub mod CharacterLaws
-pub mod NumberLaws
-pub mod LeafLaws
-pub mod TreeLaws
-pub mod AgainLaws
-pub mod GraphLaws
-pub mod Results
 pub mod PrintLaws
 pub mod PlainLaws
 pub mod UnfoldLaws

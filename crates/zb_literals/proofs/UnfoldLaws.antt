@@ -7,7 +7,7 @@ use Rattle.pickle_value.specs.declared.node.Node.TheVariants as kinds
 use Rattle.zb_literals.specs.Values.{Value, leaf, tuple, list, dict, reference, Values, no_values, value, Pairs, no_pairs, pair, IsLeaf, IsValue, AreValues, ArePairs}
 use Rattle.zb_literals.specs.Graphs.{last_of, with_value, with_values, with_pairs, named_values, named_pairs}
 use Rattle.zb_literals.specs.Plain.{values_of, pairs_in_tree, node_tree, tree_of}
-use Rattle.zb_literals.proofs.GraphLaws.{Grows, value_grows, values_grow, pairs_grow, grows_all, node_at}
+use Rattle.zb_literals.specs.GraphLaws.{Grows, value_grows, values_grow, pairs_grow, grows_all, node_at}
 
 at_node : (levels : ℕ) (ns : List Node) (m : ℕ) (o : Option Node) (v : Value) → slice_get ns m ≡ o → node_tree (tree_of levels ns) o ≡ Some v → tree_of (suc levels) ns m ≡ Some v
 unfolding tree_of

@@ -1,9 +1,7 @@
 pub mod Texts
 pub mod Values
 pub mod Graphs
-pub mod Reading
-pub mod Literals
+pub mod GraphLaws
 pub mod Printing
 pub mod Records
 pub mod Plain
-pub mod Exact

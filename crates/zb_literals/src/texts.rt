@@ -8,28 +8,38 @@ ghost use Rattle.zb_ids.specs.Hex.{hex_text};
 ghost use Rattle.zb_literals.specs.Texts.{bytes_text, character_text, global_text, name_byte_text, quoted_text, text_literal};
 ghost use Rattle.zb_literals.specs.Texts;
 
-use crate::characters::is_name_byte;
 use std::alloc::AllocError;
 use std::str;
 use zb_ids::hex_pair;
 
-/// Whether a character stands for itself.
-pub(crate) fn is_plain(c: char) -> bool
+/// Whether a character stands for itself in the literal of a text: one from the blank to the tilde.
+pub fn is_plain(c: char) -> bool
     ensures { result ≡ Texts.is_plain c }
 {
     ' ' <= c && c <= '~'
 }
 
-/// Whether a character is a quote or a backslash.
-pub(crate) fn is_quoted(c: char) -> bool
+/// Whether a character stands behind a backslash in the literal of a text: a quote or a backslash.
+pub fn is_quoted(c: char) -> bool
     ensures { result ≡ Texts.is_quoted c }
 {
     c == '"' || c == '\\'
 }
 
-/// Puts `\u{..}` at the end.
+/// Whether a byte of a module or a name stands for itself in a literal: a letter, a digit, `_` or `.`.
+pub fn is_name_byte(byte: u8) -> bool
+    ensures { result ≡ Texts.is_name_byte byte }
+{
+    match byte {
+        b'a'..=b'z' | b'A'..=b'Z' | b'0'..=b'9' | b'_' | b'.' => true,
+        _ => false,
+    }
+}
+
+/// Puts the escape of a character at the end, `\u{..}` with its code in lower-case hexadecimal digits.
+/// Where there is no memory, a part of it may have been put.
 #[tactic(auto, using(crate::proofs::Digits::escape_small, crate::proofs::Digits::next_small, crate::proofs::Digits::rest_small, crate::proofs::Digits::put_one))]
-pub(crate) fn push_escape(out: &mut Vec<u8>, c: char) -> Result<(), AllocError>
+pub fn push_escape(out: &mut Vec<u8>, c: char) -> Result<(), AllocError>
     ensures { OnOk result (out.new.items ≡ out.old.items ++ escape_unicode c) }
 {
     for digit in c.escape_unicode() {

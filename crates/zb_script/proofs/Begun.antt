@@ -2,7 +2,7 @@
 use Rattle.std.proofs.Common.{◌≡◌, ℕ, List, ◌∷◌, ◌++◌, Option, Some, None, refl, sym, ap, subst, ◌∙◌, arith, inl, inr}
 use Rattle.std.specs.Prelude.{◌⊎◌}
 use Rattle.zb_ids.specs.Hex.{hex_number}
-use Rattle.zb_literals.specs.Reading.{if_some}
+use Rattle.literal_reading.specs.Reading.{if_some}
 use Rattle.zb_script.specs.declared.line.Line.{Line}
 use Rattle.zb_script.specs.Spelling.{IsNumbered, IsLineText}
 use Rattle.zb_script.specs.Reading.{behind_word, line_at}

@@ -15,9 +15,9 @@ use Rattle.pickle_value.specs.Graph.{Graph}
 use Rattle.pickle_value.specs.Spelling.{Spelled, pickled, pickle_text, spelling_of}
 use Rattle.zb_ids.specs.Hex.{◌>>=◌, hex_number, number_at}
 use Rattle.zb_ids.specs.HexLaws.{bind_some, from_bind, number_takes, number_again}
-use Rattle.zb_literals.specs.Exact.{graph_spelled, SpelledIsLiteral, LiteralIsSpelled}
+use Rattle.literal_reading.specs.Exact.{graph_spelled, SpelledIsLiteral, LiteralIsSpelled}
 use Rattle.zb_literals.specs.Graphs.{last_of, with_value, with_values, with_pairs, named_values, named_pairs, graph_of}
-use Rattle.zb_literals.specs.Literals.{IsLiteral}
+use Rattle.literal_reading.specs.Literals.{IsLiteral}
 use Rattle.zb_literals.specs.Texts.{quoted_text}
 use Rattle.zb_literals.specs.Values.{Value, leaf, tuple, list, dict, reference, IsValue, literal_text}
 use Rattle.zb_record.specs.Class.{is_class}

@@ -11,9 +11,9 @@ use Rattle.pickle_value.specs.Spelling.{Spelled, spelling_of}
 use Rattle.btree_family.specs.declared.key.Key.{Key}
 use Rattle.btree_family.specs.declared.key.Key.TheVariants as keys
 use Rattle.zb_ids.specs.HexLaws.{from_bind}
-use Rattle.zb_literals.specs.Exact.{graph_spelled}
+use Rattle.literal_reading.specs.Exact.{graph_spelled}
 use Rattle.zb_literals.specs.Graphs.{last_of, with_value, with_values, with_pairs, named_values, named_pairs, graph_of}
-use Rattle.zb_literals.specs.Literals.{IsLiteral}
+use Rattle.literal_reading.specs.Literals.{IsLiteral}
 use Rattle.zb_literals.specs.Texts.{leaf_literal}
 use Rattle.zb_literals.specs.Values.{Value, leaf, tuple, list, dict, reference, IsValue, literal_text}
 use Rattle.zb_script.specs.Keys.{key_node, IsKey, key_literal, text_or_none}

@@ -8,7 +8,7 @@ use Rattle.std.proofs.lemmas.Fmt.{decimal_is_IsNumeral}
 use Rattle.std.proofs.lemmas.Slice.Eq.{bytes_eq-Decides}
 use Rattle.zb_ids.specs.Hex.{hex_text, hex_number, number_at}
 use Rattle.zb_ids.specs.HexLaws.{from_bind, number_takes, number_again}
-use Rattle.zb_literals.specs.Literals.{IsLiteral}
+use Rattle.literal_reading.specs.Literals.{IsLiteral}
 use Rattle.pickle_value.specs.Graph.{Graph}
 use Rattle.pickle_value.specs.declared.depth.TheConstants.{WALK_LIMIT}
 use Rattle.zb_literals.specs.Texts.{quoted_text}

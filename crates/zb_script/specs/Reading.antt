@@ -8,8 +8,8 @@ use Rattle.pickle_value.specs.declared.node.Node.TheVariants as kinds
 use Rattle.pickle_value.specs.Spelling.{Spelled, spelling_of}
 use Rattle.btree_family.specs.declared.key.Key.{Key}
 use Rattle.btree_family.specs.declared.key.Key.TheVariants as keys
-use Rattle.zb_literals.specs.Exact.{graph_spelled}
-use Rattle.zb_literals.specs.Reading.{if_some}
+use Rattle.literal_reading.specs.Exact.{graph_spelled}
+use Rattle.literal_reading.specs.Reading.{if_some}
 use Rattle.zb_record.specs.Class.{is_class}
 use Rattle.zb_record.specs.Records.{object_text}
 use Rattle.zb_script.specs.declared.errors.ReadError.{ReadError}

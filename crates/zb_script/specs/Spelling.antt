@@ -6,7 +6,7 @@ use Rattle.zb_ids.specs.Hex.{hex_text, hex_number}
 use Rattle.pickle_value.specs.Graph.{Graph}
 use Rattle.pickle_value.specs.Spelling.{spelling_of}
 use Rattle.btree_family.specs.declared.key.Key.{Key}
-use Rattle.zb_literals.specs.Literals.{IsLiteral}
+use Rattle.literal_reading.specs.Literals.{IsLiteral}
 use Rattle.zb_literals.specs.Texts.{quoted_text}
 use Rattle.zb_record.specs.Class.{is_class}
 use Rattle.zb_record.specs.Records.{object_text}

@@ -21,7 +21,7 @@ use crate::reading::turn_of;
 use crate::shape::{can_stand, note_open};
 use std::alloc::Global;
 use zb_ids::ListOf;
-use zb_literals::literals_are_exact;
+use literal_reading::literals_are_exact;
 
 /// The turn that a line spells, where it can stand behind the opens of these clients.
 fn placed_turn(alloc: Global, opened: &[Name], text: &[u8]) -> Result<Turn, ReadError>

@@ -2,7 +2,7 @@
 
 ghost use Rattle.std.specs.Prelude.{◌≡◌};
 ghost use Rattle.zb_ids.specs.Hex.{bytes_at};
-ghost use Rattle.zb_literals.specs.Exact.{graph_spelled};
+ghost use Rattle.literal_reading.specs.Exact.{graph_spelled};
 ghost use Rattle.zb_record.specs.Records.{object_text};
 ghost use Rattle.zb_script.specs.Reading.{ReadsAs, payload_at, payload_of_text, record_at};
 
@@ -11,7 +11,7 @@ use crate::payload::Payload;
 use pickle_value::{Pickle, WriteError};
 use std::alloc::Global;
 use zb_ids::{Text8, read_hex_pair};
-use zb_literals::{LiteralError, literals_are_exact, read_literal};
+use literal_reading::{LiteralError, literals_are_exact, read_literal};
 use zb_record::{ObjectRecord, is_class, write_record};
 
 /// How many digits spell the bytes that a line stores, at most.

@@ -1,11 +1,11 @@
 use Rattle.std.proofs.Common.{◌≡◌, ℕ, ◌+◌, List, Option, Some, None, refl}
 use Rattle.pickle_value.specs.declared.depth.TheConstants.{WALK_LIMIT}
 use Rattle.pickle_value.specs.Graph.{Graph}
-use Rattle.zb_literals.specs.declared.error.LiteralError.{LiteralError}
-use Rattle.zb_literals.specs.declared.error.LiteralError.TheVariants as errors
-use Rattle.zb_literals.specs.Exact.{graph_spelled, SpelledIsLiteral}
+use Rattle.literal_reading.specs.declared.error.LiteralError.{LiteralError}
+use Rattle.literal_reading.specs.declared.error.LiteralError.TheVariants as errors
+use Rattle.literal_reading.specs.Exact.{graph_spelled, SpelledIsLiteral}
 use Rattle.zb_literals.specs.Graphs.{graph_of}
-use Rattle.zb_literals.specs.Reading.{RefusesLiteral}
+use Rattle.literal_reading.specs.Reading.{RefusesLiteral}
 use Rattle.zb_literals.specs.Values.{Value, IsValue, literal_text}
 use Rattle.zb_script.proofs.stored.graph_of.Goals as goal
 

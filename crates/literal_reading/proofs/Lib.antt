@@ -1,0 +1,9 @@
+pub mod Utf8
+pub mod Steps
+pub mod Loops
+pub mod CharacterLaws
+pub mod NumberLaws
+pub mod LeafLaws
+pub mod TreeLaws
+pub mod AgainLaws
+pub mod Results

@@ -1,9 +1,0 @@
-use Rattle.std.proofs.Common.{◌≡◌, [], length}
-use Rattle.zb_literals.specs.Reading.{characters_at}
-use Rattle.zb_literals.proofs.characters.characters_of.Given as goal
-
-abbrev pub invariant-pieces : goal.invariant-pieces
-invariant-pieces l = characters_at l.text l.rest ≡ characters_at [] l.fn.bytes
-
-abbrev pub decreases-pieces : goal.decreases-pieces
-decreases-pieces l = length l.rest
