@@ -54,7 +54,7 @@ pub struct Run {
 }
 
 /// What the program calls.
-#[derive(Clone, Copy, Debug, PartialEq, Eq)]
+#[derive(Clone, Copy)]
 pub enum Outside {
     Source,
     Sink,
@@ -62,7 +62,7 @@ pub enum Outside {
 }
 
 /// Calls that fail one at a time, each in a first run of its own.
-#[derive(Clone, Copy, Debug, PartialEq, Eq)]
+#[derive(Clone, Copy)]
 pub struct Each {
     pub of: Outside,
     pub first: u64,

@@ -1,6 +1,6 @@
 //! The program `conformance`: it runs the cases of each file in its folder through `zodb_main`, over
-//! objects in memory, and prints a line for each. It ends with status 0 where each is reported as it
-//! is to be.
+//! objects in memory, and the scripts over new databases over a list in memory too, and prints a line for
+//! each case. It ends with status 0 where each is reported as it is to be.
 #![tactic(auto)]
 
 mod case;
@@ -10,6 +10,7 @@ mod fields;
 mod folder;
 mod memory;
 mod outcome;
+mod over_list;
 mod piece;
 mod reading;
 mod report;
@@ -19,15 +20,34 @@ mod telling;
 
 use case::Case;
 use folder::{case_files, folder_of, text_of};
+use over_list::{list_difference, list_run};
 use reading::read_cases;
 use report::{Tally, report_of};
 use running::run_case;
+use std::alloc::{AllocError, Global};
 use std::io;
 use std::process::ExitCode;
 
+/// In what a case first differs from what is expected: over a file and, where it is as expected there and
+/// has a run that can be made over the list in memory, over that.
+fn difference_in(
+    alloc: Global,
+    case: &Case,
+    tally: &mut Tally,
+) -> Result<Option<String>, AllocError> {
+    if let Some(difference) = run_case(alloc, case)? {
+        return Ok(Some(difference));
+    }
+    let Some(run) = list_run(case) else {
+        return Ok(None);
+    };
+    tally.count_over_list();
+    list_difference(alloc, run)
+}
+
 /// Runs a case, prints its line, and counts it.
 fn report_case(rt: &HostRuntime, case: &Case, tally: &mut Tally) -> io::Result<()> {
-    let report = report_of(run_case(rt.alloc(), case)?);
+    let report = report_of(difference_in(rt.alloc(), case, tally)?);
     tally.count(&report, case);
     let line = report.line(rt.alloc(), case)?;
     println!(rt; "{line}")
@@ -63,6 +83,8 @@ fn report_all(rt: &HostRuntime) -> io::Result<bool> {
             println!(rt; "unread {name}")?;
         }
     }
+    let over_list = tally.over_list;
+    println!(rt; "{over_list} ran over a list in memory too")?;
     let line = tally.line(rt.alloc())?;
     println!(rt; "{line}")?;
     Ok(tally.is_good())

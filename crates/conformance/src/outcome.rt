@@ -26,7 +26,7 @@ pub struct Outcome {
 }
 
 /// In what an outcome differs from what is expected.
-#[derive(Clone, Copy, Debug, PartialEq, Eq)]
+#[derive(Clone, Copy)]
 pub enum Difference {
     Written,
     Status,
@@ -82,6 +82,13 @@ fn is_next(wanted: Option<Stamp>, next: Stamp) -> bool
         None => true,
         Some(wanted) => next == wanted,
     }
+}
+
+/// Whether a status and what is written are the expected ones.
+pub fn are_replies(expected: &Expectation, status: u8, written: &[u8]) -> bool
+    ensures { IsTrue result ↔ (written.now ≡ expected.now.written.items) × (status ≡ expected.now.status) }
+{
+    written == expected.written.as_slice() && status == expected.status
 }
 
 /// In what an outcome first differs from what is expected.

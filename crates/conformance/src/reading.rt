@@ -9,7 +9,7 @@ use crate::fields::{push, word_and_rest};
 use std::alloc::{AllocError, Global};
 
 /// Where a file of cases is none: the line, the case that it stands in, and why.
-#[derive(Debug, Drop)]
+#[derive(Drop)]
 pub struct Unread {
     pub line: u64,
     pub case: String,

@@ -49,7 +49,7 @@ impl Report {
 }
 
 /// How many cases and files were reported, and as what.
-#[derive(Clone, Copy, Debug, PartialEq, Eq)]
+#[derive(Clone, Copy)]
 pub struct Tally {
     /// Cases that are as expected.
     pub ok: u64,
@@ -57,6 +57,8 @@ pub struct Tally {
     pub differing: u64,
     /// Cases that are reported otherwise than they are to be, and files that can't be read.
     pub wrong: u64,
+    /// Cases that were run over a list in memory too.
+    pub over_list: u64,
 }
 
 impl Tally {
@@ -66,6 +68,7 @@ impl Tally {
             ok: 0,
             differing: 0,
             wrong: 0,
+            over_list: 0,
         }
     }
 
@@ -89,6 +92,13 @@ impl Tally {
         ensures wrong { 0 < self.new.wrong }
     {
         self.wrong = self.wrong.saturating_add(1);
+    }
+
+    /// Counts a case that is run over a list in memory too.
+    pub fn count_over_list(&mut self)
+        ensures wrong { self.new.wrong ≡ self.old.wrong }
+    {
+        self.over_list = self.over_list.saturating_add(1);
     }
 
     /// Whether there is something, and all of it is as it is to be.

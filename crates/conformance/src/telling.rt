@@ -119,6 +119,26 @@ fn tell_next(alloc: Global, wanted: Option<Stamp>, given: Stamp) -> Result<Strin
     }
 }
 
+fn tell_status(alloc: Global, wanted: u8, given: u8) -> Result<String, AllocError> {
+    format!(in alloc; "the status is {given}, and {wanted} is expected")
+}
+
+/// In what a run over a list in memory differs, in words.
+pub fn tell_replies(
+    alloc: Global,
+    expected: &Expectation,
+    status: u8,
+    written: &[u8],
+) -> Result<String, AllocError> {
+    let wanted = expected.written.as_slice();
+    let words = if written == wanted {
+        tell_status(alloc, expected.status, status)?
+    } else {
+        tell_lines(alloc, wanted, written)?
+    };
+    format!(in alloc; "over a list in memory {words}")
+}
+
 /// A difference in words.
 pub fn tell(
     alloc: Global,
@@ -132,11 +152,7 @@ pub fn tell(
             expected.written.as_slice(),
             outcome.written.as_slice(),
         ),
-        Difference::Status => {
-            let given = outcome.status;
-            let wanted = expected.status;
-            format!(in alloc; "the status is {given}, and {wanted} is expected")
-        }
+        Difference::Status => tell_status(alloc, expected.status, outcome.status),
         Difference::Main => tell_main(alloc, &expected.after, outcome),
         Difference::Greatest => {
             let lines = tell_lines(

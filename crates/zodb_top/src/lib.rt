@@ -19,6 +19,7 @@ mod top;
 
 pub use command::{Asked, Command};
 pub use laws::what_was_committed_stays;
-pub use script::MOST_BYTES;
+pub use running::run_over_store;
+pub use script::{MOST_BYTES, turns_of};
 pub use status::Status;
 pub use top::zodb_main;

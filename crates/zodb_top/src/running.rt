@@ -40,10 +40,16 @@ fn say_stopped<K: Sink>(sink: &mut K, error: RunError) -> Status
     }
 }
 
-/// Writes the line of a tail that was cut off, where one was, takes the turns over a store, and hands
-/// it back.
+/// Runs the turns of a script over any store, as `run` does over that of a file: writes the line of the
+/// tail that was cut off at the place `cut`, where one was, takes the turns one at a time with the program's
+/// own rules of merging and references, writes the reply to each before the next one is taken, and hands
+/// the store back.
+///
+/// The status is `Done` where all turns were answered and all was written; `StoreFault` where the store
+/// failed in a turn, with a line that says so behind the replies; `SinkFault` or `NoMemory` where the run
+/// ended early for that. The store then has what the turns up to there made of it.
 #[tactic(auto, using(zb_model::specs::StayLaws::stays_same, crate::proofs::Sides::ran_over))]
-fn run_store<St: Store, K: Sink, C: Clock>(
+pub fn run_over_store<St: Store, K: Sink, C: Clock>(
     alloc: Global,
     store: St,
     cut: Option<u64>,
@@ -109,7 +115,7 @@ pub(crate) fn run_file<K: Sink, V: Volume + Drop, C: Clock>(
 {
     match FileStore::create_or_open(alloc, volume, clock) {
         Ok((store, cut)) => {
-            let (status, store) = run_store(alloc, store, cut, turns, sink, clock);
+            let (status, store) = run_over_store(alloc, store, cut, turns, sink, clock);
             (status, store.into_volume())
         }
         Err((error, volume)) => (say_unopened(alloc, sink, error), volume),

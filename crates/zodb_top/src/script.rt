@@ -53,8 +53,9 @@ fn say_bad_line<K: Sink>(alloc: Global, sink: &mut K, number: u64) -> Status
     }
 }
 
-/// The turns of a script that was read whole, or the status that was told of it.
-fn turns_of<K: Sink>(alloc: Global, input: &[u8], sink: &mut K) -> Result<ListOf<Turn>, Status>
+/// The turns of a script's bytes. Where they are no script, or pass one of its limits, the line that says
+/// so is written, and its status answered: `BadLine`, `Limit`, or `NoMemory`, with nothing written.
+pub fn turns_of<K: Sink>(alloc: Global, input: &[u8], sink: &mut K) -> Result<ListOf<Turn>, Status>
     ensures script { IfOk result (λ turns. IsInput input.now turns) }
     ensures fitting { IfOk result (λ turns. AllByRecursion (λ t. IsFittingLine t.line) turns) }
     ensures silent { OnOk result (K.taken sink.new ≡ K.taken sink.old) }

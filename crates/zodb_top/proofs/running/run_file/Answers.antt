@@ -18,9 +18,9 @@ returns-in-Ok-clause-outcome g c =
     let K = g.K.Sink in
     let C = g.C.Clock in
     let before : Outside = outside (K.taken c.args.sink.now) (K.faults c.args.sink.now) (C.stamps c.args.clock.now) (V.log c.args.volume) (V.read_faults c.args.volume) (V.write_faults c.args.volume) in
-    let after : Outside = outside (K.taken c.run_store-status.new.sink) (K.faults c.run_store-status.new.sink) (C.stamps c.run_store-status.new.clock) (V.log c.into_volume.result) (V.read_faults c.into_volume.result) (V.write_faults c.into_volume.result) in
+    let after : Outside = outside (K.taken c.run_over_store-status.new.sink) (K.faults c.run_over_store-status.new.sink) (C.stamps c.run_over_store-status.new.clock) (V.log c.into_volume.result) (V.read_faults c.into_volume.result) (V.write_faults c.into_volume.result) in
     let s = c.in-Ok.store in
-    let t = c.run_store-status.result.1 in
+    let t = c.run_over_store-status.result.1 in
     let state : StoreState = record {
       list = listed (seen (V.log s.volume) Main);
       voted = option_map (λ x. voted_in x.tid s.index.end (seen (V.log s.volume) Main)) s.index.staged;
@@ -41,7 +41,7 @@ returns-in-Ok-clause-outcome g c =
       faults = V.write_faults t.volume;
       read_faults = V.read_faults t.volume;
     } in
-    over_file c.run_store-status.result.0 V.told c.args.turns.now before after state state' (C.stamps c.create_or_open.new.clock) c.in-Ok.cut
+    over_file c.run_over_store-status.result.0 V.told c.args.turns.now before after state state' (C.stamps c.create_or_open.new.clock) c.in-Ok.cut
     (λ told. record {
       opens = opens_as _ _ _ _ _ (c.in-Ok.ensures.opened told) (c.in-Ok.ensures.made told) (c.in-Ok.ensures.stamps_kept told) (c.in-Ok.ensures.stamps_left told);
       keeps = c.in-Ok.ensures.keeps told;
@@ -50,7 +50,7 @@ returns-in-Ok-clause-outcome g c =
       bytes = c.in-Ok.ensures.content told;
       new_file = c.in-Ok.ensures.new_file told;
     })
-    c.in-Ok.ensures.faults c.in-Ok.ensures.read_faults c.into_volume.ensures.log c.into_volume.ensures.read_faults c.into_volume.ensures.faults c.run_store-status.ensures.outcome
+    c.in-Ok.ensures.faults c.in-Ok.ensures.read_faults c.into_volume.ensures.log c.into_volume.ensures.read_faults c.into_volume.ensures.faults c.run_over_store-status.ensures.outcome
 
 pub returns-in-Ok-clause-damaged : goal.returns-in-Ok-clause-damaged
 returns-in-Ok-clause-damaged g c = λ told reads writes none. opened_none g.V.Volume.told _ _ _ c.in-Ok.cut c.in-Ok.ensures.opened told none
@@ -75,7 +75,7 @@ returns-in-Err-clause-complete g c = λ told reads writes sinks list cut stands.
     unopened_done c.say_unopened.result c.in-Err.error _ list cut _ _ _ _ _ _ _ _ c.say_unopened.ensures.said (c.in-Err.ensures.harm told) c.in-Err.ensures.fault reads writes stands
 
 pub returns-in-Ok-clause-others : goal.returns-in-Ok-clause-others
-returns-in-Ok-clause-others g c = λ other. c.into_volume.ensures.faults ∙ c.run_store-status.ensures.others other ∙ c.in-Ok.ensures.faults
+returns-in-Ok-clause-others g c = λ other. c.into_volume.ensures.faults ∙ c.run_over_store-status.ensures.others other ∙ c.in-Ok.ensures.faults
 
 pub returns-in-Err-clause-others : goal.returns-in-Err-clause-others
 returns-in-Err-clause-others g c = λ other. (c.in-Err.ensures.unfailed (unopened_other _ _ _ _ _ _ c.say_unopened.ensures.said other)).1

@@ -7,7 +7,7 @@ use Rattle.zodb_top.specs.Running.{RunsOn, Stops, broke_of}
 use Rattle.zodb_top.specs.Texts.{joined}
 use Rattle.zodb_top.proofs.Nexts.{stopped_other}
 use Rattle.zodb_top.proofs.Stores.{cut_prefix, nothing_written, ran_all, stopped}
-use Rattle.zodb_top.proofs.running.run_store.Goals as goal
+use Rattle.zodb_top.proofs.running.run_over_store.Goals as goal
 
 pub returns-in_default-clause-outcome : goal.returns-in_default-clause-outcome
 returns-in_default-clause-outcome g c = λ told.
