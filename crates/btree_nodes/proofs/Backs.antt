@@ -13,7 +13,7 @@ use Rattle.btree_family.specs.Classes.{Class, classes, class_in, is_known_as}
 use Rattle.btree_family.specs.Buckets.{BucketContents}
 use Rattle.bucket_state.specs.declared.tree.Branch.{Branch}
 use Rattle.zb_record.specs.declared.error.RecordError.{RecordError}
-use Rattle.zb_record.specs.Class.{is_class}
+use Rattle.pickle_value.specs.Class.{is_class}
 use Rattle.zb_record.specs.Records.{record_of, object_text}
 use Rattle.btree_shapes.specs.declared.node.Node.{Node}
 use Rattle.btree_shapes.specs.declared.node.Node.TheVariants as node

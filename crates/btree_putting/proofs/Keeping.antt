@@ -6,7 +6,7 @@ use Rattle.pickle_value.specs.Spelling.{Spelled}
 use Rattle.btree_family.specs.Classes.{Class}
 use Rattle.zb_record.specs.declared.error.RecordError.{RecordError}
 use Rattle.zb_record.specs.declared.record.ObjectRecord.{ObjectRecord}
-use Rattle.zb_record.specs.Class.{is_class}
+use Rattle.pickle_value.specs.Class.{is_class}
 use Rattle.zb_record.specs.Records.{record_of, object_text}
 use Rattle.btree_shapes.specs.Spaces.{IsStorable, record_bytes}
 use Rattle.btree_putting.specs.declared.puts.Put.{Put}

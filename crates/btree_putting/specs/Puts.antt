@@ -4,7 +4,7 @@ use Rattle.pickle_value.specs.Graph.{Graph, IsGraph}
 use Rattle.pickle_value.specs.Spelling.{Spelled}
 use Rattle.btree_family.specs.Classes.{Class}
 use Rattle.zb_record.specs.declared.error.RecordError.{RecordError}
-use Rattle.zb_record.specs.Class.{is_class}
+use Rattle.pickle_value.specs.Class.{is_class}
 use Rattle.zb_record.specs.Records.{record_of, object_text}
 use Rattle.btree_family.specs.declared.bucket.Item.{Item}
 use Rattle.bucket_state.specs.declared.tree.Branch.{Branch}

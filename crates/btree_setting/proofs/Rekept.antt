@@ -5,6 +5,7 @@ use Rattle.std.specs.Option.{option_map, option_and_then}
 use Rattle.std.proofs.lemmas.Bool.{eqb-true, eq-eqb}
 use Rattle.byteorder.specs.Numbers.{big_number-reads_back}
 use Rattle.pickle_value.specs.Graph.{Graph, IsGraph}
+use Rattle.pickle_value.specs.Same.{AreSame}
 use Rattle.pickle_value.specs.Spelling.{Spelled}
 use Rattle.btree_family.specs.declared.bucket.Item.{Item}
 use Rattle.btree_family.specs.declared.key.Key.{Key}
@@ -25,7 +26,7 @@ use Rattle.bucket_state.specs.Written.{bucket_graph, inner_graph, embedded_graph
 use Rattle.bucket_state.specs.Laws.{SameHoldsTheSame, LinkStandsApart, WrittenInnerReadsBack, oid_back, with_link, branch_back, branches_back, inner_back}
 use Rattle.zb_record.specs.declared.error.RecordError.{RecordError}
 use Rattle.zb_record.specs.Alike.{GraphsAlike, AlikeIsKept}
-use Rattle.zb_record.specs.Class.{is_class}
+use Rattle.pickle_value.specs.Class.{is_class}
 use Rattle.zb_record.specs.Records.{record_of, object_text}
 use Rattle.btree_shapes.specs.declared.node.Node.{Node}
 use Rattle.btree_shapes.specs.declared.node.Node.TheVariants as node
@@ -245,12 +246,19 @@ module _ (apart : LinkStandsApart) (written : WrittenInnerReadsBack) where
       ap (text_reads_as class (put_of own leaves n)) s.written_as ∙ ap (reads_as class (put_of own leaves n)) s.reads ∙ (λ i. s.class_kept i && s.node_kept i)
 
   module _ (alike : AlikeIsKept) (holds : SameHoldsTheSame) where
+    -- graphs that are the same hold the same, as both hold what the graph holds of which they are copies
+    same_held : (g other : Graph) → AreSame g other → HoldSame other g
+    same_held g other s = record {
+      bucket = λ c. (holds c s.whole other s.second).0 ∙ sym (holds c s.whole g s.first).0;
+      tree = λ c. (holds c s.whole other s.second).1 ∙ sym (holds c s.whole g s.first).1;
+    }
+
     -- the other state is kept where its node moves with it
     moved : (class : Class) (own : Graph) (n m : Node) (g h : Graph) → IsGraph own.nodes own.root → IsGraph g.nodes g.root → GraphsAlike g h → ((o : Graph) → Transfers n m (node_of class o g) (node_of class o h)) → KeptSo class own n g → KeptSo class own m h
     moved class own n m g h own_is g_is a t s =
         let k = alike own g h s.text s.copy own_is g_is a s.written_as s.reads in
-        let one : HoldSame s.copy.1 g = record { bucket = λ c. (holds c g s.copy.1 k.same).0; tree = λ c. (holds c g s.copy.1 k.same).1 } in
-        let two : HoldSame k.other_copy h = record { bucket = λ c. (holds c h k.other_copy k.other_same).0; tree = λ c. (holds c h k.other_copy k.other_same).1 } in
+        let one : HoldSame s.copy.1 g = same_held g s.copy.1 k.same in
+        let two : HoldSame k.other_copy h = same_held h k.other_copy k.other_same in
         let here : is_copy n (node_of class s.copy.0 g) ≡ true = sym (ap (is_copy n) (node_same class s.copy.0 s.copy.1 g one)) ∙ s.node_kept in
         record {
           text = k.text;

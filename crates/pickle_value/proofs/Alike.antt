@@ -31,6 +31,22 @@ oid-alike origin x (Some (kinds.Bytes b)) h = absurd h
 oid-alike origin x (Some (kinds.OldText b)) h = absurd h
 oid-alike origin x old h = refl
 
+-- a reference among nodes whose references all name something names something
+pub form-of : (g : List Node) (xs : List Node) (i id : ℕ) (oids : List ℕ) → named_in g xs ≡ Some oids → slice_get xs i ≡ Some (kinds.Reference id) → has_form (name_of g id) ≡ true
+form-of g [] i id oids h e = absurd cc
+form-of g (kinds.Reference j ∷ xs) zero id oids h e =
+    let same : kinds.Reference j ≡ kinds.Reference id = cc in
+    let k : j ≡ id = cc in
+    ap (λ (n : ℕ). has_form (name_of g n)) (sym k) ∙ (split_name (name_of g j) (named_in g xs) oids h).form
+form-of g (kinds.Reference j ∷ xs) (suc i) id oids h e = let s = split_name (name_of g j) (named_in g xs) oids h in form-of g xs i id s.tail s.found e
+form-of g (x ∷ xs) zero id oids h e = absurd cc
+form-of g (x ∷ xs) (suc i) id oids h e = form-of g xs i id oids h e
+
+pub more-names : (n : Named) (oids : List ℕ) → has_form n ≡ true → (all_oids : List ℕ) × (with_name n (Some oids) ≡ Some all_oids)
+more-names (Strong oid) oids h = (oid ∷ oids, refl)
+more-names Weak oids h = (oids, refl)
+more-names Bad oids h = absurd cc
+
 module _ (origin : List ℕ) (g copy : List Node) (all : AllCopies origin g copy origin) where
   first-alike : (ns ms : List ℕ) → HaveOrigins origin ns ms → named_first copy ns ≡ named_first g ms
   first-alike [] [] h = refl
@@ -47,27 +63,11 @@ module _ (origin : List ℕ) (g copy : List Node) (all : AllCopies origin g copy
   by-alike x (Some (kinds.List ms)) h = absurd h
   by-alike x old h = oid-alike origin x old h
 
-  name-alike : (n m : ℕ) → HasOrigin origin n m → name_of copy n ≡ name_of g m
+  pub name-alike : (n m : ℕ) → HasOrigin origin n m → name_of copy n ≡ name_of g m
   name-alike n m h = let c = copied origin g copy origin n m all h in ap (named_by copy) c.here ∙ by-alike c.node (slice_get g m) c.is
 
-  -- a reference among nodes whose references all name something names something
-  form-of : (xs : List Node) (i id : ℕ) (oids : List ℕ) → named_in g xs ≡ Some oids → slice_get xs i ≡ Some (kinds.Reference id) → has_form (name_of g id) ≡ true
-  form-of [] i id oids h e = absurd cc
-  form-of (kinds.Reference j ∷ xs) zero id oids h e =
-      let same : kinds.Reference j ≡ kinds.Reference id = cc in
-      let k : j ≡ id = cc in
-      ap (λ (n : ℕ). has_form (name_of g n)) (sym k) ∙ (split_name (name_of g j) (named_in g xs) oids h).form
-  form-of (kinds.Reference j ∷ xs) (suc i) id oids h e = let s = split_name (name_of g j) (named_in g xs) oids h in form-of xs i id s.tail s.found e
-  form-of (x ∷ xs) zero id oids h e = absurd cc
-  form-of (x ∷ xs) (suc i) id oids h e = form-of xs i id oids h e
-
-  more-names : (n : Named) (oids : List ℕ) → has_form n ≡ true → (all_oids : List ℕ) × (with_name n (Some oids) ≡ Some all_oids)
-  more-names (Strong oid) oids h = (oid ∷ oids, refl)
-  more-names Weak oids h = (oids, refl)
-  more-names Bad oids h = absurd cc
-
   ref-form : (oids : List ℕ) (n k : ℕ) (old : Option Node) → named_in g g ≡ Some oids → slice_get g k ≡ old → IsCopy origin (kinds.Reference n) old → has_form (name_of copy n) ≡ true
-  ref-form oids n k (Some (kinds.Reference m)) h e c = ap has_form (name-alike n m c) ∙ form-of g k m oids h e
+  ref-form oids n k (Some (kinds.Reference m)) h e c = ap has_form (name-alike n m c) ∙ form-of g g k m oids h e
   ref-form oids n k _ h e c = absurd c
 
   in-alike : (oids : List ℕ) (xs : List Node) (ms : List ℕ) → named_in g g ≡ Some oids → AllCopies origin g xs ms → (told : List ℕ) × (named_in copy xs ≡ Some told)

@@ -29,7 +29,7 @@ use Rattle.pickle_value.specs.Laws.{ReadsSame, ReadsAnywhere, ReadsTooLarge, Wri
 use Rattle.pickle_value.proofs.Walks.{clash, not_true, has-head, has-append, walk-item}
 use Rattle.pickle_value.proofs.Runs.{read_from-stop}
 use Rattle.pickle_value.proofs.Going.{Goes, goes_token, stops_right}
-use Rattle.pickle_value.proofs.Standing.{Stands, at_end}
+use Rattle.pickle_value.proofs.Standing.{Stands, at_end, copies-length}
 use Rattle.pickle_value.proofs.Building.{Shown}
 use Rattle.pickle_value.proofs.Visits.{visit_node, visits, items-append, items-items}
 use Rattle.pickle_value.proofs.NodeTexts.{flat, pair_items}
@@ -78,7 +78,7 @@ acts-items n (Set key value ∷ acts) c h i = elim (has-head c key (value ∷ it
 ]
 acts-items n (Build state ∷ acts) c h i = elim (has-head c state (items_in (act_parts acts)) i) [ inl e ↦ let l = h.0 in omega (arith, e, l) | inr e ↦ acts-items n acts c h.1 e ]
 
-tuple-below : (ns : List Node) (m : ℕ) → is_tuple (slice_get ns m) ≡ true → m < length ns
+pub tuple-below : (ns : List Node) (m : ℕ) → is_tuple (slice_get ns m) ≡ true → m < length ns
 tuple-below [] m h = absurd cc
 tuple-below (x ∷ ns) zero h = omega arith
 tuple-below (x ∷ ns) (suc m) h = let l = tuple-below ns m h in omega (arith, l)
@@ -114,7 +114,7 @@ node-at ns (x ∷ rest) (suc m) h l = node-at ns rest m h.1 (omega (arith, l))
 
 module _ (sr : SpelledIsRead) (ns : List Node) (all : AreNodes ns ns) (shared : ℕ → Bool) where
   -- What is written of a node builds a copy of it.
-  piece-shown : (levels m : ℕ) (puts : List ℕ) → has_walk levels ns m ≡ false → m < length ns → Shown ns m (piece_of levels ns shared m puts) puts (visits levels ns shared m puts)
+  pub piece-shown : (levels m : ℕ) (puts : List ℕ) → has_walk levels ns m ≡ false → m < length ns → Shown ns m (piece_of levels ns shared m puts) puts (visits levels ns shared m puts)
   unfolding has_walk piece_of visits
   piece-shown zero m puts end below = absurd cc
   piece-shown (suc levels) m puts end below =
@@ -136,13 +136,13 @@ text_is a b e = cc
 deep_not : (text : List ℕ) → Err failures.TooDeep ≡ spelled text → ⊥
 deep_not text e = cc
 
-written : (g : Graph) (text : List ℕ) (deep : Bool) → pickled (cond deep (Err failures.TooDeep) (Ok (root_piece g.nodes g.root).text)) ≡ Ok text →
+pub written : (g : Graph) (text : List ℕ) (deep : Bool) → pickled (cond deep (Err failures.TooDeep) (Ok (root_piece g.nodes g.root).text)) ≡ Ok text →
     (deep ≡ false) × (text ≡ 0x80 ∷ 3 ∷ ((root_piece g.nodes g.root).text ++ 0x2e ∷ []))
 written g text true e = absurd (deep_not text e)
 written g text false e = (refl, sym (text_is (0x80 ∷ 3 ∷ ((root_piece g.nodes g.root).text ++ 0x2e ∷ [])) text e))
 
 module _ (sr : SpelledIsRead) where
-  proto_goes : (s : State) → Goes s (0x80 ∷ 3 ∷ []) s
+  pub proto_goes : (s : State) → Goes s (0x80 ∷ 3 ∷ []) s
   proto_goes s = goes_token sr s s (0x80 ∷ 3 ∷ []) ops.Proto (pos 3) (3 ∷ []) (record {
     token = record { row = record { byte = 0x80; op = ops.Proto; kind = args.Version }; argument = 3 ∷ []; listed = refl; named = refl; spelled = refl; says = (record { long = refl; says = refl; whole = refl }, omega arith) };
     front = 0x80 ∷ [];
@@ -157,7 +157,7 @@ module _ (sr : SpelledIsRead) where
   nothing_stands g = record { count = refl; tuples = λ i m e t. absurd cc; memo = λ m k e. absurd cc; few = omega arith; limit = omega arith }
 
   -- STOP, whatever follows
-  stop-read : (s : State) (v : ℕ) (below : List Item) (at : ℕ) (tail : List ℕ) → s.stack ≡ Value v ∷ below → read_from graphs 0 s at (0x2e ∷ tail) ≡ Ok (record { nodes = s.nodes; root = v }, at + 1)
+  pub stop-read : (s : State) (v : ℕ) (below : List Item) (at : ℕ) (tail : List ℕ) → s.stack ≡ Value v ∷ below → read_from graphs 0 s at (0x2e ∷ tail) ≡ Ok (record { nodes = s.nodes; root = v }, at + 1)
   stop-read s v below at tail e =
       read_from-stop graphs s at (0x2e ∷ tail) (spelled_token at (0x2e ∷ []) ops.Stop (pos 0) []).0 (at + 1) (sr at (0x2e ∷ []) tail ops.Stop (pos 0) [] stop_token) refl (omega arith) (omega arith)
       ∙ ap (root_of at (at + 1) s) e
@@ -177,6 +177,7 @@ module _ (sr : SpelledIsRead) where
             ap (read_from graphs 0 (empty_state NODE_LIMIT) at) split ∙ proto_goes (empty_state NODE_LIMIT) at (p.text ++ 0x2e ∷ tail) ∙ x.goes (at + 2) (0x2e ∷ tail)
             ∙ stop-read last x.number [] (at + 2 + length p.text) tail refl ∙ ap (λ (k : ℕ). Ok (copy, k)) end;
         same = record { origin = a.origins; each = x.copies; root = x.found; once = apart-times g.nodes a.origins (λ k held. let e = a.same k in let f = visits-once g.nodes g.root short k held in omega (arith, e, f)) };
+        few = let many = copies-length a.origins g.nodes x.nodes a.origins x.copies in omega (arith, many, a.size, room);
       }
 
   reads-same : (g : Graph) (text : List ℕ) → ReadsAnywhere g text → ReadsSame g text

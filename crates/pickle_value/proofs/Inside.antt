@@ -14,47 +14,38 @@ use Rattle.pickle_value.specs.declared.state.State.{State}
 use Rattle.pickle_value.specs.declared.state.Extent.TheVariants.{Marked, Top}
 use Rattle.pickle_value.specs.declared.state.Item.{Item}
 use Rattle.pickle_value.specs.declared.state.Item.TheVariants.{Value, Mark}
-use Rattle.pickle_value.specs.Graph.{AllBelow, is_tuple}
+use Rattle.pickle_value.specs.Graph.{is_tuple}
 use Rattle.pickle_value.specs.Stacks.{TakenValues, values_taken, node_at}
 use Rattle.pickle_value.specs.Leaves.{long_number, long_of, leaf_of}
 use Rattle.pickle_value.specs.Additions.{pairs_of, added}
 use Rattle.pickle_value.specs.Steps.{Outcome, make, popped, unmarked, doubled, tuple_of, changed, add_to, append_to, set_pairs, set_in, build_of, object_of, reference_of, put_of, get_of, act_of, leaf_or, step}
-use Rattle.pickle_value.specs.Sound.{StackBelow, MemoBelow}
+use Rattle.pickle_value.specs.Sound.{StackBelow, MemoBelow, TupleBelow, TuplesBelow}
 use Rattle.pickle_value.proofs.Sound.{all-more, stack-more, memo-more, TakenBelow, taken-below, put_at-below, ValueBelow, node_at-below}
 use Rattle.pickle_value.proofs.Grown.{After, either}
 
--- a tuple's items are below a number
-abbrev pub NodeInside : ℕ → Node → Type 0
-NodeInside n (kinds.Tuple items) = AllBelow n items
-NodeInside n _ = Unit {0}
-
-abbrev pub NodesInside : ℕ → List Node → Type 0
-NodesInside n [] = Unit {0}
-NodesInside n (x ∷ xs) = NodeInside n x × NodesInside n xs
-
 pub record Inside (s : State) : Type 0 where
-  pub tuples : NodesInside (length s.nodes) s.nodes
+  pub tuples : TuplesBelow (length s.nodes) s.nodes
   pub values : StackBelow (length s.nodes) s.stack
   pub puts : MemoBelow (length s.nodes) s.memo
 
-node-wider : (n m : ℕ) (x : Node) → n ≤ m → NodeInside n x → NodeInside m x
+node-wider : (n m : ℕ) (x : Node) → n ≤ m → TupleBelow n x → TupleBelow m x
 node-wider n m (kinds.Tuple items) le h = all-more n m items le h
 node-wider n m _ le h = tt
 
-nodes-wider : (n m : ℕ) (xs : List Node) → n ≤ m → NodesInside n xs → NodesInside m xs
+nodes-wider : (n m : ℕ) (xs : List Node) → n ≤ m → TuplesBelow n xs → TuplesBelow m xs
 nodes-wider n m [] le h = tt
 nodes-wider n m (x ∷ xs) le h = (node-wider n m x le h.0, nodes-wider n m xs le h.1)
 
-nodes-one_more : (n : ℕ) (xs : List Node) (x : Node) → NodesInside n xs → NodeInside n x → NodesInside n (xs ++ x ∷ [])
+nodes-one_more : (n : ℕ) (xs : List Node) (x : Node) → TuplesBelow n xs → TupleBelow n x → TuplesBelow n (xs ++ x ∷ [])
 nodes-one_more n [] x h k = (k, tt)
 nodes-one_more n (y ∷ xs) x h k = (h.0, nodes-one_more n xs x h.1 k)
 
-nodes-replaced : (n : ℕ) (xs : List Node) (i : ℕ) (x : Node) → NodesInside n xs → NodeInside n x → NodesInside n (slice_set xs i x)
+nodes-replaced : (n : ℕ) (xs : List Node) (i : ℕ) (x : Node) → TuplesBelow n xs → TupleBelow n x → TuplesBelow n (slice_set xs i x)
 nodes-replaced n [] i x h k = tt
 nodes-replaced n (y ∷ xs) zero x h k = (k, h.1)
 nodes-replaced n (y ∷ xs) (suc i) x h k = (h.0, nodes-replaced n xs i x h.1 k)
 
-make-inside : (at : ℕ) (x : Node) (s : State) → Inside s → NodeInside (length s.nodes) x → After Inside (make at x s)
+make-inside : (at : ℕ) (x : Node) (s : State) → Inside s → TupleBelow (length s.nodes) x → After Inside (make at x s)
 make-inside at x s h k =
     let n : length (s.nodes ++ x ∷ []) ≡ length s.nodes + 1 = length-append s.nodes (x ∷ []) in
     let wide : length s.nodes ≤ length (s.nodes ++ x ∷ []) = omega (arith, n) in
@@ -76,7 +67,7 @@ tuple_of-inside at s (Some found) h k = make-inside at (kinds.Tuple found.0) (re
 -- no tuple, if it is a node
 abbrev Additive : Option Node → Type 0
 Additive None = Unit {0}
-Additive (Some x) = (n : ℕ) → NodeInside n x
+Additive (Some x) = (n : ℕ) → TupleBelow n x
 
 added-additive : (addition : Addition) (found : Option Node) → Additive (added addition found)
 added-additive addition (Some (kinds.Object callee arguments by_new acts)) = λ n. tt
@@ -173,12 +164,12 @@ act_of-inside _ at number s h = tt
 -- a node that a token makes by itself
 abbrev LeafInside : ℕ → Option Node → Type 0
 LeafInside n None = Unit {0}
-LeafInside n (Some x) = NodeInside n x
+LeafInside n (Some x) = TupleBelow n x
 
-long-inside : (n : ℕ) (bytes : List ℕ) → NodeInside n (long_of bytes)
+long-inside : (n : ℕ) (bytes : List ℕ) → TupleBelow n (long_of bytes)
 long-inside n bytes = test (ltb 16 (length bytes))
   where
-    test : (b : Bool) → NodeInside n (cond b (kinds.Wide bytes) (kinds.Number (long_number bytes)))
+    test : (b : Bool) → TupleBelow n (cond b (kinds.Wide bytes) (kinds.Number (long_number bytes)))
     test true = tt
     test false = tt
 

@@ -30,5 +30,9 @@ pub mod Putting
 pub mod Tables
 pub mod Memos
 pub mod Shown
+pub mod Limits
+pub mod TwoPickles
+pub mod Looking
+pub mod Behind
 pub mod Partless
 pub mod PartPlaces

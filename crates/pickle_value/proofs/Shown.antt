@@ -1,6 +1,6 @@
 -- What a reader of references keeps shows what a reader of graphs keeps, token by token.
-use Rattle.std.proofs.Common.{◌≡◌, ℕ, ℤ, zero, suc, ◌<◌, Bool, true, false, cond, List, [], ◌∷◌, ◌++◌, length, Option, Some, None, Result, Ok, Err, refl, arith, sym, ◌∙◌, ap, ltb, eqb}
-use Rattle.std.specs.Prelude.{slice_get, slice_set, map}
+use Rattle.std.proofs.Common.{◌≡◌, ℕ, ℤ, zero, suc, ◌+◌, ◌<◌, Bool, true, false, cond, List, [], ◌∷◌, ◌++◌, length, Option, Some, None, Result, Ok, Err, refl, arith, sym, ◌∙◌, ap, subst, ltb, eqb}
+use Rattle.std.specs.Prelude.{slice_get, slice_set}
 use Rattle.std.specs.Option.{option_map}
 use Rattle.std.specs.Int.RustNames.{unsigned_abs}
 use Rattle.std.proofs.lemmas.Option.{slice_get-map}
@@ -34,37 +34,20 @@ use Rattle.pickle_value.specs.Stacks.{TakenValues, top_of, above_mark, top_value
 use Rattle.pickle_value.specs.Leaves.{long_number, long_of, leaf_of}
 use Rattle.pickle_value.specs.Additions.{with_pair, pairs_of, added}
 use Rattle.pickle_value.specs.Steps.{Outcome, make, popped, unmarked, doubled, tuple_of, changed, add_to, append_to, set_pairs, set_in, build_of, object_of, reference_of, put_of, get_of, act_of, leaf_or, step}
-use Rattle.pickle_value.specs.Reading.{empty_state}
-use Rattle.pickle_value.specs.References.{Finding, oid_in, oid_of, named_first, named_by, named_on, noted, named_by_token, noted_in, find}
-use Rattle.pickle_value.specs.Shapes.{tuple_shape, bytes_shape, named_as, first_as, lowest_as, is_tuple_shape, takes, leaf_shape, PassedValues, to_mark, past_top, values_passed}
+use Rattle.pickle_value.specs.declared.part.Finding.{Finding}
+use Rattle.pickle_value.specs.declared.reading.TheConstants.{NODE_LIMIT}
+use Rattle.pickle_value.specs.Class.{is_global, begins_with_global, is_class_node, is_class}
+use Rattle.pickle_value.specs.Reading.{begun}
+use Rattle.pickle_value.specs.References.{oid_in, oid_of, named_first, named_by, named_on, noted, named_by_token, noted_in, find}
+use Rattle.pickle_value.specs.Shapes.{tuple_shape, bytes_shape, named_as, lowest_as, is_tuple_shape, is_class_shape, takes, leaf_shape, PassedValues, to_mark, past_top, values_passed}
 use Rattle.pickle_value.specs.Sights.{Outlook, shown, kept_of, kept_in, shape_or, sight_act, sight_step}
 use Rattle.pickle_value.specs.Sights as sights
+use Rattle.pickle_value.specs.Shown.{own_shape, first_shape, shape_of, shapes_in, sight_with, sight_of}
 use Rattle.pickle_value.specs.Sound.{IsSoundState}
+use Rattle.pickle_value.proofs.Limits.{Limited, step-limited}
 use Rattle.pickle_value.proofs.Sound.{SoundAfter, TakenBelow, taken-below, step-sound}
 
 -- ---- what a graph shows
-
--- the shape of a node of a graph
-abbrev pub shape_of : List Node → Node → Shape
-shape_of ns (kinds.Tuple items) = tuple_shape (named_first ns items)
-shape_of ns (kinds.List items) = shapes.List
-shape_of ns (kinds.Dict pairs) = shapes.Dict
-shape_of ns (kinds.Object callee arguments by_new acts) = shapes.Object
-shape_of ns (kinds.Bytes bytes) = bytes_shape (oid_in bytes)
-shape_of ns (kinds.OldText bytes) = bytes_shape (oid_in bytes)
-shape_of ns _ = shapes.Other
-
--- the shapes of these nodes of a graph
-abbrev pub shapes_in : List Node → List Node → List Shape
-shapes_in ns xs = map (shape_of ns) xs
-
--- a state with these shapes and oids
-abbrev sight_with : State → List Shape → List ℕ → Sight
-sight_with s table oids = record { limit = s.limit; shapes = table; stack = s.stack; memo = s.memo; oids = oids }
-
--- what is kept where a graph was read so far
-abbrev pub sight_of : Finding → Sight
-sight_of f = sight_with f.state (shapes_in f.state.nodes f.state.nodes) f.oids
 
 -- what is kept, if there is anything
 abbrev pub sight_in : Result Finding PickleError → Outlook
@@ -95,15 +78,12 @@ oid_test P bytes h k = test (eqb (length bytes) 8)
 named-bytes : (bytes : List ℕ) → named_as (Some (bytes_shape (oid_in bytes))) ≡ oid_in bytes
 named-bytes bytes = oid_test (λ named. named_as (Some (bytes_shape named)) ≡ named) bytes refl refl
 
-first-bytes : (bytes : List ℕ) → first_as (Some (bytes_shape (oid_in bytes))) ≡ oid_in bytes
-first-bytes bytes = oid_test (λ named. first_as (Some (bytes_shape named)) ≡ named) bytes refl refl
-
-named-tuple : (found : Option Node) → named_as (Some (tuple_shape (oid_of found))) ≡ oid_of found
-named-tuple (Some (kinds.Bytes bytes)) = oid_test (λ named. named_as (Some (tuple_shape named)) ≡ named) bytes refl refl
-named-tuple (Some (kinds.OldText bytes)) = oid_test (λ named. named_as (Some (tuple_shape named)) ≡ named) bytes refl refl
+named-tuple : (found : Option Node) → named_as (Some (tuple_shape (option_map own_shape found))) ≡ oid_of found
+named-tuple (Some (kinds.Bytes bytes)) = oid_test (λ named. named_as (Some (tuple_shape (Some (bytes_shape named)))) ≡ named) bytes refl refl
+named-tuple (Some (kinds.OldText bytes)) = oid_test (λ named. named_as (Some (tuple_shape (Some (bytes_shape named)))) ≡ named) bytes refl refl
 named-tuple _ = refl
 
-named-first : (ns : List Node) (items : List ℕ) → named_as (Some (tuple_shape (named_first ns items))) ≡ named_first ns items
+named-first : (ns : List Node) (items : List ℕ) → named_as (Some (tuple_shape (first_shape ns items))) ≡ named_first ns items
 named-first ns [] = refl
 named-first ns (first ∷ rest) = named-tuple (slice_get ns first)
 
@@ -113,21 +93,10 @@ named-shape ns (Some (kinds.Bytes bytes)) = named-bytes bytes
 named-shape ns (Some (kinds.OldText bytes)) = named-bytes bytes
 named-shape ns _ = refl
 
-first-tuple : (named : Named) → first_as (Some (tuple_shape named)) ≡ Bad
-first-tuple (Strong oid) = refl
-first-tuple Weak = refl
-first-tuple Bad = refl
-
-first-shape : (ns : List Node) (found : Option Node) → first_as (option_map (shape_of ns) found) ≡ oid_of found
-first-shape ns (Some (kinds.Tuple items)) = first-tuple (named_first ns items)
-first-shape ns (Some (kinds.Bytes bytes)) = first-bytes bytes
-first-shape ns (Some (kinds.OldText bytes)) = first-bytes bytes
-first-shape ns _ = refl
-
-tuple-tuple : (named : Named) → is_tuple_shape (Some (tuple_shape named)) ≡ true
-tuple-tuple (Strong oid) = refl
-tuple-tuple Weak = refl
-tuple-tuple Bad = refl
+tuple-tuple : (first : Option Shape) → is_tuple_shape (Some (tuple_shape first)) ≡ true
+tuple-tuple (Some (shapes.Id oid)) = refl
+tuple-tuple (Some shapes.Global) = refl
+tuple-tuple _ = refl
 
 tuple-bytes : (named : Named) → is_tuple_shape (Some (bytes_shape named)) ≡ false
 tuple-bytes (Strong oid) = refl
@@ -135,10 +104,41 @@ tuple-bytes Weak = refl
 tuple-bytes Bad = refl
 
 tuple-shape : (ns : List Node) (found : Option Node) → is_tuple_shape (option_map (shape_of ns) found) ≡ is_tuple found
-tuple-shape ns (Some (kinds.Tuple items)) = tuple-tuple (named_first ns items)
+tuple-shape ns (Some (kinds.Tuple items)) = tuple-tuple (first_shape ns items)
 tuple-shape ns (Some (kinds.Bytes bytes)) = tuple-bytes (oid_in bytes)
 tuple-shape ns (Some (kinds.OldText bytes)) = tuple-bytes (oid_in bytes)
 tuple-shape ns _ = refl
+
+-- a tuple shows nothing as the first item of another
+tuple-plain : (first : Option Shape) → tuple_shape (Some (tuple_shape first)) ≡ shapes.Tuple
+tuple-plain (Some (shapes.Id oid)) = refl
+tuple-plain (Some shapes.Global) = refl
+tuple-plain _ = refl
+
+own-tuple : (ns : List Node) (found : Option Node) → tuple_shape (option_map (shape_of ns) found) ≡ tuple_shape (option_map own_shape found)
+own-tuple ns (Some (kinds.Tuple items)) = tuple-plain (first_shape ns items)
+own-tuple ns _ = refl
+
+-- ---- classes
+
+class-tuple : (found : Option Node) → is_class_shape (Some (tuple_shape (option_map own_shape found))) ≡ is_global found
+class-tuple (Some (kinds.Bytes bytes)) = oid_test (λ named. is_class_shape (Some (tuple_shape (Some (bytes_shape named)))) ≡ false) bytes refl refl
+class-tuple (Some (kinds.OldText bytes)) = oid_test (λ named. is_class_shape (Some (tuple_shape (Some (bytes_shape named)))) ≡ false) bytes refl refl
+class-tuple _ = refl
+
+class-first : (ns : List Node) (items : List ℕ) → is_class_shape (Some (tuple_shape (first_shape ns items))) ≡ begins_with_global ns items
+class-first ns [] = refl
+class-first ns (first ∷ rest) = class-tuple (slice_get ns first)
+
+class-shape : (ns : List Node) (found : Option Node) → is_class_shape (option_map (shape_of ns) found) ≡ is_class_node ns found
+class-shape ns (Some (kinds.Tuple items)) = class-first ns items
+class-shape ns (Some (kinds.Bytes bytes)) = oid_test (λ named. is_class_shape (Some (bytes_shape named)) ≡ false) bytes refl refl
+class-shape ns (Some (kinds.OldText bytes)) = oid_test (λ named. is_class_shape (Some (bytes_shape named)) ≡ false) bytes refl refl
+class-shape ns _ = refl
+
+-- whether the node of a number may be a class is seen by its shape
+pub class-seen : (ns : List Node) (root : ℕ) → is_class_shape (slice_get (shapes_in ns ns) root) ≡ is_class (record { nodes = ns; root = root })
+class-seen ns root = ap is_class_shape (get-in ns ns root) ∙ class-shape ns (slice_get ns root)
 
 -- ---- values that are passed
 
@@ -173,9 +173,9 @@ values-passed : (extent : Extent) (stack : List Item) → values_passed extent s
 values-passed Marked stack = mark-passed stack []
 values-passed (Top count) stack = top-passed count stack []
 
-lowest-named : (ns : List Node) (values : List ℕ) → lowest_as (shapes_in ns ns) (lowest_in values) ≡ named_first ns values
-lowest-named ns [] = refl
-lowest-named ns (v ∷ values) = ap first_as (get-in ns ns v) ∙ first-shape ns (slice_get ns v)
+lowest-shown : (ns : List Node) (values : List ℕ) → tuple_shape (lowest_as (shapes_in ns ns) (lowest_in values)) ≡ tuple_shape (first_shape ns values)
+lowest-shown ns [] = refl
+lowest-shown ns (v ∷ values) = ap tuple_shape (get-in ns ns v) ∙ own-tuple ns (slice_get ns v)
 
 -- one is left over
 abbrev left_over : Option (List (ℕ × ℕ)) → Bool
@@ -211,9 +211,9 @@ get-push [] node i h = absurd (omega arith)
 get-push (x ∷ ns) node zero h = refl
 get-push (x ∷ ns) node (suc i) h = get-push ns node i (omega arith)
 
-first-push : (ns : List Node) (node : Node) (items : List ℕ) → AllBelow (length ns) items → named_first (ns ++ node ∷ []) items ≡ named_first ns items
+first-push : (ns : List Node) (node : Node) (items : List ℕ) → AllBelow (length ns) items → first_shape (ns ++ node ∷ []) items ≡ first_shape ns items
 first-push ns node [] h = refl
-first-push ns node (i ∷ items) h = ap oid_of (get-push ns node i h.0)
+first-push ns node (i ∷ items) h = ap (option_map own_shape) (get-push ns node i h.0)
 
 shape-push : (ns : List Node) (node x : Node) → ItemsIn ns x → shape_of (ns ++ node ∷ []) x ≡ shape_of ns x
 shape-push ns node (kinds.Tuple items) h = ap tuple_shape (first-push ns node items h)
@@ -265,15 +265,16 @@ make-shown at node s oids h k = sym (kept-weak at _) ∙ make-named at node s oi
 
 -- ---- nodes that are changed
 
-oid-set : (ns : List Node) (n : ℕ) (node : Node) (i : ℕ) → oid_of (slice_get ns n) ≡ Bad → oid_of (Some node) ≡ Bad → oid_of (slice_get (slice_set ns n node) i) ≡ oid_of (slice_get ns i)
-oid-set [] n node i h k = refl
-oid-set (x ∷ ns) zero node zero h k = k ∙ sym h
-oid-set (x ∷ ns) zero node (suc i) h k = refl
-oid-set (x ∷ ns) (suc n) node zero h k = refl
-oid-set (x ∷ ns) (suc n) node (suc i) h k = oid-set ns n node i h k
+own-set : (ns : List Node) (n : ℕ) (node : Node) (i : ℕ) → option_map own_shape (slice_get ns n) ≡ Some (own_shape node) →
+    option_map own_shape (slice_get (slice_set ns n node) i) ≡ option_map own_shape (slice_get ns i)
+own-set [] n node i h = refl
+own-set (x ∷ ns) zero node zero h = sym h
+own-set (x ∷ ns) zero node (suc i) h = refl
+own-set (x ∷ ns) (suc n) node zero h = refl
+own-set (x ∷ ns) (suc n) node (suc i) h = own-set ns n node i h
 
-module _ (ns ms : List Node) (like : (i : ℕ) → oid_of (slice_get ms i) ≡ oid_of (slice_get ns i)) where
-  first-like : (items : List ℕ) → named_first ms items ≡ named_first ns items
+module _ (ns ms : List Node) (like : (i : ℕ) → option_map own_shape (slice_get ms i) ≡ option_map own_shape (slice_get ns i)) where
+  first-like : (items : List ℕ) → first_shape ms items ≡ first_shape ns items
   first-like [] = refl
   first-like (i ∷ items) = like i
 
@@ -298,27 +299,26 @@ adding_of (additions.Values values) = addings.Values
 adding_of (additions.Pairs pairs) = addings.Pairs
 adding_of (additions.State state) = addings.State
 
--- a node and the one that stands in its place, which are no oids
+-- a node and the one that stands in its place, which shows the same
 record Alike (ns : List Node) (adding : Adding) (found : Option Node) (node : Node) : Type 0 where
   taken : takes adding (option_map (shape_of ns) found) ≡ true
-  before : oid_of found ≡ Bad
-  behind : oid_of (Some node) ≡ Bad
+  own : option_map own_shape found ≡ Some (own_shape node)
   shape : option_map (shape_of ns) found ≡ Some (shape_of ns node)
 
 abbrev Adds : List Node → Adding → Option Node → Option Node → Type 0
 Adds ns adding found None = takes adding (option_map (shape_of ns) found) ≡ false
 Adds ns adding found (Some node) = Alike ns adding found node
 
-takes-tuple : (adding : Adding) (named : Named) → takes adding (Some (tuple_shape named)) ≡ false
-takes-tuple addings.Values (Strong oid) = refl
-takes-tuple addings.Values Weak = refl
-takes-tuple addings.Values Bad = refl
-takes-tuple addings.Pairs (Strong oid) = refl
-takes-tuple addings.Pairs Weak = refl
-takes-tuple addings.Pairs Bad = refl
-takes-tuple addings.State (Strong oid) = refl
-takes-tuple addings.State Weak = refl
-takes-tuple addings.State Bad = refl
+takes-tuple : (adding : Adding) (first : Option Shape) → takes adding (Some (tuple_shape first)) ≡ false
+takes-tuple addings.Values (Some (shapes.Id oid)) = refl
+takes-tuple addings.Values (Some shapes.Global) = refl
+takes-tuple addings.Values _ = refl
+takes-tuple addings.Pairs (Some (shapes.Id oid)) = refl
+takes-tuple addings.Pairs (Some shapes.Global) = refl
+takes-tuple addings.Pairs _ = refl
+takes-tuple addings.State (Some (shapes.Id oid)) = refl
+takes-tuple addings.State (Some shapes.Global) = refl
+takes-tuple addings.State _ = refl
 
 takes-bytes : (adding : Adding) (named : Named) → takes adding (Some (bytes_shape named)) ≡ false
 takes-bytes addings.Values (Strong oid) = refl
@@ -332,14 +332,14 @@ takes-bytes addings.State Weak = refl
 takes-bytes addings.State Bad = refl
 
 adds : (ns : List Node) (addition : Addition) (found : Option Node) → Adds ns (adding_of addition) found (added addition found)
-adds ns (additions.Values values) (Some (kinds.Object callee arguments by_new acts)) = record { taken = refl; before = refl; behind = refl; shape = refl }
-adds ns (additions.Pairs pairs) (Some (kinds.Object callee arguments by_new acts)) = record { taken = refl; before = refl; behind = refl; shape = refl }
-adds ns (additions.State state) (Some (kinds.Object callee arguments by_new acts)) = record { taken = refl; before = refl; behind = refl; shape = refl }
-adds ns (additions.Values values) (Some (kinds.List items)) = record { taken = refl; before = refl; behind = refl; shape = refl }
-adds ns (additions.Pairs new) (Some (kinds.Dict pairs)) = record { taken = refl; before = refl; behind = refl; shape = refl }
-adds ns (additions.Values values) (Some (kinds.Tuple items)) = takes-tuple addings.Values (named_first ns items)
-adds ns (additions.Pairs pairs) (Some (kinds.Tuple items)) = takes-tuple addings.Pairs (named_first ns items)
-adds ns (additions.State state) (Some (kinds.Tuple items)) = takes-tuple addings.State (named_first ns items)
+adds ns (additions.Values values) (Some (kinds.Object callee arguments by_new acts)) = record { taken = refl; own = refl; shape = refl }
+adds ns (additions.Pairs pairs) (Some (kinds.Object callee arguments by_new acts)) = record { taken = refl; own = refl; shape = refl }
+adds ns (additions.State state) (Some (kinds.Object callee arguments by_new acts)) = record { taken = refl; own = refl; shape = refl }
+adds ns (additions.Values values) (Some (kinds.List items)) = record { taken = refl; own = refl; shape = refl }
+adds ns (additions.Pairs new) (Some (kinds.Dict pairs)) = record { taken = refl; own = refl; shape = refl }
+adds ns (additions.Values values) (Some (kinds.Tuple items)) = takes-tuple addings.Values (first_shape ns items)
+adds ns (additions.Pairs pairs) (Some (kinds.Tuple items)) = takes-tuple addings.Pairs (first_shape ns items)
+adds ns (additions.State state) (Some (kinds.Tuple items)) = takes-tuple addings.State (first_shape ns items)
 adds ns (additions.Values values) (Some (kinds.Bytes bytes)) = takes-bytes addings.Values (oid_in bytes)
 adds ns (additions.Pairs pairs) (Some (kinds.Bytes bytes)) = takes-bytes addings.Pairs (oid_in bytes)
 adds ns (additions.State state) (Some (kinds.Bytes bytes)) = takes-bytes addings.State (oid_in bytes)
@@ -355,7 +355,7 @@ changed-shown : (at : ℕ) (s : State) (oids : List ℕ) (n : ℕ) (below : List
 changed-shown at s oids n below adding None h = rw h refl
 changed-shown at s oids n below adding (Some node) h =
     let taken = h.taken in
-    let like : (i : ℕ) → oid_of (slice_get (slice_set s.nodes n node) i) ≡ oid_of (slice_get s.nodes i) = λ i. oid-set s.nodes n node i h.before h.behind in
+    let like : (i : ℕ) → option_map own_shape (slice_get (slice_set s.nodes n node) i) ≡ option_map own_shape (slice_get s.nodes i) = λ i. own-set s.nodes n node i h.own in
     let e = shapes-set s.nodes (slice_set s.nodes n node) like s.nodes n node h.shape in
     ap (λ (b : Bool). cond b (Ok (sight_of (found_in (record s { stack = Value n ∷ below }) oids))) (Err (errors.Stack at))) taken
     ∙ ap (λ (l : List Shape). Ok (sight_with (record s { stack = Value n ∷ below }) l oids)) (sym e)
@@ -378,7 +378,7 @@ tuple_of-shown : (at : ℕ) (s : State) (oids : List ℕ) (found : TakenValues) 
     Shows at oids (sights.tuple_of at (sight_of (found_in s oids)) (passed_of found)) (tuple_of at s found)
 tuple_of-shown at s oids None h k = refl
 tuple_of-shown at s oids (Some found) h k =
-    ap (λ (named : Named). shown at (tuple_shape named) (sight_of (found_in (record s { stack = found.1 }) oids))) (lowest-named s.nodes found.0)
+    ap (λ (shape : Shape). shown at shape (sight_of (found_in (record s { stack = found.1 }) oids))) (lowest-shown s.nodes found.0)
     ∙ make-shown at (kinds.Tuple found.0) (record s { stack = found.1 }) oids h k.0
 
 append_to-shown : (at : ℕ) (s : State) (oids : List ℕ) (found : TakenValues) → Shows at oids (sights.append_to at (sight_of (found_in s oids)) (passed_of found)) (append_to at s found)
@@ -539,42 +539,48 @@ step-shown op at number bytes f sound =
 
 -- ---- runs
 
--- nothing was read yet
-pub begins : (s : Sight) (limit : ℕ) → s.limit ≡ limit → s.shapes ≡ [] → s.stack ≡ [] → s.memo ≡ [] → s.oids ≡ [] → s ≡ sight_of (found_in (empty_state limit) [])
-begins s limit a b c d e =
+-- a reader begins with the shapes of the nodes that were left
+pub begins : (s : Sight) (nodes : List Node) (memo : List (ℕ × ℕ)) → s.limit ≡ NODE_LIMIT + length nodes → s.shapes ≡ shapes_in nodes nodes → s.stack ≡ [] → s.memo ≡ memo → s.oids ≡ [] →
+    s ≡ sight_of (found_in (begun NODE_LIMIT nodes memo) [])
+begins s nodes memo a b c d e =
     ap (λ (x : ℕ). record { limit = x; shapes = s.shapes; stack = s.stack; memo = s.memo; oids = s.oids }) a
-    ∙ ap (λ (x : List Shape). record { limit = limit; shapes = x; stack = s.stack; memo = s.memo; oids = s.oids }) b
-    ∙ ap (λ (x : List Item). record { limit = limit; shapes = []; stack = x; memo = s.memo; oids = s.oids }) c
-    ∙ ap (λ (x : List (ℕ × ℕ)). record { limit = limit; shapes = []; stack = []; memo = x; oids = s.oids }) d
-    ∙ ap (λ (x : List ℕ). record { limit = limit; shapes = []; stack = []; memo = []; oids = x }) e
+    ∙ ap (λ (x : List Shape). record { limit = NODE_LIMIT + length nodes; shapes = x; stack = s.stack; memo = s.memo; oids = s.oids }) b
+    ∙ ap (λ (x : List Item). record { limit = NODE_LIMIT + length nodes; shapes = shapes_in nodes nodes; stack = x; memo = s.memo; oids = s.oids }) c
+    ∙ ap (λ (x : List (ℕ × ℕ)). record { limit = NODE_LIMIT + length nodes; shapes = shapes_in nodes nodes; stack = []; memo = x; oids = s.oids }) d
+    ∙ ap (λ (x : List ℕ). record { limit = NODE_LIMIT + length nodes; shapes = shapes_in nodes nodes; stack = []; memo = memo; oids = x }) e
 
 -- what is known of what was read, if it was
-abbrev SoundFound : Result Finding PickleError → Type 0
-SoundFound (Ok f) = IsSoundState f.state
-SoundFound (Err e) = Unit {0}
+abbrev pub SoundFound : ℕ → Result Finding PickleError → Type 0
+SoundFound most (Ok f) = IsSoundState f.state × (f.state.limit ≡ most)
+SoundFound most (Err e) = Unit {0}
 
-noted-sound : (at : ℕ) (oids : List ℕ) (named : Named) (outcome : Outcome) → SoundAfter outcome → SoundFound (noted_in at oids named outcome)
-noted-sound at oids (Strong oid) (Ok s) h = h
-noted-sound at oids Weak (Ok s) h = h
-noted-sound at oids Bad (Ok s) h = tt
-noted-sound at oids named (Err e) h = tt
+noted-sound : (most at : ℕ) (oids : List ℕ) (named : Named) (outcome : Outcome) → SoundAfter outcome → Limited most outcome → SoundFound most (noted_in at oids named outcome)
+noted-sound most at oids (Strong oid) (Ok s) h k = (h, k)
+noted-sound most at oids Weak (Ok s) h k = (h, k)
+noted-sound most at oids Bad (Ok s) h k = tt
+noted-sound most at oids named (Err e) h k = tt
 
 -- what was read where a token was done
-pub record Found (new : Sight) (read : Result Finding PickleError) : Type 0 where
+pub record Found (most : ℕ) (new : Sight) (read : Result Finding PickleError) : Type 0 where
   pub finding : Finding
   pub reads : read ≡ Ok finding
   pub shows : new ≡ sight_of finding
   pub sound : IsSoundState finding.state
+  pub limit : finding.state.limit ≡ most
 
-found : (new : Sight) (read : Result Finding PickleError) → SoundFound read → sight_in read ≡ Ok new → Found new read
-found new (Ok f) h e = let same : sight_of f ≡ new = cc in record { finding = f; reads = refl; shows = sym same; sound = h }
-found new (Err x) h e = absurd cc
+found : (most : ℕ) (new : Sight) (read : Result Finding PickleError) → SoundFound most read → sight_in read ≡ Ok new → Found most new read
+found most new (Ok f) h e = let same : sight_of f ≡ new = cc in record { finding = f; reads = refl; shows = sym same; sound = h.0; limit = h.1 }
+found most new (Err x) h e = absurd cc
+
+-- a token keeps what was found sound, within the same limit
+pub find-sound : (op : Op) (at : ℕ) (number : ℤ) (bytes : List ℕ) (f : Finding) → AreBytes bytes → Fits op number bytes → IsSoundState f.state → SoundFound f.state.limit (find op at number bytes f)
+find-sound op at number bytes f are fits sound =
+    noted-sound f.state.limit at f.oids (named_by_token op f.state.nodes f.state.stack) (step op at number bytes f.state) (step-sound op at number bytes f.state are fits sound) (step-limited op at number bytes f.state)
 
 pub step-found : (op : Op) (at : ℕ) (number : ℤ) (bytes : List ℕ) (f : Finding) (old new : Sight) → AreBytes bytes → Fits op number bytes → IsSoundState f.state → old ≡ sight_of f →
-    sight_step op at number bytes old ≡ Ok new → Found new (find op at number bytes f)
+    sight_step op at number bytes old ≡ Ok new → Found f.state.limit new (find op at number bytes f)
 step-found op at number bytes f old new are fits sound is e =
-    found new (find op at number bytes f)
-    (noted-sound at f.oids (named_by_token op f.state.nodes f.state.stack) (step op at number bytes f.state) (step-sound op at number bytes f.state are fits sound))
+    found f.state.limit new (find op at number bytes f) (find-sound op at number bytes f are fits sound)
     (sym (step-shown op at number bytes f sound) ∙ ap (sight_step op at number bytes) (sym is) ∙ e)
 
 refused-in : (read : Result Finding PickleError) (e : PickleError) → sight_in read ≡ Err e → read ≡ Err e
@@ -583,3 +589,7 @@ refused-in (Err x) e h = let same : x ≡ e = cc in ap Err same
 
 pub step-refused : (op : Op) (at : ℕ) (number : ℤ) (bytes : List ℕ) (f : Finding) (old : Sight) (e : PickleError) → IsSoundState f.state → old ≡ sight_of f → sight_step op at number bytes old ≡ Err e → find op at number bytes f ≡ Err e
 step-refused op at number bytes f old e sound is h = refused-in (find op at number bytes f) e (sym (step-shown op at number bytes f sound) ∙ ap (sight_step op at number bytes) (sym is) ∙ h)
+
+pub sound-on : (most : ℕ) (read : Result Finding PickleError) (f : Finding) → SoundFound most read → read ≡ Ok f → IsSoundState f.state × (f.state.limit ≡ most)
+sound-on most (Ok x) f h e = let same : x ≡ f = cc in subst (λ (y : Finding). IsSoundState y.state × (y.state.limit ≡ most)) same h
+sound-on most (Err x) f h e = absurd cc

@@ -232,19 +232,24 @@ either true x y h k = h
 either false x y h k = k
 
 make-sound : (at : ℕ) (node : Node) (s : State) → IsSoundState s → IsNode s.nodes node → SoundAfter (make at node s)
-make-sound at node s h k =
-    let g : Grows s.nodes (s.nodes ++ node ∷ []) = grows-push s.nodes node in
-    let n : length (s.nodes ++ node ∷ []) ≡ length s.nodes + 1 = push-length s.nodes node in
-    let sound : IsSoundState (record s { nodes = s.nodes ++ node ∷ []; stack = Value (length s.nodes) ∷ s.stack }) = record {
-      nodes = nodes-push (s.nodes ++ node ∷ []) s.nodes node (nodes-more s.nodes _ s.nodes g h.nodes) (node-more s.nodes _ node g k);
-      values = (omega (arith, n), stack-more (length s.nodes) _ s.stack g.longer h.values);
-      puts = memo-more (length s.nodes) _ s.memo g.longer h.puts;
-    } in
-    either (ltb (length s.nodes) s.limit) _ (Err (errors.TooLarge at)) sound tt
+make-sound at node s h k = test (ltb (length s.nodes) s.limit) refl
+  where
+    test : (b : Bool) → ltb (length s.nodes) s.limit ≡ b → SoundAfter (cond b (Ok (record s { nodes = s.nodes ++ node ∷ []; stack = Value (length s.nodes) ∷ s.stack })) (Err (errors.TooLarge at)))
+    test true e =
+        let g : Grows s.nodes (s.nodes ++ node ∷ []) = grows-push s.nodes node in
+        let n : length (s.nodes ++ node ∷ []) ≡ length s.nodes + 1 = push-length s.nodes node in
+        let less = ltb-true (length s.nodes) s.limit e in
+        record {
+          nodes = nodes-push (s.nodes ++ node ∷ []) s.nodes node (nodes-more s.nodes _ s.nodes g h.nodes) (node-more s.nodes _ node g k);
+          values = (omega (arith, n), stack-more (length s.nodes) _ s.stack g.longer h.values);
+          puts = memo-more (length s.nodes) _ s.memo g.longer h.puts;
+          few = omega (arith, n, less);
+        }
+    test false e = tt
 
 -- the same state with another stack
 restacked : (s : State) (stack : List Item) → IsSoundState s → StackBelow (length s.nodes) stack → IsSoundState (record s { stack = stack })
-restacked s stack h k = record { nodes = h.nodes; values = k; puts = h.puts }
+restacked s stack h k = record { nodes = h.nodes; values = k; puts = h.puts; few = h.few }
 
 tuple_of-sound : (at : ℕ) (s : State) (found : TakenValues) → IsSoundState s → TakenBelow (length s.nodes) found → SoundAfter (tuple_of at s found)
 tuple_of-sound at s None h k = tt
@@ -258,6 +263,7 @@ changed-sound at s n below (Some node) h l b k =
       nodes = nodes-more s.nodes _ _ g (nodes-set s.nodes s.nodes n node h.nodes k.0);
       values = (omega (arith, l, g.longer), stack-more (length s.nodes) _ below g.longer b);
       puts = memo-more (length s.nodes) _ s.memo g.longer h.puts;
+      few = let e = length-set s.nodes n node in omega (arith, e, h.few);
     }
 
 add_to-sound : (at : ℕ) (s : State) (addition : Addition) (stack : List Item) → IsSoundState s → AdditionBelow (length s.nodes) addition → StackBelow (length s.nodes) stack → SoundAfter (add_to at s addition stack)
@@ -317,7 +323,7 @@ put_at-below n (e ∷ es) number v h k =
     by_order n (nat_cmp number e.0) ((number, v) ∷ e ∷ es) ((e.0, v) ∷ es) (e ∷ insert_entry nat_cmp es number v) (k, (h.0, h.1)) (k, h.1) (h.0, put_at-below n es number v h.1 k)
 
 put_of-sound : (at number : ℕ) (s : State) (stack : List Item) → IsSoundState s → StackBelow (length s.nodes) stack → SoundAfter (put_of at number s stack)
-put_of-sound at number s (Value v ∷ below) h k = record { nodes = h.nodes; values = h.values; puts = put_at-below (length s.nodes) s.memo number v h.puts k.0 }
+put_of-sound at number s (Value v ∷ below) h k = record { nodes = h.nodes; values = h.values; puts = put_at-below (length s.nodes) s.memo number v h.puts k.0; few = h.few }
 put_of-sound at number s _ h k = tt
 
 -- a number of a node, if there is one

@@ -1,12 +1,13 @@
 -- Laws of writing.
-use Rattle.std.specs.Prelude.{ℕ, ◌+◌, ◌++◌, ◌≤◌, ◌<◌, ◌≡◌, true, List, length, Ok, Err}
+use Rattle.std.specs.Prelude.{ℕ, ◌+◌, ◌++◌, ◌≤◌, ◌<◌, ◌≡◌, true, List, length, Some, Ok, Err}
 use Rattle.pickle_value.specs.declared.error.PickleError.TheVariants.{TooLarge}
 use Rattle.pickle_value.specs.declared.depth.TheConstants.{WALK_LIMIT}
 use Rattle.pickle_value.specs.declared.reading.TheConstants.{NODE_LIMIT}
 use Rattle.pickle_value.specs.declared.node.Node.{Node}
 use Rattle.pickle_value.specs.Graph.{Graph, IsGraph}
-use Rattle.pickle_value.specs.Reading.{graph_at}
-use Rattle.pickle_value.specs.Same.{IsSame}
+use Rattle.pickle_value.specs.Reading.{graph_at, graph_behind}
+use Rattle.pickle_value.specs.Named.{oids_of, oids_behind}
+use Rattle.pickle_value.specs.Same.{IsSame, AreSame}
 use Rattle.pickle_value.specs.Spelling.{root_piece, pickle_text}
 use Rattle.pickle_value.specs.Walks.{IsCyclic, has_walk}
 
@@ -35,10 +36,33 @@ pub record ReadsAnywhere (g : Graph) (text : List ℕ) : Type 0 where
   pub copy : Graph
   pub reads : (at : ℕ) (tail : List ℕ) → graph_at NODE_LIMIT at (text ++ tail) ≡ Ok (copy, at + length text)
   pub same : IsSame g copy
+  pub few : length copy.nodes ≤ NODE_LIMIT
 
 abbrev pub WrittenReadsAnywhere : Type 0
 WrittenReadsAnywhere =
     (g : Graph) (text : List ℕ) → IsGraph g.nodes g.root → pickle_text g ≡ Ok text → (root_piece g.nodes g.root).made ≤ NODE_LIMIT → ReadsAnywhere g text
+
+-- Behind a pickle that left these nodes and this memo, the text reads as the same graph at each place, whatever follows; and
+-- where all references of the graph name something, so do those that were read.
+pub record ReadsBehind (nodes : List Node) (memo : List (ℕ × ℕ)) (g : Graph) (text : List ℕ) : Type 0 where
+  pub copy : Graph
+  pub reads : (at : ℕ) (tail : List ℕ) → graph_behind nodes memo at (text ++ tail) ≡ Ok (copy, at + length text)
+  pub same : AreSame g copy
+  pub named : (oids : List ℕ) → oids_of g ≡ Some oids → (told : List ℕ) × (oids_behind (length nodes) copy ≡ Some told)
+
+-- there the text is refused at some place, as it makes too many nodes
+abbrev pub RefusedBehind : List Node → List (ℕ × ℕ) → List ℕ → Type 0
+RefusedBehind nodes memo text = (at : ℕ) (tail : List ℕ) → (place : ℕ) × (graph_behind nodes memo at (text ++ tail) ≡ Err (TooLarge place))
+
+-- what is written gets nothing that it did not put, so it reads back the same behind another pickle
+pub record ReadsBackBehind (nodes : List Node) (memo : List (ℕ × ℕ)) (g : Graph) (text : List ℕ) : Type 0 where
+  pub within : (root_piece g.nodes g.root).made ≤ NODE_LIMIT → ReadsBehind nodes memo g text
+  pub beyond : NODE_LIMIT < (root_piece g.nodes g.root).made → RefusedBehind nodes memo text
+
+abbrev pub WrittenReadsBehind : Type 0
+WrittenReadsBehind =
+    (before g : Graph) (copy : Graph) (memo : List (ℕ × ℕ)) (text : List ℕ) → IsSame before copy → length copy.nodes ≤ NODE_LIMIT →
+    IsGraph g.nodes g.root → pickle_text g ≡ Ok text → ReadsBackBehind copy.nodes memo g text
 
 -- in a cyclic graph a walk of more edges than the limit starts at the root
 abbrev pub CyclicIsTooDeep : Type 0

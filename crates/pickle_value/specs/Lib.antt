@@ -5,9 +5,11 @@ pub mod Additions
 pub mod Steps
 pub mod Reading
 pub mod Sound
+pub mod Class
 pub mod References
 pub mod Shapes
 pub mod Sights
+pub mod Shown
 pub mod Parts
 pub mod Walks
 pub mod Shared
@@ -16,5 +18,5 @@ pub mod Same
 pub mod Numbers
 pub mod Writing
 pub mod Putting
-pub mod Laws
 pub mod Named
+pub mod Laws

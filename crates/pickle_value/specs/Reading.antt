@@ -1,5 +1,5 @@
 -- Reading: the tokens up to the first STOP, each in its turn.
-use Rattle.std.specs.Prelude.{ℕ, zero, suc, ◌+◌, ◌-◌, ℤ, List, [], ◌∷◌, Bool, true, false, Result, Ok, Err, take, drop, if◌then◌else◌}
+use Rattle.std.specs.Prelude.{ℕ, zero, suc, ◌+◌, ◌-◌, ℤ, List, [], ◌∷◌, length, Bool, true, false, Result, Ok, Err, take, drop, if◌then◌else◌}
 use Rattle.pickle_ops.specs.declared.table.Op.{Op}
 use Rattle.pickle_ops.specs.declared.table.Op.TheVariants as ops
 use Rattle.pickle_ops.specs.declared.token.Token.{Token}
@@ -8,7 +8,9 @@ use Rattle.pickle_ops.specs.declared.token.TokenError.TheVariants as faults
 use Rattle.pickle_ops.specs.Tokens.{token_at}
 use Rattle.pickle_value.specs.declared.error.PickleError.{PickleError}
 use Rattle.pickle_value.specs.declared.error.PickleError.TheVariants as errors
+use Rattle.pickle_value.specs.declared.node.Node.{Node}
 use Rattle.pickle_value.specs.declared.pickle.Pickle.{Pickle}
+use Rattle.pickle_value.specs.declared.reading.TheConstants.{NODE_LIMIT}
 use Rattle.pickle_value.specs.declared.state.Item.{Item}
 use Rattle.pickle_value.specs.declared.state.Item.TheVariants.{Value}
 use Rattle.pickle_value.specs.declared.state.State.{State}
@@ -64,3 +66,12 @@ empty_state limit = record { limit = limit; nodes = []; stack = []; memo = [] }
 -- the graph of the bytes behind a place, of so many nodes at most, and the place behind it; or the refusal
 abbrev pub graph_at : ℕ → ℕ → List ℕ → Result (Pickle × ℕ) PickleError
 graph_at limit at bytes = read_from graphs 0 (empty_state limit) at bytes
+
+-- What the reader of the next pickle begins with: the nodes and the memo that the pickle before left, and an empty stack. So
+-- many nodes more may come.
+abbrev pub begun : ℕ → List Node → List (ℕ × ℕ) → State
+begun limit nodes memo = record { limit = limit + length nodes; nodes = nodes; stack = []; memo = memo }
+
+-- the graph of the bytes behind a place, behind a pickle that left these nodes and this memo
+abbrev pub graph_behind : List Node → List (ℕ × ℕ) → ℕ → List ℕ → Result (Pickle × ℕ) PickleError
+graph_behind nodes memo at bytes = read_from graphs 0 (begun NODE_LIMIT nodes memo) at bytes

@@ -1,5 +1,5 @@
--- References: the oids that the persistent ids of a pickle name.
-use Rattle.std.specs.Prelude.{ℕ, ℤ, List, [], ◌∷◌, ◌++◌, Option, Some, Result, Ok, Err, length, slice_get, ◌==◌, if◌then◌else◌}
+-- What a pickle says: its graph, and the oids that its persistent ids name.
+use Rattle.std.specs.Prelude.{ℕ, ℤ, List, [], ◌∷◌, ◌++◌, Option, Some, Result, Ok, Err, length, drop, slice_get, ◌==◌, if◌then◌else◌}
 use Rattle.byteorder.specs.Endian.{big_number}
 use Rattle.pickle_ops.specs.declared.table.Op.{Op}
 use Rattle.pickle_ops.specs.declared.table.Op.TheVariants as ops
@@ -7,18 +7,19 @@ use Rattle.pickle_value.specs.declared.error.PickleError.{PickleError}
 use Rattle.pickle_value.specs.declared.error.PickleError.TheVariants as errors
 use Rattle.pickle_value.specs.declared.node.Node.{Node}
 use Rattle.pickle_value.specs.declared.node.Node.TheVariants as kinds
+use Rattle.pickle_value.specs.declared.pair.Pair.{Pair}
+use Rattle.pickle_value.specs.declared.pair.PairReferences.{PairReferences}
+use Rattle.pickle_value.specs.declared.part.Finding.{Finding}
+use Rattle.pickle_value.specs.declared.part.Part.{Part}
+use Rattle.pickle_value.specs.declared.reading.TheConstants.{NODE_LIMIT}
 use Rattle.pickle_value.specs.declared.references.Named.{Named}
 use Rattle.pickle_value.specs.declared.references.Named.TheVariants.{Strong, Weak, Bad}
 use Rattle.pickle_value.specs.declared.state.Item.{Item}
 use Rattle.pickle_value.specs.declared.state.Item.TheVariants.{Value}
 use Rattle.pickle_value.specs.declared.state.State.{State}
+use Rattle.pickle_value.specs.Class.{is_class}
 use Rattle.pickle_value.specs.Steps.{step}
-use Rattle.pickle_value.specs.Reading.{Reader, read_from, empty_state}
-
--- what was read, and the oids so far
-pub record Finding : Type 0 where
-  pub state : State
-  pub oids : List ℕ
+use Rattle.pickle_value.specs.Reading.{Reader, read_from, go_on, begun}
 
 -- an oid is eight bytes, the highest first
 abbrev pub oid_in : List ℕ → Named
@@ -67,15 +68,58 @@ abbrev pub find : Op → ℕ → ℤ → List ℕ → Finding → Result Finding
 find op at number bytes f =
     noted_in at f.oids (named_by_token op f.state.nodes f.state.stack) (step op at number bytes f.state)
 
--- at STOP a value has to stand on the top
-abbrev pub oids_at : ℕ → ℕ → List ℕ → List Item → Result (List ℕ × ℕ) PickleError
-oids_at at next oids (Value v ∷ below) = Ok (oids, next)
-oids_at at next oids _ = Err (errors.Stack at)
+-- What a pickle says, and the memo that it leaves.
+abbrev pub Left : Type 0
+Left = Part × List (ℕ × ℕ)
 
--- the reader of references
-abbrev pub references : Reader Finding (List ℕ × ℕ)
-references = record { turn = find; finish = λ at next f. oids_at at next f.oids f.state.stack }
+-- what was found, with a root and the place behind the pickle
+abbrev pub left_with : Finding → ℕ → ℕ → Left
+left_with f root next = (record { pickle = record { nodes = f.state.nodes; root = root }; oids = f.oids; behind = next }, f.state.memo)
+
+-- at STOP the value on the top is the root
+abbrev pub root_at : ℕ → List Item → Result ℕ PickleError
+root_at at (Value v ∷ below) = Ok v
+root_at at _ = Err (errors.Stack at)
+
+-- what was found, with its root
+abbrev pub left_of : ℕ → ℕ → Finding → List Item → Result Left PickleError
+left_of at next f (Value v ∷ below) = Ok (left_with f v next)
+left_of at next f _ = Err (errors.Stack at)
+
+-- the reader of what a pickle says
+abbrev pub parts : Reader Finding Left
+parts = record { turn = find; finish = λ at next f. left_of at next f f.state.stack }
+
+-- What the pickle behind a place says, behind one that left these nodes and this memo; or the refusal of its first token
+-- that has one. Of its nodes those that were left come first.
+abbrev pub part_at : List Node → List (ℕ × ℕ) → ℕ → List ℕ → Result Left PickleError
+part_at nodes memo at bytes = read_from parts 0 (record { state = begun NODE_LIMIT nodes memo; oids = [] }) at bytes
+
+-- the oids, and the place behind the pickle
+abbrev pub told_in : Result Left PickleError → Result (List ℕ × ℕ) PickleError
+told_in (Ok left) = Ok (left.0.oids, left.0.behind)
+told_in (Err e) = Err e
 
 -- the oids in the bytes behind a place, in the order of their tokens, and the place behind the pickle; or the refusal
-abbrev pub oids_from : ℕ → ℕ → List ℕ → Result (List ℕ × ℕ) PickleError
-oids_from limit at bytes = read_from references 0 (record { state = empty_state limit; oids = [] }) at bytes
+abbrev pub oids_at : ℕ → List ℕ → Result (List ℕ × ℕ) PickleError
+oids_at at bytes = told_in (part_at [] [] at bytes)
+
+-- ---- two pickles of one reader
+
+-- both, where the second is one
+abbrev pub with_second : Part → Result Left PickleError → Result Pair PickleError
+with_second first (Ok second) = Ok (record { first = first; second = second.0 })
+with_second first (Err e) = Err e
+
+-- The second pickle behind the first: its reader begins with what the first left.
+abbrev pub second_of : List ℕ → Left → Result Pair PickleError
+second_of bytes left = with_second left.0 (part_at left.0.pickle.nodes left.1 left.0.behind (drop left.0.behind bytes))
+
+-- the two pickles at the start of the bytes; or the refusal of the first, and else of the second
+abbrev pub pair_of : List ℕ → Result Pair PickleError
+pair_of bytes = go_on (second_of bytes) (part_at [] [] 0 bytes)
+
+-- what is told of two pickles without their graphs: the oids of the first and then those of the second
+abbrev pub references_in : Result Pair PickleError → Result PairReferences PickleError
+references_in (Ok pair) = Ok (record { oids = pair.first.oids ++ pair.second.oids; is_class = is_class pair.first.pickle; behind = pair.second.behind })
+references_in (Err e) = Err e

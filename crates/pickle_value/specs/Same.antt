@@ -94,3 +94,9 @@ pub record IsSame (g copy : Graph) : Type 0 where
   pub each : AllCopies origin g.nodes copy.nodes origin
   pub root : HasOrigin origin copy.root g.root
   pub once : StandOnce g.nodes origin
+
+-- Two graphs are the same where both are copies of one: so each may have nodes that its root does not reach.
+pub record AreSame (g other : Graph) : Type 0 where
+  pub whole : Graph
+  pub first : IsSame whole g
+  pub second : IsSame whole other

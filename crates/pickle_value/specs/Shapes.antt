@@ -17,9 +17,10 @@ use Rattle.pickle_value.specs.References.{oid_in}
 
 -- ---- shapes
 
--- a tuple whose first item names this
-abbrev pub tuple_shape : Named → Shape
-tuple_shape (Strong oid) = kinds.Naming oid
+-- a tuple, by the shape of its first item
+abbrev pub tuple_shape : Option Shape → Shape
+tuple_shape (Some (kinds.Id oid)) = kinds.Naming oid
+tuple_shape (Some kinds.Global) = kinds.Classed
 tuple_shape _ = kinds.Tuple
 
 -- bytes that name this
@@ -34,21 +35,23 @@ named_as (Some (kinds.Id oid)) = Strong oid
 named_as (Some kinds.List) = Weak
 named_as _ = Bad
 
--- what a value of a shape names as the first item of a tuple
-abbrev pub first_as : Option Shape → Named
-first_as (Some (kinds.Id oid)) = Strong oid
-first_as _ = Bad
-
--- what the value of a number names as the first item of a tuple, if there is one
-abbrev pub lowest_as : List Shape → Option ℕ → Named
-lowest_as shapes None = Bad
-lowest_as shapes (Some v) = first_as (slice_get shapes v)
+-- the shape of the value of a number, if there is one
+abbrev pub lowest_as : List Shape → Option ℕ → Option Shape
+lowest_as shapes None = None
+lowest_as shapes (Some v) = slice_get shapes v
 
 -- a tuple
 abbrev pub is_tuple_shape : Option Shape → Bool
 is_tuple_shape (Some kinds.Tuple) = true
 is_tuple_shape (Some (kinds.Naming oid)) = true
+is_tuple_shape (Some kinds.Classed) = true
 is_tuple_shape _ = false
+
+-- a global, or a tuple that begins with one
+abbrev pub is_class_shape : Option Shape → Bool
+is_class_shape (Some kinds.Global) = true
+is_class_shape (Some kinds.Classed) = true
+is_class_shape _ = false
 
 -- what may be added to a value of a shape
 abbrev pub takes : Adding → Option Shape → Bool
@@ -76,7 +79,7 @@ leaf_shape ops.BinUnicode bytes = Some kinds.Other
 leaf_shape ops.EmptyTuple bytes = Some kinds.Tuple
 leaf_shape ops.EmptyList bytes = Some kinds.List
 leaf_shape ops.EmptyDict bytes = Some kinds.Dict
-leaf_shape ops.Global bytes = Some kinds.Other
+leaf_shape ops.Global bytes = Some kinds.Global
 leaf_shape _ bytes = None
 
 -- ---- values that are passed on the stack

@@ -20,8 +20,8 @@ pub enum PickleError {
     /// The opcode at `at` would make one node too many.
     #[error("the opcode at {at} makes one node too many")]
     TooLarge { at: usize },
-    /// The persistent id of the opcode at `at` is none that references have. Only reading references
-    /// answers this.
+    /// The persistent id of the opcode at `at` is none that references have. Reading a graph alone
+    /// does not answer this.
     #[error("the reference at {at} has a bad id")]
     BadReference { at: usize },
     /// There was no memory.

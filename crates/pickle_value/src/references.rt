@@ -1,8 +1,12 @@
 //! References.
 
-ghost use Rattle.std.specs.Prelude.{◌≡◌, ◌<◌, ◌≤◌, drop, length, IfOk};
-ghost use Rattle.pickle_value.specs.Steps.{AnswersAs};
-ghost use Rattle.pickle_value.specs.References.{oids_at, oids_from};
+ghost use Rattle.std.specs.Prelude.{◌≡◌, ◌<◌, ◌≤◌, drop, length, IfOk, IfErr};
+ghost use Rattle.pickle_value.specs.declared.part.Finding.{Finding};
+ghost use Rattle.pickle_value.specs.Reading.{read_from};
+ghost use Rattle.pickle_value.specs.References.{parts, root_at, oids_at};
+ghost use Rattle.pickle_value.specs.Shown.{sight_of, IsSeen};
+ghost use Rattle.pickle_value.specs.Sound.{IsSoundState};
+ghost use Rattle.pickle_value.specs.Steps.{AnswersAs, RefusesAs};
 
 use crate::error::PickleError;
 use crate::reading::{NODE_LIMIT, ends};
@@ -23,58 +27,66 @@ pub(crate) enum Named {
     Bad,
 }
 
-/// The oids at STOP.
-fn finish(sight: Sight, at: usize, next: usize) -> Result<(ListOf<Oid>, usize), PickleError>
-    ensures oids { AnswersAs result (oids_at at next sight.oids sight.stack) }
-    ensures place { IfOk result (λ r. r.1 ≡ next) }
+/// The number of the value on the top, at the STOP of a place.
+fn root_on_top(sight: &Sight, at: usize) -> Result<u32, PickleError>
+    ensures root { AnswersAs result (root_at at sight.now.stack) }
 {
     match sight.stack.top() {
-        Some(Item::Value(_)) => Ok((sight.oids, next)),
+        Some(Item::Value(root)) => Ok(root),
         _ => Err(PickleError::Stack { at }),
     }
 }
 
-/// The oids in a pickle of at most `limit` nodes that stands at a place, and the place behind it.
-pub(crate) fn references_within(
-    alloc: Global,
+/// Goes on to STOP. The answer is the number of the value on the top there, and the place behind.
+///
+/// Where what is kept shows what a reader of graphs found, the answer shows what that reader finds
+/// then.
+pub(crate) fn look_to_stop(
+    sight: &mut Sight,
     input: &[u8],
     at: usize,
-    limit: u32,
-) -> Result<(ListOf<Oid>, usize), PickleError>
-    ensures oids { AnswersAs result (oids_from limit at (drop at input.now)) }
+) -> Result<(u32, usize), PickleError>
+    ensures seen { IfOk result (λ r. (f : Finding) → sight.old ≡ sight_of f
+        → IsSoundState f.state
+        → IsSeen r.0 r.1 f.state.limit sight.new (read_from parts 0 f at (drop at input.now))) }
+    ensures refused { IfErr result (λ e. (f : Finding) → sight.old ≡ sight_of f
+        → IsSoundState f.state
+        → RefusesAs e (read_from parts 0 f at (drop at input.now))) }
     ensures behind { IfOk result (λ r. at < r.1) }
     ensures inside { IfOk result (λ r. r.1 ≤ length input.now) }
 {
-    let room = first_room(input.len().saturating_sub(at));
-    let mut sight = Sight::new(alloc, limit, room);
     let mut place = at;
     loop {
         let (token, next) = next_token(input, place)?;
         if ends(token.op) {
-            return finish(sight, place, next);
+            let root = root_on_top(sight, place)?;
+            return Ok((root, next));
         }
         let bytes = &input[token.start..token.start + token.length];
-        look(&mut sight, token, place, bytes)?;
+        look(sight, token, place, bytes)?;
         place = next;
     }
 }
 
-/// The oids that the pickle at a place of the input refers to, in the order of their tokens, whether
-/// or not the root reaches them, and the place behind its STOP.
+/// The oids that the pickle at a place of the input refers to, in the order of their tokens,
+/// whether or not the root reaches them, and the place behind its STOP.
 ///
-/// A persistent id is an oid, which is eight bytes or a string of Python 2 of eight, the highest byte
-/// first; or a tuple whose first item is an oid; or a list, which is a weak or foreign reference and
-/// is left out. `BadReference` is answered at the token of any other id. All other refusals are those
-/// of [`read_pickle`](crate::read_pickle), and the first token that has one decides; a token that
-/// would make one node too many is `TooLarge` also where its id is bad.
+/// A persistent id is an oid, which is eight bytes or a string of Python 2 of eight, the highest
+/// byte first; or a tuple whose first item is an oid; or a list, which is a weak or foreign
+/// reference and is left out. `BadReference` is answered at the token of any other id. All other
+/// refusals are those of [`read_pickle`](crate::read_pickle), and the first token that has one
+/// decides; a token that would make one node too many is `TooLarge` also where its id is bad.
 pub fn references_of(
     alloc: Global,
     input: &[u8],
     at: usize,
 ) -> Result<(ListOf<Oid>, usize), PickleError>
-    ensures oids { AnswersAs result (oids_from NODE_LIMIT at (drop at input.now)) }
+    ensures oids { AnswersAs result (oids_at at (drop at input.now)) }
     ensures behind { IfOk result (λ r. at < r.1) }
     ensures inside { IfOk result (λ r. r.1 ≤ length input.now) }
 {
-    references_within(alloc, input, at, NODE_LIMIT)
+    let room = first_room(input.len().saturating_sub(at));
+    let mut sight = Sight::new(alloc, NODE_LIMIT, room);
+    let stop = look_to_stop(&mut sight, input, at)?;
+    Ok((sight.oids, stop.1))
 }

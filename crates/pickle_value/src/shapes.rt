@@ -20,10 +20,13 @@ pub(crate) enum Shape {
     Object,
     /// A tuple whose first item is an oid.
     Naming(Oid),
+    /// A tuple whose first item is a global.
+    Classed,
     /// Any other tuple.
     Tuple,
     /// An oid.
     Id(Oid),
+    Global,
     /// Any other node.
     Other,
 }
@@ -40,7 +43,7 @@ pub(crate) enum Adding {
 }
 
 /// The oid that eight bytes are.
-fn read_oid(bytes: &[u8]) -> Named
+pub(crate) fn read_oid(bytes: &[u8]) -> Named
     ensures { result ≡ oid_in bytes.now }
 {
     if bytes.len() == 8 {
@@ -71,7 +74,8 @@ pub(crate) fn leaf_shape(op: Op, bytes: &[u8]) -> Option<Shape>
         Op::Long1 | Op::Long4 | Op::BinFloat => Some(Shape::Other),
         Op::BinBytes | Op::ShortBinBytes => Some(bytes_shape(bytes)),
         Op::BinString | Op::ShortBinString => Some(bytes_shape(bytes)),
-        Op::BinUnicode | Op::Global => Some(Shape::Other),
+        Op::BinUnicode => Some(Shape::Other),
+        Op::Global => Some(Shape::Global),
         Op::EmptyTuple => Some(Shape::Tuple),
         Op::EmptyList => Some(Shape::List),
         Op::EmptyDict => Some(Shape::Dict),
@@ -100,6 +104,15 @@ impl ShapeTable {
         ensures { result ≡ [] }
     {
         let mut items = Vec::new(alloc);
+        let _ = items.reserve(room);
+        ShapeTable { items }
+    }
+
+    /// The same shapes, with room for so many more where there is memory for it.
+    pub fn widened(self, room: usize) -> ShapeTable
+        ensures { result ≡ self }
+    {
+        let ShapeTable { mut items } = self;
         let _ = items.reserve(room);
         ShapeTable { items }
     }
@@ -139,6 +152,7 @@ impl ShapeTable {
         };
         match self.items.get(number as usize) {
             Some(Shape::Id(oid)) => Shape::Naming(*oid),
+            Some(Shape::Global) => Shape::Classed,
             _ => Shape::Tuple,
         }
     }
@@ -148,7 +162,17 @@ impl ShapeTable {
         ensures { result ≡ Shapes.is_tuple_shape (slice_get self.now number) }
     {
         match self.items.get(number as usize) {
-            Some(Shape::Tuple | Shape::Naming(_)) => true,
+            Some(Shape::Tuple | Shape::Naming(_) | Shape::Classed) => true,
+            _ => false,
+        }
+    }
+
+    /// Whether the node of a number is a global or a tuple that begins with one.
+    pub fn is_class(&self, number: u32) -> bool
+        ensures { result ≡ Shapes.is_class_shape (slice_get self.now number) }
+    {
+        match self.items.get(number as usize) {
+            Some(Shape::Global | Shape::Classed) => true,
             _ => false,
         }
     }

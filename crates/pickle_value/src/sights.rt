@@ -16,8 +16,8 @@ use pickle_ops::{Op, Token};
 use std::alloc::Global;
 use zb_ids::{ListOf, Oid};
 
-/// The shapes of the nodes so far, the stack, the memo, and the oids that were named. No more nodes than the
-/// limit are made.
+/// The shapes of the nodes so far, the stack, the memo, and the oids that were named. No more nodes
+/// than the limit are made.
 #[derive(Drop)]
 pub(crate) struct Sight {
     pub limit: u32,
@@ -43,6 +43,33 @@ impl Sight {
             memo: Memo::new(alloc),
             oids: ListOf::new(alloc),
         }
+    }
+
+    /// What the next pickle's reader keeps before its first token, with this limit and room for the
+    /// shapes of so many nodes more, and the oids that were named.
+    pub fn next(self, alloc: Global, limit: u32, room: usize) -> (Sight, ListOf<Oid>)
+        ensures limit { result.0.limit ≡ limit }
+        ensures shapes { result.0.shapes ≡ self.shapes }
+        ensures stack { result.0.stack ≡ [] }
+        ensures memo { result.0.memo ≡ self.memo }
+        ensures oids { result.0.oids ≡ [] }
+        ensures told { result.1 ≡ self.oids }
+    {
+        let Sight {
+            limit: _,
+            shapes,
+            stack: _,
+            memo,
+            oids,
+        } = self;
+        let next = Sight {
+            limit,
+            shapes: shapes.widened(room),
+            stack: Stack::new(alloc),
+            memo,
+            oids: ListOf::new(alloc),
+        };
+        (next, oids)
     }
 }
 

@@ -292,6 +292,15 @@ impl NodeTable {
         NodeTable { items }
     }
 
+    /// These nodes, with room for so many more where there is memory for it.
+    pub fn from_list(nodes: ListOf<Node>, room: usize) -> NodeTable
+        ensures { result ≡ nodes }
+    {
+        let mut items = nodes.into_vec();
+        let _ = items.reserve(room);
+        NodeTable { items }
+    }
+
     /// How many nodes there are.
     pub fn len(&self) -> usize
         ensures { result ≡ length self.now }
@@ -353,6 +362,22 @@ impl State {
             nodes: NodeTable::new(alloc, room),
             stack: Stack::new(alloc),
             memo: Memo::new(alloc),
+        }
+    }
+
+    /// The state of the next pickle's reader before its first token, behind one that left these
+    /// nodes and this memo, with room for so many nodes more.
+    pub fn behind(alloc: Global, limit: u32, nodes: ListOf<Node>, memo: Memo, room: usize) -> State
+        ensures limit { result.limit ≡ limit }
+        ensures nodes { result.nodes ≡ nodes }
+        ensures stack { result.stack ≡ [] }
+        ensures memo { result.memo ≡ memo }
+    {
+        State {
+            limit,
+            nodes: NodeTable::from_list(nodes, room),
+            stack: Stack::new(alloc),
+            memo,
         }
     }
 }

@@ -1,4 +1,3 @@
-pub mod Joined
 pub mod Read
 pub mod Written
 pub mod Tokens

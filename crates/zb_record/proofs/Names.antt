@@ -7,7 +7,7 @@ use Rattle.pickle_value.specs.Additions.{added}
 use Rattle.pickle_value.specs.Steps.{get_of, act_of}
 use Rattle.pickle_value.specs.Stacks.{top_of}
 use Rattle.pickle_value.specs.Reading.{Reader, graphs, empty_state}
-use Rattle.pickle_value.specs.References.{oid_in, oid_of, named_by, references}
+use Rattle.pickle_value.specs.References.{oid_in, oid_of, named_by, parts}
 
 abbrev KeptBy : {S X : Type 0} → Reader S X → Type 0
 KeptBy {S} {X} r = S
@@ -25,9 +25,9 @@ ElementOf {A} {B} f = A
 abbrev pub State : Type 0
 State = KeptBy graphs
 
--- what the reader of references keeps
+-- what the reader of what a pickle says keeps
 abbrev pub Finding : Type 0
-Finding = KeptBy references
+Finding = KeptBy parts
 
 -- an item of the stack
 abbrev pub Item : Type 0

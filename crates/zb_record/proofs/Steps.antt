@@ -15,7 +15,7 @@ use Rattle.pickle_value.specs.Leaves.{leaf_of}
 use Rattle.pickle_value.specs.Additions.{pairs_of, added}
 use Rattle.pickle_value.specs.Steps.{make, popped, unmarked, doubled, tuple_of, changed, add_to, append_to, set_pairs, set_in, build_of, object_of, reference_of, put_of, get_of, act_of, leaf_or, step}
 use Rattle.pickle_value.specs.Reading.{graphs, root_of}
-use Rattle.pickle_value.specs.References.{oid_in, oid_of, named_first, named_by, named_on, noted, named_by_token, noted_in, find, oids_at, references}
+use Rattle.pickle_value.specs.References.{oid_in, oid_of, named_first, named_by, named_on, noted, named_by_token, noted_in, find, Left, left_of, parts}
 use Rattle.zb_record.specs.Alike.{NodeAlike, NodesAlike}
 use Rattle.zb_record.proofs.Alike.{HeldAlike, BothOr}
 use Rattle.zb_record.proofs.Names.{State, Finding, Item, Addition, Named, value, mark, weak, bad}
@@ -225,7 +225,7 @@ pub graphs_end : (at to next next' : ℕ) (s s' : State) → StatesAlike s s' �
 graphs_end at to next next' s s' h =
     subst (λ (t : State). BothOr GraphsEnd (graphs.finish at next s) (graphs.finish to next' t)) (sym h.rest) (roots_by at to next next' s s'.nodes s.stack h.nodes)
 
--- ---- the reader of references
+-- ---- the reader of what a pickle says
 
 abbrev pub FindingsAlike : Finding → Finding → Type 0
 FindingsAlike f g = StatesAlike f.state g.state
@@ -314,15 +314,15 @@ finds_alike op at to number one other f g e h =
     subst (λ (st : List Item). NamedAlike (named_by_token op f.state.nodes f.state.stack) (named_by_token op g.state.nodes st)) (sym stack) (token_alike op f.state.nodes g.state.nodes f.state.stack h.nodes) in
     notes_in at to f.oids g.oids (named_by_token op f.state.nodes f.state.stack) (named_by_token op g.state.nodes g.state.stack) (step op at number one f.state) (step op to number other g.state) named (steps_alike at to op number one other f.state g.state e h)
 
-abbrev pub OidsEnd : List ℕ × ℕ → List ℕ × ℕ → Type 0
-OidsEnd a b = Unit {0}
+abbrev pub PartsEnd : Left → Left → Type 0
+PartsEnd a b = Unit {0}
 
-ends_by : (at to next next' : ℕ) (oids oids' : List ℕ) (stack : List Item) → BothOr OidsEnd (oids_at at next oids stack) (oids_at to next' oids' stack)
-ends_by at to next next' oids oids' [] = tt
-ends_by at to next next' oids oids' (value v ∷ below) = tt
-ends_by at to next next' oids oids' (mark ∷ below) = tt
+ends_by : (at to next next' : ℕ) (f g : Finding) (stack : List Item) → BothOr PartsEnd (left_of at next f stack) (left_of to next' g stack)
+ends_by at to next next' f g [] = tt
+ends_by at to next next' f g (value v ∷ below) = tt
+ends_by at to next next' f g (mark ∷ below) = tt
 
-pub oids_end : (at to next next' : ℕ) (f g : Finding) → FindingsAlike f g → BothOr OidsEnd (references.finish at next f) (references.finish to next' g)
-oids_end at to next next' f g h =
+pub parts_end : (at to next next' : ℕ) (f g : Finding) → FindingsAlike f g → BothOr PartsEnd (parts.finish at next f) (parts.finish to next' g)
+parts_end at to next next' f g h =
     let stack : g.state.stack ≡ f.state.stack = ap (λ (s : State). s.stack) h.rest in
-    subst (λ (st : List Item). BothOr OidsEnd (oids_at at next f.oids f.state.stack) (oids_at to next' g.oids st)) (sym stack) (ends_by at to next next' f.oids g.oids f.state.stack)
+    subst (λ (st : List Item). BothOr PartsEnd (left_of at next f f.state.stack) (left_of to next' g st)) (sym stack) (ends_by at to next next' f g f.state.stack)

@@ -1,17 +1,18 @@
 -- What is written reads back.
-use Rattle.std.proofs.Common.{◌≡◌, ℕ, ◌+◌, ◌≤◌, true, false, List, [], ◌∷◌, ◌++◌, length, drop, Option, Some, None, Ok, Err, refl, arith, sym, ◌∙◌, ap, subst, length-append}
+use Rattle.std.proofs.Common.{◌≡◌, ℕ, ◌+◌, true, List, [], ◌∷◌, ◌++◌, length, drop, Option, Some, None, Ok, Err, refl, arith, sym, ◌∙◌, ap, subst, length-append}
 use Rattle.std.specs.Prelude.{slice_get, IsSome}
 use Rattle.std.proofs.lemmas.List.{drop_at, append-nil}
 use Rattle.pickle_value.specs.declared.node.Node.{Node}
 use Rattle.pickle_value.specs.declared.node.Node.TheVariants as kinds
 use Rattle.pickle_value.specs.declared.reading.TheConstants.{NODE_LIMIT}
 use Rattle.pickle_value.specs.Graph.{Graph}
-use Rattle.pickle_value.specs.Reading.{graph_at}
-use Rattle.pickle_value.specs.Same.{HasOrigin, IsCopy, AllCopies, IsSame}
+use Rattle.pickle_value.specs.Reading.{graph_at, graph_behind}
+use Rattle.pickle_value.specs.References.{part_at}
+use Rattle.pickle_value.specs.Same.{IsCopy, AllCopies, IsSame}
 use Rattle.pickle_value.specs.Spelling.{Spelled, pickle_text}
-use Rattle.pickle_value.specs.Laws.{WrittenReadsAnywhere}
-use Rattle.pickle_value.specs.Named.{oids_of, NamedIsTold, CopiesAreNamed}
-use Rattle.zb_record.specs.Class.{is_global, begins_with_global, is_class_node, is_class}
+use Rattle.pickle_value.specs.Laws.{WrittenReadsAnywhere, WrittenReadsBehind}
+use Rattle.pickle_value.specs.Named.{oids_of, IsLeft, NamedIsTold, PartIsLeft, CopiesAreNamed}
+use Rattle.pickle_value.specs.Class.{is_global, begins_with_global, is_class_node, is_class}
 use Rattle.zb_record.specs.Records.{one_behind}
 use Rattle.zb_record.specs.Laws.{IsRecord, WrittenRecordReadsBack}
 use Rattle.zb_record.proofs.Read.{record-is_read}
@@ -76,24 +77,39 @@ some-oids : (o : Option (List ℕ)) → IsSome o → (oids : List ℕ) × (o ≡
 some-oids (Some oids) h = (oids, refl)
 some-oids None h = absurd cc
 
-module _ (anywhere : WrittenReadsAnywhere) (named : NamedIsTold) (copies : CopiesAreNamed) where
+-- behind nothing a pickle is read as the first one
+pub first_is : (at : ℕ) (bytes : List ℕ) → graph_behind [] [] at bytes ≡ graph_at NODE_LIMIT at bytes
+first_is at bytes = let e : NODE_LIMIT + 0 ≡ NODE_LIMIT = omega arith in ap (λ (n : ℕ). graph_at n at bytes) e
+
+-- nothing may be left
+pub none_left : IsLeft [] []
+none_left = record { tuples = tt; puts = tt }
+
+module _ (anywhere : WrittenReadsAnywhere) (behind : WrittenReadsBehind) (named : NamedIsTold) (left : PartIsLeft) (copies : CopiesAreNamed) where
   pub written-reads_back : WrittenRecordReadsBack
   written-reads_back class state text can spelling =
       let t = texts (pickle_text class) (pickle_text state) text spelling in
       let c = anywhere class t.first can.class_graph t.class_is can.class_room in
-      let s = anywhere state t.second can.state_graph t.state_is can.state_room in
       let a = some-oids (oids_of class) can.class_named in
       let b = some-oids (oids_of state) can.state_named in
       let d = copies class c.copy a.0 c.same a.1 in
-      let e = copies state s.copy b.0 s.same b.1 in
-      let rest : drop (length t.first) text ≡ t.second = ap (drop (length t.first)) t.both ∙ drop_at t.first t.second (length t.first) refl in
-      let whole : length t.first + length t.second ≡ length text = sym (ap length t.both ∙ length-append t.first t.second) in
+      let at : ℕ = length t.first in
+      let rest : drop at text ≡ t.second = ap (drop at) t.both ∙ drop_at t.first t.second at refl in
+      let whole : at + length t.second ≡ length text = sym (ap length t.both ∙ length-append t.first t.second) in
+      let class_read : graph_behind [] [] 0 text ≡ Ok (c.copy, at) = first_is 0 text ∙ ap (graph_at NODE_LIMIT 0) t.both ∙ c.reads 0 t.second ∙ ap (λ (k : ℕ). Ok (c.copy, k)) (omega arith) in
+      let first = named [] [] 0 text c.copy at d.0 none_left class_read d.1 in
+      let is_left = left [] [] 0 text (record { pickle = c.copy; oids = d.0; behind = at }) first.0 none_left first.1 in
+      let s = (behind class state c.copy first.0 t.second c.same c.few can.state_graph t.state_is).within can.state_room in
+      let e = s.named b.0 b.1 in
+      let state_read : graph_behind c.copy.nodes first.0 at t.second ≡ Ok (s.copy, length text) =
+      ap (graph_behind c.copy.nodes first.0 at) (sym (append-nil t.second)) ∙ s.reads at [] ∙ ap (λ (k : ℕ). Ok (s.copy, k)) whole in
+      let second = named c.copy.nodes first.0 at t.second s.copy (length text) e.0 is_left state_read e.1 in
       let is : IsRecord text c.copy s.copy d.0 e.0 = record {
-        behind = length t.first;
-        first = ap (graph_at NODE_LIMIT 0) t.both ∙ c.reads 0 t.second ∙ ap (λ (k : ℕ). Ok (c.copy, k)) (omega arith);
-        second = ap (graph_at NODE_LIMIT (length t.first)) (rest ∙ sym (append-nil t.second)) ∙ s.reads (length t.first) [] ∙ ap (λ (k : ℕ). Ok (s.copy, k)) whole;
-        class_named = d.1;
-        state_named = e.1;
+        behind = at;
+        memo = first.0;
+        left = second.0;
+        first = first.1;
+        second = ap (part_at c.copy.nodes first.0 at) rest ∙ second.1;
         class_is = copy-is_class class c.copy c.same can.class_is;
       } in
-      record { class_copy = c.copy; state_copy = s.copy; reads = (record-is_read named text c.copy s.copy d.0 e.0 is).0; class_same = c.same; state_same = s.same }
+      record { class_copy = c.copy; state_copy = s.copy; reads = (record-is_read text c.copy s.copy d.0 e.0 is).0; class_same = c.same; state_same = s.same }

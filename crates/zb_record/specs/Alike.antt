@@ -3,7 +3,7 @@ use Rattle.std.specs.Prelude.{ℕ, List, [], ◌∷◌, length, Ok, ◌≡◌, �
 use Rattle.pickle_value.specs.declared.node.Node.{Node}
 use Rattle.pickle_value.specs.declared.node.Node.TheVariants as kinds
 use Rattle.pickle_value.specs.Graph.{Graph, IsGraph}
-use Rattle.pickle_value.specs.Same.{IsSame}
+use Rattle.pickle_value.specs.Same.{AreSame}
 use Rattle.zb_record.specs.Records.{record_of, object_text}
 
 -- eight bytes, and eight others
@@ -35,8 +35,8 @@ pub record IsKeptAlike (class state other : Graph) (copy : Graph × Graph) : Typ
   pub written : object_text class other ≡ Ok text
   pub other_copy : Graph
   pub reads : record_of text ≡ Ok (copy.0, other_copy)
-  pub same : IsSame state copy.1
-  pub other_same : IsSame other other_copy
+  pub same : AreSame state copy.1
+  pub other_same : AreSame other other_copy
 
 -- where a record can be written and reads back, so does one whose state is alike
 abbrev pub AlikeIsKept : Type 0

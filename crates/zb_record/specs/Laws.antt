@@ -1,28 +1,35 @@
 -- Laws of records.
-use Rattle.std.specs.Prelude.{ℕ, List, ◌++◌, length, drop, Some, Ok, true, IsSome, ◌≤◌, ◌≡◌}
+use Rattle.std.specs.Prelude.{ℕ, List, [], ◌++◌, length, drop, Some, Ok, true, IsSome, ◌≤◌, ◌≡◌}
 use Rattle.pickle_value.specs.declared.reading.TheConstants.{NODE_LIMIT}
 use Rattle.pickle_value.specs.Graph.{Graph, IsGraph}
-use Rattle.pickle_value.specs.Reading.{graph_at}
-use Rattle.pickle_value.specs.Named.{oids_of}
-use Rattle.pickle_value.specs.Same.{IsSame}
+use Rattle.pickle_value.specs.Class.{is_class}
+use Rattle.pickle_value.specs.Reading.{graph_behind}
+use Rattle.pickle_value.specs.References.{part_at}
+use Rattle.pickle_value.specs.Named.{oids_of, oids_behind}
+use Rattle.pickle_value.specs.Same.{IsSame, AreSame}
 use Rattle.pickle_value.specs.Spelling.{root_piece}
-use Rattle.zb_record.specs.Class.{is_class}
 use Rattle.zb_record.specs.Records.{record_of, references_of, object_text}
 
--- The bytes are two pickles and nothing else, the references of each name these oids, and the first is a class.
+-- The bytes are two pickles and nothing else, the second read behind what the first left, the references of each name these
+-- oids, and the first is a class.
 pub record IsRecord (bytes : List ℕ) (class state : Graph) (class_oids state_oids : List ℕ) : Type 0 where
   pub behind : ℕ
-  pub first : graph_at NODE_LIMIT 0 bytes ≡ Ok (class, behind)
-  pub second : graph_at NODE_LIMIT behind (drop behind bytes) ≡ Ok (state, length bytes)
-  pub class_named : oids_of class ≡ Some class_oids
-  pub state_named : oids_of state ≡ Some state_oids
+  pub memo : List (ℕ × ℕ)
+  pub left : List (ℕ × ℕ)
+  pub first : part_at [] [] 0 bytes ≡ Ok (record { pickle = class; oids = class_oids; behind = behind }, memo)
+  pub second : part_at class.nodes memo behind (drop behind bytes) ≡ Ok (record { pickle = state; oids = state_oids; behind = length bytes }, left)
   pub class_is : is_class class ≡ true
 
--- what is read of bytes is what they are, and their references are those of both graphs
+-- What is read of bytes is what they are: the graphs are those of the two pickles, and the references of the record are those
+-- of the class and then those of the nodes that the state's pickle made.
 pub record IsReadRecord (bytes : List ℕ) (class state : Graph) : Type 0 where
   pub class_oids : List ℕ
   pub state_oids : List ℕ
   pub is : IsRecord bytes class state class_oids state_oids
+  pub class_reads : graph_behind [] [] 0 bytes ≡ Ok (class, is.behind)
+  pub state_reads : graph_behind class.nodes is.memo is.behind (drop is.behind bytes) ≡ Ok (state, length bytes)
+  pub class_named : oids_of class ≡ Some class_oids
+  pub state_named : oids_behind (length class.nodes) state ≡ Some state_oids
   pub told : references_of bytes ≡ Ok (class_oids ++ state_oids)
 
 abbrev pub ReadIsRecord : Type 0
@@ -39,7 +46,7 @@ pub record RecordIsReadBack (class state : Graph) (text : List ℕ) : Type 0 whe
   pub state_copy : Graph
   pub reads : record_of text ≡ Ok (class_copy, state_copy)
   pub class_same : IsSame class class_copy
-  pub state_same : IsSame state state_copy
+  pub state_same : AreSame state state_copy
 
 -- a class and a state whose references all name something, and whose texts make no more nodes than the limit
 pub record CanBeRead (class state : Graph) : Type 0 where

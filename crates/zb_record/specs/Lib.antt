@@ -1,4 +1,3 @@
-pub mod Class
 pub mod Refusals
 pub mod Records
 pub mod Laws

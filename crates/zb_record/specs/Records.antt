@@ -1,16 +1,13 @@
--- Records: two pickles, one behind the other and nothing else. From: the records of ZODB.
-use Rattle.std.specs.Prelude.{ℕ, List, ◌++◌, length, drop, ◌==◌, if◌then◌else◌, Result, Ok, Err}
+-- Records: two pickles of one reader, one behind the other and nothing else. From: the records of ZODB.
+use Rattle.std.specs.Prelude.{ℕ, List, ◌++◌, length, ◌==◌, if◌then◌else◌, Result, Ok, Err}
 use Rattle.pickle_value.specs.declared.error.PickleError.{PickleError}
-use Rattle.pickle_value.specs.declared.reading.TheConstants.{NODE_LIMIT}
+use Rattle.pickle_value.specs.declared.pair.Pair.{Pair}
+use Rattle.pickle_value.specs.Class.{is_class}
 use Rattle.pickle_value.specs.Graph.{Graph}
-use Rattle.pickle_value.specs.Reading.{graph_at}
-use Rattle.pickle_value.specs.References.{oids_from}
+use Rattle.pickle_value.specs.References.{pair_of}
 use Rattle.pickle_value.specs.Spelling.{Spelled, pickle_text}
 use Rattle.zb_record.specs.declared.error.RecordError.{RecordError}
 use Rattle.zb_record.specs.declared.error.RecordError.TheVariants as errors
-use Rattle.zb_record.specs.declared.reading.Part.{Part}
-use Rattle.zb_record.specs.declared.reading.Parts.{Parts}
-use Rattle.zb_record.specs.Class.{is_class}
 
 -- goes on with what was found
 infixl 10 ◌>>=◌
@@ -18,41 +15,33 @@ abbrev pub ◌>>=◌ : {A B : Type 0} → Result A RecordError → (A → Result
 (Ok x) >>= f = f x
 (Err e) >>= f = Err e
 
--- a pickle of which both are known: its oids, and its graph with the place behind it
-abbrev pub joined_part : Result (List ℕ × ℕ) PickleError → Result (Graph × ℕ) PickleError → Result Part RecordError
-joined_part (Err e) graph = Err (errors.Pickle e)
-joined_part (Ok oids) (Err e) = Err (errors.Pickle e)
-joined_part (Ok oids) (Ok graph) = Ok (record { pickle = graph.0; oids = oids.0; behind = graph.1 })
-
--- the pickle at a place, whose persistent ids all have a form; or the refusal of its first token that has one
-unfoldable pub part_at : List ℕ → ℕ → Result Part RecordError
-part_at bytes at = joined_part (oids_from NODE_LIMIT at (drop at bytes)) (graph_at NODE_LIMIT at (drop at bytes))
-
 -- the bytes end with the second pickle, and the first is a class
-abbrev pub judged : List ℕ → Part → Part → Result Parts RecordError
-judged bytes class state =
-    if state.behind == length bytes then
-    if is_class class.pickle then Ok (record { class = class; state = state }) else Err errors.BadClass
-    else Err (errors.Rest state.behind)
+abbrev pub judged : List ℕ → Pair → Result Pair RecordError
+judged bytes pair =
+    if pair.second.behind == length bytes then
+    if is_class pair.first.pickle then Ok pair else Err errors.BadClass
+    else Err (errors.Rest pair.second.behind)
+
+-- the record of two pickles
+abbrev pub record_in : List ℕ → Result Pair PickleError → Result Pair RecordError
+record_in bytes (Ok pair) = judged bytes pair
+record_in bytes (Err e) = Err (errors.Pickle e)
 
 -- the two pickles of a record, or the first refusal
-unfoldable pub record_parts : List ℕ → Result Parts RecordError
-record_parts bytes = do
-  class ← part_at bytes 0
-  state ← part_at bytes class.behind
-  judged bytes class state
+unfoldable pub record_parts : List ℕ → Result Pair RecordError
+record_parts bytes = record_in bytes (pair_of bytes)
 
 -- the class and the state
 abbrev pub record_of : List ℕ → Result (Graph × Graph) RecordError
 record_of bytes = do
   parts ← record_parts bytes
-  Ok (parts.class.pickle, parts.state.pickle)
+  Ok (parts.first.pickle, parts.second.pickle)
 
 -- the oids of the class, then those of the state
 abbrev pub references_of : List ℕ → Result (List ℕ) RecordError
 references_of bytes = do
   parts ← record_parts bytes
-  Ok (parts.class.oids ++ parts.state.oids)
+  Ok (parts.first.oids ++ parts.second.oids)
 
 -- the text of the class, then that of the state
 abbrev pub one_behind : Spelled → Spelled → Spelled

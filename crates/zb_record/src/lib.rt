@@ -2,7 +2,6 @@
 //! class and its state.
 #![tactic(auto)]
 
-mod class;
 mod error;
 mod laws;
 mod printing;
@@ -10,7 +9,6 @@ mod reading;
 mod record;
 mod writing;
 
-pub use class::is_class;
 pub use error::RecordError;
 pub use laws::{alike_records_are_kept, records_are_two_pickles, written_records_read_back};
 pub use printing::object_literal;

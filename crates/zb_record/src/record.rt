@@ -1,7 +1,7 @@
 //! Records.
 
 ghost use Rattle.std.specs.Prelude.{◌≡◌, true};
-ghost use Rattle.zb_record.specs.Class.{is_class};
+ghost use Rattle.pickle_value.specs.Class.{is_class};
 
 use pickle_value::Pickle;
 

@@ -9,7 +9,7 @@ ghost use Rattle.bucket_state.specs.Written.{leaf_graph};
 ghost use Rattle.bucket_state.specs.Depths.{AreShallow, IsWrittenWhole};
 ghost use Rattle.bucket_merge.specs.Merge.{merge_of};
 ghost use Rattle.zb_model.specs.Merged.{IsMerged};
-ghost use Rattle.zb_record.specs.Class.{is_class};
+ghost use Rattle.pickle_value.specs.Class.{is_class};
 ghost use Rattle.zb_resolve.specs.Classes.{rule_seen, rule_of, IsGlobalRule};
 ghost use Rattle.zb_resolve.specs.States.{leaf_in, are_alike, depth_of, depth_for, IsWritableState, IsShallowState};
 ghost use Rattle.zb_resolve.specs.Answers.{AnswersFor};

@@ -20,7 +20,7 @@ use Rattle.zb_literals.specs.Graphs.{last_of, with_value, with_values, with_pair
 use Rattle.literal_reading.specs.Literals.{IsLiteral}
 use Rattle.zb_literals.specs.Texts.{quoted_text}
 use Rattle.zb_literals.specs.Values.{Value, leaf, tuple, list, dict, reference, IsValue, literal_text}
-use Rattle.zb_record.specs.Class.{is_class}
+use Rattle.pickle_value.specs.Class.{is_class}
 use Rattle.zb_record.specs.Records.{object_text, one_behind}
 use Rattle.zb_script.specs.Spelling.{IsShort, Falls, AreTids, tids_text, IsRecordOf}
 use Rattle.zb_script.specs.Reading.{cut_at, behind_word, field_at, text_in, short_at, short_field_at, sixteen_at, lower_at, lowers_at, tids_at, literal_cut, payload_of_text, record_at}

@@ -10,7 +10,7 @@ use Rattle.btree_family.specs.declared.key.Key.{Key}
 use Rattle.btree_family.specs.declared.key.Key.TheVariants as keys
 use Rattle.literal_reading.specs.Exact.{graph_spelled}
 use Rattle.literal_reading.specs.Reading.{if_some}
-use Rattle.zb_record.specs.Class.{is_class}
+use Rattle.pickle_value.specs.Class.{is_class}
 use Rattle.zb_record.specs.Records.{object_text}
 use Rattle.zb_script.specs.declared.errors.ReadError.{ReadError}
 use Rattle.zb_script.specs.declared.errors.ReadError.TheVariants as errors

@@ -8,7 +8,7 @@ use Rattle.pickle_value.specs.Spelling.{spelling_of}
 use Rattle.btree_family.specs.declared.key.Key.{Key}
 use Rattle.literal_reading.specs.Literals.{IsLiteral}
 use Rattle.zb_literals.specs.Texts.{quoted_text}
-use Rattle.zb_record.specs.Class.{is_class}
+use Rattle.pickle_value.specs.Class.{is_class}
 use Rattle.zb_record.specs.Records.{object_text}
 use Rattle.zb_script.specs.declared.line.Line.{Line}
 use Rattle.zb_script.specs.declared.line.Line.TheVariants as lines

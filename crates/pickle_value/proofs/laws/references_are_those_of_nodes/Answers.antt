@@ -1,6 +1,6 @@
 -- References are told by the steps that read the graph.
 use Rattle.pickle_value.proofs.Told.{told-named}
-use Rattle.pickle_value.proofs.Lost.{named-told}
+use Rattle.pickle_value.proofs.Lost.{named-told, part-left}
 use Rattle.pickle_value.proofs.Alike.{copies-named}
 use Rattle.pickle_value.proofs.laws.references_are_those_of_nodes.Goals as goal
 
@@ -12,3 +12,6 @@ returns-clause-named c = named-told
 
 pub returns-clause-copies : goal.returns-clause-copies
 returns-clause-copies c = copies-named
+
+pub returns-clause-left : goal.returns-clause-left
+returns-clause-left c = part-left

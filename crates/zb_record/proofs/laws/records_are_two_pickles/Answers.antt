@@ -6,4 +6,4 @@ pub returns-clause-record : goal.returns-clause-record
 returns-clause-record c = read-is_record c.references_are_those_of_nodes.ensures.told
 
 pub returns-clause-read : goal.returns-clause-read
-returns-clause-read c = record-is_read c.references_are_those_of_nodes.ensures.named
+returns-clause-read c = record-is_read

@@ -1,9 +1,10 @@
 //! What may be the class of a record.
 
 ghost use Rattle.std.specs.Prelude.{◌≡◌, slice_get};
-ghost use Rattle.zb_record.specs.Class.{is_global, begins_with_global, is_class};
+ghost use Rattle.pickle_value.specs.Class.{is_global, begins_with_global, is_class};
 
-use pickle_value::{Node, Pickle};
+use crate::node::Node;
+use crate::pickle::Pickle;
 
 /// Whether the node of a number is a global.
 fn is_global(nodes: &[Node], number: u32) -> bool
