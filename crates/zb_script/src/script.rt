@@ -19,9 +19,9 @@ use crate::line::Turn;
 use crate::name::Name;
 use crate::reading::turn_of;
 use crate::shape::{can_stand, note_open};
+use literal_reading::literals_are_exact;
 use std::alloc::Global;
 use zb_ids::ListOf;
-use literal_reading::literals_are_exact;
 
 /// The turn that a line spells, where it can stand behind the opens of these clients.
 fn placed_turn(alloc: Global, opened: &[Name], text: &[u8]) -> Result<Turn, ReadError>

@@ -8,10 +8,10 @@ ghost use Rattle.zb_script.specs.Reading.{ReadsAs, payload_at, payload_of_text, 
 
 use crate::errors::ReadError;
 use crate::payload::Payload;
+use literal_reading::{LiteralError, literals_are_exact, read_literal};
 use pickle_value::{Pickle, WriteError, is_class};
 use std::alloc::Global;
 use zb_ids::{Text8, read_hex_pair};
-use literal_reading::{LiteralError, literals_are_exact, read_literal};
 use zb_record::{ObjectRecord, write_record};
 
 /// How many digits spell the bytes that a line stores, at most.
