@@ -8,18 +8,20 @@ use std::alloc::{AllocError, Global};
 use std::rt::Files;
 use zb_volume::{Area, StoreFault, Volume};
 
-/// A volume whose areas are two files of one folder: Main is PATH, and Side is PATH followed by
-/// `.side`. Where PATH is a link, its file is meant, and the folder is that file's. It tells nothing of
-/// them; what it takes the host to do is this.
+/// A volume whose areas are files of one folder: Main is PATH, Side is PATH followed by `.side`, and
+/// Hint is PATH followed by `.hint`. Where PATH is a link, its file is meant, and the folder is that
+/// file's. It tells nothing of them; what it takes the host to do is this.
 ///
-/// The files are opened at the first call, Main ahead of Side. Either has to be a regular file or not
-/// to be there: anything else, a link in Side's place too, is a fault. One that isn't there is made
-/// empty. Then the folder is synced (`fsync`), so that a crash doesn't take a new file away again.
-/// Side's file gets the mode of Main's.
+/// The files of Main and Side are opened at the first call, Main ahead of Side, and that of Hint where
+/// a call needs it. Each has to be a regular file or not to be there: anything else, a link in the
+/// place of Side or Hint too, is a fault. Main's and Side's are made empty where they aren't there;
+/// Hint's reads as empty, and is made at its first write. Then the folder is synced (`fsync`), so that
+/// a crash doesn't take a new file away again. A file that is made for Side or Hint gets the owner and
+/// the group of Main's, where the process may give files away, and its mode.
 ///
 /// Each file is locked when it is opened (`flock`, exclusive, not waited for), until the volume is
 /// dropped or the process ends, however it ends. Where another open of Main's file has locked it, the
-/// call is a fault and nothing is done to either file. A file that takes Main's place is locked before
+/// call is a fault and nothing is done to any file. A file that takes Main's place is locked before
 /// it does.
 ///
 /// No file has a descriptor below 3 (`fcntl` with `F_DUPFD_CLOEXEC`), so that what is written to a
@@ -36,7 +38,14 @@ use zb_volume::{Area, StoreFault, Volume};
 ///   answered `Ok` it is kept: `fsync` of the folder follows. Side is empty: its file is gone, and the
 ///   next call makes one.
 ///
-/// A read or a write of any size is one call of the host, as long as the host takes it whole. Any error of the host is a fault of that call. A process that doesn't ask for
+/// What is cut off Main before this volume wrote to it or replaced it is copied first to a new file,
+/// PATH followed by `.cut-` and the place in decimal digits, and by `.1`, `.2` and so on where that is
+/// taken, with Main's owner and mode. The copy and the folder are synced; where that can't be done, the
+/// cut is a fault, and the copy is removed.
+///
+/// A write that would reach past the limit that the process has on the size of files is a fault, as
+/// one past 2^63 - 1 bytes is. A read or a write of any size is one call of the host, as long as the
+/// host takes it whole. Any error of the host is a fault of that call. A process that doesn't ask for
 /// the lock may not touch the files.
 #[derive(Drop)]
 pub struct HostVolume<R: Files> {
@@ -49,7 +58,7 @@ impl<R: Files + Drop> HostVolume<R>
 where
     R::File: HostFile,
 {
-    /// A volume over the files PATH and PATH.side. Nothing is opened yet.
+    /// A volume over the files PATH, PATH.side and PATH.hint. Nothing is opened yet.
     pub fn new(alloc: Global, runtime: R, path: &str) -> Result<HostVolume<R>, AllocError>
         ensures read_faults { IfOk result (λ v. ⟦<HostVolume<R> as Volume>⟧.read_faults v ≡ 0) }
         ensures write_faults { IfOk result (λ v. ⟦<HostVolume<R> as Volume>⟧.write_faults v ≡ 0) }
