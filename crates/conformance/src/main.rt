@@ -1,5 +1,5 @@
 //! The program `conformance`: it runs the cases of each file in its folder through `zodb_main`, over
-//! objects in memory, and the scripts over new databases over a list in memory too, and prints a line for
+//! objects in memory, the scripts of new databases over a list in memory too, and prints a line for
 //! each case. It ends with status 0 where each is reported as it is to be.
 #![tactic(auto)]
 
@@ -28,8 +28,8 @@ use std::alloc::{AllocError, Global};
 use std::io;
 use std::process::ExitCode;
 
-/// In what a case first differs from what is expected: over a file and, where it is as expected there and
-/// has a run that can be made over the list in memory, over that.
+/// In what a case first differs from what is expected: over a file and, where it is as expected
+/// there and has a run that can be made over the list in memory, over that.
 fn difference_in(
     alloc: Global,
     case: &Case,

@@ -17,9 +17,9 @@ fn runs_a_script(run: &Run) -> bool {
     }
 }
 
-/// The run that can be made over a list in memory too, if the case has one: its first, where that takes a
-/// script's turns over a new database, is to end well, and no call fails in it. A case that must differ has
-/// none.
+/// The run that can be made over a list in memory too, if the case has one: its first, where that
+/// takes a script's turns over a new database, is to end well, and no call fails in it. A case that
+/// must differ has none.
 pub fn list_run(case: &Case) -> Option<&Run> {
     if !case.main.is_empty() || !case.failing_calls.is_empty() {
         return None;
@@ -47,8 +47,7 @@ fn run_over_list(alloc: Global, run: &Run) -> Result<(u8, Vec<u8>), AllocError> 
         Ok(turns) => {
             let first = first_transaction(alloc, clock.stamp())?;
             let list = MappingStore::new(alloc, first)?;
-            let turns = turns.as_slice();
-            run_over_store(alloc, list, None, turns, &mut sink, &mut clock).0
+            run_over_store(alloc, list, None, turns.as_slice(), &mut sink, &mut clock).0
         }
         Err(status) => status,
     };
