@@ -18,7 +18,7 @@ use Rattle.btree_setting.specs.declared.rung.Rung.{Rung}
 use Rattle.btree_setting.specs.declared.rung.Seam.{Seam}
 use Rattle.btree_setting.specs.declared.rung.Seam.TheVariants.{New, Old, Beside}
 use Rattle.btree_setting.specs.Inserting.{insert_branch, ItemsCut}
-use Rattle.btree_putting.specs.Puts.{put_oid}
+use Rattle.btree_putting.specs.Puts.{put_oid, leaf_node, lone_node, inner_node}
 
 -- the numbers of the new nodes are the first of these, in their order
 pub record AreDrawn (oids : List ℕ) (news : List Put) : Type 0 where

@@ -9,6 +9,7 @@ use Rattle.btree_shapes.specs.declared.node.Node.TheVariants as node
 use Rattle.btree_shapes.specs.declared.path.Step.{Step}
 use Rattle.btree_shapes.specs.Nodes.{Held, place_for}
 use Rattle.btree_shapes.specs.Ways.{stands_in}
+use Rattle.btree_putting.specs.Firsts.{first_held, is_none}
 use Rattle.btree_setting.specs.declared.rung.Rung.{Rung}
 use Rattle.btree_setting.specs.declared.rung.Seam.{Seam}
 use Rattle.btree_setting.specs.declared.rung.Seam.TheVariants.{New, Old, Beside}

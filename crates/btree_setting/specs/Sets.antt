@@ -15,6 +15,7 @@ use Rattle.btree_setting.specs.declared.preparing.Sizes.{Sizes}
 use Rattle.btree_setting.specs.declared.preparing.Task.{Task}
 use Rattle.btree_putting.specs.Writing.{plain_class}
 use Rattle.btree_putting.specs.Puts.{put_oid, sort_puts, all_keep, AreSound}
+use Rattle.btree_putting.specs.Storing.{IsStored, IsStoredFront}
 use Rattle.btree_setting.specs.Changes.{IsRootSet}
 
 -- ---- drawing

@@ -11,6 +11,7 @@ use Rattle.btree_family.specs.Classes.{Class, classes, leaf_in}
 use Rattle.bucket_state.specs.States.{has_values}
 use Rattle.bucket_state.specs.Laws.{node_fits}
 use Rattle.bucket_state.specs.Written.{value_pickle}
+use Rattle.btree_putting.specs.Writing.{has_leaf}
 
 abbrev pub is_spelled : List ℕ → Spelled → Bool
 is_spelled text (Ok spelled) = pointwise eqb spelled text
