@@ -77,7 +77,7 @@ const CALLS: &[CallRow] = &[
         Step::Length(MAIN),
         true,
         &[
-            Duplicate, Lock, Length, Length, Duplicate, Lock, Length, Length, SyncFolder, Length,
+            Duplicate, Lock, Length, Duplicate, Lock, Length, Length, Length, SyncFolder, Length,
         ],
     ),
     (Step::Write(MAIN, 0, &[7; 9000]), true, &[Length, WriteAt]),
@@ -88,7 +88,7 @@ const CALLS: &[CallRow] = &[
     (
         Step::Length(SIDE),
         true,
-        &[Length, Duplicate, Lock, Length, Length, SyncFolder, Length],
+        &[Duplicate, Lock, Length, Length, Length, SyncFolder, Length],
     ),
 ];
 

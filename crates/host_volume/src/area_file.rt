@@ -108,11 +108,13 @@ where
     R::File: HostFile,
 {
     let wanted = model.metadata()?;
-    let found = file.metadata()?;
+    let mut found = file.metadata()?;
     if found.uid() != wanted.uid() || found.gid() != wanted.gid() {
         let _ = file.give_to(wanted.uid(), wanted.gid());
+        // Giving a file away may change its mode.
+        found = file.metadata()?;
     }
-    if file.metadata()?.permissions() != wanted.permissions() {
+    if found.permissions() != wanted.permissions() {
         file.set_permissions(wanted.permissions())?;
     }
     Ok(())

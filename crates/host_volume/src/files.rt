@@ -189,12 +189,20 @@ where
         }
     }
 
-    // Cuts Main. What this volume hasn't written is kept in a file beside it first.
-    fn cut_main(&mut self, length: u64) -> io::Result<()> {
+    // Keeps what stands in Main from a place on, if anything does, in a file beside it.
+    fn keep_from(&mut self, place: u64) -> io::Result<()> {
         let end = self.main.len()?;
-        if !self.main_written && length < end {
-            keep_tail(self.alloc, &self.runtime, &self.main, length, end)?;
-            self.sync_folder()?;
+        if place >= end {
+            return Ok(());
+        }
+        keep_tail(self.alloc, &self.runtime, &self.main, place, end)?;
+        self.sync_folder()
+    }
+
+    // Cuts Main. What this volume has not written is kept first.
+    fn cut_main(&mut self, length: u64) -> io::Result<()> {
+        if !self.main_written {
+            self.keep_from(length)?;
         }
         self.main.cut(length)
     }
