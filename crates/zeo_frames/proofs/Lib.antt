@@ -1,0 +1,4 @@
+pub mod Heads
+pub mod Filling
+pub mod Cuts
+pub mod OneWay

@@ -1,0 +1,10 @@
+pub mod Lists
+pub mod Items
+pub mod Again
+pub mod Forms
+pub mod IdLists
+pub mod CallRows
+pub mod RefusalRows
+pub mod AnswerRows
+pub mod ListRows
+pub mod MessageRows
