@@ -662,8 +662,15 @@ if mount -t tmpfs -o size=24k,mode=755 mishaps "$D/small" 2>/dev/null; then
     cp "$WORK/made" "$D/made"
     program 60 "$F" run <"$WORK/script" >"$D/replies"
     why=$(differs status 5 $?)$(differs "the last line" "store fault" "$(tail -n 1 "$D/replies")")
-    why=$why$(lost "$F" "$D/made" "$D/replies")
     if [ "$(acknowledged "$D/replies" | wc -l)" = 0 ]; then why="${why}nothing was committed; "; fi
+    # What was written of the last transaction is cut off only once there is room to keep it.
+    cp "$F" "$WORK/copy"
+    program 20 "$F" undolog >"$WORK/out"
+    case $? in
+    0) ;;
+    5) why=$why$(differs "the output" "store fault" "$(cat "$WORK/out")")$(changed "$F" "$WORK/copy") ;;
+    *) why="${why}a list ended with another status; " ;;
+    esac
     check "a disk that fills up" "$why"
     mount -o remount,size=1m "$D/small"
     commits 5000 5 | program 60 "$F" run >"$D/more"
@@ -671,7 +678,7 @@ if mount -t tmpfs -o size=24k,mode=755 mishaps "$D/small" 2>/dev/null; then
     check "the same file, once there is room" "$why"
     rm -f "$D/small"/*
     mount -o remount,size=48k "$D/small"
-    make "$F" 200
+    make "$F" 300
     flip_length "$F" >/dev/null
     cp "$F" "$WORK/copy"
     program 20 "$F" undolog >"$WORK/out"
