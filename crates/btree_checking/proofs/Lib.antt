@@ -1,0 +1,14 @@
+pub mod Orders
+pub mod Chains
+pub mod Tests
+pub mod Shaped
+pub mod Steps
+pub mod Finding
+pub mod Building
+pub mod Heights
+pub mod Sound
+pub mod Contents
+pub mod Going
+pub mod Once
+pub mod Visited
+pub mod Rooting

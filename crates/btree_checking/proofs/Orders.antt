@@ -1,0 +1,64 @@
+-- The order of keys, by tests.
+use Rattle.std.proofs.Common.{◌≡◌, Bool, true, false, Option, Some, None, ◌⊎◌, inl, inr, refl, sym, ◌∙◌, ap, subst}
+use Rattle.std.specs.declared.cmp.Ordering.{Ordering}
+use Rattle.std.specs.declared.cmp.Ordering.TheVariants.{Less, Equal, Greater}
+use Rattle.std.specs.Ordering.{is_lt, ordering_reverse}
+use Rattle.btree_family.specs.declared.key.Key.{Key}
+use Rattle.btree_family.specs.Keys.{key_cmp}
+use Rattle.btree_family.specs.KeyLaws.{key_cmp-total, key_cmp-same}
+use Rattle.btree_shapes.specs.Keys.{is_below}
+use Rattle.btree_shapes.specs.Shapes.{IsFrom}
+
+is_less : (o : Ordering) → is_lt o ≡ true → o ≡ Less
+is_less Less e = refl
+is_less Equal e = cc
+is_less Greater e = cc
+
+reversed : (a b : Key) → key_cmp b a ≡ ordering_reverse (key_cmp a b)
+reversed a b = key_cmp-total.antisymm b a
+
+below_is : (a b : Key) → is_below a b ≡ true → key_cmp a b ≡ Less
+below_is a b h = is_less (key_cmp a b) h
+
+pub below_not : (a b : Key) → is_below a b ≡ true → is_below b a ≡ false
+below_not a b h = ap is_lt (reversed a b ∙ ap ordering_reverse (below_is a b h))
+
+below_below : (a b c : Key) → is_below a b ≡ true → is_below b c ≡ true → is_below a c ≡ true
+below_below a b c g h = ap is_lt (key_cmp-total.trans a b c (below_is a b g) (below_is b c h))
+
+by_order : (a b : Key) (o : Ordering) → key_cmp a b ≡ o → (a ≡ b) ⊎ ((is_below a b ≡ true) ⊎ (is_below b a ≡ true))
+by_order a b Less e = inr (inl (ap is_lt e))
+by_order a b Equal e = inl (key_cmp-same a b e)
+by_order a b Greater e = inr (inr (ap is_lt (reversed a b ∙ ap ordering_reverse e)))
+
+order : (a b : Key) → (a ≡ b) ⊎ ((is_below a b ≡ true) ⊎ (is_below b a ≡ true))
+order a b = by_order a b (key_cmp a b) refl
+
+by_test : (b : Bool) → (b ≡ true) ⊎ (b ≡ false)
+by_test true = inl refl
+by_test false = inr refl
+
+true_false : {P : Type 0} (b : Bool) → b ≡ true → b ≡ false → P
+true_false b t f = let bad : true ≡ false = sym t ∙ f in absurd cc
+
+-- not below b, and b below c
+from_below : (a b c : Key) → is_below b a ≡ false → is_below b c ≡ true → is_below a c ≡ true
+from_below a b c g h = elim (order a b) [
+  | inl e ↦ subst (λ x. is_below x c ≡ true) (sym e) h
+  | inr o ↦ elim o [
+    | inl l ↦ below_below a b c l h
+    | inr l ↦ true_false (is_below b a) l g
+  ]
+]
+
+-- a is not above b, which is not above c
+from_from : (a b c : Key) → is_below b a ≡ false → is_below c b ≡ false → is_below c a ≡ false
+from_from a b c g h = elim (by_test (is_below c a)) [
+  | inl l ↦ true_false (is_below b a) (from_below b c a h l) g
+  | inr n ↦ n
+]
+
+-- a bound may be widened
+pub from_wider : (low : Option Key) (mid key : Key) → IsFrom low mid → IsFrom (Some mid) key → IsFrom low key
+from_wider None mid key l h = tt
+from_wider (Some low) mid key l h = from_from low mid key l h

@@ -1,0 +1,5 @@
+pub mod Rules
+pub mod Walks
+pub mod Steps
+pub mod Verdicts
+pub mod Laws
