@@ -3,8 +3,7 @@
 use crate::row::Row;
 use crate::row_error::RowError;
 use crate::{
-    calls, classes, files, graphs, ids, lists, literals, merges, pendings, records, scripts,
-    states, tokens, trees, views, volumes,
+    classes, files, graphs, ids, lists, literals, merges, records, scripts, states, tokens, volumes,
 };
 use std::alloc::Global;
 
@@ -30,16 +29,10 @@ fn of_trees(alloc: Global, row: &Row) -> Result<Option<String>, RowError> {
     if let Some(text) = states::answer(alloc, row)? {
         return Ok(Some(text));
     }
-    if let Some(text) = merges::answer(alloc, row)? {
-        return Ok(Some(text));
-    }
-    if let Some(text) = trees::answer(alloc, row)? {
-        return Ok(Some(text));
-    }
-    calls::answer(alloc, row)
+    merges::answer(alloc, row)
 }
 
-/// The calls of numbers, lists, files, scripts, views and volumes.
+/// The calls of numbers, lists, files, scripts and volumes.
 fn of_files(alloc: Global, row: &Row) -> Result<Option<String>, RowError> {
     if let Some(text) = ids::answer(alloc, row)? {
         return Ok(Some(text));
@@ -51,12 +44,6 @@ fn of_files(alloc: Global, row: &Row) -> Result<Option<String>, RowError> {
         return Ok(Some(text));
     }
     if let Some(text) = scripts::answer(alloc, row)? {
-        return Ok(Some(text));
-    }
-    if let Some(text) = pendings::answer(alloc, row)? {
-        return Ok(Some(text));
-    }
-    if let Some(text) = views::answer(alloc, row)? {
         return Ok(Some(text));
     }
     volumes::answer(alloc, row)

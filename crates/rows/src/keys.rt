@@ -3,7 +3,7 @@
 use crate::graphs::push_bytes;
 use crate::row::bytes_of;
 use crate::row_error::RowError;
-use btree_family::{Item, Key};
+use btree_family::Key;
 use std::alloc::Global;
 use std::fmt::Write;
 use zb_ids::Text8;
@@ -34,32 +34,4 @@ pub fn push_key(alloc: Global, text: &mut String, key: &Key) -> Result<(), RowEr
             push_bytes(alloc, text, bytes.as_slice())
         }
     }
-}
-
-/// The value of a word, by its spelling; no word is no value.
-pub fn value_of(alloc: Global, word: Option<&str>) -> Result<Option<Text8>, RowError> {
-    match word {
-        Some(digits) => Ok(Some(Text8::from_vec(bytes_of(alloc, digits)?))),
-        None => Ok(None),
-    }
-}
-
-/// A value's spelling.
-pub fn push_value(alloc: Global, text: &mut String, value: &Option<Text8>) -> Result<(), RowError> {
-    match value {
-        Some(bytes) => push_bytes(alloc, text, bytes.as_slice()),
-        None => Ok(text.push_str("absent")?),
-    }
-}
-
-/// How many items there are, and the first and the last key.
-pub fn push_items(alloc: Global, text: &mut String, items: &[Item]) -> Result<(), RowError> {
-    let (Some(first), Some(last)) = (items.first(), items.last()) else {
-        return Ok(text.push_str("none")?);
-    };
-    let count = items.len();
-    write!(text, "{count} ")?;
-    push_key(alloc, text, &first.key)?;
-    text.push_str(" to ")?;
-    push_key(alloc, text, &last.key)
 }

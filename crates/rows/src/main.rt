@@ -4,7 +4,6 @@
 #![tactic(auto)]
 
 mod answers;
-mod calls;
 mod classes;
 mod files;
 mod folder;
@@ -14,19 +13,14 @@ mod keys;
 mod lists;
 mod literals;
 mod merges;
-mod pendings;
 mod reading;
 mod records;
 mod row;
 mod row_error;
 mod scripts;
-mod served;
-mod space;
 mod states;
 mod tally;
 mod tokens;
-mod trees;
-mod views;
 mod volumes;
 
 use answers::answer_of;
