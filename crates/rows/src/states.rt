@@ -4,10 +4,8 @@ use crate::graphs::{push_bytes, push_written};
 use crate::keys::push_key;
 use crate::row::Row;
 use crate::row_error::RowError;
-use btree_family::{Bucket, ClassRow, leaf_of, row_of};
-use bucket_state::{
-    Inner, TreeState, read_bucket, read_tree, write_bucket, write_embedded, write_inner,
-};
+use btree_family::{Bucket, ClassRow, row_of};
+use bucket_state::{Inner, TreeState, read_bucket, read_tree, write_bucket, write_embedded};
 use pickle_value::{Pickle, read_pickle, write_pickle};
 use std::alloc::Global;
 use std::fmt::Write;
@@ -102,13 +100,9 @@ fn push_leaf(
     push_state(alloc, text, again)
 }
 
-/// The state of a tree's object, and what it is written as. Where it has children, they are written
-/// as leaves.
+/// The state of a tree's object, and what it is written as where it has no children.
 fn tree(alloc: Global, row: &Row) -> Result<String, RowError> {
     let class = class_of(row)?;
-    let Some(leaf) = leaf_of(class) else {
-        return Err(RowError::Value);
-    };
     let state = state_of(alloc, row)?;
     let mut text = String::new(alloc);
     match read_tree(alloc, &state, class) {
@@ -118,9 +112,7 @@ fn tree(alloc: Global, row: &Row) -> Result<String, RowError> {
             push_leaf(alloc, &mut text, &bucket, &again)?;
         }
         Ok(TreeState::Children(inner)) => {
-            let again = write_inner(alloc, &inner, leaf, leaf)?;
             push_inner(alloc, &mut text, &inner)?;
-            push_state(alloc, &mut text, &again)?;
         }
         Err(refusal) => write!(text, "{refusal}")?,
     }
