@@ -13,7 +13,7 @@ ghost use Rattle.fs_reading.specs.Main.{IsStart, IsStartOf};
 ghost use Rattle.fs_recovery.specs.Opens.{newest_kept};
 ghost use Rattle.fs_reading.specs.Outlines.{AllStandWithin, IsOutline, outlined_transaction};
 ghost use Rattle.pack_copy.specs.Copying.{IsCopied, IsSource, copied_in};
-ghost use Rattle.pack_copy.specs.UpTo.{Ends, GoesOn, IsBelowNext, IsCopiedUpTo, IsCountUpTo};
+ghost use Rattle.pack_copy.specs.UpTo.{AddsUnlessEnough, AreShort, Ends, GoesOn, IsBelowNext, IsCopiedUpTo, IsCountUpTo};
 ghost use Rattle.pack_copy.specs.InFull.{full_file};
 ghost use Rattle.pack_copy.specs.Counting.{IsCopyCounted};
 
@@ -52,25 +52,24 @@ fn with_tid(outline: Outline, tid: Tid) -> Outline
 
 /// The outline of the transaction at a place of Main, with the number that its place has.
 fn read_at<V: Volume>(alloc: Global, volume: &mut V, start: Place) -> Result<Outline, StoreError>
-    requires { V.told → IsStart (seen (V.log volume.old) Area.Main) start }
+    requires { V.told → IsStart (seen (V.state volume.old).log Area.Main) start }
     ensures transaction { V.told → (reached : Reached) (number : ℕ)
-        → Begins (seen (V.log volume.old) Area.Main) reached → IsStartOf reached number start
+        → Begins (seen (V.state volume.old).log Area.Main) reached → IsStartOf reached number start
         → IfOk result (λ outline. slice_get reached.list number
-        ≡ Some (outlined_transaction (seen (V.log volume.old) Area.Main) outline)) }
+        ≡ Some (outlined_transaction (seen (V.state volume.old).log Area.Main) outline)) }
     ensures within { V.told → IfOk result (λ outline.
-        AllStandWithin (seen (V.log volume.old) Area.Main) outline.changes) }
+        AllStandWithin (seen (V.state volume.old).log Area.Main) outline.changes) }
     ensures formed { IfOk result (λ outline. IsOutline outline) }
     ensures tid { IfOk result (λ outline. outline.tid ≡ start.serial) }
-    ensures same { V.log volume.new ≡ V.log volume.old }
-    ensures counts { IsCopyCounted (V.read_faults volume.old) (V.read_faults volume.new)
-        (V.write_faults volume.old) (V.write_faults volume.new) result }
+    ensures same { (V.state volume.new).log ≡ (V.state volume.old).log }
+    ensures counts { IsCopyCounted (V.state volume.old) (V.state volume.new) result }
 {
     let tid = start.serial;
     let outline = read_outline_at(alloc, volume, start)?;
     Ok(with_tid(outline, tid))
 }
 
-/// How many changes a turn copies at least, where something is left behind it.
+/// A turn ends once it has copied so many changes.
 const CHANGES_A_TURN: u64 = 64;
 
 /// How far a copy goes on.
@@ -84,7 +83,10 @@ enum Extent {
 
 /// Whether a turn has copied enough, where so many changes are copied in all.
 fn is_over(extent: Extent, changes: u64) -> bool
-    ensures turn { (before : ℕ) → extent ≡ Extent.Turn before → IsTrue result → before + changes_a_turn ≤ changes }
+    ensures turn { (before : ℕ) → extent ≡ Extent.Turn before → IsTrue result
+        → before + changes_a_turn ≤ changes }
+    ensures early { (before : ℕ) → extent ≡ Extent.Turn before → result ≡ false
+        → changes < before + changes_a_turn }
     ensures rest { extent ≡ Extent.Rest → result ≡ false }
 {
     match extent {
@@ -108,24 +110,29 @@ fn copy_one<V: Volume>(
 ) -> Result<bool, StoreError>
     requires above { newest_kept to.old.index ≤ start.serial }
     requires bound { start.serial < 2 ^ 64 - 1 }
-    requires source { V.told → IsSource (seen (V.log volume.old) Area.Main) from.now }
+    requires source { V.told → IsSource (seen (V.state volume.old).log Area.Main) from.now }
     requires next { V.told → (number : ℕ)
-        × IsStartOf (reached_in (seen (V.log volume.old) Area.Main)) number start
-        × IsCopiedUpTo (listed (seen (V.log volume.old) Area.Main)) (seen (V.log volume.old) Area.Side)
+        × IsStartOf (reached_in (seen (V.state volume.old).log Area.Main)) number start
+        × IsCopiedUpTo (listed (seen (V.state volume.old).log Area.Main))
+        (seen (V.state volume.old).log Area.Side)
         to.old keep.now number }
     ensures next { V.told → (number : ℕ)
-        → IsStartOf (reached_in (seen (V.log volume.old) Area.Main)) number start
-        → IsCopiedUpTo (listed (seen (V.log volume.old) Area.Main)) (seen (V.log volume.old) Area.Side)
+        → IsStartOf (reached_in (seen (V.state volume.old).log Area.Main)) number start
+        → IsCopiedUpTo (listed (seen (V.state volume.old).log Area.Main))
+        (seen (V.state volume.old).log Area.Side)
         to.old keep.now number
-        → IfOk result (GoesOn (listed (seen (V.log volume.old) Area.Main))
-        (seen (V.log volume.new) Area.Side) to.new keep.now number) }
+        → IfOk result (GoesOn (listed (seen (V.state volume.old).log Area.Main))
+        (seen (V.state volume.new).log Area.Side) to.new keep.now number) }
     ensures enough { IfOk result (λ over. over ≡ false → enough ≡ true) }
+    ensures added { V.told → IfOk result (λ over. AddsUnlessEnough enough
+        (listed (seen (V.state volume.old).log Area.Side))
+        (listed (seen (V.state volume.new).log Area.Side))) }
     ensures newest { OnOk result (newest_kept to.new.index ≤ start.serial) }
     ensures tid { to.new.tid ≡ to.old.tid }
-    ensures unmoved { IfOk result (λ over. over ≡ false → (V.log volume.new ≡ V.log volume.old) × (to.new ≡ to.old)) }
-    ensures main { V.told → StaysAs Area.Main (V.log volume.old) (V.log volume.new) }
-    ensures counts { IsCopyCounted (V.read_faults volume.old) (V.read_faults volume.new)
-        (V.write_faults volume.old) (V.write_faults volume.new) result }
+    ensures unmoved { IfOk result (λ over. over ≡ false → ((V.state volume.new).log
+        ≡ (V.state volume.old).log) × (to.new ≡ to.old)) }
+    ensures main { V.told → StaysAs Area.Main (V.state volume.old).log (V.state volume.new).log }
+    ensures counts { IsCopyCounted (V.state volume.old) (V.state volume.new) result }
 {
     let outline = read_at(alloc, volume, start)?;
     match left_of(from, to.tid, keep, outline) {
@@ -154,18 +161,22 @@ fn copy_from<V: Volume>(
     requires within { first ≤ length from.now.transactions }
     requires above { IsBelowNext from.now.transactions (newest_kept to.old.index) first }
     requires bound { All (λ p. p.serial < 2 ^ 64 - 1) from.now.transactions }
-    requires source { V.told → IsSource (seen (V.log volume.old) Area.Main) from.now }
-    requires up_to { V.told → IsCopiedUpTo (listed (seen (V.log volume.old) Area.Main))
-        (seen (V.log volume.old) Area.Side) to.old keep.now first }
-    ensures ends { V.told → IfOk result (Ends (listed (seen (V.log volume.old) Area.Main))
-        (seen (V.log volume.new) Area.Side) to.new keep.now first (length from.now.transactions)) }
+    requires source { V.told → IsSource (seen (V.state volume.old).log Area.Main) from.now }
+    requires up_to { V.told → IsCopiedUpTo (listed (seen (V.state volume.old).log Area.Main))
+        (seen (V.state volume.old).log Area.Side) to.old keep.now first }
+    ensures ends { V.told → IfOk result (Ends (listed (seen (V.state volume.old).log Area.Main))
+        (seen (V.state volume.new).log Area.Side) to.new keep.now first (length
+        from.now.transactions)) }
     ensures turn { V.told → (before : ℕ) → extent ≡ Extent.Turn before → IfOk result (λ whole.
-        whole ≡ false → before + changes_a_turn ≤ change_count (listed (seen (V.log volume.new) Area.Side))) }
+        whole ≡ false → before + changes_a_turn
+        ≤ change_count (listed (seen (V.state volume.new).log Area.Side))) }
+    ensures short { V.told → (before : ℕ) → extent ≡ Extent.Turn before → OnOk result
+        (AreShort before (listed (seen (V.state volume.old).log Area.Side))
+        (listed (seen (V.state volume.new).log Area.Side))) }
     ensures rest { extent ≡ Extent.Rest → IfOk result (λ whole. whole ≡ true) }
     ensures tid { to.new.tid ≡ to.old.tid }
-    ensures main { V.told → StaysAs Area.Main (V.log volume.old) (V.log volume.new) }
-    ensures counts { IsCopyCounted (V.read_faults volume.old) (V.read_faults volume.new)
-        (V.write_faults volume.old) (V.write_faults volume.new) result }
+    ensures main { V.told → StaysAs Area.Main (V.state volume.old).log (V.state volume.new).log }
+    ensures counts { IsCopyCounted (V.state volume.old) (V.state volume.new) result }
 {
     let mut buffer = Buffer::new(alloc)?;
     let starts = from.transactions();
@@ -205,20 +216,20 @@ pub fn copy_turn<V: Volume>(
     keep: &OidSet,
 ) -> Result<Copied, StoreError>
     requires bound { All (λ p. p.serial < 2 ^ 64 - 1) from.now.transactions }
-    requires source { V.told → IsSource (seen (V.log volume.old) Area.Main) from.now }
-    requires copied { V.told → IsCopied (seen (V.log volume.old) Area.Side) to.old }
+    requires source { V.told → IsSource (seen (V.state volume.old).log Area.Main) from.now }
+    requires copied { V.told → IsCopied (seen (V.state volume.old).log Area.Side) to.old }
     requires prefix { V.told → IsPrefixOf
-        (packed_by to.old.tid keep.now (listed (seen (V.log volume.old) Area.Main)))
-        (listed (seen (V.log volume.old) Area.Side)) }
-    ensures copied { V.told → OnOk result (IsCopied (seen (V.log volume.new) Area.Side) to.new) }
+        (packed_by to.old.tid keep.now (listed (seen (V.state volume.old).log Area.Main)))
+        (listed (seen (V.state volume.old).log Area.Side)) }
+    ensures copied { V.told → OnOk result (IsCopied (seen (V.state volume.new).log Area.Side)
+        to.new) }
     ensures turn { V.told → IfOk result (IsCopyTurn
-        (packed_by to.old.tid keep.now (listed (seen (V.log volume.old) Area.Main)))
-        (copied_in to.old.tid (seen (V.log volume.old) Area.Side))
-        (copied_in to.new.tid (seen (V.log volume.new) Area.Side))) }
+        (packed_by to.old.tid keep.now (listed (seen (V.state volume.old).log Area.Main)))
+        (copied_in to.old.tid (seen (V.state volume.old).log Area.Side))
+        (copied_in to.new.tid (seen (V.state volume.new).log Area.Side))) }
     ensures tid { to.new.tid ≡ to.old.tid }
-    ensures main { V.told → StaysAs Area.Main (V.log volume.old) (V.log volume.new) }
-    ensures counts { IsCopyCounted (V.read_faults volume.old) (V.read_faults volume.new)
-        (V.write_faults volume.old) (V.write_faults volume.new) result }
+    ensures main { V.told → StaysAs Area.Main (V.state volume.old).log (V.state volume.new).log }
+    ensures counts { IsCopyCounted (V.state volume.old) (V.state volume.new) result }
 {
     let first = count_up_to(from.transactions(), to.newest());
     let turn = Extent::Turn(to.changes());
@@ -239,20 +250,21 @@ pub fn copy_rest<V: Volume>(
     keep: &OidSet,
 ) -> Result<(), StoreError>
     requires bound { All (λ p. p.serial < 2 ^ 64 - 1) from.now.transactions }
-    requires source { V.told → IsSource (seen (V.log volume.old) Area.Main) from.now }
-    requires copied { V.told → IsCopied (seen (V.log volume.old) Area.Side) to.old }
+    requires source { V.told → IsSource (seen (V.state volume.old).log Area.Main) from.now }
+    requires copied { V.told → IsCopied (seen (V.state volume.old).log Area.Side) to.old }
     requires prefix { V.told → IsPrefixOf
-        (packed_by to.old.tid keep.now (listed (seen (V.log volume.old) Area.Main)))
-        (listed (seen (V.log volume.old) Area.Side)) }
-    ensures copied { V.told → OnOk result (IsCopied (seen (V.log volume.new) Area.Side) to.new) }
-    ensures list { V.told → OnOk result (listed (seen (V.log volume.new) Area.Side)
-        ≡ packed_by to.old.tid keep.now (listed (seen (V.log volume.old) Area.Main))) }
-    ensures text { V.told → OnOk result (seen (V.log volume.new) Area.Side
-        ≡ full_file (packed_by to.old.tid keep.now (listed (seen (V.log volume.old) Area.Main)))) }
+        (packed_by to.old.tid keep.now (listed (seen (V.state volume.old).log Area.Main)))
+        (listed (seen (V.state volume.old).log Area.Side)) }
+    ensures copied { V.told → OnOk result (IsCopied (seen (V.state volume.new).log Area.Side)
+        to.new) }
+    ensures list { V.told → OnOk result (listed (seen (V.state volume.new).log Area.Side)
+        ≡ packed_by to.old.tid keep.now (listed (seen (V.state volume.old).log Area.Main))) }
+    ensures text { V.told → OnOk result (seen (V.state volume.new).log Area.Side
+        ≡ full_file (packed_by to.old.tid keep.now (listed (seen (V.state volume.old).log
+        Area.Main)))) }
     ensures tid { to.new.tid ≡ to.old.tid }
-    ensures main { V.told → StaysAs Area.Main (V.log volume.old) (V.log volume.new) }
-    ensures counts { IsCopyCounted (V.read_faults volume.old) (V.read_faults volume.new)
-        (V.write_faults volume.old) (V.write_faults volume.new) result }
+    ensures main { V.told → StaysAs Area.Main (V.state volume.old).log (V.state volume.new).log }
+    ensures counts { IsCopyCounted (V.state volume.old) (V.state volume.new) result }
 {
     let first = count_up_to(from.transactions(), to.newest());
     let _ = copy_from(alloc, volume, from, to, keep, first, Extent::Rest)?;
