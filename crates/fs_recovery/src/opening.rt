@@ -66,12 +66,12 @@ fn keep_block<V: Volume, const N: usize>(
     requires bytes { V.told → AreBytes (main_bytes (V.state volume.old).log) }
     ensures before { OnOk result (KeptBefore index.new (p + header.now.length + 8)) }
     ensures newest { OnOk result (newest_kept index.new ≡ header.now.tid) }
-    ensures block { V.told →
-        HeaderBegins (main_bytes (V.state volume.old).log) p (newest_kept index.old) header.now →
-        Numbered (main_bytes (V.state volume.old).log) p (newest_kept index.old) index.old
-        numbers.old →
-        BlockRead (main_bytes (V.state volume.old).log) (p + header.now.length + 8) header.now.tid
-        index.new numbers.new result }
+    ensures block { V.told
+        → HeaderBegins (main_bytes (V.state volume.old).log) p (newest_kept index.old) header.now
+        → Numbered (main_bytes (V.state volume.old).log) p
+        (newest_kept index.old) index.old numbers.old
+        → BlockRead (main_bytes (V.state volume.old).log)
+        (p + header.now.length + 8) header.now.tid index.new numbers.new result }
     ensures shows { V.told →
         Shows window.new.at window.new.count window.new.held window.new.ahead
         (main_bytes (V.state volume.old).log) }

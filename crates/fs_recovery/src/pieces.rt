@@ -80,8 +80,9 @@ pub fn number_behind<V: Volume, const N: usize>(
     requires shows { V.told →
         Shows window.old.at window.old.count window.old.held window.old.ahead
         (main_bytes (V.state volume.old).log) }
-    ensures value { V.told →
-        IfOk result (λ x. x ≡ number_in 8 (drop n (drop at (main_bytes (V.state volume.old).log)))) }
+    ensures value { V.told
+        → IfOk result (λ x. x
+        ≡ number_in 8 (drop n (drop at (main_bytes (V.state volume.old).log)))) }
     ensures shows { V.told →
         Shows window.new.at window.new.count window.new.held window.new.ahead
         (main_bytes (V.state volume.old).log) }

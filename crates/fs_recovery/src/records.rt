@@ -142,9 +142,9 @@ pub fn read_records<V: Volume, const N: usize>(
     requires before { AreBefore index.old.entries tid from }
     requires earlier { (oid : ℕ) → All (λ p. p.serial < tid) (places_in index.old.entries oid) }
     ensures before { OnOk result (AreBefore index.new.entries tid end) }
-    ensures records { V.told → (known : List Known) → ArePlacesOf known index.old.entries →
-        RecordsRead (main_bytes (V.state volume.old).log) known place tid from end
-        index.new.entries result }
+    ensures records { V.told → (known : List Known) → ArePlacesOf known index.old.entries
+        → RecordsRead (main_bytes
+        (V.state volume.old).log) known place tid from end index.new.entries result }
     ensures transactions { index.new.transactions ≡ index.old.transactions }
     ensures shows { V.told →
         Shows window.new.at window.new.count window.new.held window.new.ahead
