@@ -22,8 +22,8 @@ const MAGIC: &[u8; 4] = b"FS30";
 /// transactions. It takes no memory. After a fault Side may hold anything; Main is as it was at every
 /// moment.
 pub fn begin<V: Volume>(alloc: Global, volume: &mut V, tid: Tid) -> Result<CopyState, StoreFault>
-    ensures copied { V.told → IfOk result (λ c. IsCopied (seen (V.state volume.new).log Area.Side)
-        c) }
+    ensures copied { V.told
+        → IfOk result (λ c. IsCopied (seen (V.state volume.new).log Area.Side) c) }
     ensures empty { V.told → OnOk result (listed (seen (V.state volume.new).log Area.Side) ≡ []) }
     ensures tid { IfOk result (λ c. c.tid ≡ tid) }
     ensures main { V.told → StaysAs Area.Main (V.state volume.old).log (V.state volume.new).log }

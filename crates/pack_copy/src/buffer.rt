@@ -94,8 +94,8 @@ impl Buffer {
         ensures appended { V.told → OnOk result
             (IsAppended (V.state volume.old).log self.old (V.state volume.new).log self.new []) }
         ensures empty { OnOk result (self.new.bytes ≡ []) }
-        ensures main { V.told → StaysAs Area.Main (V.state volume.old).log (V.state volume.new).log
-            }
+        ensures main { V.told
+            → StaysAs Area.Main (V.state volume.old).log (V.state volume.new).log }
         ensures counts { IsCopyCounted (V.state volume.old) (V.state volume.new) result }
     {
         write_behind(volume, self.end, &self.bytes[..self.held])?;
@@ -110,8 +110,8 @@ impl Buffer {
         ensures appended { V.told → OnOk result
             (IsAppended (V.state volume.old).log self.old (V.state volume.new).log self.new []) }
         ensures room { OnOk result (length self.new.bytes < 65536) }
-        ensures main { V.told → StaysAs Area.Main (V.state volume.old).log (V.state volume.new).log
-            }
+        ensures main { V.told
+            → StaysAs Area.Main (V.state volume.old).log (V.state volume.new).log }
         ensures counts { IsCopyCounted (V.state volume.old) (V.state volume.new) result }
     {
         if self.held < PIECE {
@@ -165,11 +165,11 @@ impl Buffer {
     /// Puts bytes behind those that are held.
     pub(crate) fn put<V: Volume>(&mut self, volume: &mut V, bytes: &[u8]) -> Result<(), StoreError>
         requires { V.told → IsAtEnd (V.state volume.old).log self.old }
-        ensures appended { V.told → OnOk result
-            (IsAppended (V.state volume.old).log self.old (V.state volume.new).log self.new
-            bytes.now) }
-        ensures main { V.told → StaysAs Area.Main (V.state volume.old).log (V.state volume.new).log
-            }
+        ensures appended { V.told
+            → OnOk result (IsAppended (V.state volume.old).log self.old
+            (V.state volume.new).log self.new bytes.now) }
+        ensures main { V.told
+            → StaysAs Area.Main (V.state volume.old).log (V.state volume.new).log }
         ensures counts { IsCopyCounted (V.state volume.old) (V.state volume.new) result }
     {
         are_bytes(bytes);
@@ -195,8 +195,8 @@ impl Buffer {
         ensures appended { V.told → OnOk result
             (IsAppended (V.state volume.old).log self.old (V.state volume.new).log self.new
             (take count (drop at (main_bytes (V.state volume.old).log)))) }
-        ensures main { V.told → StaysAs Area.Main (V.state volume.old).log (V.state volume.new).log
-            }
+        ensures main { V.told
+            → StaysAs Area.Main (V.state volume.old).log (V.state volume.new).log }
         ensures counts { IsCopyCounted (V.state volume.old) (V.state volume.new) result }
     {
         let mut done = 0;

@@ -86,13 +86,13 @@ pub(crate) fn append<V: Volume>(
     requires above { newest_kept to.old.index ≤ outline.now.tid }
     requires bound { outline.now.tid < 2 ^ 64 - 1 }
     requires short { V.told → length (main_bytes (V.state volume.old).log) < 2 ^ 64 }
-    requires within { V.told → AllStandWithin (main_bytes (V.state volume.old).log)
-        outline.now.changes }
+    requires within { V.told
+        → AllStandWithin (main_bytes (V.state volume.old).log) outline.now.changes }
     requires copied { V.told → IsCopied (seen (V.state volume.old).log Area.Side) to.old }
-    requires later { V.told → newest_tid (listed (seen (V.state volume.old).log Area.Side)) <
-        outline.now.tid }
-    ensures copied { V.told → OnOk result (IsCopied (seen (V.state volume.new).log Area.Side)
-        to.new) }
+    requires later { V.told
+        → newest_tid (listed (seen (V.state volume.old).log Area.Side)) < outline.now.tid }
+    ensures copied { V.told
+        → OnOk result (IsCopied (seen (V.state volume.new).log Area.Side) to.new) }
     ensures list { V.told → OnOk result (listed (seen (V.state volume.new).log Area.Side)
         ≡ listed (seen (V.state volume.old).log Area.Side)
         ++ outlined_transaction (main_bytes (V.state volume.old).log) outline.now ∷ []) }

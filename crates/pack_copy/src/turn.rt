@@ -114,13 +114,11 @@ fn copy_one<V: Volume>(
     requires next { V.told → (number : ℕ)
         × IsStartOf (reached_in (seen (V.state volume.old).log Area.Main)) number start
         × IsCopiedUpTo (listed (seen (V.state volume.old).log Area.Main))
-        (seen (V.state volume.old).log Area.Side)
-        to.old keep.now number }
+        (seen (V.state volume.old).log Area.Side) to.old keep.now number }
     ensures next { V.told → (number : ℕ)
         → IsStartOf (reached_in (seen (V.state volume.old).log Area.Main)) number start
         → IsCopiedUpTo (listed (seen (V.state volume.old).log Area.Main))
-        (seen (V.state volume.old).log Area.Side)
-        to.old keep.now number
+        (seen (V.state volume.old).log Area.Side) to.old keep.now number
         → IfOk result (GoesOn (listed (seen (V.state volume.old).log Area.Main))
         (seen (V.state volume.new).log Area.Side) to.new keep.now number) }
     ensures enough { IfOk result (λ over. over ≡ false → enough ≡ true) }
@@ -164,14 +162,16 @@ fn copy_from<V: Volume>(
     requires source { V.told → IsSource (seen (V.state volume.old).log Area.Main) from.now }
     requires up_to { V.told → IsCopiedUpTo (listed (seen (V.state volume.old).log Area.Main))
         (seen (V.state volume.old).log Area.Side) to.old keep.now first }
-    ensures ends { V.told → IfOk result (Ends (listed (seen (V.state volume.old).log Area.Main))
-        (seen (V.state volume.new).log Area.Side) to.new keep.now first (length
-        from.now.transactions)) }
-    ensures turn { V.told → (before : ℕ) → extent ≡ Extent.Turn before → IfOk result (λ whole.
-        whole ≡ false → before + changes_a_turn
-        ≤ change_count (listed (seen (V.state volume.new).log Area.Side))) }
-    ensures short { V.told → (before : ℕ) → extent ≡ Extent.Turn before → OnOk result
-        (AreShort before (listed (seen (V.state volume.old).log Area.Side))
+    ensures ends { V.told
+        → IfOk result (Ends (listed (seen (V.state volume.old).log Area.Main))
+        (seen (V.state volume.new).log Area.Side) to.new keep.now first
+        (length from.now.transactions)) }
+    ensures turn { V.told → (before : ℕ) → extent ≡ Extent.Turn before
+        → IfOk result (λ whole. whole ≡ false
+        → before + changes_a_turn ≤ change_count
+        (listed (seen (V.state volume.new).log Area.Side))) }
+    ensures short { V.told → (before : ℕ) → extent ≡ Extent.Turn before
+        → OnOk result (AreShort before (listed (seen (V.state volume.old).log Area.Side))
         (listed (seen (V.state volume.new).log Area.Side))) }
     ensures rest { extent ≡ Extent.Rest → IfOk result (λ whole. whole ≡ true) }
     ensures tid { to.new.tid ≡ to.old.tid }
@@ -221,8 +221,8 @@ pub fn copy_turn<V: Volume>(
     requires prefix { V.told → IsPrefixOf
         (packed_by to.old.tid keep.now (listed (seen (V.state volume.old).log Area.Main)))
         (listed (seen (V.state volume.old).log Area.Side)) }
-    ensures copied { V.told → OnOk result (IsCopied (seen (V.state volume.new).log Area.Side)
-        to.new) }
+    ensures copied { V.told
+        → OnOk result (IsCopied (seen (V.state volume.new).log Area.Side) to.new) }
     ensures turn { V.told → IfOk result (IsCopyTurn
         (packed_by to.old.tid keep.now (listed (seen (V.state volume.old).log Area.Main)))
         (copied_in to.old.tid (seen (V.state volume.old).log Area.Side))
@@ -255,13 +255,14 @@ pub fn copy_rest<V: Volume>(
     requires prefix { V.told → IsPrefixOf
         (packed_by to.old.tid keep.now (listed (seen (V.state volume.old).log Area.Main)))
         (listed (seen (V.state volume.old).log Area.Side)) }
-    ensures copied { V.told → OnOk result (IsCopied (seen (V.state volume.new).log Area.Side)
-        to.new) }
+    ensures copied { V.told
+        → OnOk result (IsCopied (seen (V.state volume.new).log Area.Side) to.new) }
     ensures list { V.told → OnOk result (listed (seen (V.state volume.new).log Area.Side)
         ≡ packed_by to.old.tid keep.now (listed (seen (V.state volume.old).log Area.Main))) }
-    ensures text { V.told → OnOk result (seen (V.state volume.new).log Area.Side
-        ≡ full_file (packed_by to.old.tid keep.now (listed (seen (V.state volume.old).log
-        Area.Main)))) }
+    ensures text { V.told
+        → OnOk result (seen (V.state volume.new).log Area.Side
+        ≡ full_file (packed_by to.old.tid keep.now
+        (listed (seen (V.state volume.old).log Area.Main)))) }
     ensures tid { to.new.tid ≡ to.old.tid }
     ensures main { V.told → StaysAs Area.Main (V.state volume.old).log (V.state volume.new).log }
     ensures counts { IsCopyCounted (V.state volume.old) (V.state volume.new) result }

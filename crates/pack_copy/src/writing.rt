@@ -77,10 +77,11 @@ fn put_payload<V: Volume>(
     requires end { V.told → IsAtEnd (V.state volume.old).log buffer.old }
     requires short { V.told → length (main_bytes (V.state volume.old).log) < 2 ^ 64 }
     requires within { V.told → StandsWithin (main_bytes (V.state volume.old).log) source }
-    ensures appended { V.told → OnOk result
-        (IsAppended (V.state volume.old).log buffer.old (V.state volume.new).log buffer.new
-        (payload_text (full_payload (outlined_content (main_bytes (V.state volume.old).log)
-        source)))) }
+    ensures appended { V.told
+        → OnOk result (IsAppended (V.state volume.old).log buffer.old
+        (V.state volume.new).log buffer.new
+        (payload_text (full_payload
+        (outlined_content (main_bytes (V.state volume.old).log) source)))) }
     ensures main { V.told → StaysAs Area.Main (V.state volume.old).log (V.state volume.new).log }
     ensures counts { IsCopyCounted (V.state volume.old) (V.state volume.new) result }
 {
@@ -104,12 +105,13 @@ fn put_record<V: Volume>(
 ) -> Result<(), StoreError>
     requires end { V.told → IsAtEnd (V.state volume.old).log buffer.old }
     requires short { V.told → length (main_bytes (V.state volume.old).log) < 2 ^ 64 }
-    requires within { V.told → StandsWithin (main_bytes (V.state volume.old).log) change.now.source
-        }
-    ensures appended { V.told → OnOk result
-        (IsAppended (V.state volume.old).log buffer.old (V.state volume.new).log buffer.new
-        (record_text at tid (record_in places.now.entries (main_bytes (V.state volume.old).log)
-        change.now))) }
+    requires within { V.told
+        → StandsWithin (main_bytes (V.state volume.old).log) change.now.source }
+    ensures appended { V.told
+        → OnOk result (IsAppended (V.state volume.old).log buffer.old
+        (V.state volume.new).log buffer.new
+        (record_text at tid
+        (record_in places.now.entries (main_bytes (V.state volume.old).log) change.now))) }
     ensures room { V.told → OnOk result
         (HasRoom (record_in places.now.entries (main_bytes (V.state volume.old).log) change.now)) }
     ensures main { V.told → StaysAs Area.Main (V.state volume.old).log (V.state volume.new).log }
@@ -191,18 +193,20 @@ pub(crate) fn write_block<V: Volume>(
     requires end { end ≡ end_in (records_begin at outline.now) outline.now.changes + 8 }
     requires side { V.told → at ≡ length (seen (V.state volume.old).log Area.Side) }
     requires short { V.told → length (main_bytes (V.state volume.old).log) < 2 ^ 64 }
-    requires within { V.told → AllStandWithin (main_bytes (V.state volume.old).log)
-        outline.now.changes }
+    requires within { V.told
+        → AllStandWithin (main_bytes (V.state volume.old).log) outline.now.changes }
     ensures text { V.told → OnOk result (seen (V.state volume.new).log Area.Side
         ≡ seen (V.state volume.old).log Area.Side
         ++ block_text at (block_in places.now.entries
         (main_bytes (V.state volume.old).log) outline.now)) }
-    ensures fits { V.told → OnOk result (AreBytes
-        (block_text at (block_in places.now.entries (main_bytes (V.state volume.old).log)
-        outline.now))) }
-    ensures room { V.told → OnOk result (AllByRecursion HasRoom
-        (map (record_in places.now.entries (main_bytes (V.state volume.old).log))
-        outline.now.changes)) }
+    ensures fits { V.told
+        → OnOk result (AreBytes
+        (block_text at (block_in places.now.entries
+        (main_bytes (V.state volume.old).log) outline.now))) }
+    ensures room { V.told
+        → OnOk result (AllByRecursion HasRoom
+        (map (record_in places.now.entries
+        (main_bytes (V.state volume.old).log)) outline.now.changes)) }
     ensures main { V.told → StaysAs Area.Main (V.state volume.old).log (V.state volume.new).log }
     ensures counts { IsCopyCounted (V.state volume.old) (V.state volume.new) result }
 {
