@@ -192,7 +192,7 @@ module _ (main was now : List ℕ) (from : Kept) (old new : CopyKept) (keep : Fi
   all_so : (whole : Bool) (more : ℕ) → IsCopiedUpTo (listed main) now new keep (first + more) → IsAllOrMore new.tid keep (listed main) (length from.transactions) (first + more) whole → IsAllCopied (packed_by old.tid keep (listed main)) (listed now) whole
   all_so true more upto all = now_is more upto ∙ ap (filter_map F) (take_all (first + more) (listed main) (omega (arith, all, all_long main from source)))
   all_so false more upto some =
-    λ all. some (ap (λ (k : ℕ). filter_map (packed_one k keep (listed main)) (take (first + more) (listed main))) tid ∙ sym (now_is more upto) ∙ all ∙ ap (λ (k : ℕ). packed_by k keep (listed main)) (sym tid))
+      λ all. some (ap (λ (k : ℕ). filter_map (packed_one k keep (listed main)) (take (first + more) (listed main))) tid ∙ sym (now_is more upto) ∙ all ∙ ap (λ (k : ℕ). packed_by k keep (listed main)) (sym tid))
 
   ends_so : (whole : Bool) (more : ℕ) → IsCopiedUpTo (listed main) now new keep (first + more) → IsAllOrMore new.tid keep (listed main) (length from.transactions) (first + more) whole
       → (whole ≡ false → change_count (listed was) + changes_a_turn ≤ change_count (listed now)) → (left_behind more ≡ []) ⊎ (changes_a_turn ≤ 0 + change_count (behind more))
