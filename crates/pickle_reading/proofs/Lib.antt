@@ -1,0 +1,4 @@
+pub mod Stacks
+pub mod Sets
+pub mod Pairs
+pub mod Memos

@@ -1,0 +1,11 @@
+pub mod Stacks
+pub mod Leaves
+pub mod Additions
+pub mod Steps
+pub mod Reading
+pub mod Sound
+pub mod Lines
+pub mod Runs
+pub mod Places
+pub mod Longs
+pub mod SoundLaws

@@ -1,0 +1,14 @@
+//! Reading pickles: each token does to the nodes so far, the stack and the memo what its opcode says.
+#![tactic(auto)]
+
+mod additions;
+mod error;
+mod leaves;
+mod reading;
+mod state;
+mod steps;
+
+pub use error::PickleError;
+pub use reading::{NODE_LIMIT, ends, read_pickle};
+pub use state::{Extent, Item, Memo, NodeTable, Stack, State, first_room};
+pub use steps::take_step;
