@@ -2,3 +2,4 @@ pub mod Stacks
 pub mod Sets
 pub mod Pairs
 pub mod Memos
+pub mod Lines

@@ -4,8 +4,8 @@ pub mod Additions
 pub mod Steps
 pub mod Reading
 pub mod Sound
-pub mod Lines
-pub mod Runs
-pub mod Places
-pub mod Longs
+pub mod LineLaws
+pub mod RunLaws
+pub mod PlaceLaws
+pub mod LongLaws
 pub mod SoundLaws

@@ -31,8 +31,8 @@ use Rattle.pickle_reading.specs.Leaves.{long_number, long_of, first_line, behind
 use Rattle.pickle_reading.specs.Additions.{with_pair, pairs_of, append_acts, set_acts, acts_with, added}
 use Rattle.pickle_reading.specs.Steps.{Outcome, make, popped, unmarked, doubled, tuple_of, changed, add_to, append_to, set_pairs, set_in, build_of, object_of, reference_of, put_of, get_of, act_of, leaf_or, step}
 use Rattle.pickle_reading.specs.Sound.{StackBelow, MemoBelow, IsSoundState}
-use Rattle.pickle_reading.specs.Lines.{first-line, behind-line}
-use Rattle.pickle_reading.specs.Longs.{long-signed, signed32-wider, below-wider}
+use Rattle.pickle_reading.specs.LineLaws.{first-line, behind-line}
+use Rattle.pickle_reading.specs.LongLaws.{long-signed, signed32-wider, below-wider}
 use Rattle.zb_base.specs.Bytes.{AreBytes}
 
 -- what holds of the state, if there is one

@@ -27,7 +27,7 @@ use Rattle.pickle_references.specs.Named.{with_name, named_in, IsLeft, NamedIsTo
 use Rattle.pickle_references.specs.Cores.{core, name_of, has_form, number-core}
 use Rattle.pickle_references.proofs.Grown.{After, Grown, token_names, step-grown}
 use Rattle.pickle_references.proofs.Inside.{Inside, step-inside}
-use Rattle.pickle_reading.specs.Runs.{Gives, read_from-gives}
+use Rattle.pickle_reading.specs.RunLaws.{Gives, read_from-gives}
 use Rattle.pickle_references.proofs.Told.{Names, names-step, names-none, drop-front, core-behind}
 
 -- ---- names that stay

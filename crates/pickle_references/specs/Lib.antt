@@ -4,4 +4,4 @@ pub mod Sights
 pub mod Shown
 pub mod Named
 pub mod Cores
-pub mod Alike
+pub mod AlikeLaws

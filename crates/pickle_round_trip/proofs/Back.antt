@@ -27,7 +27,7 @@ use Rattle.pickle_writing.specs.Spelling.{Piece, piece_of, node_piece, root_piec
 use Rattle.pickle_graph.specs.Same.{has}
 use Rattle.pickle_round_trip.specs.Laws.{ReadsSame, ReadsAnywhere, ReadsTooLarge, WrittenReadsBack, WrittenReadsAnywhere}
 use Rattle.pickle_graph.specs.WalkLaws.{clash, not_true, has-head, has-append, walk-item}
-use Rattle.pickle_reading.specs.Runs.{read_from-stop}
+use Rattle.pickle_reading.specs.RunLaws.{read_from-stop}
 use Rattle.pickle_round_trip.proofs.Going.{Goes, goes_token, stops_right}
 use Rattle.pickle_round_trip.proofs.Standing.{Stands, at_end, copies-length}
 use Rattle.pickle_round_trip.proofs.Building.{Shown}

@@ -29,7 +29,7 @@ use Rattle.pickle_round_trip.proofs.Standing.{Tuples, Stands, at_end, copies-app
 use Rattle.pickle_round_trip.proofs.Building.{Shown, Built, room_or}
 use Rattle.pickle_round_trip.proofs.Visits.{visits}
 use Rattle.pickle_round_trip.proofs.Once.{apart-times, visits-once}
-use Rattle.pickle_references.specs.Alike.{form-of, more-names, name-alike}
+use Rattle.pickle_references.specs.AlikeLaws.{form-of, more-names, name-alike}
 use Rattle.pickle_round_trip.proofs.Back.{tuple-below, written, piece-shown, proto_goes, stop-read}
 
 -- ---- numbers one after the other

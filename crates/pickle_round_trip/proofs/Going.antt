@@ -12,7 +12,7 @@ use Rattle.pickle_reading.specs.declared.state.State.{State}
 use Rattle.pickle_reading.specs.declared.state.Item.TheVariants.{Value}
 use Rattle.pickle_reading.specs.Steps.{make, step}
 use Rattle.pickle_reading.specs.Reading.{graphs, read_from, is_stop}
-use Rattle.pickle_reading.specs.Runs.{read_from-step, read_from-refused}
+use Rattle.pickle_reading.specs.RunLaws.{read_from-step, read_from-refused}
 
 -- the text takes the reader from a state to another
 abbrev pub Goes : State → List ℕ → State → Type 0

@@ -19,7 +19,7 @@ use Rattle.pickle_graph.specs.Graph.{IsNode, IsSigned128}
 use Rattle.pickle_reading.specs.Leaves.{long_number, long_of, leaf_of, first_line, behind_line}
 use Rattle.pickle_graph.specs.Parts.{is_held}
 use Rattle.pickle_writing.specs.Spelling.{fewest, magnitude_of, long_size, long_text, number_text, counted_text, leaf_text}
-use Rattle.pickle_reading.specs.Lines.{first-line, behind-line}
+use Rattle.pickle_reading.specs.LineLaws.{first-line, behind-line}
 use Rattle.pickle_round_trip.proofs.Going.{Spells}
 use Rattle.pickle_graph.specs.WalkLaws.{cases_bool}
 

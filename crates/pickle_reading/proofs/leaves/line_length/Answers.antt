@@ -1,4 +1,4 @@
-use Rattle.pickle_reading.specs.Lines.{line_at, line_none}
+use Rattle.pickle_reading.proofs.Lines.{line_at, line_none}
 use Rattle.pickle_reading.proofs.leaves.line_length.Goals as goal
 
 pub returns-then-bytes-end-eq10-clause-first : goal.returns-then-bytes-end-eq10-clause-first

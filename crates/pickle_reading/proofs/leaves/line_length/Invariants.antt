@@ -1,5 +1,5 @@
 use Rattle.std.proofs.Common.{◌≤◌, ◌-◌, length}
-use Rattle.pickle_reading.specs.Lines.{NoneBefore}
+use Rattle.pickle_reading.proofs.Lines.{NoneBefore}
 use Rattle.pickle_reading.proofs.leaves.line_length.Given as goal
 
 abbrev pub invariant-loop-end : goal.invariant-loop-end

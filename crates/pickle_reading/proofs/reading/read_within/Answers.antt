@@ -4,8 +4,8 @@ use Rattle.std.proofs.lemmas.Result.{err_from_is_err_and}
 use Rattle.pickle_reading.specs.Steps.{AnswersAs}
 use Rattle.pickle_reading.specs.Reading.{graphs}
 use Rattle.zb_base.specs.Bytes.{AreBytes-take, AreBytes-drop}
-use Rattle.pickle_reading.specs.Places.{read_on, read_refused, read_stop, refused, span_fits}
-use Rattle.pickle_reading.specs.Runs.{read_from-fault}
+use Rattle.pickle_reading.specs.PlaceLaws.{read_on, read_refused, read_stop, refused, span_fits}
+use Rattle.pickle_reading.specs.RunLaws.{read_from-fault}
 use Rattle.pickle_reading.specs.SoundLaws.{SoundAfter, step-sound}
 use Rattle.pickle_reading.proofs.reading.read_within.Goals as goal
 

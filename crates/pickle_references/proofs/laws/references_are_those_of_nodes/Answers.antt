@@ -1,7 +1,7 @@
 -- References are told by the steps that read the graph.
 use Rattle.pickle_references.proofs.Told.{told-named}
 use Rattle.pickle_references.proofs.Lost.{named-told, part-left}
-use Rattle.pickle_references.specs.Alike.{copies-named}
+use Rattle.pickle_references.specs.AlikeLaws.{copies-named}
 use Rattle.pickle_references.proofs.laws.references_are_those_of_nodes.Goals as goal
 
 pub returns-clause-told : goal.returns-clause-told

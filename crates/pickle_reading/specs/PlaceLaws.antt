@@ -9,7 +9,7 @@ use Rattle.pickle_reading.specs.declared.error.PickleError.{PickleError}
 use Rattle.pickle_reading.specs.declared.error.PickleError.TheVariants as errors
 use Rattle.pickle_reading.specs.Steps.{RefusesAs}
 use Rattle.pickle_reading.specs.Reading.{Reader, read_from, is_stop, bytes_of}
-use Rattle.pickle_reading.specs.Runs.{read_from-stop, read_from-step, read_from-refused}
+use Rattle.pickle_reading.specs.RunLaws.{read_from-stop, read_from-step, read_from-refused}
 
 -- the bytes from place n on, seen from those from m on
 drop_to : (input : List ℕ) (m n : ℕ) → m ≤ n → drop (n - m) (drop m input) ≡ drop n input
