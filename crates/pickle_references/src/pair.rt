@@ -5,11 +5,11 @@ ghost use Rattle.pickle_reading.specs.declared.reading.TheConstants.{NODE_LIMIT}
 ghost use Rattle.pickle_references.specs.References.{pair_of, references_in};
 ghost use Rattle.pickle_reading.specs.Steps.{AnswersAs};
 
-use pickle_reading::{Memo, NODE_LIMIT, PickleError, first_room};
 use crate::node_copy::copied_nodes;
 use crate::part::{Part, read_part};
 use crate::references::look_to_stop;
 use crate::sights::Sight;
+use pickle_reading::{Memo, NODE_LIMIT, PickleError, first_room};
 use std::alloc::Global;
 use zb_ids::{ListOf, Oid};
 

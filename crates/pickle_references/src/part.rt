@@ -7,11 +7,13 @@ ghost use Rattle.pickle_references.specs.References.{oid_of, named_first, named_
 ghost use Rattle.pickle_reading.specs.Sound.{IsSoundState, MemoBelow};
 ghost use Rattle.pickle_reading.specs.Steps.{AnswersAs, RefusesAs};
 
-use pickle_reading::{Item, Memo, NODE_LIMIT, NodeTable, PickleError, State, ends, first_room, take_step};
-use pickle_graph::{Node, Pickle};
 use crate::references::Named;
 use crate::shapes::read_oid;
+use pickle_graph::{Node, Pickle};
 use pickle_ops::{Op, Token, next_token};
+use pickle_reading::{
+    Item, Memo, NODE_LIMIT, NodeTable, PickleError, State, ends, first_room, take_step,
+};
 use std::alloc::Global;
 use zb_ids::{ListOf, Oid};
 

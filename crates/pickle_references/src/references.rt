@@ -8,9 +8,9 @@ ghost use Rattle.pickle_references.specs.Shown.{sight_of, IsSeen};
 ghost use Rattle.pickle_reading.specs.Sound.{IsSoundState};
 ghost use Rattle.pickle_reading.specs.Steps.{AnswersAs, RefusesAs};
 
-use pickle_reading::{Item, NODE_LIMIT, PickleError, ends, first_room};
 use crate::sights::{Sight, look};
 use pickle_ops::next_token;
+use pickle_reading::{Item, NODE_LIMIT, PickleError, ends, first_room};
 use std::alloc::Global;
 use zb_ids::{ListOf, Oid};
 

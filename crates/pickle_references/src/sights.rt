@@ -8,11 +8,11 @@ ghost use Rattle.pickle_references.specs.Shapes.{values_passed};
 ghost use Rattle.pickle_reading.specs.Steps.{RefusesAs};
 ghost use Rattle.pickle_references.specs.Sights.{shown, pushed, popped, unmarked, doubled, tuple_of, add_to, append_to, set_in, build_of, object_of, kept_of, reference_of, put_of, get_of, sight_act, sight_step};
 
-use pickle_reading::{Extent, Item, Memo, PickleError, Stack};
 use crate::passing::pass;
 use crate::references::Named;
 use crate::shapes::{Adding, Shape, ShapeTable, leaf_shape};
 use pickle_ops::{Op, Token};
+use pickle_reading::{Extent, Item, Memo, PickleError, Stack};
 use std::alloc::Global;
 use zb_ids::{ListOf, Oid};
 

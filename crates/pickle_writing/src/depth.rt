@@ -7,9 +7,9 @@ ghost use Rattle.pickle_graph.specs.Walks.{has_walk};
 ghost use Rattle.pickle_writing.specs.Numbers.{number_of, IsMeasured, IsOpen, AllOpen, IsMeasuredSince, Measures, MeasuresAll, counted_for, IsTally, walks_in};
 
 use crate::error::WriteError;
-use pickle_graph::{Node, Part, is_held, listed_parts, part_count, part_of};
 use crate::node_map::NodeMap;
 use crate::shared::{count, count_items};
+use pickle_graph::{Node, Part, is_held, listed_parts, part_count, part_of};
 use std::alloc::Global;
 use zb_ids::ListOf;
 

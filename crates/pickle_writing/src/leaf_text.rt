@@ -4,8 +4,8 @@ ghost use Rattle.std.specs.Prelude.{◌≡◌, ◌≤◌, [], ◌∷◌, ◌++�
 ghost use Rattle.byteorder.specs.Endian.{little_bytes};
 ghost use Rattle.pickle_writing.specs.Spelling.{magnitude_of, fewest, long_text, number_text, counted_text, leaf_text, numbered_text};
 
-use pickle_graph::Node;
 use byteorder::{ByteOrder, LittleEndian};
+use pickle_graph::Node;
 use std::alloc::AllocError;
 use zb_ids::Text8;
 

@@ -5,8 +5,8 @@ ghost use Rattle.pickle_graph.specs.Parts.{items_in, object_parts_of, parts_of};
 ghost use Rattle.pickle_writing.specs.Numbers.{with_edge, with_edges, held_among};
 ghost use Rattle.pickle_writing.specs.Numbers;
 
-use pickle_graph::{Node, Part, is_held_at, part_count, part_of};
 use crate::node_map::NodeMap;
+use pickle_graph::{Node, Part, is_held_at, part_count, part_of};
 use std::alloc::AllocError;
 use zb_ids::ListOf;
 

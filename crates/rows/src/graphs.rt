@@ -2,8 +2,8 @@
 
 use crate::row::Row;
 use crate::row_error::RowError;
-use pickle_ops::TokenError;
 use pickle_graph::{Act, Node, Pickle};
+use pickle_ops::TokenError;
 use pickle_reading::{PickleError, read_pickle};
 use pickle_references::references_of;
 use pickle_writing::{WriteError, spelling, write_pickle};

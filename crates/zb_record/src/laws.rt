@@ -5,7 +5,9 @@ ghost use Rattle.zb_record.specs.Laws.{ReadIsRecord, RecordIsRead, WrittenRecord
 
 use pickle_ops::spelled_tokens_are_read;
 use pickle_references::references_are_those_of_nodes;
-use pickle_round_trip::{written_pickles_read_anywhere, written_pickles_read_back, written_pickles_read_behind};
+use pickle_round_trip::{
+    written_pickles_read_anywhere, written_pickles_read_back, written_pickles_read_behind,
+};
 
 /// What [`read_record`](crate::read_record) reads is two pickles and nothing else, of which the
 /// first is a class and the second is read behind what the first left; what
