@@ -3,8 +3,8 @@
 ghost use Rattle.std.specs.Prelude.{◌≡◌, ◌≤◌, ◌+◌, IfOk, length, take, drop};
 ghost use Rattle.pickle_reading.specs.Leaves.{long_number, long_of, first_line, behind_line, global_of, leaf_of};
 
-use pickle_graph::Node;
 use byteorder::{ByteOrder, LittleEndian};
+use pickle_graph::Node;
 use pickle_ops::{Op, Token};
 use std::alloc::{AllocError, Global};
 use zb_ids::{ListOf, Text8};

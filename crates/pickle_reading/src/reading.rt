@@ -6,9 +6,9 @@ ghost use Rattle.pickle_reading.specs.Steps.{AnswersAs};
 ghost use Rattle.pickle_reading.specs.Reading.{is_stop, root_of, graph_at};
 
 use crate::error::PickleError;
-use pickle_graph::Pickle;
 use crate::state::{Item, State, first_room};
 use crate::steps::take_step;
+use pickle_graph::Pickle;
 use pickle_ops::{Op, next_token};
 use std::alloc::Global;
 

@@ -10,8 +10,8 @@ ghost use Rattle.pickle_reading.specs.Steps.{RefusesAs, make, push, popped, unma
 use crate::additions::{Addition, add, in_pairs};
 use crate::error::PickleError;
 use crate::leaves::leaf;
-use pickle_graph::Node;
 use crate::state::{Extent, Item, NodeTable, State};
+use pickle_graph::Node;
 use pickle_ops::{Op, Token};
 use std::alloc::Global;
 use zb_ids::ListOf;
