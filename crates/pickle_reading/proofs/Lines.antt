@@ -1,5 +1,5 @@
 -- Where the first line of bytes ends.
-use Rattle.std.proofs.Common.{◌≡◌, ℕ, zero, suc, ◌+◌, ◌<◌, ◌≤◌, Bool, true, false, cond, List, [], ◌∷◌, ◌++◌, length, take, drop, refl, ap, eqb, arith}
+use Rattle.std.proofs.Common.{◌≡◌, ℕ, zero, suc, ◌+◌, ◌<◌, ◌≤◌, false, List, [], ◌∷◌, length, take, drop, refl, ap, eqb, arith}
 use Rattle.std.specs.Prelude.{slice_index}
 use Rattle.pickle_reading.specs.Leaves.{first_line, behind_line}
 

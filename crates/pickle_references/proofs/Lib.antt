@@ -6,4 +6,4 @@ pub mod Lost
 pub mod Limits
 pub mod TwoPickles
 pub mod Looking
-pub mod Passing
+pub mod OnePassed

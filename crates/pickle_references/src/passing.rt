@@ -43,7 +43,7 @@ fn pass_to_mark(stack: &mut Stack) -> Option<Passed>
 }
 
 /// Passes so many values from the top.
-#[tactic(auto, using(crate::proofs::Passing::passed_one))]
+#[tactic(auto, using(crate::proofs::OnePassed::passed_one))]
 fn pass_values(stack: &mut Stack, count: usize) -> Option<Passed>
     ensures { MatchOption result (past_top count stack.old none_passed ≡ None) (λ seen. past_top count stack.old none_passed ≡ Some (seen, stack.new)) }
 {

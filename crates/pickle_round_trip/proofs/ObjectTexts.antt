@@ -27,7 +27,7 @@ use Rattle.pickle_reading.specs.Reading.{is_stop}
 use Rattle.pickle_graph.specs.Parts.{item_parts, act_parts, object_parts, object_byte, parts_of, is_held, items_in}
 use Rattle.pickle_writing.specs.Spelling.{Piece, put_number, no_piece, followed, parts_piece, held_piece, node_piece, leaf_text}
 use Rattle.pickle_graph.specs.Same.{has, HasOrigin, ActsStandFor, IsCopy}
-use Rattle.pickle_graph.specs.WalkLaws.{cases_bool, clash, has-here, has-head, has-later, has-append}
+use Rattle.pickle_graph.specs.WalkLaws.{cases_bool, clash}
 use Rattle.pickle_round_trip.proofs.LeafBack.{leaf_back}
 use Rattle.pickle_round_trip.proofs.Standing.{get-more, acts-more, acts-append}
 use Rattle.pickle_round_trip.proofs.Building.{Shown, piece_is, leaf_shown}

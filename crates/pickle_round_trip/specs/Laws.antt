@@ -1,5 +1,5 @@
 -- Laws of reading what was written.
-use Rattle.std.specs.Prelude.{ℕ, ◌+◌, ◌++◌, ◌≤◌, ◌<◌, ◌≡◌, true, List, length, Some, Ok, Err}
+use Rattle.std.specs.Prelude.{ℕ, ◌+◌, ◌++◌, ◌≤◌, ◌<◌, ◌≡◌, List, length, Some, Ok, Err}
 use Rattle.pickle_reading.specs.declared.error.PickleError.TheVariants.{TooLarge}
 use Rattle.pickle_reading.specs.declared.reading.TheConstants.{NODE_LIMIT}
 use Rattle.pickle_graph.specs.declared.node.Node.{Node}

@@ -1,4 +1,4 @@
-use Rattle.pickle_references.proofs.Passing.{passed_one}
+use Rattle.pickle_references.proofs.OnePassed.{passed_one}
 use Rattle.pickle_references.proofs.passing.pass_values.Goals as goal
 
 pub loop-left-preserved : goal.loop-left-preserved
