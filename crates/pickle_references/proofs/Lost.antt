@@ -15,12 +15,12 @@ use Rattle.pickle_references.specs.declared.part.Part.{Part}
 use Rattle.pickle_references.specs.declared.references.Named.{Named}
 use Rattle.pickle_references.specs.declared.references.Named.TheVariants.{Strong, Weak, Bad}
 use Rattle.pickle_reading.specs.declared.reading.TheConstants.{NODE_LIMIT}
-use Rattle.pickle_reading.specs.declared.state.State.{State}
+use Rattle.pickle_reading.specs.Nodes.{State}
 use Rattle.pickle_reading.specs.declared.state.Item.{Item}
 use Rattle.pickle_reading.specs.declared.state.Item.TheVariants.{Value, Mark}
 use Rattle.pickle_graph.specs.Graph.{Graph}
 use Rattle.pickle_reading.specs.Sound.{StackBelow, TupleBelow, TuplesBelow}
-use Rattle.pickle_reading.specs.Steps.{Outcome, step}
+use Rattle.pickle_reading.specs.Nodes.{Outcome, step}
 use Rattle.pickle_reading.specs.Reading.{graphs, read_from, after_token, is_stop, bytes_of, go_on, root_of, begun}
 use Rattle.pickle_references.specs.References.{Left, parts, left_of, part_at, oid_of, named_first, named_by, named_by_token, noted, noted_in, find}
 use Rattle.pickle_references.specs.Named.{with_name, named_in, IsLeft, NamedIsTold, PartIsLeft}

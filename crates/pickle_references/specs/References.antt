@@ -16,9 +16,9 @@ use Rattle.pickle_references.specs.declared.references.Named.{Named}
 use Rattle.pickle_references.specs.declared.references.Named.TheVariants.{Strong, Weak, Bad}
 use Rattle.pickle_reading.specs.declared.state.Item.{Item}
 use Rattle.pickle_reading.specs.declared.state.Item.TheVariants.{Value}
-use Rattle.pickle_reading.specs.declared.state.State.{State}
+use Rattle.pickle_reading.specs.Nodes.{State}
 use Rattle.pickle_graph.specs.Class.{is_class}
-use Rattle.pickle_reading.specs.Steps.{step}
+use Rattle.pickle_reading.specs.Nodes.{step}
 use Rattle.pickle_reading.specs.Reading.{Reader, read_from, go_on, begun}
 
 -- an oid is eight bytes, the highest first

@@ -8,7 +8,7 @@ use Rattle.pickle_references.specs.declared.part.Finding.{Finding}
 use Rattle.pickle_references.specs.declared.shapes.Shape.{Shape}
 use Rattle.pickle_references.specs.declared.shapes.Shape.TheVariants as shapes
 use Rattle.pickle_references.specs.declared.sights.Sight.{Sight}
-use Rattle.pickle_reading.specs.declared.state.State.{State}
+use Rattle.pickle_reading.specs.Nodes.{State}
 use Rattle.pickle_references.specs.References.{Left, left_with, oid_in}
 use Rattle.pickle_references.specs.Shapes.{bytes_shape, tuple_shape}
 use Rattle.pickle_reading.specs.Sound.{IsSoundState}
