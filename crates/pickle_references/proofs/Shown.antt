@@ -34,16 +34,19 @@ use Rattle.pickle_reading.specs.Leaves.{long_number, long_of, leaf_of}
 use Rattle.pickle_reading.specs.Additions.{with_pair, pairs_of, added}
 use Rattle.pickle_reading.specs.Steps.{make, popped, unmarked, doubled, changed, put_of, get_of, leaf_or}
 use Rattle.pickle_reading.specs.Nodes.{Outcome, tuple_of, add_to, append_to, set_pairs, set_in, build_of, object_of, reference_of, act_of, step}
-use Rattle.pickle_references.specs.declared.part.Finding.{Finding}
+use Rattle.pickle_references.specs.References.{Finding}
 use Rattle.pickle_reading.specs.declared.reading.TheConstants.{NODE_LIMIT}
 use Rattle.pickle_graph.specs.Class.{is_global, begins_with_global, is_class_node, is_class}
 use Rattle.pickle_reading.specs.Reading.{begun}
-use Rattle.pickle_references.specs.References.{oid_in, oid_of, named_first, named_by, named_on, noted, named_by_token, noted_in, find}
+use Rattle.pickle_references.specs.References.{oid_in, oid_of, named_first, named_by, named_on, named_by_token, find}
+use Rattle.pickle_references.specs.Naming.{noted, noted_in}
 use Rattle.pickle_references.specs.Shapes.{tuple_shape, bytes_shape, named_as, lowest_as, is_tuple_shape, is_class_shape, takes, leaf_shape, PassedValues, to_mark, past_top, values_passed}
 use Rattle.pickle_reading.specs.Steps as steps
-use Rattle.pickle_references.specs.Sights.{Sight, Shapes, shapes, sight_step, sight_named}
+use Rattle.pickle_references.specs.Naming as naming
+use Rattle.pickle_references.specs.Sights.{Sight, Shapes, with_adding, shapes, shape_names, sight_step}
 use Rattle.pickle_references.specs.Shown.{own_shape, first_shape, shape_of, shapes_in, shapes_of, sight_of}
 use Rattle.pickle_reading.specs.Sound.{IsSoundState}
+use Rattle.pickle_references.proofs.Staying.{set-same, takes-none}
 use Rattle.pickle_references.proofs.Limits.{Limited, step-limited}
 use Rattle.pickle_reading.specs.SoundLaws.{SoundAfter, TakenBelow, taken-below, step-sound}
 
@@ -331,16 +334,10 @@ adds ns (additions.Values values) _ = refl
 adds ns (additions.Pairs pairs) _ = refl
 adds ns (additions.State state) _ = refl
 
--- what stands there may stand there again
-set-same : (xs : List Shape) (n : ℕ) (x : Shape) → slice_get xs n ≡ Some x → slice_set xs n x ≡ xs
-set-same [] n x h = refl
-set-same (y ∷ xs) zero x h = let e : y ≡ x = cc in ap (λ (z : Shape). z ∷ xs) (sym e)
-set-same (y ∷ xs) (suc n) x h = ap (λ (l : List Shape). y ∷ l) (set-same xs n x h)
-
 -- a shape that takes an addition stays, and any other takes none
 stays : (at : ℕ) (s : Shapes) (n : ℕ) (below : List Item) (adding : Adding) (found : Option Shape) → slice_get s.nodes n ≡ found →
     changed at s n below (with_adding adding found) ≡ cond (takes adding found) (Ok (record s { stack = Value n ∷ below })) (Err (errors.Stack at))
-stays at s n below adding None h = cc
+stays at s n below adding None h = let e = takes-none adding in rw e refl
 stays at s n below adding (Some shape) h = test (takes adding (Some shape))
   where
     test : (b : Bool) → changed at s n below (cond b (Some shape) None) ≡ cond b (Ok (record s { stack = Value n ∷ below })) (Err (errors.Stack at))
@@ -519,28 +516,45 @@ leaf_or-shown at s (Some node) shape other outcome h k e = ap (λ (x : Option Sh
 
 -- ---- what is named
 
-named_on-shown : (ns : List Node) (stack : List Item) → named_on named_as (shapes_in ns ns) stack ≡ named_on (named_by ns) ns stack
+named_on-shown : (ns : List Node) (stack : List Item) → naming.named_on shape_names (shapes_in ns ns) stack ≡ named_on ns stack
 named_on-shown ns [] = refl
 named_on-shown ns (Mark ∷ below) = refl
 named_on-shown ns (Value v ∷ below) = ap named_as (get-in ns ns v) ∙ named-shape ns (slice_get ns v)
 
+token-shown : (op : Op) (ns : List Node) (stack : List Item) → naming.named_by_token shape_names op (shapes_in ns ns) stack ≡ named_by_token op ns stack
+token-shown ops.BinPersid ns stack = named_on-shown ns stack
+token-shown _ ns stack = refl
+
+noted-shown : (at : ℕ) (s : State) (oids : List ℕ) (named : Named) → noted at (shapes_of s) oids named ≡ sight_in (noted at s oids named)
+noted-shown at s oids (Strong oid) = refl
+noted-shown at s oids Weak = refl
+noted-shown at s oids Bad = refl
+
+noted_in-shown : (at : ℕ) (oids : List ℕ) (named : Named) (outcome : Outcome) → noted_in at oids named (shown outcome) ≡ sight_in (noted_in at oids named outcome)
+noted_in-shown at oids named (Ok s) = noted-shown at s oids named
+noted_in-shown at oids named (Err e) = refl
+
 -- What a token does to what is kept shows what it does to a graph.
 pub step-shown : (op : Op) (at : ℕ) (number : ℤ) (bytes : List ℕ) (f : Finding) → IsSoundState f.state → sight_step op at number bytes (sight_of f) ≡ sight_in (find op at number bytes f)
 step-shown op at number bytes f sound =
-    leaf_or-shown op at f.state f.oids (leaf_of op number bytes) (leaf_shape op bytes) (sight_act op at number (sight_of f)) (act_of op at number f.state)
-    sound.nodes (leaf-shows f.state.nodes f.state.stack op number bytes) (act-shown at f.state f.oids sound op number)
+    let ns : List Node = f.state.nodes in
+    ap (λ (named : Named). noted_in at f.oids named (steps.step shapes op at number bytes (shapes_of f.state))) (token-shown op ns f.state.stack)
+    ∙ ap (noted_in at f.oids (named_by_token op ns f.state.stack))
+    (leaf_or-shown at f.state (leaf_of op number bytes) (leaf_shape op bytes) (steps.act_of shapes op at number (shapes_of f.state)) (act_of op at number f.state)
+    sound.nodes (leaf-shows ns op number bytes) (act-shown at f.state sound op number))
+    ∙ noted_in-shown at f.oids (named_by_token op ns f.state.stack) (step op at number bytes f.state)
 
 -- ---- runs
 
 -- a reader begins with the shapes of the nodes that were left
-pub begins : (s : Sight) (nodes : List Node) (memo : List (ℕ × ℕ)) → s.limit ≡ NODE_LIMIT + length nodes → s.shapes ≡ shapes_in nodes nodes → s.stack ≡ [] → s.memo ≡ memo → s.oids ≡ [] →
-    s ≡ sight_of (found_in (begun NODE_LIMIT nodes memo) [])
+pub begins : (s : Sight) (nodes : List Node) (memo : List (ℕ × ℕ)) → s.state.limit ≡ NODE_LIMIT + length nodes → s.state.nodes ≡ shapes_in nodes nodes → s.state.stack ≡ [] → s.state.memo ≡ memo → s.oids ≡ [] →
+    s ≡ sight_of (record { state = begun NODE_LIMIT nodes memo; oids = [] })
 begins s nodes memo a b c d e =
-    ap (λ (x : ℕ). record { limit = x; shapes = s.shapes; stack = s.stack; memo = s.memo; oids = s.oids }) a
-    ∙ ap (λ (x : List Shape). record { limit = NODE_LIMIT + length nodes; shapes = x; stack = s.stack; memo = s.memo; oids = s.oids }) b
-    ∙ ap (λ (x : List Item). record { limit = NODE_LIMIT + length nodes; shapes = shapes_in nodes nodes; stack = x; memo = s.memo; oids = s.oids }) c
-    ∙ ap (λ (x : List (ℕ × ℕ)). record { limit = NODE_LIMIT + length nodes; shapes = shapes_in nodes nodes; stack = []; memo = x; oids = s.oids }) d
-    ∙ ap (λ (x : List ℕ). record { limit = NODE_LIMIT + length nodes; shapes = shapes_in nodes nodes; stack = []; memo = memo; oids = x }) e
+    ap (λ (x : ℕ). record { state = record { limit = x; nodes = s.state.nodes; stack = s.state.stack; memo = s.state.memo }; oids = s.oids }) a
+    ∙ ap (λ (x : List Shape). record { state = record { limit = NODE_LIMIT + length nodes; nodes = x; stack = s.state.stack; memo = s.state.memo }; oids = s.oids }) b
+    ∙ ap (λ (x : List Item). record { state = record { limit = NODE_LIMIT + length nodes; nodes = shapes_in nodes nodes; stack = x; memo = s.state.memo }; oids = s.oids }) c
+    ∙ ap (λ (x : List (ℕ × ℕ)). record { state = record { limit = NODE_LIMIT + length nodes; nodes = shapes_in nodes nodes; stack = []; memo = x }; oids = s.oids }) d
+    ∙ ap (λ (x : List ℕ). record { state = record { limit = NODE_LIMIT + length nodes; nodes = shapes_in nodes nodes; stack = []; memo = memo }; oids = x }) e
 
 -- what is known of what was read, if it was
 abbrev pub SoundFound : ℕ → Result Finding PickleError → Type 0
