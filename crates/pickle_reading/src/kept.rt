@@ -1,6 +1,6 @@
 //! What a reader keeps of nodes.
 
-ghost use Rattle.std.specs.Prelude.{◌≡◌, ◌<◌, IfOk, MatchOption, Some, None, length, slice_get};
+ghost use Rattle.std.specs.Prelude.{◌≡◌, IfOk, MatchOption, Some, None, slice_get};
 ghost use Rattle.pickle_reading.specs.Steps.{Keeping, IsAdded};
 
 use crate::state::{Extent, NodeTable, Stack};
@@ -45,13 +45,13 @@ pub trait Kept: Drop {
     fn state(number: u32) -> Self::Addition
         ensures { result ≡ keeping.state number };
 
-    /// Adds to the node of a number, or answers `false` where it takes no addition of that kind.
+    /// Adds to the node of a number, or answers `false` where there is none or it takes no addition
+    /// of that kind.
     fn add(
         nodes: &mut NodeTable<Self>,
         number: u32,
         addition: Self::Addition,
     ) -> Result<bool, AllocError>
-        requires { number < length nodes.old }
         ensures { IfOk result (λ is. IsAdded is nodes.old number
             (keeping.added addition (slice_get nodes.old number)) nodes.new) };
 

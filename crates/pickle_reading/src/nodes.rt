@@ -58,6 +58,9 @@ impl Kept for Node {
         number: u32,
         addition: Addition,
     ) -> Result<bool, AllocError> {
+        if number as usize >= nodes.len() {
+            return Ok(false);
+        }
         let node = nodes.replace(number, Node::None);
         let Some(changed) = add(node, addition)? else {
             return Ok(false);

@@ -98,9 +98,6 @@ fn add_to_top<L: Kept>(
     let Some(Item::Value(number)) = state.stack.pop() else {
         return Err(PickleError::Stack { at });
     };
-    if number as usize >= state.nodes.len() {
-        return Err(PickleError::Stack { at });
-    }
     if !L::add(&mut state.nodes, number, addition)? {
         return Err(PickleError::Stack { at });
     }
