@@ -249,10 +249,6 @@ pub fn take_step<L: Kept>(
     ensures ok { OnOk result (step L.keeping token.op at token.number bytes.now state.old ≡ Ok state.new) }
     ensures err { IfErr result (λ e. RefusesAs e (step L.keeping token.op at token.number bytes.now state.old)) }
 {
-    // Puts stand behind most nodes, so they are told apart first.
-    if let Op::BinPut | Op::LongBinPut = token.op {
-        return put(state, at, token.number.unsigned_abs());
-    }
     match L::leaf(alloc, token, bytes)? {
         Some(node) => make_node(state, at, node),
         None => act(alloc, state, token, at),
