@@ -337,7 +337,7 @@ adds ns (additions.State state) _ = refl
 -- a shape that takes an addition stays, and any other takes none
 stays : (at : ℕ) (s : Shapes) (n : ℕ) (below : List Item) (adding : Adding) (found : Option Shape) → slice_get s.nodes n ≡ found →
     changed at s n below (with_adding adding found) ≡ cond (takes adding found) (Ok (record s { stack = Value n ∷ below })) (Err (errors.Stack at))
-stays at s n below adding None h = let e = takes-none adding in rw e refl
+stays at s n below adding None h = sym (ap (λ (b : Bool). cond b (Ok (record s { stack = Value n ∷ below })) (Err (errors.Stack at))) (takes-none adding))
 stays at s n below adding (Some shape) h = test (takes adding (Some shape))
   where
     test : (b : Bool) → changed at s n below (cond b (Some shape) None) ≡ cond b (Ok (record s { stack = Value n ∷ below })) (Err (errors.Stack at))
