@@ -10,7 +10,7 @@ use zb_ids::ListOf;
 
 /// An addition. Nodes are named by number.
 #[derive(Drop)]
-pub(crate) enum Addition {
+pub enum Addition {
     /// Items of a list.
     Values(ListOf<u32>),
     /// Keys and values of a dictionary.

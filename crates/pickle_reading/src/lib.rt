@@ -8,6 +8,7 @@ mod reading;
 mod state;
 mod steps;
 
+pub use additions::Addition;
 pub use error::PickleError;
 pub use reading::{NODE_LIMIT, ends, read_pickle};
 pub use state::{Extent, Item, Memo, NodeTable, Stack, State, first_room};
