@@ -15,6 +15,7 @@ use zb_ids::ListOf;
 pub enum Item {
     /// The number of a node.
     Value(u32),
+    /// A mark, below which a token leaves what is there.
     Mark,
 }
 
@@ -112,6 +113,7 @@ impl Stack {
     }
 
     /// Takes the values of an extent, the lowest first, or answers `None` where there are too few.
+    /// Nothing is said of what is left then, or where there is no memory.
     pub fn take(&mut self, alloc: Global, extent: Extent) -> Result<Option<ListOf<u32>>, AllocError>
         ensures { IfOk result (λ popped. MatchOption popped (values_taken extent self.old ≡ None)
             (λ values. values_taken extent self.old ≡ Some (values, self.new))) }
@@ -153,7 +155,8 @@ impl Memo {
         }
     }
 
-    /// Puts a node under a number, in place of what stood there.
+    /// Puts a node under a number, in place of what stood there. Nothing is said of the memo where
+    /// there is no memory.
     #[inline(always)]
     #[tactic(auto, using(crate::proofs::Memos::put_below, crate::proofs::Memos::put_next, crate::proofs::Memos::put_above))]
     pub fn put(&mut self, number: u64, node: u32) -> Result<(), AllocError>

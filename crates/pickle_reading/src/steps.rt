@@ -237,7 +237,11 @@ fn act<L: Kept>(
     }
 }
 
-/// What the token at a place, whose argument has these bytes, does.
+/// What the token at a place, whose argument has these bytes, does to a state.
+///
+/// It answers `Stack` where the stack doesn't hold what the token takes, `Memo` where it gets what was
+/// not put, `TooLarge` where it would make one node too many, each with the place, and `Memory` where
+/// there is none. Nothing is said of the state then.
 #[inline(always)]
 pub fn take_step<L: Kept>(
     alloc: Global,

@@ -1,5 +1,5 @@
 -- Walks whose first edge leads to one of several nodes.
-use Rattle.std.proofs.Common.{◌≡◌, ℕ, zero, suc, ◌+◌, true, refl, arith, eqb, inl, inr}
+use Rattle.std.proofs.Common.{◌≡◌, ℕ, zero, suc, ◌+◌, true, List, refl, arith, eqb, inl, inr}
 use Rattle.pickle_graph.specs.declared.node.Node.{Node}
 use Rattle.pickle_graph.specs.Parts.{items_at}
 use Rattle.pickle_graph.specs.Walks.{has_walk, has_way, leads, IsCyclic}
