@@ -4,17 +4,17 @@
 #
 #     bench/pickles.sh /tmp/pickle-bench
 #
-# It copies the crates that pickle_value stands on there, beside a small program that does one call many times, has rt prove
-# and build that program, and makes five pickles of protocol 3. It needs rt and python3. Each time is that of a processor, the
-# least of some runs, without the start of the process. With valgrind there are instructions for each node too, which say the
-# same on a loaded machine.
+# It copies the crates that read and write pickles, and those below, there, beside a small program that does one call many
+# times, has rt prove and build that program, and makes five pickles of protocol 3. It needs rt and python3. Each time is that
+# of a processor, the least of some runs, without the start of the process. With valgrind there are instructions for each node
+# too, which say the same on a loaded machine.
 # Python's side is pickle.loads and pickle.dumps of protocol 3. Of the record it is an Unpickler over an io.BytesIO that calls a
 # persistent_load in C, since loads reads no persistent ids; and its writer writes what that gave, without persistent ids.
 set -eu
 folder=${1:?a folder outside the repository}
 here=$(dirname "$(realpath "$0")")
 mkdir -p "$folder/crates/timing/src" "$folder/pickles"
-for name in zb_base zb_ids pickle_ops pickle_value; do
+for name in zb_base zb_ids pickle_ops pickle_graph pickle_reading pickle_references pickle_writing; do
     # What rt made is left behind: it is large, and rt takes over what it kept on this machine.
     rm -rf "$folder/crates/$name/src" "$folder/crates/$name/specs" "$folder/crates/$name/proofs"
     mkdir -p "$folder/crates/$name"
@@ -22,14 +22,16 @@ for name in zb_base zb_ids pickle_ops pickle_value; do
         [ ! -d "$here/../crates/$name/$part" ] || cp -r "$here/../crates/$name/$part" "$folder/crates/$name/$part"
     done
 done
-grep -E '^(zb_base|zb_ids|pickle_ops|pickle_value):' "$here/../crates.txt" >"$folder/crates.txt"
-echo 'timing: zb_base pickle_ops pickle_value zb_ids thiserror' >>"$folder/crates.txt"
+grep -E '^(zb_base|zb_ids|pickle_ops|pickle_graph|pickle_reading|pickle_references|pickle_writing):' "$here/../crates.txt" >"$folder/crates.txt"
+echo 'timing: pickle_graph pickle_reading pickle_references pickle_writing zb_ids' >>"$folder/crates.txt"
 [ -d "$folder/.git" ] || git init -q "$folder"
 cat >"$folder/crates/timing/src/main.rt" <<'PROGRAM'
 //! Reads, refers or writes the pickle on the standard input so many times.
 #![tactic(auto)]
 
-use pickle_value::{read_pickle, references_of, write_pickle};
+use pickle_reading::read_pickle;
+use pickle_references::references_of;
+use pickle_writing::write_pickle;
 use std::env;
 use std::io::{self, Read};
 use std::process::ExitCode;

@@ -1,7 +1,7 @@
 -- What is found sound is a shape.
 use Rattle.std.proofs.Common.{◌≡◌, ℕ, ◌+◌, ◌<◌, zero, suc, Bool, true, false, List, [], ◌∷◌, ◌++◌, length, Option, Some, None, Result, Ok, Err, refl, arith, sym, ◌∙◌, ap, subst, append_assoc}
 use Rattle.std.specs.Prelude.{map, if◌then◌else◌}
-use Rattle.pickle_value.specs.Graph.{Graph}
+use Rattle.pickle_graph.specs.Graph.{Graph}
 use Rattle.btree_family.specs.declared.key.Key.{Key}
 use Rattle.btree_family.specs.Buckets.{BucketContents, keys_of}
 use Rattle.bucket_state.specs.declared.tree.Branch.{Branch}

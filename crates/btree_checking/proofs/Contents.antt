@@ -2,9 +2,9 @@
 use Rattle.std.proofs.Common.{◌≡◌, ℕ, Bool, true, false, List, [], ◌∷◌, Option, Some, None, Result, Ok, Err, refl, ap, subst}
 use Rattle.std.specs.Prelude.{slice_get, if◌then◌else◌}
 use Rattle.std.specs.Option.{option_map, option_and_then}
-use Rattle.pickle_value.specs.declared.node.Node.TheVariants as pickle
-use Rattle.pickle_value.specs.declared.node.Node as pickles
-use Rattle.pickle_value.specs.Graph.{Graph}
+use Rattle.pickle_graph.specs.declared.node.Node.TheVariants as pickle
+use Rattle.pickle_graph.specs.declared.node.Node as pickles
+use Rattle.pickle_graph.specs.Graph.{Graph}
 use Rattle.btree_family.specs.declared.bucket.Item.{Item}
 use Rattle.btree_family.specs.declared.table.Kind.{Kind}
 use Rattle.btree_family.specs.declared.table.Kind.TheVariants as kinds

@@ -1,7 +1,7 @@
 -- A walk, step by step.
 use Rattle.std.proofs.Common.{◌≡◌, ℕ, ◌+◌, ◌-◌, ◌<◌, ◌^◌, suc, Bool, true, false, List, [], ◌∷◌, ◌++◌, Option, Some, None, Result, Ok, Err, inl, inr, refl, arith, sym, ◌∙◌, ap, subst, append_assoc, append-nil}
 use Rattle.std.specs.Prelude.{not, if◌then◌else◌}
-use Rattle.pickle_value.specs.Graph.{Graph}
+use Rattle.pickle_graph.specs.Graph.{Graph}
 use Rattle.btree_family.specs.declared.key.Key.{Key}
 use Rattle.bucket_state.specs.declared.tree.Branch.{Branch}
 use Rattle.btree_shapes.specs.declared.node.Node.{Node}

@@ -1,7 +1,7 @@
 -- The verdict and sound trees.
 use Rattle.std.proofs.Common.{◌≡◌, ℕ, ◌+◌, ◌-◌, ◌^◌, true, List, [], ◌∷◌, length, Option, Some, None, Result, Ok, Err, inl, inr, refl, arith, sym, ◌∙◌, ap, subst, append-nil}
 use Rattle.std.specs.Prelude.{IfOk}
-use Rattle.pickle_value.specs.Graph.{Graph}
+use Rattle.pickle_graph.specs.Graph.{Graph}
 use Rattle.btree_family.specs.declared.bucket.Item.{Item}
 use Rattle.btree_family.specs.declared.key.Key.{Key}
 use Rattle.btree_family.specs.Buckets.{BucketContents, keys_of}

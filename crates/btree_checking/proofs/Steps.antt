@@ -1,7 +1,7 @@
 -- One step of a walk.
 use Rattle.std.proofs.Common.{◌≡◌, ℕ, zero, suc, false, None, refl, ◌∙◌, ap}
 use Rattle.std.specs.Prelude.{if◌then◌else◌}
-use Rattle.pickle_value.specs.Graph.{Graph}
+use Rattle.pickle_graph.specs.Graph.{Graph}
 use Rattle.btree_shapes.specs.declared.node.Node.{Node}
 use Rattle.btree_shapes.specs.Nodes.{Held, Holds}
 use Rattle.btree_checking.specs.declared.place.Place.{Place}

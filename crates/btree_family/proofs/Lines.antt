@@ -6,7 +6,7 @@ use Rattle.std.specs.Cmp.{first_so, second_so}
 use Rattle.std.specs.Str.{is_utf8, chars}
 use Rattle.std.specs.Char.{encode_utf8}
 use Rattle.pickle_ops.specs.Grammar.{is_one_line, IsGlobalLine}
-use Rattle.pickle_value.specs.Graph.{IsGlobal}
+use Rattle.pickle_graph.specs.Graph.{IsGlobal}
 use Rattle.btree_family.specs.declared.table.Kind.{Kind}
 use Rattle.btree_family.specs.declared.table.ClassRow.{ClassRow}
 use Rattle.btree_family.specs.Classes.{Class, class_seen, classes, class_in, kind_in, is_known_as, is_kind}

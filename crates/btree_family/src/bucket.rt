@@ -9,7 +9,7 @@ use std::marker::Model;
 use zb_ids::{ListOf, Oid, Text8};
 
 /// A key, with its value where it stands in a bucket. A member of a set has none. A value is the spelling
-/// of a node, as [`spelling`](pickle_value::spelling) gives it, so two values are the same where their bytes
+/// of a node, as [`spelling`](pickle_writing::spelling) gives it, so two values are the same where their bytes
 /// are.
 #[derive(Debug, Drop)]
 pub struct Item {

@@ -1,7 +1,7 @@
 //! The classes of BTrees as one table.
 
 ghost use Rattle.std.specs.Prelude.{◌≡◌, map, IfSome};
-ghost use Rattle.pickle_value.specs.Graph.{IsGlobal};
+ghost use Rattle.pickle_graph.specs.Graph.{IsGlobal};
 ghost use Rattle.std.specs.Option.{option_copied, option_map};
 ghost use Rattle.btree_family.specs.Classes.{class_seen, class_in, classes, leaf_in, kind_in};
 ghost use Rattle.btree_family.specs.Classes;

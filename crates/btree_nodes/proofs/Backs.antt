@@ -3,17 +3,17 @@ use Rattle.std.proofs.Common.{◌≡◌, ℕ, Bool, true, false, List, [], ◌�
 use Rattle.std.specs.Prelude.{if◌then◌else◌, map, ◌==◌, ◌&&◌, eqb, nat_eq, ◌||◌}
 use Rattle.std.specs.Cmp.Lexicographic.{pointwise}
 use Rattle.std.proofs.lemmas.Grind.{common_steps}
-use Rattle.pickle_value.specs.declared.node.Node.{Node as ValueNode}
-use Rattle.pickle_value.specs.declared.node.Node.TheVariants as nodes
-use Rattle.pickle_value.specs.Graph.{Graph}
-use Rattle.pickle_value.specs.Spelling.{Spelled}
+use Rattle.pickle_graph.specs.declared.node.Node.{Node as ValueNode}
+use Rattle.pickle_graph.specs.declared.node.Node.TheVariants as nodes
+use Rattle.pickle_graph.specs.Graph.{Graph}
+use Rattle.pickle_writing.specs.Spelling.{Spelled}
 use Rattle.btree_family.specs.declared.bucket.Item.{Item}
 use Rattle.btree_family.specs.Keys.{key_eq}
 use Rattle.btree_family.specs.Classes.{Class, classes, class_in, is_known_as}
 use Rattle.btree_family.specs.Buckets.{BucketContents}
 use Rattle.bucket_state.specs.declared.tree.Branch.{Branch}
 use Rattle.zb_record.specs.declared.error.RecordError.{RecordError}
-use Rattle.pickle_value.specs.Class.{is_class}
+use Rattle.pickle_graph.specs.Class.{is_class}
 use Rattle.zb_record.specs.Records.{record_of, object_text}
 use Rattle.btree_shapes.specs.declared.node.Node.{Node}
 use Rattle.btree_shapes.specs.declared.node.Node.TheVariants as node

@@ -1,7 +1,7 @@
 -- The leaf before the one on a way, and the first leaf below the child that is the first once that leaf has left.
 use Rattle.std.proofs.Common.{◌≡◌, ℕ, ◌+◌, ◌<◌, ◌^◌, Bool, true, false, List, [], ◌∷◌, ◌++◌, length, Option, Some, None, Ok, Err, refl, arith, sym, ◌∙◌, ap, subst, zero, suc, inl, inr, ◌⊎◌, append_assoc, append-nil}
 use Rattle.std.specs.Prelude.{map, if◌then◌else◌, ◌&&◌}
-use Rattle.pickle_value.specs.Graph.{Graph}
+use Rattle.pickle_graph.specs.Graph.{Graph}
 use Rattle.btree_family.specs.declared.key.Key.{Key}
 use Rattle.btree_family.specs.Buckets.{BucketContents}
 use Rattle.bucket_state.specs.declared.tree.Inner.{Inner}

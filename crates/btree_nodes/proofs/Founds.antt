@@ -1,6 +1,6 @@
 -- What the way for a key finds in a sound tree.
 use Rattle.std.proofs.Common.{◌≡◌, ℕ, ◌^◌, Bool, true, false, List, [], None, Result, Ok, Err, refl, sym, ◌∙◌, ap, subst, zero, suc, inl, inr, ◌⊎◌}
-use Rattle.pickle_value.specs.Graph.{Graph}
+use Rattle.pickle_graph.specs.Graph.{Graph}
 use Rattle.btree_family.specs.declared.key.Key.{Key}
 use Rattle.btree_family.specs.declared.bucket.Item.{Item}
 use Rattle.btree_family.specs.Keys.{rank_of}

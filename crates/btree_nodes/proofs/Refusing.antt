@@ -1,7 +1,7 @@
 -- In a sound tree a set misses no object, and a value that is there changes nothing.
 use Rattle.std.proofs.Common.{◌≡◌, ℕ, ◌-◌, ◌/◌, Bool, true, false, List, [], ◌∷◌, ◌++◌, Option, Some, None, Result, Ok, Err, refl, arith, sym, ◌∙◌, ap, subst, zero, suc, inl, inr}
 use Rattle.std.specs.Prelude.{map, length, slice_get, nat_lt, ◌==◌, ◌&&◌, if◌then◌else◌}
-use Rattle.pickle_value.specs.Graph.{Graph}
+use Rattle.pickle_graph.specs.Graph.{Graph}
 use Rattle.btree_family.specs.declared.key.Key.{Key}
 use Rattle.bucket_state.specs.declared.tree.Inner.{Inner}
 use Rattle.btree_shapes.specs.declared.error.TreeError.{TreeError}

@@ -1,7 +1,7 @@
 -- Walks over sound trees.
 use Rattle.std.proofs.Common.{◌≡◌, ℕ, ◌+◌, ◌-◌, ◌<◌, ◌^◌, Bool, true, false, List, [], ◌∷◌, ◌++◌, Option, Some, None, Result, Ok, Err, refl, arith, sym, ◌∙◌, ap, subst, zero, suc, inl, inr, append-nil, drop, take}
 use Rattle.std.specs.Prelude.{map, if◌then◌else◌, not, ◌&&◌}
-use Rattle.pickle_value.specs.Graph.{Graph}
+use Rattle.pickle_graph.specs.Graph.{Graph}
 use Rattle.btree_family.specs.declared.key.Key.{Key}
 use Rattle.btree_family.specs.declared.bucket.Item.{Item}
 use Rattle.btree_family.specs.Keys.{rank_of}

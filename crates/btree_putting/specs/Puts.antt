@@ -1,10 +1,10 @@
 -- Puts in their order, and what they make of the contents. Own.
 use Rattle.std.specs.Prelude.{ℕ, suc, Bool, true, false, List, [], ◌∷◌, Option, Some, None, Result, Ok, Err, nat_lt, ◌==◌, if◌then◌else◌, ◌&&◌}
-use Rattle.pickle_value.specs.Graph.{Graph, IsGraph}
-use Rattle.pickle_value.specs.Spelling.{Spelled}
+use Rattle.pickle_graph.specs.Graph.{Graph, IsGraph}
+use Rattle.pickle_writing.specs.Spelling.{Spelled}
 use Rattle.btree_family.specs.Classes.{Class}
 use Rattle.zb_record.specs.declared.error.RecordError.{RecordError}
-use Rattle.pickle_value.specs.Class.{is_class}
+use Rattle.pickle_graph.specs.Class.{is_class}
 use Rattle.zb_record.specs.Records.{record_of, object_text}
 use Rattle.btree_family.specs.declared.bucket.Item.{Item}
 use Rattle.bucket_state.specs.declared.tree.Branch.{Branch}

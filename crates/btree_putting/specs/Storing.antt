@@ -2,7 +2,7 @@
 use Rattle.std.specs.Prelude.{◌≡◌, ℕ, true, List, ◌++◌, map, Option, Some}
 use Rattle.btree_family.specs.Classes.{Class}
 use Rattle.zb_record.specs.declared.record.ObjectRecord.{ObjectRecord}
-use Rattle.pickle_value.specs.Class.{is_class}
+use Rattle.pickle_graph.specs.Class.{is_class}
 use Rattle.btree_shapes.specs.declared.error.TreeError.{TreeError}
 use Rattle.btree_shapes.specs.declared.error.TreeError.TheVariants.{NotATree, NodeMissing, BadKey, Refused, Memory}
 use Rattle.btree_shapes.specs.declared.space.Call.{Call}

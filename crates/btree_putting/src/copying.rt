@@ -1,11 +1,11 @@
 //! Copies of what is read of a tree.
 
 ghost use Rattle.std.specs.Prelude.{◌≡◌, ◌++◌, IfOk};
-ghost use Rattle.pickle_value.specs.Graph.{IsGraph};
+ghost use Rattle.pickle_graph.specs.Graph.{IsGraph};
 
 use btree_family::Item;
 use bucket_state::Branch;
-use pickle_value::{Act, Node, Pickle};
+use pickle_graph::{Act, Node, Pickle};
 use std::alloc::{AllocError, Global};
 use zb_ids::ListOf;
 

@@ -4,7 +4,7 @@ ghost use Rattle.std.specs.Prelude.{◌≡◌, ◌++◌, ◌∷◌, [], ◌≤�
 ghost use Rattle.btree_putting.specs.Puts.{add_put, put_place, sort_puts};
 
 use btree_shapes::Node;
-use pickle_value::Pickle;
+use pickle_graph::Pickle;
 use std::alloc::{AllocError, Global};
 use std::collections::VecDeque;
 use std::marker::Model;

@@ -1,9 +1,9 @@
 //! Putting the objects of a tree.
 
 ghost use Rattle.std.specs.Prelude.{◌≡◌, ◌++◌, ◌∷◌, [], true, false, Ok, IfOk, IfErr, OnOk, OnErr, MatchOption};
-ghost use Rattle.pickle_value.specs.Graph.{IsGraph};
+ghost use Rattle.pickle_graph.specs.Graph.{IsGraph};
 ghost use Rattle.btree_family.specs.Classes.{class_seen};
-ghost use Rattle.pickle_value.specs.Class.{is_class};
+ghost use Rattle.pickle_graph.specs.Class.{is_class};
 ghost use Rattle.zb_record.specs.Records.{record_of, object_text};
 ghost use Rattle.btree_shapes.specs.declared.space.Call.TheVariants.{Wrote};
 ghost use Rattle.btree_shapes.specs.Classes.{class_named};
@@ -18,7 +18,8 @@ use crate::puts::{Put, Puts};
 use crate::writing::{Family, node_writable, write_node};
 use btree_shapes::{Node, Space, SpaceError, TreeError, class_of, is_class_of, read_node};
 use bucket_state::StateError;
-use pickle_value::{Pickle, WriteError, is_class};
+use pickle_graph::{Pickle, is_class};
+use pickle_writing::WriteError;
 use std::alloc::{AllocError, Global};
 use zb_ids::{Oid, Text8};
 use zb_record::{ObjectRecord, RecordError, read_record, write_record};

@@ -2,9 +2,9 @@
 
 ghost use Rattle.std.specs.Prelude.{◌≡◌, true, IfOk};
 ghost use Rattle.std.specs.Str.{is_utf8};
-ghost use Rattle.pickle_value.specs.Graph.{IsGraph};
-ghost use Rattle.pickle_value.specs.Reading.{graph_at};
-ghost use Rattle.pickle_value.specs.declared.reading.TheConstants.{NODE_LIMIT};
+ghost use Rattle.pickle_graph.specs.Graph.{IsGraph};
+ghost use Rattle.pickle_reading.specs.Reading.{graph_at};
+ghost use Rattle.pickle_reading.specs.declared.reading.TheConstants.{NODE_LIMIT};
 ghost use Rattle.btree_family.specs.Buckets.{keys_of};
 ghost use Rattle.btree_family.specs.Classes.{class_seen};
 ghost use Rattle.bucket_state.specs.Trees.{separators_of};
@@ -14,7 +14,8 @@ ghost use Rattle.btree_putting.specs.Writing;
 use btree_family::{ClassRow, Item, Key};
 use btree_shapes::Node;
 use bucket_state::{Branch, write_bucket, write_embedded, write_inner};
-use pickle_value::{Pickle, PickleError, read_pickle};
+use pickle_graph::Pickle;
+use pickle_reading::{PickleError, read_pickle};
 use std::alloc::{AllocError, Global};
 use zb_ids::Text8;
 

@@ -1,6 +1,6 @@
 -- The last leaf below an object. Own.
 use Rattle.std.specs.Prelude.{ℕ, zero, suc, ◌-◌, ◌^◌, Bool, true, List, [], ◌∷◌, ◌++◌, length, drop, Option, Some, None, Result, Ok, Err, ◌&&◌, if◌then◌else◌}
-use Rattle.pickle_value.specs.Graph.{Graph}
+use Rattle.pickle_graph.specs.Graph.{Graph}
 use Rattle.btree_family.specs.declared.key.Key.{Key}
 use Rattle.bucket_state.specs.declared.tree.Branch.{Branch}
 use Rattle.btree_shapes.specs.declared.error.TreeError.{TreeError}

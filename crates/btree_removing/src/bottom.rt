@@ -7,7 +7,7 @@ use crate::items::remove_item;
 use btree_family::{Bucket, Key};
 use btree_putting::{Put, has_key};
 use btree_shapes::Node;
-use pickle_value::Pickle;
+use pickle_graph::Pickle;
 use std::alloc::{AllocError, Global};
 use zb_ids::Oid;
 

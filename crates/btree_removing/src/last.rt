@@ -11,7 +11,7 @@ use crate::sides::Start;
 use btree_family::Key;
 use btree_shapes::{Entry, Node, Rooted, Space, TreeError, read_entry, suits};
 use bucket_state::Inner;
-use pickle_value::Pickle;
+use pickle_graph::Pickle;
 use std::alloc::{AllocError, Global};
 use zb_ids::{ListOf, Oid};
 

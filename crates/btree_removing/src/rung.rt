@@ -5,7 +5,7 @@ ghost use Rattle.btree_removing.specs.Rungs.{rungs_of};
 
 use btree_shapes::{Path, Step};
 use bucket_state::Inner;
-use pickle_value::Pickle;
+use pickle_graph::Pickle;
 use std::alloc::{AllocError, Global};
 use std::collections::VecDeque;
 use std::marker::Model;

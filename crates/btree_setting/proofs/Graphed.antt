@@ -1,9 +1,9 @@
 -- The states of nodes that are the same but for numbers are alike.
 use Rattle.std.proofs.Common.{◌≡◌, ℕ, ◌+◌, Bool, true, false, List, [], ◌∷◌, ◌++◌, map, Option, Some, None, ◌⊎◌, inl, inr, refl, sym, ◌∙◌, ap, subst, length, suc}
 use Rattle.byteorder.specs.Endian.{big_bytes}
-use Rattle.pickle_value.specs.declared.node.Node.{Node as ValueNode}
-use Rattle.pickle_value.specs.declared.node.Node.TheVariants as nodes
-use Rattle.pickle_value.specs.Graph.{Graph}
+use Rattle.pickle_graph.specs.declared.node.Node.{Node as ValueNode}
+use Rattle.pickle_graph.specs.declared.node.Node.TheVariants as nodes
+use Rattle.pickle_graph.specs.Graph.{Graph}
 use Rattle.btree_family.specs.declared.key.Key.{Key}
 use Rattle.btree_family.specs.declared.bucket.Item.{Item}
 use Rattle.btree_family.specs.Classes.{Class}

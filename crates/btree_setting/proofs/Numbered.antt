@@ -1,7 +1,7 @@
 -- Nodes and puts that are the same but for the numbers of objects.
 use Rattle.std.proofs.Common.{◌≡◌, ℕ, ◌<◌, ◌^◌, List, [], ◌∷◌, ◌++◌, Option, Some, None, ◌⊎◌, inl, inr, refl, sym, ◌∙◌, ap, subst, length, suc, Bool, true, false}
 use Rattle.std.specs.Prelude.{if◌then◌else◌, map}
-use Rattle.pickle_value.specs.Graph.{AllBelow}
+use Rattle.pickle_graph.specs.Graph.{AllBelow}
 use Rattle.btree_family.specs.declared.key.Key.{Key}
 use Rattle.btree_family.specs.declared.bucket.Item.{Item}
 use Rattle.bucket_state.specs.declared.tree.Branch.{Branch}

@@ -4,9 +4,9 @@ use Rattle.std.specs.Prelude.{◌&&◌, if◌then◌else◌, ◌==◌, nat_lt}
 use Rattle.std.specs.Option.{option_map, option_and_then}
 use Rattle.std.proofs.lemmas.Bool.{eqb-true, eq-eqb}
 use Rattle.byteorder.specs.Numbers.{big_number-reads_back}
-use Rattle.pickle_value.specs.Graph.{Graph, IsGraph}
-use Rattle.pickle_value.specs.Same.{AreSame}
-use Rattle.pickle_value.specs.Spelling.{Spelled}
+use Rattle.pickle_graph.specs.Graph.{Graph, IsGraph}
+use Rattle.pickle_graph.specs.Same.{AreSame}
+use Rattle.pickle_writing.specs.Spelling.{Spelled}
 use Rattle.btree_family.specs.declared.bucket.Item.{Item}
 use Rattle.btree_family.specs.declared.key.Key.{Key}
 use Rattle.btree_family.specs.declared.table.Kind.{Kind}
@@ -26,7 +26,7 @@ use Rattle.bucket_state.specs.Written.{bucket_graph, inner_graph, embedded_graph
 use Rattle.bucket_state.specs.Laws.{SameHoldsTheSame, LinkStandsApart, WrittenInnerReadsBack, oid_back, with_link, branch_back, branches_back, inner_back}
 use Rattle.zb_record.specs.declared.error.RecordError.{RecordError}
 use Rattle.zb_record.specs.Alike.{GraphsAlike, AlikeIsKept}
-use Rattle.pickle_value.specs.Class.{is_class}
+use Rattle.pickle_graph.specs.Class.{is_class}
 use Rattle.zb_record.specs.Records.{record_of, object_text}
 use Rattle.btree_shapes.specs.declared.node.Node.{Node}
 use Rattle.btree_shapes.specs.declared.node.Node.TheVariants as node

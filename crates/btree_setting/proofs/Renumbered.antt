@@ -1,7 +1,7 @@
 -- Two changes of one set are the same but for the numbers of new objects.
 use Rattle.std.proofs.Common.{◌≡◌, ℕ, ◌+◌, ◌/◌, ◌<◌, ◌^◌, Bool, true, false, List, [], ◌∷◌, ◌++◌, Option, Some, None, refl, arith, sym, ◌∙◌, ap, subst, length, inl, inr, ◌⊎◌}
 use Rattle.std.specs.Prelude.{map}
-use Rattle.pickle_value.specs.Graph.{AllBelow}
+use Rattle.pickle_graph.specs.Graph.{AllBelow}
 use Rattle.btree_family.specs.declared.key.Key.{Key}
 use Rattle.btree_family.specs.declared.bucket.Item.{Item}
 use Rattle.bucket_state.specs.declared.tree.Branch.{Branch}

@@ -3,8 +3,8 @@ use Rattle.std.proofs.Common.{◌≡◌, ℕ, Bool, true, false, List, [], ◌�
 use Rattle.std.specs.Prelude.{eqb, ◌&&◌, slice_get}
 use Rattle.std.specs.Cmp.Lexicographic.{pointwise}
 use Rattle.std.proofs.lemmas.Bool.{eqb-true}
-use Rattle.pickle_value.specs.Graph.{Graph, IsGraph}
-use Rattle.pickle_value.specs.Spelling.{Spelled, spelling_of}
+use Rattle.pickle_graph.specs.Graph.{Graph, IsGraph}
+use Rattle.pickle_writing.specs.Spelling.{Spelled, spelling_of}
 use Rattle.btree_family.specs.Buckets.{IsSpelling}
 
 both : (a b : Bool) → (a && b) ≡ true → (a ≡ true) × (b ≡ true)

@@ -1,7 +1,7 @@
 -- Trying the records of a set, and its numbers.
 use Rattle.std.proofs.Common.{◌≡◌, ℕ, ◌+◌, ◌-◌, ◌<◌, ◌^◌, true, false, List, [], ◌∷◌, ◌++◌, refl, arith, sym, ◌∙◌, ap, subst, length, suc, append-nil}
 use Rattle.std.specs.Prelude.{◌&&◌, map, Result, Ok, Err, IfErr}
-use Rattle.pickle_value.specs.Graph.{AllBelow}
+use Rattle.pickle_graph.specs.Graph.{AllBelow}
 use Rattle.btree_family.specs.Classes.{Class}
 use Rattle.btree_shapes.specs.declared.space.Call.{Call}
 use Rattle.btree_shapes.specs.declared.space.Call.TheVariants.{Drew}

@@ -1,6 +1,6 @@
 -- The leaf that is set. Own.
 use Rattle.std.specs.Prelude.{ℕ, Bool, true, false, List, Option, Some, None, not, if◌then◌else◌}
-use Rattle.pickle_value.specs.Graph.{Graph}
+use Rattle.pickle_graph.specs.Graph.{Graph}
 use Rattle.btree_family.specs.declared.key.Key.{Key}
 use Rattle.btree_family.specs.Buckets.{BucketContents}
 use Rattle.btree_shapes.specs.declared.node.Node.{Node}

@@ -1,6 +1,6 @@
 -- What a set draws and puts, on every tree. Own.
 use Rattle.std.specs.Prelude.{◌≡◌, ℕ, ◌<◌, ◌^◌, Bool, true, false, List, [], ◌∷◌, ◌++◌, length, map, Option, Some, None, Result, Ok, Err, ◌&&◌, ◌⊎◌}
-use Rattle.pickle_value.specs.Graph.{Graph, AllBelow}
+use Rattle.pickle_graph.specs.Graph.{Graph, AllBelow}
 use Rattle.btree_family.specs.declared.key.Key.{Key}
 use Rattle.btree_family.specs.Classes.{Class}
 use Rattle.btree_shapes.specs.declared.error.TreeError.{TreeError}

@@ -10,7 +10,7 @@ use crate::inserting::set_item;
 use btree_family::{Bucket, Key};
 use btree_putting::{has_key, has_value};
 use btree_shapes::Node;
-use pickle_value::Pickle;
+use pickle_graph::Pickle;
 use std::alloc::{AllocError, Global};
 use zb_ids::{Oid, Text8};
 

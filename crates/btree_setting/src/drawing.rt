@@ -1,7 +1,7 @@
 //! Numbers for new objects.
 
 ghost use Rattle.std.specs.Prelude.{◌≡◌, ◌<◌, ◌^◌, ◌++◌, ◌∷◌, [], length, map, IfOk, IfErr};
-ghost use Rattle.pickle_value.specs.Graph.{AllBelow};
+ghost use Rattle.pickle_graph.specs.Graph.{AllBelow};
 ghost use Rattle.btree_shapes.specs.declared.space.Call.TheVariants.{Drew};
 ghost use Rattle.btree_shapes.specs.Spaces.{handed_on};
 ghost use Rattle.btree_putting.specs.Storing.{IsFree};

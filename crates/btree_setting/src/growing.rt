@@ -13,7 +13,7 @@ use btree_family::{Bucket, Item, Key};
 use btree_putting::{Put, Puts, copy_pickle, with_branches, with_items};
 use btree_shapes::Node;
 use bucket_state::{Branch, Inner};
-use pickle_value::Pickle;
+use pickle_graph::Pickle;
 use std::alloc::{AllocError, Global};
 use zb_ids::{ListOf, Oid};
 

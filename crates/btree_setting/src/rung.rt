@@ -6,7 +6,7 @@ ghost use Rattle.btree_setting.specs.Rungs.{child_asked, seam_child, seam_for, r
 use btree_family::Key;
 use btree_shapes::{Path, Step, place_for};
 use bucket_state::{Branch, Inner};
-use pickle_value::Pickle;
+use pickle_graph::Pickle;
 use std::alloc::{AllocError, Global};
 use std::collections::VecDeque;
 use std::marker::Model;

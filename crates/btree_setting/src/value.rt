@@ -1,7 +1,7 @@
 //! Whether a value is one of a family.
 
 ghost use Rattle.std.specs.Prelude.{◌≡◌, true, IfOk, slice_get};
-ghost use Rattle.pickle_value.specs.Graph.{IsGraph};
+ghost use Rattle.pickle_graph.specs.Graph.{IsGraph};
 ghost use Rattle.btree_family.specs.Buckets.{IsSpelling, IsValue};
 ghost use Rattle.btree_family.specs.Classes.{class_seen};
 ghost use Rattle.bucket_state.specs.Laws.{node_fits};
@@ -10,7 +10,9 @@ ghost use Rattle.bucket_state.specs.Written.{value_pickle};
 ghost use Rattle.btree_setting.specs.Values;
 
 use btree_family::{ClassRow, Kind, ValueKind, number_fits};
-use pickle_value::{Node, Pickle, PickleError, WriteError, read_pickle, spelling};
+use pickle_graph::{Node, Pickle};
+use pickle_reading::{PickleError, read_pickle};
+use pickle_writing::{WriteError, spelling};
 use std::alloc::{AllocError, Global};
 use zb_ids::Text8;
 

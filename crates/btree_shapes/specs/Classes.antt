@@ -1,8 +1,8 @@
 -- The classes of records. From: the BTrees package.
 use Rattle.std.specs.Prelude.{ℕ, Bool, false, List, [], ◌∷◌, Option, Some, None, slice_get}
-use Rattle.pickle_value.specs.declared.node.Node.{Node}
-use Rattle.pickle_value.specs.declared.node.Node.TheVariants as nodes
-use Rattle.pickle_value.specs.Graph.{Graph}
+use Rattle.pickle_graph.specs.declared.node.Node.{Node}
+use Rattle.pickle_graph.specs.declared.node.Node.TheVariants as nodes
+use Rattle.pickle_graph.specs.Graph.{Graph}
 use Rattle.btree_family.specs.Classes.{Class, class_in, classes, is_known_as}
 
 -- the first item of a tuple, where it has one

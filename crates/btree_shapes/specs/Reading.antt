@@ -1,6 +1,6 @@
 -- What reading one object of a tree answers. Own.
 use Rattle.std.specs.Prelude.{◌≡◌, ℕ, List, Option, Some, None, Result, Ok, Err}
-use Rattle.pickle_value.specs.Graph.{Graph}
+use Rattle.pickle_graph.specs.Graph.{Graph}
 use Rattle.btree_family.specs.Classes.{class_seen}
 use Rattle.zb_record.specs.declared.error.RecordError.{RecordError}
 use Rattle.zb_record.specs.Records.{record_of}

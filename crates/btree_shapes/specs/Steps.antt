@@ -1,7 +1,7 @@
 -- Laws of the way for a key.
 use Rattle.std.proofs.Common.{◌≡◌, ℕ, suc, ◌-◌, ◌<◌, ◌^◌, Bool, true, false, List, [], ◌∷◌, ◌++◌, length, Option, Some, Result, Ok, Err, refl, sym, ◌∙◌, ap, subst, arith, append_assoc, append-nil}
 use Rattle.std.specs.Prelude.{map, ◌&&◌, if◌then◌else◌}
-use Rattle.pickle_value.specs.Graph.{Graph}
+use Rattle.pickle_graph.specs.Graph.{Graph}
 use Rattle.btree_family.specs.declared.key.Key.{Key}
 use Rattle.btree_family.specs.Buckets.{BucketContents}
 use Rattle.btree_family.specs.Classes.{Class}

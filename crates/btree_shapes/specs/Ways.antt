@@ -1,7 +1,7 @@
 -- The ways of calls on a tree, sound or not. Own.
 use Rattle.std.specs.Prelude.{◌≡◌, ℕ, zero, suc, ◌^◌, Bool, true, List, [], ◌∷◌, ◌++◌, map, length, Option, Some, None, Result, Ok, Err, nat_eq, if◌then◌else◌, ◌&&◌}
 use Rattle.std.specs.List.{list_any}
-use Rattle.pickle_value.specs.Graph.{Graph}
+use Rattle.pickle_graph.specs.Graph.{Graph}
 use Rattle.btree_family.specs.declared.key.Key.{Key}
 use Rattle.btree_family.specs.Classes.{Class}
 use Rattle.btree_family.specs.Families.{key_fits}

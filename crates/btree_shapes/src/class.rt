@@ -2,13 +2,13 @@
 
 ghost use Rattle.std.specs.Prelude.{◌≡◌, IfSome};
 ghost use Rattle.std.specs.Option.{option_copied, option_map};
-ghost use Rattle.pickle_value.specs.Graph.{IsGlobal};
+ghost use Rattle.pickle_graph.specs.Graph.{IsGlobal};
 ghost use Rattle.btree_family.specs.Classes.{class_seen};
 ghost use Rattle.btree_shapes.specs.Classes.{first_node, class_node, class_named};
 ghost use Rattle.btree_shapes.specs.Classes;
 
 use btree_family::{ClassRow, row_of};
-use pickle_value::{Node, Pickle};
+use pickle_graph::{Node, Pickle};
 
 /// The first item of a tuple, where it has one.
 fn first_of<'a>(nodes: &'a [Node], items: &[u32]) -> Option<&'a Node>

@@ -13,7 +13,7 @@ use crate::class::is_class_of;
 use crate::key::{is_below, suits_branches, suits_items};
 use btree_family::{Bucket, ClassRow, Item, Key, Kind, leaf_of};
 use bucket_state::{Inner, StateError, TreeState, read_bucket, read_tree};
-use pickle_value::Pickle;
+use pickle_graph::Pickle;
 use std::alloc::{AllocError, Global};
 use zb_ids::{ListOf, Oid, Text8};
 use zb_record::ObjectRecord;

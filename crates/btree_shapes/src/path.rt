@@ -4,7 +4,7 @@ ghost use Rattle.std.specs.Prelude.{◌≡◌, ◌+◌, ◌++◌, ◌∷◌, [],
 ghost use Rattle.btree_shapes.specs.Ways.{stands_in, step_oid};
 
 use bucket_state::Inner;
-use pickle_value::Pickle;
+use pickle_graph::Pickle;
 use std::alloc::{AllocError, Global};
 use std::marker::Model;
 use zb_ids::Oid;

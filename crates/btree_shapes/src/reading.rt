@@ -1,7 +1,7 @@
 //! Reading the objects of a tree.
 
 ghost use Rattle.std.specs.Prelude.{◌≡◌, ◌++◌, [], IfOk, IfErr, IfSome, Ok, Some, true};
-ghost use Rattle.pickle_value.specs.Graph.{IsGlobal};
+ghost use Rattle.pickle_graph.specs.Graph.{IsGlobal};
 ghost use Rattle.btree_family.specs.Classes.{class_seen};
 ghost use Rattle.btree_shapes.specs.Spaces.{handed_on, out_of_memory, IsLogged};
 ghost use Rattle.btree_shapes.specs.Nodes.{Holds, held_in, held_node, node_of, objects_of};
@@ -13,7 +13,7 @@ use crate::node::{Node, read_node};
 use crate::space::{Recalled, Space, SpaceError};
 use btree_family::ClassRow;
 use bucket_state::StateError;
-use pickle_value::Pickle;
+use pickle_graph::Pickle;
 use std::alloc::Global;
 use zb_ids::Oid;
 use zb_record::ObjectRecord;

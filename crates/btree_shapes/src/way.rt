@@ -14,7 +14,7 @@ use crate::path::{Path, Step};
 use crate::reading::{Entry, Rooted, read_entry, read_root};
 use crate::space::Space;
 use btree_family::{Key, key_fits};
-use pickle_value::Pickle;
+use pickle_graph::Pickle;
 use std::alloc::Global;
 use zb_ids::Oid;
 

@@ -4,15 +4,15 @@ use Rattle.std.specs.Prelude.{slice_get}
 use Rattle.std.specs.Option.{option_map, option_and_then}
 use Rattle.std.proofs.lemmas.Bool.{cases_lt}
 use Rattle.byteorder.specs.Endian.{big_bytes}
-use Rattle.pickle_value.specs.declared.node.Node.{Node}
-use Rattle.pickle_value.specs.declared.node.Node.TheVariants as nodes
-use Rattle.pickle_value.specs.declared.reading.TheConstants.{NODE_LIMIT}
-use Rattle.pickle_value.specs.Graph.{Graph}
-use Rattle.pickle_value.specs.Laws.{WrittenReadsBack}
-use Rattle.pickle_value.specs.Named.{with_name}
-use Rattle.pickle_value.specs.References.{named_by, oid_of}
-use Rattle.pickle_value.specs.Same.{IsSame}
-use Rattle.pickle_value.specs.Spelling.{spelling_of, pickled, root_piece}
+use Rattle.pickle_graph.specs.declared.node.Node.{Node}
+use Rattle.pickle_graph.specs.declared.node.Node.TheVariants as nodes
+use Rattle.pickle_reading.specs.declared.reading.TheConstants.{NODE_LIMIT}
+use Rattle.pickle_graph.specs.Graph.{Graph}
+use Rattle.pickle_round_trip.specs.Laws.{WrittenReadsBack}
+use Rattle.pickle_references.specs.Named.{with_name}
+use Rattle.pickle_references.specs.References.{named_by, oid_of}
+use Rattle.pickle_graph.specs.Same.{IsSame}
+use Rattle.pickle_writing.specs.Spelling.{spelling_of, pickled, root_piece}
 use Rattle.btree_family.specs.declared.key.Key.{Key}
 use Rattle.btree_family.specs.declared.key.Key.TheVariants as keys
 use Rattle.btree_family.specs.declared.table.KeyKind.{KeyKind}

@@ -4,16 +4,16 @@ use Rattle.std.specs.Prelude.{slice_get}
 use Rattle.std.specs.Option.{option_map, option_and_then}
 use Rattle.byteorder.specs.Endian.{big_bytes}
 use Rattle.byteorder.specs.Numbers.{big_number-reads_back}
-use Rattle.pickle_value.specs.declared.node.Node.{Node}
-use Rattle.pickle_value.specs.declared.node.Node.TheVariants as nodes
-use Rattle.pickle_value.specs.declared.node.Act.{Act}
-use Rattle.pickle_value.specs.declared.node.Act.TheVariants.{Append, Set, Build}
-use Rattle.pickle_value.specs.References.{named_by, oid_of}
-use Rattle.pickle_value.specs.Named.{with_name}
-use Rattle.pickle_value.specs.Graph.{Graph}
-use Rattle.pickle_value.specs.Laws.{WrittenReadsBack}
-use Rattle.pickle_value.specs.Same.{IsCopy, IsSame}
-use Rattle.pickle_value.specs.Spelling.{spelling_of, pickled}
+use Rattle.pickle_graph.specs.declared.node.Node.{Node}
+use Rattle.pickle_graph.specs.declared.node.Node.TheVariants as nodes
+use Rattle.pickle_graph.specs.declared.node.Act.{Act}
+use Rattle.pickle_graph.specs.declared.node.Act.TheVariants.{Append, Set, Build}
+use Rattle.pickle_references.specs.References.{named_by, oid_of}
+use Rattle.pickle_references.specs.Named.{with_name}
+use Rattle.pickle_graph.specs.Graph.{Graph}
+use Rattle.pickle_round_trip.specs.Laws.{WrittenReadsBack}
+use Rattle.pickle_graph.specs.Same.{IsCopy, IsSame}
+use Rattle.pickle_writing.specs.Spelling.{spelling_of, pickled}
 use Rattle.btree_family.specs.declared.key.Key.{Key}
 use Rattle.btree_family.specs.declared.key.Key.TheVariants as keys
 use Rattle.btree_family.specs.declared.table.KeyKind.{KeyKind}

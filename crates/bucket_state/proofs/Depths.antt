@@ -2,16 +2,16 @@
 use Rattle.std.proofs.Common.{◌≡◌, ℕ, zero, suc, ◌+◌, ◌<◌, ◌≤◌, Bool, true, false, cond, List, [], ◌∷◌, ◌++◌, map, length, Option, Some, None, inl, inr, refl, sym, ◌∙◌, ap, subst, arith, length-append}
 use Rattle.std.specs.Prelude.{slice_get}
 use Rattle.std.proofs.lemmas.Bool.{cases_lt}
-use Rattle.pickle_value.specs.declared.node.Node.{Node}
-use Rattle.pickle_value.specs.declared.node.Node.TheVariants as nodes
-use Rattle.pickle_value.specs.declared.parts.Part.TheVariants.{Byte}
-use Rattle.pickle_value.specs.declared.reading.TheConstants.{NODE_LIMIT}
-use Rattle.pickle_value.specs.Graph.{Graph, AllBelow}
-use Rattle.pickle_value.specs.Laws.{WrittenReadsBack}
-use Rattle.pickle_value.specs.Parts.{items_in, items_of, item_parts, tuple_parts}
-use Rattle.pickle_value.specs.Same.{IsSame}
-use Rattle.pickle_value.specs.Spelling.{pickled, root_piece}
-use Rattle.pickle_value.specs.Walks.{some_item, has_walk}
+use Rattle.pickle_graph.specs.declared.node.Node.{Node}
+use Rattle.pickle_graph.specs.declared.node.Node.TheVariants as nodes
+use Rattle.pickle_graph.specs.declared.parts.Part.TheVariants.{Byte}
+use Rattle.pickle_reading.specs.declared.reading.TheConstants.{NODE_LIMIT}
+use Rattle.pickle_graph.specs.Graph.{Graph, AllBelow}
+use Rattle.pickle_round_trip.specs.Laws.{WrittenReadsBack}
+use Rattle.pickle_graph.specs.Parts.{items_in, items_of, item_parts, tuple_parts}
+use Rattle.pickle_graph.specs.Same.{IsSame}
+use Rattle.pickle_writing.specs.Spelling.{pickled, root_piece}
+use Rattle.pickle_graph.specs.Walks.{some_item, has_walk}
 use Rattle.btree_family.specs.declared.key.Key.{Key}
 use Rattle.btree_family.specs.declared.key.Key.TheVariants as keys
 use Rattle.btree_family.specs.declared.bucket.Item.{Item}

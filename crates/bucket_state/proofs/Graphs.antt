@@ -2,11 +2,11 @@
 use Rattle.std.proofs.Common.{◌≡◌, ℕ, zero, suc, ◌+◌, ◌<◌, ◌≤◌, true, List, [], ◌∷◌, ◌++◌, map, length, Option, Some, None, refl, ◌∙◌, ap, arith, length-append}
 use Rattle.std.specs.Prelude.{slice_get}
 use Rattle.std.specs.Option.{option_map}
-use Rattle.pickle_value.specs.declared.node.Node.{Node}
-use Rattle.pickle_value.specs.declared.node.Node.TheVariants as nodes
-use Rattle.pickle_value.specs.declared.node.Act.{Act}
-use Rattle.pickle_value.specs.declared.node.Act.TheVariants.{Append, Set, Build}
-use Rattle.pickle_value.specs.Graph.{IsGraph, IsNode, AreNodes, AllBelow, PairsBelow, ActBelow, ActsBelow, is_tuple}
+use Rattle.pickle_graph.specs.declared.node.Node.{Node}
+use Rattle.pickle_graph.specs.declared.node.Node.TheVariants as nodes
+use Rattle.pickle_graph.specs.declared.node.Act.{Act}
+use Rattle.pickle_graph.specs.declared.node.Act.TheVariants.{Append, Set, Build}
+use Rattle.pickle_graph.specs.Graph.{IsGraph, IsNode, AreNodes, AllBelow, PairsBelow, ActBelow, ActsBelow, is_tuple}
 use Rattle.bucket_state.specs.Written.{shifted, shifted_act, shifted_pair, IsLaid}
 
 -- ---- numbers below a bound

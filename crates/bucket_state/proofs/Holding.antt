@@ -2,12 +2,12 @@
 use Rattle.std.proofs.Common.{◌≡◌, ℕ, cond, List, [], ◌∷◌, Option, Some, None, refl, sym, ◌∙◌, ap, subst}
 use Rattle.std.specs.Prelude.{slice_get}
 use Rattle.std.specs.Option.{option_and_then}
-use Rattle.pickle_value.specs.declared.node.Node.{Node}
-use Rattle.pickle_value.specs.declared.node.Node.TheVariants as nodes
-use Rattle.pickle_value.specs.Named.{with_name}
-use Rattle.pickle_value.specs.References.{oid_in, oid_of, named_first, named_by}
-use Rattle.pickle_value.specs.Same.{HasOrigin, HaveOrigins, IsCopy, AllCopies, StandOnce}
-use Rattle.pickle_value.specs.Spelling.{spelling_of}
+use Rattle.pickle_graph.specs.declared.node.Node.{Node}
+use Rattle.pickle_graph.specs.declared.node.Node.TheVariants as nodes
+use Rattle.pickle_references.specs.Named.{with_name}
+use Rattle.pickle_references.specs.References.{oid_in, oid_of, named_first, named_by}
+use Rattle.pickle_graph.specs.Same.{HasOrigin, HaveOrigins, IsCopy, AllCopies, StandOnce}
+use Rattle.pickle_writing.specs.Spelling.{spelling_of}
 use Rattle.btree_family.specs.declared.key.Key.TheVariants as keys
 use Rattle.btree_family.specs.declared.table.KeyKind.{KeyKind}
 use Rattle.btree_family.specs.declared.table.ValueKind.{ValueKind}

@@ -1,10 +1,10 @@
 -- The spelling of a key.
 use Rattle.std.proofs.Common.{◌≡◌, ◌+◌, ℕ, Bool, true, false, cond, List, Result, Ok, Err, refl, sym, ◌∙◌}
-use Rattle.pickle_value.specs.declared.error.WriteError.{WriteError}
-use Rattle.pickle_value.specs.declared.error.WriteError.TheVariants as errors
-use Rattle.pickle_value.specs.declared.depth.TheConstants.{WALK_LIMIT}
-use Rattle.pickle_value.specs.Walks.{has_walk}
-use Rattle.pickle_value.specs.Spelling.{spelling_of, root_piece, piece_of}
+use Rattle.pickle_writing.specs.declared.error.WriteError.{WriteError}
+use Rattle.pickle_writing.specs.declared.error.WriteError.TheVariants as errors
+use Rattle.pickle_writing.specs.declared.depth.TheConstants.{WALK_LIMIT}
+use Rattle.pickle_graph.specs.Walks.{has_walk}
+use Rattle.pickle_writing.specs.Spelling.{spelling_of, root_piece, piece_of}
 use Rattle.btree_family.specs.declared.key.Key.{Key}
 use Rattle.btree_family.specs.declared.key.Key.TheVariants as keys
 use Rattle.bucket_state.specs.Written.{key_graph, key_text}

@@ -2,10 +2,10 @@
 use Rattle.std.proofs.Common.{◌≡◌, ℕ, ◌+◌, List, [], ◌∷◌, Option, Some, None, refl, ◌∙◌, ap, arith}
 use Rattle.std.specs.Prelude.{slice_get}
 use Rattle.std.specs.Option.{option_and_then}
-use Rattle.pickle_value.specs.declared.node.Node.{Node}
-use Rattle.pickle_value.specs.declared.node.Node.TheVariants as nodes
-use Rattle.pickle_value.specs.Graph.{Graph}
-use Rattle.pickle_value.specs.Laws.{WrittenReadsBack}
+use Rattle.pickle_graph.specs.declared.node.Node.{Node}
+use Rattle.pickle_graph.specs.declared.node.Node.TheVariants as nodes
+use Rattle.pickle_graph.specs.Graph.{Graph}
+use Rattle.pickle_round_trip.specs.Laws.{WrittenReadsBack}
 use Rattle.btree_family.specs.declared.bucket.Item.{Item}
 use Rattle.bucket_state.specs.States.{tuple_in, members_at, with_next, bucket_in}
 use Rattle.bucket_state.specs.Trees.{lone_leaf, embedded_in, tree_in}

@@ -1,7 +1,7 @@
 -- Items of nodes that hold the same, one by one.
 use Rattle.std.proofs.Common.{◌≡◌, ℕ, Bool, true, false, List, [], ◌∷◌, Option, Some, None, refl, ap}
 use Rattle.std.specs.Option.{option_map, option_and_then}
-use Rattle.pickle_value.specs.declared.node.Node.{Node}
+use Rattle.pickle_graph.specs.declared.node.Node.{Node}
 use Rattle.btree_family.specs.declared.table.KeyKind.{KeyKind}
 use Rattle.btree_family.specs.declared.table.ValueKind.{ValueKind}
 use Rattle.btree_family.specs.Classes.{Class}

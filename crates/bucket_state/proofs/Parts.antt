@@ -1,15 +1,15 @@
 -- Parts of nodes that stand for each other.
 use Rattle.std.proofs.Common.{◌≡◌, ℕ, zero, suc, Bool, false, List, [], ◌∷◌, ◌++◌, Option, Some, None, refl, ◌∙◌, ap, subst}
 use Rattle.std.specs.Prelude.{slice_get}
-use Rattle.pickle_value.specs.declared.node.Node.{Node}
-use Rattle.pickle_value.specs.declared.node.Node.TheVariants as nodes
-use Rattle.pickle_value.specs.declared.node.Act.{Act}
-use Rattle.pickle_value.specs.declared.node.Act.TheVariants.{Append, Set, Build}
-use Rattle.pickle_value.specs.declared.parts.Part.{Part}
-use Rattle.pickle_value.specs.declared.parts.Part.TheVariants.{Byte, Item}
-use Rattle.pickle_value.specs.Parts.{parts_of, item_parts, pair_parts, act_parts, is_held, items_in, items_of, items_at, object_byte, tuple_parts, list_parts, dict_parts}
-use Rattle.pickle_value.specs.Same.{HasOrigin, HaveOrigins, PairsStandFor, ActsStandFor, IsCopy, AllCopies}
-use Rattle.pickle_value.specs.Spelling.{leaf_text}
+use Rattle.pickle_graph.specs.declared.node.Node.{Node}
+use Rattle.pickle_graph.specs.declared.node.Node.TheVariants as nodes
+use Rattle.pickle_graph.specs.declared.node.Act.{Act}
+use Rattle.pickle_graph.specs.declared.node.Act.TheVariants.{Append, Set, Build}
+use Rattle.pickle_graph.specs.declared.parts.Part.{Part}
+use Rattle.pickle_graph.specs.declared.parts.Part.TheVariants.{Byte, Item}
+use Rattle.pickle_graph.specs.Parts.{parts_of, item_parts, pair_parts, act_parts, is_held, items_in, items_of, items_at, object_byte, tuple_parts, list_parts, dict_parts}
+use Rattle.pickle_graph.specs.Same.{HasOrigin, HaveOrigins, PairsStandFor, ActsStandFor, IsCopy, AllCopies}
+use Rattle.pickle_writing.specs.Spelling.{leaf_text}
 
 -- ---- parts that stand for each other's
 

@@ -3,14 +3,14 @@ use Rattle.std.proofs.Common.{◌≡◌, ℕ, suc, ◌<◌, Bool, true, false, c
 use Rattle.std.specs.Prelude.{slice_get}
 use Rattle.std.specs.Option.{option_map, option_and_then}
 use Rattle.std.proofs.lemmas.Bool.{cases_lt}
-use Rattle.pickle_value.specs.declared.node.Node.{Node}
-use Rattle.pickle_value.specs.declared.node.Node.TheVariants as nodes
-use Rattle.pickle_value.specs.declared.reading.TheConstants.{NODE_LIMIT}
-use Rattle.pickle_value.specs.Graph.{Graph, IsGraph}
-use Rattle.pickle_value.specs.Laws.{WrittenReadsBack}
-use Rattle.pickle_value.specs.Same.{IsSame}
-use Rattle.pickle_value.specs.Spelling.{Spelled, spelling_of, pickled, root_piece}
-use Rattle.pickle_value.specs.Walks.{some_item, has_walk}
+use Rattle.pickle_graph.specs.declared.node.Node.{Node}
+use Rattle.pickle_graph.specs.declared.node.Node.TheVariants as nodes
+use Rattle.pickle_reading.specs.declared.reading.TheConstants.{NODE_LIMIT}
+use Rattle.pickle_graph.specs.Graph.{Graph, IsGraph}
+use Rattle.pickle_round_trip.specs.Laws.{WrittenReadsBack}
+use Rattle.pickle_graph.specs.Same.{IsSame}
+use Rattle.pickle_writing.specs.Spelling.{Spelled, spelling_of, pickled, root_piece}
+use Rattle.pickle_graph.specs.Walks.{some_item, has_walk}
 use Rattle.btree_family.specs.declared.table.ValueKind.{ValueKind}
 use Rattle.btree_family.specs.declared.bucket.Item.{Item}
 use Rattle.btree_family.specs.Classes.{Class}

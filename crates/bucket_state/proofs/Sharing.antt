@@ -1,12 +1,12 @@
 -- Nodes of a copy are shared as those of the graph.
 use Rattle.std.proofs.Common.{◌≡◌, ℕ, zero, suc, ◌+◌, ◌≤◌, Bool, true, false, cond, List, [], ◌∷◌, ◌++◌, length, Option, Some, None, refl, sym, ◌∙◌, ap, arith}
 use Rattle.std.specs.Prelude.{slice_get, nat_lt}
-use Rattle.pickle_value.specs.declared.node.Node.{Node}
-use Rattle.pickle_value.specs.declared.depth.TheConstants.{WALK_LIMIT}
-use Rattle.pickle_value.specs.Parts.{is_held, items_of, items_at}
-use Rattle.pickle_value.specs.Same.{HasOrigin, HaveOrigins, AllCopies, StandOnce, is_held_at, holds_items}
-use Rattle.pickle_value.specs.Walks.{leads}
-use Rattle.pickle_value.specs.Shared.{times, ends_from, is_shared}
+use Rattle.pickle_graph.specs.declared.node.Node.{Node}
+use Rattle.pickle_writing.specs.declared.depth.TheConstants.{WALK_LIMIT}
+use Rattle.pickle_graph.specs.Parts.{is_held, items_of, items_at}
+use Rattle.pickle_graph.specs.Same.{HasOrigin, HaveOrigins, AllCopies, StandOnce, is_held_at, holds_items}
+use Rattle.pickle_graph.specs.Walks.{leads}
+use Rattle.pickle_writing.specs.Shared.{times, ends_from, is_shared}
 use Rattle.bucket_state.proofs.Parts.{standing, items_stand, leaf_items}
 use Rattle.bucket_state.proofs.Ways.{same_test, leads_alike, reached, has_at}
 use Rattle.bucket_state.proofs.Sums.{weigh, total, occur, total_same, weigh_total, occur_zero, occur_once}

@@ -2,14 +2,14 @@
 use Rattle.std.proofs.Common.{◌≡◌, ℕ, zero, suc, ◌+◌, ◌<◌, false, List, [], ◌∷◌, map, length, Option, Some, refl, sym, ◌∙◌, ap, subst, arith, eqb}
 use Rattle.std.specs.Prelude.{slice_get}
 use Rattle.std.proofs.lemmas.Bool.{ne_eqb}
-use Rattle.pickle_value.specs.declared.node.Node.{Node}
-use Rattle.pickle_value.specs.declared.node.Node.TheVariants as nodes
-use Rattle.pickle_value.specs.declared.node.Act.{Act}
-use Rattle.pickle_value.specs.declared.node.Act.TheVariants.{Append, Set, Build}
-use Rattle.pickle_value.specs.Graph.{AllBelow, PairsBelow, ActBelow, ActsBelow}
-use Rattle.pickle_value.specs.Same.{HasOrigin, HaveOrigins, PairsStandFor, ActStandsFor, ActsStandFor, IsCopy, AllCopies, StandOnce, IsSame, has}
-use Rattle.pickle_value.specs.Spelling.{spelling_of}
-use Rattle.pickle_value.specs.Walks.{has_walk}
+use Rattle.pickle_graph.specs.declared.node.Node.{Node}
+use Rattle.pickle_graph.specs.declared.node.Node.TheVariants as nodes
+use Rattle.pickle_graph.specs.declared.node.Act.{Act}
+use Rattle.pickle_graph.specs.declared.node.Act.TheVariants.{Append, Set, Build}
+use Rattle.pickle_graph.specs.Graph.{AllBelow, PairsBelow, ActBelow, ActsBelow}
+use Rattle.pickle_graph.specs.Same.{HasOrigin, HaveOrigins, PairsStandFor, ActStandsFor, ActsStandFor, IsCopy, AllCopies, StandOnce, IsSame, has}
+use Rattle.pickle_writing.specs.Spelling.{spelling_of}
+use Rattle.pickle_graph.specs.Walks.{has_walk}
 use Rattle.bucket_state.proofs.Ways.{walks_alike}
 use Rattle.bucket_state.specs.Written.{shifted, shifted_act, shifted_pair}
 use Rattle.bucket_state.proofs.Sound.{in_range}

@@ -1,15 +1,15 @@
 -- Graphs that are the same are spelled alike.
 use Rattle.std.proofs.Common.{◌≡◌, ℕ, zero, suc, ◌+◌, Bool, true, false, cond, List, [], ◌∷◌, ◌++◌, length, Option, Some, None, Ok, Err, refl, ◌∙◌, ap}
-use Rattle.pickle_value.specs.declared.node.Node.{Node}
-use Rattle.pickle_value.specs.declared.parts.Part.{Part}
-use Rattle.pickle_value.specs.declared.parts.Part.TheVariants.{Byte, Item}
-use Rattle.pickle_value.specs.declared.depth.TheConstants.{WALK_LIMIT}
-use Rattle.pickle_value.specs.declared.error.WriteError.TheVariants as errors
-use Rattle.pickle_value.specs.Graph.{Graph}
-use Rattle.pickle_value.specs.Parts.{parts_of, is_held}
-use Rattle.pickle_value.specs.Same.{HasOrigin, HaveOrigins, AllCopies, StandOnce, IsSame, is_held_at, holds_items}
-use Rattle.pickle_value.specs.Shared.{is_shared}
-use Rattle.pickle_value.specs.Spelling.{Piece, parts_piece, put_number, put_behind, held_piece, node_piece, piece_of, spelling_of, put_text, get_text}
+use Rattle.pickle_graph.specs.declared.node.Node.{Node}
+use Rattle.pickle_graph.specs.declared.parts.Part.{Part}
+use Rattle.pickle_graph.specs.declared.parts.Part.TheVariants.{Byte, Item}
+use Rattle.pickle_writing.specs.declared.depth.TheConstants.{WALK_LIMIT}
+use Rattle.pickle_writing.specs.declared.error.WriteError.TheVariants as errors
+use Rattle.pickle_graph.specs.Graph.{Graph}
+use Rattle.pickle_graph.specs.Parts.{parts_of, is_held}
+use Rattle.pickle_graph.specs.Same.{HasOrigin, HaveOrigins, AllCopies, StandOnce, IsSame, is_held_at, holds_items}
+use Rattle.pickle_writing.specs.Shared.{is_shared}
+use Rattle.pickle_writing.specs.Spelling.{Piece, parts_piece, put_number, put_behind, held_piece, node_piece, piece_of, spelling_of, put_text, get_text}
 use Rattle.bucket_state.proofs.Parts.{PartsAlike, Standing, standing}
 use Rattle.bucket_state.proofs.Ways.{same_test, walks_alike}
 use Rattle.bucket_state.proofs.Sharing.{shared_alike}

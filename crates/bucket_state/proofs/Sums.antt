@@ -1,8 +1,8 @@
 -- Sums over the nodes of a graph, and over the origins of a copy.
 use Rattle.std.proofs.Common.{◌≡◌, ℕ, ◌+◌, ◌<◌, ◌≤◌, Bool, true, false, cond, List, [], ◌∷◌, length, refl, sym, ◌∙◌, subst, arith, eqb, eq-eqb, ltb}
 use Rattle.std.proofs.lemmas.Bool.{eqb-true, ne_eqb, ltb-true, ltb-false}
-use Rattle.pickle_value.specs.declared.node.Node.{Node}
-use Rattle.pickle_value.specs.Same.{StandOnce, has, is_held_at}
+use Rattle.pickle_graph.specs.declared.node.Node.{Node}
+use Rattle.pickle_graph.specs.Same.{StandOnce, has, is_held_at}
 
 -- the sum over the numbers of a list
 abbrev pub weigh : (ℕ → ℕ) → List ℕ → ℕ

@@ -3,10 +3,10 @@ use Rattle.std.proofs.Common.{◌≡◌, ℕ, zero, suc, Bool, true, false, cond
 use Rattle.std.specs.Prelude.{slice_get}
 use Rattle.std.specs.Cmp.{both_ways}
 use Rattle.std.proofs.lemmas.Bool.{eqb-true}
-use Rattle.pickle_value.specs.declared.node.Node.{Node}
-use Rattle.pickle_value.specs.Parts.{items_at}
-use Rattle.pickle_value.specs.Same.{HasOrigin, HaveOrigins, AllCopies, StandOnce, has, is_held_at}
-use Rattle.pickle_value.specs.Walks.{some_item, has_walk, leads}
+use Rattle.pickle_graph.specs.declared.node.Node.{Node}
+use Rattle.pickle_graph.specs.Parts.{items_at}
+use Rattle.pickle_graph.specs.Same.{HasOrigin, HaveOrigins, AllCopies, StandOnce, has, is_held_at}
+use Rattle.pickle_graph.specs.Walks.{some_item, has_walk, leads}
 use Rattle.bucket_state.proofs.Parts.{items_stand}
 
 pub has_at : (ms : List ℕ) (i m : ℕ) → slice_get ms i ≡ Some m → has m ms ≡ true

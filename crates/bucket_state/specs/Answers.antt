@@ -1,7 +1,7 @@
 -- Answers of reading states.
 use Rattle.std.specs.Prelude.{Option, Some, None, Result, Ok, Err, ◌≡◌}
-use Rattle.pickle_value.specs.declared.error.WriteError.{WriteError}
-use Rattle.pickle_value.specs.declared.error.WriteError.TheVariants as writing
+use Rattle.pickle_writing.specs.declared.error.WriteError.{WriteError}
+use Rattle.pickle_writing.specs.declared.error.WriteError.TheVariants as writing
 use Rattle.bucket_state.specs.declared.error.StateError.{StateError}
 use Rattle.bucket_state.specs.declared.error.StateError.TheVariants.{BadState, Memory}
 

@@ -1,8 +1,8 @@
 -- How deep the values of a state are: of how many edges the walks are that start at them. Own.
 use Rattle.std.specs.Prelude.{◌≡◌, ℕ, ◌+◌, false, List, [], ◌∷◌, Option, Some, None}
-use Rattle.pickle_value.specs.declared.depth.TheConstants.{WALK_LIMIT}
-use Rattle.pickle_value.specs.Graph.{Graph, IsGraph}
-use Rattle.pickle_value.specs.Walks.{has_walk}
+use Rattle.pickle_writing.specs.declared.depth.TheConstants.{WALK_LIMIT}
+use Rattle.pickle_graph.specs.Graph.{Graph, IsGraph}
+use Rattle.pickle_graph.specs.Walks.{has_walk}
 use Rattle.btree_family.specs.declared.bucket.Item.{Item}
 use Rattle.btree_family.specs.Classes.{Class}
 use Rattle.btree_family.specs.Buckets.{BucketContents, AreValues}

@@ -2,11 +2,11 @@
 use Rattle.std.specs.Prelude.{◌≡◌, ℕ, ◌≤◌, ◌<◌, ◌^◌, Bool, true, false, List, [], ◌∷◌, Option, Some, None, Ok, slice_get, if◌then◌else◌}
 use Rattle.std.specs.Option.{option_map, option_and_then}
 use Rattle.byteorder.specs.Endian.{big_bytes, big_number}
-use Rattle.pickle_value.specs.declared.node.Node.{Node}
-use Rattle.pickle_value.specs.declared.reading.TheConstants.{NODE_LIMIT}
-use Rattle.pickle_value.specs.Graph.{Graph, IsGraph}
-use Rattle.pickle_value.specs.Same.{IsSame}
-use Rattle.pickle_value.specs.Spelling.{spelling_of, root_piece}
+use Rattle.pickle_graph.specs.declared.node.Node.{Node}
+use Rattle.pickle_reading.specs.declared.reading.TheConstants.{NODE_LIMIT}
+use Rattle.pickle_graph.specs.Graph.{Graph, IsGraph}
+use Rattle.pickle_graph.specs.Same.{IsSame}
+use Rattle.pickle_writing.specs.Spelling.{spelling_of, root_piece}
 use Rattle.btree_family.specs.declared.table.KeyKind.{KeyKind}
 use Rattle.btree_family.specs.declared.table.ValueKind.{ValueKind}
 use Rattle.btree_family.specs.Classes.{Class}

@@ -1,15 +1,15 @@
 -- States as they are written. From: the BTrees package; that each key, value and link stands apart is own.
 use Rattle.std.specs.Prelude.{ℕ, ◌+◌, List, [], ◌∷◌, ◌++◌, map, length, Option, Some, None, Result, Ok, Err}
 use Rattle.byteorder.specs.Endian.{big_bytes}
-use Rattle.pickle_value.specs.declared.node.Node.{Node}
-use Rattle.pickle_value.specs.declared.node.Node.TheVariants as nodes
-use Rattle.pickle_value.specs.declared.node.Act.{Act}
-use Rattle.pickle_value.specs.declared.node.Act.TheVariants.{Append, Set, Build}
-use Rattle.pickle_value.specs.declared.error.PickleError.{PickleError}
-use Rattle.pickle_value.specs.declared.reading.TheConstants.{NODE_LIMIT}
-use Rattle.pickle_value.specs.Graph.{Graph, AreNodes, AllBelow}
-use Rattle.pickle_value.specs.Reading.{graph_at}
-use Rattle.pickle_value.specs.Spelling.{leaf_text}
+use Rattle.pickle_graph.specs.declared.node.Node.{Node}
+use Rattle.pickle_graph.specs.declared.node.Node.TheVariants as nodes
+use Rattle.pickle_graph.specs.declared.node.Act.{Act}
+use Rattle.pickle_graph.specs.declared.node.Act.TheVariants.{Append, Set, Build}
+use Rattle.pickle_reading.specs.declared.error.PickleError.{PickleError}
+use Rattle.pickle_reading.specs.declared.reading.TheConstants.{NODE_LIMIT}
+use Rattle.pickle_graph.specs.Graph.{Graph, AreNodes, AllBelow}
+use Rattle.pickle_reading.specs.Reading.{graph_at}
+use Rattle.pickle_writing.specs.Spelling.{leaf_text}
 use Rattle.btree_family.specs.declared.key.Key.{Key}
 use Rattle.btree_family.specs.declared.key.Key.TheVariants as keys
 use Rattle.btree_family.specs.Classes.{Class}

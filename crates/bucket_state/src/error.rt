@@ -1,6 +1,6 @@
 //! Why no state was read.
 
-use pickle_value::WriteError;
+use pickle_writing::WriteError;
 use std::alloc::{AllocError, AllocFailed};
 use thiserror::Error;
 

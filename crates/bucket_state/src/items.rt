@@ -2,7 +2,7 @@
 
 ghost use Rattle.std.specs.Prelude.{◌≡◌, Some, None, slice_get, ◌<◌, length};
 ghost use Rattle.std.specs.Option.{option_copied};
-ghost use Rattle.pickle_value.specs.Graph.{IsGraph};
+ghost use Rattle.pickle_graph.specs.Graph.{IsGraph};
 ghost use Rattle.btree_family.specs.Buckets.{keys_of, IsBucket};
 ghost use Rattle.btree_family.specs.Classes.{class_seen};
 ghost use Rattle.bucket_state.specs.Answers.{AnswersFound};
@@ -14,7 +14,8 @@ use crate::error::StateError;
 use btree_family::{
     ClassRow, Item, Key, KeyKind, Kind, ValueKind, is_same_kind, key_fits, key_order, number_fits,
 };
-use pickle_value::{Node, Pickle, spelling};
+use pickle_graph::{Node, Pickle};
+use pickle_writing::spelling;
 use std::alloc::Global;
 use std::cmp::Ordering;
 use zb_ids::{ListOf, Text8};

@@ -3,7 +3,7 @@
 ghost use Rattle.bucket_state.specs.Depths.{ReadIsShallow, ReadLeafIsShallow, WrittenIsShallow, WrittenLeafIsShallow};
 ghost use Rattle.bucket_state.specs.Laws.{SameIsSpelledAlike, WrittenBucketReadsBack, WrittenLeafReadsBack, SameHoldsTheSame, LinkStandsApart, WrittenInnerReadsBack};
 
-use pickle_value::written_pickles_read_back;
+use pickle_round_trip::written_pickles_read_back;
 
 /// Graphs that are the same, up to the numbers of nodes and to leaves that stand apart, are spelled alike: so
 /// what is written, read and written again is the same text.

@@ -1,10 +1,10 @@
 //! Graphs laid side by side.
 
 ghost use Rattle.std.specs.Prelude.{◌≡◌, ◌+◌, ◌++◌, map, length, slice_get, Some, IfOk};
-ghost use Rattle.pickle_value.specs.Graph.{IsGraph, IsNode, AreNodes};
+ghost use Rattle.pickle_graph.specs.Graph.{IsGraph, IsNode, AreNodes};
 ghost use Rattle.bucket_state.specs.Written.{shifted_act, shifted_pair, shifted, no_graphs, laid_on, closed, leaf_graph, IsLaid};
 
-use pickle_value::{Act, Node, Pickle};
+use pickle_graph::{Act, Node, Pickle};
 use std::alloc::{AllocError, Global};
 use std::marker::Model;
 use zb_ids::ListOf;

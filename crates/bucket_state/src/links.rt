@@ -2,12 +2,12 @@
 
 ghost use Rattle.std.specs.Prelude.{◌≡◌, slice_get, Some, []};
 ghost use Rattle.std.specs.Option.{option_copied};
-ghost use Rattle.pickle_value.specs.References.{oid_in, oid_of, named_first, named_by};
-ghost use Rattle.pickle_value.specs.Named.{with_name};
+ghost use Rattle.pickle_references.specs.References.{oid_in, oid_of, named_first, named_by};
+ghost use Rattle.pickle_references.specs.Named.{with_name};
 ghost use Rattle.bucket_state.specs.States.{one_oid, link_at, members_at};
 
 use byteorder::{BigEndian, ByteOrder};
-use pickle_value::Node;
+use pickle_graph::Node;
 use zb_ids::Oid;
 
 /// The items of the tuple that the node of a number is. It is `None` for other nodes.

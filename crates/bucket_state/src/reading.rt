@@ -12,7 +12,7 @@ use crate::error::StateError;
 use crate::items::read_items;
 use crate::links::{link, tuple};
 use btree_family::{Bucket, ClassRow, Item};
-use pickle_value::Pickle;
+use pickle_graph::Pickle;
 use std::alloc::Global;
 use zb_ids::{ListOf, Oid};
 

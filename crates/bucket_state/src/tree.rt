@@ -14,7 +14,7 @@ use crate::items::{follows, read_key};
 use crate::links::{link, tuple};
 use crate::reading::read_members;
 use btree_family::{Bucket, ClassRow, Key, KeyKind};
-use pickle_value::{Node, Pickle};
+use pickle_graph::{Node, Pickle};
 use std::alloc::Global;
 use zb_ids::{ListOf, Oid};
 

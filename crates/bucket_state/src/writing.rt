@@ -1,7 +1,7 @@
 //! Writing the states of buckets and sets.
 
 ghost use Rattle.std.specs.Prelude.{◌≡◌, ◌++◌, [], ◌∷◌, IfOk};
-ghost use Rattle.pickle_value.specs.Graph.{IsGlobal, IsGraph};
+ghost use Rattle.pickle_graph.specs.Graph.{IsGlobal, IsGraph};
 ghost use Rattle.btree_family.specs.Buckets.{keys_of};
 ghost use Rattle.btree_family.specs.Classes.{class_seen};
 ghost use Rattle.bucket_state.specs.Trees.{separators_of};
@@ -12,7 +12,9 @@ use crate::laying::Side;
 use crate::tree::{Branch, Inner};
 use btree_family::{Bucket, ClassRow, Item, Key};
 use byteorder::{BigEndian, ByteOrder};
-use pickle_value::{Node, Pickle, read_pickle, spelling};
+use pickle_graph::{Node, Pickle};
+use pickle_reading::read_pickle;
+use pickle_writing::spelling;
 use std::alloc::{AllocError, Global};
 use zb_ids::{ListOf, Oid, Text8};
 

@@ -8,8 +8,8 @@ use Rattle.std.proofs.lemmas.List.{length-append}
 use Rattle.std.proofs.lemmas.Option.{same_Some, cond_some}
 use Rattle.zb_ids.specs.Hex.{hex_text}
 use Rattle.zb_ids.specs.HexLaws.{from_bind}
-use Rattle.pickle_value.specs.declared.node.Node.{Node}
-use Rattle.pickle_value.specs.declared.node.Node.TheVariants as kinds
+use Rattle.pickle_graph.specs.declared.node.Node.{Node}
+use Rattle.pickle_graph.specs.declared.node.Node.TheVariants as kinds
 use Rattle.literal_reading.specs.declared.form.Form.{Form}
 use Rattle.zb_literals.specs.Texts.{leaf_literal, global_text, name_byte_text}
 use Rattle.zb_literals.specs.Values.{Value, leaf, tuple, list, dict, reference, Values, no_values, value, Pairs, no_pairs, pair, oid_of_value, global_of_value, short_of, leaf_oid, leaf_global, digits_of, with_global, reference_text, literal_text, more_text, more_pairs, IsLeaf, IsValue, AreValues, ArePairs, AreAllSmall}

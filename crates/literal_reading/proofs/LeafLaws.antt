@@ -13,8 +13,8 @@ use Rattle.zb_ids.specs.Hex.{◌>>=◌}
 use Rattle.zb_ids.specs.HexLaws.{from_bind}
 use Rattle.pickle_ops.specs.Grammar.{IsGlobalLine, is_one_line}
 use Rattle.pickle_ops.specs.Fits.{IsShortText}
-use Rattle.pickle_value.specs.declared.node.Node.{Node}
-use Rattle.pickle_value.specs.declared.node.Node.TheVariants as kinds
+use Rattle.pickle_graph.specs.declared.node.Node.{Node}
+use Rattle.pickle_graph.specs.declared.node.Node.TheVariants as kinds
 use Rattle.zb_literals.specs.Texts.{leaf_literal, global_text, character_text, is_name_byte, name_byte_text}
 use Rattle.zb_literals.specs.Values.{IsLeaf, AreAllSmall}
 use Rattle.literal_reading.specs.Reading.{if_some, rest_behind, until_at, character_at, name_byte_at, characters_at, name_bytes_at, name_line_at, text_at, global_at, counted_at, held_as, is_wide_size, is_float_size, is_bytes_size, is_old_size, constant_at, bytes_kind_at, number_leaf_at, begins_number, leaf_at}

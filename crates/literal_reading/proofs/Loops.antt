@@ -5,7 +5,7 @@ use Rattle.std.specs.Char.{encode_utf8}
 use Rattle.std.proofs.lemmas.Option.{same_Some}
 use Rattle.zb_ids.specs.Hex.{◌>>=◌}
 use Rattle.zb_ids.specs.HexLaws.{from_bind}
-use Rattle.pickle_value.specs.declared.node.Node.{Node}
+use Rattle.pickle_graph.specs.declared.node.Node.{Node}
 use Rattle.literal_reading.specs.Reading.{RefusesLiteral, if_some, rest_behind, until_at, many_at, Listed, characters_at, character_at, name_bytes_at, name_byte_at, item_at, pair_at, values_at, pairs_at, value_at}
 use Rattle.literal_reading.specs.declared.error.LiteralError.{LiteralError}
 use Rattle.literal_reading.specs.declared.error.LiteralError.TheVariants as errors

@@ -16,10 +16,10 @@ use Rattle.std.proofs.lemmas.Option.{same_Some, cond_some}
 use Rattle.std.proofs.lemmas.Slice.Eq.{bytes_eq-Decides}
 use Rattle.zb_ids.specs.Hex.{hex_text, bytes_at, digit_of}
 use Rattle.zb_ids.specs.HexLaws.{from_bind, bytes_take, bytes_again}
-use Rattle.pickle_value.specs.declared.node.Node.{Node}
-use Rattle.pickle_value.specs.declared.node.Node.TheVariants as kinds
-use Rattle.pickle_value.specs.Graph.{IsSigned128}
-use Rattle.pickle_value.specs.Spelling.{magnitude_of}
+use Rattle.pickle_graph.specs.declared.node.Node.{Node}
+use Rattle.pickle_graph.specs.declared.node.Node.TheVariants as kinds
+use Rattle.pickle_graph.specs.Graph.{IsSigned128}
+use Rattle.pickle_writing.specs.Spelling.{magnitude_of}
 use Rattle.zb_literals.specs.Values.{AreAllSmall}
 use Rattle.literal_reading.specs.Reading.{is_word_byte, word_of, rest_of_word, number_of_word, number_leaf_at, counted_at, begins_number}
 

@@ -1,10 +1,10 @@
 -- What reading a literal answers.
 use Rattle.std.proofs.Common.{◌≡◌, ℕ, ◌+◌, false, List, [], Some, sym, ap, subst, ◌∙◌}
 use Rattle.std.proofs.lemmas.Option.{same_Some}
-use Rattle.pickle_value.specs.declared.node.Node.{Node}
-use Rattle.pickle_value.specs.declared.depth.TheConstants.{WALK_LIMIT}
-use Rattle.pickle_value.specs.Graph.{Graph, IsGraph}
-use Rattle.pickle_value.specs.Walks.{has_walk}
+use Rattle.pickle_graph.specs.declared.node.Node.{Node}
+use Rattle.pickle_writing.specs.declared.depth.TheConstants.{WALK_LIMIT}
+use Rattle.pickle_graph.specs.Graph.{Graph, IsGraph}
+use Rattle.pickle_graph.specs.Walks.{has_walk}
 use Rattle.zb_literals.specs.Values.{Value, IsValue, literal_text}
 use Rattle.zb_literals.specs.Graphs.{last_of, with_value, graph_of}
 use Rattle.literal_reading.specs.Literals.{IsLiteral}

@@ -6,8 +6,8 @@ use Rattle.std.proofs.lemmas.Option.{same_Some}
 use Rattle.std.proofs.lemmas.List.{length-append}
 use Rattle.zb_ids.specs.Hex.{◌>>=◌, hex_text}
 use Rattle.zb_ids.specs.HexLaws.{from_bind}
-use Rattle.pickle_value.specs.declared.node.Node.{Node}
-use Rattle.pickle_value.specs.declared.node.Node.TheVariants as kinds
+use Rattle.pickle_graph.specs.declared.node.Node.{Node}
+use Rattle.pickle_graph.specs.declared.node.Node.TheVariants as kinds
 use Rattle.literal_reading.specs.declared.form.Form.{Form}
 use Rattle.zb_literals.specs.Texts.{global_text}
 use Rattle.zb_literals.specs.Values.{Value, leaf, tuple, list, dict, reference, Values, no_values, value, Pairs, no_pairs, pair, oid_of_value, global_of_value, short_of, leaf_oid, digits_of, with_global, reference_text, literal_text, more_text, more_pairs, IsLeaf, IsValue, AreValues, ArePairs, AreAllSmall}

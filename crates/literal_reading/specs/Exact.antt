@@ -1,8 +1,8 @@
 -- Which graph bytes are the literal of, as a function of the bytes. Own.
 use Rattle.std.specs.Prelude.{◌≡◌, ℕ, ◌+◌, List, Option, Some}
 use Rattle.zb_ids.specs.Hex.{◌>>=◌}
-use Rattle.pickle_value.specs.Graph.{Graph}
-use Rattle.pickle_value.specs.declared.depth.TheConstants.{WALK_LIMIT}
+use Rattle.pickle_graph.specs.Graph.{Graph}
+use Rattle.pickle_writing.specs.declared.depth.TheConstants.{WALK_LIMIT}
 use Rattle.zb_literals.specs.Graphs.{last_of}
 use Rattle.literal_reading.specs.Literals.{IsLiteral}
 use Rattle.literal_reading.specs.Reading.{literal_at}

@@ -1,7 +1,7 @@
 -- What script literals are. Own.
 use Rattle.std.specs.Prelude.{◌≡◌, ℕ, ◌+◌, List}
-use Rattle.pickle_value.specs.Graph.{Graph}
-use Rattle.pickle_value.specs.declared.depth.TheConstants.{WALK_LIMIT}
+use Rattle.pickle_graph.specs.Graph.{Graph}
+use Rattle.pickle_writing.specs.declared.depth.TheConstants.{WALK_LIMIT}
 use Rattle.zb_literals.specs.Values.{Value, literal_text, IsValue}
 use Rattle.zb_literals.specs.Graphs.{graph_of}
 

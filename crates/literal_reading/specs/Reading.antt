@@ -7,9 +7,9 @@ use Rattle.std.specs.Fmt.{signed_decimal}
 use Rattle.std.specs.Str.{bytes_eq, is_utf8}
 use Rattle.std.specs.Str.Parse.{signed_digits_value}
 use Rattle.zb_ids.specs.Hex.{◌>>=◌, bytes_at, digit_value, pair_value}
-use Rattle.pickle_value.specs.declared.node.Node.{Node}
-use Rattle.pickle_value.specs.declared.node.Node.TheVariants as kinds
-use Rattle.pickle_value.specs.Spelling.{magnitude_of}
+use Rattle.pickle_graph.specs.declared.node.Node.{Node}
+use Rattle.pickle_graph.specs.declared.node.Node.TheVariants as kinds
+use Rattle.pickle_writing.specs.Spelling.{magnitude_of}
 use Rattle.literal_reading.specs.declared.error.LiteralError.{LiteralError}
 use Rattle.literal_reading.specs.declared.error.LiteralError.TheVariants as errors
 use Rattle.literal_reading.specs.declared.form.Form.{Form}

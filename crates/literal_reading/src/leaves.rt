@@ -1,7 +1,7 @@
 //! Reading values without items.
 
 ghost use Rattle.std.specs.Prelude.{◌≡◌, ℕ, Bool};
-ghost use Rattle.pickle_value.specs.declared.node.Node.TheVariants as kinds;
+ghost use Rattle.pickle_graph.specs.declared.node.Node.TheVariants as kinds;
 ghost use Rattle.literal_reading.specs.Reading;
 ghost use Rattle.literal_reading.specs.Reading.{ReadsLiteral, counted_at, held_as, text_at, global_at, constant_at, bytes_kind_at, leaf_at, is_wide_size, is_float_size, is_bytes_size, is_old_size, leaf_form};
 
@@ -10,7 +10,7 @@ use crate::error::LiteralError;
 use crate::form::Form;
 use crate::numbers::number_node;
 use crate::words::{bytes_of, split_word};
-use pickle_value::Node;
+use pickle_graph::Node;
 use std::alloc::Global;
 use zb_ids::Text8;
 

@@ -8,7 +8,7 @@ ghost use Rattle.literal_reading.specs.Reading.{ReadsLiteral, number_of_word, nu
 use crate::error::LiteralError;
 use crate::words::split_word;
 use itoa::Buffer;
-use pickle_value::Node;
+use pickle_graph::Node;
 use std::str;
 
 /// Whether a word is the literal of a number.

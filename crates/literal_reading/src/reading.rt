@@ -1,7 +1,7 @@
 //! Reading literals.
 
 ghost use Rattle.std.specs.Prelude.{◌≡◌, ◌+◌, [], false, IfOk, IfErr};
-ghost use Rattle.pickle_value.specs.Walks.{has_walk};
+ghost use Rattle.pickle_graph.specs.Walks.{has_walk};
 ghost use Rattle.literal_reading.specs.declared.error.LiteralError.TheVariants.{Memory};
 ghost use Rattle.zb_literals.specs.Graphs;
 ghost use Rattle.literal_reading.specs.Literals.{IsLiteral};
@@ -12,7 +12,8 @@ use crate::error::LiteralError;
 use crate::form::Form;
 use crate::leaves::{begins_number, eight_of, form_of, global_of, leaf_of};
 use crate::words::{after, behind};
-use pickle_value::{Node, Pickle, WALK_LIMIT};
+use pickle_graph::{Node, Pickle};
+use pickle_writing::WALK_LIMIT;
 use std::alloc::Global;
 use zb_ids::{ListOf, Text8};
 

@@ -2,10 +2,11 @@
 
 use crate::row::Row;
 use crate::row_error::RowError;
+use pickle_graph::{Act, Node, Pickle};
 use pickle_ops::TokenError;
-use pickle_value::{
-    Act, Node, Pickle, PickleError, WriteError, read_pickle, references_of, spelling, write_pickle,
-};
+use pickle_reading::{PickleError, read_pickle};
+use pickle_references::references_of;
+use pickle_writing::{WriteError, spelling, write_pickle};
 use sha2::{Digest, Sha256};
 use std::alloc::Global;
 use std::fmt::Write;

@@ -4,7 +4,7 @@ use crate::graphs::{push_bytes, push_oids};
 use crate::records::{push_text8, value_of};
 use crate::row::Row;
 use crate::row_error::RowError;
-use pickle_value::write_pickle;
+use pickle_writing::write_pickle;
 use std::alloc::Global;
 use zb_ids::Text8;
 use zb_model::{Refs, RefsError, ResolveError, Resolver, Why};

@@ -4,7 +4,7 @@ use crate::graphs::{push_oids, push_written};
 use crate::row::Row;
 use crate::row_error::RowError;
 use literal_reading::read_literal;
-use pickle_value::{Pickle, is_class};
+use pickle_graph::{Pickle, is_class};
 use std::alloc::Global;
 use std::fmt::Write;
 use zb_ids::Text8;

@@ -4,8 +4,8 @@ use Rattle.std.specs.Prelude.{All, IfOk, if◌then◌else◌, nat_lt, slice_get}
 use Rattle.std.specs.Option.{option_map}
 use Rattle.std.proofs.lemmas.Bool.{ltb-true, lt-ltb}
 use Rattle.std.proofs.lemmas.List.Elements.{All-cons}
-use Rattle.pickle_value.specs.Graph.{Graph}
-use Rattle.pickle_value.specs.Spelling.{Spelled, pickled, spelling_of, pickle_text}
+use Rattle.pickle_graph.specs.Graph.{Graph}
+use Rattle.pickle_writing.specs.Spelling.{Spelled, pickled, spelling_of, pickle_text}
 use Rattle.zb_record.specs.Records.{object_text, one_behind}
 use Rattle.zb_model.specs.declared.pending.PendingStore.{PendingStore}
 use Rattle.std.specs.declared.alloc.AllocError.{AllocError}

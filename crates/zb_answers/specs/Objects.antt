@@ -1,10 +1,10 @@
 -- Objects as answers show them, and keys and values by their spelling. Own.
 use Rattle.std.specs.Prelude.{ℕ, List, [], ◌∷◌, ◌++◌, length, Option, Some, None, Result, Ok, Err, codes, ◌==◌, if◌then◌else◌}
 use Rattle.zb_ids.specs.Hex.{hex_text, hex_number}
-use Rattle.pickle_value.specs.declared.error.PickleError.{PickleError}
-use Rattle.pickle_value.specs.declared.reading.TheConstants.{NODE_LIMIT}
-use Rattle.pickle_value.specs.Graph.{Graph}
-use Rattle.pickle_value.specs.Reading.{graph_at}
+use Rattle.pickle_reading.specs.declared.error.PickleError.{PickleError}
+use Rattle.pickle_reading.specs.declared.reading.TheConstants.{NODE_LIMIT}
+use Rattle.pickle_graph.specs.Graph.{Graph}
+use Rattle.pickle_reading.specs.Reading.{graph_at}
 use Rattle.zb_script.specs.Keys.{text_or_none}
 use Rattle.zb_literals.specs.Printing.{literal_of}
 use Rattle.zb_literals.specs.Records.{record_literal_of}

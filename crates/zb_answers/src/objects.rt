@@ -5,7 +5,8 @@ ghost use Rattle.zb_answers.specs.Objects;
 ghost use Rattle.zb_answers.specs.Objects.{key_text, object_answer, shown_line};
 
 use crate::spelling::{push_digits, push_number, push_numbered};
-use pickle_value::{PickleError, WriteError, read_pickle};
+use pickle_reading::{PickleError, read_pickle};
+use pickle_writing::WriteError;
 use std::alloc::{AllocError, Global};
 use zb_ids::{Text8, Tid};
 use zb_literals::{record_literal, write_literal};

@@ -6,10 +6,10 @@ use Rattle.std.proofs.lemmas.Option.{same_Some}
 use Rattle.zb_ids.specs.Hex.{◌>>=◌}
 use Rattle.zb_ids.specs.HexLaws.{from_bind}
 use Rattle.pickle_ops.specs.Fits.{IsShortText}
-use Rattle.pickle_value.specs.declared.node.Node.{Node}
-use Rattle.pickle_value.specs.declared.node.Node.TheVariants as kinds
-use Rattle.pickle_value.specs.declared.depth.TheConstants.{WALK_LIMIT}
-use Rattle.pickle_value.specs.Graph.{Graph, AreNodes, IsNode}
+use Rattle.pickle_graph.specs.declared.node.Node.{Node}
+use Rattle.pickle_graph.specs.declared.node.Node.TheVariants as kinds
+use Rattle.pickle_writing.specs.declared.depth.TheConstants.{WALK_LIMIT}
+use Rattle.pickle_graph.specs.Graph.{Graph, AreNodes, IsNode}
 use Rattle.zb_literals.specs.declared.parts.Part.{Part}
 use Rattle.zb_literals.specs.declared.parts.Part.TheVariants.{Byte, Item}
 use Rattle.zb_literals.specs.Texts.{leaf_literal, text_literal, quoted_text, global_text}

@@ -1,11 +1,11 @@
 -- Steps of printing.
 use Rattle.std.proofs.Common.{◌≡◌, ℕ, zero, suc, ◌-◌, ◌<◌, List, [], ◌∷◌, ◌++◌, Some, None, refl, arith}
 use Rattle.std.specs.Prelude.{slice_get}
-use Rattle.pickle_value.specs.declared.node.Node.{Node}
-use Rattle.pickle_value.specs.Numbers.{number_of}
-use Rattle.pickle_value.specs.Spelling.{put_number}
-use Rattle.pickle_value.specs.declared.node.Act.{Act}
-use Rattle.pickle_value.specs.declared.node.Act.TheVariants.{Append, Set, Build}
+use Rattle.pickle_graph.specs.declared.node.Node.{Node}
+use Rattle.pickle_writing.specs.Numbers.{number_of}
+use Rattle.pickle_writing.specs.Spelling.{put_number}
+use Rattle.pickle_graph.specs.declared.node.Act.{Act}
+use Rattle.pickle_graph.specs.declared.node.Act.TheVariants.{Append, Set, Build}
 use Rattle.zb_literals.specs.Printing.{act_marks, leaf_print, literal_parts, parts_print, marked_print, print_of}
 
 pub acts_step : (act : Act) (acts : List Act) → act_marks (act ∷ acts) ≡ act_marks (act ∷ []) ++ act_marks acts

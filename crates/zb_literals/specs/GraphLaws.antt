@@ -2,13 +2,13 @@
 use Rattle.std.proofs.Common.{◌≡◌, ℕ, zero, suc, ◌^◌, ◌<◌, ◌≤◌, false, List, [], ◌∷◌, ◌++◌, length, Some, refl, sym, ap, subst, ◌∙◌, append_assoc, append-nil, arith}
 use Rattle.std.specs.Prelude.{slice_get}
 use Rattle.std.proofs.lemmas.List.{length-append}
-use Rattle.pickle_value.specs.declared.node.Node.{Node}
-use Rattle.pickle_value.specs.declared.node.Node.TheVariants as kinds
-use Rattle.pickle_value.specs.declared.parts.Part.TheVariants.{Byte}
-use Rattle.pickle_value.specs.Graph.{AllBelow, PairsBelow, IsNode, AreNodes, IsGraph, IsSigned128, IsWide, IsGlobal}
+use Rattle.pickle_graph.specs.declared.node.Node.{Node}
+use Rattle.pickle_graph.specs.declared.node.Node.TheVariants as kinds
+use Rattle.pickle_graph.specs.declared.parts.Part.TheVariants.{Byte}
+use Rattle.pickle_graph.specs.Graph.{AllBelow, PairsBelow, IsNode, AreNodes, IsGraph, IsSigned128, IsWide, IsGlobal}
 use Rattle.pickle_ops.specs.Fits.{IsShortText}
-use Rattle.pickle_value.specs.Parts.{item_parts, pair_parts, tuple_parts, list_parts, dict_parts, items_in, items_of}
-use Rattle.pickle_value.specs.Walks.{some_item, has_walk}
+use Rattle.pickle_graph.specs.Parts.{item_parts, pair_parts, tuple_parts, list_parts, dict_parts, items_in, items_of}
+use Rattle.pickle_graph.specs.Walks.{some_item, has_walk}
 use Rattle.zb_literals.specs.Values.{Value, leaf, tuple, list, dict, reference, Values, no_values, value, Pairs, no_pairs, pair, IsLeaf, IsValue, AreValues, ArePairs}
 use Rattle.zb_literals.specs.Graphs.{last_of, with_value, with_values, with_pairs, named_values, named_pairs}
 

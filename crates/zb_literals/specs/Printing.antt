@@ -2,14 +2,14 @@
 use Rattle.std.specs.Prelude.{ℕ, zero, suc, ◌+◌, Bool, true, false, List, [], ◌∷◌, ◌++◌, Option, Some, None, Ok, Err, slice_get, codes, decimal, if◌then◌else◌}
 use Rattle.std.specs.Fmt.{signed_decimal}
 use Rattle.zb_ids.specs.Hex.{hex_text}
-use Rattle.pickle_value.specs.declared.node.Node.{Node}
-use Rattle.pickle_value.specs.declared.node.Node.TheVariants as kinds
-use Rattle.pickle_value.specs.declared.node.Act.{Act}
-use Rattle.pickle_value.specs.declared.node.Act.TheVariants.{Append, Set, Build}
-use Rattle.pickle_value.specs.declared.depth.TheConstants.{WALK_LIMIT}
-use Rattle.pickle_value.specs.Numbers.{number_of}
-use Rattle.pickle_value.specs.Spelling.{Spelled, put_number}
-use Rattle.pickle_value.specs.Putting.{puts_of}
+use Rattle.pickle_graph.specs.declared.node.Node.{Node}
+use Rattle.pickle_graph.specs.declared.node.Node.TheVariants as kinds
+use Rattle.pickle_graph.specs.declared.node.Act.{Act}
+use Rattle.pickle_graph.specs.declared.node.Act.TheVariants.{Append, Set, Build}
+use Rattle.pickle_writing.specs.declared.depth.TheConstants.{WALK_LIMIT}
+use Rattle.pickle_writing.specs.Numbers.{number_of}
+use Rattle.pickle_writing.specs.Spelling.{Spelled, put_number}
+use Rattle.pickle_writing.specs.Putting.{puts_of}
 use Rattle.zb_literals.specs.declared.parts.Part.{Part}
 use Rattle.zb_literals.specs.declared.printing.Printing.{Printing}
 use Rattle.zb_literals.specs.declared.parts.Part.TheVariants.{Byte, Item}

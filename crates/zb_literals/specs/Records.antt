@@ -1,9 +1,9 @@
 -- The literals of records. Own.
 use Rattle.std.specs.Prelude.{ℕ, List, ◌∷◌, ◌++◌, Result, Ok, Err, codes}
 use Rattle.zb_ids.specs.Hex.{hex_text}
-use Rattle.pickle_value.specs.declared.error.WriteError.{WriteError}
-use Rattle.pickle_value.specs.Graph.{Graph}
-use Rattle.pickle_value.specs.Spelling.{Spelled}
+use Rattle.pickle_writing.specs.declared.error.WriteError.{WriteError}
+use Rattle.pickle_graph.specs.Graph.{Graph}
+use Rattle.pickle_writing.specs.Spelling.{Spelled}
 use Rattle.zb_literals.specs.Printing.{literal_of}
 
 abbrev pub apart : Spelled → Spelled → Spelled

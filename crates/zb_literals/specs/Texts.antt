@@ -5,8 +5,8 @@ use Rattle.std.specs.Char.Escape.{escape_unicode}
 use Rattle.std.specs.Fmt.{signed_decimal}
 use Rattle.std.specs.Str.{chars, is_utf8}
 use Rattle.zb_ids.specs.Hex.{hex_text, pair_of}
-use Rattle.pickle_value.specs.declared.node.Node.{Node}
-use Rattle.pickle_value.specs.declared.node.Node.TheVariants as kinds
+use Rattle.pickle_graph.specs.declared.node.Node.{Node}
+use Rattle.pickle_graph.specs.declared.node.Node.TheVariants as kinds
 
 -- a character that stands for itself: one of ASCII that prints
 abbrev pub is_plain : ℕ → Bool

@@ -3,9 +3,9 @@ use Rattle.std.specs.Prelude.{ℕ, zero, suc, ◌<◌, ◌^◌, ◌≡◌, List,
 use Rattle.std.specs.List.{AllByRecursion}
 use Rattle.zb_ids.specs.Hex.{hex_text}
 use Rattle.pickle_ops.specs.Fits.{IsShortText}
-use Rattle.pickle_value.specs.declared.node.Node.{Node}
-use Rattle.pickle_value.specs.declared.node.Node.TheVariants as kinds
-use Rattle.pickle_value.specs.Graph.{IsSigned128, IsWide, IsGlobal}
+use Rattle.pickle_graph.specs.declared.node.Node.{Node}
+use Rattle.pickle_graph.specs.declared.node.Node.TheVariants as kinds
+use Rattle.pickle_graph.specs.Graph.{IsSigned128, IsWide, IsGlobal}
 use Rattle.zb_literals.specs.Texts.{leaf_literal, global_text}
 
 -- A value in which nothing is shared and no object stands. A leaf is a node without items.

@@ -1,7 +1,7 @@
 //! Numbers kept by node.
 
 ghost use Rattle.std.specs.Prelude.{◌≡◌, [], ◌∷◌, reverse, length, IfOk};
-ghost use Rattle.pickle_value.specs.Numbers.{number_of};
+ghost use Rattle.pickle_writing.specs.Numbers.{number_of};
 
 use std::alloc::{AllocError, Global};
 use std::collections::BTreeMap;
@@ -18,7 +18,7 @@ impl Model for NodeMap {
     ghost use Rattle.std.specs.Prelude.{List, ℕ, ◌≡◌, reverse};
     ghost use Rattle.std.specs.Ordering.{nat_cmp};
     ghost use Rattle.std.specs.BTreeMap.{get};
-    ghost use Rattle.pickle_value.specs.Numbers.{number_of};
+    ghost use Rattle.pickle_writing.specs.Numbers.{number_of};
 
     ghost Value = { List (ℕ × ℕ) };
 

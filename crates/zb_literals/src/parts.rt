@@ -5,7 +5,8 @@ ghost use Rattle.zb_literals.specs.Values.{leaf_oid, leaf_global, digits_of};
 ghost use Rattle.zb_literals.specs.Printing.{bytes_parts, more_parts, more_pair_parts, tuple_marks, list_marks, dict_marks, act_marks, object_marks, made_text, oid_at, class_at, both_texts, pair_short, id_short, reference_parts, literal_parts};
 
 use crate::texts::{push_digits, push_global};
-use pickle_value::{Act, Node, PutNumbers};
+use pickle_graph::{Act, Node};
+use pickle_writing::PutNumbers;
 use std::alloc::{AllocError, Global};
 use zb_ids::{ListOf, Text8};
 

@@ -3,15 +3,16 @@
 ghost use Rattle.std.specs.Prelude.{◌≡◌, ◌<◌, [], ◌∷◌, ◌++◌, length, slice_get, codes, decimal, IfOk, OnOk, None};
 ghost use Rattle.std.specs.Fmt.{signed_decimal};
 ghost use Rattle.zb_ids.specs.Hex.{hex_text};
-ghost use Rattle.pickle_value.specs.Numbers.{number_of};
-ghost use Rattle.pickle_value.specs.Spelling.{put_number, Writes};
+ghost use Rattle.pickle_writing.specs.Numbers.{number_of};
+ghost use Rattle.pickle_writing.specs.Spelling.{put_number, Writes};
 ghost use Rattle.zb_literals.specs.Printing.{leaf_print, parts_print, literal_parts, first_print, marked_print, print_of, printed, literal_of, behind_print};
 
 use crate::node_map::NodeMap;
 use crate::parts::{Part, parts_of};
 use crate::texts::{push_bytes, push_digits, push_global, push_text};
 use itoa::Buffer;
-use pickle_value::{Node, Pickle, PutNumbers, WALK_LIMIT, WriteError, put_numbers};
+use pickle_graph::{Node, Pickle};
+use pickle_writing::{PutNumbers, WALK_LIMIT, WriteError, put_numbers};
 use std::alloc::{AllocError, Global};
 use zb_ids::{ListOf, Text8};
 
@@ -175,7 +176,7 @@ fn print_node(
 
 /// The literal of a node as root.
 ///
-/// A node that [`spelling`](pickle_value::spelling) of the same node puts in the memo has `&k=` before it at
+/// A node that [`spelling`](pickle_writing::spelling) of the same node puts in the memo has `&k=` before it at
 /// its first place and stands as `*k` later, where k is the number of its put. An object stands within
 /// `[[` and `]]`. `TooDeep` is answered exactly where the spelling is.
 pub fn node_literal(alloc: Global, pickle: &Pickle, node: u32) -> Result<Text8, WriteError>

@@ -1,12 +1,13 @@
 //! Literals of records.
 
 ghost use Rattle.std.specs.Prelude.{◌≡◌, IfOk};
-ghost use Rattle.pickle_value.specs.Spelling.{Writes};
+ghost use Rattle.pickle_writing.specs.Spelling.{Writes};
 ghost use Rattle.zb_literals.specs.Records.{record_literal_of, raw_literal_of};
 
 use crate::printing::write_literal;
 use crate::texts::push_digits;
-use pickle_value::{Pickle, WriteError};
+use pickle_graph::Pickle;
+use pickle_writing::WriteError;
 use std::alloc::{AllocError, Global};
 use zb_ids::Text8;
 

@@ -2,8 +2,8 @@
 use Rattle.std.proofs.Common.{◌≡◌, ℕ, ◌+◌, ℤ, List, [], ◌∷◌, ◌++◌, length, Result, Ok, Err, ◌⊎◌, inl, refl, sym, ◌∙◌, ap, subst}
 use Rattle.pickle_ops.specs.declared.table.Op.{Op}
 use Rattle.pickle_ops.specs.declared.table.Op.TheVariants as ops
-use Rattle.pickle_value.specs.declared.error.PickleError.{PickleError}
-use Rattle.pickle_value.specs.Reading.{Reader, go_on}
+use Rattle.pickle_reading.specs.declared.error.PickleError.{PickleError}
+use Rattle.pickle_reading.specs.Reading.{Reader, go_on}
 use Rattle.zb_record.proofs.Tokens.{Tok, texts, texts_append, run}
 
 -- a token of eight bytes

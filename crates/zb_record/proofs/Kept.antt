@@ -3,18 +3,18 @@ use Rattle.std.proofs.Common.{◌≡◌, ℕ, ◌+◌, ◌≤◌, ◌<◌, List,
 use Rattle.std.proofs.lemmas.List.{drop_at, append-nil}
 use Rattle.std.proofs.lemmas.Bool.{ltb-true, ltb-false}
 use Rattle.pickle_ops.specs.Laws.{SpelledIsRead}
-use Rattle.pickle_value.specs.declared.error.PickleError.{PickleError}
-use Rattle.pickle_value.specs.declared.error.PickleError.TheVariants as errors
-use Rattle.pickle_value.specs.declared.reading.TheConstants.{NODE_LIMIT}
-use Rattle.pickle_value.specs.Graph.{Graph, IsGraph}
-use Rattle.pickle_value.specs.declared.node.Node.{Node}
-use Rattle.pickle_value.specs.declared.part.Part.{Part}
-use Rattle.pickle_value.specs.Laws.{WrittenReadsBack, WrittenReadsAnywhere, ReadsBackBehind, WrittenReadsBehind}
-use Rattle.pickle_value.specs.Named.{ToldIsNamed}
-use Rattle.pickle_value.specs.Reading.{graphs, begun, graph_behind}
-use Rattle.pickle_value.specs.References.{parts, part_at}
-use Rattle.pickle_value.specs.Same.{IsSame, AreSame}
-use Rattle.pickle_value.specs.Spelling.{Spelled, pickle_text, root_piece}
+use Rattle.pickle_reading.specs.declared.error.PickleError.{PickleError}
+use Rattle.pickle_reading.specs.declared.error.PickleError.TheVariants as errors
+use Rattle.pickle_reading.specs.declared.reading.TheConstants.{NODE_LIMIT}
+use Rattle.pickle_graph.specs.Graph.{Graph, IsGraph}
+use Rattle.pickle_graph.specs.declared.node.Node.{Node}
+use Rattle.pickle_references.specs.declared.part.Part.{Part}
+use Rattle.pickle_round_trip.specs.Laws.{WrittenReadsBack, WrittenReadsAnywhere, ReadsBackBehind, WrittenReadsBehind}
+use Rattle.pickle_references.specs.Named.{ToldIsNamed}
+use Rattle.pickle_reading.specs.Reading.{graphs, begun, graph_behind}
+use Rattle.pickle_references.specs.References.{parts, part_at}
+use Rattle.pickle_graph.specs.Same.{IsSame, AreSame}
+use Rattle.pickle_writing.specs.Spelling.{Spelled, pickle_text, root_piece}
 use Rattle.zb_record.specs.Alike.{AlikeIsKept}
 use Rattle.zb_record.specs.Laws.{IsRecord}
 use Rattle.zb_record.specs.Records.{one_behind}

@@ -13,12 +13,12 @@ use Rattle.pickle_ops.specs.declared.table.Kind.TheVariants as args
 use Rattle.pickle_ops.specs.declared.table.TheConstants.{TABLE}
 use Rattle.pickle_ops.specs.Rows.{row_in}
 use Rattle.pickle_ops.specs.Grammar.{IsGlobalLine, IsArgument}
-use Rattle.pickle_value.specs.declared.node.Node.{Node}
-use Rattle.pickle_value.specs.declared.node.Node.TheVariants as kinds
-use Rattle.pickle_value.specs.Graph.{IsNode}
-use Rattle.pickle_value.specs.Parts.{is_held}
-use Rattle.pickle_value.specs.Reading.{is_stop}
-use Rattle.pickle_value.specs.Spelling.{long_size, long_text, number_text, counted_text, leaf_text, put_text, get_text}
+use Rattle.pickle_graph.specs.declared.node.Node.{Node}
+use Rattle.pickle_graph.specs.declared.node.Node.TheVariants as kinds
+use Rattle.pickle_graph.specs.Graph.{IsNode}
+use Rattle.pickle_graph.specs.Parts.{is_held}
+use Rattle.pickle_reading.specs.Reading.{is_stop}
+use Rattle.pickle_writing.specs.Spelling.{long_size, long_text, number_text, counted_text, leaf_text, put_text, get_text}
 use Rattle.zb_record.proofs.Tokens.{Tok}
 
 -- a token of this text

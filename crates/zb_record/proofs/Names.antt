@@ -1,13 +1,14 @@
 -- Names for what the readers of pickles keep: what their definitions compute to.
 use Rattle.std.proofs.Common.{ℕ, pos, Bool, true, false, T, List, [], Option, Some, None, Result, Ok, Err}
 use Rattle.pickle_ops.specs.declared.table.Op.TheVariants as ops
-use Rattle.pickle_value.specs.declared.error.PickleError.{PickleError}
-use Rattle.pickle_value.specs.declared.node.Node.TheVariants as kinds
-use Rattle.pickle_value.specs.Additions.{added}
-use Rattle.pickle_value.specs.Steps.{get_of, act_of}
-use Rattle.pickle_value.specs.Stacks.{top_of}
-use Rattle.pickle_value.specs.Reading.{Reader, graphs, empty_state}
-use Rattle.pickle_value.specs.References.{oid_in, oid_of, named_by, parts}
+use Rattle.pickle_reading.specs.declared.error.PickleError.{PickleError}
+use Rattle.pickle_graph.specs.declared.node.Node.TheVariants as kinds
+use Rattle.pickle_reading.specs.Additions.{added}
+use Rattle.pickle_reading.specs.Steps.{get_of}
+use Rattle.pickle_reading.specs.Nodes.{act_of}
+use Rattle.pickle_reading.specs.Stacks.{top_of}
+use Rattle.pickle_reading.specs.Reading.{Reader, graphs, empty_state}
+use Rattle.pickle_references.specs.References.{oid_in, oid_of, named_by, parts}
 
 abbrev KeptBy : {S X : Type 0} → Reader S X → Type 0
 KeptBy {S} {X} r = S

@@ -2,19 +2,19 @@
 use Rattle.std.proofs.Common.{◌≡◌, ℕ, zero, suc, ◌+◌, Bool, true, false, cond, List, [], ◌∷◌, ◌++◌, length, Option, Some, None, Ok, Err, refl, sym, ◌∙◌, ap, subst, eqb, inl, inr}
 use Rattle.std.specs.Prelude.{slice_get, nat_lt}
 use Rattle.pickle_ops.specs.declared.table.Op.TheVariants as ops
-use Rattle.pickle_value.specs.declared.node.Act.{Act}
-use Rattle.pickle_value.specs.declared.node.Act.TheVariants.{Append, Set, Build}
-use Rattle.pickle_value.specs.declared.node.Node.{Node}
-use Rattle.pickle_value.specs.declared.node.Node.TheVariants as kinds
-use Rattle.pickle_value.specs.declared.parts.Part.{Part}
-use Rattle.pickle_value.specs.declared.parts.Part.TheVariants.{Byte, Item}
-use Rattle.pickle_value.specs.declared.depth.TheConstants.{WALK_LIMIT}
-use Rattle.pickle_value.specs.declared.error.WriteError.TheVariants as errors
-use Rattle.pickle_value.specs.Graph.{Graph, IsGraph, IsNode, AreNodes}
-use Rattle.pickle_value.specs.Parts.{parts_of, item_parts, pair_parts, act_parts, is_held, items_in, items_of, items_at, object_byte, tuple_parts, list_parts, dict_parts}
-use Rattle.pickle_value.specs.Shared.{times, ends_from, is_shared}
-use Rattle.pickle_value.specs.Spelling.{Piece, put_number, put_behind, held_piece, parts_piece, node_piece, piece_of, root_piece, put_text, get_text, leaf_text, pickle_text}
-use Rattle.pickle_value.specs.Walks.{some_item, has_walk, leads}
+use Rattle.pickle_graph.specs.declared.node.Act.{Act}
+use Rattle.pickle_graph.specs.declared.node.Act.TheVariants.{Append, Set, Build}
+use Rattle.pickle_graph.specs.declared.node.Node.{Node}
+use Rattle.pickle_graph.specs.declared.node.Node.TheVariants as kinds
+use Rattle.pickle_graph.specs.declared.parts.Part.{Part}
+use Rattle.pickle_graph.specs.declared.parts.Part.TheVariants.{Byte, Item}
+use Rattle.pickle_writing.specs.declared.depth.TheConstants.{WALK_LIMIT}
+use Rattle.pickle_writing.specs.declared.error.WriteError.TheVariants as errors
+use Rattle.pickle_graph.specs.Graph.{Graph, IsGraph, IsNode, AreNodes}
+use Rattle.pickle_graph.specs.Parts.{parts_of, item_parts, pair_parts, act_parts, is_held, items_in, items_of, items_at, object_byte, tuple_parts, list_parts, dict_parts}
+use Rattle.pickle_writing.specs.Shared.{times, ends_from, is_shared}
+use Rattle.pickle_writing.specs.Spelling.{Piece, put_number, put_behind, held_piece, parts_piece, node_piece, piece_of, root_piece, put_text, get_text, leaf_text, pickle_text}
+use Rattle.pickle_graph.specs.Walks.{some_item, has_walk, leads}
 use Rattle.zb_record.specs.Alike.{NodeAlike, NodesAlike, GraphsAlike}
 use Rattle.zb_record.proofs.Tokens.{Tok, texts}
 use Rattle.zb_record.proofs.Alike.{ToksAlike, TextsAlike, tok_same, texts_none, texts_then, texts_one}

@@ -1,14 +1,14 @@
 -- What is read is a record, and a record is read.
 use Rattle.std.proofs.Common.{◌≡◌, ℕ, Bool, true, false, cond, List, [], ◌++◌, length, drop, Result, Ok, Err, refl, ◌∙◌, ap, subst, eqb}
 use Rattle.std.proofs.lemmas.Bool.{eqb-true, eq-eqb}
-use Rattle.pickle_value.specs.declared.error.PickleError.{PickleError}
-use Rattle.pickle_value.specs.declared.pair.Pair.{Pair}
-use Rattle.pickle_value.specs.declared.part.Part.{Part}
-use Rattle.pickle_value.specs.Class.{is_class}
-use Rattle.pickle_value.specs.Graph.{Graph}
-use Rattle.pickle_value.specs.Reading.{go_on}
-use Rattle.pickle_value.specs.References.{Left, part_at, with_second, second_of, pair_of}
-use Rattle.pickle_value.specs.Named.{ToldIsNamed}
+use Rattle.pickle_reading.specs.declared.error.PickleError.{PickleError}
+use Rattle.pickle_references.specs.declared.pair.Pair.{Pair}
+use Rattle.pickle_references.specs.declared.part.Part.{Part}
+use Rattle.pickle_graph.specs.Class.{is_class}
+use Rattle.pickle_graph.specs.Graph.{Graph}
+use Rattle.pickle_reading.specs.Reading.{go_on}
+use Rattle.pickle_references.specs.References.{Left, part_at, with_second, second_of, pair_of}
+use Rattle.pickle_references.specs.Named.{ToldIsNamed}
 use Rattle.zb_record.specs.declared.error.RecordError.{RecordError}
 use Rattle.zb_record.specs.declared.error.RecordError.TheVariants as errors
 use Rattle.zb_record.specs.Records.{◌>>=◌, judged, record_in, record_parts, references_of}

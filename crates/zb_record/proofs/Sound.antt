@@ -1,9 +1,9 @@
 -- What is alike to a graph is one.
 use Rattle.std.proofs.Common.{ℕ, ◌<◌, ◌^◌, List, [], ◌∷◌, length, inl, inr, sym, ◌∙◌, subst, arith}
 use Rattle.std.specs.Prelude.{slice_get}
-use Rattle.pickle_value.specs.declared.node.Node.{Node}
-use Rattle.pickle_value.specs.declared.node.Node.TheVariants as kinds
-use Rattle.pickle_value.specs.Graph.{Graph, IsGraph, IsNode, AreNodes, AllBelow, PairsBelow, ActsBelow}
+use Rattle.pickle_graph.specs.declared.node.Node.{Node}
+use Rattle.pickle_graph.specs.declared.node.Node.TheVariants as kinds
+use Rattle.pickle_graph.specs.Graph.{Graph, IsGraph, IsNode, AreNodes, AllBelow, PairsBelow, ActsBelow}
 use Rattle.zb_record.specs.Alike.{NodeAlike, NodesAlike, GraphsAlike}
 use Rattle.zb_record.proofs.Pieces.{as_many, get_alike}
 use Rattle.zb_record.proofs.Steps.{tuple_alike}

@@ -8,8 +8,8 @@ use Rattle.pickle_ops.specs.declared.token.Token.{Token}
 use Rattle.pickle_ops.specs.Tokens.{token_at}
 use Rattle.pickle_ops.specs.Grammar.{IsToken}
 use Rattle.pickle_ops.specs.Laws.{SpelledIsRead}
-use Rattle.pickle_value.specs.declared.error.PickleError.{PickleError}
-use Rattle.pickle_value.specs.Reading.{Reader, read_from, after_token, is_stop, bytes_of, go_on}
+use Rattle.pickle_reading.specs.declared.error.PickleError.{PickleError}
+use Rattle.pickle_reading.specs.Reading.{Reader, read_from, after_token, is_stop, bytes_of, go_on}
 
 -- the text spells a token that does not stop, and ends with its bytes
 pub record Spells (text : List ℕ) (op : Op) (number : ℤ) (held : List ℕ) : Type 0 where

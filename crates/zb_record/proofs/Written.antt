@@ -2,17 +2,17 @@
 use Rattle.std.proofs.Common.{◌≡◌, ℕ, ◌+◌, true, List, [], ◌∷◌, ◌++◌, length, drop, Option, Some, None, Ok, Err, refl, arith, sym, ◌∙◌, ap, subst, length-append}
 use Rattle.std.specs.Prelude.{slice_get, IsSome}
 use Rattle.std.proofs.lemmas.List.{drop_at, append-nil}
-use Rattle.pickle_value.specs.declared.node.Node.{Node}
-use Rattle.pickle_value.specs.declared.node.Node.TheVariants as kinds
-use Rattle.pickle_value.specs.declared.reading.TheConstants.{NODE_LIMIT}
-use Rattle.pickle_value.specs.Graph.{Graph}
-use Rattle.pickle_value.specs.Reading.{graph_at, graph_behind}
-use Rattle.pickle_value.specs.References.{part_at}
-use Rattle.pickle_value.specs.Same.{IsCopy, AllCopies, IsSame}
-use Rattle.pickle_value.specs.Spelling.{Spelled, pickle_text}
-use Rattle.pickle_value.specs.Laws.{WrittenReadsAnywhere, WrittenReadsBehind}
-use Rattle.pickle_value.specs.Named.{oids_of, IsLeft, NamedIsTold, PartIsLeft, CopiesAreNamed}
-use Rattle.pickle_value.specs.Class.{is_global, begins_with_global, is_class_node, is_class}
+use Rattle.pickle_graph.specs.declared.node.Node.{Node}
+use Rattle.pickle_graph.specs.declared.node.Node.TheVariants as kinds
+use Rattle.pickle_reading.specs.declared.reading.TheConstants.{NODE_LIMIT}
+use Rattle.pickle_graph.specs.Graph.{Graph}
+use Rattle.pickle_reading.specs.Reading.{graph_at, graph_behind}
+use Rattle.pickle_references.specs.References.{part_at}
+use Rattle.pickle_graph.specs.Same.{IsCopy, AllCopies, IsSame}
+use Rattle.pickle_writing.specs.Spelling.{Spelled, pickle_text}
+use Rattle.pickle_round_trip.specs.Laws.{WrittenReadsAnywhere, WrittenReadsBehind}
+use Rattle.pickle_references.specs.Named.{oids_of, IsLeft, NamedIsTold, PartIsLeft, CopiesAreNamed}
+use Rattle.pickle_graph.specs.Class.{is_global, begins_with_global, is_class_node, is_class}
 use Rattle.zb_record.specs.Records.{one_behind}
 use Rattle.zb_record.specs.Laws.{IsRecord, WrittenRecordReadsBack}
 use Rattle.zb_record.proofs.Read.{record-is_read}
@@ -39,7 +39,7 @@ global-copy origin x _ h e = absurd cc
 class-copy : (origin : List ℕ) (g copy : List Node) (x : Node) (old : Option Node) → AllCopies origin g copy origin → IsCopy origin x old → is_class_node g old ≡ true → is_class_node copy (Some x) ≡ true
 class-copy origin g copy (kinds.Tuple []) (Some (kinds.Tuple ms)) all h e = absurd (none ms h e)
   where
-    none : (ms : List ℕ) → Rattle.pickle_value.specs.Same.HaveOrigins origin [] ms → begins_with_global g ms ≡ true → ⊥
+    none : (ms : List ℕ) → Rattle.pickle_graph.specs.Same.HaveOrigins origin [] ms → begins_with_global g ms ≡ true → ⊥
     none [] k f = cc
     none (m ∷ ms) k f = k
 class-copy origin g copy (kinds.Tuple (n ∷ ns)) (Some (kinds.Tuple [])) all h e = absurd h

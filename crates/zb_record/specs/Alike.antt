@@ -1,9 +1,9 @@
 -- Graphs that are alike but for eight bytes, as the numbers of objects are, and their records.
 use Rattle.std.specs.Prelude.{ℕ, List, [], ◌∷◌, length, Ok, ◌≡◌, ◌⊎◌}
-use Rattle.pickle_value.specs.declared.node.Node.{Node}
-use Rattle.pickle_value.specs.declared.node.Node.TheVariants as kinds
-use Rattle.pickle_value.specs.Graph.{Graph, IsGraph}
-use Rattle.pickle_value.specs.Same.{AreSame}
+use Rattle.pickle_graph.specs.declared.node.Node.{Node}
+use Rattle.pickle_graph.specs.declared.node.Node.TheVariants as kinds
+use Rattle.pickle_graph.specs.Graph.{Graph, IsGraph}
+use Rattle.pickle_graph.specs.Same.{AreSame}
 use Rattle.zb_record.specs.Records.{record_of, object_text}
 
 -- eight bytes, and eight others

@@ -1,13 +1,13 @@
 -- Laws of records.
 use Rattle.std.specs.Prelude.{ℕ, List, [], ◌++◌, length, drop, Some, Ok, true, IsSome, ◌≤◌, ◌≡◌}
-use Rattle.pickle_value.specs.declared.reading.TheConstants.{NODE_LIMIT}
-use Rattle.pickle_value.specs.Graph.{Graph, IsGraph}
-use Rattle.pickle_value.specs.Class.{is_class}
-use Rattle.pickle_value.specs.Reading.{graph_behind}
-use Rattle.pickle_value.specs.References.{part_at}
-use Rattle.pickle_value.specs.Named.{oids_of, oids_behind}
-use Rattle.pickle_value.specs.Same.{IsSame, AreSame}
-use Rattle.pickle_value.specs.Spelling.{root_piece}
+use Rattle.pickle_reading.specs.declared.reading.TheConstants.{NODE_LIMIT}
+use Rattle.pickle_graph.specs.Graph.{Graph, IsGraph}
+use Rattle.pickle_graph.specs.Class.{is_class}
+use Rattle.pickle_reading.specs.Reading.{graph_behind}
+use Rattle.pickle_references.specs.References.{part_at}
+use Rattle.pickle_references.specs.Named.{oids_of, oids_behind}
+use Rattle.pickle_graph.specs.Same.{IsSame, AreSame}
+use Rattle.pickle_writing.specs.Spelling.{root_piece}
 use Rattle.zb_record.specs.Records.{record_of, references_of, object_text}
 
 -- The bytes are two pickles and nothing else, the second read behind what the first left, the references of each name these

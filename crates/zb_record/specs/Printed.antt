@@ -1,7 +1,7 @@
 -- Records as they are printed. Own.
 use Rattle.std.specs.Prelude.{ℕ, List, Result, Ok, Err}
-use Rattle.pickle_value.specs.Graph.{Graph}
-use Rattle.pickle_value.specs.Spelling.{Spelled}
+use Rattle.pickle_graph.specs.Graph.{Graph}
+use Rattle.pickle_writing.specs.Spelling.{Spelled}
 use Rattle.zb_literals.specs.Records.{record_literal_of, raw_literal_of}
 use Rattle.zb_record.specs.declared.error.RecordError.{RecordError}
 use Rattle.zb_record.specs.Records.{record_of}

@@ -1,11 +1,11 @@
 -- Records: two pickles of one reader, one behind the other and nothing else. From: the records of ZODB.
 use Rattle.std.specs.Prelude.{ℕ, List, ◌++◌, length, ◌==◌, if◌then◌else◌, Result, Ok, Err}
-use Rattle.pickle_value.specs.declared.error.PickleError.{PickleError}
-use Rattle.pickle_value.specs.declared.pair.Pair.{Pair}
-use Rattle.pickle_value.specs.Class.{is_class}
-use Rattle.pickle_value.specs.Graph.{Graph}
-use Rattle.pickle_value.specs.References.{pair_of}
-use Rattle.pickle_value.specs.Spelling.{Spelled, pickle_text}
+use Rattle.pickle_reading.specs.declared.error.PickleError.{PickleError}
+use Rattle.pickle_references.specs.declared.pair.Pair.{Pair}
+use Rattle.pickle_graph.specs.Class.{is_class}
+use Rattle.pickle_graph.specs.Graph.{Graph}
+use Rattle.pickle_references.specs.References.{pair_of}
+use Rattle.pickle_writing.specs.Spelling.{Spelled, pickle_text}
 use Rattle.zb_record.specs.declared.error.RecordError.{RecordError}
 use Rattle.zb_record.specs.declared.error.RecordError.TheVariants as errors
 

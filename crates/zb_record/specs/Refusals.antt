@@ -1,7 +1,7 @@
 -- Answers of reading.
 use Rattle.std.specs.Prelude.{Result, Ok, Err, ◌≡◌}
-use Rattle.pickle_value.specs.declared.error.PickleError.{PickleError}
-use Rattle.pickle_value.specs.declared.error.PickleError.TheVariants as pickles
+use Rattle.pickle_reading.specs.declared.error.PickleError.{PickleError}
+use Rattle.pickle_reading.specs.declared.error.PickleError.TheVariants as pickles
 use Rattle.zb_record.specs.declared.error.RecordError.{RecordError}
 use Rattle.zb_record.specs.declared.error.RecordError.TheVariants as errors
 

@@ -1,6 +1,6 @@
 //! Why bytes are no record.
 
-use pickle_value::PickleError;
+use pickle_reading::PickleError;
 use std::alloc::{AllocError, AllocFailed};
 use thiserror::Error;
 

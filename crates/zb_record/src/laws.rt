@@ -4,9 +4,9 @@ ghost use Rattle.zb_record.specs.Alike.{AlikeIsKept};
 ghost use Rattle.zb_record.specs.Laws.{ReadIsRecord, RecordIsRead, WrittenRecordReadsBack};
 
 use pickle_ops::spelled_tokens_are_read;
-use pickle_value::{
-    references_are_those_of_nodes, written_pickles_read_anywhere, written_pickles_read_back,
-    written_pickles_read_behind,
+use pickle_references::references_are_those_of_nodes;
+use pickle_round_trip::{
+    written_pickles_read_anywhere, written_pickles_read_back, written_pickles_read_behind,
 };
 
 /// What [`read_record`](crate::read_record) reads is two pickles and nothing else, of which the
@@ -21,7 +21,7 @@ pub fn records_are_two_pickles()
 }
 
 /// What [`write_record`](crate::write_record) writes reads back as a record of the same two graphs,
-/// where each text makes at most [`NODE_LIMIT`](pickle_value::NODE_LIMIT) nodes and the references
+/// where each text makes at most [`NODE_LIMIT`](pickle_reading::NODE_LIMIT) nodes and the references
 /// of both name something.
 pub fn written_records_read_back()
     ensures { WrittenRecordReadsBack }

@@ -5,7 +5,7 @@ ghost use Rattle.zb_record.specs.Printed.{object_literal_of};
 
 use crate::error::RecordError;
 use crate::reading::read_record;
-use pickle_value::WriteError;
+use pickle_writing::WriteError;
 use std::alloc::{AllocError, Global};
 use zb_ids::Text8;
 use zb_literals::{raw_literal, record_literal};

@@ -1,13 +1,14 @@
 //! Reading records, and what they refer to.
 
 ghost use Rattle.std.specs.Prelude.{◌≡◌, true, IfOk};
-ghost use Rattle.pickle_value.specs.Class.{is_class};
+ghost use Rattle.pickle_graph.specs.Class.{is_class};
 ghost use Rattle.zb_record.specs.Refusals.{AnswersFor};
 ghost use Rattle.zb_record.specs.Records.{record_parts, record_of, references_of};
 
 use crate::error::RecordError;
 use crate::record::ObjectRecord;
-use pickle_value::{Pair, is_class, read_pair, references_of_pair};
+use pickle_graph::is_class;
+use pickle_references::{Pair, read_pair, references_of_pair};
 use std::alloc::Global;
 use zb_ids::{ListOf, Oid};
 
@@ -32,8 +33,8 @@ fn read_parts(alloc: Global, bytes: &[u8]) -> Result<Pair, RecordError>
 /// The record that the bytes are.
 ///
 /// They are two pickles whose persistent ids all have a form, as
-/// [`references_of`](pickle_value::references_of) says, and nothing else, and the first is a class,
-/// as [`is_class`](pickle_value::is_class) says. One reader reads both, as one writer writes both:
+/// [`references_of`](pickle_references::references_of) says, and nothing else, and the first is a class,
+/// as [`is_class`](pickle_graph::is_class) says. One reader reads both, as one writer writes both:
 /// the second pickle may get what the first has put, so its graph begins with the nodes of the
 /// class. The answer is else the first of these refusals, with its place counted from the start of
 /// the bytes: `Pickle`, the refusal of the first pickle, and then of the second, by the first token

@@ -1,9 +1,9 @@
 //! Records.
 
 ghost use Rattle.std.specs.Prelude.{◌≡◌, true};
-ghost use Rattle.pickle_value.specs.Class.{is_class};
+ghost use Rattle.pickle_graph.specs.Class.{is_class};
 
-use pickle_value::Pickle;
+use pickle_graph::Pickle;
 
 /// An object: its class, which is a global or a tuple that begins with one, and its state.
 #[derive(Drop)]

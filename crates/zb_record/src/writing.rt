@@ -1,15 +1,15 @@
 //! Writing records.
 
-ghost use Rattle.pickle_value.specs.Spelling.{Writes};
+ghost use Rattle.pickle_writing.specs.Spelling.{Writes};
 ghost use Rattle.zb_record.specs.Records.{object_text};
 
 use crate::record::ObjectRecord;
-use pickle_value::{WriteError, write_pickle};
+use pickle_writing::{WriteError, write_pickle};
 use std::alloc::Global;
 use zb_ids::Text8;
 
 /// The text of a record: that of its class, then that of its state, each as
-/// [`write_pickle`](pickle_value::write_pickle) gives it. Reading it gives the same two graphs, as
+/// [`write_pickle`](pickle_writing::write_pickle) gives it. Reading it gives the same two graphs, as
 /// [`written_records_read_back`](crate::written_records_read_back) says.
 ///
 /// `TooDeep` is answered exactly where one of the two is too deep. Want of memory answers `Memory`.

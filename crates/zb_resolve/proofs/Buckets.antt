@@ -1,6 +1,6 @@
 -- The keys of merged buckets can be written, and refusals are handed on.
 use Rattle.std.proofs.Common.{◌≡◌, List, [], ◌∷◌, Result, Ok, Err, ◌∙◌, ap}
-use Rattle.pickle_value.specs.Graph.{Graph}
+use Rattle.pickle_graph.specs.Graph.{Graph}
 use Rattle.btree_family.specs.declared.key.Key.{Key}
 use Rattle.btree_family.specs.Classes.{Class}
 use Rattle.btree_family.specs.Buckets.{BucketContents, keys_of}

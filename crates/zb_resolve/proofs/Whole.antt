@@ -1,12 +1,12 @@
 -- What can be written.
 use Rattle.std.proofs.Common.{◌≡◌, ℕ, ℤ, ◌+◌, Bool, true, false, cond, List, [], ◌∷◌, Option, Some, None, Result, Ok, Err, refl, ap, subst}
-use Rattle.pickle_value.specs.declared.error.WriteError.{WriteError}
-use Rattle.pickle_value.specs.declared.error.WriteError.TheVariants as errors
-use Rattle.pickle_value.specs.declared.node.Node.TheVariants as nodes
-use Rattle.pickle_value.specs.declared.depth.TheConstants.{WALK_LIMIT}
-use Rattle.pickle_value.specs.Graph.{Graph}
-use Rattle.pickle_value.specs.Spelling.{Spelled, root_piece, pickled}
-use Rattle.pickle_value.specs.Walks.{has_walk}
+use Rattle.pickle_writing.specs.declared.error.WriteError.{WriteError}
+use Rattle.pickle_writing.specs.declared.error.WriteError.TheVariants as errors
+use Rattle.pickle_graph.specs.declared.node.Node.TheVariants as nodes
+use Rattle.pickle_writing.specs.declared.depth.TheConstants.{WALK_LIMIT}
+use Rattle.pickle_graph.specs.Graph.{Graph}
+use Rattle.pickle_writing.specs.Spelling.{Spelled, root_piece, pickled}
+use Rattle.pickle_graph.specs.Walks.{has_walk}
 use Rattle.bucket_state.specs.Written.{leaf_graph}
 use Rattle.bucket_state.specs.Depths.{IsWrittenWhole, AreShallow}
 use Rattle.btree_family.specs.declared.bucket.Item.{Item}

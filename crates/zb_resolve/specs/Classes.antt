@@ -2,9 +2,9 @@
 use Rattle.std.specs.Prelude.{ℕ, Bool, false, List, [], ◌∷◌, codes, Option, Some, None, slice_get, eqb, ◌&&◌, if◌then◌else◌}
 use Rattle.std.specs.Option.{option_map}
 use Rattle.std.specs.Cmp.Lexicographic.{pointwise}
-use Rattle.pickle_value.specs.declared.node.Node.{Node}
-use Rattle.pickle_value.specs.declared.node.Node.TheVariants as nodes
-use Rattle.pickle_value.specs.Graph.{Graph, IsGlobal}
+use Rattle.pickle_graph.specs.declared.node.Node.{Node}
+use Rattle.pickle_graph.specs.declared.node.Node.TheVariants as nodes
+use Rattle.pickle_graph.specs.Graph.{Graph, IsGlobal}
 use Rattle.btree_family.specs.Classes.{Class, class_seen, class_in, classes, is_known_as}
 use Rattle.zb_resolve.specs.declared.rule.Rule.{Rule}
 use Rattle.zb_resolve.specs.declared.rule.Rule.TheVariants as rules

@@ -1,6 +1,6 @@
 -- What is read of a state that can be written is not too deep.
 use Rattle.std.specs.Prelude.{◌≡◌, Some}
-use Rattle.pickle_value.specs.Graph.{Graph}
+use Rattle.pickle_graph.specs.Graph.{Graph}
 use Rattle.btree_family.specs.Classes.{Class}
 use Rattle.btree_family.specs.Buckets.{BucketContents}
 use Rattle.bucket_state.specs.declared.tree.TreeState.TheVariants as trees

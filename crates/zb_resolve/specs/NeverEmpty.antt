@@ -1,6 +1,6 @@
 -- What merging makes is never empty: it is a record.
 use Rattle.std.proofs.Common.{◌≡◌, ℕ, ◌<◌, List, length, Option, Some, None, Result, Ok, Err, subst, arith}
-use Rattle.pickle_value.specs.Graph.{Graph}
+use Rattle.pickle_graph.specs.Graph.{Graph}
 use Rattle.zb_record.specs.declared.error.RecordError.{RecordError}
 use Rattle.zb_record.specs.Records.{record_of}
 use Rattle.zb_model.specs.declared.refusal.Why.{Why}

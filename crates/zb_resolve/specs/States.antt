@@ -1,10 +1,10 @@
 -- The states that are merged.
 use Rattle.std.specs.Prelude.{ℕ, ℤ, Bool, true, false, List, [], ◌∷◌, Option, Some, None, Result, Ok, Err, slice_get, ◌==◌, ◌&&◌, if◌then◌else◌}
 use Rattle.std.specs.Option.{option_map}
-use Rattle.pickle_value.specs.declared.node.Node.{Node}
-use Rattle.pickle_value.specs.declared.node.Node.TheVariants as nodes
-use Rattle.pickle_value.specs.Graph.{Graph}
-use Rattle.pickle_value.specs.Spelling.{Spelled}
+use Rattle.pickle_graph.specs.declared.node.Node.{Node}
+use Rattle.pickle_graph.specs.declared.node.Node.TheVariants as nodes
+use Rattle.pickle_graph.specs.Graph.{Graph}
+use Rattle.pickle_writing.specs.Spelling.{Spelled}
 use Rattle.btree_family.specs.declared.key.Key.{Key}
 use Rattle.btree_family.specs.declared.table.Kind.{Kind}
 use Rattle.btree_family.specs.declared.table.Kind.TheVariants as kinds

@@ -1,7 +1,7 @@
 //! The merge of three records.
 
 ghost use Rattle.std.specs.Prelude.{◌≡◌, true, Some, None, IfOk};
-ghost use Rattle.pickle_value.specs.Graph.{IsGlobal};
+ghost use Rattle.pickle_graph.specs.Graph.{IsGlobal};
 ghost use Rattle.btree_family.specs.Classes.{class_seen};
 ghost use Rattle.btree_family.specs.Buckets.{keys_of};
 ghost use Rattle.bucket_state.specs.Writable.{AreWritable};
@@ -9,7 +9,7 @@ ghost use Rattle.bucket_state.specs.Written.{leaf_graph};
 ghost use Rattle.bucket_state.specs.Depths.{AreShallow, IsWrittenWhole};
 ghost use Rattle.bucket_merge.specs.Merge.{merge_of};
 ghost use Rattle.zb_model.specs.Merged.{IsMerged};
-ghost use Rattle.pickle_value.specs.Class.{is_class};
+ghost use Rattle.pickle_graph.specs.Class.{is_class};
 ghost use Rattle.zb_resolve.specs.Classes.{rule_seen, rule_of, IsGlobalRule};
 ghost use Rattle.zb_resolve.specs.States.{leaf_in, are_alike, depth_of, depth_for, IsWritableState, IsShallowState};
 ghost use Rattle.zb_resolve.specs.Answers.{AnswersFor};
@@ -25,7 +25,7 @@ use crate::state::{State, are_alike, count, leaf};
 use btree_family::{Bucket, ClassRow, Kind};
 use bucket_merge::merge;
 use bucket_state::{states_keep_their_depth, write_bucket, write_embedded};
-use pickle_value::{Node, Pickle};
+use pickle_graph::{Node, Pickle};
 use std::alloc::{AllocError, Global};
 use zb_ids::{ListOf, Text8};
 use zb_model::{ResolveError, Why};

@@ -6,7 +6,7 @@ ghost use Rattle.zb_resolve.specs.Classes.{rule_seen, rule_named, first_node, cl
 ghost use Rattle.zb_resolve.specs.Classes;
 
 use btree_family::{ClassRow, row_of};
-use pickle_value::{Node, Pickle};
+use pickle_graph::{Node, Pickle};
 
 /// What the objects of a class are merged by.
 #[derive(Clone, Copy, Debug)]

@@ -20,7 +20,7 @@ use btree_family::{Bucket, ClassRow, Item, Key, Kind, is_same_kind};
 use bucket_state::{
     Branch, Inner, StateError, TreeState, read_bucket, read_tree, states_keep_their_depth,
 };
-use pickle_value::{Node, Pickle};
+use pickle_graph::{Node, Pickle};
 use std::alloc::Global;
 use zb_ids::ListOf;
 

@@ -8,11 +8,11 @@ use Rattle.std.proofs.lemmas.Option.{same_Some, some_pair_parts, cond_some}
 use Rattle.std.proofs.lemmas.List.{take-append-drop, take_at, drop_at, length-append, drop_more}
 use Rattle.std.proofs.lemmas.List.Quantifiers.{position-Some}
 use Rattle.std.proofs.lemmas.Slice.Eq.{bytes_eq-Decides}
-use Rattle.pickle_value.specs.declared.depth.TheConstants.{WALK_LIMIT}
-use Rattle.pickle_value.specs.declared.node.Node.{Node}
-use Rattle.pickle_value.specs.declared.node.Node.TheVariants as kinds
-use Rattle.pickle_value.specs.Graph.{Graph}
-use Rattle.pickle_value.specs.Spelling.{Spelled, pickled, pickle_text, spelling_of}
+use Rattle.pickle_writing.specs.declared.depth.TheConstants.{WALK_LIMIT}
+use Rattle.pickle_graph.specs.declared.node.Node.{Node}
+use Rattle.pickle_graph.specs.declared.node.Node.TheVariants as kinds
+use Rattle.pickle_graph.specs.Graph.{Graph}
+use Rattle.pickle_writing.specs.Spelling.{Spelled, pickled, pickle_text, spelling_of}
 use Rattle.zb_ids.specs.Hex.{◌>>=◌, hex_number, number_at}
 use Rattle.zb_ids.specs.HexLaws.{bind_some, from_bind, number_takes, number_again}
 use Rattle.literal_reading.specs.Exact.{graph_spelled, SpelledIsLiteral, LiteralIsSpelled}
@@ -20,7 +20,7 @@ use Rattle.zb_literals.specs.Graphs.{last_of, with_value, with_values, with_pair
 use Rattle.literal_reading.specs.Literals.{IsLiteral}
 use Rattle.zb_literals.specs.Texts.{quoted_text}
 use Rattle.zb_literals.specs.Values.{Value, leaf, tuple, list, dict, reference, IsValue, literal_text}
-use Rattle.pickle_value.specs.Class.{is_class}
+use Rattle.pickle_graph.specs.Class.{is_class}
 use Rattle.zb_record.specs.Records.{object_text, one_behind}
 use Rattle.zb_script.specs.Spelling.{IsShort, Falls, AreTids, tids_text, IsRecordOf}
 use Rattle.zb_script.specs.Reading.{cut_at, behind_word, field_at, text_in, short_at, short_field_at, sixteen_at, lower_at, lowers_at, tids_at, literal_cut, payload_of_text, record_at}

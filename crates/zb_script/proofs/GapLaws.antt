@@ -12,10 +12,10 @@ use Rattle.std.proofs.lemmas.Fmt.{decimal_is_IsNumeral_wide}
 use Rattle.std.proofs.lemmas.Bool.{eqb-true, ne_eqb, ltb-false}
 use Rattle.std.proofs.lemmas.Bool.Decides.{nat_tests}
 use Rattle.zb_ids.specs.Hex.{hex_text, pair_of}
-use Rattle.pickle_value.specs.declared.node.Node.{Node}
-use Rattle.pickle_value.specs.declared.node.Node.TheVariants as kinds
-use Rattle.pickle_value.specs.Graph.{IsSigned128}
-use Rattle.pickle_value.specs.Spelling.{magnitude_of}
+use Rattle.pickle_graph.specs.declared.node.Node.{Node}
+use Rattle.pickle_graph.specs.declared.node.Node.TheVariants as kinds
+use Rattle.pickle_graph.specs.Graph.{IsSigned128}
+use Rattle.pickle_writing.specs.Spelling.{magnitude_of}
 use Rattle.zb_literals.specs.Texts.{character_text, quoted_text, is_quoted, is_plain, is_name_byte, name_byte_text, global_text, leaf_literal}
 use Rattle.zb_literals.specs.Values.{Value, leaf, tuple, list, dict, reference, Values, no_values, value, Pairs, no_pairs, pair, leaf_oid, leaf_global, oid_of_value, global_of_value, with_global, digits_of, values_short, short_of, reference_text, literal_text, more_text, more_pairs, IsLeaf, IsValue, AreValues, ArePairs}
 use Rattle.zb_script.specs.declared.words.Place.{Place}

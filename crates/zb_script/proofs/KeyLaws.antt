@@ -3,11 +3,11 @@ use Rattle.std.proofs.Common.{◌≡◌, ℕ, ◌+◌, ◌^◌, ◌<◌, List, [
 use Rattle.std.specs.Prelude.{pos, negsuc, slice_get, decimal}
 use Rattle.std.proofs.lemmas.Bool.{ltb-true, lt-ltb}
 use Rattle.std.proofs.lemmas.Option.{same_Some, cond_some}
-use Rattle.pickle_value.specs.declared.depth.TheConstants.{WALK_LIMIT}
-use Rattle.pickle_value.specs.declared.node.Node.{Node}
-use Rattle.pickle_value.specs.declared.node.Node.TheVariants as kinds
-use Rattle.pickle_value.specs.Graph.{Graph, IsSigned128}
-use Rattle.pickle_value.specs.Spelling.{Spelled, spelling_of}
+use Rattle.pickle_writing.specs.declared.depth.TheConstants.{WALK_LIMIT}
+use Rattle.pickle_graph.specs.declared.node.Node.{Node}
+use Rattle.pickle_graph.specs.declared.node.Node.TheVariants as kinds
+use Rattle.pickle_graph.specs.Graph.{Graph, IsSigned128}
+use Rattle.pickle_writing.specs.Spelling.{Spelled, spelling_of}
 use Rattle.btree_family.specs.declared.key.Key.{Key}
 use Rattle.btree_family.specs.declared.key.Key.TheVariants as keys
 use Rattle.zb_ids.specs.HexLaws.{from_bind}

@@ -9,8 +9,8 @@ use Rattle.std.proofs.lemmas.Slice.Eq.{bytes_eq-Decides}
 use Rattle.zb_ids.specs.Hex.{hex_text, hex_number, number_at}
 use Rattle.zb_ids.specs.HexLaws.{from_bind, number_takes, number_again}
 use Rattle.literal_reading.specs.Literals.{IsLiteral}
-use Rattle.pickle_value.specs.Graph.{Graph}
-use Rattle.pickle_value.specs.declared.depth.TheConstants.{WALK_LIMIT}
+use Rattle.pickle_graph.specs.Graph.{Graph}
+use Rattle.pickle_writing.specs.declared.depth.TheConstants.{WALK_LIMIT}
 use Rattle.zb_literals.specs.Texts.{quoted_text}
 use Rattle.zb_script.specs.declared.line.Line.{Line}
 use Rattle.zb_script.specs.declared.line.Line.TheVariants as lines

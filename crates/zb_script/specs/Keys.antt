@@ -1,9 +1,9 @@
 -- Keys as literals, and the text of a value. Own.
 use Rattle.std.specs.Prelude.{ℕ, List, Option, Some, None, Ok, Err}
 use Rattle.std.specs.Fmt.{signed_decimal}
-use Rattle.pickle_value.specs.declared.node.Node.{Node}
-use Rattle.pickle_value.specs.declared.node.Node.TheVariants as kinds
-use Rattle.pickle_value.specs.Spelling.{Spelled}
+use Rattle.pickle_graph.specs.declared.node.Node.{Node}
+use Rattle.pickle_graph.specs.declared.node.Node.TheVariants as kinds
+use Rattle.pickle_writing.specs.Spelling.{Spelled}
 use Rattle.btree_family.specs.declared.key.Key.{Key}
 use Rattle.btree_family.specs.declared.key.Key.TheVariants as keys
 use Rattle.zb_literals.specs.Texts.{bytes_text, text_literal}

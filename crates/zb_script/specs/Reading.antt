@@ -3,14 +3,14 @@ use Rattle.std.specs.Prelude.{◌≡◌, ℕ, pos, zero, suc, ◌+◌, ◌/◌, 
 use Rattle.std.specs.List.{position}
 use Rattle.std.specs.Str.{bytes_eq}
 use Rattle.zb_ids.specs.Hex.{◌>>=◌, number_at, bytes_at}
-use Rattle.pickle_value.specs.declared.node.Node.{Node}
-use Rattle.pickle_value.specs.declared.node.Node.TheVariants as kinds
-use Rattle.pickle_value.specs.Spelling.{Spelled, spelling_of}
+use Rattle.pickle_graph.specs.declared.node.Node.{Node}
+use Rattle.pickle_graph.specs.declared.node.Node.TheVariants as kinds
+use Rattle.pickle_writing.specs.Spelling.{Spelled, spelling_of}
 use Rattle.btree_family.specs.declared.key.Key.{Key}
 use Rattle.btree_family.specs.declared.key.Key.TheVariants as keys
 use Rattle.literal_reading.specs.Exact.{graph_spelled}
 use Rattle.literal_reading.specs.Reading.{if_some}
-use Rattle.pickle_value.specs.Class.{is_class}
+use Rattle.pickle_graph.specs.Class.{is_class}
 use Rattle.zb_record.specs.Records.{object_text}
 use Rattle.zb_script.specs.declared.errors.ReadError.{ReadError}
 use Rattle.zb_script.specs.declared.errors.ReadError.TheVariants as errors

@@ -8,7 +8,7 @@ use crate::errors::ReadError;
 use crate::stored::graph_of;
 use crate::words::cut_literal;
 use btree_family::Key;
-use pickle_value::Node;
+use pickle_graph::Node;
 use std::alloc::Global;
 
 /// The key that a node is.

@@ -9,7 +9,8 @@ ghost use Rattle.zb_script.specs.Reading.{ReadsAs, payload_at, payload_of_text, 
 use crate::errors::ReadError;
 use crate::payload::Payload;
 use literal_reading::{LiteralError, literals_are_exact, read_literal};
-use pickle_value::{Pickle, WriteError, is_class};
+use pickle_graph::{Pickle, is_class};
+use pickle_writing::WriteError;
 use std::alloc::Global;
 use zb_ids::{Text8, read_hex_pair};
 use zb_record::{ObjectRecord, write_record};

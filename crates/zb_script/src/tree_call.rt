@@ -10,7 +10,7 @@ pub enum TreeCall {
     Set {
         /// The key.
         key: Key,
-        /// The spelling of the value, as `spelling` of `pickle_value` gives it.
+        /// The spelling of the value, as `spelling` of `pickle_writing` gives it.
         value: Text8,
     },
     /// `insert OID KEY`: the key is to be a member of the set.

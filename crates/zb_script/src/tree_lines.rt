@@ -1,7 +1,7 @@
 //! Reading the lines of trees.
 
 ghost use Rattle.std.specs.Prelude.{◌≡◌};
-ghost use Rattle.pickle_value.specs.Spelling.{spelling_of};
+ghost use Rattle.pickle_writing.specs.Spelling.{spelling_of};
 ghost use Rattle.zb_script.specs.declared.tree_call.TreeCall.TheVariants as calls;
 ghost use Rattle.zb_script.specs.Keys.{text_or_none};
 ghost use Rattle.zb_script.specs.Reading.{ReadsAs, behind_word, items_at, keyed_at, range_at, set_at, tree_line_at, value_at};
@@ -12,7 +12,8 @@ use crate::line::Line;
 use crate::stored::graph_of;
 use crate::tree_call::TreeCall;
 use crate::words::{field_of, number_of};
-use pickle_value::{Pickle, WriteError, spelling};
+use pickle_graph::Pickle;
+use pickle_writing::{WriteError, spelling};
 use std::alloc::Global;
 use zb_ids::{Oid, Text8};
 

@@ -7,7 +7,7 @@ ghost use Rattle.zb_script.specs.Reading.{ReadsAs, lower_at, short_at, short_fie
 use crate::errors::ReadError;
 use crate::stored::graph_of;
 use crate::words::{cut_literal, number_of};
-use pickle_value::Node;
+use pickle_graph::Node;
 use std::alloc::Global;
 use zb_ids::{ListOf, Text8, Tid};
 

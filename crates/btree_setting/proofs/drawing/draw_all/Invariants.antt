@@ -1,5 +1,5 @@
 use Rattle.std.proofs.Common.{◌≡◌, ◌+◌, ◌^◌, ◌++◌, length}
-use Rattle.pickle_value.specs.Graph.{AllBelow}
+use Rattle.pickle_graph.specs.Graph.{AllBelow}
 use Rattle.std.specs.Prelude.{map}
 use Rattle.btree_shapes.specs.declared.space.Call.TheVariants.{Drew}
 use Rattle.btree_setting.proofs.drawing.draw_all.Given as goal

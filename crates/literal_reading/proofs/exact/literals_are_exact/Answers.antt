@@ -1,9 +1,9 @@
 use Rattle.std.proofs.Common.{◌≡◌, ℕ, ◌+◌, List, [], Some, sym, ap, subst, ◌∙◌}
 use Rattle.std.proofs.lemmas.Option.{same_Some}
 use Rattle.zb_ids.specs.HexLaws.{from_bind}
-use Rattle.pickle_value.specs.declared.node.Node.{Node}
-use Rattle.pickle_value.specs.declared.depth.TheConstants.{WALK_LIMIT}
-use Rattle.pickle_value.specs.Graph.{Graph}
+use Rattle.pickle_graph.specs.declared.node.Node.{Node}
+use Rattle.pickle_writing.specs.declared.depth.TheConstants.{WALK_LIMIT}
+use Rattle.pickle_graph.specs.Graph.{Graph}
 use Rattle.literal_reading.specs.Exact.{graph_spelled, SpelledIsLiteral, LiteralIsSpelled}
 use Rattle.zb_literals.specs.Graphs.{last_of, with_value}
 use Rattle.literal_reading.specs.Literals.{IsLiteral}

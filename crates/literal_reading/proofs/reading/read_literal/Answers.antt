@@ -1,6 +1,6 @@
 use Rattle.std.proofs.Common.{Some, ap}
 use Rattle.std.proofs.lemmas.Result.{err_from_is_err_and}
-use Rattle.pickle_value.specs.Graph.{Graph}
+use Rattle.pickle_graph.specs.Graph.{Graph}
 use Rattle.literal_reading.proofs.Loops.{fails_some}
 use Rattle.literal_reading.proofs.Results.{read_graph, read_literal_is, read_only, read_again, read_shallow}
 use Rattle.literal_reading.proofs.reading.read_literal.Goals as goal

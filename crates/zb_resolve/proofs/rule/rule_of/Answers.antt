@@ -1,6 +1,6 @@
 use Rattle.std.proofs.Common.{◌≡◌, ◌∙◌, ap, sym, Some}
 use Rattle.zb_resolve.specs.Classes.{rule_in, rule_named, class_node}
-use Rattle.pickle_value.specs.declared.node.Node.TheVariants as nodes
+use Rattle.pickle_graph.specs.declared.node.Node.TheVariants as nodes
 use Rattle.zb_resolve.proofs.rule.rule_of.Goals as goal
 
 pub returns-in-Some-Global-clause-rule : goal.returns-in-Some-Global-clause-rule

@@ -1,6 +1,6 @@
 use Rattle.std.proofs.Common.{◌≡◌, ℕ, ◌+◌, List, Option, Some, None, refl}
-use Rattle.pickle_value.specs.declared.depth.TheConstants.{WALK_LIMIT}
-use Rattle.pickle_value.specs.Graph.{Graph}
+use Rattle.pickle_writing.specs.declared.depth.TheConstants.{WALK_LIMIT}
+use Rattle.pickle_graph.specs.Graph.{Graph}
 use Rattle.literal_reading.specs.declared.error.LiteralError.{LiteralError}
 use Rattle.literal_reading.specs.declared.error.LiteralError.TheVariants as errors
 use Rattle.literal_reading.specs.Exact.{graph_spelled, SpelledIsLiteral}

@@ -1,0 +1,5 @@
+pub mod Stacks
+pub mod Sets
+pub mod Pairs
+pub mod Memos
+pub mod Lines

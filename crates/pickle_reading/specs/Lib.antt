@@ -1,0 +1,12 @@
+pub mod Stacks
+pub mod Leaves
+pub mod Additions
+pub mod Steps
+pub mod Nodes
+pub mod Reading
+pub mod Sound
+pub mod LineLaws
+pub mod RunLaws
+pub mod PlaceLaws
+pub mod LongLaws
+pub mod SoundLaws

@@ -1,0 +1,10 @@
+pub mod Shown
+pub mod Grown
+pub mod Told
+pub mod Inside
+pub mod Lost
+pub mod Limits
+pub mod TwoPickles
+pub mod Looking
+pub mod OnePassed
+pub mod Staying

@@ -1,0 +1,11 @@
+pub mod Going
+pub mod LeafBack
+pub mod Standing
+pub mod Building
+pub mod Growing
+pub mod Visits
+pub mod NodeTexts
+pub mod ObjectTexts
+pub mod Once
+pub mod Back
+pub mod Behind

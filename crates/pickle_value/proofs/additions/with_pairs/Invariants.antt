@@ -1,6 +1,0 @@
-use Rattle.std.proofs.Common.{◌≡◌, ◌++◌, drop}
-use Rattle.pickle_value.specs.Additions.{set_acts}
-use Rattle.pickle_value.proofs.additions.with_pairs.Given as goal
-
-abbrev pub invariant-loop-pair : goal.invariant-loop-pair
-invariant-loop-pair l = l.all.items ++ set_acts (drop l.pair-index l.pairs) ≡ l.fn.acts ++ set_acts l.fn.pairs

@@ -1,5 +1,0 @@
-use Rattle.pickle_value.proofs.Walks.{cyclic-deep}
-use Rattle.pickle_value.proofs.laws.cyclic_graphs_are_too_deep.Goals as goal
-
-pub returns : goal.returns
-returns c = cyclic-deep

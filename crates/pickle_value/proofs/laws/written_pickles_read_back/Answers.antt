@@ -1,5 +1,0 @@
-use Rattle.pickle_value.proofs.Back.{read_back}
-use Rattle.pickle_value.proofs.laws.written_pickles_read_back.Goals as goal
-
-pub returns : goal.returns
-returns c = read_back c.spelled_tokens_are_read.ensures.read
