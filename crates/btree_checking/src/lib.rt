@@ -3,6 +3,8 @@
 #![tactic(auto)]
 
 mod check;
+mod content;
+mod fed;
 mod laws;
 mod links;
 mod place;
@@ -12,5 +14,6 @@ mod verdict;
 mod walk;
 
 pub use check::check_tree;
+pub use fed::{Checking, Progress};
 pub use laws::{checked_is_sound, each_is_read_once, height_is_bounded, sound_is_checked};
 pub use verdict::{Rule, Verdict};
