@@ -5,9 +5,9 @@ use Rattle.btree_family.specs.Classes.{Class, class_seen}
 use Rattle.btree_shapes.specs.Nodes.{Held, Nothing, Foreign, Holds, class_held, objects_of}
 use Rattle.btree_checking.specs.declared.content.Content.{Content}
 use Rattle.btree_checking.specs.declared.content.Content.TheVariants as content
-use Rattle.btree_checking.specs.declared.fed.Checking.{Checking}
-use Rattle.btree_checking.specs.declared.fed.Progress.{Progress}
-use Rattle.btree_checking.specs.declared.fed.Progress.TheVariants.{Wants, Ended}
+use Rattle.btree_checking.specs.declared.checking.Checking.{Checking}
+use Rattle.btree_checking.specs.declared.checking.Progress.{Progress}
+use Rattle.btree_checking.specs.declared.checking.Progress.TheVariants.{Wants, Ended}
 use Rattle.btree_checking.specs.Steps.{AreHeld, entering}
 use Rattle.btree_checking.specs.Verdicts.{verdict_of}
 use Rattle.btree_checking.specs.Walks.{walk_of}

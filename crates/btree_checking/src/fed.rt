@@ -1,4 +1,4 @@
-//! A check of a tree whose objects the caller reads.
+//! A check of a tree whose objects the caller reads, step by step.
 
 ghost use Rattle.std.specs.Prelude.{◌≡◌, ◌-◌, ◌<◌, ◌^◌, ℕ, List, Option, Some, None, false, length, IfOk};
 ghost use Rattle.btree_family.specs.Classes.{class_seen};
@@ -9,6 +9,7 @@ ghost use Rattle.btree_checking.specs.Rules.{was_visited};
 ghost use Rattle.btree_checking.specs.Steps.{AreHeld, entering, rest_of};
 ghost use Rattle.btree_checking.specs.Walks.{walk_of};
 
+use crate::checking::{Checking, Progress};
 use crate::content::{Content, class_after, held_in};
 use crate::place::{Place, root_place};
 use crate::survey::Survey;
@@ -18,34 +19,6 @@ use btree_family::ClassRow;
 use btree_shapes::Node;
 use std::alloc::{AllocError, Global};
 use zb_ids::{Oid, Text8};
-
-/// A check of a tree whose objects the caller reads: it names the object that it wants next, is told what
-/// stands there, and ends with the verdict of [`check_tree`](crate::check_tree). It wants no object twice,
-/// and keeps the numbers of those that it met and what is left of one way down.
-#[derive(Drop)]
-pub struct Checking {
-    /// The class of the tree, once its root was read.
-    row: Option<&'static ClassRow>,
-    walk: Walk,
-    /// The object that is read next.
-    place: Place,
-    ghost new: { was_visited walk.survey.visits place.oid ≡ false },
-}
-
-/// How a check goes on.
-#[derive(Drop)]
-pub enum Progress {
-    /// It wants to read one more object.
-    Wants(
-        /// The check.
-        Checking,
-    ),
-    /// It has ended.
-    Ended(
-        /// What it says.
-        Verdict,
-    ),
-}
 
 /// An object breaks this rule.
 fn broken(oid: Oid, rule: Rule) -> Progress

@@ -5,7 +5,7 @@ use Rattle.pickle_value.specs.Graph.{Graph}
 use Rattle.btree_family.specs.Classes.{Class, class_seen}
 use Rattle.btree_shapes.specs.declared.node.Node.{Node}
 use Rattle.btree_shapes.specs.Nodes.{Held, Nothing, Foreign, Holds, class_held, held_in, objects_of}
-use Rattle.btree_checking.specs.declared.fed.Checking.{Checking}
+use Rattle.btree_checking.specs.declared.checking.Checking.{Checking}
 use Rattle.btree_checking.specs.declared.place.Place.{Place}
 use Rattle.btree_checking.specs.declared.verdict.Rule.{Rule}
 use Rattle.btree_checking.specs.declared.verdict.Rule.TheVariants.{NodeMissing, Shared, NotATree}
