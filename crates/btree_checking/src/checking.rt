@@ -8,9 +8,9 @@ use crate::verdict::Verdict;
 use crate::walk::Walk;
 use btree_family::ClassRow;
 
-/// A check of a tree whose objects the caller reads: it names the object that it wants next, is told what
-/// stands there, and ends with the verdict of [`check_tree`](crate::check_tree). It wants no object twice,
-/// and keeps the numbers of those that it met and what is left of one way down.
+/// A check of a tree whose objects the caller reads: it names the object that it wants next, is told
+/// what stands there, and ends with the verdict of [`check_tree`](crate::check_tree). It wants no
+/// object twice, and keeps the numbers of those that it met and what is left of one way down.
 #[derive(Drop)]
 pub struct Checking {
     /// The class of the tree, once its root was read.

@@ -48,7 +48,7 @@ pub(crate) fn class_after(
     content: &Option<Text8>,
 ) -> Result<Option<&'static ClassRow>, AllocError>
     ensures { IfOk result (λ found. option_map class_seen (option_copied found)
-        ≡ class_after (option_map class_seen (option_copied row)) content.now) }
+        ≡ class_after (option_map class_seen (option_copied row.entry)) content.now) }
 {
     match row {
         Some(row) => Ok(Some(row)),

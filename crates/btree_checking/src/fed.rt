@@ -40,7 +40,8 @@ fn without_class(root: Oid, content: &Option<Text8>) -> Progress
     }
 }
 
-/// Goes on to the object that is next, if one is left. One that was visited before is not read again.
+/// Goes on to the object that is next, if one is left. One that was visited before is not read
+/// again.
 fn next(row: &'static ClassRow, walk: Walk) -> Progress
     ensures progress { (contents : ℕ → Option (List ℕ)) (root : ℕ)
         → class_held (contents root) ≡ Some (class_seen row.now)
@@ -112,11 +113,12 @@ impl Checking {
         self.place.oid
     }
 
-    /// Goes on, told what stands at the object that it wanted: bytes, or nothing. The one error is want of
-    /// memory.
+    /// Goes on, told what stands at the object that it wanted: bytes, or nothing. The one error is
+    /// want of memory.
     pub fn told(self, alloc: Global, content: &Option<Text8>) -> Result<Progress, AllocError>
-        ensures progress { (contents : ℕ → Option (List ℕ)) (root : ℕ) → IsCheckOf contents root self
-            → contents (wanted_by self) ≡ content.now → IfOk result (IsProgressOf contents root) }
+        ensures progress { (contents : ℕ → Option (List ℕ)) (root : ℕ)
+            → IsCheckOf contents root self → contents (wanted_by self) ≡ content.now
+            → IfOk result (IsProgressOf contents root) }
         ensures room { IfOk result (HasLessRoom (room_of self)) }
     {
         let Checking { row, walk, place } = self;
