@@ -18,6 +18,7 @@ mod step;
 mod texts;
 mod vote;
 mod voting;
+mod watching;
 
 pub use errors::SessionRefusal;
 pub use hub::{Hub, SESSION_LIMIT};
