@@ -17,7 +17,8 @@ use Rattle.zodb_core.specs.declared.reply.Reply.TheVariants as reply
 use Rattle.zodb_core.specs.declared.request.Request.{Request}
 use Rattle.zodb_core.specs.declared.request.Request.TheVariants as request
 use Rattle.zodb_core.specs.declared.texts.Texts.{Texts}
-use Rattle.zodb_core.specs.History.{Entry, HistoryStep, IsLegal, IsNextEntry, Made, Opened, counts_after, counts_behind, machine_after, machine_behind}
+use Rattle.zodb_core.specs.History.{CountsGoOn, Entry, HistoriesGoOn, HistoryStep, IsLegal, IsNextEntry, MachinesGoOn, Made, Opened, PrefixesAreLegal, StepsAreEntries, entry_made, UnreadStepsAreOne, counts_after, counts_behind, machine_after, machine_behind}
+use Rattle.zodb_core.specs.Laws.{FreeVotesAreServed, StepsHaveRoom}
 use Rattle.zodb_core.specs.Machine.{Machine, Rules, holds_vote, is_open_in}
 use Rattle.zodb_core.specs.Outcomes.{Answered, EndsFor, FaultCounts, IsStepMade, MayGoWrong, NoMemory, ReadingFailed, StepOutcome, StoreFailed, changes_store, machine_left, outcome_of}
 use Rattle.zodb_core.specs.DecisionLaws.{IsDecidedOnce, IsOfDecision, IsOrdinary, is_busy, is_spent, undo_decided, vote_decided}
@@ -41,16 +42,15 @@ openings_in (e ∷ entries) = openings_in_entry e + openings_in entries
 
 -- ---- one entry more
 
-pub machine_more : (rules : Rules) (m : Machine) (entries : List Entry) (e : Entry) → machine_after rules m (entries ++ e ∷ []) ≡ machine_behind rules (machine_after rules m entries) e
+pub machine_more : MachinesGoOn
 machine_more rules m [] e = refl
 machine_more rules m (x ∷ entries) e = machine_more rules (machine_behind rules m x) entries e
 
-pub counts_more : (counts : FaultCounts) (entries : List Entry) (e : Entry) → counts_after counts (entries ++ e ∷ []) ≡ counts_behind (counts_after counts entries) e
+pub counts_more : CountsGoOn
 counts_more counts [] e = refl
 counts_more counts (x ∷ entries) e = counts_more (counts_behind counts x) entries e
 
-pub legal_more : (rules : Rules) (m : Machine) (counts : FaultCounts) (entries : List Entry) (e : Entry) → IsLegal rules m counts entries
-    → IsNextEntry rules (machine_after rules m entries) (counts_after counts entries) e → IsLegal rules m counts (entries ++ e ∷ [])
+pub legal_more : HistoriesGoOn
 legal_more rules m counts [] e legal next = (next, tt)
 legal_more rules m counts (x ∷ entries) e legal next = (legal.0, legal_more rules (machine_behind rules m x) (counts_behind counts x) entries e legal.1 next)
 
@@ -59,7 +59,7 @@ openings_more [] e = omega arith
 openings_more (x ∷ entries) e = let again = openings_more entries e in omega arith
 
 -- and what a legal history begins with is legal
-pub legal_begins : (rules : Rules) (m : Machine) (counts : FaultCounts) (front rest : List Entry) → IsLegal rules m counts (front ++ rest) → IsLegal rules m counts front
+pub legal_begins : PrefixesAreLegal
 legal_begins rules m counts [] rest legal = tt
 legal_begins rules m counts (e ∷ front) rest legal = (legal.0, legal_begins rules (machine_behind rules m e) (counts_behind counts e) front rest legal.1)
 
@@ -104,7 +104,7 @@ request_unread rules m n request.UndoLog a b quiet = refl
 request_unread rules m n (request.Pack tid) a b quiet = refl
 request_unread rules m n request.Close a b quiet = refl
 
-pub step_unread : (rules : Rules) (m : Machine) (n : ℕ) (q : Request) (a b : ℕ) → (step_of rules m n q a).ticks ≡ false → step_of rules m n q b ≡ step_of rules m n q a
+pub step_unread : UnreadStepsAreOne
 step_unread rules m n q a b quiet = by_cases (early_refusal m n q) quiet
   where
     by_cases : (early : Option Refusal) → SameUnread (unless_early early m (request_step rules m n q a)) (unless_early early m (request_step rules m n q b))
@@ -139,6 +139,22 @@ made_unread rules m n q a b made before now is quiet = record {
     left NoMemory o ends = refl
     left StoreFailed o ends = refl
 
+-- ---- the entry of a step
+
+-- a step that was made leaves just what its entry says
+with_left : (rules : Rules) (m : Machine) (n : ℕ) (q : Request) (stamp : ℕ) (r : Reply) (left : Machine) (ticks : Bool) (before now : FaultCounts)
+    → IsStepMade rules m n q stamp (record { reply = r; machine = left; ticks = ticks }) before now
+    → IsStepMade rules m n q stamp (record { reply = r; machine = machine_left rules m n q stamp (outcome_of r); ticks = ticks }) before now
+with_left rules m n q stamp r left ticks before now is =
+    subst (λ (x : Machine). IsStepMade rules m n q stamp (record { reply = r; machine = x; ticks = ticks }) before now) is.left is
+
+pub steps_are_entries : StepsAreEntries
+steps_are_entries rules m left n q false stamp r before now made read =
+    let unread = made_unread rules m n q stamp 0 (record { reply = r; machine = left; ticks = false }) before now made refl in
+    record { next = (with_left rules m n q 0 r left false before now unread, tt); left = unread.left }
+steps_are_entries rules m left n q true stamp r before now made read =
+    record { next = (with_left rules m n q stamp r left true before now made, read refl); left = made.left }
+
 -- ---- what no step is answered
 
 -- a step that was made and is answered is the machine's
@@ -147,16 +163,6 @@ answered_as rules m n q stamp made a b Answered is ends = ends
 answered_as rules m n q stamp made a b ReadingFailed is ends = absurd cc
 answered_as rules m n q stamp made a b NoMemory is ends = absurd cc
 answered_as rules m n q stamp made a b StoreFailed is ends = absurd cc
-
--- no step is refused for the length of a history
-abbrev pub StepsHaveRoom : Type 0
-StepsHaveRoom = (rules : Rules) (m : Machine) (n : ℕ) (q : Request) (stamp : ℕ) (made : Stepped) (before now : FaultCounts) → IsStepMade rules m n q stamp made before now
-    → made.reply ≢ reply.Refused refusal.StepsSpent
-
--- and a vote or an undo of an open session isn't busy while no other session holds the vote
-abbrev pub FreeVotesAreServed : Type 0
-FreeVotesAreServed = (rules : Rules) (m : Machine) (n : ℕ) (q : Request) (stamp : ℕ) (made : Stepped) (before now : FaultCounts) → IsStepMade rules m n q stamp made before now
-    → needs_vote q ≡ true → (is_open_in m.sessions n ≡ true → busy_for n m.vote ≡ None) → (holder : ℕ) → made.reply ≢ reply.Refused (refusal.Busy holder)
 
 abbrev IsNotSpent : Stepped → Type 0
 IsNotSpent s = s.reply ≢ reply.Refused refusal.StepsSpent
