@@ -45,7 +45,7 @@ step_kept {R = R} {F = F} told merging named rules list counts v old new packs s
       counts_are = counts_more counts v.seen e;
       legal = λ t. legal_more rules (machine_over list) counts v.seen e (keeps.legal t)
           (subst (λ (c : FaultCounts). IsNextEntry rules m c e) (sym keeps.counts_are) (next t).next);
-      stands = λ t. subst (λ (x : Machine). StandsForMachine new x) ((next t).left ∙ sym (machine_more rules (machine_over list) v.seen e)) (makes t).stands;
+      stands = λ t. subst (λ (x : Machine). StandsForMachine new x) ((next t).leaves ∙ sym (machine_more rules (machine_over list) v.seen e)) (makes t).stands;
     }
 
 -- ---- an opening

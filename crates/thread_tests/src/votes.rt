@@ -26,6 +26,7 @@ const THREADS: usize = 8;
 const ROUNDS: u64 = 250;
 
 /// A thread's session, how many calls it made, and how many commits it was answered.
+#[derive(Drop)]
 struct Worker<J: Origin> {
     pass: Option<Pass<J>>,
     calls: u64,
@@ -33,7 +34,7 @@ struct Worker<J: Origin> {
 }
 
 /// What all threads did, and what the hub then has.
-#[derive(Debug, PartialEq, Eq)]
+#[derive(Clone, Copy, Debug, PartialEq, Eq)]
 struct Totals {
     /// How many calls were made.
     calls: u64,

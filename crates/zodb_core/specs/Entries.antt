@@ -151,9 +151,9 @@ with_left rules m n q stamp r left ticks before now is =
 pub steps_are_entries : StepsAreEntries
 steps_are_entries rules m left n q false stamp r before now made read =
     let unread = made_unread rules m n q stamp 0 (record { reply = r; machine = left; ticks = false }) before now made refl in
-    record { next = (with_left rules m n q 0 r left false before now unread, tt); left = unread.left }
+    record { next = (with_left rules m n q 0 r left false before now unread, tt); leaves = unread.left }
 steps_are_entries rules m left n q true stamp r before now made read =
-    record { next = (with_left rules m n q stamp r left true before now made, read refl); left = made.left }
+    record { next = (with_left rules m n q stamp r left true before now made, read refl); leaves = made.left }
 
 -- ---- what no step is answered
 

@@ -103,7 +103,7 @@ HistoriesGoOn = (rules : Rules) (m : Machine) (counts : FaultCounts) (entries : 
 -- what an entry says of a step: the machine may take it, and what the step left is the machine behind it
 pub record IsEntryFor (rules : Rules) (m left : Machine) (before : FaultCounts) (e : Entry) : Type 0 where
   pub next : IsNextEntry rules m before e
-  pub left : left ≡ machine_behind rules m e
+  pub leaves : left ≡ machine_behind rules m e
 
 -- from a step that was made, by a stamp where the clock was read, comes the next entry
 abbrev pub StepsAreEntries : Type 0

@@ -18,7 +18,6 @@ pub fn histories_begin()
 /// The state behind a history is a function of it, and so are the counts of faults: one entry more takes
 /// the state to the one behind that entry. A legal history stays legal by an entry that its state may
 /// take; and the entry of a step that was made is one, and leaves what the step left.
-#[tactic(auto, using(crate::specs::Entries::machine_more, crate::specs::Entries::counts_more, crate::specs::Entries::legal_more, crate::specs::Entries::steps_are_entries))]
 pub fn histories_go_on()
     ensures state { MachinesGoOn }
     ensures counts { CountsGoOn }
@@ -34,7 +33,6 @@ pub fn unread_steps_are_one()
 
 /// No step is refused for the length of a history, and a vote or an undo of an open session isn't busy
 /// while no other session holds the vote.
-#[tactic(auto, using(crate::specs::Entries::steps_have_room, crate::specs::Entries::free_votes_are_served))]
 pub fn free_steps_are_served()
     ensures room { StepsHaveRoom }
     ensures free { FreeVotesAreServed }

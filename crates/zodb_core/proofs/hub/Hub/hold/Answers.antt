@@ -137,7 +137,7 @@ returns-clause-step g c =
           let rules_now = rules_of g.R.Resolver.rules g.F.Refs.named c.args.self.now in
           let kept = c.self.inside.changes in
           hold_voted rules_now m c.args.session q c.args.texts c.args.changes kept c.newest.result c.in-Some.tid _ c.args.self.now _ _ _
-          stands (search rules) votes (λ none. search rules) (search rules) (search rules) (search rules) next (search rules) (search rules) (search rules)
+          stands (search rules) votes (λ none. search rules) (search rules) (search rules) (search rules) next (search rules) (search rules) (search rules) (search rules)
           (search rules) (search rules) (search rules) refl;
     }
 
