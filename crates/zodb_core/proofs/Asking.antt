@@ -31,7 +31,7 @@ use Rattle.zodb_core.specs.declared.request.Request.TheVariants as request
 use Rattle.zodb_core.specs.declared.texts.Texts.{Texts}
 use Rattle.zodb_core.specs.declared.vote.HubVote.{HubVote}
 use Rattle.zodb_core.specs.Holding.{VotesFor, held_refusal}
-use Rattle.zodb_core.specs.HubState.{HubState, MakesStep, StandsForMachine, counts_of, vote_of_hub}
+use Rattle.zodb_core.specs.HubState.{HubState, MakesStep, MakesStepAt, StandsForMachine, counts_of, vote_of_hub}
 use Rattle.zodb_core.specs.Machine.{Machine, Rules, is_open_in}
 use Rattle.zodb_core.specs.Outcomes.{Answered, AreLaterCounts, EndsFor, FaultCounts, NoMemory, StepOutcome, ReadingFailed, StoreFailed, outcome_of}
 use Rattle.zodb_core.specs.Replies.{undo_reply, vote_reply}
@@ -235,12 +235,26 @@ undo_refused rules m n user description tids why old new stamps stands whole is_
 
 -- ---- what was decided is voted by a hub that was read meanwhile
 
-pub through_hold : {R F : Type 0} (rules held : Rules) (m : Machine) (n : ℕ) (q : Request) (texts : Texts) (decided : Result (List Change) Refusal) (r : Reply) (old mid new : HubState R F) (before after : Option (List Stamp))
-    → (VotesFor held m n q texts decided → MakesStep held m n q r mid new before after) → VotesFor rules m n q texts decided → held ≡ rules → AreLaterCounts (counts_of old.store) (counts_of mid.store)
-    → MakesStep rules m n q r old new before after
-through_hold rules held m n q texts decided r old mid new before after holds votes same later =
-    made_later rules m n q r old mid new before after later
-    (subst (λ (x : Rules). MakesStep x m n q r mid new before after) same (holds (subst (λ (x : Rules). VotesFor x m n q texts decided) (sym same) votes)))
+at_later : {R F : Type 0} (rules : Rules) (m : Machine) (n : ℕ) (q : Request) (r : Reply) (old mid new : HubState R F) (stamp : ℕ) (ticks : Bool)
+    → AreLaterCounts (counts_of old.store) (counts_of mid.store) → MakesStepAt stamp ticks rules m n q r mid new → MakesStepAt stamp ticks rules m n q r old new
+at_later rules m n q r old mid new stamp ticks later step = record {
+  left = step.left;
+  made = record {
+    later = later_both (counts_of old.store) (counts_of mid.store) (counts_of new.store) later step.made.later;
+    cause = ends_later rules m n q stamp (record { reply = r; machine = step.left; ticks = ticks }) (counts_of old.store) (counts_of mid.store) (counts_of new.store) (outcome_of r) later step.made.cause;
+    left = step.made.left;
+    ticks = step.made.ticks;
+    failed_ticks = step.made.failed_ticks;
+  };
+  stands = step.stands;
+}
+
+pub through_hold : {R F : Type 0} (rules held : Rules) (m : Machine) (n : ℕ) (q : Request) (texts : Texts) (decided : Result (List Change) Refusal) (r : Reply) (old mid new : HubState R F) (stamp : ℕ) (ticks : Bool)
+    → (VotesFor held m n q texts decided → MakesStepAt stamp ticks held m n q r mid new) → VotesFor rules m n q texts decided → held ≡ rules → AreLaterCounts (counts_of old.store) (counts_of mid.store)
+    → MakesStepAt stamp ticks rules m n q r old new
+through_hold rules held m n q texts decided r old mid new stamp ticks holds votes same later =
+    at_later rules m n q r old mid new stamp ticks later
+    (subst (λ (x : Rules). MakesStepAt stamp ticks x m n q r mid new) same (holds (subst (λ (x : Rules). VotesFor x m n q texts decided) (sym same) votes)))
 
 -- a crash in what follows a read leaves what the list was before the read
 pub leaves_after : (stands_for : List ℕ → List Transaction → Type 0) (shown mid : StoreState) (log : List Event) → LeavesOnly Main (λ bytes. stands_for bytes mid.list) mid.log log → ReadKeepsRest shown mid

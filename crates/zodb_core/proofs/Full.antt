@@ -19,7 +19,7 @@ use Rattle.zodb_core.specs.declared.reply.Reply.TheVariants as reply
 use Rattle.zodb_core.specs.declared.request.Request.{Request}
 use Rattle.zodb_core.specs.declared.request.Request.TheVariants as request
 use Rattle.zodb_core.specs.declared.texts.Texts.{Texts}
-use Rattle.zodb_core.specs.DecisionLaws.{AnswersIfSome, IsDecidedOnce, IsOrdinary, is_full, undo_decided, vote_decided}
+use Rattle.zodb_core.specs.DecisionLaws.{AnswersIfSome, IsDecidedOnce, IsOrdinary, is_full, ordinary_decision, undo_decided, vote_decided}
 use Rattle.zodb_core.specs.Laws.{JournalIsFull, OverfillsJournal, changes_asked}
 use Rattle.zodb_core.specs.Machine.{Machine, MachineVote, Rules}
 use Rattle.zodb_core.specs.Sound.{IsDistinctRequest}
@@ -67,7 +67,7 @@ counted_full m n texts c changes stamp count = by_cases (ltb journal_limit (chan
 
 vote_full : (m : Machine) (n : ℕ) (texts : Texts) (stamp count : ℕ) (distinct : Type 0) (decided : Result (List Change) Refusal) → IsDecidedOnce distinct decided
     → IsFullReply count (vote_step m n texts stamp decided) → OverfillsJournal m (result_ok decided) count
-vote_full m n texts stamp count distinct (Err r) once is = absurd (not_full r count once is)
+vote_full m n texts stamp count distinct (Err r) once is = absurd (not_full r count (ordinary_decision r once) is)
 vote_full m n texts stamp count distinct (Ok []) once is = absurd cc
 vote_full m n texts stamp count distinct (Ok (c ∷ changes)) once is = counted_full m n texts c changes stamp count is
 

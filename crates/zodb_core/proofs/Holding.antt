@@ -28,7 +28,7 @@ use Rattle.zodb_core.specs.declared.texts.Texts.{Texts}
 use Rattle.zodb_core.specs.declared.vote.HubVote.{HubVote}
 use Rattle.zodb_core.specs.declared.vote.VotedEntry.{VotedEntry}
 use Rattle.zodb_core.specs.Holding.{IsNextTid, VotesFor, tid_if_left}
-use Rattle.zodb_core.specs.HubState.{HubState, IsEntryOf, HubKeeps, IsClockRead, MakesStep, StandsForMachine, counts_of, vote_of_hub, sessions_with}
+use Rattle.zodb_core.specs.HubState.{HubState, IsEntryOf, HubKeeps, IsClockRead, MakesStep, MakesStepAt, StandsForMachine, counts_of, vote_of_hub, sessions_with}
 use Rattle.zodb_core.specs.Machine.{Machine, MachineVote, Rules, switches_of}
 use Rattle.zodb_core.specs.Outcomes.{Answered, AreLaterCounts, failed, holds_writes, machine_left, outcome_of}
 use Rattle.zodb_core.specs.Replies.{fault_reply}
@@ -44,14 +44,11 @@ answered_still : {R F : Type 0} (rules : Rules) (m : Machine) (n : ℕ) (q : Req
 answered_still rules m n q r left old new before after later is gives same stands =
     subst (λ (s : Option (List Stamp)). MakesStep rules m n q r old new before s) (sym same) (answered rules m n q r left old new before later is gives stands)
 
-ticked : {R F : Type 0} (rules : Rules) (m : Machine) (n : ℕ) (q : Request) (r : Reply) (left : Machine) (stamp : ℕ) (old new : HubState R F) (before after : Option (List Stamp))
-    → AreLaterCounts (counts_of old.store) (counts_of new.store) → outcome_of r ≡ Answered → step_of rules m n q stamp ≡ record { reply = r; machine = left; ticks = true }
-    → IsClockRead stamp before after → StandsForMachine new left
-    → MakesStep rules m n q r old new before after
-ticked rules m n q r left stamp old new before after later is gives read stands = record {
-  stamp = stamp;
+ticked : {R F : Type 0} (rules : Rules) (m : Machine) (n : ℕ) (q : Request) (r : Reply) (left : Machine) (stamp : ℕ) (old new : HubState R F)
+    → AreLaterCounts (counts_of old.store) (counts_of new.store) → outcome_of r ≡ Answered → step_of rules m n q stamp ≡ record { reply = r; machine = left; ticks = true } → StandsForMachine new left
+    → MakesStepAt stamp true rules m n q r old new
+ticked rules m n q r left stamp old new later is gives stands = record {
   left = left;
-  ticks = true;
   made = record {
     later = later;
     cause = ends_answered rules m n q stamp (record { reply = r; machine = left; ticks = true }) (counts_of old.store) (counts_of new.store) (outcome_of r) is (sym gives);
@@ -59,7 +56,6 @@ ticked rules m n q r left stamp old new before after later is gives read stands 
     ticks = λ yes. subst (λ (b : Bool). IsTrue b) (sym (ap (λ (s : Stepped). s.ticks) gives)) yes;
     failed_ticks = λ fault. sym (ap (λ (s : Stepped). s.ticks) gives);
   };
-  clock = read;
   stands = stands;
 }
 
@@ -180,16 +176,16 @@ voted_at m n texts changes tid given true is some =
 
 pub hold_spent : {R F : Type 0} (rules : Rules) (m : Machine) (n : ℕ) (q : Request) (texts : Texts) (changes : List NewChange) (kept newest : ℕ) (old new : HubState R F) (before after : Option (List Stamp))
     → StandsForMachine old m → VotesFor rules m n q texts (Ok (map (voted_change m.list) changes)) → (changes ≡ [] → ⊥) → kept ≡ changes_in_journal old.journal → kept + length changes ≤ journal_limit
-    → newest ≡ newest_tid m.list → IsNextTid newest before after None
+    → newest ≡ newest_tid m.list → (next : IsNextTid newest before after None)
     → AreLaterCounts (counts_of old.store) (counts_of new.store) → StandsForMachine new m
-    → MakesStep rules m n q (reply.Refused refusal.TidsSpent) old new before after
+    → MakesStepAt next.stamp true rules m n q (reply.Refused refusal.TidsSpent) old new
 hold_spent rules m n q texts changes kept newest old new before after stands votes some is within front next later left =
-    ticked rules m n q (reply.Refused refusal.TidsSpent) m next.stamp old new before after later refl
+    ticked rules m n q (reply.Refused refusal.TidsSpent) m next.stamp old new later refl
     (votes.step next.stamp
     ∙ reached m n texts next.stamp (kept + length changes) (map (voted_change m.list) changes) (not_nothing m.list changes some) (counted m old changes kept stands is) within
     ∙ spent_at m n texts (map (voted_change m.list) changes) (tid_after (newest_tid m.list) next.stamp) (nat_lt (tid_after (newest_tid m.list) next.stamp) (2 ^ 64 - 1)) refl
     (next.tid ∙ ap (λ (k : ℕ). tid_if_left (tid_after k next.stamp)) front))
-    next.clock left
+    left
 
 -- the machine's step, where a tid is left
 holds : {R F : Type 0} (rules : Rules) (m : Machine) (n : ℕ) (q : Request) (texts : Texts) (changes : List NewChange) (kept newest tid : ℕ) (old : HubState R F) (before after : Option (List Stamp))
@@ -204,15 +200,14 @@ holds rules m n q texts changes kept newest tid old before after stands votes so
 
 pub hold_voted : {R F : Type 0} (rules : Rules) (m : Machine) (n : ℕ) (q : Request) (texts : Texts) (changes : List NewChange) (kept newest tid : ℕ) (entry : VotedEntry) (old new : HubState R F) (before after : Option (List Stamp))
     → StandsForMachine old m → old.store.broken ≡ false → VotesFor rules m n q texts (Ok (map (voted_change m.list) changes)) → (changes ≡ [] → ⊥) → kept ≡ changes_in_journal old.journal
-    → kept + length changes ≤ journal_limit → newest ≡ newest_tid m.list → IsNextTid newest before after (Some tid)
+    → kept + length changes ≤ journal_limit → newest ≡ newest_tid m.list → (next : IsNextTid newest before after (Some tid))
     → AreLaterCounts (counts_of old.store) (counts_of new.store) → new.store.broken ≡ false → new.store.list ≡ old.store.list
     → new.store.voted ≡ Some (voted_of old.store.list (record { tid = tid; user = texts.user; description = texts.description; extension = texts.extension; changes = changes }))
     → new.journal ≡ old.journal → new.greatest ≡ old.greatest → new.sessions ≡ old.sessions → new.vote ≡ Some (record { session = n; writes = Some entry })
-    → MakesStep rules m n q reply.Voted old new before after
+    → MakesStepAt next.stamp true rules m n q reply.Voted old new
 hold_voted rules m n q texts changes kept newest tid entry old new before after stands whole votes some is within front next later still list voted entries greatest sessions vote =
-    ticked rules m n q reply.Voted (with_vote m n (Some (transaction_with tid texts (map (voted_change m.list) changes)))) next.stamp old new before after later refl
+    ticked rules m n q reply.Voted (with_vote m n (Some (transaction_with tid texts (map (voted_change m.list) changes)))) next.stamp old new later refl
     (holds rules m n q texts changes kept newest tid old before after stands votes some is within front next)
-    next.clock
     (record {
       journal = stands.journal ∙ sym entries;
       greatest = stands.greatest ∙ sym greatest;
@@ -228,17 +223,14 @@ hold_voted rules m n q texts changes kept newest tid entry old new before after 
 -- the store refused it
 pub hold_failed : {R F : Type 0} (rules : Rules) (m : Machine) (n : ℕ) (q : Request) (texts : Texts) (changes : List NewChange) (kept newest tid : ℕ) (e : StoreError) (old new : HubState R F) (before after : Option (List Stamp))
     → StandsForMachine old m → old.store.broken ≡ false → VotesFor rules m n q texts (Ok (map (voted_change m.list) changes)) → (changes ≡ [] → ⊥) → kept ≡ changes_in_journal old.journal
-    → kept + length changes ≤ journal_limit → newest ≡ newest_tid m.list → IsNextTid newest before after (Some tid)
+    → kept + length changes ≤ journal_limit → newest ≡ newest_tid m.list → (next : IsNextTid newest before after (Some tid))
     → AreLaterCounts (counts_of old.store) (counts_of new.store) → MayRefuse old.store new.store e → (e ≡ store_error.StoreFault → new.store.broken ≡ true) → RefusalKeepsRest old.store new.store e
     → new.journal ≡ old.journal → new.greatest ≡ old.greatest → new.sessions ≡ old.sessions → new.vote ≡ old.vote
-    → MakesStep rules m n q (fault_reply e) old new before after
+    → MakesStepAt next.stamp true rules m n q (fault_reply e) old new
 hold_failed rules m n q texts changes kept newest tid store_error.StoreFault old new before after stands whole votes some is within front next later may broke keeps entries greatest sessions vote =
     let gives = holds rules m n q texts changes kept newest tid old before after stands votes some is within front next in
     record {
-      stamp = next.stamp;
       left = failed m;
-      ticks = true;
-      clock = next.clock;
       stands = dropped_failed m old new stands whole (broke refl) entries greatest sessions;
       made = record {
         later = later;
@@ -258,10 +250,7 @@ hold_failed rules m n q texts changes kept newest tid store_error.StoreFault old
 hold_failed rules m n q texts changes kept newest tid store_error.ReadFault old new before after stands whole votes some is within front next later may broke keeps entries greatest sessions vote =
     let gives = holds rules m n q texts changes kept newest tid old before after stands votes some is within front next in
     record {
-      stamp = next.stamp;
       left = m;
-      ticks = true;
-      clock = next.clock;
       stands = stands_read m old new stands keeps entries greatest sessions vote;
       made = record {
         later = later;
@@ -274,10 +263,7 @@ hold_failed rules m n q texts changes kept newest tid store_error.ReadFault old 
 hold_failed rules m n q texts changes kept newest tid store_error.Memory old new before after stands whole votes some is within front next later may broke keeps entries greatest sessions vote =
     let gives = holds rules m n q texts changes kept newest tid old before after stands votes some is within front next in
     record {
-      stamp = next.stamp;
       left = m;
-      ticks = true;
-      clock = next.clock;
       stands = stands_read m old new stands keeps entries greatest sessions vote;
       made = record {
         later = later;

@@ -1,5 +1,5 @@
 -- How a hub's step is a step of each machine that it stands for.
-use Rattle.std.proofs.Common.{◌≡◌, ℕ, List, Option, None, Bool, true, false, not, refl, sym, ap, ◌∙◌}
+use Rattle.std.proofs.Common.{◌≡◌, ℕ, List, [], Option, Some, None, Bool, true, false, not, refl, sym, ap, ◌∙◌}
 use Rattle.std.specs.Option.{option_map, option_or}
 use Rattle.zb_base.specs.Counts.{Rose}
 use Rattle.zb_ids.specs.declared.stamp.Stamp.{Stamp}
@@ -15,9 +15,10 @@ use Rattle.zodb_core.specs.declared.reply.Reply.TheVariants as reply
 use Rattle.zodb_core.specs.declared.request.Request.{Request}
 use Rattle.zodb_core.specs.declared.request.Request.TheVariants as request
 use Rattle.zodb_core.specs.declared.session.Session.{Session}
-use Rattle.zodb_core.specs.HubState.{HubState, MakesStep, StandsForMachine, counts_of, vote_of_hub, sessions_with}
+use Rattle.zodb_core.specs.HubState.{HasTicked, HubState, MakesStep, MakesStepAt, StandsForMachine, StepsByClock, counts_of, vote_of_hub, sessions_with}
+use Rattle.zodb_core.specs.Entries.{made_unread}
 use Rattle.zodb_core.specs.Machine.{Machine, Rules, front_of, is_open_in, switches_of}
-use Rattle.zodb_core.specs.Outcomes.{Answered, AreLaterCounts, EndsFor, FaultCounts, MayGoWrong, NoMemory, StepOutcome, ReadingFailed, StoreFailed, machine_left, outcome_of, reads_store, takes_memory}
+use Rattle.zodb_core.specs.Outcomes.{Answered, AreLaterCounts, EndsFor, FaultCounts, IsStepMade, MayGoWrong, NoMemory, StepOutcome, ReadingFailed, StoreFailed, machine_left, outcome_of, reads_store, takes_memory}
 use Rattle.zodb_core.specs.Replies.{fault_reply, loaded_reply}
 use Rattle.zodb_core.specs.Steps.{Stepped, early_refusal, loaded, refuse_if, replied, request_refusal, step_of}
 
@@ -127,3 +128,40 @@ load_answered rules m n oid front f upto switches old new stamps later stands wh
     (rw (not_early m n (request.LoadBefore oid front) old.sessions (sessions_whole m old stands whole) is_open)
     (ap (replied m) (sym (loaded_same m oid f upto switches upto_is packs ∙ ap (loaded m oid) found))))
     left
+
+-- ---- a step that read no clock
+
+unread : {R F : Type 0} (rules : Rules) (m : Machine) (n : ℕ) (q : Request) (r : Reply) (old new : HubState R F) (stamp : ℕ) (left : Machine) (ticks : Bool)
+    → IsStepMade rules m n q stamp (record { reply = r; machine = left; ticks = ticks }) (counts_of old.store) (counts_of new.store) → HasTicked ticks stamp (Some []) (Some []) → StandsForMachine new left
+    → MakesStepAt 0 false rules m n q r old new
+unread rules m n q r old new stamp left true made clock stands = absurd clock
+unread rules m n q r old new stamp left false made clock stands = record {
+  left = left;
+  made = made_unread rules m n q stamp 0 (record { reply = r; machine = left; ticks = false }) (counts_of old.store) (counts_of new.store) made refl;
+  stands = stands;
+}
+
+-- one that is made whatever the clock tells, which then tells the same, has not read it
+pub still : {R F : Type 0} (rules : Rules) (m : Machine) (n : ℕ) (q : Request) (r : Reply) (old new : HubState R F)
+    → ((stamps : Option (List Stamp)) → MakesStep rules m n q r old new stamps stamps) → MakesStepAt 0 false rules m n q r old new
+still rules m n q r old new made =
+    let one = made (Some []) in
+    unread rules m n q r old new one.stamp one.left one.ticks one.made one.clock one.stands
+
+pub still_clock : {R F : Type 0} (told : Type 0) (rules : Rules) (n : ℕ) (q : Request) (r : Reply) (old new : HubState R F) (before after : Option (List Stamp))
+    → (told → (m : Machine) → StandsForMachine old m → (stamps : Option (List Stamp)) → MakesStep rules m n q r old new stamps stamps) → after ≡ before
+    → StepsByClock told rules n q r old new before after
+still_clock told rules n q r old new before after made same = record {
+  stamp = 0;
+  ticks = false;
+  clock = same;
+  step = λ tells m stands. still rules m n q r old new (made tells m stands);
+}
+
+-- ---- and one whose stamp is known
+
+pub by_clock : {R F : Type 0} (told : Type 0) (rules : Rules) (m : Machine) (n : ℕ) (q : Request) (r : Reply) (old new : HubState R F) (before after : Option (List Stamp))
+    → StepsByClock told rules n q r old new before after → told → StandsForMachine old m → MakesStep rules m n q r old new before after
+by_clock told rules m n q r old new before after steps tells stands =
+    let at = steps.step tells m stands in
+    record { stamp = steps.stamp; left = at.left; ticks = steps.ticks; made = at.made; clock = steps.clock; stands = at.stands }

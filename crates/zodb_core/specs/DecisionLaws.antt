@@ -29,25 +29,51 @@ abbrev pub is_full : Refusal → Bool
 is_full (refusal.JournalFull count) = true
 is_full _ = false
 
--- a refusal by what was asked: no failure, nor a journal that is full
+-- the history is full
+abbrev pub is_spent : Refusal → Bool
+is_spent refusal.StepsSpent = true
+is_spent _ = false
+
+-- another session holds the vote
+abbrev pub is_busy : Refusal → Bool
+is_busy (refusal.Busy holder) = true
+is_busy _ = false
+
+-- a refusal by what was asked: no failure, nor a journal or a history that is full
 abbrev pub IsOrdinary : Refusal → Type 0
-IsOrdinary r = (outcome_of_refusal r ≡ Answered) × (is_full r ≡ false)
+IsOrdinary r = (outcome_of_refusal r ≡ Answered) × (is_full r ≡ false) × (is_spent r ≡ false)
+
+-- and of these one that a decision gives, which isn't busy
+abbrev pub IsOfDecision : Refusal → Type 0
+IsOfDecision r = (outcome_of_refusal r ≡ Answered) × (is_full r ≡ false) × (is_spent r ≡ false) × (is_busy r ≡ false)
+
+pub ordinary_decision : (r : Refusal) → IsOfDecision r → IsOrdinary r
+ordinary_decision r is = (is.0, is.1, is.2)
+
+-- a refusal, if there is one, is ordinary
+abbrev pub AnswersIfSome : Option Refusal → Type 0
+AnswersIfSome None = Unit {0}
+AnswersIfSome (Some r) = IsOrdinary r
+
+pub answers_or : (one other : Option Refusal) → AnswersIfSome one → AnswersIfSome other → AnswersIfSome (option_or one other)
+answers_or None other first second = second
+answers_or (Some r) other first second = first
 
 -- ---- a vote writes the objects of its stores
 
 -- the changes have these objects, in their order
 abbrev HaveOids : List ℕ → Result (List Change) Refusal → Type 0
 HaveOids oids (Ok changes) = map (λ c. c.oid) changes ≡ oids
-HaveOids oids (Err r) = IsOrdinary r
+HaveOids oids (Err r) = IsOfDecision r
 
 -- and the change has this one
 abbrev HasOid : ℕ → Result Change Refusal → Type 0
 HasOid oid (Ok c) = c.oid ≡ oid
-HasOid oid (Err r) = IsOrdinary r
+HasOid oid (Err r) = IsOfDecision r
 
 conflict_oid : (list : List Transaction) (p : PendingStore) (r : Result (List ℕ) Why) → HasOid p.oid (change_or_conflict list p r)
 conflict_oid list p (Ok bytes) = refl
-conflict_oid list p (Err why) = (refl, refl)
+conflict_oid list p (Err why) = (refl, refl, refl, refl)
 
 ahead_oids : (oid : ℕ) (oids : List ℕ) (one : Result Change Refusal) (rest : Result (List Change) Refusal) → HasOid oid one → HaveOids oids rest → HaveOids (oid ∷ oids) (ahead_of_changes one rest)
 ahead_oids oid oids (Err r) rest one all = one
@@ -61,27 +87,27 @@ stores_oids rules list (p ∷ stores) =
     (conflict_oid list p (goes_in rules list p)) (stores_oids rules list stores)
 
 -- a refusal, if there is one, is ordinary
-abbrev pub AnswersIfSome : Option Refusal → Type 0
-AnswersIfSome None = Unit {0}
-AnswersIfSome (Some r) = IsOrdinary r
+abbrev DecidesIfSome : Option Refusal → Type 0
+DecidesIfSome None = Unit {0}
+DecidesIfSome (Some r) = IsOfDecision r
 
-pub answers_or : (one other : Option Refusal) → AnswersIfSome one → AnswersIfSome other → AnswersIfSome (option_or one other)
-answers_or None other first second = second
-answers_or (Some r) other first second = first
+decides_or : (one other : Option Refusal) → DecidesIfSome one → DecidesIfSome other → DecidesIfSome (option_or one other)
+decides_or None other first second = second
+decides_or (Some r) other first second = first
 
-check_answers : (list : List Transaction) (checks : List PendingCheck) → AnswersIfSome (failed_check list checks)
+check_answers : (list : List Transaction) (checks : List PendingCheck) → DecidesIfSome (failed_check list checks)
 check_answers list [] = tt
 check_answers list (c ∷ checks) = by_cases (eqb c.serial (serial_of c.oid list)) (check_answers list checks)
   where
-    by_cases : (b : Bool) → AnswersIfSome (failed_check list checks) → AnswersIfSome (cond b (failed_check list checks) (Some (refusal.ReadConflict c.oid c.serial (serial_of c.oid list))))
+    by_cases : (b : Bool) → DecidesIfSome (failed_check list checks) → DecidesIfSome (cond b (failed_check list checks) (Some (refusal.ReadConflict c.oid c.serial (serial_of c.oid list))))
     by_cases true rest = rest
-    by_cases false rest = (refl, refl)
+    by_cases false rest = (refl, refl, refl, refl)
 
-long_answers : (n : Option ℕ) → AnswersIfSome (option_map (λ n. refusal.TooLong n) n)
+long_answers : (n : Option ℕ) → DecidesIfSome (option_map (λ n. refusal.TooLong n) n)
 long_answers None = tt
-long_answers (Some n) = (refl, refl)
+long_answers (Some n) = (refl, refl, refl, refl)
 
-refused_oids : (oids : List ℕ) (changes : List Change) (o : Option Refusal) → map (λ c. c.oid) changes ≡ oids → AnswersIfSome o → HaveOids oids (unless_refused changes o)
+refused_oids : (oids : List ℕ) (changes : List Change) (o : Option Refusal) → map (λ c. c.oid) changes ≡ oids → DecidesIfSome o → HaveOids oids (unless_refused changes o)
 refused_oids oids changes None have answers = have
 refused_oids oids changes (Some r) have answers = answers
 
@@ -89,7 +115,7 @@ checked_oids : (list : List Transaction) (checks : List PendingCheck) (oids : Li
 checked_oids list checks oids (Err r) have = have
 checked_oids list checks oids (Ok changes) have =
     refused_oids oids changes (option_or (failed_check list checks) (too_long changes)) have
-    (answers_or (failed_check list checks) (too_long changes) (check_answers list checks) (long_answers (excess_of (map (λ (c : Change). length_of_content c.content) changes))))
+    (decides_or (failed_check list checks) (too_long changes) (check_answers list checks) (long_answers (excess_of (map (λ (c : Change). length_of_content c.content) changes))))
 
 vote_oids : (rules : MergeRules) (list : List Transaction) (pending : PendingChanges) → HaveOids (map (λ p. p.oid) pending.stores) (vote_decision rules list pending)
 unfolding vote_decision
@@ -130,14 +156,14 @@ once_with (d ∷ written) c once =
 -- what is written names each object once, or what refuses it is told
 abbrev AreOnceIfOk : Result (List NewChange) Refusal → Type 0
 AreOnceIfOk (Ok changes) = AreOnce changes
-AreOnceIfOk (Err r) = IsOrdinary r
+AreOnceIfOk (Err r) = IsOfDecision r
 
 abbrev AnswersIfErr : {T : Type 0} → Result T Refusal → Type 0
 AnswersIfErr (Ok x) = Unit {0}
-AnswersIfErr (Err r) = IsOrdinary r
+AnswersIfErr (Err r) = IsOfDecision r
 
 merged_answers : (oid later : ℕ) (m : Option (List ℕ)) → AnswersIfErr (ok_or (option_map new_content.Bytes m) (refusal.UndoConflict oid later))
-merged_answers oid later None = (refl, refl)
+merged_answers oid later None = (refl, refl, refl, refl)
 merged_answers oid later (Some bytes) = tt
 
 content_answers : (rules : MergeRules) (list : List Transaction) (tid : ℕ) (written : List NewChange) (c : Change) → AnswersIfErr (undone_content rules list tid written c)
@@ -159,11 +185,11 @@ changes_once rules list tid written (c ∷ changes) once =
     (λ content _. changes_once rules list tid (with_change written (record { oid = c.oid; content = content })) changes (once_with written (record { oid = c.oid; content = content }) once))
 
 transaction_once : (rules : MergeRules) (list : List Transaction) (tid : ℕ) (written : List NewChange) (o : Option Transaction) → AreOnce written → AreOnceIfOk (undone_transaction rules list tid written o)
-transaction_once rules list tid written None once = (refl, refl)
+transaction_once rules list tid written None once = (refl, refl, refl, refl)
 transaction_once rules list tid written (Some t) once = by_cases t.packed (changes_once rules list tid written t.changes once)
   where
     by_cases : (b : Bool) → AreOnceIfOk (undone_changes rules list tid written t.changes) → AreOnceIfOk (cond b (Err (refusal.UndoPacked tid)) (undone_changes rules list tid written t.changes))
-    by_cases true rest = (refl, refl)
+    by_cases true rest = (refl, refl, refl, refl)
     by_cases false rest = rest
 
 answers_of_once : (u : Result (List NewChange) Refusal) → AreOnceIfOk u → AnswersIfErr u
@@ -194,7 +220,7 @@ undo_once rules list tids = from_once rules list [] tids none_once
 -- what is to be written names each object once, under a premise, or what refuses it is told
 abbrev pub IsDecidedOnce : Type 0 → Result (List Change) Refusal → Type 0
 IsDecidedOnce premise (Ok changes) = premise → IsDistinct nat_eq (map (λ c. c.oid) changes)
-IsDecidedOnce premise (Err r) = IsOrdinary r
+IsDecidedOnce premise (Err r) = IsOfDecision r
 
 by_oids : (oids : List ℕ) (r : Result (List Change) Refusal) → HaveOids oids r → IsDecidedOnce (IsDistinct nat_eq oids) r
 by_oids oids (Ok changes) have = λ distinct. subst (λ (ns : List ℕ). IsDistinct nat_eq ns) (sym have) distinct

@@ -1,16 +1,19 @@
 -- How the hub votes. Own.
-use Rattle.std.specs.Prelude.{◌≡◌, ℕ, ◌<◌, ◌≤◌, ◌-◌, ◌^◌, List, Option, Some, None, Result, Bool, true, false, IfSome, ◌==◌, nat_lt, if◌then◌else◌, length}
+use Rattle.std.specs.Prelude.{◌≡◌, ℕ, ◌<◌, ◌≤◌, ◌-◌, ◌^◌, List, Option, Some, None, Result, Ok, Bool, true, false, IfSome, ◌==◌, nat_lt, if◌then◌else◌, length, map}
 use Rattle.zb_ids.specs.declared.stamp.Stamp.{Stamp}
 use Rattle.zb_ids.specs.Tids.{tid_after}
 use Rattle.zb_model.specs.declared.data.Change.{Change}
+use Rattle.zb_model.specs.declared.new_transaction.NewChange.{NewChange}
 use Rattle.zb_model.specs.declared.refusal.Refusal.{Refusal}
 use Rattle.zb_model.specs.declared.refusal.Refusal.TheVariants as refusal
 use Rattle.zb_model.specs.declared.store_error.StoreError.{StoreError}
 use Rattle.zb_model.specs.declared.store_error.StoreError.TheVariants as store_error
+use Rattle.zb_model.specs.Voting.{voted_change}
+use Rattle.zodb_core.specs.declared.reply.Reply.{Reply}
 use Rattle.zodb_core.specs.declared.request.Request.{Request}
 use Rattle.zodb_core.specs.declared.texts.Texts.{Texts}
 use Rattle.zodb_core.specs.declared.vote.HubVote.{HubVote}
-use Rattle.zodb_core.specs.HubState.{IsClockRead}
+use Rattle.zodb_core.specs.HubState.{HasTicked, HubState, IsClockRead, MakesStepAt, StandsForMachine}
 use Rattle.zodb_core.specs.Machine.{Machine, Rules}
 use Rattle.zodb_core.specs.Outcomes.{changes_store, holds_writes, reads_store, takes_memory}
 use Rattle.zodb_core.specs.Steps.{Stepped, early_refusal, step_of, vote_step}
@@ -50,3 +53,11 @@ pub record VotesFor (rules : Rules) (m : Machine) (n : ℕ) (q : Request) (texts
   pub memory : takes_memory q ≡ true
   pub step : (stamp : ℕ) → step_of rules m n q stamp ≡ vote_step m n texts stamp decided
   pub changes : (made : Stepped) → changes_store m n q made ≡ holds_writes n made.machine.vote
+
+-- What was decided is voted, by the clock, for whatever request decided it.
+pub record HoldsByClock {R F : Type 0} (told : Type 0) (rules : Rules) (n : ℕ) (texts : Texts) (changes : List NewChange) (reply : Reply) (old new : HubState R F) (before after : Option (List Stamp)) : Type 0 where
+  pub stamp : ℕ
+  pub ticks : Bool
+  pub clock : HasTicked ticks stamp before after
+  pub step : told → (m : Machine) → StandsForMachine old m → (q : Request) → VotesFor rules m n q texts (Ok (map (voted_change m.list) changes))
+      → MakesStepAt stamp ticks rules m n q reply old new

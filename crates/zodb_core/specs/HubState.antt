@@ -106,6 +106,19 @@ pub record MakesStep {R F : Type 0} (rules : Rules) (m : Machine) (n : ℕ) (q :
   pub clock : HasTicked ticks stamp before after
   pub stands : StandsForMachine new left
 
+-- The same of a step of which it is known whether the clock was read (`ticks`), and which stamp it gave then.
+pub record MakesStepAt {R F : Type 0} (stamp : ℕ) (ticks : Bool) (rules : Rules) (m : Machine) (n : ℕ) (q : Request) (reply : Reply) (old new : HubState R F) : Type 0 where
+  pub left : Machine
+  pub made : IsStepMade rules m n q stamp (record { reply = reply; machine = left; ticks = ticks }) (counts_of old.store) (counts_of new.store)
+  pub stands : StandsForMachine new left
+
+-- Whatever the store tells, the clock was read and gave a stamp, or wasn't; where the store tells, that stamp is the one by which each machine that the hub stands for makes the step.
+pub record StepsByClock {R F : Type 0} (told : Type 0) (rules : Rules) (n : ℕ) (q : Request) (reply : Reply) (old new : HubState R F) (before after : Option (List Stamp)) : Type 0 where
+  pub stamp : ℕ
+  pub ticks : Bool
+  pub clock : HasTicked ticks stamp before after
+  pub step : told → (m : Machine) → StandsForMachine old m → MakesStepAt stamp ticks rules m n q reply old new
+
 -- Replies of steps that may have changed the store's volume; any other reply, each refusal but a store fault among them, leaves it. But a pack that isn't made for a
 -- failed read or for want of memory may have been copied in part.
 abbrev pub may_write : Bool → Reply → Bool

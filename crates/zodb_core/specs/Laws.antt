@@ -1,5 +1,5 @@
 -- Laws of the machine: what holds of every step and of every history, over whatever rules. Own.
-use Rattle.std.specs.Prelude.{◌↔◌, ◌≡◌, ℕ, ◌<◌, ◌≤◌, ◌+◌, List, [], ◌∷◌, ◌++◌, Some, All, None, length, Option, false}
+use Rattle.std.specs.Prelude.{◌↔◌, ◌≡◌, ℕ, ◌<◌, ◌≤◌, ◌+◌, List, [], ◌∷◌, ◌++◌, Some, All, None, length, Option, false, true, ◌≢◌}
 use Rattle.std.specs.List.{AllPairs}
 use Rattle.std.specs.Result.{result_ok}
 use Rattle.zb_model.specs.declared.data.Change.{Change}
@@ -15,11 +15,12 @@ use Rattle.zodb_core.specs.declared.request.Request.{Request}
 use Rattle.zodb_core.specs.declared.request.Request.TheVariants as request
 use Rattle.zodb_core.specs.Handed.{NumberRange, all_numbers, end_of_range, fronts_told, numbers_handed}
 use Rattle.zodb_core.specs.History.{Entry, IsLegal, IsLegalOver, counts_after, machine_after, machine_behind}
-use Rattle.zodb_core.specs.Machine.{Machine, Rules, front_of, machine_over, with_session}
-use Rattle.zodb_core.specs.Outcomes.{Answered, AreLaterCounts, FaultCounts, StepOutcome, is_pack, machine_left, outcome_of}
+use Rattle.zodb_core.specs.Machine.{Machine, Rules, front_of, is_open_in, machine_over, with_session}
+use Rattle.zodb_core.specs.Outcomes.{Answered, AreLaterCounts, FaultCounts, IsStepMade, StepOutcome, is_pack, machine_left, outcome_of}
 use Rattle.zodb_core.specs.Seen.{KeepsSeen}
 use Rattle.zodb_core.specs.Sound.{AreDistinctRequests, Becomes, GrowsByOne, GrowsTo, HasNoPack, IsDistinctRequest, IsSoundMachine, ComesTo}
-use Rattle.zodb_core.specs.Steps.{changes_in_journal, changes_undone, early_refusal, journal_limit, step_of}
+use Rattle.zodb_core.specs.Steps.{Stepped, busy_for, changes_in_journal, changes_undone, early_refusal, journal_limit, step_of}
+use Rattle.zodb_core.specs.Waiting.{needs_vote}
 
 -- ---- the machine stays sound
 
@@ -155,3 +156,15 @@ pub record OverfillsJournal (m : Machine) (asked : Option (List Change)) (count 
 abbrev pub JournalIsFull : Type 0
 JournalIsFull = (rules : Rules) (m : Machine) (n : ℕ) (q : Request) (stamp count : ℕ)
     → ((step_of rules m n q stamp).reply ≡ reply.Refused (refusal.JournalFull count)) ↔ ((early_refusal m n q ≡ None) × OverfillsJournal m (changes_asked rules m q) count)
+
+-- ---- what no step is answered
+
+-- no step is refused for the length of a history
+abbrev pub StepsHaveRoom : Type 0
+StepsHaveRoom = (rules : Rules) (m : Machine) (n : ℕ) (q : Request) (stamp : ℕ) (made : Stepped) (before now : FaultCounts) → IsStepMade rules m n q stamp made before now
+    → made.reply ≢ reply.Refused refusal.StepsSpent
+
+-- and a vote or an undo of an open session isn't busy while no other session holds the vote
+abbrev pub FreeVotesAreServed : Type 0
+FreeVotesAreServed = (rules : Rules) (m : Machine) (n : ℕ) (q : Request) (stamp : ℕ) (made : Stepped) (before now : FaultCounts) → IsStepMade rules m n q stamp made before now
+    → needs_vote q ≡ true → (is_open_in m.sessions n ≡ true → busy_for n m.vote ≡ None) → (holder : ℕ) → made.reply ≢ reply.Refused (refusal.Busy holder)

@@ -1,4 +1,5 @@
 pub mod DecisionLaws
+pub mod Entries
 pub mod GrowthLaws
 pub mod Handed
 pub mod History
@@ -19,3 +20,4 @@ pub mod Stamps
 pub mod StepCases
 pub mod Steps
 pub mod SwitchLaws
+pub mod Waiting

@@ -25,7 +25,7 @@ use Rattle.zodb_core.specs.declared.reply.Reply.TheVariants as reply
 use Rattle.zodb_core.specs.declared.request.Request.{Request}
 use Rattle.zodb_core.specs.declared.request.Request.TheVariants as request
 use Rattle.zodb_core.specs.declared.texts.Texts.{Texts}
-use Rattle.zodb_core.specs.DecisionLaws.{AnswersIfSome, IsDecidedOnce, IsOrdinary, answers_or, undo_decided, vote_decided}
+use Rattle.zodb_core.specs.DecisionLaws.{AnswersIfSome, IsDecidedOnce, IsOrdinary, answers_or, ordinary_decision, undo_decided, vote_decided}
 use Rattle.zodb_core.specs.Machine.{Machine, MachineVote, OpenPack, Rules, holds_vote, is_open_in}
 use Rattle.zodb_core.specs.Outcomes.{Answered, NoMemory, ReadingFailed, StepOutcome, StoreFailed, failed, is_pack, machine_left}
 use Rattle.zodb_core.specs.Sound.{IsDistinctRequest}
@@ -58,32 +58,32 @@ answers_if false r is = tt
 
 busy_answers : (n : ℕ) (vote : Option MachineVote) → AnswersIfSome (busy_for n vote)
 busy_answers n None = tt
-busy_answers n (Some v) = answers_if (not (v.session == n)) (refusal.Busy v.session) (refl, refl)
+busy_answers n (Some v) = answers_if (not (v.session == n)) (refusal.Busy v.session) (refl, refl, refl)
 
 vote_answers : (n : ℕ) (vote : Option MachineVote) → AnswersIfSome (vote_refusal n vote)
-vote_answers n vote = answers_or (refuse_if (holds_vote n vote) refusal.Voted) (busy_for n vote) (answers_if (holds_vote n vote) refusal.Voted (refl, refl)) (busy_answers n vote)
+vote_answers n vote = answers_or (refuse_if (holds_vote n vote) refusal.Voted) (busy_for n vote) (answers_if (holds_vote n vote) refusal.Voted (refl, refl, refl)) (busy_answers n vote)
 
 running_answers : (pack : Option OpenPack) → AnswersIfSome (pack_running pack)
 running_answers None = tt
-running_answers (Some p) = (refl, refl)
+running_answers (Some p) = (refl, refl, refl)
 
 held_answers : (vote : Option MachineVote) → AnswersIfSome (busy_for_all vote)
 held_answers None = tt
-held_answers (Some v) = (refl, refl)
+held_answers (Some v) = (refl, refl, refl)
 
 pack_answers : (m : Machine) (tid : ℕ) → AnswersIfSome (pack_refusal m tid)
 pack_answers m tid =
     answers_or (pack_running m.pack) (option_or (busy_for_all m.vote) (packed_already (pack_tid tid m.list) (pack_point m.list))) (running_answers m.pack)
     (answers_or (busy_for_all m.vote) (packed_already (pack_tid tid m.list) (pack_point m.list)) (held_answers m.vote)
-    (answers_if (nat_le (pack_tid tid m.list) (pack_point m.list)) (refusal.PackedAlready (pack_point m.list)) (refl, refl)))
+    (answers_if (nat_le (pack_tid tid m.list) (pack_point m.list)) (refusal.PackedAlready (pack_point m.list)) (refl, refl, refl)))
 
 request_answers : (m : Machine) (n : ℕ) (q : Request) → AnswersIfSome (request_refusal m n q)
 request_answers m n request.Front = tt
 request_answers m n (request.LoadBefore oid front) = tt
-request_answers m n (request.NewOids count) = answers_if (nat_lt (2 ^ 64 - 1) (m.greatest + count)) refusal.OidsSpent (refl, refl)
+request_answers m n (request.NewOids count) = answers_if (nat_lt (2 ^ 64 - 1) (m.greatest + count)) refusal.OidsSpent (refl, refl, refl)
 request_answers m n (request.Vote user description extension pending) = vote_answers n m.vote
 request_answers m n (request.Undo user description tids) = vote_answers n m.vote
-request_answers m n request.Finish = answers_if (not (holds_vote n m.vote)) refusal.NotVoted (refl, refl)
+request_answers m n request.Finish = answers_if (not (holds_vote n m.vote)) refusal.NotVoted (refl, refl, refl)
 request_answers m n request.Abort = tt
 request_answers m n (request.History oid) = tt
 request_answers m n request.UndoLog = tt
@@ -93,7 +93,7 @@ request_answers m n request.Close = tt
 pub early_answers : (m : Machine) (n : ℕ) (q : Request) → AnswersIfSome (early_refusal m n q)
 early_answers m n q =
     answers_or (refuse_if (not (is_open_in m.sessions n)) refusal.NotOpen) (request_refusal m n q)
-    (answers_if (not (is_open_in m.sessions n)) refusal.NotOpen (refl, refl)) (request_answers m n q)
+    (answers_if (not (is_open_in m.sessions n)) refusal.NotOpen (refl, refl, refl)) (request_answers m n q)
 
 -- ---- the cases are all
 
@@ -125,7 +125,7 @@ counted_cases P m n q texts changes stamp count cases once =
 
 vote_cases : (P : Stepped → Type 0) (m : Machine) (n : ℕ) (q : Request) (texts : Texts) (stamp : ℕ) (decided : Result (List Change) Refusal) → StepCases P m n q
     → IsDecidedOnce (IsDistinctRequest q) decided → P (vote_step m n texts stamp decided)
-vote_cases P m n q texts stamp (Err r) cases once = cases.refused r once
+vote_cases P m n q texts stamp (Err r) cases once = cases.refused r (ordinary_decision r once)
 vote_cases P m n q texts stamp (Ok []) cases once = cases.nothing
 vote_cases P m n q texts stamp (Ok (c ∷ changes)) cases once =
     counted_cases P m n q texts (c ∷ changes) stamp (changes_in_journal m.journal + length (c ∷ changes)) cases once
@@ -136,7 +136,7 @@ writes_cases P m n q v None cases is writes = cases.emptied
 writes_cases P m n q v (Some t) cases is writes = cases.committed v t is writes
 
 finish_cases : (P : Stepped → Type 0) (m : Machine) (n : ℕ) (q : Request) (vote : Option MachineVote) → StepCases P m n q → m.vote ≡ vote → P (finish_step m n vote)
-finish_cases P m n q None cases is = cases.refused refusal.NotVoted (refl, refl)
+finish_cases P m n q None cases is = cases.refused refusal.NotVoted (refl, refl, refl)
 finish_cases P m n q (Some v) cases is = writes_cases P m n q v v.writes cases is refl
 
 -- a pack that nothing refuses at once: no vote is held, and it goes further than an earlier one
@@ -155,7 +155,7 @@ pack_free m tid is =
     (both.0, omega (arith, both.1))
 
 unless_unreadable : (P : Stepped → Type 0) (named : List ℕ → Option (List ℕ)) (m : Machine) (n tid t : ℕ) (w : Option (ℕ × ℕ)) → StepCases P m n (request.Pack tid) → m.vote ≡ None → t < newest_tid m.list → P (switch_unless named m t w)
-unless_unreadable P named m n tid t (Some w) cases free below = cases.refused (refusal.Unreadable w.0 w.1) (refl, refl)
+unless_unreadable P named m n tid t (Some w) cases free below = cases.refused (refusal.Unreadable w.0 w.1) (refl, refl, refl)
 unless_unreadable P named m n tid t None cases free below = cases.packed refl t (reached named t m.list) free below
 
 pack_cases : (P : Stepped → Type 0) (named : List ℕ → Option (List ℕ)) (m : Machine) (n tid : ℕ) → StepCases P m n (request.Pack tid) → pack_refusal m tid ≡ None → P (pack_step named m (pack_tid tid m.list))

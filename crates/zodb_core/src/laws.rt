@@ -1,17 +1,41 @@
 //! Laws of the machine.
 
-ghost use Rattle.zodb_core.specs.History.{PrefixesAreLegal, RepliesAreOne};
-ghost use Rattle.zodb_core.specs.Laws.{CountsNeverFall, EndingsKeepSound, FrontsNeverFall};
+ghost use Rattle.zodb_core.specs.History.{CountsGoOn, HistoriesGoOn, MachinesGoOn};
+ghost use Rattle.zodb_core.specs.History.{PrefixesAreLegal, RepliesAreOne, StepsAreEntries, UnreadStepsAreOne};
+ghost use Rattle.zodb_core.specs.Laws.{CountsNeverFall, EndingsKeepSound, FreeVotesAreServed, FrontsNeverFall};
 ghost use Rattle.zodb_core.specs.Laws.{GreatestNeverFalls, HistoriesKeepSound, HistoriesComeTo, HistoriesOnlyGrow};
 ghost use Rattle.zodb_core.specs.Laws.{JournalIsFull, ListsOnlyGrow, ListsStayDatabases, MachineStartsSound};
 ghost use Rattle.zodb_core.specs.Laws.{NewNumbersAreNew, NewestNeverFalls, NumbersComeBehindGreatest};
 ghost use Rattle.zodb_core.specs.Laws.{OpeningsKeepSound, PacksKeepFronts, PacksKeepViews, RecordsBelowFrontsStood};
-ghost use Rattle.zodb_core.specs.Laws.{StatesBelowFrontsStay, StepsAreAnswered, StepsGrowOrPack, StepsKeepSound};
+ghost use Rattle.zodb_core.specs.Laws.{StatesBelowFrontsStay, StepsAreAnswered, StepsGrowOrPack, StepsHaveRoom, StepsKeepSound};
 
 /// What a legal history begins with is legal.
 #[tactic(auto, using(crate::proofs::Legal::prefixes))]
 pub fn histories_begin()
     ensures { PrefixesAreLegal }
+{}
+
+/// The state behind a history is a function of it, and so are the counts of faults: one entry more takes
+/// the state to the one behind that entry. A legal history stays legal by an entry that its state may
+/// take; and the entry of a step that was made is one, and leaves what the step left.
+pub fn histories_go_on()
+    ensures state { MachinesGoOn }
+    ensures counts { CountsGoOn }
+    ensures legal { HistoriesGoOn }
+    ensures entry { StepsAreEntries }
+{}
+
+/// Where the machine reads no clock its step is the same for every stamp.
+#[tactic(auto, using(crate::specs::Entries::step_unread))]
+pub fn unread_steps_are_one()
+    ensures { UnreadStepsAreOne }
+{}
+
+/// No step is refused for the length of a history, and a vote or an undo of an open session isn't busy
+/// while no other session holds the vote.
+pub fn free_steps_are_served()
+    ensures room { StepsHaveRoom }
+    ensures free { FreeVotesAreServed }
 {}
 
 /// Two steps of one machine that are answered are one and the same, over whatever stores they were made.

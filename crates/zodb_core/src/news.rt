@@ -58,13 +58,25 @@ fn commit_in(entry: &JournalEntry) -> Result<Option<NewsCommit>, AllocError>
 }
 
 /// The entries behind the first ones.
-fn entries_behind(journal: &[JournalEntry], told: u64) -> &[JournalEntry]
+pub(crate) fn entries_behind(journal: &[JournalEntry], told: u64) -> &[JournalEntry]
     ensures { result.now ≡ drop told journal.now }
 {
     if told >= journal.len() as u64 {
         return &[];
     }
     journal.split_at(told as usize).1
+}
+
+/// Whether there is an entry of which a session is to be told.
+pub(crate) fn has_news(entries: &[JournalEntry], session: u32) -> bool
+    ensures { result ≡ list_any (is_news_for session) entries.now }
+{
+    for entry in entries {
+        if is_news_for(session, entry) {
+            return true;
+        }
+    }
+    false
 }
 
 /// Of how many entries a session is to be told.

@@ -4,7 +4,7 @@ ghost use Rattle.std.specs.Prelude.{◌≡◌, Option, List, None, false, true};
 ghost use Rattle.zb_volume.specs.declared.areas.Area.TheVariants.{Main, Side};
 ghost use Rattle.zb_volume.specs.Moments.{LeavesOnly, StaysAs};
 ghost use Rattle.zb_model.specs.Database.{IsDatabase};
-ghost use Rattle.zodb_core.specs.HubState.{IsBeforeOrBehind, IsFitting, MakesStep, StandsForMachine, StepsSafely, may_write, rules_of};
+ghost use Rattle.zodb_core.specs.HubState.{IsBeforeOrBehind, IsFitting, MakesStep, StandsForMachine, StepsByClock, StepsSafely, may_write, rules_of};
 ghost use Rattle.zodb_core.specs.Machine.{Machine, is_open_in};
 ghost use Rattle.zodb_core.specs.Outcomes.{NoMemory, ReadingFailed, StoreFailed, is_pack, keeps_store, outcome_of, reads_store, takes_memory};
 ghost use Rattle.zodb_core.specs.Seen.{KeepsSeen};
@@ -25,7 +25,8 @@ impl<St: Store, R: Resolver, F: Refs> Hub<St, R, F> {
     /// may fail, memory run out or the store fail, and then the step isn't made. After a store fault
     /// every session is closed, those that are opened later too.
     ///
-    /// The clock is read once by each vote or undo that has changes to write, and by no other step.
+    /// The clock is read once by each vote or undo that has changes to write, and by no other step. That
+    /// it was read, and which stamp it gave, is told of each step, whether or not the store tells its list.
     /// Where the store's list lies on a disk, each crash in a step leaves the list before it or the one
     /// behind it.
     ///
@@ -33,7 +34,7 @@ impl<St: Store, R: Resolver, F: Refs> Hub<St, R, F> {
     /// is put in the place of the list. Every object that references lead to from the root, in a view above
     /// the pack's tid, has the content that it had. One that isn't made for a failed read or for want of
     /// memory leaves Main as it was, but may have written Side.
-    #[tactic(auto, using(crate::proofs::Votes::closed_failed, crate::proofs::Votes::closed_now, crate::proofs::Votes::moments_kept, crate::proofs::Votes::moments_same, zb_model::specs::StayLaws::stays_same, zb_model::specs::StayLaws::stays_from, crate::specs::SwitchLaws::unpacked_keeps))]
+    #[tactic(auto, using(crate::proofs::Stepping::by_clock, crate::proofs::Stepping::still_clock, crate::proofs::Votes::closed_failed, crate::proofs::Votes::closed_now, crate::proofs::Votes::moments_kept, crate::proofs::Votes::moments_same, zb_model::specs::StayLaws::stays_same, zb_model::specs::StayLaws::stays_from, crate::specs::SwitchLaws::unpacked_keeps))]
     pub fn step<C: Clock>(
         &mut self,
         alloc: Global,
@@ -44,6 +45,8 @@ impl<St: Store, R: Resolver, F: Refs> Hub<St, R, F> {
         requires fitting { IsFitting request }
         ensures step { St.told → (m : Machine) → StandsForMachine self.old m →
             MakesStep (rules_of R.rules F.named self.old) m session request
+            result self.old self.new (C.stamps clock.old) (C.stamps clock.new) }
+        ensures clock { StepsByClock St.told (rules_of R.rules F.named self.old) session request
             result self.old self.new (C.stamps clock.old) (C.stamps clock.new) }
         ensures safe { StepsSafely (is_pack request) result self.old self.new }
         ensures side { St.lasts → is_pack request ≡ false → StaysAs Side self.old.store.log self.new.store.log }

@@ -6,8 +6,8 @@ ghost use Rattle.zb_ids.specs.declared.stamp.Stamp.{Stamp};
 ghost use Rattle.zb_volume.specs.declared.areas.Area.TheVariants.{Main, Side};
 ghost use Rattle.zb_volume.specs.Moments.{LeavesOnly, StaysAs};
 ghost use Rattle.zb_model.specs.Voting.{IsFilled, NamesRevision, voted_change};
-ghost use Rattle.zodb_core.specs.Holding.{AreShort, IsNextTid, VotesFor, held_refusal, is_fault};
-ghost use Rattle.zodb_core.specs.HubState.{IsBeforeOrBehind, MakesStep, StandsForMachine, StepsSafely, rules_of};
+ghost use Rattle.zodb_core.specs.Holding.{AreShort, HoldsByClock, IsNextTid, held_refusal, is_fault};
+ghost use Rattle.zodb_core.specs.HubState.{IsBeforeOrBehind, StandsForMachine, StepsByClock, StepsSafely, rules_of};
 ghost use Rattle.zodb_core.specs.Machine.{Machine, is_open_in};
 ghost use Rattle.zodb_core.specs.Replies.{undo_reply, vote_reply};
 
@@ -132,9 +132,7 @@ impl<St: Store, R: Resolver, F: Refs> Hub<St, R, F> {
         requires distinct { IsDistinct nat_eq (map (λ c. c.oid) changes) }
         requires filled { All (λ c. IsFilled c.content) changes }
         requires sound { St.told → All (λ c. NamesRevision self.old.store.list c.oid c.content) changes }
-        ensures step { St.told → (m : Machine) → StandsForMachine self.old m → (q : Request) →
-            VotesFor (rules_of R.rules F.named self.old) m session q texts (Ok (map (voted_change m.list) changes)) →
-            MakesStep (rules_of R.rules F.named self.old) m session q
+        ensures step { HoldsByClock St.told (rules_of R.rules F.named self.old) session texts changes
             result self.old self.new (C.stamps clock.old) (C.stamps clock.new) }
         ensures safe { StepsSafely false result self.old self.new }
         ensures begun { self.old.store.begun ≡ None → self.new.store.begun ≡ None }
@@ -196,8 +194,7 @@ impl<St: Store, R: Resolver, F: Refs> Hub<St, R, F> {
         requires whole { self.old.store.broken ≡ false }
         requires is_open { is_open_in self.old.sessions session ≡ true }
         requires short { AreShort texts }
-        ensures step { St.told → (m : Machine) → StandsForMachine self.old m →
-            MakesStep (rules_of R.rules F.named self.old) m session
+        ensures step { StepsByClock St.told (rules_of R.rules F.named self.old) session
             (Request.Vote texts.user texts.description texts.extension pending)
             result self.old self.new (C.stamps clock.old) (C.stamps clock.new) }
         ensures safe { StepsSafely false result self.old self.new }
@@ -230,8 +227,8 @@ impl<St: Store, R: Resolver, F: Refs> Hub<St, R, F> {
         requires is_open { is_open_in self.old.sessions session ≡ true }
         requires short { AreShort texts }
         requires bare { texts.extension ≡ [] }
-        ensures step { St.told → (m : Machine) → StandsForMachine self.old m →
-            MakesStep (rules_of R.rules F.named self.old) m session (Request.Undo texts.user texts.description tids)
+        ensures step { StepsByClock St.told (rules_of R.rules F.named self.old) session
+            (Request.Undo texts.user texts.description tids)
             result self.old self.new (C.stamps clock.old) (C.stamps clock.new) }
         ensures safe { StepsSafely false result self.old self.new }
         ensures begun { self.old.store.begun ≡ None → self.new.store.begun ≡ None }
