@@ -1,6 +1,6 @@
 //! The outside of a server: doors that accept links, workers and what gives them, spawners that run
-//! them, and one sink for two handles; in memory, where all is told, and over the host, where little
-//! is.
+//! them, and one sink for two handles; in memory, where all is told, and over the host, where
+//! little is.
 #![tactic(auto)]
 
 mod counted_spawner;

@@ -43,9 +43,9 @@ impl<O: Sink + Drop> Model for MemoryDoors<O> {
 }
 
 impl<O: Sink + Drop> MemoryDoors<O> {
-    /// Doors that give these links, each a source of what its client sends and the sink that answers
-    /// it. No call was made yet. The calls whose numbers are in `failing` will fail, the first call
-    /// being number 1, be it of `bind` or of `accept`.
+    /// Doors that give these links, each a source of what its client sends and the sink that
+    /// answers it. No call was made yet. The calls whose numbers are in `failing` will fail, the
+    /// first call being number 1, be it of `bind` or of `accept`.
     pub fn new(links: Vec<(MemorySource, O)>, failing: Vec<u64>) -> MemoryDoors<O>
         ensures { result ≡ record {
           left = links.items;

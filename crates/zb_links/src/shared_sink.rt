@@ -9,10 +9,11 @@ use std::alloc::{AllocError, Global};
 use std::sync::{Arc, Mutex, Wait};
 use zb_outside::{Failed, Sink, write_all};
 
-/// A handle of a sink that has another handle, so that two threads can write to it. Each write gives
-/// all its bytes to the sink in one hold of a lock, so no write of the other handle comes between
-/// them. Once a write of either failed, some front of its bytes may have been taken, and each later
-/// write of both fails, and is counted at the handle that made it. It tells nothing of the bytes.
+/// A handle of a sink that has another handle, so that two threads can write to it. Each write
+/// gives all its bytes to the sink in one hold of a lock, so no write of the other handle comes
+/// between them. Once a write of either failed, some front of its bytes may have been taken, and
+/// each later write of both fails, and is counted at the handle that made it. It tells nothing of
+/// the bytes.
 #[derive(Drop)]
 pub struct SharedSink<'a, O: Sink + Drop, R: Wait> {
     rt: &'a R,
@@ -68,7 +69,8 @@ impl<O: Sink + Drop> Guarded<O> {
     /// Gives all the bytes to the sink, unless a write failed before.
     #[tactic(auto, using(zb_outside::specs::WrittenLaws::no_front))]
     fn write_whole(&mut self, bytes: &[u8]) -> Result<(), Failed>
-        ensures ok { OnOk result (Appends (O.taken self.old.sink) (O.taken self.new.sink) bytes.now) }
+        ensures ok { OnOk result
+            (Appends (O.taken self.old.sink) (O.taken self.new.sink) bytes.now) }
         ensures err { OnErr result
             (AppendsPrefix (O.taken self.old.sink) (O.taken self.new.sink) bytes.now) }
         ensures lasting { self.old.has_failed ≡ true → IsErr result × (self.new ≡ self.old) }

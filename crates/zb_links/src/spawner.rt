@@ -42,13 +42,13 @@ pub trait Spawner {
         ensures rose { Rose (faults self.old) (faults self.new) };
 
     /// Runs each worker that the feeder gives, until it gives no further one, and has it take back
-    /// what they hand back, in the order in which they were given. Workers with threads of their own
-    /// are waited for once no further one is given. The feeder comes back with either answer.
+    /// what they hand back, in the order in which they were given. Workers with threads of their
+    /// own are waited for once no further one is given. The feeder comes back with either answer.
     ///
     /// It is `NoWorkers` only where a start is to fail, or where there are threads and one can't be
-    /// made or there is no memory for its place; and then the count of faults rises. The worker that
-    /// wasn't started is dropped, if there was one already, and the feeder isn't asked for another;
-    /// the others are waited for and taken back.
+    /// made or there is no memory for its place; and then the count of faults rises. The worker
+    /// that wasn't started is dropped, if there was one already, and the feeder isn't asked for
+    /// another; the others are waited for and taken back.
     final fn run<F: Feeder, R: Threads + Wait + Sync>(
         &mut self,
         rt: &R,
