@@ -1,7 +1,7 @@
 -- A check under way, of objects that its caller reads.
 use Rattle.std.proofs.Common.{◌≡◌, ℕ, ◌+◌, ◌-◌, ◌<◌, ◌^◌, true, false, List, [], ◌∷◌, ◌++◌, length, Option, Some, None, Result, refl, arith, sym, ◌∙◌, ap, ap₂, subst}
 use Rattle.std.specs.Option.{option_copied, option_map}
-use Rattle.pickle_value.specs.Graph.{Graph}
+use Rattle.pickle_graph.specs.Graph.{Graph}
 use Rattle.btree_family.specs.Classes.{Class, class_seen}
 use Rattle.btree_shapes.specs.declared.node.Node.{Node}
 use Rattle.btree_shapes.specs.Nodes.{Held, Nothing, Foreign, Holds, class_held, held_in, objects_of}

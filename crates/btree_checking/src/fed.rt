@@ -2,7 +2,7 @@
 
 ghost use Rattle.std.specs.Prelude.{◌≡◌, ◌-◌, ◌<◌, ◌^◌, ℕ, List, Option, Some, None, false, length, IfOk};
 ghost use Rattle.btree_family.specs.Classes.{class_seen};
-ghost use Rattle.pickle_value.specs.Graph.{Graph};
+ghost use Rattle.pickle_graph.specs.Graph.{Graph};
 ghost use Rattle.btree_shapes.specs.Nodes.{Holds, class_held, objects_of};
 ghost use Rattle.btree_checking.specs.Fed.{HasLessRoom, IsCheckOf, IsProgressOf, room_of, wanted_by};
 ghost use Rattle.btree_checking.specs.Rules.{was_visited};

@@ -163,17 +163,17 @@ pub(crate) fn pack_file<K: Sink, V: Volume + Drop, C: Clock>(
     clock: &mut C,
 ) -> (Status, V)
     ensures outcome { PackSays result.0 tid V.told
-        (outside (K.taken sink.old) (K.faults sink.old) (C.stamps clock.old) (V.log volume) (V.read_faults volume) (V.write_faults volume))
-        (outside (K.taken sink.new) (K.faults sink.new) (C.stamps clock.new) (V.log result.1) (V.read_faults result.1) (V.write_faults result.1)) }
-    ensures complete { V.told → ¬ Rose (V.read_faults volume) (V.read_faults result.1) → ¬ Rose (V.write_faults volume) (V.write_faults result.1) → ¬ Rose (K.faults sink.old) (K.faults sink.new)
-        → (list : List Transaction) (cut : Option ℕ) → StandsFor (seen (V.log volume) Main) list cut → IsUnlessMemory result.0 Status.Done }
-    ensures damaged { V.told → ¬ Rose (V.read_faults volume) (V.read_faults result.1) → ¬ Rose (V.write_faults volume) (V.write_faults result.1)
-        → IsNoList (seen (V.log volume) Main) → IsUnlessMemory result.0 Status.Damaged }
-    ensures harmed { V.told → IsNoList (seen (V.log volume) Main) → V.log result.1 ≡ V.log volume }
-    ensures others { ¬ (result.0 ≡ Status.StoreFault) → V.write_faults result.1 ≡ V.write_faults volume }
+        (outside (K.taken sink.old) (K.faults sink.old) (C.stamps clock.old) (V.state volume))
+        (outside (K.taken sink.new) (K.faults sink.new) (C.stamps clock.new) (V.state result.1)) }
+    ensures complete { V.told → ¬ Rose (V.state volume).read_faults (V.state result.1).read_faults → ¬ Rose (V.state volume).write_faults (V.state result.1).write_faults → ¬ Rose (K.faults sink.old) (K.faults sink.new)
+        → (list : List Transaction) (cut : Option ℕ) → StandsFor (seen (V.state volume).log Main) list cut → IsUnlessMemory result.0 Status.Done }
+    ensures damaged { V.told → ¬ Rose (V.state volume).read_faults (V.state result.1).read_faults → ¬ Rose (V.state volume).write_faults (V.state result.1).write_faults
+        → IsNoList (seen (V.state volume).log Main) → IsUnlessMemory result.0 Status.Damaged }
+    ensures harmed { V.told → IsNoList (seen (V.state volume).log Main) → (V.state result.1).log ≡ (V.state volume).log }
+    ensures others { ¬ (result.0 ≡ Status.StoreFault) → (V.state result.1).write_faults ≡ (V.state volume).write_faults }
     ensures sink_counted { K.faults sink.old ≤ K.faults sink.new }
-    ensures read_counted { V.read_faults volume ≤ V.read_faults result.1 }
-    ensures counted { V.write_faults volume ≤ V.write_faults result.1 }
+    ensures read_counted { (V.state volume).read_faults ≤ (V.state result.1).read_faults }
+    ensures counted { (V.state volume).write_faults ≤ (V.state result.1).write_faults }
 {
     match FileStore::create_or_open(alloc, volume, clock) {
         Ok((store, cut)) => {

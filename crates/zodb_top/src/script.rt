@@ -87,27 +87,27 @@ pub(crate) fn run_source<S: Source, K: Sink, V: Volume + Drop, C: Clock>(
     clock: &mut C,
 ) -> (Status, V)
     ensures outcome { RunSays result.0 V.told (Rose (S.faults source.old) (S.faults source.new)) (S.left source.old)
-        (outside (K.taken sink.old) (K.faults sink.old) (C.stamps clock.old) (V.log volume) (V.read_faults volume) (V.write_faults volume))
-        (outside (K.taken sink.new) (K.faults sink.new) (C.stamps clock.new) (V.log result.1) (V.read_faults result.1) (V.write_faults result.1)) }
+        (outside (K.taken sink.old) (K.faults sink.old) (C.stamps clock.old) (V.state volume))
+        (outside (K.taken sink.new) (K.faults sink.new) (C.stamps clock.new) (V.state result.1)) }
     ensures at_end { IsTrue (is_read result.0) → IsAtEnd (S.left source.new) }
     ensures taken { (bytes : List ℕ) × Consumes (S.left source.old) (S.left source.new) bytes × (length bytes ≤ most_bytes + 1) }
-    ensures complete { V.told → IfSome (S.left source.old) (λ input. (turns : List Turn) (list : List Transaction) (cut : Option ℕ) → IsInput input turns → StandsFor (seen (V.log volume) Main) list cut
+    ensures complete { V.told → IfSome (S.left source.old) (λ input. (turns : List Turn) (list : List Transaction) (cut : Option ℕ) → IsInput input turns → StandsFor (seen (V.state volume).log Main) list cut
         → ¬ Rose (S.faults source.old) (S.faults source.new) → ¬ Rose (K.faults sink.old) (K.faults sink.new)
-        → ¬ Rose (V.read_faults volume) (V.read_faults result.1) → ¬ Rose (V.write_faults volume) (V.write_faults result.1) → IsUnlessMemory result.0 Status.Done) }
-    ensures damaged { V.told → IfSome (S.left source.old) (λ input. (turns : List Turn) → IsInput input turns → IsNoList (seen (V.log volume) Main)
+        → ¬ Rose (V.state volume).read_faults (V.state result.1).read_faults → ¬ Rose (V.state volume).write_faults (V.state result.1).write_faults → IsUnlessMemory result.0 Status.Done) }
+    ensures damaged { V.told → IfSome (S.left source.old) (λ input. (turns : List Turn) → IsInput input turns → IsNoList (seen (V.state volume).log Main)
         → ¬ Rose (S.faults source.old) (S.faults source.new)
-        → ¬ Rose (V.read_faults volume) (V.read_faults result.1) → ¬ Rose (V.write_faults volume) (V.write_faults result.1) → IsUnlessMemory result.0 Status.Damaged) }
+        → ¬ Rose (V.state volume).read_faults (V.state result.1).read_faults → ¬ Rose (V.state volume).write_faults (V.state result.1).write_faults → IsUnlessMemory result.0 Status.Damaged) }
     ensures bad_line { IfSome (S.left source.old) (λ input. (n : ℕ) → first_limit input ≡ None → IsBadLine input n
         → ¬ Rose (S.faults source.old) (S.faults source.new) → IsUnlessMemory result.0 Status.BadLine) }
     ensures limit { IfSome (S.left source.old) (λ input. (l : WhichLimit) → first_limit input ≡ Some l
         → ¬ Rose (S.faults source.old) (S.faults source.new) → IsUnlessMemory result.0 Status.Limit) }
-    ensures harmed { V.told → IsNoList (seen (V.log volume) Main) → V.log result.1 ≡ V.log volume }
-    ensures others { ¬ (result.0 ≡ Status.StoreFault) → V.write_faults result.1 ≡ V.write_faults volume }
-    ensures side { V.told → PacksNothing (S.left source.old) → seen (V.log volume) Main ≢ [] → StaysAs Side (V.log volume) (V.log result.1) }
+    ensures harmed { V.told → IsNoList (seen (V.state volume).log Main) → (V.state result.1).log ≡ (V.state volume).log }
+    ensures others { ¬ (result.0 ≡ Status.StoreFault) → (V.state result.1).write_faults ≡ (V.state volume).write_faults }
+    ensures side { V.told → PacksNothing (S.left source.old) → seen (V.state volume).log Main ≢ [] → StaysAs Side (V.state volume).log (V.state result.1).log }
     ensures source_counted { S.faults source.old ≤ S.faults source.new }
     ensures sink_counted { K.faults sink.old ≤ K.faults sink.new }
-    ensures read_counted { V.read_faults volume ≤ V.read_faults result.1 }
-    ensures counted { V.write_faults volume ≤ V.write_faults result.1 }
+    ensures read_counted { (V.state volume).read_faults ≤ (V.state result.1).read_faults }
+    ensures counted { (V.state volume).write_faults ≤ (V.state result.1).write_faults }
 {
     let input = match read_all(alloc, source, MOST_BYTES) {
         Ok(input) => input,

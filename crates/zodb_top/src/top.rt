@@ -57,34 +57,34 @@ pub fn zodb_main<S: Source, K: Sink, V: Volume + Drop, C: Clock>(
         → IsWritten (K.taken sink.old) (K.taken sink.new) (K.faults sink.old) (K.faults sink.new) usage_line }
     ensures usage_untold { command_of (map string_bytes words.now) ≡ None → result.0 ≡ Status.NoMemory → K.taken sink.new ≡ K.taken sink.old }
     ensures usage_alone { command_of (map string_bytes words.now) ≡ None → IsUnopened
-        (outside (K.taken sink.old) (K.faults sink.old) (C.stamps clock.old) (V.log volume) (V.read_faults volume) (V.write_faults volume))
-        (outside (K.taken sink.new) (K.faults sink.new) (C.stamps clock.new) (V.log result.1) (V.read_faults result.1) (V.write_faults result.1)) }
+        (outside (K.taken sink.old) (K.faults sink.old) (C.stamps clock.old) (V.state volume))
+        (outside (K.taken sink.new) (K.faults sink.new) (C.stamps clock.new) (V.state result.1)) }
 
     // What each status of `run` says: its cause, how far the run came, what was written, which stamps the
     // clock gave, and what Main stands for, as it is and whatever a crash leaves or left.
     ensures run { command_of (map string_bytes words.now) ≡ Some Run
         → RunSays result.0 V.told (Rose (S.faults source.old) (S.faults source.new)) (S.left source.old)
-        (outside (K.taken sink.old) (K.faults sink.old) (C.stamps clock.old) (V.log volume) (V.read_faults volume) (V.write_faults volume))
-        (outside (K.taken sink.new) (K.faults sink.new) (C.stamps clock.new) (V.log result.1) (V.read_faults result.1) (V.write_faults result.1)) }
+        (outside (K.taken sink.old) (K.faults sink.old) (C.stamps clock.old) (V.state volume))
+        (outside (K.taken sink.new) (K.faults sink.new) (C.stamps clock.new) (V.state result.1)) }
 
     // What each status of the other commands says.
     ensures asked { (asked : Asked) → command_of (map string_bytes words.now) ≡ Some (Ask asked) → AskSays result.0 asked V.told
-        (outside (K.taken sink.old) (K.faults sink.old) (C.stamps clock.old) (V.log volume) (V.read_faults volume) (V.write_faults volume))
-        (outside (K.taken sink.new) (K.faults sink.new) (C.stamps clock.new) (V.log result.1) (V.read_faults result.1) (V.write_faults result.1)) }
+        (outside (K.taken sink.old) (K.faults sink.old) (C.stamps clock.old) (V.state volume))
+        (outside (K.taken sink.new) (K.faults sink.new) (C.stamps clock.new) (V.state result.1)) }
 
     // What each status of `pack` says: its cause, what was written, and what Main stands for, as it is and whatever a
     // crash leaves or left.
     ensures packs { (tid : ℕ) → command_of (map string_bytes words.now) ≡ Some (Pack tid) → PackSays result.0 tid V.told
-        (outside (K.taken sink.old) (K.faults sink.old) (C.stamps clock.old) (V.log volume) (V.read_faults volume) (V.write_faults volume))
-        (outside (K.taken sink.new) (K.faults sink.new) (C.stamps clock.new) (V.log result.1) (V.read_faults result.1) (V.write_faults result.1)) }
+        (outside (K.taken sink.old) (K.faults sink.old) (C.stamps clock.old) (V.state volume))
+        (outside (K.taken sink.new) (K.faults sink.new) (C.stamps clock.new) (V.state result.1)) }
 
     // The commands that ask leave the list as it was, at every moment and whatever their status, and Main's bytes, but for a tail.
     ensures left { (asked : Asked) → command_of (map string_bytes words.now) ≡ Some (Ask asked) → V.told → IsLeft V.told
-        (outside (K.taken sink.old) (K.faults sink.old) (C.stamps clock.old) (V.log volume) (V.read_faults volume) (V.write_faults volume))
-        (outside (K.taken sink.new) (K.faults sink.new) (C.stamps clock.new) (V.log result.1) (V.read_faults result.1) (V.write_faults result.1)) }
+        (outside (K.taken sink.old) (K.faults sink.old) (C.stamps clock.old) (V.state volume))
+        (outside (K.taken sink.new) (K.faults sink.new) (C.stamps clock.new) (V.state result.1)) }
 
     // A file that is damaged is left as it was, whatever is asked.
-    ensures harmed { V.told → IsNoList (seen (V.log volume) Main) → V.log result.1 ≡ V.log volume }
+    ensures harmed { V.told → IsNoList (seen (V.state volume).log Main) → (V.state result.1).log ≡ (V.state volume).log }
 
     // A script is read to its end, and at most to the first byte past its limit; nothing else is read.
     ensures at_end { command_of (map string_bytes words.now) ≡ Some Run → IsTrue (is_read result.0) → IsAtEnd (S.left source.new) }
@@ -93,13 +93,13 @@ pub fn zodb_main<S: Source, K: Sink, V: Volume + Drop, C: Clock>(
 
     // Each script has its status over each file, where no call failed, unless memory runs out.
     ensures complete { command_of (map string_bytes words.now) ≡ Some Run → V.told
-        → IfSome (S.left source.old) (λ input. (turns : List Turn) (list : List Transaction) (cut : Option ℕ) → IsInput input turns → StandsFor (seen (V.log volume) Main) list cut
+        → IfSome (S.left source.old) (λ input. (turns : List Turn) (list : List Transaction) (cut : Option ℕ) → IsInput input turns → StandsFor (seen (V.state volume).log Main) list cut
         → ¬ Rose (S.faults source.old) (S.faults source.new) → ¬ Rose (K.faults sink.old) (K.faults sink.new)
-        → ¬ Rose (V.read_faults volume) (V.read_faults result.1) → ¬ Rose (V.write_faults volume) (V.write_faults result.1) → IsUnlessMemory result.0 Status.Done) }
+        → ¬ Rose (V.state volume).read_faults (V.state result.1).read_faults → ¬ Rose (V.state volume).write_faults (V.state result.1).write_faults → IsUnlessMemory result.0 Status.Done) }
     ensures run_damaged { command_of (map string_bytes words.now) ≡ Some Run → V.told
-        → IfSome (S.left source.old) (λ input. (turns : List Turn) → IsInput input turns → IsNoList (seen (V.log volume) Main)
+        → IfSome (S.left source.old) (λ input. (turns : List Turn) → IsInput input turns → IsNoList (seen (V.state volume).log Main)
         → ¬ Rose (S.faults source.old) (S.faults source.new)
-        → ¬ Rose (V.read_faults volume) (V.read_faults result.1) → ¬ Rose (V.write_faults volume) (V.write_faults result.1) → IsUnlessMemory result.0 Status.Damaged) }
+        → ¬ Rose (V.state volume).read_faults (V.state result.1).read_faults → ¬ Rose (V.state volume).write_faults (V.state result.1).write_faults → IsUnlessMemory result.0 Status.Damaged) }
     ensures bad_line { command_of (map string_bytes words.now) ≡ Some Run → IfSome (S.left source.old) (λ input. (n : ℕ) → first_limit input ≡ None → IsBadLine input n
         → ¬ Rose (S.faults source.old) (S.faults source.new) → IsUnlessMemory result.0 Status.BadLine) }
     ensures limit { command_of (map string_bytes words.now) ≡ Some Run → IfSome (S.left source.old) (λ input. (l : WhichLimit) → first_limit input ≡ Some l
@@ -107,30 +107,30 @@ pub fn zodb_main<S: Source, K: Sink, V: Volume + Drop, C: Clock>(
 
     // And so has each of the other commands.
     ensures listed { (asked : Asked) → command_of (map string_bytes words.now) ≡ Some (Ask asked) → V.told
-        → ¬ Rose (V.read_faults volume) (V.read_faults result.1) → ¬ Rose (V.write_faults volume) (V.write_faults result.1) → ¬ Rose (K.faults sink.old) (K.faults sink.new)
-        → (list : List Transaction) (cut : Option ℕ) → StandsFor (seen (V.log volume) Main) list cut → IsUnlessMemory result.0 Status.Done }
+        → ¬ Rose (V.state volume).read_faults (V.state result.1).read_faults → ¬ Rose (V.state volume).write_faults (V.state result.1).write_faults → ¬ Rose (K.faults sink.old) (K.faults sink.new)
+        → (list : List Transaction) (cut : Option ℕ) → StandsFor (seen (V.state volume).log Main) list cut → IsUnlessMemory result.0 Status.Done }
     ensures damaged { (asked : Asked) → command_of (map string_bytes words.now) ≡ Some (Ask asked) → V.told
-        → ¬ Rose (V.read_faults volume) (V.read_faults result.1) → ¬ Rose (V.write_faults volume) (V.write_faults result.1)
-        → IsNoList (seen (V.log volume) Main) → IsUnlessMemory result.0 Status.Damaged }
+        → ¬ Rose (V.state volume).read_faults (V.state result.1).read_faults → ¬ Rose (V.state volume).write_faults (V.state result.1).write_faults
+        → IsNoList (seen (V.state volume).log Main) → IsUnlessMemory result.0 Status.Damaged }
     ensures packed { (tid : ℕ) → command_of (map string_bytes words.now) ≡ Some (Pack tid) → V.told
-        → ¬ Rose (V.read_faults volume) (V.read_faults result.1) → ¬ Rose (V.write_faults volume) (V.write_faults result.1) → ¬ Rose (K.faults sink.old) (K.faults sink.new)
-        → (list : List Transaction) (cut : Option ℕ) → StandsFor (seen (V.log volume) Main) list cut → IsUnlessMemory result.0 Status.Done }
+        → ¬ Rose (V.state volume).read_faults (V.state result.1).read_faults → ¬ Rose (V.state volume).write_faults (V.state result.1).write_faults → ¬ Rose (K.faults sink.old) (K.faults sink.new)
+        → (list : List Transaction) (cut : Option ℕ) → StandsFor (seen (V.state volume).log Main) list cut → IsUnlessMemory result.0 Status.Done }
     ensures pack_damaged { (tid : ℕ) → command_of (map string_bytes words.now) ≡ Some (Pack tid) → V.told
-        → ¬ Rose (V.read_faults volume) (V.read_faults result.1) → ¬ Rose (V.write_faults volume) (V.write_faults result.1)
-        → IsNoList (seen (V.log volume) Main) → IsUnlessMemory result.0 Status.Damaged }
+        → ¬ Rose (V.state volume).read_faults (V.state result.1).read_faults → ¬ Rose (V.state volume).write_faults (V.state result.1).write_faults
+        → IsNoList (seen (V.state volume).log Main) → IsUnlessMemory result.0 Status.Damaged }
 
     // No call that would change the volume has failed, unless the status says so.
-    ensures written { ¬ (result.0 ≡ Status.StoreFault) → V.write_faults result.1 ≡ V.write_faults volume }
+    ensures written { ¬ (result.0 ≡ Status.StoreFault) → (V.state result.1).write_faults ≡ (V.state volume).write_faults }
 
     // Side is as it was, at every moment and whatever the status, unless something is packed, or Main was empty, so that
     // the file had to be made.
-    ensures side { V.told → KeepsSide (command_of (map string_bytes words.now)) (S.left source.old) → seen (V.log volume) Main ≢ [] → StaysAs Side (V.log volume) (V.log result.1) }
+    ensures side { V.told → KeepsSide (command_of (map string_bytes words.now)) (S.left source.old) → seen (V.state volume).log Main ≢ [] → StaysAs Side (V.state volume).log (V.state result.1).log }
 
     // The counts of faults never fall.
     ensures source_counted { S.faults source.old ≤ S.faults source.new }
     ensures sink_counted { K.faults sink.old ≤ K.faults sink.new }
-    ensures read_counted { V.read_faults volume ≤ V.read_faults result.1 }
-    ensures write_counted { V.write_faults volume ≤ V.write_faults result.1 }
+    ensures read_counted { (V.state volume).read_faults ≤ (V.state result.1).read_faults }
+    ensures write_counted { (V.state volume).write_faults ≤ (V.state result.1).write_faults }
 {
     let Ok(read) = command_of(alloc, words) else {
         return (Status::NoMemory, volume);

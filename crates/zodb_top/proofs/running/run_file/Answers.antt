@@ -17,29 +17,29 @@ returns-in-Ok-clause-outcome g c =
     let V = g.V.Volume in
     let K = g.K.Sink in
     let C = g.C.Clock in
-    let before : Outside = outside (K.taken c.args.sink.now) (K.faults c.args.sink.now) (C.stamps c.args.clock.now) (V.log c.args.volume) (V.read_faults c.args.volume) (V.write_faults c.args.volume) in
-    let after : Outside = outside (K.taken c.run_over_store-status.new.sink) (K.faults c.run_over_store-status.new.sink) (C.stamps c.run_over_store-status.new.clock) (V.log c.into_volume.result) (V.read_faults c.into_volume.result) (V.write_faults c.into_volume.result) in
+    let before : Outside = outside (K.taken c.args.sink.now) (K.faults c.args.sink.now) (C.stamps c.args.clock.now) (V.state c.args.volume) in
+    let after : Outside = outside (K.taken c.run_over_store-status.new.sink) (K.faults c.run_over_store-status.new.sink) (C.stamps c.run_over_store-status.new.clock) (V.state c.into_volume.result) in
     let s = c.in-Ok.store in
     let t = c.run_over_store-status.result.1 in
     let state : StoreState = record {
-      list = listed (seen (V.log s.volume) Main);
-      voted = option_map (λ x. voted_in x.tid s.index.end (seen (V.log s.volume) Main)) s.index.staged;
-      begun = option_map (λ x. copied_in x.tid (seen (V.log s.volume) Side)) s.copy;
+      list = listed (seen (V.state s.volume).log Main);
+      voted = option_map (λ x. voted_in x.tid s.index.end (seen (V.state s.volume).log Main)) s.index.staged;
+      begun = option_map (λ x. copied_in x.tid (seen (V.state s.volume).log Side)) s.copy;
       newest = s.index.newest;
       broken = s.broken;
-      log = V.log s.volume;
-      faults = V.write_faults s.volume;
-      read_faults = V.read_faults s.volume;
+      log = (V.state s.volume).log;
+      faults = (V.state s.volume).write_faults;
+      read_faults = (V.state s.volume).read_faults;
     } in
     let state' : StoreState = record {
-      list = listed (seen (V.log t.volume) Main);
-      voted = option_map (λ x. voted_in x.tid t.index.end (seen (V.log t.volume) Main)) t.index.staged;
-      begun = option_map (λ x. copied_in x.tid (seen (V.log t.volume) Side)) t.copy;
+      list = listed (seen (V.state t.volume).log Main);
+      voted = option_map (λ x. voted_in x.tid t.index.end (seen (V.state t.volume).log Main)) t.index.staged;
+      begun = option_map (λ x. copied_in x.tid (seen (V.state t.volume).log Side)) t.copy;
       newest = t.index.newest;
       broken = t.broken;
-      log = V.log t.volume;
-      faults = V.write_faults t.volume;
-      read_faults = V.read_faults t.volume;
+      log = (V.state t.volume).log;
+      faults = (V.state t.volume).write_faults;
+      read_faults = (V.state t.volume).read_faults;
     } in
     over_file c.run_over_store-status.result.0 V.told c.args.turns.now before after state state' (C.stamps c.create_or_open.new.clock) c.in-Ok.cut
     (λ told. record {
