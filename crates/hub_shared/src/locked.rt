@@ -9,7 +9,7 @@ ghost use Rattle.zodb_core.specs.HubState.{IsFitting, StandsForMachine, counts_o
 ghost use Rattle.zodb_core.specs.Machine.{Machine, machine_over};
 ghost use Rattle.zodb_core.specs.Waiting.{is_held_by_another, needs_vote};
 ghost use Rattle.hub_shared.specs.Calls.{HasCalled, HasEntered, IsHeard, IsNotBusy, IsRefusedBehind};
-ghost use Rattle.hub_shared.specs.Seats.{HasPosted, HoldsSession, IsPosted, Listening, OnlyLooks, known, is_quiet_for, machine_of, waits_for};
+ghost use Rattle.hub_shared.specs.Seats.{HasPosted, HoldsSession, IsPosted, Listening, OnlyLooks, is_quiet_for, keeper_for, known, machine_of, waits_for};
 
 use crate::entry::HistoryEntry;
 use crate::heard::Heard;
@@ -42,7 +42,8 @@ impl<St: Store, R: Resolver, F: Refs, C: Clock, J: Origin> Model for LockedHub<S
 
     ghost view = { λ d. record { hub = d.hub; seen = d.seat.seen } };
 
-    ghost invariant = { λ d. LockKeeps St.told J.rules (rules_of R.rules F.named d.hub) J.list J.counts d.seat d.hub };
+    ghost invariant = { λ d. LockKeeps St.told J.rules (rules_of R.rules F.named d.hub) J.list
+        J.counts d.seat d.hub };
 }
 
 /// Adds the entry of a step, for which the hub and its clock have made it.
@@ -55,9 +56,11 @@ fn post_step<St: Store, R: Resolver, F: Refs, J: Origin, Q: Asked, N: NextEntry<
     hub: &Hub<St, R, F>,
 )
     requires named { (e : Entry) → N.is_next e →
-        IsPosted St.told J.rules (rules_of R.rules F.named hub.now) J.list J.counts seat.old.seen hub.now session Q.request reply.now e }
+        IsPosted St.told J.rules (rules_of R.rules F.named hub.now) J.list J.counts seat.old.seen
+        hub.now session Q.request reply.now e }
     requires next { MayPublish session_of N.is_next count seat.old }
-    ensures { HasPosted St.told J.rules (rules_of R.rules F.named hub.now) J.list J.counts seat.old.seen hub.now session Q.request reply.now seat.new }
+    ensures { HasPosted St.told J.rules (rules_of R.rules F.named hub.now) J.list J.counts
+        seat.old.seen hub.now session Q.request reply.now seat.new }
 {
     word.publish::<N>(seat, count);
 }
@@ -75,7 +78,8 @@ fn post_opening<J: ClockName, N: NextEntry<HistoryEntry>>(
     requires idle { seat.old.session ≡ None }
     requires new { entries_of session_of session seat.old.seen ≡ [] }
     requires count { count ≡ length seat.old.seen + 1 }
-    ensures { seat.new ≡ record { has_pen = true; session = Some session; last = length seat.old.seen; seen = seat.old.seen ++ Opened session ∷ []; told = [] } }
+    ensures { seat.new ≡ keeper_for session (length seat.old.seen)
+        (seat.old.seen ++ Opened session ∷ []) }
 {
     word.publish::<N>(seat, count);
 }
@@ -116,14 +120,7 @@ impl<St: Store, R: Resolver, F: Refs, C: Clock, J: Origin> LockedHub<St, R, F, C
         ensures { result.1 ≡ looker opening_view }
     {
         let seen = word.copy(&mut seat);
-        (
-            LockedHub {
-                hub,
-                clock,
-                seat,
-            },
-            seen,
-        )
+        (LockedHub { hub, clock, seat }, seen)
     }
 
     /// Whether a session that needs the vote has to wait for another's.
@@ -168,7 +165,14 @@ impl<St: Store, R: Resolver, F: Refs, C: Clock, J: Origin> LockedHub<St, R, F, C
     ) -> ClockSeat<HistoryEntry, J>
         requires { seat.has_pen ≡ false }
         ensures same { self.new ≡ self.old }
-        ensures seen { result ≡ record { has_pen = false; session = seat.session; last = seat.last; seen = self.new.seen; told = [] } }
+        ensures seen { result ≡ record {
+          has_pen = false;
+          session = seat.session;
+          last =
+              seat.last;
+          seen = self.new.seen;
+          told = [];
+        } }
         ensures begins { IsPrefix seat.seen self.new.seen }
         ensures last { (s : ℕ) → seat.session ≡ Some s → IsLast session_of s self.new.seen seat.last }
         ensures legal { St.told → IsLegalOver J.rules J.list J.counts self.new.seen }
@@ -222,7 +226,8 @@ impl<St: Store, R: Resolver, F: Refs, C: Clock, J: Origin> LockedHub<St, R, F, C
         requires fitting { IsFitting request }
         requires named { Q.request ≡ request }
         ensures seat { HoldsSession session result.0 }
-        ensures called { HasCalled St.told J.rules J.list J.counts request result.1 (known session seat) (known session result.0) }
+        ensures called { HasCalled St.told J.rules J.list J.counts request result.1 (known
+            session seat) (known session result.0) }
         ensures busy { St.told → waits_for self.old.hub session ≡ false → IsNotBusy request result.1 }
     {
         word.join(&mut self.seat, seat);
@@ -261,7 +266,8 @@ impl<St: Store, R: Resolver, F: Refs, C: Clock, J: Origin> LockedHub<St, R, F, C
         ensures legal { St.told → IsLegalOver J.rules J.list J.counts result.0.seen }
         ensures same { self.new ≡ self.old }
         ensures whole { result.2 ≡ Heard.Memory → (result.0 ≡ seat) × (result.1 ≡ told) }
-        ensures heard { St.told → is_quiet_for self.old.hub session told ≡ false → IsHeard (machine_of J.rules J.list result.0.seen) session told result.1 result.2 }
+        ensures heard { St.told → is_quiet_for self.old.hub session told ≡ false → IsHeard
+            (machine_of J.rules J.list result.0.seen) session told result.1 result.2 }
     {
         if !self.hub.is_open(session) {
             return (self.refresh(word, seat), told, Heard::Over);

@@ -9,9 +9,9 @@ ghost use Rattle.zodb_core.specs.Machine.{machine_over};
 ghost use Rattle.hub_shared.specs.Calls.{HasCalled, HasEntered, HasHeard, IsNotBusy, IsRefusedBehind, SeesOn};
 ghost use Rattle.hub_shared.specs.Seats.{machine_of};
 
-use crate::locked::{LockedHub, needs_vote};
 use crate::entry::HistoryEntry;
 use crate::heard::Heard;
+use crate::locked::{LockedHub, needs_vote};
 use crate::names::Origin;
 use crate::tokens::{Ear, Pass, Seen};
 use hub_clock::{ClockSeat, HubClock};

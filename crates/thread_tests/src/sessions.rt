@@ -18,7 +18,14 @@ use zodb_core::{Hub, SessionRefusal};
 
 /// Opens sessions until none is opened, at most 100: how many had the number that comes next, and why the
 /// one behind them wasn't.
-fn open_from<St: Store + Drop, R: Resolver + Drop, F: Refs + Drop, C: Clock + Drop, J: Origin, W: Wait>(
+fn open_from<
+    St: Store + Drop,
+    R: Resolver + Drop,
+    F: Refs + Drop,
+    C: Clock + Drop,
+    J: Origin,
+    W: Wait,
+>(
     rt: &W,
     opened: OpenedClock<HistoryEntry>,
     hub: Hub<St, R, F>,
@@ -67,6 +74,9 @@ fn a_65th_session_is_refused(rt: HostRuntime) -> Result<(), Fail> {
     let clock = ListClock::new(stamp, Vec::new(rt.alloc()));
     let opened = OpenedClock::new(rt.alloc())?;
     let all = open_all(&rt, opened, hub, clock);
-    assert_eq!(rt; all, (64, Some(SessionRefusal::TooManySessions { count: 64 })));
+    assert_eq!(rt;
+        all,
+        (64, Some(SessionRefusal::TooManySessions { count: 64 }))
+    );
     Ok(())
 }

@@ -101,7 +101,13 @@ fn work<St: Store + Drop, R: Resolver + Drop, F: Refs + Drop, C: Clock + Drop, J
         ask(rt, alloc, shared, worker, vote);
         ask(rt, alloc, shared, worker, Request::Finish);
         let front = Tid(u64::MAX - 1);
-        ask(rt, alloc, shared, worker, Request::LoadBefore { oid, front });
+        ask(
+            rt,
+            alloc,
+            shared,
+            worker,
+            Request::LoadBefore { oid, front },
+        );
     }
 }
 
