@@ -1,13 +1,14 @@
 -- What is left where nothing was done.
-use Rattle.std.proofs.Common.{◌≡◌, ℕ, List, [], Option, Some, None, inl, refl, sym, ap, subst}
+use Rattle.std.proofs.Common.{◌≡◌, ℕ, List, [], Option, Some, None, inl, inr, refl, sym, ap, subst, ◌∙◌}
 use Rattle.std.specs.Prelude.{IfSome, slice_get}
+use Rattle.std.proofs.lemmas.Option.{same_Some}
 use Rattle.file_store.specs.Kept.{StandsForList}
-use Rattle.file_store.specs.Opening.{IsNewOr, KeepsList, MakesList}
+use Rattle.file_store.specs.Opening.{IsNewOr, KeepsList, MakesFile, MakesList}
 use Rattle.fs_records.specs.File.{no_bytes}
 use Rattle.zb_ids.specs.declared.stamp.Stamp.{Stamp}
 use Rattle.zb_volume.specs.declared.areas.Area.TheVariants.{Main, Side}
 use Rattle.zb_volume.specs.Calls.{Event}
-use Rattle.zb_volume.specs.Disk.{seen}
+use Rattle.zb_volume.specs.Disk.{seen, IsSettled}
 use Rattle.zb_volume.specs.Lasting.{settled_leaves}
 use Rattle.zb_volume.specs.Moments.{LeavesOnly, StaysAs, here}
 use Rattle.zodb_top.specs.Opened.{IsLeft, bytes_same}
@@ -20,6 +21,15 @@ keeps_at log list cut some stands settled = here (settled_leaves log Main (λ by
 
 makes_at : (stamp : Stamp) (log : List Event) → MakesList stamp log log
 makes_at stamp log empty settled = here (settled_leaves log Main (IsNewOr stamp) settled (inl (None, no_bytes empty refl refl)))
+
+-- a file that is made is made by the clock's first stamp, where the clock tells
+pub makes_when : (stamps : Option (List Stamp)) (old new : List Event) → (seen old Main ≡ [] → MakesFile stamps old new) → IfSome stamps (λ told. (stamp : Stamp) → slice_get told 0 ≡ Some stamp → MakesList stamp old new)
+makes_when None old new makes = tt
+makes_when (Some told) old new makes = λ stamp is empty settled. by_cases stamp is empty settled (makes empty)
+  where
+    by_cases : (stamp : Stamp) → slice_get told 0 ≡ Some stamp → seen old Main ≡ [] → IsSettled old Main → MakesFile (Some told) old new → LeavesOnly Main (IsNewOr stamp) old new
+    by_cases stamp is empty settled (inl same) = subst (λ (l : List Event). LeavesOnly Main (IsNewOr stamp) old l) (sym same) (makes_at stamp old empty settled)
+    by_cases stamp is empty settled (inr (other, first, made)) = subst (λ (x : Stamp). LeavesOnly Main (IsNewOr x) old new) (same_Some other stamp (sym first ∙ is)) (made empty settled)
 
 of_all : (stamps : Option (List Stamp)) (P : List Stamp → Type 0) → ((told : List Stamp) → P told) → IfSome stamps P
 of_all None P all = tt

@@ -9,6 +9,7 @@ use Rattle.zb_volume.specs.Disk.{seen}
 use Rattle.zodb_top.specs.Outside.{Outside, outside}
 use Rattle.zodb_top.proofs.Files.{opened_none, opens_as, unopened_done}
 use Rattle.zodb_top.proofs.Nexts.{unopened_other}
+use Rattle.zodb_top.proofs.Untouched.{makes_when}
 use Rattle.zodb_top.proofs.Volumes.{bytes_unless, over_file, unopened}
 use Rattle.zodb_top.proofs.running.run_file.Goals as goal
 
@@ -43,39 +44,39 @@ returns-in-Ok-clause-outcome g c =
     } in
     over_file c.run_over_store-status.result.0 V.told c.args.turns.now before after state state' (C.stamps c.create_or_open.new.clock) c.in-Ok.cut
     (λ told. record {
-      opens = opens_as _ _ _ _ _ (c.in-Ok.ensures.opened told) (c.in-Ok.ensures.made told) (c.in-Ok.ensures.stamps_kept told) (c.in-Ok.ensures.stamps_left told);
-      keeps = c.in-Ok.ensures.keeps told;
-      makes = c.in-Ok.ensures.makes told;
+      opens = opens_as _ _ _ _ _ (λ some. ((c.in-Ok.ensures.store.main told).reopened some).opened) (λ empty. ((c.in-Ok.ensures.store.main told).anew empty).made) (c.in-Ok.ensures.clock.kept told) (c.in-Ok.ensures.clock.left told);
+      keeps = (c.in-Ok.ensures.store.moments told).keeps;
+      makes = makes_when _ _ _ (c.in-Ok.ensures.store.moments told).makes;
       shown = g.met.V.Volume.seen_is_left c.into_volume.result Main told;
-      bytes = c.in-Ok.ensures.content told;
-      new_file = c.in-Ok.ensures.new_file told;
+      bytes = λ some. ((c.in-Ok.ensures.store.main told).reopened some).content;
+      new_file = λ empty. ((c.in-Ok.ensures.store.main told).anew empty).new_file;
     })
-    c.in-Ok.ensures.faults c.in-Ok.ensures.read_faults c.into_volume.ensures.log c.into_volume.ensures.read_faults c.into_volume.ensures.faults c.run_over_store-status.ensures.outcome
+    c.in-Ok.ensures.store.faults c.in-Ok.ensures.store.read_faults c.into_volume.ensures.log c.into_volume.ensures.read_faults c.into_volume.ensures.faults c.run_over_store-status.ensures.outcome
 
 pub returns-in-Ok-clause-damaged : goal.returns-in-Ok-clause-damaged
-returns-in-Ok-clause-damaged g c = λ told reads writes none. opened_none g.V.Volume.told _ _ _ c.in-Ok.cut c.in-Ok.ensures.opened told none
+returns-in-Ok-clause-damaged g c = λ told reads writes none. opened_none g.V.Volume.told _ _ _ c.in-Ok.cut (λ here some. ((c.in-Ok.ensures.store.main here).reopened some).opened) told none
 
 pub returns-in-Ok-clause-harmed : goal.returns-in-Ok-clause-harmed
-returns-in-Ok-clause-harmed g c = λ told none. opened_none g.V.Volume.told _ _ _ c.in-Ok.cut c.in-Ok.ensures.opened told none
+returns-in-Ok-clause-harmed g c = λ told none. opened_none g.V.Volume.told _ _ _ c.in-Ok.cut (λ here some. ((c.in-Ok.ensures.store.main here).reopened some).opened) told none
 
 pub returns-in-Err-clause-outcome : goal.returns-in-Err-clause-outcome
 returns-in-Err-clause-outcome g c =
-    unopened c.say_unopened.result c.in-Err.error g.V.Volume.told c.args.turns.now _ _ c.say_unopened.ensures.said c.in-Err.ensures.harm c.in-Err.ensures.fault c.in-Err.ensures.untouched c.in-Err.ensures.unfailed
+    unopened c.say_unopened.result c.in-Err.error g.V.Volume.told c.args.turns.now _ _ c.say_unopened.ensures.said c.in-Err.ensures.refused.harm c.in-Err.ensures.refused.cause.fault c.in-Err.ensures.refused.untouched (λ other. let still = c.in-Err.ensures.refused.cause.unfailed other in (still.reads, still.writes))
     (record {
-      stamps = c.in-Err.ensures.stamps_given;
-      kept = c.in-Err.ensures.stamps_kept;
-      bytes = λ told some. bytes_unless _ _ (c.in-Err.ensures.unharmed told some);
-      side = c.in-Err.ensures.side_refused;
-      keeps = c.in-Err.ensures.keeps_refused;
-      makes = c.in-Err.ensures.makes_refused;
+      stamps = c.in-Err.ensures.clock.given;
+      kept = c.in-Err.ensures.clock.kept;
+      bytes = λ told some. bytes_unless _ _ (c.in-Err.ensures.refused.unharmed told);
+      side = c.in-Err.ensures.refused.side;
+      keeps = λ told. (c.in-Err.ensures.refused.moments told).keeps;
+      makes = λ told. makes_when _ _ _ (c.in-Err.ensures.refused.moments told).makes;
     })
 
 pub returns-in-Err-clause-complete : goal.returns-in-Err-clause-complete
 returns-in-Err-clause-complete g c = λ told reads writes sinks list cut stands.
-    unopened_done c.say_unopened.result c.in-Err.error _ list cut _ _ _ _ _ _ _ _ c.say_unopened.ensures.said (c.in-Err.ensures.harm told) c.in-Err.ensures.fault reads writes stands
+    unopened_done c.say_unopened.result c.in-Err.error _ list cut _ _ _ _ _ _ _ _ c.say_unopened.ensures.said (c.in-Err.ensures.refused.harm told) c.in-Err.ensures.refused.cause.fault reads writes stands
 
 pub returns-in-Ok-clause-others : goal.returns-in-Ok-clause-others
-returns-in-Ok-clause-others g c = λ other. c.into_volume.ensures.faults ∙ c.run_over_store-status.ensures.others other ∙ c.in-Ok.ensures.faults
+returns-in-Ok-clause-others g c = λ other. c.into_volume.ensures.faults ∙ c.run_over_store-status.ensures.others other ∙ c.in-Ok.ensures.store.faults
 
 pub returns-in-Err-clause-others : goal.returns-in-Err-clause-others
-returns-in-Err-clause-others g c = λ other. (c.in-Err.ensures.unfailed (unopened_other _ _ _ _ _ _ c.say_unopened.ensures.said other)).1
+returns-in-Err-clause-others g c = λ other. (c.in-Err.ensures.refused.cause.unfailed (unopened_other _ _ _ _ _ _ c.say_unopened.ensures.said other)).writes
