@@ -2,6 +2,7 @@ pub mod Stacks
 pub mod Leaves
 pub mod Additions
 pub mod Steps
+pub mod Nodes
 pub mod Reading
 pub mod Sound
 pub mod LineLaws

@@ -13,8 +13,8 @@ use Rattle.pickle_graph.specs.declared.pickle.Pickle.{Pickle}
 use Rattle.pickle_reading.specs.declared.reading.TheConstants.{NODE_LIMIT}
 use Rattle.pickle_reading.specs.declared.state.Item.{Item}
 use Rattle.pickle_reading.specs.declared.state.Item.TheVariants.{Value}
-use Rattle.pickle_reading.specs.declared.state.State.{State}
-use Rattle.pickle_reading.specs.Steps.{step}
+use Rattle.pickle_reading.specs.Nodes.{State}
+use Rattle.pickle_reading.specs.Nodes.{step}
 
 -- the opcode ends the pickle
 abbrev pub is_stop : Op → Bool

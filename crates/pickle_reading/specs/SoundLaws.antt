@@ -20,7 +20,7 @@ use Rattle.pickle_graph.specs.declared.node.Act.TheVariants.{Append, Set, Build}
 use Rattle.pickle_reading.specs.declared.error.PickleError.TheVariants as errors
 use Rattle.pickle_reading.specs.declared.additions.Addition.{Addition}
 use Rattle.pickle_reading.specs.declared.additions.Addition.TheVariants as additions
-use Rattle.pickle_reading.specs.declared.state.State.{State}
+use Rattle.pickle_reading.specs.Nodes.{State}
 use Rattle.pickle_reading.specs.declared.state.Extent.{Extent}
 use Rattle.pickle_reading.specs.declared.state.Extent.TheVariants.{Marked, Top}
 use Rattle.pickle_reading.specs.declared.state.Item.{Item}
@@ -29,7 +29,8 @@ use Rattle.pickle_graph.specs.Graph.{AllBelow, PairsBelow, ActBelow, ActsBelow, 
 use Rattle.pickle_reading.specs.Stacks.{TakenValues, above_mark, top_values, values_taken, put_at, node_at}
 use Rattle.pickle_reading.specs.Leaves.{long_number, long_of, first_line, behind_line, global_of, leaf_of}
 use Rattle.pickle_reading.specs.Additions.{with_pair, pairs_of, append_acts, set_acts, acts_with, added}
-use Rattle.pickle_reading.specs.Steps.{Outcome, make, popped, unmarked, doubled, tuple_of, changed, add_to, append_to, set_pairs, set_in, build_of, object_of, reference_of, put_of, get_of, act_of, leaf_or, step}
+use Rattle.pickle_reading.specs.Steps.{make, popped, unmarked, doubled, changed, put_of, get_of, leaf_or}
+use Rattle.pickle_reading.specs.Nodes.{Outcome, tuple_of, add_to, append_to, set_pairs, set_in, build_of, object_of, reference_of, act_of, step}
 use Rattle.pickle_reading.specs.Sound.{StackBelow, MemoBelow, IsSoundState}
 use Rattle.pickle_reading.specs.LineLaws.{first-line, behind-line}
 use Rattle.pickle_reading.specs.LongLaws.{long-signed, signed32-wider, below-wider}

@@ -8,7 +8,7 @@ ghost use Rattle.pickle_reading.specs.Reading.{is_stop, root_of, graph_at};
 use crate::error::PickleError;
 use crate::state::{Item, State, first_room};
 use crate::steps::take_step;
-use pickle_graph::Pickle;
+use pickle_graph::{Node, Pickle};
 use pickle_ops::{Op, next_token};
 use std::alloc::Global;
 
@@ -26,7 +26,7 @@ pub fn ends(op: Op) -> bool
 }
 
 /// The graph at STOP.
-fn finish(mut state: State, at: usize, next: usize) -> Result<(Pickle, usize), PickleError>
+fn finish(mut state: State<Node>, at: usize, next: usize) -> Result<(Pickle, usize), PickleError>
     requires { IsSoundState state }
     ensures graph { AnswersAs result (root_of at next state state.stack) }
     ensures place { IfOk result (λ r. r.1 ≡ next) }
@@ -49,7 +49,7 @@ pub(crate) fn read_within(
     ensures inside { IfOk result (λ r. r.1 ≤ length input.now) }
 {
     let room = first_room(input.len().saturating_sub(at));
-    let mut state = State::new(alloc, limit, room);
+    let mut state: State<Node> = State::new(alloc, limit, room);
     let mut place = at;
     loop {
         let (token, next) = next_token(input, place)?;

@@ -4,7 +4,6 @@ ghost use Rattle.std.specs.Prelude.{◌≡◌, ◌<◌, ◌≤◌, [], ◌∷◌
 ghost use Rattle.std.specs.Option.{option_copied};
 ghost use Rattle.pickle_reading.specs.Stacks.{top_of, above_mark, top_values, values_taken, put_at, node_at};
 
-use pickle_graph::Node;
 use std::alloc::{AllocError, AllocFailed, Global};
 use std::collections::BTreeMap;
 use std::marker::Model;
@@ -202,24 +201,23 @@ pub fn first_room(bytes: usize) -> usize
     (bytes / BYTES_FOR_A_NODE).min(MOST_ROOM)
 }
 
-/// The nodes so far, by number.
+/// What is kept of the nodes so far, by number.
 #[derive(Drop)]
-pub struct NodeTable {
-    items: Vec<Node>,
+pub struct NodeTable<L> {
+    items: Vec<L>,
 }
 
-impl Model for NodeTable {
+impl<L> Model for NodeTable<L> {
     ghost use Rattle.std.specs.Prelude.{List};
-    ghost use Rattle.pickle_graph.specs.declared.node.Node.{Node};
 
-    ghost Value = { List Node };
+    ghost Value = { List L };
 
     ghost view = { λ nodes. nodes.items.items };
 }
 
-impl NodeTable {
+impl<L: Drop> NodeTable<L> {
     /// No nodes, with room for so many where there is memory for it.
-    pub fn new(alloc: Global, room: usize) -> NodeTable
+    pub fn new(alloc: Global, room: usize) -> NodeTable<L>
         ensures { result ≡ [] }
     {
         let mut items = Vec::new(alloc);
@@ -228,10 +226,19 @@ impl NodeTable {
     }
 
     /// These nodes, with room for so many more where there is memory for it.
-    pub fn from_list(nodes: ListOf<Node>, room: usize) -> NodeTable
+    pub fn from_list(nodes: ListOf<L>, room: usize) -> NodeTable<L>
         ensures { result ≡ nodes }
     {
         let mut items = nodes.into_vec();
+        let _ = items.reserve(room);
+        NodeTable { items }
+    }
+
+    /// The same nodes, with room for so many more where there is memory for it.
+    pub fn widened(self, room: usize) -> NodeTable<L>
+        ensures { result ≡ self }
+    {
+        let NodeTable { mut items } = self;
         let _ = items.reserve(room);
         NodeTable { items }
     }
@@ -243,22 +250,22 @@ impl NodeTable {
         self.items.len()
     }
 
-    /// The node of a number.
-    pub fn get(&self, number: u32) -> Option<&Node>
+    /// What is kept of the node of a number.
+    pub fn get(&self, number: u32) -> Option<&L>
         ensures { option_copied result ≡ slice_get self.now number }
     {
         self.items.get(number as usize)
     }
 
     /// Puts a node at the end, whose number is how many there were.
-    pub fn push(&mut self, node: Node) -> Result<(), AllocFailed<Node>>
+    pub fn push(&mut self, node: L) -> Result<(), AllocFailed<L>>
         ensures { OnOk result (self.new ≡ self.old ++ node ∷ []) }
     {
         self.items.push(node)
     }
 
     /// Puts a node in the place of another, and gives that one back.
-    pub fn replace(&mut self, number: u32, node: Node) -> Node
+    pub fn replace(&mut self, number: u32, node: L) -> L
         requires { number < length self.old }
         ensures old { slice_get self.old number ≡ Some result }
         ensures new { self.new ≡ slice_set self.old number node }
@@ -267,7 +274,7 @@ impl NodeTable {
     }
 
     /// The list of the nodes.
-    pub fn into_list(self) -> ListOf<Node>
+    pub fn into_list(self) -> ListOf<L>
         ensures { result ≡ self }
     {
         let NodeTable { items } = self;
@@ -275,18 +282,18 @@ impl NodeTable {
     }
 }
 
-/// The nodes so far, the stack and the memo. No more nodes than the limit are made.
+/// What is kept of the nodes so far, the stack and the memo. No more nodes than the limit are made.
 #[derive(Drop)]
-pub struct State {
+pub struct State<L> {
     pub limit: u32,
-    pub nodes: NodeTable,
+    pub nodes: NodeTable<L>,
     pub stack: Stack,
     pub memo: Memo,
 }
 
-impl State {
+impl<L: Drop> State<L> {
     /// The state before the first token, with room for so many nodes.
-    pub fn new(alloc: Global, limit: u32, room: usize) -> State
+    pub fn new(alloc: Global, limit: u32, room: usize) -> State<L>
         ensures limit { result.limit ≡ limit }
         ensures nodes { result.nodes ≡ [] }
         ensures stack { result.stack ≡ [] }
@@ -301,8 +308,8 @@ impl State {
     }
 
     /// The state of the next pickle's reader before its first token, behind one that left these
-    /// nodes and this memo, with room for so many nodes more.
-    pub fn behind(alloc: Global, limit: u32, nodes: ListOf<Node>, memo: Memo, room: usize) -> State
+    /// nodes and this memo.
+    pub fn behind(alloc: Global, limit: u32, nodes: NodeTable<L>, memo: Memo) -> State<L>
         ensures limit { result.limit ≡ limit }
         ensures nodes { result.nodes ≡ nodes }
         ensures stack { result.stack ≡ [] }
@@ -310,7 +317,7 @@ impl State {
     {
         State {
             limit,
-            nodes: NodeTable::from_list(nodes, room),
+            nodes,
             stack: Stack::new(alloc),
             memo,
         }

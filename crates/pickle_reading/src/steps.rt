@@ -1,24 +1,20 @@
 //! What each token does to what a reader keeps.
 
-ghost use Rattle.std.specs.Prelude.{◌≡◌, slice_get, Ok, OnOk, IfErr};
+ghost use Rattle.std.specs.Prelude.{◌≡◌, Ok, OnOk, IfErr};
 ghost use Rattle.std.specs.Int.RustNames.{unsigned_abs};
 ghost use Rattle.pickle_reading.specs.declared.state.Extent.TheVariants.{Marked};
-ghost use Rattle.pickle_graph.specs.Graph.{is_tuple};
-ghost use Rattle.pickle_reading.specs.Stacks.{values_taken, node_at};
+ghost use Rattle.pickle_reading.specs.Stacks.{node_at};
 ghost use Rattle.pickle_reading.specs.Steps.{RefusesAs, make, push, popped, unmarked, doubled, tuple_of, add_to, append_to, set_in, build_of, object_of, reference_of, put_of, get_of, act_of, step};
 
-use crate::additions::{Addition, add, in_pairs};
 use crate::error::PickleError;
-use crate::leaves::leaf;
-use crate::state::{Extent, Item, NodeTable, State};
-use pickle_graph::Node;
+use crate::kept::Kept;
+use crate::state::{Extent, Item, State};
 use pickle_ops::{Op, Token};
 use std::alloc::Global;
-use zb_ids::ListOf;
 
 /// Makes a node, and pushes its number.
 #[inline(always)]
-fn make_node(state: &mut State, at: usize, node: Node) -> Result<(), PickleError>
+fn make_node<L: Kept>(state: &mut State<L>, at: usize, node: L) -> Result<(), PickleError>
     ensures ok { OnOk result (make at node state.old ≡ Ok state.new) }
     ensures err { IfErr result (λ e. RefusesAs e (make at node state.old)) }
 {
@@ -32,7 +28,7 @@ fn make_node(state: &mut State, at: usize, node: Node) -> Result<(), PickleError
 }
 
 #[inline(always)]
-fn push_item(state: &mut State, item: Item) -> Result<(), PickleError>
+fn push_item<L: Kept>(state: &mut State<L>, item: Item) -> Result<(), PickleError>
     ensures ok { OnOk result (push item state.old ≡ Ok state.new) }
     ensures err { IfErr result (λ e. RefusesAs e (push item state.old)) }
 {
@@ -40,7 +36,7 @@ fn push_item(state: &mut State, item: Item) -> Result<(), PickleError>
     Ok(())
 }
 
-fn pop(state: &mut State, at: usize) -> Result<(), PickleError>
+fn pop<L: Kept>(state: &mut State<L>, at: usize) -> Result<(), PickleError>
     ensures ok { OnOk result (popped at state.old state.old.stack ≡ Ok state.new) }
     ensures err { IfErr result (λ e. RefusesAs e (popped at state.old state.old.stack)) }
 {
@@ -50,17 +46,17 @@ fn pop(state: &mut State, at: usize) -> Result<(), PickleError>
     }
 }
 
-fn pop_mark(alloc: Global, state: &mut State, at: usize) -> Result<(), PickleError>
-    ensures ok { OnOk result (unmarked at state.old (values_taken Marked state.old.stack) ≡ Ok state.new) }
-    ensures err { IfErr result (λ e. RefusesAs e (unmarked at state.old (values_taken Marked state.old.stack))) }
+fn pop_mark<L: Kept>(alloc: Global, state: &mut State<L>, at: usize) -> Result<(), PickleError>
+    ensures ok { OnOk result (unmarked at state.old (L.keeping.taken Marked state.old.stack) ≡ Ok state.new) }
+    ensures err { IfErr result (λ e. RefusesAs e (unmarked at state.old (L.keeping.taken Marked state.old.stack))) }
 {
-    match state.stack.take(alloc, Extent::Marked)? {
+    match L::taken(alloc, &mut state.stack, Extent::Marked)? {
         Some(_) => Ok(()),
         None => Err(PickleError::Stack { at }),
     }
 }
 
-fn double(state: &mut State, at: usize) -> Result<(), PickleError>
+fn double<L: Kept>(state: &mut State<L>, at: usize) -> Result<(), PickleError>
     ensures ok { OnOk result (doubled at state.old state.old.stack ≡ Ok state.new) }
     ensures err { IfErr result (λ e. RefusesAs e (doubled at state.old state.old.stack)) }
 {
@@ -72,88 +68,94 @@ fn double(state: &mut State, at: usize) -> Result<(), PickleError>
     Ok(())
 }
 
-fn make_tuple(
+fn make_tuple<L: Kept>(
     alloc: Global,
-    state: &mut State,
+    state: &mut State<L>,
     at: usize,
     extent: Extent,
 ) -> Result<(), PickleError>
-    ensures ok { OnOk result (tuple_of at state.old (values_taken extent state.old.stack) ≡ Ok state.new) }
-    ensures err { IfErr result (λ e. RefusesAs e (tuple_of at state.old (values_taken extent state.old.stack))) }
+    ensures ok { OnOk result (tuple_of L.keeping at state.old (L.keeping.taken extent state.old.stack) ≡ Ok state.new) }
+    ensures err { IfErr result (λ e. RefusesAs e (tuple_of L.keeping at state.old (L.keeping.taken extent state.old.stack))) }
 {
-    match state.stack.take(alloc, extent)? {
-        Some(values) => make_node(state, at, Node::Tuple(values)),
+    match L::taken(alloc, &mut state.stack, extent)? {
+        Some(values) => {
+            let node = L::tuple(&state.nodes, values);
+            make_node(state, at, node)
+        }
         None => Err(PickleError::Stack { at }),
     }
 }
 
 /// Adds to the node on the top.
-#[tactic(auto, using(crate::proofs::Sets::set_twice))]
-fn add_to_top(state: &mut State, at: usize, addition: Addition) -> Result<(), PickleError>
-    ensures ok { OnOk result (add_to at state.old addition state.old.stack ≡ Ok state.new) }
-    ensures err { IfErr result (λ e. RefusesAs e (add_to at state.old addition state.old.stack)) }
+fn add_to_top<L: Kept>(
+    state: &mut State<L>,
+    at: usize,
+    addition: L::Addition,
+) -> Result<(), PickleError>
+    ensures ok { OnOk result (add_to L.keeping at state.old addition state.old.stack ≡ Ok state.new) }
+    ensures err { IfErr result (λ e. RefusesAs e (add_to L.keeping at state.old addition state.old.stack)) }
 {
     let Some(Item::Value(number)) = state.stack.pop() else {
         return Err(PickleError::Stack { at });
     };
-    if number as usize >= state.nodes.len() {
+    if !L::add(&mut state.nodes, number, addition)? {
         return Err(PickleError::Stack { at });
     }
-    let node = state.nodes.replace(number, Node::None);
-    let Some(changed) = add(node, addition)? else {
-        return Err(PickleError::Stack { at });
-    };
-    let _ = state.nodes.replace(number, changed);
     state.stack.push(Item::Value(number))?;
     Ok(())
 }
 
-fn append(alloc: Global, state: &mut State, at: usize, extent: Extent) -> Result<(), PickleError>
-    ensures ok { OnOk result (append_to at state.old (values_taken extent state.old.stack) ≡ Ok state.new) }
-    ensures err { IfErr result (λ e. RefusesAs e (append_to at state.old (values_taken extent state.old.stack))) }
+fn append<L: Kept>(
+    alloc: Global,
+    state: &mut State<L>,
+    at: usize,
+    extent: Extent,
+) -> Result<(), PickleError>
+    ensures ok { OnOk result (append_to L.keeping at state.old (L.keeping.taken extent state.old.stack) ≡ Ok state.new) }
+    ensures err { IfErr result (λ e. RefusesAs e (append_to L.keeping at state.old (L.keeping.taken extent state.old.stack))) }
 {
-    match state.stack.take(alloc, extent)? {
-        Some(values) => add_to_top(state, at, Addition::Values(values)),
+    match L::taken(alloc, &mut state.stack, extent)? {
+        Some(values) => add_to_top(state, at, L::values(values)),
         None => Err(PickleError::Stack { at }),
     }
 }
 
-fn set(alloc: Global, state: &mut State, at: usize, extent: Extent) -> Result<(), PickleError>
-    ensures ok { OnOk result (set_in at state.old (values_taken extent state.old.stack) ≡ Ok state.new) }
-    ensures err { IfErr result (λ e. RefusesAs e (set_in at state.old (values_taken extent state.old.stack))) }
+fn set<L: Kept>(
+    alloc: Global,
+    state: &mut State<L>,
+    at: usize,
+    extent: Extent,
+) -> Result<(), PickleError>
+    ensures ok { OnOk result (set_in L.keeping at state.old (L.keeping.taken extent state.old.stack) ≡ Ok state.new) }
+    ensures err { IfErr result (λ e. RefusesAs e (set_in L.keeping at state.old (L.keeping.taken extent state.old.stack))) }
 {
-    let Some(values) = state.stack.take(alloc, extent)? else {
+    let Some(values) = L::taken(alloc, &mut state.stack, extent)? else {
         return Err(PickleError::Stack { at });
     };
-    match in_pairs(alloc, values.as_slice())? {
-        Some(pairs) => add_to_top(state, at, Addition::Pairs(pairs)),
+    match L::pairs(alloc, values)? {
+        Some(pairs) => add_to_top(state, at, pairs),
         None => Err(PickleError::Stack { at }),
     }
 }
 
-fn build(state: &mut State, at: usize) -> Result<(), PickleError>
-    ensures ok { OnOk result (build_of at state.old state.old.stack ≡ Ok state.new) }
-    ensures err { IfErr result (λ e. RefusesAs e (build_of at state.old state.old.stack)) }
+fn build<L: Kept>(state: &mut State<L>, at: usize) -> Result<(), PickleError>
+    ensures ok { OnOk result (build_of L.keeping at state.old state.old.stack ≡ Ok state.new) }
+    ensures err { IfErr result (λ e. RefusesAs e (build_of L.keeping at state.old state.old.stack)) }
 {
     let Some(Item::Value(value)) = state.stack.pop() else {
         return Err(PickleError::Stack { at });
     };
-    add_to_top(state, at, Addition::State(value))
+    add_to_top(state, at, L::state(value))
 }
 
-/// Whether the node of a number is a tuple.
-fn stands_for_tuple(nodes: &NodeTable, number: u32) -> bool
-    ensures { result ≡ is_tuple (slice_get nodes.now number) }
-{
-    match nodes.get(number) {
-        Some(Node::Tuple(_)) => true,
-        _ => false,
-    }
-}
-
-fn make_object(alloc: Global, state: &mut State, at: usize, by_new: bool) -> Result<(), PickleError>
-    ensures ok { OnOk result (object_of by_new at state.old state.old.stack ≡ Ok state.new) }
-    ensures err { IfErr result (λ e. RefusesAs e (object_of by_new at state.old state.old.stack)) }
+fn make_object<L: Kept>(
+    alloc: Global,
+    state: &mut State<L>,
+    at: usize,
+    by_new: bool,
+) -> Result<(), PickleError>
+    ensures ok { OnOk result (object_of L.keeping by_new at state.old state.old.stack ≡ Ok state.new) }
+    ensures err { IfErr result (λ e. RefusesAs e (object_of L.keeping by_new at state.old state.old.stack)) }
 {
     let Some(Item::Value(arguments)) = state.stack.pop() else {
         return Err(PickleError::Stack { at });
@@ -161,30 +163,25 @@ fn make_object(alloc: Global, state: &mut State, at: usize, by_new: bool) -> Res
     let Some(Item::Value(callee)) = state.stack.pop() else {
         return Err(PickleError::Stack { at });
     };
-    if !stands_for_tuple(&state.nodes, arguments) {
+    if !L::is_tuple(&state.nodes, arguments) {
         return Err(PickleError::Stack { at });
     }
-    let node = Node::Object {
-        callee,
-        arguments,
-        by_new,
-        acts: ListOf::new(alloc),
-    };
+    let node = L::object(alloc, callee, arguments, by_new);
     make_node(state, at, node)
 }
 
-fn refer(state: &mut State, at: usize) -> Result<(), PickleError>
-    ensures ok { OnOk result (reference_of at state.old state.old.stack ≡ Ok state.new) }
-    ensures err { IfErr result (λ e. RefusesAs e (reference_of at state.old state.old.stack)) }
+fn refer<L: Kept>(state: &mut State<L>, at: usize) -> Result<(), PickleError>
+    ensures ok { OnOk result (reference_of L.keeping at state.old state.old.stack ≡ Ok state.new) }
+    ensures err { IfErr result (λ e. RefusesAs e (reference_of L.keeping at state.old state.old.stack)) }
 {
     let Some(Item::Value(id)) = state.stack.pop() else {
         return Err(PickleError::Stack { at });
     };
-    make_node(state, at, Node::Reference(id))
+    make_node(state, at, L::reference(id))
 }
 
 #[inline(always)]
-fn put(state: &mut State, at: usize, number: u64) -> Result<(), PickleError>
+fn put<L: Kept>(state: &mut State<L>, at: usize, number: u64) -> Result<(), PickleError>
     ensures ok { OnOk result (put_of at number state.old state.old.stack ≡ Ok state.new) }
     ensures err { IfErr result (λ e. RefusesAs e (put_of at number state.old state.old.stack)) }
 {
@@ -195,7 +192,7 @@ fn put(state: &mut State, at: usize, number: u64) -> Result<(), PickleError>
     Ok(())
 }
 
-fn get(state: &mut State, at: usize, number: u64) -> Result<(), PickleError>
+fn get<L: Kept>(state: &mut State<L>, at: usize, number: u64) -> Result<(), PickleError>
     ensures ok { OnOk result (get_of at state.old (node_at state.old.memo number) ≡ Ok state.new) }
     ensures err { IfErr result (λ e. RefusesAs e (get_of at state.old (node_at state.old.memo number))) }
 {
@@ -207,9 +204,14 @@ fn get(state: &mut State, at: usize, number: u64) -> Result<(), PickleError>
 
 /// What a token does whose opcode makes no node by itself.
 #[inline(always)]
-fn act(alloc: Global, state: &mut State, token: Token, at: usize) -> Result<(), PickleError>
-    ensures ok { OnOk result (act_of token.op at token.number state.old ≡ Ok state.new) }
-    ensures err { IfErr result (λ e. RefusesAs e (act_of token.op at token.number state.old)) }
+fn act<L: Kept>(
+    alloc: Global,
+    state: &mut State<L>,
+    token: Token,
+    at: usize,
+) -> Result<(), PickleError>
+    ensures ok { OnOk result (act_of L.keeping token.op at token.number state.old ≡ Ok state.new) }
+    ensures err { IfErr result (λ e. RefusesAs e (act_of L.keeping token.op at token.number state.old)) }
 {
     match token.op {
         Op::Proto => Ok(()),
@@ -241,21 +243,17 @@ fn act(alloc: Global, state: &mut State, token: Token, at: usize) -> Result<(), 
 /// not put, `TooLarge` where it would make one node too many, each with the place, and `Memory` where
 /// there is none. Nothing is said of the state then.
 #[inline(always)]
-pub fn take_step(
+pub fn take_step<L: Kept>(
     alloc: Global,
-    state: &mut State,
+    state: &mut State<L>,
     token: Token,
     at: usize,
     bytes: &[u8],
 ) -> Result<(), PickleError>
-    ensures ok { OnOk result (step token.op at token.number bytes.now state.old ≡ Ok state.new) }
-    ensures err { IfErr result (λ e. RefusesAs e (step token.op at token.number bytes.now state.old)) }
+    ensures ok { OnOk result (step L.keeping token.op at token.number bytes.now state.old ≡ Ok state.new) }
+    ensures err { IfErr result (λ e. RefusesAs e (step L.keeping token.op at token.number bytes.now state.old)) }
 {
-    // Puts stand behind most nodes, so they are told apart first.
-    if let Op::BinPut | Op::LongBinPut = token.op {
-        return put(state, at, token.number.unsigned_abs());
-    }
-    match leaf(alloc, token, bytes)? {
+    match L::leaf(alloc, token, bytes)? {
         Some(node) => make_node(state, at, node),
         None => act(alloc, state, token, at),
     }

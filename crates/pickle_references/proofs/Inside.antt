@@ -10,7 +10,7 @@ use Rattle.pickle_graph.specs.declared.node.Node.TheVariants as kinds
 use Rattle.pickle_reading.specs.declared.error.PickleError.TheVariants as errors
 use Rattle.pickle_reading.specs.declared.additions.Addition.{Addition}
 use Rattle.pickle_reading.specs.declared.additions.Addition.TheVariants as additions
-use Rattle.pickle_reading.specs.declared.state.State.{State}
+use Rattle.pickle_reading.specs.Nodes.{State}
 use Rattle.pickle_reading.specs.declared.state.Extent.TheVariants.{Marked, Top}
 use Rattle.pickle_reading.specs.declared.state.Item.{Item}
 use Rattle.pickle_reading.specs.declared.state.Item.TheVariants.{Value, Mark}
@@ -18,7 +18,8 @@ use Rattle.pickle_graph.specs.Graph.{is_tuple}
 use Rattle.pickle_reading.specs.Stacks.{TakenValues, values_taken, node_at}
 use Rattle.pickle_reading.specs.Leaves.{long_number, long_of, leaf_of}
 use Rattle.pickle_reading.specs.Additions.{pairs_of, added}
-use Rattle.pickle_reading.specs.Steps.{Outcome, make, popped, unmarked, doubled, tuple_of, changed, add_to, append_to, set_pairs, set_in, build_of, object_of, reference_of, put_of, get_of, act_of, leaf_or, step}
+use Rattle.pickle_reading.specs.Steps.{make, popped, unmarked, doubled, changed, put_of, get_of, leaf_or}
+use Rattle.pickle_reading.specs.Nodes.{Outcome, tuple_of, add_to, append_to, set_pairs, set_in, build_of, object_of, reference_of, act_of, step}
 use Rattle.pickle_reading.specs.Sound.{StackBelow, MemoBelow, TupleBelow, TuplesBelow}
 use Rattle.pickle_reading.specs.SoundLaws.{all-more, stack-more, memo-more, TakenBelow, taken-below, put_at-below, ValueBelow, node_at-below}
 use Rattle.pickle_references.proofs.Grown.{After, either}

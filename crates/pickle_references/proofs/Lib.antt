@@ -7,3 +7,4 @@ pub mod Limits
 pub mod TwoPickles
 pub mod Looking
 pub mod OnePassed
+pub mod Staying

@@ -1,7 +1,7 @@
 -- What a reader of references goes on with shows what a reader of graphs goes on with.
 use Rattle.std.proofs.Common.{◌≡◌, ℕ, List, [], ◌∷◌, drop, Ok, Err, refl, sym, ◌∙◌, ap}
-use Rattle.pickle_references.specs.declared.part.Finding.{Finding}
-use Rattle.pickle_references.specs.declared.sights.Sight.{Sight}
+use Rattle.pickle_references.specs.References.{Finding}
+use Rattle.pickle_references.specs.Sights.{Sight}
 use Rattle.pickle_reading.specs.declared.error.PickleError.{PickleError}
 use Rattle.pickle_reading.specs.declared.state.Item.{Item}
 use Rattle.pickle_reading.specs.declared.state.Item.TheVariants.{Value, Mark}
@@ -33,8 +33,8 @@ no-root at next f (Mark ∷ below) d e = cc
 no-root at next f [] d e = cc
 
 -- the root is that of what was found
-pub root-found : (at next : ℕ) (f : Finding) (sight : Sight) (v : ℕ) → sight ≡ sight_of f → root_at at sight.stack ≡ Ok v → left_of at next f f.state.stack ≡ Ok (left_with f v next)
-root-found at next f sight v e h = root-of at next f f.state.stack v (ap (λ (s : Sight). root_at at s.stack) (sym e) ∙ h)
+pub root-found : (at next : ℕ) (f : Finding) (sight : Sight) (v : ℕ) → sight ≡ sight_of f → root_at at sight.state.stack ≡ Ok v → left_of at next f f.state.stack ≡ Ok (left_with f v next)
+root-found at next f sight v e h = root-of at next f f.state.stack v (ap (λ (s : Sight). root_at at s.state.stack) (sym e) ∙ h)
 
-pub root-refused : (at next : ℕ) (f : Finding) (sight : Sight) (d : PickleError) → sight ≡ sight_of f → root_at at sight.stack ≡ Err d → left_of at next f f.state.stack ≡ Err d
-root-refused at next f sight d e h = no-root at next f f.state.stack d (ap (λ (s : Sight). root_at at s.stack) (sym e) ∙ h)
+pub root-refused : (at next : ℕ) (f : Finding) (sight : Sight) (d : PickleError) → sight ≡ sight_of f → root_at at sight.state.stack ≡ Err d → left_of at next f f.state.stack ≡ Err d
+root-refused at next f sight d e h = no-root at next f f.state.stack d (ap (λ (s : Sight). root_at at s.state.stack) (sym e) ∙ h)

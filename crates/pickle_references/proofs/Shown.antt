@@ -19,48 +19,48 @@ use Rattle.pickle_reading.specs.declared.additions.Addition.TheVariants as addit
 use Rattle.pickle_references.specs.declared.references.Named.{Named}
 use Rattle.pickle_references.specs.declared.references.Named.TheVariants.{Strong, Weak, Bad}
 use Rattle.pickle_references.specs.declared.shapes.Shape.{Shape}
-use Rattle.pickle_references.specs.declared.shapes.Shape.TheVariants as shapes
+use Rattle.pickle_references.specs.declared.shapes.Shape.TheVariants as kept
 use Rattle.pickle_references.specs.declared.shapes.Adding.{Adding}
 use Rattle.pickle_references.specs.declared.shapes.Adding.TheVariants as addings
-use Rattle.pickle_references.specs.declared.sights.Sight.{Sight}
-use Rattle.pickle_reading.specs.declared.state.State.{State}
+use Rattle.pickle_reading.specs.Nodes.{State}
 use Rattle.pickle_references.specs.declared.passing.Passed.{Passed}
 use Rattle.pickle_reading.specs.declared.state.Extent.{Extent}
 use Rattle.pickle_reading.specs.declared.state.Extent.TheVariants.{Marked, Top}
 use Rattle.pickle_reading.specs.declared.state.Item.{Item}
 use Rattle.pickle_reading.specs.declared.state.Item.TheVariants.{Value, Mark}
 use Rattle.pickle_graph.specs.Graph.{AllBelow, is_tuple, IsNode, AreNodes}
-use Rattle.pickle_reading.specs.Stacks.{TakenValues, top_of, above_mark, top_values, values_taken, node_at}
+use Rattle.pickle_reading.specs.Stacks.{TakenValues, above_mark, top_values, values_taken, node_at}
 use Rattle.pickle_reading.specs.Leaves.{long_number, long_of, leaf_of}
 use Rattle.pickle_reading.specs.Additions.{with_pair, pairs_of, added}
-use Rattle.pickle_reading.specs.Steps.{Outcome, make, popped, unmarked, doubled, tuple_of, changed, add_to, append_to, set_pairs, set_in, build_of, object_of, reference_of, put_of, get_of, act_of, leaf_or, step}
-use Rattle.pickle_references.specs.declared.part.Finding.{Finding}
+use Rattle.pickle_reading.specs.Steps.{make, popped, unmarked, doubled, changed, put_of, get_of, leaf_or}
+use Rattle.pickle_reading.specs.Nodes.{Outcome, tuple_of, add_to, append_to, set_pairs, set_in, build_of, object_of, reference_of, act_of, step}
+use Rattle.pickle_references.specs.References.{Finding}
 use Rattle.pickle_reading.specs.declared.reading.TheConstants.{NODE_LIMIT}
 use Rattle.pickle_graph.specs.Class.{is_global, begins_with_global, is_class_node, is_class}
 use Rattle.pickle_reading.specs.Reading.{begun}
-use Rattle.pickle_references.specs.References.{oid_in, oid_of, named_first, named_by, named_on, noted, named_by_token, noted_in, find}
+use Rattle.pickle_references.specs.References.{oid_in, oid_of, named_first, named_by, named_on, named_by_token, find}
+use Rattle.pickle_references.specs.Naming.{noted, noted_in}
 use Rattle.pickle_references.specs.Shapes.{tuple_shape, bytes_shape, named_as, lowest_as, is_tuple_shape, is_class_shape, takes, leaf_shape, PassedValues, to_mark, past_top, values_passed}
-use Rattle.pickle_references.specs.Sights.{Outlook, shown, kept_of, kept_in, shape_or, sight_act, sight_step}
-use Rattle.pickle_references.specs.Sights as sights
-use Rattle.pickle_references.specs.Shown.{own_shape, first_shape, shape_of, shapes_in, sight_with, sight_of}
+use Rattle.pickle_reading.specs.Steps as steps
+use Rattle.pickle_references.specs.Naming as naming
+use Rattle.pickle_references.specs.Sights.{Sight, Shapes, with_adding, shapes, shape_names, sight_step}
+use Rattle.pickle_references.specs.Shown.{own_shape, first_shape, shape_of, shapes_in, shapes_of, sight_of}
 use Rattle.pickle_reading.specs.Sound.{IsSoundState}
+use Rattle.pickle_references.proofs.Staying.{set-same, takes-none}
 use Rattle.pickle_references.proofs.Limits.{Limited, step-limited}
 use Rattle.pickle_reading.specs.SoundLaws.{SoundAfter, TakenBelow, taken-below, step-sound}
 
 -- ---- what a graph shows
 
 -- what is kept, if there is anything
-abbrev pub sight_in : Result Finding PickleError → Outlook
+abbrev pub sight_in : Result Finding PickleError → Result Sight PickleError
 sight_in (Ok f) = Ok (sight_of f)
 sight_in (Err e) = Err e
 
--- a state and the oids so far
-abbrev found_in : State → List ℕ → Finding
-found_in s oids = record { state = s; oids = oids }
-
--- what is kept shows what a step does that names nothing
-abbrev Shows : ℕ → List ℕ → Outlook → Outcome → Type 0
-Shows at oids outlook outcome = outlook ≡ sight_in (noted_in at oids Weak outcome)
+-- the shapes of what a step leaves, if there is anything
+abbrev shown : Outcome → Result Shapes PickleError
+shown (Ok s) = Ok (shapes_of s)
+shown (Err e) = Err e
 
 get-in : (ns xs : List Node) (i : ℕ) → slice_get (shapes_in ns xs) i ≡ option_map (shape_of ns) (slice_get xs i)
 get-in ns xs i = slice_get-map (shape_of ns) xs i
@@ -94,8 +94,8 @@ named-shape ns (Some (kinds.OldText bytes)) = named-bytes bytes
 named-shape ns _ = refl
 
 tuple-tuple : (first : Option Shape) → is_tuple_shape (Some (tuple_shape first)) ≡ true
-tuple-tuple (Some (shapes.Id oid)) = refl
-tuple-tuple (Some shapes.Global) = refl
+tuple-tuple (Some (kept.Id oid)) = refl
+tuple-tuple (Some kept.Global) = refl
 tuple-tuple _ = refl
 
 tuple-bytes : (named : Named) → is_tuple_shape (Some (bytes_shape named)) ≡ false
@@ -110,9 +110,9 @@ tuple-shape ns (Some (kinds.OldText bytes)) = tuple-bytes (oid_in bytes)
 tuple-shape ns _ = refl
 
 -- a tuple shows nothing as the first item of another
-tuple-plain : (first : Option Shape) → tuple_shape (Some (tuple_shape first)) ≡ shapes.Tuple
-tuple-plain (Some (shapes.Id oid)) = refl
-tuple-plain (Some shapes.Global) = refl
+tuple-plain : (first : Option Shape) → tuple_shape (Some (tuple_shape first)) ≡ kept.Tuple
+tuple-plain (Some (kept.Id oid)) = refl
+tuple-plain (Some kept.Global) = refl
 tuple-plain _ = refl
 
 own-tuple : (ns : List Node) (found : Option Node) → tuple_shape (option_map (shape_of ns) found) ≡ tuple_shape (option_map own_shape found)
@@ -232,36 +232,20 @@ push-in ns node h k =
     ∙ ap (λ (l : List Shape). l ++ shape_of (ns ++ node ∷ []) node ∷ []) (shapes-push ns node ns h)
     ∙ ap (λ (shape : Shape). shapes_in ns ns ++ shape ∷ []) (shape-push ns node node k)
 
--- ---- oids that are kept
+-- a new node
+make-either : (at : ℕ) (s : State) (table : List Shape) (b : Bool) → shapes_in s.nodes s.nodes ≡ table →
+    cond b (Ok (record { limit = s.limit; nodes = table; stack = s.stack; memo = s.memo })) (Err (errors.TooLarge at)) ≡ shown (cond b (Ok s) (Err (errors.TooLarge at)))
+make-either at s table true h = ap (λ (l : List Shape). Ok (record { limit = s.limit; nodes = l; stack = s.stack; memo = s.memo })) (sym h)
+make-either at s table false h = refl
 
-kept-noted : (at : ℕ) (s : State) (oids : List ℕ) (table : List Shape) (named : Named) → shapes_in s.nodes s.nodes ≡ table → kept_of at named (sight_with s table oids) ≡ sight_in (noted at s oids named)
-kept-noted at s oids table (Strong oid) e = ap (λ (l : List Shape). Ok (sight_with s l (oids ++ oid ∷ []))) (sym e)
-kept-noted at s oids table Weak e = ap (λ (l : List Shape). Ok (sight_with s l oids)) (sym e)
-kept-noted at s oids table Bad e = refl
-
-kept-either : (at : ℕ) (s : State) (oids : List ℕ) (table : List Shape) (named : Named) (e : PickleError) (b : Bool) → shapes_in s.nodes s.nodes ≡ table →
-    kept_in at named (cond b (Ok (sight_with s table oids)) (Err e)) ≡ sight_in (noted_in at oids named (cond b (Ok s) (Err e)))
-kept-either at s oids table named e true h = kept-noted at s oids table named h
-kept-either at s oids table named e false h = refl
-
-kept-weak : (at : ℕ) (outlook : Outlook) → kept_in at Weak outlook ≡ outlook
-kept-weak at (Ok s) = refl
-kept-weak at (Err e) = refl
-
--- a new node, and what its token names
-make-named : (at : ℕ) (node : Node) (s : State) (oids : List ℕ) (named : Named) → AreNodes s.nodes s.nodes → ItemsIn s.nodes node →
-    kept_in at named (shown at (shape_of s.nodes node) (sight_of (found_in s oids))) ≡ sight_in (noted_in at oids named (make at node s))
-make-named at node s oids named h k =
+make-shown : (at : ℕ) (node : Node) (s : State) → AreNodes s.nodes s.nodes → ItemsIn s.nodes node → make at (shape_of s.nodes node) (shapes_of s) ≡ shown (make at node s)
+make-shown at node s h k =
     let ns : List Node = s.nodes in
     let table : List Shape = shapes_in ns ns ++ shape_of ns node ∷ [] in
     let more : State = record s { nodes = ns ++ node ∷ []; stack = Value (length ns) ∷ s.stack } in
-    ap (λ (n : ℕ). kept_in at named (cond (ltb n s.limit) (Ok (record { limit = s.limit; shapes = table; stack = Value n ∷ s.stack; memo = s.memo; oids = oids })) (Err (errors.TooLarge at))))
+    ap (λ (n : ℕ). cond (ltb n s.limit) (Ok (record { limit = s.limit; nodes = table; stack = Value n ∷ s.stack; memo = s.memo })) (Err (errors.TooLarge at)))
     (length-map ns (shape_of ns))
-    ∙ kept-either at more oids table named (errors.TooLarge at) (ltb (length ns) s.limit) (push-in ns node h k)
-
-make-shown : (at : ℕ) (node : Node) (s : State) (oids : List ℕ) → AreNodes s.nodes s.nodes → ItemsIn s.nodes node →
-    Shows at oids (shown at (shape_of s.nodes node) (sight_of (found_in s oids))) (make at node s)
-make-shown at node s oids h k = sym (kept-weak at _) ∙ make-named at node s oids Weak h k
+    ∙ make-either at more table (ltb (length ns) s.limit) (push-in ns node h k)
 
 -- ---- nodes that are changed
 
@@ -310,14 +294,14 @@ Adds ns adding found None = takes adding (option_map (shape_of ns) found) ≡ fa
 Adds ns adding found (Some node) = Alike ns adding found node
 
 takes-tuple : (adding : Adding) (first : Option Shape) → takes adding (Some (tuple_shape first)) ≡ false
-takes-tuple addings.Values (Some (shapes.Id oid)) = refl
-takes-tuple addings.Values (Some shapes.Global) = refl
+takes-tuple addings.Values (Some (kept.Id oid)) = refl
+takes-tuple addings.Values (Some kept.Global) = refl
 takes-tuple addings.Values _ = refl
-takes-tuple addings.Pairs (Some (shapes.Id oid)) = refl
-takes-tuple addings.Pairs (Some shapes.Global) = refl
+takes-tuple addings.Pairs (Some (kept.Id oid)) = refl
+takes-tuple addings.Pairs (Some kept.Global) = refl
 takes-tuple addings.Pairs _ = refl
-takes-tuple addings.State (Some (shapes.Id oid)) = refl
-takes-tuple addings.State (Some shapes.Global) = refl
+takes-tuple addings.State (Some (kept.Id oid)) = refl
+takes-tuple addings.State (Some kept.Global) = refl
 takes-tuple addings.State _ = refl
 
 takes-bytes : (adding : Adding) (named : Named) → takes adding (Some (bytes_shape named)) ≡ false
@@ -350,119 +334,123 @@ adds ns (additions.Values values) _ = refl
 adds ns (additions.Pairs pairs) _ = refl
 adds ns (additions.State state) _ = refl
 
-changed-shown : (at : ℕ) (s : State) (oids : List ℕ) (n : ℕ) (below : List Item) (adding : Adding) (new : Option Node) → Adds s.nodes adding (slice_get s.nodes n) new →
-    Shows at oids (cond (takes adding (option_map (shape_of s.nodes) (slice_get s.nodes n))) (Ok (sight_of (found_in (record s { stack = Value n ∷ below }) oids))) (Err (errors.Stack at))) (changed at s n below new)
-changed-shown at s oids n below adding None h = rw h refl
-changed-shown at s oids n below adding (Some node) h =
+-- a shape that takes an addition stays, and any other takes none
+stays : (at : ℕ) (s : Shapes) (n : ℕ) (below : List Item) (adding : Adding) (found : Option Shape) → slice_get s.nodes n ≡ found →
+    changed at s n below (with_adding adding found) ≡ cond (takes adding found) (Ok (record s { stack = Value n ∷ below })) (Err (errors.Stack at))
+stays at s n below adding None h = sym (ap (λ (b : Bool). cond b (Ok (record s { stack = Value n ∷ below })) (Err (errors.Stack at))) (takes-none adding))
+stays at s n below adding (Some shape) h = test (takes adding (Some shape))
+  where
+    test : (b : Bool) → changed at s n below (cond b (Some shape) None) ≡ cond b (Ok (record s { stack = Value n ∷ below })) (Err (errors.Stack at))
+    test true = ap (λ (l : List Shape). Ok (record s { nodes = l; stack = Value n ∷ below })) (set-same s.nodes n shape h)
+    test false = refl
+
+changed-shown : (at : ℕ) (s : State) (n : ℕ) (below : List Item) (adding : Adding) (new : Option Node) → Adds s.nodes adding (slice_get s.nodes n) new →
+    cond (takes adding (option_map (shape_of s.nodes) (slice_get s.nodes n))) (Ok (shapes_of (record s { stack = Value n ∷ below }))) (Err (errors.Stack at)) ≡ shown (changed at s n below new)
+changed-shown at s n below adding None h = rw h refl
+changed-shown at s n below adding (Some node) h =
     let taken = h.taken in
     let like : (i : ℕ) → option_map own_shape (slice_get (slice_set s.nodes n node) i) ≡ option_map own_shape (slice_get s.nodes i) = λ i. own-set s.nodes n node i h.own in
     let e = shapes-set s.nodes (slice_set s.nodes n node) like s.nodes n node h.shape in
-    ap (λ (b : Bool). cond b (Ok (sight_of (found_in (record s { stack = Value n ∷ below }) oids))) (Err (errors.Stack at))) taken
-    ∙ ap (λ (l : List Shape). Ok (sight_with (record s { stack = Value n ∷ below }) l oids)) (sym e)
+    ap (λ (b : Bool). cond b (Ok (shapes_of (record s { stack = Value n ∷ below }))) (Err (errors.Stack at))) taken
+    ∙ ap (λ (l : List Shape). Ok (record { limit = s.limit; nodes = l; stack = Value n ∷ below; memo = s.memo })) (sym e)
 
-add_to-shown : (at : ℕ) (s : State) (oids : List ℕ) (addition : Addition) (stack : List Item) →
-    Shows at oids (sights.add_to at (sight_of (found_in (record s { stack = stack }) oids)) (adding_of addition) (top_of stack)) (add_to at s addition stack)
-add_to-shown at s oids addition [] = refl
-add_to-shown at s oids addition (Mark ∷ below) = refl
-add_to-shown at s oids addition (Value n ∷ below) =
-    ap (λ (found : Option Shape). cond (takes (adding_of addition) found) (Ok (sight_of (found_in (record s { stack = Value n ∷ below }) oids))) (Err (errors.Stack at))) (get-in s.nodes s.nodes n)
-    ∙ changed-shown at s oids n below (adding_of addition) (added addition (slice_get s.nodes n)) (adds s.nodes addition (slice_get s.nodes n))
+add_to-shown : (at : ℕ) (s : State) (addition : Addition) (stack : List Item) → steps.add_to shapes at (shapes_of s) (adding_of addition) stack ≡ shown (add_to at s addition stack)
+add_to-shown at s addition [] = refl
+add_to-shown at s addition (Mark ∷ below) = refl
+add_to-shown at s addition (Value n ∷ below) =
+    stays at (shapes_of s) n below (adding_of addition) (slice_get (shapes_in s.nodes s.nodes) n) refl
+    ∙ ap (λ (found : Option Shape). cond (takes (adding_of addition) found) (Ok (shapes_of (record s { stack = Value n ∷ below }))) (Err (errors.Stack at))) (get-in s.nodes s.nodes n)
+    ∙ changed-shown at s n below (adding_of addition) (added addition (slice_get s.nodes n)) (adds s.nodes addition (slice_get s.nodes n))
 
 -- ---- what tokens do
 
-unmarked-shown : (at : ℕ) (s : State) (oids : List ℕ) (found : TakenValues) → Shows at oids (sights.unmarked at (sight_of (found_in s oids)) (passed_of found)) (unmarked at s found)
-unmarked-shown at s oids None = refl
-unmarked-shown at s oids (Some found) = refl
+unmarked-shown : (at : ℕ) (s : State) (found : TakenValues) → unmarked at (shapes_of s) (passed_of found) ≡ shown (unmarked at s found)
+unmarked-shown at s None = refl
+unmarked-shown at s (Some found) = refl
 
-tuple_of-shown : (at : ℕ) (s : State) (oids : List ℕ) (found : TakenValues) → AreNodes s.nodes s.nodes → TakenBelow (length s.nodes) found →
-    Shows at oids (sights.tuple_of at (sight_of (found_in s oids)) (passed_of found)) (tuple_of at s found)
-tuple_of-shown at s oids None h k = refl
-tuple_of-shown at s oids (Some found) h k =
-    ap (λ (shape : Shape). shown at shape (sight_of (found_in (record s { stack = found.1 }) oids))) (lowest-shown s.nodes found.0)
-    ∙ make-shown at (kinds.Tuple found.0) (record s { stack = found.1 }) oids h k.0
+tuple_of-shown : (at : ℕ) (s : State) (found : TakenValues) → AreNodes s.nodes s.nodes → TakenBelow (length s.nodes) found → steps.tuple_of shapes at (shapes_of s) (passed_of found) ≡ shown (tuple_of at s found)
+tuple_of-shown at s None h k = refl
+tuple_of-shown at s (Some found) h k =
+    ap (λ (shape : Shape). make at shape (shapes_of (record s { stack = found.1 }))) (lowest-shown s.nodes found.0)
+    ∙ make-shown at (kinds.Tuple found.0) (record s { stack = found.1 }) h k.0
 
-append_to-shown : (at : ℕ) (s : State) (oids : List ℕ) (found : TakenValues) → Shows at oids (sights.append_to at (sight_of (found_in s oids)) (passed_of found)) (append_to at s found)
-append_to-shown at s oids None = refl
-append_to-shown at s oids (Some found) = add_to-shown at s oids (additions.Values found.0) found.1
+append_to-shown : (at : ℕ) (s : State) (found : TakenValues) → steps.append_to shapes at (shapes_of s) (passed_of found) ≡ shown (append_to at s found)
+append_to-shown at s None = refl
+append_to-shown at s (Some found) = add_to-shown at s (additions.Values found.0) found.1
 
-set_pairs-shown : (at : ℕ) (s : State) (oids : List ℕ) (pairs : Option (List (ℕ × ℕ))) (stack : List Item) →
-    Shows at oids (cond (left_over pairs) (Err (errors.Stack at)) (sights.add_to at (sight_of (found_in (record s { stack = stack }) oids)) addings.Pairs (top_of stack))) (set_pairs at s pairs stack)
-set_pairs-shown at s oids None stack = refl
-set_pairs-shown at s oids (Some pairs) stack = add_to-shown at s oids (additions.Pairs pairs) stack
+set_pairs-shown : (at : ℕ) (s : State) (pairs : Option (List (ℕ × ℕ))) (stack : List Item) →
+    steps.set_pairs shapes at (shapes_of s) (cond (left_over pairs) None (Some addings.Pairs)) stack ≡ shown (set_pairs at s pairs stack)
+set_pairs-shown at s None stack = refl
+set_pairs-shown at s (Some pairs) stack = add_to-shown at s (additions.Pairs pairs) stack
 
-set_in-shown : (at : ℕ) (s : State) (oids : List ℕ) (found : TakenValues) → Shows at oids (sights.set_in at (sight_of (found_in s oids)) (passed_of found)) (set_in at s found)
-set_in-shown at s oids None = refl
-set_in-shown at s oids (Some found) =
-    ap (λ (b : Bool). cond b (Err (errors.Stack at)) (sights.add_to at (sight_of (found_in (record s { stack = found.1 }) oids)) addings.Pairs (top_of found.1))) (odd-left found.0)
-    ∙ set_pairs-shown at s oids (pairs_of found.0) found.1
+set_in-shown : (at : ℕ) (s : State) (found : TakenValues) → steps.set_in shapes at (shapes_of s) (passed_of found) ≡ shown (set_in at s found)
+set_in-shown at s None = refl
+set_in-shown at s (Some found) =
+    ap (λ (b : Bool). steps.set_pairs shapes at (shapes_of s) (cond b None (Some addings.Pairs)) found.1) (odd-left found.0)
+    ∙ set_pairs-shown at s (pairs_of found.0) found.1
 
-build_of-shown : (at : ℕ) (s : State) (oids : List ℕ) (stack : List Item) → Shows at oids (sights.build_of at (sight_of (found_in s oids)) stack) (build_of at s stack)
-build_of-shown at s oids [] = refl
-build_of-shown at s oids (Mark ∷ below) = refl
-build_of-shown at s oids (Value state ∷ below) = add_to-shown at s oids (additions.State state) below
+build_of-shown : (at : ℕ) (s : State) (stack : List Item) → steps.build_of shapes at (shapes_of s) stack ≡ shown (build_of at s stack)
+build_of-shown at s [] = refl
+build_of-shown at s (Mark ∷ below) = refl
+build_of-shown at s (Value state ∷ below) = add_to-shown at s (additions.State state) below
 
-object_of-shown : (by_new : Bool) (at : ℕ) (s : State) (oids : List ℕ) (stack : List Item) → AreNodes s.nodes s.nodes → Shows at oids (sights.object_of at (sight_of (found_in s oids)) stack) (object_of by_new at s stack)
-object_of-shown by_new at s oids (Value arguments ∷ Value callee ∷ below) h =
+object_of-shown : (by_new : Bool) (at : ℕ) (s : State) (stack : List Item) → AreNodes s.nodes s.nodes → steps.object_of shapes by_new at (shapes_of s) stack ≡ shown (object_of by_new at s stack)
+object_of-shown by_new at s (Value arguments ∷ Value callee ∷ below) h =
     let node : Node = kinds.Object callee arguments by_new [] in
-    let made = make-shown at node (record s { stack = below }) oids h tt in
-    ap (λ (b : Bool). cond b (shown at shapes.Object (sight_of (found_in (record s { stack = below }) oids))) (Err (errors.Stack at))) (ap is_tuple_shape (get-in s.nodes s.nodes arguments) ∙ tuple-shape s.nodes (slice_get s.nodes arguments))
+    let made = make-shown at node (record s { stack = below }) h tt in
+    ap (λ (b : Bool). cond b (make at kept.Object (shapes_of (record s { stack = below }))) (Err (errors.Stack at))) (ap is_tuple_shape (get-in s.nodes s.nodes arguments) ∙ tuple-shape s.nodes (slice_get s.nodes arguments))
     ∙ test (is_tuple (slice_get s.nodes arguments)) _ _ made
   where
-    test : (b : Bool) (outlook : Outlook) (outcome : Outcome) → Shows at oids outlook outcome → Shows at oids (cond b outlook (Err (errors.Stack at))) (cond b outcome (Err (errors.Stack at)))
-    test true outlook outcome e = e
-    test false outlook outcome e = refl
-object_of-shown by_new at s oids [] h = refl
-object_of-shown by_new at s oids (Mark ∷ below) h = refl
-object_of-shown by_new at s oids (Value arguments ∷ []) h = refl
-object_of-shown by_new at s oids (Value arguments ∷ Mark ∷ below) h = refl
+    test : (b : Bool) (left : Result Shapes PickleError) (outcome : Outcome) → left ≡ shown outcome → cond b left (Err (errors.Stack at)) ≡ shown (cond b outcome (Err (errors.Stack at)))
+    test true left outcome e = e
+    test false left outcome e = refl
+object_of-shown by_new at s [] h = refl
+object_of-shown by_new at s (Mark ∷ below) h = refl
+object_of-shown by_new at s (Value arguments ∷ []) h = refl
+object_of-shown by_new at s (Value arguments ∷ Mark ∷ below) h = refl
 
-reference_of-shown : (at : ℕ) (s : State) (oids : List ℕ) (stack : List Item) → AreNodes s.nodes s.nodes → sights.reference_of at (sight_of (found_in s oids)) stack ≡ sight_in (noted_in at oids (named_on s.nodes stack) (reference_of at s stack))
-reference_of-shown at s oids [] h = refl
-reference_of-shown at s oids (Mark ∷ below) h = refl
-reference_of-shown at s oids (Value id ∷ below) h =
-    ap (λ (named : Named). kept_in at named (shown at shapes.Other (sight_of (found_in (record s { stack = below }) oids)))) (ap named_as (get-in s.nodes s.nodes id) ∙ named-shape s.nodes (slice_get s.nodes id))
-    ∙ make-named at (kinds.Reference id) (record s { stack = below }) oids (named_by s.nodes (slice_get s.nodes id)) h tt
+reference_of-shown : (at : ℕ) (s : State) (stack : List Item) → AreNodes s.nodes s.nodes → steps.reference_of shapes at (shapes_of s) stack ≡ shown (reference_of at s stack)
+reference_of-shown at s [] h = refl
+reference_of-shown at s (Mark ∷ below) h = refl
+reference_of-shown at s (Value id ∷ below) h = make-shown at (kinds.Reference id) (record s { stack = below }) h tt
 
-popped-shown : (at : ℕ) (s : State) (oids : List ℕ) (stack : List Item) → Shows at oids (sights.popped at (sight_of (found_in s oids)) stack) (popped at s stack)
-popped-shown at s oids [] = refl
-popped-shown at s oids (item ∷ below) = refl
+popped-shown : (at : ℕ) (s : State) (stack : List Item) → popped at (shapes_of s) stack ≡ shown (popped at s stack)
+popped-shown at s [] = refl
+popped-shown at s (item ∷ below) = refl
 
-doubled-shown : (at : ℕ) (s : State) (oids : List ℕ) (stack : List Item) → Shows at oids (sights.doubled at (sight_of (found_in s oids)) (top_of stack)) (doubled at s stack)
-doubled-shown at s oids [] = refl
-doubled-shown at s oids (Mark ∷ below) = refl
-doubled-shown at s oids (Value v ∷ below) = refl
+doubled-shown : (at : ℕ) (s : State) (stack : List Item) → doubled at (shapes_of s) stack ≡ shown (doubled at s stack)
+doubled-shown at s [] = refl
+doubled-shown at s (Mark ∷ below) = refl
+doubled-shown at s (Value v ∷ below) = refl
 
-put_of-shown : (at number : ℕ) (s : State) (oids : List ℕ) (stack : List Item) → Shows at oids (sights.put_of at number (sight_of (found_in s oids)) (top_of stack)) (put_of at number s stack)
-put_of-shown at number s oids [] = refl
-put_of-shown at number s oids (Mark ∷ below) = refl
-put_of-shown at number s oids (Value v ∷ below) = refl
+put_of-shown : (at number : ℕ) (s : State) (stack : List Item) → put_of at number (shapes_of s) stack ≡ shown (put_of at number s stack)
+put_of-shown at number s [] = refl
+put_of-shown at number s (Mark ∷ below) = refl
+put_of-shown at number s (Value v ∷ below) = refl
 
-get_of-shown : (at : ℕ) (s : State) (oids : List ℕ) (found : Option ℕ) → Shows at oids (sights.get_of at (sight_of (found_in s oids)) found) (get_of at s found)
-get_of-shown at s oids None = refl
-get_of-shown at s oids (Some v) = refl
+get_of-shown : (at : ℕ) (s : State) (found : Option ℕ) → get_of at (shapes_of s) found ≡ shown (get_of at s found)
+get_of-shown at s None = refl
+get_of-shown at s (Some v) = refl
 
-module _ (at : ℕ) (s : State) (oids : List ℕ) (sound : IsSoundState s) where
-  abbrev here : Sight
-  here = sight_of (found_in s oids)
-
+module _ (at : ℕ) (s : State) (sound : IsSoundState s) where
   below-here : (extent : Extent) → TakenBelow (length s.nodes) (values_taken extent s.stack)
   below-here extent = taken-below (length s.nodes) extent s.stack sound.values
 
-  act-tuple : (extent : Extent) → Shows at oids (sights.tuple_of at here (values_passed extent s.stack)) (tuple_of at s (values_taken extent s.stack))
-  act-tuple extent = ap (sights.tuple_of at here) (values-passed extent s.stack) ∙ tuple_of-shown at s oids (values_taken extent s.stack) sound.nodes (below-here extent)
+  act-tuple : (extent : Extent) → steps.tuple_of shapes at (shapes_of s) (values_passed extent s.stack) ≡ shown (tuple_of at s (values_taken extent s.stack))
+  act-tuple extent = ap (steps.tuple_of shapes at (shapes_of s)) (values-passed extent s.stack) ∙ tuple_of-shown at s (values_taken extent s.stack) sound.nodes (below-here extent)
 
-  act-append : (extent : Extent) → Shows at oids (sights.append_to at here (values_passed extent s.stack)) (append_to at s (values_taken extent s.stack))
-  act-append extent = ap (sights.append_to at here) (values-passed extent s.stack) ∙ append_to-shown at s oids (values_taken extent s.stack)
+  act-append : (extent : Extent) → steps.append_to shapes at (shapes_of s) (values_passed extent s.stack) ≡ shown (append_to at s (values_taken extent s.stack))
+  act-append extent = ap (steps.append_to shapes at (shapes_of s)) (values-passed extent s.stack) ∙ append_to-shown at s (values_taken extent s.stack)
 
-  act-set : (extent : Extent) → Shows at oids (sights.set_in at here (values_passed extent s.stack)) (set_in at s (values_taken extent s.stack))
-  act-set extent = ap (sights.set_in at here) (values-passed extent s.stack) ∙ set_in-shown at s oids (values_taken extent s.stack)
+  act-set : (extent : Extent) → steps.set_in shapes at (shapes_of s) (values_passed extent s.stack) ≡ shown (set_in at s (values_taken extent s.stack))
+  act-set extent = ap (steps.set_in shapes at (shapes_of s)) (values-passed extent s.stack) ∙ set_in-shown at s (values_taken extent s.stack)
 
-  act-shown : (op : Op) (number : ℤ) → sight_act op at number here ≡ sight_in (noted_in at oids (named_by_token op s.nodes s.stack) (act_of op at number s))
+  act-shown : (op : Op) (number : ℤ) → steps.act_of shapes op at number (shapes_of s) ≡ shown (act_of op at number s)
   act-shown ops.Proto number = refl
   act-shown ops.Mark number = refl
-  act-shown ops.Pop number = popped-shown at s oids s.stack
-  act-shown ops.PopMark number = ap (sights.unmarked at here) (values-passed Marked s.stack) ∙ unmarked-shown at s oids (values_taken Marked s.stack)
-  act-shown ops.Dup number = doubled-shown at s oids s.stack
+  act-shown ops.Pop number = popped-shown at s s.stack
+  act-shown ops.PopMark number = ap (unmarked at (shapes_of s)) (values-passed Marked s.stack) ∙ unmarked-shown at s (values_taken Marked s.stack)
+  act-shown ops.Dup number = doubled-shown at s s.stack
   act-shown ops.Tuple number = act-tuple Marked
   act-shown ops.Tuple1 number = act-tuple (Top 1)
   act-shown ops.Tuple2 number = act-tuple (Top 2)
@@ -471,83 +459,102 @@ module _ (at : ℕ) (s : State) (oids : List ℕ) (sound : IsSoundState s) where
   act-shown ops.Appends number = act-append Marked
   act-shown ops.SetItem number = act-set (Top 2)
   act-shown ops.SetItems number = act-set Marked
-  act-shown ops.Reduce number = object_of-shown false at s oids s.stack sound.nodes
-  act-shown ops.NewObj number = object_of-shown true at s oids s.stack sound.nodes
-  act-shown ops.Build number = build_of-shown at s oids s.stack
-  act-shown ops.BinPersid number = reference_of-shown at s oids s.stack sound.nodes
-  act-shown ops.BinPut number = put_of-shown at (unsigned_abs number) s oids s.stack
-  act-shown ops.LongBinPut number = put_of-shown at (unsigned_abs number) s oids s.stack
-  act-shown ops.BinGet number = get_of-shown at s oids (node_at s.memo (unsigned_abs number))
-  act-shown ops.LongBinGet number = get_of-shown at s oids (node_at s.memo (unsigned_abs number))
+  act-shown ops.Reduce number = object_of-shown false at s s.stack sound.nodes
+  act-shown ops.NewObj number = object_of-shown true at s s.stack sound.nodes
+  act-shown ops.Build number = build_of-shown at s s.stack
+  act-shown ops.BinPersid number = reference_of-shown at s s.stack sound.nodes
+  act-shown ops.BinPut number = put_of-shown at (unsigned_abs number) s s.stack
+  act-shown ops.LongBinPut number = put_of-shown at (unsigned_abs number) s s.stack
+  act-shown ops.BinGet number = get_of-shown at s (node_at s.memo (unsigned_abs number))
+  act-shown ops.LongBinGet number = get_of-shown at s (node_at s.memo (unsigned_abs number))
   act-shown _ number = refl
 
 -- ---- leaves
 
--- a leaf, its shape, and that its token names nothing
-record LeafShown (ns : List Node) (stack : List Item) (op : Op) (node : Node) (shape : Option Shape) : Type 0 where
+-- a leaf and its shape
+record LeafShown (ns : List Node) (node : Node) (shape : Option Shape) : Type 0 where
   is : shape ≡ Some (shape_of ns node)
   items : ItemsIn ns node
-  quiet : named_by_token op ns stack ≡ Weak
 
-abbrev LeafShows : List Node → List Item → Op → Option Node → Option Shape → Type 0
-LeafShows ns stack op None shape = shape ≡ None
-LeafShows ns stack op (Some node) shape = LeafShown ns stack op node shape
+abbrev LeafShows : List Node → Option Node → Option Shape → Type 0
+LeafShows ns None shape = shape ≡ None
+LeafShows ns (Some node) shape = LeafShown ns node shape
 
-module _ (ns : List Node) (stack : List Item) where
-  leaf-long : (op : Op) (bytes : List ℕ) → named_by_token op ns stack ≡ Weak → LeafShows ns stack op (Some (long_of bytes)) (Some shapes.Other)
-  leaf-long op bytes quiet = test (ltb 16 (length bytes))
+module _ (ns : List Node) where
+  leaf-long : (bytes : List ℕ) → LeafShows ns (Some (long_of bytes)) (Some kept.Other)
+  leaf-long bytes = test (ltb 16 (length bytes))
     where
-      test : (b : Bool) → LeafShows ns stack op (Some (cond b (kinds.Wide bytes) (kinds.Number (long_number bytes)))) (Some shapes.Other)
-      test true = record { is = refl; items = tt; quiet = quiet }
-      test false = record { is = refl; items = tt; quiet = quiet }
+      test : (b : Bool) → LeafShows ns (Some (cond b (kinds.Wide bytes) (kinds.Number (long_number bytes)))) (Some kept.Other)
+      test true = record { is = refl; items = tt }
+      test false = record { is = refl; items = tt }
 
-  leaf-shows : (op : Op) (number : ℤ) (bytes : List ℕ) → LeafShows ns stack op (leaf_of op number bytes) (leaf_shape op bytes)
-  leaf-shows ops.None number bytes = record { is = refl; items = tt; quiet = refl }
-  leaf-shows ops.NewTrue number bytes = record { is = refl; items = tt; quiet = refl }
-  leaf-shows ops.NewFalse number bytes = record { is = refl; items = tt; quiet = refl }
-  leaf-shows ops.BinInt number bytes = record { is = refl; items = tt; quiet = refl }
-  leaf-shows ops.BinInt1 number bytes = record { is = refl; items = tt; quiet = refl }
-  leaf-shows ops.BinInt2 number bytes = record { is = refl; items = tt; quiet = refl }
-  leaf-shows ops.Long1 number bytes = leaf-long ops.Long1 bytes refl
-  leaf-shows ops.Long4 number bytes = leaf-long ops.Long4 bytes refl
-  leaf-shows ops.BinFloat number bytes = record { is = refl; items = tt; quiet = refl }
-  leaf-shows ops.BinBytes number bytes = record { is = refl; items = tt; quiet = refl }
-  leaf-shows ops.ShortBinBytes number bytes = record { is = refl; items = tt; quiet = refl }
-  leaf-shows ops.BinString number bytes = record { is = refl; items = tt; quiet = refl }
-  leaf-shows ops.ShortBinString number bytes = record { is = refl; items = tt; quiet = refl }
-  leaf-shows ops.BinUnicode number bytes = record { is = refl; items = tt; quiet = refl }
-  leaf-shows ops.EmptyTuple number bytes = record { is = refl; items = tt; quiet = refl }
-  leaf-shows ops.EmptyList number bytes = record { is = refl; items = tt; quiet = refl }
-  leaf-shows ops.EmptyDict number bytes = record { is = refl; items = tt; quiet = refl }
-  leaf-shows ops.Global number bytes = record { is = refl; items = tt; quiet = refl }
+  leaf-shows : (op : Op) (number : ℤ) (bytes : List ℕ) → LeafShows ns (leaf_of op number bytes) (leaf_shape op bytes)
+  leaf-shows ops.None number bytes = record { is = refl; items = tt }
+  leaf-shows ops.NewTrue number bytes = record { is = refl; items = tt }
+  leaf-shows ops.NewFalse number bytes = record { is = refl; items = tt }
+  leaf-shows ops.BinInt number bytes = record { is = refl; items = tt }
+  leaf-shows ops.BinInt1 number bytes = record { is = refl; items = tt }
+  leaf-shows ops.BinInt2 number bytes = record { is = refl; items = tt }
+  leaf-shows ops.Long1 number bytes = leaf-long bytes
+  leaf-shows ops.Long4 number bytes = leaf-long bytes
+  leaf-shows ops.BinFloat number bytes = record { is = refl; items = tt }
+  leaf-shows ops.BinBytes number bytes = record { is = refl; items = tt }
+  leaf-shows ops.ShortBinBytes number bytes = record { is = refl; items = tt }
+  leaf-shows ops.BinString number bytes = record { is = refl; items = tt }
+  leaf-shows ops.ShortBinString number bytes = record { is = refl; items = tt }
+  leaf-shows ops.BinUnicode number bytes = record { is = refl; items = tt }
+  leaf-shows ops.EmptyTuple number bytes = record { is = refl; items = tt }
+  leaf-shows ops.EmptyList number bytes = record { is = refl; items = tt }
+  leaf-shows ops.EmptyDict number bytes = record { is = refl; items = tt }
+  leaf-shows ops.Global number bytes = record { is = refl; items = tt }
   leaf-shows _ number bytes = refl
 
-leaf_or-shown : (op : Op) (at : ℕ) (s : State) (oids : List ℕ) (node : Option Node) (shape : Option Shape) (outlook : Outlook) (outcome : Outcome) → AreNodes s.nodes s.nodes → LeafShows s.nodes s.stack op node shape →
-    outlook ≡ sight_in (noted_in at oids (named_by_token op s.nodes s.stack) outcome) →
-    shape_or at (sight_of (found_in s oids)) shape outlook ≡ sight_in (noted_in at oids (named_by_token op s.nodes s.stack) (leaf_or at s node outcome))
-leaf_or-shown op at s oids None shape outlook outcome h k e = ap (λ (x : Option Shape). shape_or at (sight_of (found_in s oids)) x outlook) k ∙ e
-leaf_or-shown op at s oids (Some node) shape outlook outcome h k e =
-    ap (λ (x : Option Shape). shape_or at (sight_of (found_in s oids)) x outlook) k.is
-    ∙ make-shown at node s oids h k.items
-    ∙ ap (λ (named : Named). sight_in (noted_in at oids named (make at node s))) (sym k.quiet)
+leaf_or-shown : (at : ℕ) (s : State) (node : Option Node) (shape : Option Shape) (other : Result Shapes PickleError) (outcome : Outcome) → AreNodes s.nodes s.nodes → LeafShows s.nodes node shape →
+    other ≡ shown outcome → leaf_or at (shapes_of s) shape other ≡ shown (leaf_or at s node outcome)
+leaf_or-shown at s None shape other outcome h k e = ap (λ (x : Option Shape). leaf_or at (shapes_of s) x other) k ∙ e
+leaf_or-shown at s (Some node) shape other outcome h k e = ap (λ (x : Option Shape). leaf_or at (shapes_of s) x other) k.is ∙ make-shown at node s h k.items
+
+-- ---- what is named
+
+named_on-shown : (ns : List Node) (stack : List Item) → naming.named_on shape_names (shapes_in ns ns) stack ≡ named_on ns stack
+named_on-shown ns [] = refl
+named_on-shown ns (Mark ∷ below) = refl
+named_on-shown ns (Value v ∷ below) = ap named_as (get-in ns ns v) ∙ named-shape ns (slice_get ns v)
+
+token-shown : (op : Op) (ns : List Node) (stack : List Item) → naming.named_by_token shape_names op (shapes_in ns ns) stack ≡ named_by_token op ns stack
+token-shown ops.BinPersid ns stack = named_on-shown ns stack
+token-shown _ ns stack = refl
+
+noted-shown : (at : ℕ) (s : State) (oids : List ℕ) (named : Named) → noted at (shapes_of s) oids named ≡ sight_in (noted at s oids named)
+noted-shown at s oids (Strong oid) = refl
+noted-shown at s oids Weak = refl
+noted-shown at s oids Bad = refl
+
+noted_in-shown : (at : ℕ) (oids : List ℕ) (named : Named) (outcome : Outcome) → noted_in at oids named (shown outcome) ≡ sight_in (noted_in at oids named outcome)
+noted_in-shown at oids named (Ok s) = noted-shown at s oids named
+noted_in-shown at oids named (Err e) = refl
 
 -- What a token does to what is kept shows what it does to a graph.
 pub step-shown : (op : Op) (at : ℕ) (number : ℤ) (bytes : List ℕ) (f : Finding) → IsSoundState f.state → sight_step op at number bytes (sight_of f) ≡ sight_in (find op at number bytes f)
 step-shown op at number bytes f sound =
-    leaf_or-shown op at f.state f.oids (leaf_of op number bytes) (leaf_shape op bytes) (sight_act op at number (sight_of f)) (act_of op at number f.state)
-    sound.nodes (leaf-shows f.state.nodes f.state.stack op number bytes) (act-shown at f.state f.oids sound op number)
+    let ns : List Node = f.state.nodes in
+    ap (λ (named : Named). noted_in at f.oids named (steps.step shapes op at number bytes (shapes_of f.state))) (token-shown op ns f.state.stack)
+    ∙ ap (noted_in at f.oids (named_by_token op ns f.state.stack))
+    (leaf_or-shown at f.state (leaf_of op number bytes) (leaf_shape op bytes) (steps.act_of shapes op at number (shapes_of f.state)) (act_of op at number f.state)
+    sound.nodes (leaf-shows ns op number bytes) (act-shown at f.state sound op number))
+    ∙ noted_in-shown at f.oids (named_by_token op ns f.state.stack) (step op at number bytes f.state)
 
 -- ---- runs
 
 -- a reader begins with the shapes of the nodes that were left
-pub begins : (s : Sight) (nodes : List Node) (memo : List (ℕ × ℕ)) → s.limit ≡ NODE_LIMIT + length nodes → s.shapes ≡ shapes_in nodes nodes → s.stack ≡ [] → s.memo ≡ memo → s.oids ≡ [] →
-    s ≡ sight_of (found_in (begun NODE_LIMIT nodes memo) [])
+pub begins : (s : Sight) (nodes : List Node) (memo : List (ℕ × ℕ)) → s.state.limit ≡ NODE_LIMIT + length nodes → s.state.nodes ≡ shapes_in nodes nodes → s.state.stack ≡ [] → s.state.memo ≡ memo → s.oids ≡ [] →
+    s ≡ sight_of (record { state = begun NODE_LIMIT nodes memo; oids = [] })
 begins s nodes memo a b c d e =
-    ap (λ (x : ℕ). record { limit = x; shapes = s.shapes; stack = s.stack; memo = s.memo; oids = s.oids }) a
-    ∙ ap (λ (x : List Shape). record { limit = NODE_LIMIT + length nodes; shapes = x; stack = s.stack; memo = s.memo; oids = s.oids }) b
-    ∙ ap (λ (x : List Item). record { limit = NODE_LIMIT + length nodes; shapes = shapes_in nodes nodes; stack = x; memo = s.memo; oids = s.oids }) c
-    ∙ ap (λ (x : List (ℕ × ℕ)). record { limit = NODE_LIMIT + length nodes; shapes = shapes_in nodes nodes; stack = []; memo = x; oids = s.oids }) d
-    ∙ ap (λ (x : List ℕ). record { limit = NODE_LIMIT + length nodes; shapes = shapes_in nodes nodes; stack = []; memo = memo; oids = x }) e
+    ap (λ (x : ℕ). record { state = record { limit = x; nodes = s.state.nodes; stack = s.state.stack; memo = s.state.memo }; oids = s.oids }) a
+    ∙ ap (λ (x : List Shape). record { state = record { limit = NODE_LIMIT + length nodes; nodes = x; stack = s.state.stack; memo = s.state.memo }; oids = s.oids }) b
+    ∙ ap (λ (x : List Item). record { state = record { limit = NODE_LIMIT + length nodes; nodes = shapes_in nodes nodes; stack = x; memo = s.state.memo }; oids = s.oids }) c
+    ∙ ap (λ (x : List (ℕ × ℕ)). record { state = record { limit = NODE_LIMIT + length nodes; nodes = shapes_in nodes nodes; stack = []; memo = x }; oids = s.oids }) d
+    ∙ ap (λ (x : List ℕ). record { state = record { limit = NODE_LIMIT + length nodes; nodes = shapes_in nodes nodes; stack = []; memo = memo }; oids = x }) e
 
 -- what is known of what was read, if it was
 abbrev pub SoundFound : ℕ → Result Finding PickleError → Type 0

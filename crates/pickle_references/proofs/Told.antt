@@ -9,18 +9,19 @@ use Rattle.pickle_ops.specs.declared.token.TokenError.{TokenError}
 use Rattle.pickle_ops.specs.Tokens.{token_at}
 use Rattle.pickle_graph.specs.declared.node.Node.{Node}
 use Rattle.pickle_reading.specs.declared.error.PickleError.{PickleError}
-use Rattle.pickle_references.specs.declared.part.Finding.{Finding}
+use Rattle.pickle_references.specs.References.{Finding}
 use Rattle.pickle_references.specs.declared.part.Part.{Part}
 use Rattle.pickle_references.specs.declared.references.Named.{Named}
 use Rattle.pickle_references.specs.declared.references.Named.TheVariants.{Strong, Weak, Bad}
 use Rattle.pickle_reading.specs.declared.reading.TheConstants.{NODE_LIMIT}
-use Rattle.pickle_reading.specs.declared.state.State.{State}
+use Rattle.pickle_reading.specs.Nodes.{State}
 use Rattle.pickle_reading.specs.declared.state.Item.{Item}
 use Rattle.pickle_reading.specs.declared.state.Item.TheVariants.{Value, Mark}
 use Rattle.pickle_graph.specs.Graph.{Graph}
-use Rattle.pickle_reading.specs.Steps.{Outcome, step}
+use Rattle.pickle_reading.specs.Nodes.{Outcome, step}
 use Rattle.pickle_reading.specs.Reading.{graphs, read_from, after_token, is_stop, bytes_of, go_on, root_of, begun}
-use Rattle.pickle_references.specs.References.{Left, parts, left_of, named_by_token, noted, noted_in, find}
+use Rattle.pickle_references.specs.References.{Left, parts, left_of, named_by_token, find}
+use Rattle.pickle_references.specs.Naming.{noted, noted_in}
 use Rattle.pickle_references.specs.Named.{with_name, named_in, ToldIsNamed}
 use Rattle.pickle_references.specs.Cores.{core, has_form, number-core, in-core, name-on, in-on, in-append}
 use Rattle.pickle_references.proofs.Grown.{After, Grown, token_names, step-grown}

@@ -1,3 +1,4 @@
+pub mod Naming
 pub mod References
 pub mod Shapes
 pub mod Sights

@@ -2,24 +2,27 @@
 use Rattle.std.specs.Prelude.{ℕ, ℤ, List, [], ◌∷◌, ◌++◌, Option, Some, Result, Ok, Err, length, drop, slice_get, ◌==◌, if◌then◌else◌}
 use Rattle.byteorder.specs.Endian.{big_number}
 use Rattle.pickle_ops.specs.declared.table.Op.{Op}
-use Rattle.pickle_ops.specs.declared.table.Op.TheVariants as ops
 use Rattle.pickle_reading.specs.declared.error.PickleError.{PickleError}
 use Rattle.pickle_reading.specs.declared.error.PickleError.TheVariants as errors
 use Rattle.pickle_graph.specs.declared.node.Node.{Node}
 use Rattle.pickle_graph.specs.declared.node.Node.TheVariants as kinds
 use Rattle.pickle_references.specs.declared.pair.Pair.{Pair}
 use Rattle.pickle_references.specs.declared.pair.PairReferences.{PairReferences}
-use Rattle.pickle_references.specs.declared.part.Finding.{Finding}
+use Rattle.pickle_references.specs.declared.finding.Finding as found
+use Rattle.pickle_references.specs.Naming as naming
 use Rattle.pickle_references.specs.declared.part.Part.{Part}
 use Rattle.pickle_reading.specs.declared.reading.TheConstants.{NODE_LIMIT}
 use Rattle.pickle_references.specs.declared.references.Named.{Named}
 use Rattle.pickle_references.specs.declared.references.Named.TheVariants.{Strong, Weak, Bad}
 use Rattle.pickle_reading.specs.declared.state.Item.{Item}
 use Rattle.pickle_reading.specs.declared.state.Item.TheVariants.{Value}
-use Rattle.pickle_reading.specs.declared.state.State.{State}
 use Rattle.pickle_graph.specs.Class.{is_class}
-use Rattle.pickle_reading.specs.Steps.{step}
+use Rattle.pickle_reading.specs.Nodes as graphs
 use Rattle.pickle_reading.specs.Reading.{Reader, read_from, go_on, begun}
+
+-- what was found of a graph
+abbrev pub Finding : Type 0
+Finding = found.Finding Node
 
 -- an oid is eight bytes, the highest first
 abbrev pub oid_in : List ℕ → Named
@@ -44,29 +47,14 @@ named_by ns node = oid_of node
 
 -- what the value on the top names
 abbrev pub named_on : List Node → List Item → Named
-named_on ns (Value v ∷ below) = named_by ns (slice_get ns v)
-named_on ns _ = Bad
+named_on ns stack = naming.named_on named_by ns stack
 
--- the oids with what one more persistent id names
-abbrev pub noted : ℕ → State → List ℕ → Named → Result Finding PickleError
-noted at s oids (Strong oid) = Ok (record { state = s; oids = oids ++ oid ∷ [] })
-noted at s oids Weak = Ok (record { state = s; oids = oids })
-noted at s oids Bad = Err (errors.BadReference at)
-
--- only a persistent id's token names something
+-- what a token names, and what it does besides
 abbrev pub named_by_token : Op → List Node → List Item → Named
-named_by_token ops.BinPersid ns stack = named_on ns stack
-named_by_token _ ns stack = Weak
+named_by_token op ns stack = naming.named_by_token named_by op ns stack
 
--- the oids behind a token that was done, or its refusal
-abbrev pub noted_in : ℕ → List ℕ → Named → Result State PickleError → Result Finding PickleError
-noted_in at oids named (Ok s) = noted at s oids named
-noted_in at oids named (Err e) = Err e
-
--- what a token does, and what its persistent id names
 abbrev pub find : Op → ℕ → ℤ → List ℕ → Finding → Result Finding PickleError
-find op at number bytes f =
-    noted_in at f.oids (named_by_token op f.state.nodes f.state.stack) (step op at number bytes f.state)
+find op at number bytes f = naming.find graphs.nodes named_by op at number bytes f
 
 -- What a pickle says, and the memo that it leaves.
 abbrev pub Left : Type 0

@@ -4,12 +4,11 @@ use Rattle.std.specs.Option.{option_map}
 use Rattle.pickle_reading.specs.declared.error.PickleError.{PickleError}
 use Rattle.pickle_graph.specs.declared.node.Node.{Node}
 use Rattle.pickle_graph.specs.declared.node.Node.TheVariants as kinds
-use Rattle.pickle_references.specs.declared.part.Finding.{Finding}
 use Rattle.pickle_references.specs.declared.shapes.Shape.{Shape}
 use Rattle.pickle_references.specs.declared.shapes.Shape.TheVariants as shapes
-use Rattle.pickle_references.specs.declared.sights.Sight.{Sight}
-use Rattle.pickle_reading.specs.declared.state.State.{State}
-use Rattle.pickle_references.specs.References.{Left, left_with, oid_in}
+use Rattle.pickle_references.specs.Sights.{Shapes, Sight}
+use Rattle.pickle_reading.specs.Nodes.{State}
+use Rattle.pickle_references.specs.References.{Finding, Left, left_with, oid_in}
 use Rattle.pickle_references.specs.Shapes.{bytes_shape, tuple_shape}
 use Rattle.pickle_reading.specs.Sound.{IsSoundState}
 
@@ -38,13 +37,12 @@ shape_of ns node = own_shape node
 abbrev pub shapes_in : List Node → List Node → List Shape
 shapes_in ns xs = map (shape_of ns) xs
 
--- a state with these shapes and oids
-abbrev pub sight_with : State → List Shape → List ℕ → Sight
-sight_with s table oids = record { limit = s.limit; shapes = table; stack = s.stack; memo = s.memo; oids = oids }
-
 -- what is kept where a graph was read so far
+abbrev pub shapes_of : State → Shapes
+shapes_of s = record { limit = s.limit; nodes = shapes_in s.nodes s.nodes; stack = s.stack; memo = s.memo }
+
 abbrev pub sight_of : Finding → Sight
-sight_of f = sight_with f.state (shapes_in f.state.nodes f.state.nodes) f.oids
+sight_of f = record { state = shapes_of f.state; oids = f.oids }
 
 -- what is kept at STOP shows what was found, of which this is the root
 pub record IsSeen (root next most : ℕ) (new : Sight) (read : Result Left PickleError) : Type 0 where

@@ -2,6 +2,7 @@
 //! and two pickles of one reader.
 #![tactic(auto)]
 
+mod finding;
 mod laws;
 mod node_copy;
 mod pair;
@@ -9,7 +10,6 @@ mod part;
 mod passing;
 mod references;
 mod shapes;
-mod sights;
 
 pub use laws::references_are_those_of_nodes;
 pub use pair::{Pair, PairReferences, read_pair, references_of_pair};

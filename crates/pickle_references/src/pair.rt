@@ -5,10 +5,11 @@ ghost use Rattle.pickle_reading.specs.declared.reading.TheConstants.{NODE_LIMIT}
 ghost use Rattle.pickle_references.specs.References.{pair_of, references_in};
 ghost use Rattle.pickle_reading.specs.Steps.{AnswersAs};
 
+use crate::finding::Finding;
 use crate::node_copy::copied_nodes;
 use crate::part::{Part, read_part};
 use crate::references::look_to_stop;
-use crate::sights::Sight;
+use crate::shapes::{Shape, is_class_shape};
 use pickle_reading::{Memo, NODE_LIMIT, PickleError, first_room};
 use std::alloc::Global;
 use zb_ids::{ListOf, Oid};
@@ -48,16 +49,16 @@ pub fn read_pair(alloc: Global, input: &[u8]) -> Result<Pair, PickleError>
 }
 
 /// What the second pickle's reader keeps at its start, and the oids that the first named.
-fn next_sight(alloc: Global, sight: Sight, room: usize) -> (Sight, ListOf<Oid>)
-    requires few { length sight.shapes ≤ NODE_LIMIT }
-    ensures limit { result.0.limit ≡ NODE_LIMIT + length sight.shapes }
-    ensures shapes { result.0.shapes ≡ sight.shapes }
-    ensures stack { result.0.stack ≡ [] }
-    ensures memo { result.0.memo ≡ sight.memo }
+fn next_sight(alloc: Global, sight: Finding<Shape>, room: usize) -> (Finding<Shape>, ListOf<Oid>)
+    requires few { length sight.state.nodes ≤ NODE_LIMIT }
+    ensures limit { result.0.state.limit ≡ NODE_LIMIT + length sight.state.nodes }
+    ensures nodes { result.0.state.nodes ≡ sight.state.nodes }
+    ensures stack { result.0.state.stack ≡ [] }
+    ensures memo { result.0.state.memo ≡ sight.state.memo }
     ensures oids { result.0.oids ≡ [] }
     ensures told { result.1 ≡ sight.oids }
 {
-    let limit = NODE_LIMIT + sight.shapes.len() as u32;
+    let limit = NODE_LIMIT + sight.state.nodes.len() as u32;
     sight.next(alloc, limit, room)
 }
 
@@ -67,12 +68,12 @@ pub fn references_of_pair(alloc: Global, input: &[u8]) -> Result<PairReferences,
     ensures told { AnswersAs result (references_in (pair_of input.now)) }
     ensures inside { IfOk result (λ told. told.behind ≤ length input.now) }
 {
-    let mut first = Sight::new(alloc, NODE_LIMIT, 0);
-    let stop = look_to_stop(&mut first, input, 0)?;
-    let is_class = first.shapes.is_class(stop.0);
+    let mut first: Finding<Shape> = Finding::new(alloc, NODE_LIMIT, 0);
+    let stop = look_to_stop(alloc, &mut first, input, 0)?;
+    let is_class = is_class_shape(&first.state.nodes, stop.0);
     let room = first_room(input.len().saturating_sub(stop.1));
     let (mut second, oids) = next_sight(alloc, first, room);
-    let end = look_to_stop(&mut second, input, stop.1)?;
+    let end = look_to_stop(alloc, &mut second, input, stop.1)?;
     let mut all = oids.into_vec();
     all.extend_from_slice(second.oids.as_slice())?;
     Ok(PairReferences {

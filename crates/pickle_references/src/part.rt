@@ -1,19 +1,18 @@
 //! What a pickle says.
 
-ghost use Rattle.std.specs.Prelude.{◌≡◌, ◌+◌, ◌<◌, ◌≤◌, Ok, drop, length, slice_get, OnOk, IfOk, IfErr};
+ghost use Rattle.std.specs.Prelude.{◌≡◌, ◌+◌, ◌<◌, ◌≤◌, drop, length, slice_get, IfOk};
 ghost use Rattle.pickle_reading.specs.declared.reading.TheConstants.{NODE_LIMIT};
 ghost use Rattle.pickle_graph.specs.Graph.{AreNodes};
-ghost use Rattle.pickle_references.specs.References.{oid_of, named_first, named_by, named_on, named_by_token, noted, find, left_of, part_at};
+ghost use Rattle.pickle_references.specs.References.{oid_of, named_first, named_by, left_of, part_at};
 ghost use Rattle.pickle_reading.specs.Sound.{IsSoundState, MemoBelow};
-ghost use Rattle.pickle_reading.specs.Steps.{AnswersAs, RefusesAs};
+ghost use Rattle.pickle_reading.specs.Steps.{AnswersAs};
 
+use crate::finding::{Finding, Names, find};
 use crate::references::Named;
 use crate::shapes::read_oid;
 use pickle_graph::{Node, Pickle};
-use pickle_ops::{Op, Token, next_token};
-use pickle_reading::{
-    Item, Memo, NODE_LIMIT, NodeTable, PickleError, State, ends, first_room, take_step,
-};
+use pickle_ops::next_token;
+use pickle_reading::{Item, Memo, NODE_LIMIT, NodeTable, PickleError, State, ends, first_room};
 use std::alloc::Global;
 use zb_ids::{ListOf, Oid};
 
@@ -26,15 +25,8 @@ pub struct Part {
     pub behind: usize,
 }
 
-/// What was read, and the oids so far.
-#[derive(Drop)]
-pub(crate) struct Finding {
-    pub state: State,
-    pub oids: ListOf<Oid>,
-}
-
 /// The oid that the node of a number is.
-fn name_oid(nodes: &NodeTable, number: u32) -> Named
+fn name_oid(nodes: &NodeTable<Node>, number: u32) -> Named
     ensures { result ≡ oid_of (slice_get nodes.now number) }
 {
     match nodes.get(number) {
@@ -45,7 +37,7 @@ fn name_oid(nodes: &NodeTable, number: u32) -> Named
 }
 
 /// What the first of these items names.
-fn name_first(nodes: &NodeTable, items: &[u32]) -> Named
+fn name_first(nodes: &NodeTable<Node>, items: &[u32]) -> Named
     ensures { result ≡ named_first nodes.now items.now }
 {
     match items {
@@ -55,7 +47,7 @@ fn name_first(nodes: &NodeTable, items: &[u32]) -> Named
 }
 
 /// What the node of a number names as a persistent id.
-fn name_node(nodes: &NodeTable, number: u32) -> Named
+fn name_node(nodes: &NodeTable<Node>, number: u32) -> Named
     ensures { result ≡ named_by nodes.now (slice_get nodes.now number) }
 {
     match nodes.get(number) {
@@ -65,64 +57,18 @@ fn name_node(nodes: &NodeTable, number: u32) -> Named
     }
 }
 
-/// What the value on the top names.
-fn name_top(state: &State) -> Named
-    ensures { result ≡ named_on state.now.nodes state.now.stack }
-{
-    match state.stack.top() {
-        Some(Item::Value(number)) => name_node(&state.nodes, number),
-        _ => Named::Bad,
-    }
-}
+impl Names for Node {
+    ghost use Rattle.pickle_references.specs.References.{named_by};
 
-/// What a token names: only that of a persistent id names something.
-#[inline(always)]
-fn name_by_token(op: Op, state: &State) -> Named
-    ensures { result ≡ named_by_token op state.now.nodes state.now.stack }
-{
-    match op {
-        Op::BinPersid => name_top(state),
-        _ => Named::Weak,
-    }
-}
+    ghost names = { named_by };
 
-/// Keeps what was named.
-fn note(finding: &mut Finding, at: usize, named: Named) -> Result<(), PickleError>
-    ensures ok { OnOk result (noted at finding.old.state finding.old.oids named ≡ Ok finding.new) }
-    ensures err { IfErr result (λ e.
-        RefusesAs e (noted at finding.old.state finding.old.oids named)) }
-{
-    match named {
-        Named::Strong(oid) => {
-            finding.oids.push(oid)?;
-            Ok(())
-        }
-        Named::Weak => Ok(()),
-        Named::Bad => Err(PickleError::BadReference { at }),
+    fn name(nodes: &NodeTable<Node>, number: u32) -> Named {
+        name_node(nodes, number)
     }
-}
-
-/// What the token at a place, whose argument has these bytes, does, and what its persistent id
-/// names.
-fn find(
-    alloc: Global,
-    finding: &mut Finding,
-    token: Token,
-    at: usize,
-    bytes: &[u8],
-) -> Result<(), PickleError>
-    ensures ok { OnOk result
-        (find token.op at token.number bytes.now finding.old ≡ Ok finding.new) }
-    ensures err { IfErr result (λ e.
-        RefusesAs e (find token.op at token.number bytes.now finding.old)) }
-{
-    let named = name_by_token(token.op, &finding.state);
-    take_step(alloc, &mut finding.state, token, at, bytes)?;
-    note(finding, at, named)
 }
 
 /// What was found, at STOP.
-fn finish(finding: Finding, at: usize, next: usize) -> Result<(Part, Memo), PickleError>
+fn finish(finding: Finding<Node>, at: usize, next: usize) -> Result<(Part, Memo), PickleError>
     requires { IsSoundState finding.state }
     ensures part { AnswersAs result (left_of at next finding finding.state.stack) }
     ensures place { IfOk result (λ r. r.0.behind ≡ next) }
@@ -169,7 +115,7 @@ pub(crate) fn read_part(
     let room = first_room(input.len().saturating_sub(at));
     let limit = NODE_LIMIT + nodes.len() as u32;
     let mut finding = Finding {
-        state: State::behind(alloc, limit, nodes, memo, room),
+        state: State::behind(alloc, limit, NodeTable::from_list(nodes, room), memo),
         oids: ListOf::new(alloc),
     };
     let mut place = at;

@@ -1,14 +1,15 @@
 //! References.
 
 ghost use Rattle.std.specs.Prelude.{◌≡◌, ◌<◌, ◌≤◌, drop, length, IfOk, IfErr};
-ghost use Rattle.pickle_references.specs.declared.part.Finding.{Finding};
 ghost use Rattle.pickle_reading.specs.Reading.{read_from};
+ghost use Rattle.pickle_references.specs.References;
 ghost use Rattle.pickle_references.specs.References.{parts, root_at, oids_at};
 ghost use Rattle.pickle_references.specs.Shown.{sight_of, IsSeen};
 ghost use Rattle.pickle_reading.specs.Sound.{IsSoundState};
 ghost use Rattle.pickle_reading.specs.Steps.{AnswersAs, RefusesAs};
 
-use crate::sights::{Sight, look};
+use crate::finding::{Finding, find};
+use crate::shapes::Shape;
 use pickle_ops::next_token;
 use pickle_reading::{Item, NODE_LIMIT, PickleError, ends, first_room};
 use std::alloc::Global;
@@ -26,10 +27,10 @@ pub(crate) enum Named {
 }
 
 /// The number of the value on the top, at the STOP of a place.
-fn root_on_top(sight: &Sight, at: usize) -> Result<u32, PickleError>
-    ensures root { AnswersAs result (root_at at sight.now.stack) }
+fn root_on_top(sight: &Finding<Shape>, at: usize) -> Result<u32, PickleError>
+    ensures root { AnswersAs result (root_at at sight.now.state.stack) }
 {
-    match sight.stack.top() {
+    match sight.state.stack.top() {
         Some(Item::Value(root)) => Ok(root),
         _ => Err(PickleError::Stack { at }),
     }
@@ -40,14 +41,15 @@ fn root_on_top(sight: &Sight, at: usize) -> Result<u32, PickleError>
 /// Where what is kept shows what a reader of graphs found, the answer shows what that reader finds
 /// then.
 pub(crate) fn look_to_stop(
-    sight: &mut Sight,
+    alloc: Global,
+    sight: &mut Finding<Shape>,
     input: &[u8],
     at: usize,
 ) -> Result<(u32, usize), PickleError>
-    ensures seen { IfOk result (λ r. (f : Finding) → sight.old ≡ sight_of f
+    ensures seen { IfOk result (λ r. (f : References.Finding) → sight.old ≡ sight_of f
         → IsSoundState f.state
         → IsSeen r.0 r.1 f.state.limit sight.new (read_from parts 0 f at (drop at input.now))) }
-    ensures refused { IfErr result (λ e. (f : Finding) → sight.old ≡ sight_of f
+    ensures refused { IfErr result (λ e. (f : References.Finding) → sight.old ≡ sight_of f
         → IsSoundState f.state
         → RefusesAs e (read_from parts 0 f at (drop at input.now))) }
     ensures behind { IfOk result (λ r. at < r.1) }
@@ -61,7 +63,7 @@ pub(crate) fn look_to_stop(
             return Ok((root, next));
         }
         let bytes = &input[token.start..token.start + token.length];
-        look(sight, token, place, bytes)?;
+        find(alloc, sight, token, place, bytes)?;
         place = next;
     }
 }
@@ -84,7 +86,7 @@ pub fn references_of(
     ensures inside { IfOk result (λ r. r.1 ≤ length input.now) }
 {
     let room = first_room(input.len().saturating_sub(at));
-    let mut sight = Sight::new(alloc, NODE_LIMIT, room);
-    let stop = look_to_stop(&mut sight, input, at)?;
+    let mut sight: Finding<Shape> = Finding::new(alloc, NODE_LIMIT, room);
+    let stop = look_to_stop(alloc, &mut sight, input, at)?;
     Ok((sight.oids, stop.1))
 }

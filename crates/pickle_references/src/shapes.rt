@@ -1,15 +1,16 @@
 //! Shapes: what a reader of references keeps of nodes.
 
-ghost use Rattle.std.specs.Prelude.{◌≡◌, [], ◌∷◌, ◌++◌, length, slice_get, OnOk};
-ghost use Rattle.std.specs.Option.{option_copied};
+ghost use Rattle.std.specs.Prelude.{◌≡◌, slice_get};
 ghost use Rattle.pickle_references.specs.References.{oid_in};
 ghost use Rattle.pickle_references.specs.Shapes;
 
+use crate::finding::Names;
+use crate::passing::{Passed, pass};
 use crate::references::Named;
 use byteorder::{BigEndian, ByteOrder};
-use pickle_ops::Op;
-use std::alloc::{AllocFailed, Global};
-use std::marker::Model;
+use pickle_ops::{Op, Token};
+use pickle_reading::{Extent, Kept, NodeTable, Stack};
+use std::alloc::{AllocError, Global};
 use zb_ids::Oid;
 
 /// What references depend on in a node. It never changes.
@@ -83,115 +84,139 @@ pub(crate) fn leaf_shape(op: Op, bytes: &[u8]) -> Option<Shape>
     }
 }
 
-/// The shapes of the nodes so far, by number.
-#[derive(Drop)]
-pub(crate) struct ShapeTable {
-    items: Vec<Shape>,
+/// What the node of a number names as a persistent id.
+fn name_shape(shapes: &NodeTable<Shape>, number: u32) -> Named
+    ensures { result ≡ Shapes.named_as (slice_get shapes.now number) }
+{
+    match shapes.get(number) {
+        Some(Shape::Naming(oid)) => Named::Strong(*oid),
+        Some(Shape::Id(oid)) => Named::Strong(*oid),
+        Some(Shape::List) => Named::Weak,
+        _ => Named::Bad,
+    }
 }
 
-impl Model for ShapeTable {
-    ghost use Rattle.std.specs.Prelude.{List};
-    ghost use Rattle.pickle_references.specs.declared.shapes.Shape.{Shape};
-
-    ghost Value = { List Shape };
-
-    ghost view = { λ shapes. shapes.items.items };
+/// The shape of a tuple whose first item is the node of a number, if it has one.
+fn tuple_shape(shapes: &NodeTable<Shape>, first: Option<u32>) -> Shape
+    ensures { result ≡ Shapes.tuple_shape (Shapes.lowest_as shapes.now first) }
+{
+    let Some(number) = first else {
+        return Shape::Tuple;
+    };
+    match shapes.get(number) {
+        Some(Shape::Id(oid)) => Shape::Naming(*oid),
+        Some(Shape::Global) => Shape::Classed,
+        _ => Shape::Tuple,
+    }
 }
 
-impl ShapeTable {
-    /// No shapes, with room for so many where there is memory for it.
-    pub fn new(alloc: Global, room: usize) -> ShapeTable
-        ensures { result ≡ [] }
-    {
-        let mut items = Vec::new(alloc);
-        let _ = items.reserve(room);
-        ShapeTable { items }
+/// Whether the node of a number is a tuple.
+fn is_tuple_shape(shapes: &NodeTable<Shape>, number: u32) -> bool
+    ensures { result ≡ Shapes.is_tuple_shape (slice_get shapes.now number) }
+{
+    match shapes.get(number) {
+        Some(Shape::Tuple | Shape::Naming(_) | Shape::Classed) => true,
+        _ => false,
     }
+}
 
-    /// The same shapes, with room for so many more where there is memory for it.
-    pub fn widened(self, room: usize) -> ShapeTable
-        ensures { result ≡ self }
-    {
-        let ShapeTable { mut items } = self;
-        let _ = items.reserve(room);
-        ShapeTable { items }
+/// Whether the node of a number is a global or a tuple that begins with one.
+pub(crate) fn is_class_shape(shapes: &NodeTable<Shape>, number: u32) -> bool
+    ensures { result ≡ Shapes.is_class_shape (slice_get shapes.now number) }
+{
+    match shapes.get(number) {
+        Some(Shape::Global | Shape::Classed) => true,
+        _ => false,
     }
+}
 
-    /// How many nodes there are.
-    pub fn len(&self) -> usize
-        ensures { result ≡ length self.now }
-    {
-        self.items.len()
-    }
-
-    /// Keeps the shape of a new node, whose number is how many there were.
-    pub fn push(&mut self, shape: Shape) -> Result<(), AllocFailed<Shape>>
-        ensures { OnOk result (self.new ≡ self.old ++ shape ∷ []) }
-    {
-        self.items.push(shape)
-    }
-
-    /// What the node of a number names as a persistent id.
-    pub fn name(&self, number: u32) -> Named
-        ensures { result ≡ Shapes.named_as (slice_get self.now number) }
-    {
-        match self.items.get(number as usize) {
-            Some(Shape::Naming(oid)) => Named::Strong(*oid),
-            Some(Shape::Id(oid)) => Named::Strong(*oid),
-            Some(Shape::List) => Named::Weak,
-            _ => Named::Bad,
-        }
-    }
-
-    /// The shape of a tuple whose first item is the node of a number, if it has one.
-    pub fn tuple(&self, first: Option<u32>) -> Shape
-        ensures { result ≡ Shapes.tuple_shape (Shapes.lowest_as self.now first) }
-    {
-        let Some(number) = first else {
-            return Shape::Tuple;
-        };
-        match self.items.get(number as usize) {
-            Some(Shape::Id(oid)) => Shape::Naming(*oid),
-            Some(Shape::Global) => Shape::Classed,
-            _ => Shape::Tuple,
-        }
-    }
-
-    /// Whether the node of a number is a tuple.
-    pub fn is_tuple(&self, number: u32) -> bool
-        ensures { result ≡ Shapes.is_tuple_shape (slice_get self.now number) }
-    {
-        match self.items.get(number as usize) {
-            Some(Shape::Tuple | Shape::Naming(_) | Shape::Classed) => true,
+/// Whether the node of a number takes an addition.
+fn takes(shapes: &NodeTable<Shape>, number: u32, adding: Adding) -> bool
+    ensures { result ≡ Shapes.takes adding (slice_get shapes.now number) }
+{
+    match shapes.get(number) {
+        Some(Shape::Object) => true,
+        Some(Shape::List) => match adding {
+            Adding::Values => true,
             _ => false,
-        }
+        },
+        Some(Shape::Dict) => match adding {
+            Adding::Pairs => true,
+            _ => false,
+        },
+        _ => false,
+    }
+}
+
+impl Kept for Shape {
+    ghost use Rattle.pickle_references.specs.Sights.{shapes};
+
+    type Values = Passed;
+
+    type Addition = Adding;
+
+    ghost keeping = { shapes };
+
+    #[inline(always)]
+    fn leaf(_alloc: Global, token: Token, bytes: &[u8]) -> Result<Option<Shape>, AllocError> {
+        Ok(leaf_shape(token.op, bytes))
     }
 
-    /// Whether the node of a number is a global or a tuple that begins with one.
-    pub fn is_class(&self, number: u32) -> bool
-        ensures { result ≡ Shapes.is_class_shape (slice_get self.now number) }
-    {
-        match self.items.get(number as usize) {
-            Some(Shape::Global | Shape::Classed) => true,
-            _ => false,
-        }
+    fn taken(
+        _alloc: Global,
+        stack: &mut Stack,
+        extent: Extent,
+    ) -> Result<Option<Passed>, AllocError> {
+        Ok(pass(stack, extent))
     }
 
-    /// Whether the node of a number takes an addition.
-    pub fn takes(&self, number: u32, adding: Adding) -> bool
-        ensures { result ≡ Shapes.takes adding (slice_get self.now number) }
-    {
-        match self.items.get(number as usize) {
-            Some(Shape::Object) => true,
-            Some(Shape::List) => match adding {
-                Adding::Values => true,
-                _ => false,
-            },
-            Some(Shape::Dict) => match adding {
-                Adding::Pairs => true,
-                _ => false,
-            },
-            _ => false,
+    fn tuple(nodes: &NodeTable<Shape>, values: Passed) -> Shape {
+        tuple_shape(nodes, values.lowest)
+    }
+
+    fn values(_values: Passed) -> Adding {
+        Adding::Values
+    }
+
+    fn pairs(_alloc: Global, values: Passed) -> Result<Option<Adding>, AllocError> {
+        if values.odd {
+            return Ok(None);
         }
+        Ok(Some(Adding::Pairs))
+    }
+
+    fn state(_number: u32) -> Adding {
+        Adding::State
+    }
+
+    #[tactic(auto, using(crate::proofs::Staying::stays))]
+    fn add(
+        nodes: &mut NodeTable<Shape>,
+        number: u32,
+        addition: Adding,
+    ) -> Result<bool, AllocError> {
+        Ok(takes(nodes, number, addition))
+    }
+
+    fn is_tuple(nodes: &NodeTable<Shape>, number: u32) -> bool {
+        is_tuple_shape(nodes, number)
+    }
+
+    fn object(_alloc: Global, _callee: u32, _arguments: u32, _by_new: bool) -> Shape {
+        Shape::Object
+    }
+
+    fn reference(_id: u32) -> Shape {
+        Shape::Other
+    }
+}
+
+impl Names for Shape {
+    ghost use Rattle.pickle_references.specs.Sights.{shape_names};
+
+    ghost names = { shape_names };
+
+    fn name(nodes: &NodeTable<Shape>, number: u32) -> Named {
+        name_shape(nodes, number)
     }
 }

@@ -15,7 +15,7 @@ use Rattle.pickle_writing.specs.declared.depth.TheConstants.{WALK_LIMIT}
 use Rattle.pickle_reading.specs.declared.reading.TheConstants.{NODE_LIMIT}
 use Rattle.pickle_graph.specs.declared.parts.Part.{Part}
 use Rattle.pickle_graph.specs.declared.parts.Part.TheVariants.{Byte}
-use Rattle.pickle_reading.specs.declared.state.State.{State}
+use Rattle.pickle_reading.specs.Nodes.{State}
 use Rattle.pickle_reading.specs.declared.state.Item.{Item}
 use Rattle.pickle_reading.specs.declared.state.Item.TheVariants.{Value}
 use Rattle.pickle_graph.specs.Graph.{Graph, AreNodes, IsNode, AllBelow, PairsBelow, ActsBelow, is_tuple}

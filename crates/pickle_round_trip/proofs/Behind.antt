@@ -11,7 +11,7 @@ use Rattle.pickle_graph.specs.declared.node.Node.{Node}
 use Rattle.pickle_graph.specs.declared.node.Node.TheVariants as kinds
 use Rattle.pickle_writing.specs.declared.depth.TheConstants.{WALK_LIMIT}
 use Rattle.pickle_reading.specs.declared.reading.TheConstants.{NODE_LIMIT}
-use Rattle.pickle_reading.specs.declared.state.State.{State}
+use Rattle.pickle_reading.specs.Nodes.{State}
 use Rattle.pickle_reading.specs.declared.state.Item.TheVariants.{Value}
 use Rattle.pickle_graph.specs.Graph.{Graph, IsGraph, IsNode, AreNodes, AllBelow, PairsBelow, ActBelow, ActsBelow}
 use Rattle.pickle_references.specs.Named.{with_name, named_in}

@@ -5,10 +5,11 @@ use Rattle.std.proofs.lemmas.List.{append-nil}
 use Rattle.std.proofs.lemmas.Bool.{ltb-true, ltb-false}
 use Rattle.pickle_ops.specs.Laws.{SpelledIsRead}
 use Rattle.pickle_graph.specs.declared.node.Node.{Node}
-use Rattle.pickle_reading.specs.declared.state.State.{State}
+use Rattle.pickle_reading.specs.Nodes.{State}
 use Rattle.pickle_reading.specs.declared.state.Item.{Item}
 use Rattle.pickle_reading.specs.declared.state.Item.TheVariants.{Value}
-use Rattle.pickle_reading.specs.Steps.{make, step, act_of, leaf_or}
+use Rattle.pickle_reading.specs.Steps.{make, leaf_or}
+use Rattle.pickle_reading.specs.Nodes.{step, act_of}
 use Rattle.pickle_writing.specs.Shared.{times}
 use Rattle.pickle_writing.specs.Spelling.{Piece, no_piece, followed}
 use Rattle.pickle_graph.specs.Same.{HaveOrigins, IsCopy, AllCopies}

@@ -8,9 +8,10 @@ use Rattle.pickle_ops.specs.Grammar.{IsToken}
 use Rattle.pickle_ops.specs.Laws.{SpelledIsRead}
 use Rattle.pickle_graph.specs.declared.node.Node.{Node}
 use Rattle.pickle_reading.specs.declared.error.PickleError.TheVariants as errors
-use Rattle.pickle_reading.specs.declared.state.State.{State}
+use Rattle.pickle_reading.specs.Nodes.{State}
 use Rattle.pickle_reading.specs.declared.state.Item.TheVariants.{Value}
-use Rattle.pickle_reading.specs.Steps.{make, step}
+use Rattle.pickle_reading.specs.Steps.{make}
+use Rattle.pickle_reading.specs.Nodes.{step}
 use Rattle.pickle_reading.specs.Reading.{graphs, read_from, is_stop}
 use Rattle.pickle_reading.specs.RunLaws.{read_from-step, read_from-refused}
 

@@ -11,13 +11,14 @@ use Rattle.pickle_ops.specs.declared.table.Kind.TheVariants as args
 use Rattle.pickle_ops.specs.Rows.{row_in}
 use Rattle.pickle_ops.specs.Laws.{SpelledIsRead}
 use Rattle.pickle_graph.specs.declared.node.Node.{Node}
-use Rattle.pickle_reading.specs.declared.state.State.{State}
+use Rattle.pickle_reading.specs.Nodes.{State}
 use Rattle.pickle_reading.specs.declared.state.Item.{Item}
 use Rattle.pickle_reading.specs.declared.state.Item.TheVariants.{Value, Mark}
 use Rattle.pickle_graph.specs.Graph.{is_tuple}
 use Rattle.pickle_reading.specs.Leaves.{leaf_of}
 use Rattle.pickle_reading.specs.Stacks.{put_at, node_at}
-use Rattle.pickle_reading.specs.Steps.{make, step, act_of, leaf_or, get_of, put_of}
+use Rattle.pickle_reading.specs.Steps.{make, leaf_or, get_of, put_of}
+use Rattle.pickle_reading.specs.Nodes.{step, act_of}
 use Rattle.pickle_reading.specs.Reading.{is_stop}
 use Rattle.pickle_writing.specs.Shared.{times}
 use Rattle.pickle_writing.specs.Spelling.{Piece, put_number, get_text, put_text, put_behind}

@@ -13,7 +13,7 @@ use Rattle.pickle_graph.specs.declared.node.Node.TheVariants as kinds
 use Rattle.pickle_reading.specs.declared.additions.Addition.TheVariants as additions
 use Rattle.pickle_graph.specs.declared.parts.Part.{Part}
 use Rattle.pickle_graph.specs.declared.parts.Part.TheVariants.{Byte, Item}
-use Rattle.pickle_reading.specs.declared.state.State.{State}
+use Rattle.pickle_reading.specs.Nodes.{State}
 use Rattle.pickle_reading.specs.declared.state.Item.{Item as OnStack}
 use Rattle.pickle_reading.specs.declared.state.Item.TheVariants.{Value, Mark}
 use Rattle.pickle_reading.specs.declared.state.Extent.{Extent}
@@ -22,7 +22,8 @@ use Rattle.pickle_graph.specs.Graph.{is_tuple}
 use Rattle.pickle_reading.specs.Leaves.{leaf_of}
 use Rattle.pickle_reading.specs.Stacks.{values_taken, above_mark}
 use Rattle.pickle_reading.specs.Additions.{pairs_of, with_pair, added}
-use Rattle.pickle_reading.specs.Steps.{step, tuple_of, append_to, changed, set_in, set_pairs, reference_of}
+use Rattle.pickle_reading.specs.Steps.{changed}
+use Rattle.pickle_reading.specs.Nodes.{step, tuple_of, append_to, set_in, set_pairs, reference_of}
 use Rattle.pickle_reading.specs.Reading.{is_stop}
 use Rattle.pickle_graph.specs.Parts.{item_parts, pair_parts, tuple_parts, list_parts, dict_parts, is_held, items_in}
 use Rattle.pickle_writing.specs.Shared.{times}

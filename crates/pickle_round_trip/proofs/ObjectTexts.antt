@@ -16,13 +16,14 @@ use Rattle.pickle_graph.specs.declared.node.Node.TheVariants as kinds
 use Rattle.pickle_reading.specs.declared.additions.Addition.TheVariants as additions
 use Rattle.pickle_graph.specs.declared.parts.Part.{Part}
 use Rattle.pickle_graph.specs.declared.parts.Part.TheVariants.{Byte}
-use Rattle.pickle_reading.specs.declared.state.State.{State}
+use Rattle.pickle_reading.specs.Nodes.{State}
 use Rattle.pickle_reading.specs.declared.state.Item.{Item as OnStack}
 use Rattle.pickle_reading.specs.declared.state.Extent.TheVariants.{Top}
 use Rattle.pickle_graph.specs.Graph.{is_tuple, IsNode}
 use Rattle.pickle_reading.specs.Stacks.{values_taken}
 use Rattle.pickle_reading.specs.Additions.{added}
-use Rattle.pickle_reading.specs.Steps.{make, step, append_to, set_in, build_of, changed, object_of}
+use Rattle.pickle_reading.specs.Steps.{make, changed}
+use Rattle.pickle_reading.specs.Nodes.{step, append_to, set_in, build_of, object_of}
 use Rattle.pickle_reading.specs.Reading.{is_stop}
 use Rattle.pickle_graph.specs.Parts.{item_parts, act_parts, object_parts, object_byte, parts_of, is_held, items_in}
 use Rattle.pickle_writing.specs.Spelling.{Piece, put_number, no_piece, followed, parts_piece, held_piece, node_piece, leaf_text}

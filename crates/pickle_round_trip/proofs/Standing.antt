@@ -8,7 +8,7 @@ use Rattle.pickle_graph.specs.declared.node.Act.{Act}
 use Rattle.pickle_graph.specs.declared.node.Act.TheVariants.{Append, Set, Build}
 use Rattle.pickle_graph.specs.declared.node.Node.{Node}
 use Rattle.pickle_graph.specs.declared.node.Node.TheVariants as kinds
-use Rattle.pickle_reading.specs.declared.state.State.{State}
+use Rattle.pickle_reading.specs.Nodes.{State}
 use Rattle.pickle_reading.specs.declared.state.Item.{Item}
 use Rattle.pickle_graph.specs.Graph.{is_tuple}
 use Rattle.pickle_reading.specs.Stacks.{put_at, node_at}

@@ -4,7 +4,8 @@ use Rattle.pickle_ops.specs.declared.table.Op.TheVariants as ops
 use Rattle.pickle_reading.specs.declared.error.PickleError.{PickleError}
 use Rattle.pickle_graph.specs.declared.node.Node.TheVariants as kinds
 use Rattle.pickle_reading.specs.Additions.{added}
-use Rattle.pickle_reading.specs.Steps.{get_of, act_of}
+use Rattle.pickle_reading.specs.Steps.{get_of}
+use Rattle.pickle_reading.specs.Nodes.{act_of}
 use Rattle.pickle_reading.specs.Stacks.{top_of}
 use Rattle.pickle_reading.specs.Reading.{Reader, graphs, empty_state}
 use Rattle.pickle_references.specs.References.{oid_in, oid_of, named_by, parts}

@@ -13,9 +13,11 @@ use Rattle.pickle_graph.specs.Graph.{is_tuple}
 use Rattle.pickle_reading.specs.Stacks.{TakenValues, node_at}
 use Rattle.pickle_reading.specs.Leaves.{leaf_of}
 use Rattle.pickle_reading.specs.Additions.{pairs_of, added}
-use Rattle.pickle_reading.specs.Steps.{make, popped, unmarked, doubled, tuple_of, changed, add_to, append_to, set_pairs, set_in, build_of, object_of, reference_of, put_of, get_of, act_of, leaf_or, step}
+use Rattle.pickle_reading.specs.Steps.{make, popped, unmarked, doubled, changed, put_of, get_of, leaf_or}
+use Rattle.pickle_reading.specs.Nodes.{tuple_of, add_to, append_to, set_pairs, set_in, build_of, object_of, reference_of, act_of, step}
 use Rattle.pickle_reading.specs.Reading.{graphs, root_of}
-use Rattle.pickle_references.specs.References.{oid_in, oid_of, named_first, named_by, named_on, noted, named_by_token, noted_in, find, Left, left_of, parts}
+use Rattle.pickle_references.specs.References.{oid_in, oid_of, named_first, named_by, named_on, named_by_token, find, Left, left_of, parts}
+use Rattle.pickle_references.specs.Naming.{noted, noted_in}
 use Rattle.zb_record.specs.Alike.{NodeAlike, NodesAlike}
 use Rattle.zb_record.proofs.Alike.{HeldAlike, BothOr}
 use Rattle.zb_record.proofs.Names.{State, Finding, Item, Addition, Named, value, mark, weak, bad}

@@ -34,13 +34,13 @@ returns-then-ends-clause-seen c f e s =
           ∙ root-found c.loop-token.place c.in_ok-token.next k.finding c.loop-token.sight c.in_ok-root.root k.shows c.in_ok-root.ensures.root;
     }
 
-pub returns-in_err-look-clause-refused : goal.returns-in_err-look-clause-refused
-returns-in_err-look-clause-refused c =
-    let p = err_from_is_err_and c.from_residual-in_err-look.result c.from_residual-in_err-look.ensures.1 in
+pub returns-in_err-find-clause-refused : goal.returns-in_err-find-clause-refused
+returns-in_err-find-clause-refused c =
+    let p = err_from_is_err_and c.from_residual-in_err-find.result c.from_residual-in_err-find.ensures.1 in
     let t = c.in_ok-token.token in
     rw (p.1, p.2) (λ f e s.
     let k = c.loop-token.invariant.looks f e s in
-    refused _ _ _ c.in_err-look.ensures.err
+    refused _ _ _ c.in_err-find.ensures.err
     (λ d x. sym k.same ∙ read_refused parts _ _ _ _ _ _ c.in_ok-token.ensures.token c.in_ok-token.ensures.within (cc) (step-refused t.op c.loop-token.place t.number _ k.finding c.loop-token.sight d k.sound k.shows x)))
 
 pub loop-token-preserved : goal.loop-token-preserved
@@ -54,7 +54,7 @@ loop-token-preserved c =
           let found =
           step-found t.op c.loop-token.place t.number bytes k.finding c.loop-token.sight _
           (AreBytes-take (t.start + t.length - t.start) (drop t.start c.args.input.now) (AreBytes-drop t.start c.args.input.now (λ i. omega (arith, c.type_inv.input i))))
-          (span_fits t.op t.number c.args.input.now t.start t.length c.in_ok-token.ensures.fits) k.sound k.shows c.in_ok-look.ensures.ok in
+          (span_fits t.op t.number c.args.input.now t.start t.length c.in_ok-token.ensures.fits) k.sound k.shows c.in_ok-find.ensures.ok in
           record {
             finding = found.finding;
             shows = found.shows;

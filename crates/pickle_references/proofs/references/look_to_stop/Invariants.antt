@@ -1,5 +1,5 @@
 use Rattle.std.proofs.Common.{◌≡◌, ◌≤◌, length, ◌-◌}
-use Rattle.pickle_references.specs.declared.part.Finding.{Finding}
+use Rattle.pickle_references.specs.References.{Finding}
 use Rattle.pickle_references.specs.Shown.{sight_of}
 use Rattle.pickle_reading.specs.Sound.{IsSoundState}
 use Rattle.pickle_references.proofs.Looking.{Looks}
