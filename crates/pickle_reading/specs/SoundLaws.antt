@@ -44,7 +44,7 @@ SoundAfter (Err e) = Unit {0}
 -- what holds of a node, if there is one
 abbrev NodeIn : List Node → Option Node → Type 0
 NodeIn ns None = Unit {0}
-NodeIn ns (Some node) = IsNode ns node
+NodeIn ns (Some made) = IsNode ns made
 
 -- nodes that come after others, whose tuples stay tuples
 record Grows (ns ms : List Node) : Type 0 where
@@ -75,7 +75,7 @@ object-more ns ms callee arguments acts g h = record {
   done = acts-more (length ns) (length ms) acts g.longer h.done;
 }
 
-node-more : (ns ms : List Node) (node : Node) → Grows ns ms → IsNode ns node → IsNode ms node
+node-more : (ns ms : List Node) (made : Node) → Grows ns ms → IsNode ns made → IsNode ms made
 node-more ns ms kinds.None g h = tt
 node-more ns ms (kinds.Bool b) g h = tt
 node-more ns ms (kinds.Number number) g h = h
@@ -95,50 +95,50 @@ nodes-more : (ns ms xs : List Node) → Grows ns ms → AreNodes ns xs → AreNo
 nodes-more ns ms [] g h = tt
 nodes-more ns ms (x ∷ xs) g h = (node-more ns ms x g h.0, nodes-more ns ms xs g h.1)
 
-nodes-push : (ns xs : List Node) (node : Node) → AreNodes ns xs → IsNode ns node → AreNodes ns (xs ++ node ∷ [])
-nodes-push ns [] node h k = (k, tt)
-nodes-push ns (x ∷ xs) node h k = (h.0, nodes-push ns xs node h.1 k)
+nodes-push : (ns xs : List Node) (made : Node) → AreNodes ns xs → IsNode ns made → AreNodes ns (xs ++ made ∷ [])
+nodes-push ns [] made h k = (k, tt)
+nodes-push ns (x ∷ xs) made h k = (h.0, nodes-push ns xs made h.1 k)
 
-nodes-set : (ns xs : List Node) (i : ℕ) (node : Node) → AreNodes ns xs → IsNode ns node → AreNodes ns (slice_set xs i node)
-nodes-set ns [] i node h k = tt
-nodes-set ns (x ∷ xs) zero node h k = (k, h.1)
-nodes-set ns (x ∷ xs) (suc i) node h k = (h.0, nodes-set ns xs i node h.1 k)
+nodes-set : (ns xs : List Node) (i : ℕ) (made : Node) → AreNodes ns xs → IsNode ns made → AreNodes ns (slice_set xs i made)
+nodes-set ns [] i made h k = tt
+nodes-set ns (x ∷ xs) zero made h k = (k, h.1)
+nodes-set ns (x ∷ xs) (suc i) made h k = (h.0, nodes-set ns xs i made h.1 k)
 
 nodes-get : (ns xs : List Node) (i : ℕ) → AreNodes ns xs → NodeIn ns (slice_get xs i)
 nodes-get ns [] i h = tt
 nodes-get ns (x ∷ xs) zero h = h.0
 nodes-get ns (x ∷ xs) (suc i) h = nodes-get ns xs i h.1
 
-tuple-push : (ns : List Node) (i : ℕ) (node : Node) → is_tuple (slice_get ns i) ≡ true → is_tuple (slice_get (ns ++ node ∷ []) i) ≡ true
-tuple-push [] i node h = absurd (false≢true h)
-tuple-push (x ∷ ns) zero node h = h
-tuple-push (x ∷ ns) (suc i) node h = tuple-push ns i node h
+tuple-push : (ns : List Node) (i : ℕ) (made : Node) → is_tuple (slice_get ns i) ≡ true → is_tuple (slice_get (ns ++ made ∷ []) i) ≡ true
+tuple-push [] i made h = absurd (false≢true h)
+tuple-push (x ∷ ns) zero made h = h
+tuple-push (x ∷ ns) (suc i) made h = tuple-push ns i made h
 
-tuple-set : (ns : List Node) (i : ℕ) (node : Node) (j : ℕ) → is_tuple (slice_get ns i) ≡ false → is_tuple (slice_get ns j) ≡ true → is_tuple (slice_get (slice_set ns i node) j) ≡ true
-tuple-set [] i node j f h = absurd (false≢true h)
-tuple-set (x ∷ ns) zero node zero f h = absurd (false≢true (sym f ∙ h))
-tuple-set (x ∷ ns) zero node (suc j) f h = h
-tuple-set (x ∷ ns) (suc i) node zero f h = h
-tuple-set (x ∷ ns) (suc i) node (suc j) f h = tuple-set ns i node j f h
+tuple-set : (ns : List Node) (i : ℕ) (made : Node) (j : ℕ) → is_tuple (slice_get ns i) ≡ false → is_tuple (slice_get ns j) ≡ true → is_tuple (slice_get (slice_set ns i made) j) ≡ true
+tuple-set [] i made j f h = absurd (false≢true h)
+tuple-set (x ∷ ns) zero made zero f h = absurd (false≢true (sym f ∙ h))
+tuple-set (x ∷ ns) zero made (suc j) f h = h
+tuple-set (x ∷ ns) (suc i) made zero f h = h
+tuple-set (x ∷ ns) (suc i) made (suc j) f h = tuple-set ns i made j f h
 
 tuple-inside : (ns : List Node) (i : ℕ) → is_tuple (slice_get ns i) ≡ true → i < length ns
 tuple-inside [] i h = absurd (false≢true h)
 tuple-inside (x ∷ ns) zero h = omega arith
 tuple-inside (x ∷ ns) (suc i) h = let ih = tuple-inside ns i h in omega (arith, ih)
 
-push-length : (ns : List Node) (node : Node) → length (ns ++ node ∷ []) ≡ length ns + 1
-push-length ns node = length-append ns (node ∷ [])
+push-length : (ns : List Node) (made : Node) → length (ns ++ made ∷ []) ≡ length ns + 1
+push-length ns made = length-append ns (made ∷ [])
 
-grows-push : (ns : List Node) (node : Node) → Grows ns (ns ++ node ∷ [])
-grows-push ns node = record {
-  longer = omega (arith, push-length ns node);
-  tuples = λ i h. tuple-push ns i node h;
+grows-push : (ns : List Node) (made : Node) → Grows ns (ns ++ made ∷ [])
+grows-push ns made = record {
+  longer = omega (arith, push-length ns made);
+  tuples = λ i h. tuple-push ns i made h;
 }
 
-grows-set : (ns : List Node) (i : ℕ) (node : Node) → is_tuple (slice_get ns i) ≡ false → Grows ns (slice_set ns i node)
-grows-set ns i node f = record {
-  longer = omega (arith, length-set ns i node);
-  tuples = λ j h. tuple-set ns i node j f h;
+grows-set : (ns : List Node) (i : ℕ) (made : Node) → is_tuple (slice_get ns i) ≡ false → Grows ns (slice_set ns i made)
+grows-set ns i made f = record {
+  longer = omega (arith, length-set ns i made);
+  tuples = λ j h. tuple-set ns i made j f h;
 }
 
 pub stack-more : (n m : ℕ) (xs : List Item) → n ≤ m → StackBelow n xs → StackBelow m xs
@@ -216,7 +216,7 @@ acts_with-below n (additions.State state) acts h k = acts-append n acts (Build s
 -- a changed node, which was no tuple
 abbrev ChangedIn : List Node → Option Node → Option Node → Type 0
 ChangedIn ns found None = Unit {0}
-ChangedIn ns found (Some node) = IsNode ns node × (is_tuple found ≡ false)
+ChangedIn ns found (Some made) = IsNode ns made × (is_tuple found ≡ false)
 
 object-added : (ns : List Node) (addition : Addition) (callee arguments : ℕ) (acts : List Act) → AdditionBelow (length ns) addition → IsObject ns callee arguments acts → IsObject ns callee arguments (acts_with addition acts)
 object-added ns addition callee arguments acts h k = record { called = k.called; taken = k.taken; done = acts_with-below (length ns) addition acts h k.done }
@@ -232,16 +232,16 @@ either : (b : Bool) (x y : Outcome) → SoundAfter x → SoundAfter y → SoundA
 either true x y h k = h
 either false x y h k = k
 
-make-sound : (at : ℕ) (node : Node) (s : State) → IsSoundState s → IsNode s.nodes node → SoundAfter (make at node s)
-make-sound at node s h k = test (ltb (length s.nodes) s.limit) refl
+make-sound : (at : ℕ) (made : Node) (s : State) → IsSoundState s → IsNode s.nodes made → SoundAfter (make at made s)
+make-sound at made s h k = test (ltb (length s.nodes) s.limit) refl
   where
-    test : (b : Bool) → ltb (length s.nodes) s.limit ≡ b → SoundAfter (cond b (Ok (record s { nodes = s.nodes ++ node ∷ []; stack = Value (length s.nodes) ∷ s.stack })) (Err (errors.TooLarge at)))
+    test : (b : Bool) → ltb (length s.nodes) s.limit ≡ b → SoundAfter (cond b (Ok (record s { nodes = s.nodes ++ made ∷ []; stack = Value (length s.nodes) ∷ s.stack })) (Err (errors.TooLarge at)))
     test true e =
-        let g : Grows s.nodes (s.nodes ++ node ∷ []) = grows-push s.nodes node in
-        let n : length (s.nodes ++ node ∷ []) ≡ length s.nodes + 1 = push-length s.nodes node in
+        let g : Grows s.nodes (s.nodes ++ made ∷ []) = grows-push s.nodes made in
+        let n : length (s.nodes ++ made ∷ []) ≡ length s.nodes + 1 = push-length s.nodes made in
         let less = ltb-true (length s.nodes) s.limit e in
         record {
-          nodes = nodes-push (s.nodes ++ node ∷ []) s.nodes node (nodes-more s.nodes _ s.nodes g h.nodes) (node-more s.nodes _ node g k);
+          nodes = nodes-push (s.nodes ++ made ∷ []) s.nodes made (nodes-more s.nodes _ s.nodes g h.nodes) (node-more s.nodes _ made g k);
           values = (omega (arith, n), stack-more (length s.nodes) _ s.stack g.longer h.values);
           puts = memo-more (length s.nodes) _ s.memo g.longer h.puts;
           few = omega (arith, n, less);
@@ -256,15 +256,15 @@ tuple_of-sound : (at : ℕ) (s : State) (found : TakenValues) → IsSoundState s
 tuple_of-sound at s None h k = tt
 tuple_of-sound at s (Some found) h k = make-sound at (kinds.Tuple found.0) (record s { stack = found.1 }) (restacked s found.1 h k.1) k.0
 
-changed-sound : (at : ℕ) (s : State) (n : ℕ) (below : List Item) (node : Option Node) → IsSoundState s → n < length s.nodes → StackBelow (length s.nodes) below → ChangedIn s.nodes (slice_get s.nodes n) node → SoundAfter (changed at s n below node)
+changed-sound : (at : ℕ) (s : State) (n : ℕ) (below : List Item) (made : Option Node) → IsSoundState s → n < length s.nodes → StackBelow (length s.nodes) below → ChangedIn s.nodes (slice_get s.nodes n) made → SoundAfter (changed at s n below made)
 changed-sound at s n below None h l b k = tt
-changed-sound at s n below (Some node) h l b k =
-    let g : Grows s.nodes (slice_set s.nodes n node) = grows-set s.nodes n node k.1 in
+changed-sound at s n below (Some made) h l b k =
+    let g : Grows s.nodes (slice_set s.nodes n made) = grows-set s.nodes n made k.1 in
     record {
-      nodes = nodes-more s.nodes _ _ g (nodes-set s.nodes s.nodes n node h.nodes k.0);
+      nodes = nodes-more s.nodes _ _ g (nodes-set s.nodes s.nodes n made h.nodes k.0);
       values = (omega (arith, l, g.longer), stack-more (length s.nodes) _ below g.longer b);
       puts = memo-more (length s.nodes) _ s.memo g.longer h.puts;
-      few = let e = length-set s.nodes n node in omega (arith, e, h.few);
+      few = let e = length-set s.nodes n made in omega (arith, e, h.few);
     }
 
 add_to-sound : (at : ℕ) (s : State) (addition : Addition) (stack : List Item) → IsSoundState s → AdditionBelow (length s.nodes) addition → StackBelow (length s.nodes) stack → SoundAfter (add_to at s addition stack)
@@ -403,8 +403,8 @@ leaf_of-sound ns ops.EmptyDict number bytes are f = tt
 leaf_of-sound ns ops.Global number bytes are f = global_of-sound ns number bytes f
 leaf_of-sound ns _ number bytes are f = tt
 
-leaf_or-sound : (at : ℕ) (s : State) (node : Option Node) (outcome : Outcome) → IsSoundState s → NodeIn s.nodes node → SoundAfter outcome → SoundAfter (leaf_or at s node outcome)
-leaf_or-sound at s (Some node) outcome h k o = make-sound at node s h k
+leaf_or-sound : (at : ℕ) (s : State) (made : Option Node) (outcome : Outcome) → IsSoundState s → NodeIn s.nodes made → SoundAfter outcome → SoundAfter (leaf_or at s made outcome)
+leaf_or-sound at s (Some made) outcome h k o = make-sound at made s h k
 leaf_or-sound at s None outcome h k o = o
 
 -- A step keeps a state sound.

@@ -1,7 +1,5 @@
 //! Nodes, as a reader of graphs keeps them.
 
-ghost use Rattle.std.specs.Prelude.{◌≡◌, Some};
-
 use crate::additions::{Addition, add, in_pairs};
 use crate::kept::Kept;
 use crate::leaves::leaf;

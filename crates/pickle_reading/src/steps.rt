@@ -1,6 +1,6 @@
 //! What each token does to what a reader keeps.
 
-ghost use Rattle.std.specs.Prelude.{◌≡◌, slice_get, Ok, OnOk, IfErr};
+ghost use Rattle.std.specs.Prelude.{◌≡◌, Ok, OnOk, IfErr};
 ghost use Rattle.std.specs.Int.RustNames.{unsigned_abs};
 ghost use Rattle.pickle_reading.specs.declared.state.Extent.TheVariants.{Marked};
 ghost use Rattle.pickle_reading.specs.Stacks.{node_at};

@@ -29,7 +29,7 @@ use Rattle.pickle_reading.specs.declared.state.Extent.TheVariants.{Marked, Top}
 use Rattle.pickle_reading.specs.declared.state.Item.{Item}
 use Rattle.pickle_reading.specs.declared.state.Item.TheVariants.{Value, Mark}
 use Rattle.pickle_graph.specs.Graph.{AllBelow, is_tuple, IsNode, AreNodes}
-use Rattle.pickle_reading.specs.Stacks.{TakenValues, top_of, above_mark, top_values, values_taken, node_at}
+use Rattle.pickle_reading.specs.Stacks.{TakenValues, above_mark, top_values, values_taken, node_at}
 use Rattle.pickle_reading.specs.Leaves.{long_number, long_of, leaf_of}
 use Rattle.pickle_reading.specs.Additions.{with_pair, pairs_of, added}
 use Rattle.pickle_reading.specs.Steps.{make, popped, unmarked, doubled, changed, put_of, get_of, leaf_or}

@@ -45,7 +45,7 @@ shapes = record {
 
 -- what the value of a shape names
 abbrev pub shape_names : List Shape → Option Shape → Named
-shape_names shapes shape = named_as shape
+shape_names table shape = named_as shape
 
 -- what a token does to what is kept
 abbrev pub sight_step : Op → ℕ → ℤ → List ℕ → Sight → Result Sight PickleError

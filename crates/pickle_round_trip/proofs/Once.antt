@@ -161,7 +161,7 @@ module _ (ns : List Node) (root : ℕ) (short : has_walk (suc WALK_LIMIT) ns roo
         now_done = b.now_done;
         met = b.met;
         stage = b.stage;
-        grown = λ k h. let e = a.grown k h in let f = b.grown k h in let g = Rattle.pickle_writing.proofs.Counts.times-append k (vis c puts) (visit_parts vis go parts (go c puts).puts) in omega (arith, e, f, g);
+        grown = λ k h. let e = a.grown k h in let f = b.grown k h in let g = Rattle.pickle_writing.specs.SharedLaws.times-append k (vis c puts) (visit_parts vis go parts (go c puts).puts) in omega (arith, e, f, g);
       }
 
   abbrev puts_after : Bool → ℕ → List ℕ → List ℕ
