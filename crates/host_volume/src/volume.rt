@@ -60,8 +60,10 @@ where
 {
     /// A volume over the files PATH, PATH.side and PATH.hint. Nothing is opened yet.
     pub fn new(alloc: Global, runtime: R, path: &str) -> Result<HostVolume<R>, AllocError>
-        ensures read_faults { IfOk result (λ v. ⟦<HostVolume<R> as Volume>⟧.read_faults v ≡ 0) }
-        ensures write_faults { IfOk result (λ v. ⟦<HostVolume<R> as Volume>⟧.write_faults v ≡ 0) }
+        ensures read_faults { IfOk result
+            (λ v. (⟦<HostVolume<R> as Volume>⟧.state v).read_faults ≡ 0) }
+        ensures write_faults { IfOk result
+            (λ v. (⟦<HostVolume<R> as Volume>⟧.state v).write_faults ≡ 0) }
     {
         Ok(HostVolume {
             files: AreaFiles::new(alloc, runtime, path)?,
@@ -77,11 +79,11 @@ where
 {
     ghost told = { ⊥ };
 
-    ghost log = { λ _. [] };
-
-    ghost read_faults = { λ v. v.read_faults };
-
-    ghost write_faults = { λ v. v.write_faults };
+    ghost state = { λ v. record {
+      log = [];
+      read_faults = v.read_faults;
+      write_faults = v.write_faults;
+    } };
 
     ghost called = { λ _ _ _ _. Unit {0} };
 

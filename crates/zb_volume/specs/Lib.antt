@@ -10,3 +10,4 @@ pub mod Moments
 pub mod Reading
 pub mod Replays
 pub mod Runs
+pub mod States

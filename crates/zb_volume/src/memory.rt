@@ -321,11 +321,11 @@ impl Volume for MemoryVolume {
 
     ghost told = { Unit {0} };
 
-    ghost log = { λ v. log_of v.done };
-
-    ghost read_faults = { λ v. v.read_faults };
-
-    ghost write_faults = { λ v. v.write_faults };
+    ghost state = { λ v. record {
+      log = log_of v.done;
+      read_faults = v.read_faults;
+      write_faults = v.write_faults;
+    } };
 
     ghost called = { FailsWhereListed };
 

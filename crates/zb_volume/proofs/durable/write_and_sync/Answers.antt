@@ -10,24 +10,24 @@ use Rattle.zb_volume.proofs.durable.write_and_sync.Goals as goal
 use Rattle.zb_volume.proofs.durable.write_and_sync.Goals.{After-sync}
 
 pub returns-in_err-write_at-clause-any_moment : goal.returns-in_err-write_at-clause-any_moment
-returns-in_err-write_at-clause-any_moment g c told = change_leaves c.write_at.result (g.V.Volume.log c.args.volume.now) (g.V.Volume.log c.write_at.new.self) c.args.area _ (WriteAt c.args.area c.args.at c.args.bytes.now) (wrote_leaves (g.V.Volume.log c.args.volume.now) c.args.area c.args.at c.args.bytes.now) (c.write_at.ensures.done told) (c.write_at.ensures.failed told)
+returns-in_err-write_at-clause-any_moment g c told = change_leaves c.write_at.result (g.V.Volume.state c.args.volume.now).log (g.V.Volume.state c.write_at.new.self).log c.args.area _ (WriteAt c.args.area c.args.at c.args.bytes.now) (wrote_leaves (g.V.Volume.state c.args.volume.now).log c.args.area c.args.at c.args.bytes.now) (c.write_at.ensures.done told) (c.write_at.ensures.failed told)
 
 pub returns-in_err-write_at-clause-elsewhere : goal.returns-in_err-write_at-clause-elsewhere
-returns-in_err-write_at-clause-elsewhere g c told other not = one_stays c.write_at.result (g.V.Volume.log c.args.volume.now) (g.V.Volume.log c.write_at.new.self) (WriteAt c.args.area c.args.at c.args.bytes.now) other not (c.write_at.ensures.done told) (c.write_at.ensures.failed told)
+returns-in_err-write_at-clause-elsewhere g c told other not = one_stays c.write_at.result (g.V.Volume.state c.args.volume.now).log (g.V.Volume.state c.write_at.new.self).log (WriteAt c.args.area c.args.at c.args.bytes.now) other not (c.write_at.ensures.done told) (c.write_at.ensures.failed told)
 
 -- after the sync, done or not
 second : (g : _) (c : After-sync g) → g.V.Volume.told
-    → LeavesOnly c.args.area (CrashLeavesWith (g.V.Volume.log c.args.volume.now) c.args.area (written (seen (g.V.Volume.log c.args.volume.now) c.args.area) c.args.at c.args.bytes.now)) (g.V.Volume.log c.args.volume.now) (g.V.Volume.log c.sync.new.self)
+    → LeavesOnly c.args.area (CrashLeavesWith (g.V.Volume.state c.args.volume.now).log c.args.area (written (seen (g.V.Volume.state c.args.volume.now).log c.args.area) c.args.at c.args.bytes.now)) (g.V.Volume.state c.args.volume.now).log (g.V.Volume.state c.sync.new.self).log
 second g c told =
-    let log = g.V.Volume.log c.args.volume.now in
+    let log = (g.V.Volume.state c.args.volume.now).log in
     let changed = c.in_ok-write_at.ensures.done told in
-    sync_leaves c.sync.result log (g.V.Volume.log c.write_at.new.self) (g.V.Volume.log c.sync.new.self) c.args.area _ (g.met.V.Volume.seen_is_left c.args.volume.now c.args.area told)
+    sync_leaves c.sync.result log (g.V.Volume.state c.write_at.new.self).log (g.V.Volume.state c.sync.new.self).log c.args.area _ (g.met.V.Volume.seen_is_left c.args.volume.now c.args.area told)
     (ap (λ l. seen l c.args.area) changed ∙ seen-wrote log c.args.area c.args.at c.args.bytes.now)
-    (change_leaves c.write_at.result (g.V.Volume.log c.args.volume.now) (g.V.Volume.log c.write_at.new.self) c.args.area _ (WriteAt c.args.area c.args.at c.args.bytes.now) (wrote_leaves (g.V.Volume.log c.args.volume.now) c.args.area c.args.at c.args.bytes.now) (c.write_at.ensures.done told) (c.write_at.ensures.failed told)) (c.sync.ensures.done told) (c.sync.ensures.failed told)
+    (change_leaves c.write_at.result (g.V.Volume.state c.args.volume.now).log (g.V.Volume.state c.write_at.new.self).log c.args.area _ (WriteAt c.args.area c.args.at c.args.bytes.now) (wrote_leaves (g.V.Volume.state c.args.volume.now).log c.args.area c.args.at c.args.bytes.now) (c.write_at.ensures.done told) (c.write_at.ensures.failed told)) (c.sync.ensures.done told) (c.sync.ensures.failed told)
 
-second_elsewhere : (g : _) (c : After-sync g) → g.V.Volume.told → (other : Area) → same_area c.args.area other ≡ false → StaysAs other (g.V.Volume.log c.args.volume.now) (g.V.Volume.log c.sync.new.self)
-second_elsewhere g c told other not = next_stays c.sync.result (g.V.Volume.log c.args.volume.now) (g.V.Volume.log c.write_at.new.self) (g.V.Volume.log c.sync.new.self) (SyncOf c.args.area) other not
-    (one_stays c.write_at.result (g.V.Volume.log c.args.volume.now) (g.V.Volume.log c.write_at.new.self) (WriteAt c.args.area c.args.at c.args.bytes.now) other not (c.write_at.ensures.done told) (c.write_at.ensures.failed told)) (c.sync.ensures.done told) (c.sync.ensures.failed told)
+second_elsewhere : (g : _) (c : After-sync g) → g.V.Volume.told → (other : Area) → same_area c.args.area other ≡ false → StaysAs other (g.V.Volume.state c.args.volume.now).log (g.V.Volume.state c.sync.new.self).log
+second_elsewhere g c told other not = next_stays c.sync.result (g.V.Volume.state c.args.volume.now).log (g.V.Volume.state c.write_at.new.self).log (g.V.Volume.state c.sync.new.self).log (SyncOf c.args.area) other not
+    (one_stays c.write_at.result (g.V.Volume.state c.args.volume.now).log (g.V.Volume.state c.write_at.new.self).log (WriteAt c.args.area c.args.at c.args.bytes.now) other not (c.write_at.ensures.done told) (c.write_at.ensures.failed told)) (c.sync.ensures.done told) (c.sync.ensures.failed told)
 
 pub returns-in_err-sync-clause-any_moment : goal.returns-in_err-sync-clause-any_moment
 returns-in_err-sync-clause-any_moment g c = second g (goal.at.returns-in_err-sync-clause-any_moment g c).After-sync
