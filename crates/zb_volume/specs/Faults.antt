@@ -1,5 +1,5 @@
 -- What a call that failed has done, and when it may fail.
-use Rattle.std.specs.Prelude.{Some, ◌≡◌, ◌⊎◌, ℕ, ◌+◌, ◌-◌, ◌≤◌, ◌^◌, min, List, ◌∷◌, Result, OnErr}
+use Rattle.std.specs.Prelude.{Some, ◌≡◌, ◌⊎◌, List, ◌∷◌}
 use Rattle.zb_volume.specs.declared.areas.Area.{Area}
 use Rattle.zb_volume.specs.Calls.{Event, Contents, area_content}
 use Rattle.zb_volume.specs.Images.{CrashLeaves}

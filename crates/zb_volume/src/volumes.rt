@@ -12,11 +12,11 @@ use crate::{Area, StoreFault};
 
 /// A disk with areas.
 ///
-/// Contracts see it as the log of the calls that changed it. What a read gives of an area, what a
-/// crash at this moment may leave of it, and what a crash at an earlier moment might have left are
-/// definitions over that log (own; a disk that writes each byte by itself, in any order, until a
-/// sync). The log is told where the type says so; over files of the host it isn't, and then only
-/// the clauses on faults, bounds and counts say something.
+/// Contracts see it as the log of the calls that changed it and its two counts of faults. What a read
+/// gives of an area, what a crash at this moment may leave of it, and what a crash at an earlier
+/// moment might have left are definitions over the log (own; a disk that writes each byte by itself,
+/// in any order, until a sync). The log is told where the type says so; over files of the host it
+/// isn't, and then only the clauses on faults, bounds and counts say something.
 ///
 /// A call that fails is counted, in one count for `len` and `read` and in another for the rest. A
 /// count stands still at 2^64 - 1.
