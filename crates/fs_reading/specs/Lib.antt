@@ -4,6 +4,7 @@ pub mod Contents
 pub mod Histories
 pub mod Main
 pub mod Merged
+pub mod Reads
 pub mod RecordsStand
 pub mod Sources
 pub mod Standing

@@ -2,15 +2,7 @@
 use Rattle.std.specs.Prelude.{◌≡◌, ℕ, ◌<◌, ◌^◌, List, length, Some, slice_get}
 use Rattle.fs_index.specs.declared.place.Place.{Place}
 use Rattle.fs_records.specs.Blocks.{Reached, Begins}
-use Rattle.fs_index.specs.Places.{Kept}
-use Rattle.fs_records.specs.Indexed.{IsIndexOf, places_of}
-
--- the bytes begin as a file, whatever stands behind what was reached of them, the index is the one of what was reached, and every place within the bytes is a number of 64 bits
-pub record IsIndexed (bytes : List ℕ) (kept : Kept) : Type 0 where
-  pub reached : Reached
-  pub begins : Begins bytes reached
-  pub index : IsIndexOf reached kept
-  pub short : length bytes < 2 ^ 64
+use Rattle.fs_records.specs.Indexed.{places_of}
 
 -- the bytes begin as a file, whatever stands behind what was reached of them, these are the places of the data records of an object in what was reached, and every place within the bytes is a number of 64 bits
 pub record ArePlaces (bytes : List ℕ) (places : List Place) : Type 0 where

@@ -1,15 +1,15 @@
 //! The content of a data record.
 
-ghost use Rattle.std.specs.Prelude.{◌≡◌, ℕ, ◌+◌, ◌≤◌, ◌<◌, ◌^◌, true, length, IfOk, OnOk, IsErrOf};
+ghost use Rattle.std.specs.Prelude.{◌≡◌, ℕ, ◌≤◌, ◌<◌, ◌^◌, true, length, IfOk};
 ghost use Rattle.zb_model.specs.declared.data.Content.{Content};
-ghost use Rattle.zb_base.specs.Counts.{Rose, HasCause};
 ghost use Rattle.fs_records.specs.Blocks.{Reached, Begins, is_known, content_at};
 ghost use Rattle.zb_volume.specs.Disk.{main_bytes};
 ghost use Rattle.fs_reading.specs.Standing.{data_head_at, IsContent};
 ghost use Rattle.fs_reading.specs.Formed.{HasBytes};
 ghost use Rattle.fs_reading.specs.Sources.{IsSource, IsKnownPlace};
 ghost use Rattle.fs_reading.specs.Outlines.{HasLength, StandsWithin, outlined_content};
-ghost use Rattle.fs_reading.specs.declared.errors.ReadError.TheVariants.{ReadFault, Memory};
+ghost use Rattle.zb_volume.specs.States.{OnlyReads};
+ghost use Rattle.fs_reading.specs.Reads.{OnlyReadsMain};
 
 use crate::errors::ReadError;
 use crate::front::{FRONT, content_in, fill_front, header_in};
@@ -27,16 +27,15 @@ pub(crate) fn source_of<V: Volume>(
     at: u64,
     header: &DataHeader,
 ) -> Result<Option<Source>, StoreFault>
-    requires short { V.told → length (main_bytes (V.log volume.old)) < 2 ^ 64 }
-    requires header { V.told → header.now ≡ data_head_at (main_bytes (V.log volume.old)) at }
-    requires some { V.told → (content : Content) × IsContent (main_bytes (V.log volume.old)) content at }
-    ensures value { V.told → (content : Content) → IsContent (main_bytes (V.log volume.old)) content at
-        → IfOk result (λ source. IsSource (main_bytes (V.log volume.old)) content source) }
+    requires short { V.told → length (main_bytes (V.state volume.old).log) < 2 ^ 64 }
+    requires header { V.told → header.now ≡ data_head_at (main_bytes (V.state volume.old).log) at }
+    requires some { V.told → (content : Content)
+        × IsContent (main_bytes (V.state volume.old).log) content at }
+    ensures value { V.told → (content : Content)
+        → IsContent (main_bytes (V.state volume.old).log) content at
+        → IfOk result (λ source. IsSource (main_bytes (V.state volume.old).log) content source) }
     ensures filled { IfOk result (λ source. HasLength source) }
-    ensures same { V.log volume.new ≡ V.log volume.old }
-    ensures cause { HasCause (V.read_faults volume.old) (V.read_faults volume.new) result }
-    ensures uncounted { OnOk result (V.read_faults volume.new ≡ V.read_faults volume.old) }
-    ensures write_faults { V.write_faults volume.new ≡ V.write_faults volume.old }
+    ensures read { OnlyReads (V.state volume.old) (V.state volume.new) result }
 {
     let mut place = at;
     let mut length = header.length;
@@ -60,18 +59,12 @@ pub(crate) fn content_from<V: Volume>(
     volume: &mut V,
     source: Option<Source>,
 ) -> Result<Content, ReadError>
-    requires short { V.told → length (main_bytes (V.log volume.old)) < 2 ^ 64 }
-    requires within { V.told → StandsWithin (main_bytes (V.log volume.old)) source }
+    requires short { V.told → length (main_bytes (V.state volume.old).log) < 2 ^ 64 }
+    requires within { V.told → StandsWithin (main_bytes (V.state volume.old).log) source }
     ensures value { V.told → IfOk result (λ content.
-        content ≡ outlined_content (main_bytes (V.log volume.old)) source) }
+        content ≡ outlined_content (main_bytes (V.state volume.old).log) source) }
     ensures filled { HasLength source → IfOk result (λ content. HasBytes content) }
-    ensures same { V.log volume.new ≡ V.log volume.old }
-    ensures later { V.read_faults volume.old ≤ V.read_faults volume.new }
-    ensures fault { IsErrOf result ReadFault
-        → Rose (V.read_faults volume.old) (V.read_faults volume.new) }
-    ensures memory { IsErrOf result Memory → V.read_faults volume.new ≡ V.read_faults volume.old }
-    ensures uncounted { OnOk result (V.read_faults volume.new ≡ V.read_faults volume.old) }
-    ensures write_faults { V.write_faults volume.new ≡ V.write_faults volume.old }
+    ensures read { OnlyReadsMain (V.state volume.old) (V.state volume.new) result }
 {
     let Some(source) = source else {
         return Ok(Content::Absent);
@@ -87,19 +80,15 @@ pub(crate) fn content_of<V: Volume>(
     at: u64,
     header: &DataHeader,
 ) -> Result<Content, ReadError>
-    requires short { V.told → length (main_bytes (V.log volume.old)) < 2 ^ 64 }
-    requires header { V.told → header.now ≡ data_head_at (main_bytes (V.log volume.old)) at }
-    requires some { V.told → (content : Content) × IsContent (main_bytes (V.log volume.old)) content at }
-    ensures value { V.told → (content : Content) → IsContent (main_bytes (V.log volume.old)) content at
+    requires short { V.told → length (main_bytes (V.state volume.old).log) < 2 ^ 64 }
+    requires header { V.told → header.now ≡ data_head_at (main_bytes (V.state volume.old).log) at }
+    requires some { V.told → (content : Content)
+        × IsContent (main_bytes (V.state volume.old).log) content at }
+    ensures value { V.told → (content : Content)
+        → IsContent (main_bytes (V.state volume.old).log) content at
         → IfOk result (λ read. read ≡ content) }
     ensures filled { IfOk result (λ read. HasBytes read) }
-    ensures same { V.log volume.new ≡ V.log volume.old }
-    ensures later { V.read_faults volume.old ≤ V.read_faults volume.new }
-    ensures fault { IsErrOf result ReadFault
-        → Rose (V.read_faults volume.old) (V.read_faults volume.new) }
-    ensures memory { IsErrOf result Memory → V.read_faults volume.new ≡ V.read_faults volume.old }
-    ensures uncounted { OnOk result (V.read_faults volume.new ≡ V.read_faults volume.old) }
-    ensures write_faults { V.write_faults volume.new ≡ V.write_faults volume.old }
+    ensures read { OnlyReadsMain (V.state volume.old) (V.state volume.new) result }
 {
     let source = source_of(volume, at, header)?;
     content_from(alloc, volume, source)
@@ -108,18 +97,13 @@ pub(crate) fn content_of<V: Volume>(
 /// The content of the data record at a place where one of an object was read: its bytes, or those
 /// of the earlier record that its back pointer leads to. It is `ReadFault` only where a read failed,
 /// and else `Memory`. The volume is as it was.
-pub fn read_content<V: Volume>(alloc: Global, volume: &mut V, at: u64) -> Result<Content, ReadError>
-    requires { V.told → IsKnownPlace (main_bytes (V.log volume.old)) at }
+fn read_content<V: Volume>(alloc: Global, volume: &mut V, at: u64) -> Result<Content, ReadError>
+    requires { V.told → IsKnownPlace (main_bytes (V.state volume.old).log) at }
     ensures content { V.told → (reached : Reached) (oid : ℕ)
-        → Begins (main_bytes (V.log volume.old)) reached → is_known reached.known oid at ≡ true
+        → Begins (main_bytes (V.state volume.old).log) reached → is_known reached.known oid at
+        ≡ true
         → IfOk result (λ content. content ≡ content_at reached.known oid at) }
-    ensures same { V.log volume.new ≡ V.log volume.old }
-    ensures later { V.read_faults volume.old ≤ V.read_faults volume.new }
-    ensures fault { IsErrOf result ReadFault
-        → Rose (V.read_faults volume.old) (V.read_faults volume.new) }
-    ensures memory { IsErrOf result Memory → V.read_faults volume.new ≡ V.read_faults volume.old }
-    ensures uncounted { OnOk result (V.read_faults volume.new ≡ V.read_faults volume.old) }
-    ensures write_faults { V.write_faults volume.new ≡ V.write_faults volume.old }
+    ensures read { OnlyReadsMain (V.state volume.old) (V.state volume.new) result }
 {
     let header = data_header_at(volume, at)?;
     content_of(alloc, volume, at, &header)
@@ -134,18 +118,13 @@ pub(crate) fn read_content_before<V: Volume>(
     at: u64,
     end: u64,
 ) -> Result<Content, ReadError>
-    requires known { V.told → IsKnownPlace (main_bytes (V.log volume.old)) at }
-    requires end { V.told → end ≤ length (main_bytes (V.log volume.old)) }
+    requires known { V.told → IsKnownPlace (main_bytes (V.state volume.old).log) at }
+    requires end { V.told → end ≤ length (main_bytes (V.state volume.old).log) }
     ensures content { V.told → (reached : Reached) (oid : ℕ)
-        → Begins (main_bytes (V.log volume.old)) reached → is_known reached.known oid at ≡ true
+        → Begins (main_bytes (V.state volume.old).log) reached → is_known reached.known oid at
+        ≡ true
         → IfOk result (λ content. content ≡ content_at reached.known oid at) }
-    ensures same { V.log volume.new ≡ V.log volume.old }
-    ensures later { V.read_faults volume.old ≤ V.read_faults volume.new }
-    ensures fault { IsErrOf result ReadFault
-        → Rose (V.read_faults volume.old) (V.read_faults volume.new) }
-    ensures memory { IsErrOf result Memory → V.read_faults volume.new ≡ V.read_faults volume.old }
-    ensures uncounted { OnOk result (V.read_faults volume.new ≡ V.read_faults volume.old) }
-    ensures write_faults { V.write_faults volume.new ≡ V.write_faults volume.old }
+    ensures read { OnlyReadsMain (V.state volume.old) (V.state volume.new) result }
 {
     let room = end.saturating_sub(at);
     if room < DATA_HEADER_LENGTH as u64 {

@@ -1,10 +1,10 @@
 //! A data record's header, read together with the bytes behind it.
 
-ghost use Rattle.std.specs.Prelude.{◌≡◌, ℕ, ◌+◌, ◌≤◌, length, take, drop, min, IfOk, OnOk};
+ghost use Rattle.std.specs.Prelude.{◌≡◌, ◌+◌, ◌≤◌, length, take, drop, min, IfOk};
 ghost use Rattle.zb_model.specs.declared.data.Content.TheVariants.{Held};
-ghost use Rattle.zb_base.specs.Counts.{HasCause};
 ghost use Rattle.zb_volume.specs.Disk.{main_bytes};
 ghost use Rattle.fs_records.specs.Headers.{data_header_of};
+ghost use Rattle.zb_volume.specs.States.{OnlyReads};
 
 use fs_records::{DATA_HEADER_LENGTH, DataHeader, read_data_header};
 use std::alloc::{AllocError, Global};
@@ -23,14 +23,11 @@ pub(crate) fn fill_front<V: Volume>(
     room: u64,
     out: &mut [u8; FRONT],
 ) -> Result<usize, StoreFault>
-    requires { V.told → at + room ≤ length (main_bytes (V.log volume.old)) }
+    requires { V.told → at + room ≤ length (main_bytes (V.state volume.old).log) }
     ensures count { IfOk result (λ count. count ≡ min room 4096) }
     ensures bytes { V.told → IfOk result (λ count.
-        take count out.new ≡ take count (drop at (main_bytes (V.log volume.old)))) }
-    ensures same { V.log volume.new ≡ V.log volume.old }
-    ensures cause { HasCause (V.read_faults volume.old) (V.read_faults volume.new) result }
-    ensures uncounted { OnOk result (V.read_faults volume.new ≡ V.read_faults volume.old) }
-    ensures write_faults { V.write_faults volume.new ≡ V.write_faults volume.old }
+        take count out.new ≡ take count (drop at (main_bytes (V.state volume.old).log))) }
+    ensures read { OnlyReads (V.state volume.old) (V.state volume.new) result }
 {
     let mut m = FRONT;
     if room < FRONT as u64 {

@@ -1,23 +1,22 @@
 //! The history of an object.
 
-ghost use Rattle.std.specs.Prelude.{◌≡◌, ℕ, ◌+◌, ◌≤◌, ◌<◌, ◌^◌, if◌then◌else◌, Some, None, List, length, map, reverse, IfOk, OnOk, IsErrOf};
+ghost use Rattle.std.specs.Prelude.{◌≡◌, ℕ, ◌<◌, ◌^◌, if◌then◌else◌, Some, None, List, length, map, reverse, IfOk};
 ghost use Rattle.std.specs.List.{AllByRecursion};
 ghost use Rattle.zb_model.specs.Lists.{history_of};
-ghost use Rattle.zb_base.specs.Counts.{Rose};
 ghost use Rattle.fs_records.specs.Blocks.{Reached, Begins, Known};
-ghost use Rattle.fs_records.specs.Indexed.{IsIndexOf, place_of, places_of};
-ghost use Rattle.fs_reading.specs.Main.{IsIndexed, ArePlaces};
+ghost use Rattle.fs_records.specs.Indexed.{place_of, places_of};
+ghost use Rattle.fs_reading.specs.Main.{ArePlaces};
 ghost use Rattle.fs_reading.specs.Standing.{RecordStands, is_replaced, lasts, revision_line_of};
 ghost use Rattle.fs_reading.specs.Sources.{is_same_transaction};
 ghost use Rattle.fs_reading.specs.Sizes.{noted_of};
-ghost use Rattle.fs_reading.specs.declared.errors.ReadError.TheVariants.{ReadFault, Memory};
 ghost use Rattle.zb_volume.specs.Disk.{main_bytes};
+ghost use Rattle.fs_reading.specs.Reads.{OnlyReadsMain};
 
 use crate::errors::ReadError;
 use crate::noted::Noted;
 use crate::pieces::{header_at, keep, user_and_description};
 use crate::sizes::note_all;
-use fs_index::{Index, Place};
+use fs_index::Place;
 use std::alloc::Global;
 use zb_ids::{ListOf, Oid, Tid};
 use zb_model::Revision;
@@ -30,20 +29,14 @@ fn line_of<V: Volume>(
     serial: Tid,
     noted: Noted,
 ) -> Result<Revision, ReadError>
-    requires short { V.told → length (main_bytes (V.log volume.old)) < 2 ^ 64 }
-    requires stands { V.told → (k : Known) × RecordStands (main_bytes (V.log volume.old)) k
-        × (noted ≡ noted_of (main_bytes (V.log volume.old)) k) }
+    requires short { V.told → length (main_bytes (V.state volume.old).log) < 2 ^ 64 }
+    requires stands { V.told → (k : Known) × RecordStands (main_bytes (V.state volume.old).log) k
+        × (noted ≡ noted_of (main_bytes (V.state volume.old).log) k) }
     ensures value { V.told → (k : Known) → serial ≡ k.tid
-        → RecordStands (main_bytes (V.log volume.old)) k
-        → noted ≡ noted_of (main_bytes (V.log volume.old)) k
-        → IfOk result (λ line. line ≡ revision_line_of (main_bytes (V.log volume.old)) k) }
-    ensures same { V.log volume.new ≡ V.log volume.old }
-    ensures later { V.read_faults volume.old ≤ V.read_faults volume.new }
-    ensures fault { IsErrOf result ReadFault
-        → Rose (V.read_faults volume.old) (V.read_faults volume.new) }
-    ensures memory { IsErrOf result Memory → V.read_faults volume.new ≡ V.read_faults volume.old }
-    ensures uncounted { OnOk result (V.read_faults volume.new ≡ V.read_faults volume.old) }
-    ensures write_faults { V.write_faults volume.new ≡ V.write_faults volume.old }
+        → RecordStands (main_bytes (V.state volume.old).log) k
+        → noted ≡ noted_of (main_bytes (V.state volume.old).log) k
+        → IfOk result (λ line. line ≡ revision_line_of (main_bytes (V.state volume.old).log) k) }
+    ensures read { OnlyReadsMain (V.state volume.old) (V.state volume.new) result }
 {
     let header = header_at(volume, noted.transaction)?;
     let (user, description) = user_and_description(alloc, volume, noted.transaction, &header)?;
@@ -74,21 +67,16 @@ fn line_of_last<V: Volume>(
     noted: Noted,
     later: &[Place],
 ) -> Result<Option<Revision>, ReadError>
-    requires short { V.told → length (main_bytes (V.log volume.old)) < 2 ^ 64 }
-    requires stands { V.told → (k : Known) × RecordStands (main_bytes (V.log volume.old)) k
-        × (noted ≡ noted_of (main_bytes (V.log volume.old)) k) }
+    requires short { V.told → length (main_bytes (V.state volume.old).log) < 2 ^ 64 }
+    requires stands { V.told → (k : Known) × RecordStands (main_bytes (V.state volume.old).log) k
+        × (noted ≡ noted_of (main_bytes (V.state volume.old).log) k) }
     ensures value { V.told → (k : Known) (ks : List Known) → serial ≡ k.tid
-        → later.now ≡ map place_of ks → RecordStands (main_bytes (V.log volume.old)) k
-        → noted ≡ noted_of (main_bytes (V.log volume.old)) k
+        → later.now ≡ map place_of ks → RecordStands (main_bytes (V.state volume.old).log) k
+        → noted ≡ noted_of (main_bytes (V.state volume.old).log) k
         → IfOk result (λ line. line
-        ≡ (if is_replaced k ks then None else Some (revision_line_of (main_bytes (V.log volume.old)) k))) }
-    ensures same { V.log volume.new ≡ V.log volume.old }
-    ensures later { V.read_faults volume.old ≤ V.read_faults volume.new }
-    ensures fault { IsErrOf result ReadFault
-        → Rose (V.read_faults volume.old) (V.read_faults volume.new) }
-    ensures memory { IsErrOf result Memory → V.read_faults volume.new ≡ V.read_faults volume.old }
-    ensures uncounted { OnOk result (V.read_faults volume.new ≡ V.read_faults volume.old) }
-    ensures write_faults { V.write_faults volume.new ≡ V.write_faults volume.old }
+        ≡ (if is_replaced k ks then None else Some
+        (revision_line_of (main_bytes (V.state volume.old).log) k))) }
+    ensures read { OnlyReadsMain (V.state volume.old) (V.state volume.new) result }
 {
     if is_replaced(serial, later) {
         return Ok(None);
@@ -106,22 +94,16 @@ fn lines_of<V: Volume>(
     noted: &[Noted],
 ) -> Result<ListOf<Revision>, ReadError>
     requires long { length noted.now ≡ length places.now }
-    requires short { V.told → length (main_bytes (V.log volume.old)) < 2 ^ 64 }
+    requires short { V.told → length (main_bytes (V.state volume.old).log) < 2 ^ 64 }
     requires stand { V.told → (ks : List Known) × (places.now ≡ map place_of ks)
-        × AllByRecursion (RecordStands (main_bytes (V.log volume.old))) ks
-        × (noted.now ≡ map (noted_of (main_bytes (V.log volume.old))) ks) }
+        × AllByRecursion (RecordStands (main_bytes (V.state volume.old).log)) ks
+        × (noted.now ≡ map (noted_of (main_bytes (V.state volume.old).log)) ks) }
     ensures lines { V.told → (ks : List Known) → places.now ≡ map place_of ks
-        → AllByRecursion (RecordStands (main_bytes (V.log volume.old))) ks
-        → noted.now ≡ map (noted_of (main_bytes (V.log volume.old))) ks
+        → AllByRecursion (RecordStands (main_bytes (V.state volume.old).log)) ks
+        → noted.now ≡ map (noted_of (main_bytes (V.state volume.old).log)) ks
         → IfOk result (λ lines.
-        lines ≡ reverse (map (revision_line_of (main_bytes (V.log volume.old))) (lasts ks))) }
-    ensures same { V.log volume.new ≡ V.log volume.old }
-    ensures later { V.read_faults volume.old ≤ V.read_faults volume.new }
-    ensures fault { IsErrOf result ReadFault
-        → Rose (V.read_faults volume.old) (V.read_faults volume.new) }
-    ensures memory { IsErrOf result Memory → V.read_faults volume.new ≡ V.read_faults volume.old }
-    ensures uncounted { OnOk result (V.read_faults volume.new ≡ V.read_faults volume.old) }
-    ensures write_faults { V.write_faults volume.new ≡ V.write_faults volume.old }
+        lines ≡ reverse (map (revision_line_of (main_bytes (V.state volume.old).log)) (lasts ks))) }
+    ensures read { OnlyReadsMain (V.state volume.old) (V.state volume.new) result }
 {
     let mut lines = ListOf::new(alloc);
     let mut left = places.len();
@@ -146,45 +128,14 @@ pub fn read_history_at<V: Volume>(
     volume: &mut V,
     places: &[Place],
 ) -> Result<ListOf<Revision>, ReadError>
-    requires { V.told → ArePlaces (main_bytes (V.log volume.old)) places.now }
+    requires { V.told → ArePlaces (main_bytes (V.state volume.old).log) places.now }
     ensures lines { V.told → (reached : Reached) (oid : ℕ)
-        → Begins (main_bytes (V.log volume.old)) reached → places.now ≡ places_of oid reached.known
+        → Begins (main_bytes (V.state volume.old).log) reached → places.now
+        ≡ places_of oid reached.known
         → IfOk result (λ lines. lines ≡ history_of oid reached.list) }
-    ensures same { V.log volume.new ≡ V.log volume.old }
-    ensures later { V.read_faults volume.old ≤ V.read_faults volume.new }
-    ensures fault { IsErrOf result ReadFault
-        → Rose (V.read_faults volume.old) (V.read_faults volume.new) }
-    ensures memory { IsErrOf result Memory → V.read_faults volume.new ≡ V.read_faults volume.old }
-    ensures uncounted { OnOk result (V.read_faults volume.new ≡ V.read_faults volume.old) }
-    ensures write_faults { V.write_faults volume.new ≡ V.write_faults volume.old }
+    ensures read { OnlyReadsMain (V.state volume.old) (V.state volume.new) result }
 {
     let noted = note_all(alloc, volume, places)?;
     let lines = lines_of(alloc, volume, places, &noted)?;
     Ok(lines)
-}
-
-/// Every change of an object, the newest first, for an index of what stands in the file: the tid, the
-/// user and the description of its transaction, and how many bytes the object has from then on, or
-/// `None` where it is gone. Where one transaction has several records of the object, its change is
-/// that of the last one. It reads headers, back pointers and texts alone, never the object's bytes,
-/// and memory is that of the list. It is `ReadFault` only where a read failed, and else `Memory`.
-/// The volume is as it was.
-pub fn read_history<V: Volume>(
-    alloc: Global,
-    volume: &mut V,
-    index: &Index,
-    oid: Oid,
-) -> Result<ListOf<Revision>, ReadError>
-    requires { V.told → IsIndexed (main_bytes (V.log volume.old)) index.now }
-    ensures lines { V.told → (reached : Reached) → Begins (main_bytes (V.log volume.old)) reached
-        → IsIndexOf reached index.now → IfOk result (λ lines. lines ≡ history_of oid reached.list) }
-    ensures same { V.log volume.new ≡ V.log volume.old }
-    ensures later { V.read_faults volume.old ≤ V.read_faults volume.new }
-    ensures fault { IsErrOf result ReadFault
-        → Rose (V.read_faults volume.old) (V.read_faults volume.new) }
-    ensures memory { IsErrOf result Memory → V.read_faults volume.new ≡ V.read_faults volume.old }
-    ensures uncounted { OnOk result (V.read_faults volume.new ≡ V.read_faults volume.old) }
-    ensures write_faults { V.write_faults volume.new ≡ V.write_faults volume.old }
-{
-    read_history_at(alloc, volume, index.places(oid))
 }

@@ -17,11 +17,9 @@ mod sizes;
 mod transaction;
 mod undo_log;
 
-pub use contents::read_content;
 pub use errors::ReadError;
-pub use history::{read_history, read_history_at};
+pub use history::read_history_at;
 pub use lookups::{read_before, read_first_after, read_transaction_with};
 pub use outline::{Outline, OutlinedChange, Source};
 pub use outlining::read_outline_at;
-pub use transaction::{read_transaction, read_transaction_at};
-pub use undo_log::{read_undo_log, read_undo_log_at};
+pub use undo_log::read_undo_log_at;

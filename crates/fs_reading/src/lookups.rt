@@ -1,16 +1,15 @@
 //! Look-ups of an object and of a transaction by the places where they stand.
 
-ghost use Rattle.std.specs.Prelude.{◌≡◌, ℕ, ◌≤◌, length, IfOk, OnOk, IsErrOf};
+ghost use Rattle.std.specs.Prelude.{◌≡◌, ℕ, ◌≤◌, length, IfOk};
 ghost use Rattle.std.specs.Option.{option_map};
 ghost use Rattle.zb_model.specs.Queries.{first_after, found_as, found_below, transaction_at};
-ghost use Rattle.zb_base.specs.Counts.{Rose};
 ghost use Rattle.fs_records.specs.Blocks.{Reached, Begins};
 ghost use Rattle.fs_index.specs.Places.{IsRising};
 ghost use Rattle.fs_records.specs.Indexed.{places_of};
 ghost use Rattle.fs_index.specs.Found.{first_from};
 ghost use Rattle.fs_reading.specs.Main.{ArePlaces, AreStarts};
-ghost use Rattle.fs_reading.specs.declared.errors.ReadError.TheVariants.{ReadFault, Memory};
 ghost use Rattle.zb_volume.specs.Disk.{main_bytes};
+ghost use Rattle.fs_reading.specs.Reads.{OnlyReadsMain};
 
 use crate::contents::read_content_before;
 use crate::errors::ReadError;
@@ -52,19 +51,14 @@ pub fn read_before<V: Volume>(
     end: u64,
     front: Tid,
 ) -> Result<Found, ReadError>
-    requires places { V.told → ArePlaces (main_bytes (V.log volume.old)) places.now }
+    requires places { V.told → ArePlaces (main_bytes (V.state volume.old).log) places.now }
     requires rising { IsRising places.now }
-    requires end { V.told → end ≤ length (main_bytes (V.log volume.old)) }
+    requires end { V.told → end ≤ length (main_bytes (V.state volume.old).log) }
     ensures found { V.told → (reached : Reached) (oid : ℕ)
-        → Begins (main_bytes (V.log volume.old)) reached → places.now ≡ places_of oid reached.known
+        → Begins (main_bytes (V.state volume.old).log) reached → places.now
+        ≡ places_of oid reached.known
         → IfOk result (λ found. found ≡ found_below oid front reached.list) }
-    ensures same { V.log volume.new ≡ V.log volume.old }
-    ensures later { V.read_faults volume.old ≤ V.read_faults volume.new }
-    ensures fault { IsErrOf result ReadFault
-        → Rose (V.read_faults volume.old) (V.read_faults volume.new) }
-    ensures memory { IsErrOf result Memory → V.read_faults volume.new ≡ V.read_faults volume.old }
-    ensures uncounted { OnOk result (V.read_faults volume.new ≡ V.read_faults volume.old) }
-    ensures write_faults { V.write_faults volume.new ≡ V.write_faults volume.old }
+    ensures read { OnlyReadsMain (V.state volume.old) (V.state volume.new) result }
 {
     let Some(place) = last_before(places, front) else {
         return Ok(Found::Nothing);
@@ -85,18 +79,13 @@ pub fn read_transaction_with<V: Volume>(
     starts: &[Place],
     tid: Tid,
 ) -> Result<Option<Transaction>, ReadError>
-    requires starts { V.told → AreStarts (main_bytes (V.log volume.old)) starts.now }
+    requires starts { V.told → AreStarts (main_bytes (V.state volume.old).log) starts.now }
     requires rising { IsRising starts.now }
-    ensures found { V.told → (reached : Reached) → Begins (main_bytes (V.log volume.old)) reached
+    ensures found { V.told → (reached : Reached)
+        → Begins (main_bytes (V.state volume.old).log) reached
         → starts.now ≡ reached.starts
         → IfOk result (λ found. found ≡ transaction_at tid reached.list) }
-    ensures same { V.log volume.new ≡ V.log volume.old }
-    ensures later { V.read_faults volume.old ≤ V.read_faults volume.new }
-    ensures fault { IsErrOf result ReadFault
-        → Rose (V.read_faults volume.old) (V.read_faults volume.new) }
-    ensures memory { IsErrOf result Memory → V.read_faults volume.new ≡ V.read_faults volume.old }
-    ensures uncounted { OnOk result (V.read_faults volume.new ≡ V.read_faults volume.old) }
-    ensures write_faults { V.write_faults volume.new ≡ V.write_faults volume.old }
+    ensures read { OnlyReadsMain (V.state volume.old) (V.state volume.new) result }
 {
     let Some(start) = first_from(starts, tid) else {
         return Ok(None);
@@ -118,18 +107,13 @@ pub fn read_first_after<V: Volume>(
     starts: &[Place],
     tid: Tid,
 ) -> Result<Option<Transaction>, ReadError>
-    requires starts { V.told → AreStarts (main_bytes (V.log volume.old)) starts.now }
+    requires starts { V.told → AreStarts (main_bytes (V.state volume.old).log) starts.now }
     requires rising { IsRising starts.now }
-    ensures found { V.told → (reached : Reached) → Begins (main_bytes (V.log volume.old)) reached
+    ensures found { V.told → (reached : Reached)
+        → Begins (main_bytes (V.state volume.old).log) reached
         → starts.now ≡ reached.starts
         → IfOk result (λ found. found ≡ first_after tid reached.list) }
-    ensures same { V.log volume.new ≡ V.log volume.old }
-    ensures later { V.read_faults volume.old ≤ V.read_faults volume.new }
-    ensures fault { IsErrOf result ReadFault
-        → Rose (V.read_faults volume.old) (V.read_faults volume.new) }
-    ensures memory { IsErrOf result Memory → V.read_faults volume.new ≡ V.read_faults volume.old }
-    ensures uncounted { OnOk result (V.read_faults volume.new ≡ V.read_faults volume.old) }
-    ensures write_faults { V.write_faults volume.new ≡ V.write_faults volume.old }
+    ensures read { OnlyReadsMain (V.state volume.old) (V.state volume.new) result }
 {
     let Some(next) = tid.0.checked_add(1) else {
         return Ok(None);

@@ -1,8 +1,7 @@
 //! A transaction by the places of its contents.
 
-ghost use Rattle.std.specs.Prelude.{◌≡◌, ℕ, ◌+◌, ◌≤◌, ◌<◌, ◌^◌, [], List, Some, length, map, slice_get, IfOk, OnOk, IsErrOf};
+ghost use Rattle.std.specs.Prelude.{◌≡◌, ℕ, ◌≤◌, ◌<◌, ◌^◌, [], List, Some, length, map, slice_get, IfOk};
 ghost use Rattle.zb_model.specs.declared.data.Transaction.{Transaction};
-ghost use Rattle.zb_base.specs.Counts.{Rose};
 ghost use Rattle.fs_records.specs.Blocks.{Reached, Begins, Known};
 ghost use Rattle.fs_records.specs.Rules.{payload_size};
 ghost use Rattle.fs_reading.specs.Main.{IsStart, IsStartOf};
@@ -10,8 +9,8 @@ ghost use Rattle.fs_reading.specs.ChangesStand.{ChangesStand, RecordsBetween, en
 ghost use Rattle.fs_reading.specs.Standing.{TransactionStands};
 ghost use Rattle.fs_reading.specs.Outlines.{AllStandWithin, IsOutline, outlined_transaction};
 ghost use Rattle.fs_reading.specs.SourceEntries.{AreSources, EntriesWithin, entries_from, outlined_entry};
-ghost use Rattle.fs_reading.specs.declared.errors.ReadError.TheVariants.{ReadFault, Memory};
 ghost use Rattle.zb_volume.specs.Disk.{main_bytes};
+ghost use Rattle.fs_reading.specs.Reads.{OnlyReadsMain};
 
 use crate::contents::source_of;
 use crate::errors::ReadError;
@@ -53,24 +52,18 @@ fn sources_between<V: Volume>(
     from: u64,
     end: u64,
 ) -> Result<IndexMap<Oid, Option<Source>>, ReadError>
-    requires short { V.told → length (main_bytes (V.log volume.old)) < 2 ^ 64 }
-    requires within { V.told → end ≤ length (main_bytes (V.log volume.old)) }
+    requires short { V.told → length (main_bytes (V.state volume.old).log) < 2 ^ 64 }
+    requires within { V.told → end ≤ length (main_bytes (V.state volume.old).log) }
     requires stand { V.told
-        → (ks : List Known) × RecordsBetween (main_bytes (V.log volume.old)) from end ks }
+        → (ks : List Known) × RecordsBetween (main_bytes (V.state volume.old).log) from end ks }
     ensures value { V.told → (ks : List Known)
-        → RecordsBetween (main_bytes (V.log volume.old)) from end ks
+        → RecordsBetween (main_bytes (V.state volume.old).log) from end ks
         → IfOk result (λ entries.
-        entries_from (main_bytes (V.log volume.old)) entries.entries ≡ entries_of [] ks) }
+        entries_from (main_bytes (V.state volume.old).log) entries.entries ≡ entries_of [] ks) }
     ensures within { V.told → IfOk result (λ entries.
-        EntriesWithin (main_bytes (V.log volume.old)) entries.entries) }
+        EntriesWithin (main_bytes (V.state volume.old).log) entries.entries) }
     ensures formed { IfOk result (λ entries. AreSources entries.entries) }
-    ensures same { V.log volume.new ≡ V.log volume.old }
-    ensures later { V.read_faults volume.old ≤ V.read_faults volume.new }
-    ensures fault { IsErrOf result ReadFault
-        → Rose (V.read_faults volume.old) (V.read_faults volume.new) }
-    ensures memory { IsErrOf result Memory → V.read_faults volume.new ≡ V.read_faults volume.old }
-    ensures uncounted { OnOk result (V.read_faults volume.new ≡ V.read_faults volume.old) }
-    ensures write_faults { V.write_faults volume.new ≡ V.write_faults volume.old }
+    ensures read { OnlyReadsMain (V.state volume.old) (V.state volume.new) result }
 {
     let mut entries = IndexMap::new(alloc);
     let mut place = from;
@@ -91,25 +84,19 @@ pub(crate) fn outline_at<V: Volume>(
     volume: &mut V,
     place: Place,
 ) -> Result<Outline, ReadError>
-    requires short { V.told → length (main_bytes (V.log volume.old)) < 2 ^ 64 }
+    requires short { V.told → length (main_bytes (V.state volume.old).log) < 2 ^ 64 }
     requires stands { V.told → (t : Transaction)
-        × TransactionStands (main_bytes (V.log volume.old)) place t
-        × ChangesStand (main_bytes (V.log volume.old)) place.at t.changes }
+        × TransactionStands (main_bytes (V.state volume.old).log) place t
+        × ChangesStand (main_bytes (V.state volume.old).log) place.at t.changes }
     ensures value { V.told → (t : Transaction)
-        → TransactionStands (main_bytes (V.log volume.old)) place t
-        → ChangesStand (main_bytes (V.log volume.old)) place.at t.changes
+        → TransactionStands (main_bytes (V.state volume.old).log) place t
+        → ChangesStand (main_bytes (V.state volume.old).log) place.at t.changes
         → IfOk result (λ outline.
-        outlined_transaction (main_bytes (V.log volume.old)) outline ≡ t) }
+        outlined_transaction (main_bytes (V.state volume.old).log) outline ≡ t) }
     ensures within { V.told → IfOk result (λ outline.
-        AllStandWithin (main_bytes (V.log volume.old)) outline.changes) }
+        AllStandWithin (main_bytes (V.state volume.old).log) outline.changes) }
     ensures formed { IfOk result (λ outline. IsOutline outline) }
-    ensures same { V.log volume.new ≡ V.log volume.old }
-    ensures later { V.read_faults volume.old ≤ V.read_faults volume.new }
-    ensures fault { IsErrOf result ReadFault
-        → Rose (V.read_faults volume.old) (V.read_faults volume.new) }
-    ensures memory { IsErrOf result Memory → V.read_faults volume.new ≡ V.read_faults volume.old }
-    ensures uncounted { OnOk result (V.read_faults volume.new ≡ V.read_faults volume.old) }
-    ensures write_faults { V.write_faults volume.new ≡ V.write_faults volume.old }
+    ensures read { OnlyReadsMain (V.state volume.old) (V.state volume.new) result }
 {
     let header = header_at(volume, place.at)?;
     let (user, description) = user_and_description(alloc, volume, place.at, &header)?;
@@ -144,21 +131,15 @@ pub fn read_outline_at<V: Volume>(
     volume: &mut V,
     place: Place,
 ) -> Result<Outline, ReadError>
-    requires { V.told → IsStart (main_bytes (V.log volume.old)) place }
+    requires { V.told → IsStart (main_bytes (V.state volume.old).log) place }
     ensures transaction { V.told → (reached : Reached) (number : ℕ)
-        → Begins (main_bytes (V.log volume.old)) reached → IsStartOf reached number place
+        → Begins (main_bytes (V.state volume.old).log) reached → IsStartOf reached number place
         → IfOk result (λ outline. slice_get reached.list number
-        ≡ Some (outlined_transaction (main_bytes (V.log volume.old)) outline)) }
+        ≡ Some (outlined_transaction (main_bytes (V.state volume.old).log) outline)) }
     ensures within { V.told → IfOk result (λ outline.
-        AllStandWithin (main_bytes (V.log volume.old)) outline.changes) }
+        AllStandWithin (main_bytes (V.state volume.old).log) outline.changes) }
     ensures formed { IfOk result (λ outline. IsOutline outline) }
-    ensures same { V.log volume.new ≡ V.log volume.old }
-    ensures later { V.read_faults volume.old ≤ V.read_faults volume.new }
-    ensures fault { IsErrOf result ReadFault
-        → Rose (V.read_faults volume.old) (V.read_faults volume.new) }
-    ensures memory { IsErrOf result Memory → V.read_faults volume.new ≡ V.read_faults volume.old }
-    ensures uncounted { OnOk result (V.read_faults volume.new ≡ V.read_faults volume.old) }
-    ensures write_faults { V.write_faults volume.new ≡ V.write_faults volume.old }
+    ensures read { OnlyReadsMain (V.state volume.old) (V.state volume.new) result }
 {
     outline_at(alloc, volume, place)
 }

@@ -1,11 +1,11 @@
 //! Pieces of the file of the database.
 
-ghost use Rattle.std.specs.Prelude.{◌≡◌, ℕ, ◌+◌, ◌≤◌, ◌<◌, ◌^◌, ◌++◌, length, take, drop, IfOk, OnOk, OnErr, IsErrOf};
+ghost use Rattle.std.specs.Prelude.{◌≡◌, ◌+◌, ◌≤◌, ◌<◌, ◌^◌, ◌++◌, length, take, drop, IfOk, OnOk, OnErr};
 ghost use Rattle.std.specs.Option.{option_to_list};
-ghost use Rattle.zb_base.specs.Counts.{Rose, HasCause};
 ghost use Rattle.zb_volume.specs.Disk.{main_bytes};
 ghost use Rattle.fs_reading.specs.Standing.{head_at, data_head_at, back_at, user_at, description_at, HasTexts};
-ghost use Rattle.fs_reading.specs.declared.errors.ReadError.TheVariants.{ReadFault, Memory};
+ghost use Rattle.zb_volume.specs.States.{OnlyReads};
+ghost use Rattle.fs_reading.specs.Reads.{OnlyReadsMain};
 
 use crate::errors::ReadError;
 use byteorder::{BigEndian, ByteOrder};
@@ -18,12 +18,10 @@ use zb_volume::{Area, StoreFault, Volume};
 
 /// The header of the transaction at a place.
 pub(crate) fn header_at<V: Volume>(volume: &mut V, at: u64) -> Result<Header, StoreFault>
-    requires { V.told → at + 23 ≤ length (main_bytes (V.log volume.old)) }
-    ensures value { V.told → IfOk result (λ h. h ≡ head_at (main_bytes (V.log volume.old)) at) }
-    ensures same { V.log volume.new ≡ V.log volume.old }
-    ensures cause { HasCause (V.read_faults volume.old) (V.read_faults volume.new) result }
-    ensures uncounted { OnOk result (V.read_faults volume.new ≡ V.read_faults volume.old) }
-    ensures write_faults { V.write_faults volume.new ≡ V.write_faults volume.old }
+    requires { V.told → at + 23 ≤ length (main_bytes (V.state volume.old).log) }
+    ensures value { V.told → IfOk result (λ h. h
+        ≡ head_at (main_bytes (V.state volume.old).log) at) }
+    ensures read { OnlyReads (V.state volume.old) (V.state volume.new) result }
 {
     let mut bytes = [0; HEADER_LENGTH];
     volume.read(Area::Main, at, &mut bytes)?;
@@ -32,12 +30,10 @@ pub(crate) fn header_at<V: Volume>(volume: &mut V, at: u64) -> Result<Header, St
 
 /// The header of the data record at a place.
 pub(crate) fn data_header_at<V: Volume>(volume: &mut V, at: u64) -> Result<DataHeader, StoreFault>
-    requires { V.told → at + 42 ≤ length (main_bytes (V.log volume.old)) }
-    ensures value { V.told → IfOk result (λ h. h ≡ data_head_at (main_bytes (V.log volume.old)) at) }
-    ensures same { V.log volume.new ≡ V.log volume.old }
-    ensures cause { HasCause (V.read_faults volume.old) (V.read_faults volume.new) result }
-    ensures uncounted { OnOk result (V.read_faults volume.new ≡ V.read_faults volume.old) }
-    ensures write_faults { V.write_faults volume.new ≡ V.write_faults volume.old }
+    requires { V.told → at + 42 ≤ length (main_bytes (V.state volume.old).log) }
+    ensures value { V.told → IfOk result (λ h. h
+        ≡ data_head_at (main_bytes (V.state volume.old).log) at) }
+    ensures read { OnlyReads (V.state volume.old) (V.state volume.new) result }
 {
     let mut bytes = [0; DATA_HEADER_LENGTH];
     volume.read(Area::Main, at, &mut bytes)?;
@@ -47,13 +43,11 @@ pub(crate) fn data_header_at<V: Volume>(volume: &mut V, at: u64) -> Result<DataH
 /// The back pointer of the data record at a place.
 #[tactic(auto, unfolding(fs_records::specs::Numbers::number_in))]
 pub(crate) fn back_pointer_at<V: Volume>(volume: &mut V, at: u64) -> Result<u64, StoreFault>
-    requires short { V.told → length (main_bytes (V.log volume.old)) < 2 ^ 64 }
-    requires within { V.told → at + 42 + 8 ≤ length (main_bytes (V.log volume.old)) }
-    ensures value { V.told → IfOk result (λ n. n ≡ back_at (main_bytes (V.log volume.old)) at) }
-    ensures same { V.log volume.new ≡ V.log volume.old }
-    ensures cause { HasCause (V.read_faults volume.old) (V.read_faults volume.new) result }
-    ensures uncounted { OnOk result (V.read_faults volume.new ≡ V.read_faults volume.old) }
-    ensures write_faults { V.write_faults volume.new ≡ V.write_faults volume.old }
+    requires short { V.told → length (main_bytes (V.state volume.old).log) < 2 ^ 64 }
+    requires within { V.told → at + 42 + 8 ≤ length (main_bytes (V.state volume.old).log) }
+    ensures value { V.told → IfOk result (λ n. n
+        ≡ back_at (main_bytes (V.state volume.old).log) at) }
+    ensures read { OnlyReads (V.state volume.old) (V.state volume.new) result }
 {
     let mut bytes = [0; 8];
     volume.read(
@@ -71,17 +65,11 @@ pub(crate) fn bytes_at<V: Volume>(
     at: u64,
     count: usize,
 ) -> Result<Text8, ReadError>
-    requires { V.told → at + count ≤ length (main_bytes (V.log volume.old)) }
+    requires { V.told → at + count ≤ length (main_bytes (V.state volume.old).log) }
     ensures value { V.told → IfOk result (λ bytes.
-        bytes ≡ take count (drop at (main_bytes (V.log volume.old)))) }
+        bytes ≡ take count (drop at (main_bytes (V.state volume.old).log))) }
     ensures count { IfOk result (λ bytes. length bytes ≡ count) }
-    ensures same { V.log volume.new ≡ V.log volume.old }
-    ensures later { V.read_faults volume.old ≤ V.read_faults volume.new }
-    ensures fault { IsErrOf result ReadFault
-        → Rose (V.read_faults volume.old) (V.read_faults volume.new) }
-    ensures memory { IsErrOf result Memory → V.read_faults volume.new ≡ V.read_faults volume.old }
-    ensures uncounted { OnOk result (V.read_faults volume.new ≡ V.read_faults volume.old) }
-    ensures write_faults { V.write_faults volume.new ≡ V.write_faults volume.old }
+    ensures read { OnlyReadsMain (V.state volume.old) (V.state volume.new) result }
 {
     if count == 0 {
         return Ok(Text8::new(alloc));
@@ -98,22 +86,16 @@ pub(crate) fn user_and_description<V: Volume>(
     at: u64,
     header: &Header,
 ) -> Result<(Text8, Text8), ReadError>
-    requires short { V.told → length (main_bytes (V.log volume.old)) < 2 ^ 64 }
-    requires header { V.told → header.now ≡ head_at (main_bytes (V.log volume.old)) at }
-    requires texts { V.told → HasTexts (main_bytes (V.log volume.old)) at }
+    requires short { V.told → length (main_bytes (V.state volume.old).log) < 2 ^ 64 }
+    requires header { V.told → header.now ≡ head_at (main_bytes (V.state volume.old).log) at }
+    requires texts { V.told → HasTexts (main_bytes (V.state volume.old).log) at }
     ensures user { V.told → IfOk result (λ texts.
-        texts.0 ≡ user_at (main_bytes (V.log volume.old)) at) }
+        texts.0 ≡ user_at (main_bytes (V.state volume.old).log) at) }
     ensures description { V.told → IfOk result (λ texts.
-        texts.1 ≡ description_at (main_bytes (V.log volume.old)) at) }
+        texts.1 ≡ description_at (main_bytes (V.state volume.old).log) at) }
     ensures counts { IfOk result (λ texts.
         (length texts.0 ≡ header.now.user) × (length texts.1 ≡ header.now.description)) }
-    ensures same { V.log volume.new ≡ V.log volume.old }
-    ensures later { V.read_faults volume.old ≤ V.read_faults volume.new }
-    ensures fault { IsErrOf result ReadFault
-        → Rose (V.read_faults volume.old) (V.read_faults volume.new) }
-    ensures memory { IsErrOf result Memory → V.read_faults volume.new ≡ V.read_faults volume.old }
-    ensures uncounted { OnOk result (V.read_faults volume.new ≡ V.read_faults volume.old) }
-    ensures write_faults { V.write_faults volume.new ≡ V.write_faults volume.old }
+    ensures read { OnlyReadsMain (V.state volume.old) (V.state volume.new) result }
 {
     let from = at.saturating_add(HEADER_LENGTH as u64);
     let user = bytes_at(alloc, volume, from, header.user as usize)?;

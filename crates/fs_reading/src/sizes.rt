@@ -1,16 +1,16 @@
 //! How many bytes an object has by each of its data records.
 
-ghost use Rattle.std.specs.Prelude.{◌≡◌, ℕ, ◌≤◌, ◌<◌, ◌^◌, List, length, map, vec_len, IfOk, IfSome, OnOk, IsErrOf};
+ghost use Rattle.std.specs.Prelude.{◌≡◌, ℕ, ◌<◌, ◌^◌, List, length, map, vec_len, IfOk, IfSome};
 ghost use Rattle.std.specs.List.{AllByRecursion};
 ghost use Rattle.zb_model.specs.declared.data.Content.{Content};
 ghost use Rattle.zb_model.specs.Lists.{size_of};
-ghost use Rattle.zb_base.specs.Counts.{Rose, HasCause};
 ghost use Rattle.fs_records.specs.Blocks.{Known};
 ghost use Rattle.fs_records.specs.Indexed.{place_of};
 ghost use Rattle.fs_reading.specs.Sizes.{noted_of, IsNotedAt};
 ghost use Rattle.fs_reading.specs.Standing.{data_head_at, IsContent, RecordStands};
-ghost use Rattle.fs_reading.specs.declared.errors.ReadError.TheVariants.{ReadFault, Memory};
 ghost use Rattle.zb_volume.specs.Disk.{main_bytes};
+ghost use Rattle.zb_volume.specs.States.{OnlyReads};
+ghost use Rattle.fs_reading.specs.Reads.{OnlyReadsMain};
 
 use crate::contents::source_of;
 use crate::errors::ReadError;
@@ -50,18 +50,16 @@ fn size_at<V: Volume>(
     places: &[Place],
     noted: &[Noted],
 ) -> Result<Option<u64>, StoreFault>
-    requires short { V.told → length (main_bytes (V.log volume.old)) < 2 ^ 64 }
-    requires header { V.told → header.now ≡ data_head_at (main_bytes (V.log volume.old)) at }
-    requires some { V.told → (content : Content) × IsContent (main_bytes (V.log volume.old)) content at }
+    requires short { V.told → length (main_bytes (V.state volume.old).log) < 2 ^ 64 }
+    requires header { V.told → header.now ≡ data_head_at (main_bytes (V.state volume.old).log) at }
+    requires some { V.told → (content : Content)
+        × IsContent (main_bytes (V.state volume.old).log) content at }
     ensures value { V.told → (content : Content) (ks : List Known)
-        → IsContent (main_bytes (V.log volume.old)) content at → places.now ≡ map place_of ks
-        → noted.now ≡ map (noted_of (main_bytes (V.log volume.old))) ks
-        → AllByRecursion (RecordStands (main_bytes (V.log volume.old))) ks
+        → IsContent (main_bytes (V.state volume.old).log) content at → places.now ≡ map place_of ks
+        → noted.now ≡ map (noted_of (main_bytes (V.state volume.old).log)) ks
+        → AllByRecursion (RecordStands (main_bytes (V.state volume.old).log)) ks
         → IfOk result (λ size. size ≡ size_of content) }
-    ensures same { V.log volume.new ≡ V.log volume.old }
-    ensures cause { HasCause (V.read_faults volume.old) (V.read_faults volume.new) result }
-    ensures uncounted { OnOk result (V.read_faults volume.new ≡ V.read_faults volume.old) }
-    ensures write_faults { V.write_faults volume.new ≡ V.write_faults volume.old }
+    ensures read { OnlyReads (V.state volume.old) (V.state volume.new) result }
 {
     if header.length != 0 {
         return Ok(Some(header.length));
@@ -84,20 +82,15 @@ pub(crate) fn note_all<V: Volume>(
     volume: &mut V,
     places: &[Place],
 ) -> Result<Vec<Noted>, ReadError>
-    requires short { V.told → length (main_bytes (V.log volume.old)) < 2 ^ 64 }
+    requires short { V.told → length (main_bytes (V.state volume.old).log) < 2 ^ 64 }
     requires stand { V.told → (ks : List Known) × (places.now ≡ map place_of ks)
-        × AllByRecursion (RecordStands (main_bytes (V.log volume.old))) ks }
+        × AllByRecursion (RecordStands (main_bytes (V.state volume.old).log)) ks }
     ensures noted { V.told → (ks : List Known) → places.now ≡ map place_of ks
-        → AllByRecursion (RecordStands (main_bytes (V.log volume.old))) ks
-        → IfOk result (λ noted. noted.items ≡ map (noted_of (main_bytes (V.log volume.old))) ks) }
+        → AllByRecursion (RecordStands (main_bytes (V.state volume.old).log)) ks
+        → IfOk result (λ noted. noted.items
+        ≡ map (noted_of (main_bytes (V.state volume.old).log)) ks) }
     ensures long { IfOk result (λ noted. vec_len noted ≡ length places.now) }
-    ensures same { V.log volume.new ≡ V.log volume.old }
-    ensures later { V.read_faults volume.old ≤ V.read_faults volume.new }
-    ensures fault { IsErrOf result ReadFault
-        → Rose (V.read_faults volume.old) (V.read_faults volume.new) }
-    ensures memory { IsErrOf result Memory → V.read_faults volume.new ≡ V.read_faults volume.old }
-    ensures uncounted { OnOk result (V.read_faults volume.new ≡ V.read_faults volume.old) }
-    ensures write_faults { V.write_faults volume.new ≡ V.write_faults volume.old }
+    ensures read { OnlyReadsMain (V.state volume.old) (V.state volume.new) result }
 {
     let mut noted = Vec::new(alloc);
     'note: for (count, place) in places.iter().enumerate() {

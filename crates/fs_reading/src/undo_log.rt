@@ -1,19 +1,17 @@
 //! The list of the transactions that may be undone.
 
-ghost use Rattle.std.specs.Prelude.{◌≡◌, ℕ, ◌+◌, ◌≤◌, ◌<◌, ◌^◌, length, reverse, IfOk, OnOk, IsErrOf};
+ghost use Rattle.std.specs.Prelude.{◌≡◌, ◌<◌, ◌^◌, length, reverse, IfOk};
 ghost use Rattle.std.specs.List.{AllByRecursion, filter_map};
 ghost use Rattle.zb_model.specs.Lists.{undo_log_of};
-ghost use Rattle.zb_base.specs.Counts.{Rose};
 ghost use Rattle.fs_records.specs.Blocks.{Reached, Begins};
-ghost use Rattle.fs_records.specs.Indexed.{IsIndexOf};
-ghost use Rattle.fs_reading.specs.Main.{IsIndexed, AreStarts};
+ghost use Rattle.fs_reading.specs.Main.{AreStarts};
 ghost use Rattle.fs_reading.specs.Standing.{log_line_at, HasTexts};
-ghost use Rattle.fs_reading.specs.declared.errors.ReadError.TheVariants.{ReadFault, Memory};
 ghost use Rattle.zb_volume.specs.Disk.{main_bytes};
+ghost use Rattle.fs_reading.specs.Reads.{OnlyReadsMain};
 
 use crate::errors::ReadError;
 use crate::pieces::{header_at, keep, user_and_description};
-use fs_index::{Index, Place};
+use fs_index::Place;
 use fs_records::PACKED;
 use std::alloc::Global;
 use zb_ids::ListOf;
@@ -26,17 +24,11 @@ fn line_at<V: Volume>(
     volume: &mut V,
     place: Place,
 ) -> Result<Option<LogLine>, ReadError>
-    requires short { V.told → length (main_bytes (V.log volume.old)) < 2 ^ 64 }
-    requires texts { V.told → HasTexts (main_bytes (V.log volume.old)) place.at }
+    requires short { V.told → length (main_bytes (V.state volume.old).log) < 2 ^ 64 }
+    requires texts { V.told → HasTexts (main_bytes (V.state volume.old).log) place.at }
     ensures value { V.told → IfOk result (λ line.
-        line ≡ log_line_at (main_bytes (V.log volume.old)) place) }
-    ensures same { V.log volume.new ≡ V.log volume.old }
-    ensures later { V.read_faults volume.old ≤ V.read_faults volume.new }
-    ensures fault { IsErrOf result ReadFault
-        → Rose (V.read_faults volume.old) (V.read_faults volume.new) }
-    ensures memory { IsErrOf result Memory → V.read_faults volume.new ≡ V.read_faults volume.old }
-    ensures uncounted { OnOk result (V.read_faults volume.new ≡ V.read_faults volume.old) }
-    ensures write_faults { V.write_faults volume.new ≡ V.write_faults volume.old }
+        line ≡ log_line_at (main_bytes (V.state volume.old).log) place) }
+    ensures read { OnlyReadsMain (V.state volume.old) (V.state volume.new) result }
 {
     let header = header_at(volume, place.at)?;
     if header.status == PACKED {
@@ -56,18 +48,13 @@ fn lines_at<V: Volume>(
     volume: &mut V,
     places: &[Place],
 ) -> Result<ListOf<LogLine>, ReadError>
-    requires short { V.told → length (main_bytes (V.log volume.old)) < 2 ^ 64 }
+    requires short { V.told → length (main_bytes (V.state volume.old).log) < 2 ^ 64 }
     requires texts { V.told
-        → AllByRecursion (λ p. HasTexts (main_bytes (V.log volume.old)) p.at) places.now }
+        → AllByRecursion (λ p. HasTexts (main_bytes (V.state volume.old).log) p.at) places.now }
     ensures lines { V.told → IfOk result (λ lines.
-        lines ≡ reverse (filter_map (log_line_at (main_bytes (V.log volume.old))) places.now)) }
-    ensures same { V.log volume.new ≡ V.log volume.old }
-    ensures later { V.read_faults volume.old ≤ V.read_faults volume.new }
-    ensures fault { IsErrOf result ReadFault
-        → Rose (V.read_faults volume.old) (V.read_faults volume.new) }
-    ensures memory { IsErrOf result Memory → V.read_faults volume.new ≡ V.read_faults volume.old }
-    ensures uncounted { OnOk result (V.read_faults volume.new ≡ V.read_faults volume.old) }
-    ensures write_faults { V.write_faults volume.new ≡ V.write_faults volume.old }
+        lines ≡ reverse (filter_map (log_line_at (main_bytes (V.state volume.old).log))
+        places.now)) }
+    ensures read { OnlyReadsMain (V.state volume.old) (V.state volume.new) result }
 {
     let mut lines = ListOf::new(alloc);
     let mut left = places.len();
@@ -89,39 +76,11 @@ pub fn read_undo_log_at<V: Volume>(
     volume: &mut V,
     places: &[Place],
 ) -> Result<ListOf<LogLine>, ReadError>
-    requires { V.told → AreStarts (main_bytes (V.log volume.old)) places.now }
-    ensures lines { V.told → (reached : Reached) → Begins (main_bytes (V.log volume.old)) reached
+    requires { V.told → AreStarts (main_bytes (V.state volume.old).log) places.now }
+    ensures lines { V.told → (reached : Reached)
+        → Begins (main_bytes (V.state volume.old).log) reached
         → places.now ≡ reached.starts → IfOk result (λ lines. lines ≡ undo_log_of reached.list) }
-    ensures same { V.log volume.new ≡ V.log volume.old }
-    ensures later { V.read_faults volume.old ≤ V.read_faults volume.new }
-    ensures fault { IsErrOf result ReadFault
-        → Rose (V.read_faults volume.old) (V.read_faults volume.new) }
-    ensures memory { IsErrOf result Memory → V.read_faults volume.new ≡ V.read_faults volume.old }
-    ensures uncounted { OnOk result (V.read_faults volume.new ≡ V.read_faults volume.old) }
-    ensures write_faults { V.write_faults volume.new ≡ V.write_faults volume.old }
+    ensures read { OnlyReadsMain (V.state volume.old) (V.state volume.new) result }
 {
     lines_at(alloc, volume, places)
-}
-
-/// The list of the transactions that no pack has gone over, the newest first, with the tid, the user
-/// and the description of each, for an index of what stands in the file. It reads the headers and
-/// those two texts alone, and memory is that of the list. It is `ReadFault` only where a read
-/// failed, and else `Memory`. The volume is as it was.
-pub fn read_undo_log<V: Volume>(
-    alloc: Global,
-    volume: &mut V,
-    index: &Index,
-) -> Result<ListOf<LogLine>, ReadError>
-    requires { V.told → IsIndexed (main_bytes (V.log volume.old)) index.now }
-    ensures lines { V.told → (reached : Reached) → Begins (main_bytes (V.log volume.old)) reached
-        → IsIndexOf reached index.now → IfOk result (λ lines. lines ≡ undo_log_of reached.list) }
-    ensures same { V.log volume.new ≡ V.log volume.old }
-    ensures later { V.read_faults volume.old ≤ V.read_faults volume.new }
-    ensures fault { IsErrOf result ReadFault
-        → Rose (V.read_faults volume.old) (V.read_faults volume.new) }
-    ensures memory { IsErrOf result Memory → V.read_faults volume.new ≡ V.read_faults volume.old }
-    ensures uncounted { OnOk result (V.read_faults volume.new ≡ V.read_faults volume.old) }
-    ensures write_faults { V.write_faults volume.new ≡ V.write_faults volume.old }
-{
-    read_undo_log_at(alloc, volume, index.transactions())
 }

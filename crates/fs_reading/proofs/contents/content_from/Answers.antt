@@ -12,7 +12,7 @@ bytes_at-requires g c = λ told.
 
 pub returns-clause-value : goal.returns-clause-value
 returns-clause-value g c = λ told.
-    let bytes : List ℕ = main_bytes (g.V.Volume.log c.args.volume.now) in
+    let bytes : List ℕ = main_bytes (g.V.Volume.state c.args.volume.now).log in
     let here = rw c.in-Some.is at (c.requires.within told) in
     let short = c.requires.short told in
     let from : c.saturating_add-from.result ≡ c.in-Some.source.at + 42 = omega (arith, here, short, c.saturating_add-from.ensures) in

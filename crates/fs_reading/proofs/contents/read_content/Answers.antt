@@ -13,16 +13,16 @@ there bytes at known = (content_at known.reached.known known.oid at, content_kno
 
 pub data_header_at-requires : goal.data_header_at-requires
 data_header_at-requires g c = λ told.
-    let bytes : List ℕ = main_bytes (g.V.Volume.log c.args.volume.now) in
+    let bytes : List ℕ = main_bytes (g.V.Volume.state c.args.volume.now).log in
     let t = there bytes c.args.at (c.requires told) in
     head_within bytes t.0 c.args.at t.1
 
 pub content_of-requires-clause-some : goal.content_of-requires-clause-some
 content_of-requires-clause-some g c = λ told.
-    let now = ap main_bytes c.data_header_at.ensures.same in
+    let now = ap main_bytes c.data_header_at.ensures.read.same in
     subst (λ (b : List ℕ). (content : Content) × IsContent b content c.args.at) (sym now) (there _ c.args.at (c.requires told))
 
 pub returns-clause-content : goal.returns-clause-content
 returns-clause-content g c = λ told reached oid begins is.
-    let now = ap main_bytes c.data_header_at.ensures.same in
+    let now = ap main_bytes c.data_header_at.ensures.read.same in
     c.content_of.ensures.value told (content_at reached.known oid c.args.at) (subst (λ (b : List ℕ). IsContent b (content_at reached.known oid c.args.at) c.args.at) (sym now) (content_known _ reached oid c.args.at begins is))

@@ -6,12 +6,12 @@ use Rattle.fs_reading.proofs.contents.source_of.Given as goal
 
 abbrev pub invariant-loop-length : goal.invariant-loop-length
 invariant-loop-length g l = record {
-  same : g.V.Volume.log l.volume ≡ g.V.Volume.log l.fn.volume;
-  reads : g.V.Volume.read_faults l.volume ≡ g.V.Volume.read_faults l.fn.volume;
-  writes : g.V.Volume.write_faults l.volume ≡ g.V.Volume.write_faults l.fn.volume;
-  length_is : g.V.Volume.told → l.length ≡ (data_head_at (main_bytes (g.V.Volume.log l.fn.volume)) l.place).length;
-  some : g.V.Volume.told → (content : Content) × IsContent (main_bytes (g.V.Volume.log l.fn.volume)) content l.place;
-  each : g.V.Volume.told → (content : Content) → IsContent (main_bytes (g.V.Volume.log l.fn.volume)) content l.fn.at → IsContent (main_bytes (g.V.Volume.log l.fn.volume)) content l.place;
+  same : (g.V.Volume.state l.volume).log ≡ (g.V.Volume.state l.fn.volume).log;
+  reads : (g.V.Volume.state l.volume).read_faults ≡ (g.V.Volume.state l.fn.volume).read_faults;
+  writes : (g.V.Volume.state l.volume).write_faults ≡ (g.V.Volume.state l.fn.volume).write_faults;
+  length_is : g.V.Volume.told → l.length ≡ (data_head_at (main_bytes (g.V.Volume.state l.fn.volume).log) l.place).length;
+  some : g.V.Volume.told → (content : Content) × IsContent (main_bytes (g.V.Volume.state l.fn.volume).log) content l.place;
+  each : g.V.Volume.told → (content : Content) → IsContent (main_bytes (g.V.Volume.state l.fn.volume).log) content l.fn.at → IsContent (main_bytes (g.V.Volume.state l.fn.volume).log) content l.place;
 }
 
 abbrev pub decreases-loop-length : goal.decreases-loop-length

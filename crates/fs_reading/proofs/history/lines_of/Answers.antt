@@ -16,8 +16,8 @@ use Rattle.fs_reading.proofs.history.lines_of.Goals as goal
 
 pub line_of_last-requires-clause-stands : goal.line_of_last-requires-clause-stands
 line_of_last-requires-clause-stands g c = λ told.
-    let bytes : List ℕ = main_bytes (g.V.Volume.log c.args.volume.now) in
-    let now : main_bytes (g.V.Volume.log c.loop-left.volume) ≡ bytes = ap main_bytes c.loop-left.invariant.same in
+    let bytes : List ℕ = main_bytes (g.V.Volume.state c.args.volume.now).log in
+    let now : main_bytes (g.V.Volume.state c.loop-left.volume).log ≡ bytes = ap main_bytes c.loop-left.invariant.same in
     let stand = c.requires.stand told in
     let ks : List Known = stand.0 in
     let place : Place = c.index-places-left.result in
@@ -32,12 +32,12 @@ line_of_last-requires-clause-stands g c = λ told.
 pub loop-left-preserved : goal.loop-left-preserved
 loop-left-preserved g c = record {
   within = omega (arith, c.loop-left.invariant.within);
-  same = c.line_of_last.ensures.same ∙ c.loop-left.invariant.same;
-  reads = c.in_ok-line.ensures.uncounted ∙ c.loop-left.invariant.reads;
-  writes = c.line_of_last.ensures.write_faults ∙ c.loop-left.invariant.writes;
+  same = c.line_of_last.ensures.read.same ∙ c.loop-left.invariant.same;
+  reads = c.in_ok-line.ensures.read.uncounted ∙ c.loop-left.invariant.reads;
+  writes = c.line_of_last.ensures.read.write_faults ∙ c.loop-left.invariant.writes;
   lines = λ told ks is all noted_all.
-      let bytes : List ℕ = main_bytes (g.V.Volume.log c.args.volume.now) in
-      let now : main_bytes (g.V.Volume.log c.loop-left.volume) ≡ bytes = ap main_bytes c.loop-left.invariant.same in
+      let bytes : List ℕ = main_bytes (g.V.Volume.state c.args.volume.now).log in
+      let now : main_bytes (g.V.Volume.state c.loop-left.volume).log ≡ bytes = ap main_bytes c.loop-left.invariant.same in
       let i : ℕ = c.loop-left.left - 1 in
       let left_is : c.loop-left.left ≡ i + 1 = omega (arith, c.loop-left-test.true) in
       let place : Place = c.index-places-left.result in

@@ -11,12 +11,12 @@ use Rattle.fs_reading.proofs.history.lines_of.Given as goal
 abbrev pub invariant-loop-left : goal.invariant-loop-left
 invariant-loop-left g l = record {
   within : l.left ≤ length l.places;
-  same : g.V.Volume.log l.volume ≡ g.V.Volume.log l.fn.volume;
-  reads : g.V.Volume.read_faults l.volume ≡ g.V.Volume.read_faults l.fn.volume;
-  writes : g.V.Volume.write_faults l.volume ≡ g.V.Volume.write_faults l.fn.volume;
-  lines : g.V.Volume.told → (ks : List Known) → l.places ≡ map place_of ks → AllByRecursion (RecordStands (main_bytes (g.V.Volume.log l.fn.volume))) ks
-      → l.noted ≡ map (noted_of (main_bytes (g.V.Volume.log l.fn.volume))) ks
-      → l.lines ≡ reverse (map (revision_line_of (main_bytes (g.V.Volume.log l.fn.volume))) (lasts (drop l.left ks)));
+  same : (g.V.Volume.state l.volume).log ≡ (g.V.Volume.state l.fn.volume).log;
+  reads : (g.V.Volume.state l.volume).read_faults ≡ (g.V.Volume.state l.fn.volume).read_faults;
+  writes : (g.V.Volume.state l.volume).write_faults ≡ (g.V.Volume.state l.fn.volume).write_faults;
+  lines : g.V.Volume.told → (ks : List Known) → l.places ≡ map place_of ks → AllByRecursion (RecordStands (main_bytes (g.V.Volume.state l.fn.volume).log)) ks
+      → l.noted ≡ map (noted_of (main_bytes (g.V.Volume.state l.fn.volume).log)) ks
+      → l.lines ≡ reverse (map (revision_line_of (main_bytes (g.V.Volume.state l.fn.volume).log)) (lasts (drop l.left ks)));
 }
 
 abbrev pub decreases-loop-left : goal.decreases-loop-left

@@ -13,12 +13,12 @@ use Rattle.fs_reading.proofs.outlining.outline_at.Goals as goal
 
 pub returns-clause-value : goal.returns-clause-value
 returns-clause-value g c = λ told t stands changes.
-    let bytes : List ℕ = main_bytes (g.V.Volume.log c.args.volume.now) in
+    let bytes : List ℕ = main_bytes (g.V.Volume.state c.args.volume.now).log in
     let at : ℕ = c.args.place.at in
     let h : c.in_ok-header.header ≡ head_at bytes at = c.in_ok-header.ensures.value told in
-    let n1 : main_bytes (g.V.Volume.log c.header_at.new.volume) ≡ bytes = ap main_bytes c.header_at.ensures.same in
-    let n2 : main_bytes (g.V.Volume.log c.user_and_description.new.volume) ≡ bytes = ap main_bytes c.user_and_description.ensures.same ∙ n1 in
-    let n3 : main_bytes (g.V.Volume.log c.bytes_at.new.volume) ≡ bytes = ap main_bytes c.bytes_at.ensures.same ∙ n2 in
+    let n1 : main_bytes (g.V.Volume.state c.header_at.new.volume).log ≡ bytes = ap main_bytes c.header_at.ensures.read.same in
+    let n2 : main_bytes (g.V.Volume.state c.user_and_description.new.volume).log ≡ bytes = ap main_bytes c.user_and_description.ensures.read.same ∙ n1 in
+    let n3 : main_bytes (g.V.Volume.state c.bytes_at.new.volume).log ≡ bytes = ap main_bytes c.bytes_at.ensures.read.same ∙ n2 in
     let short = c.requires.short told in
     let texts = stands.texts in
     let hu = ap (λ (x : Header). x.user) h in
@@ -43,12 +43,12 @@ returns-clause-value g c = λ told t stands changes.
 pub sources_between-requires-clause-stand : goal.sources_between-requires-clause-stand
 sources_between-requires-clause-stand g c = λ told.
     let t = c.requires.stands told in
-    let bytes : List ℕ = main_bytes (g.V.Volume.log c.args.volume.now) in
+    let bytes : List ℕ = main_bytes (g.V.Volume.state c.args.volume.now).log in
     let at : ℕ = c.args.place.at in
     let h : c.in_ok-header.header ≡ head_at bytes at = c.in_ok-header.ensures.value told in
-    let n1 : main_bytes (g.V.Volume.log c.header_at.new.volume) ≡ bytes = ap main_bytes c.header_at.ensures.same in
-    let n2 : main_bytes (g.V.Volume.log c.user_and_description.new.volume) ≡ bytes = ap main_bytes c.user_and_description.ensures.same ∙ n1 in
-    let n3 : main_bytes (g.V.Volume.log c.bytes_at.new.volume) ≡ bytes = ap main_bytes c.bytes_at.ensures.same ∙ n2 in
+    let n1 : main_bytes (g.V.Volume.state c.header_at.new.volume).log ≡ bytes = ap main_bytes c.header_at.ensures.read.same in
+    let n2 : main_bytes (g.V.Volume.state c.user_and_description.new.volume).log ≡ bytes = ap main_bytes c.user_and_description.ensures.read.same ∙ n1 in
+    let n3 : main_bytes (g.V.Volume.state c.bytes_at.new.volume).log ≡ bytes = ap main_bytes c.bytes_at.ensures.read.same ∙ n2 in
     let short = c.requires.short told in
     let texts = t.1.texts in
     let changes = t.2 in
@@ -75,6 +75,6 @@ returns-clause-formed g c = record {
 
 pub returns-clause-within : goal.returns-clause-within
 returns-clause-within g c = λ told.
-    let now : main_bytes (g.V.Volume.log c.bytes_at.new.volume) ≡ main_bytes (g.V.Volume.log c.args.volume.now) = ap main_bytes (c.bytes_at.ensures.same ∙ c.user_and_description.ensures.same ∙ c.header_at.ensures.same) in
+    let now : main_bytes (g.V.Volume.state c.bytes_at.new.volume).log ≡ main_bytes (g.V.Volume.state c.args.volume.now).log = ap main_bytes (c.bytes_at.ensures.read.same ∙ c.user_and_description.ensures.read.same ∙ c.header_at.ensures.read.same) in
     subst (λ (b : List ℕ). AllStandWithin b c.in_ok-changes.changes) now
-    (changes_within (main_bytes (g.V.Volume.log c.bytes_at.new.volume)) c.in_ok-entries.entries.entries c.in_ok-changes.changes c.in_ok-changes.ensures (c.in_ok-entries.ensures.within told))
+    (changes_within (main_bytes (g.V.Volume.state c.bytes_at.new.volume).log) c.in_ok-entries.entries.entries c.in_ok-changes.changes c.in_ok-changes.ensures (c.in_ok-entries.ensures.within told))

@@ -15,8 +15,8 @@ use Rattle.fs_reading.proofs.outlining.sources_between.Goals as goal
 
 pub data_header_at-requires : goal.data_header_at-requires
 data_header_at-requires g c = λ told.
-    let bytes : List ℕ = main_bytes (g.V.Volume.log c.args.volume.now) in
-    let now : main_bytes (g.V.Volume.log c.loop-place.volume) ≡ bytes = ap main_bytes c.loop-place.invariant.same in
+    let bytes : List ℕ = main_bytes (g.V.Volume.state c.args.volume.now).log in
+    let now : main_bytes (g.V.Volume.state c.loop-place.volume).log ≡ bytes = ap main_bytes c.loop-place.invariant.same in
     let stand = c.requires.stand told in
     let n = next bytes c.loop-place.place c.args.end (entries_from bytes c.loop-place.entries.entries) stand.0 c.loop-place-test.true (c.loop-place.invariant.rest told stand.0 stand.1) in
     let within = head_within bytes n.content c.loop-place.place n.there in
@@ -24,23 +24,23 @@ data_header_at-requires g c = λ told.
 
 pub source_of-requires-clause-some : goal.source_of-requires-clause-some
 source_of-requires-clause-some g c = λ told.
-    let bytes : List ℕ = main_bytes (g.V.Volume.log c.args.volume.now) in
-    let now : main_bytes (g.V.Volume.log c.data_header_at.new.volume) ≡ bytes = ap main_bytes (c.data_header_at.ensures.same ∙ c.loop-place.invariant.same) in
+    let bytes : List ℕ = main_bytes (g.V.Volume.state c.args.volume.now).log in
+    let now : main_bytes (g.V.Volume.state c.data_header_at.new.volume).log ≡ bytes = ap main_bytes (c.data_header_at.ensures.read.same ∙ c.loop-place.invariant.same) in
     let stand = c.requires.stand told in
     let n = next bytes c.loop-place.place c.args.end (entries_from bytes c.loop-place.entries.entries) stand.0 c.loop-place-test.true (c.loop-place.invariant.rest told stand.0 stand.1) in
     (n.content, subst (λ (b : List ℕ). IsContent b n.content c.loop-place.place) (sym now) n.there)
 
 pub loop-place-preserved : goal.loop-place-preserved
 loop-place-preserved g c = record {
-  same = c.source_of.ensures.same ∙ c.data_header_at.ensures.same ∙ c.loop-place.invariant.same;
-  reads = c.in_ok-source.ensures.uncounted ∙ c.in_ok-header.ensures.uncounted ∙ c.loop-place.invariant.reads;
-  writes = c.source_of.ensures.write_faults ∙ c.data_header_at.ensures.write_faults ∙ c.loop-place.invariant.writes;
+  same = c.source_of.ensures.read.same ∙ c.data_header_at.ensures.read.same ∙ c.loop-place.invariant.same;
+  reads = c.in_ok-source.ensures.read.uncounted ∙ c.in_ok-header.ensures.read.uncounted ∙ c.loop-place.invariant.reads;
+  writes = c.source_of.ensures.read.write_faults ∙ c.data_header_at.ensures.read.write_faults ∙ c.loop-place.invariant.writes;
   rest = λ told ks between.
-      let bytes : List ℕ = main_bytes (g.V.Volume.log c.args.volume.now) in
+      let bytes : List ℕ = main_bytes (g.V.Volume.state c.args.volume.now).log in
       let place : ℕ = c.loop-place.place in
       let done : List (ℕ × Content) = entries_from bytes c.loop-place.entries.entries in
-      let now : main_bytes (g.V.Volume.log c.loop-place.volume) ≡ bytes = ap main_bytes c.loop-place.invariant.same in
-      let then : main_bytes (g.V.Volume.log c.data_header_at.new.volume) ≡ bytes = ap main_bytes c.data_header_at.ensures.same ∙ now in
+      let now : main_bytes (g.V.Volume.state c.loop-place.volume).log ≡ bytes = ap main_bytes c.loop-place.invariant.same in
+      let then : main_bytes (g.V.Volume.state c.data_header_at.new.volume).log ≡ bytes = ap main_bytes c.data_header_at.ensures.read.same ∙ now in
       let n = next bytes place c.args.end done ks c.loop-place-test.true (c.loop-place.invariant.rest told ks between) in
       let header_is : c.in_ok-header.header ≡ data_head_at bytes place = c.in_ok-header.ensures.value told ∙ ap (λ (b : List ℕ). data_head_at b place) now in
       let content_is : outlined_content bytes c.in_ok-source.source ≡ n.content =
@@ -56,8 +56,8 @@ loop-place-preserved g c = record {
       let place_is : place + 42 + payload_size (data_head_at bytes place) ≡ c.saturating_add-place.result = omega (arith, reach, size_is, small, c.saturating_add-place.ensures, c.payload_size.ensures, c.saturating_add.ensures) in
       subst (λ (q : ℕ). StandsFrom bytes q c.args.end (entries_from bytes c.insert.new.self.entries) ks) place_is (subst (λ (es : List (ℕ × Content)). StandsFrom bytes (place + 42 + payload_size (data_head_at bytes place)) c.args.end es ks) entries_are n.then);
   within = λ told.
-      let bytes : List ℕ = main_bytes (g.V.Volume.log c.args.volume.now) in
-      let then : main_bytes (g.V.Volume.log c.data_header_at.new.volume) ≡ bytes = ap main_bytes c.data_header_at.ensures.same ∙ ap main_bytes c.loop-place.invariant.same in
+      let bytes : List ℕ = main_bytes (g.V.Volume.state c.args.volume.now).log in
+      let then : main_bytes (g.V.Volume.state c.data_header_at.new.volume).log ≡ bytes = ap main_bytes c.data_header_at.ensures.read.same ∙ ap main_bytes c.loop-place.invariant.same in
       let stand = c.requires.stand told in
       let n = next bytes c.loop-place.place c.args.end (entries_from bytes c.loop-place.entries.entries) stand.0 c.loop-place-test.true (c.loop-place.invariant.rest told stand.0 stand.1) in
       let there = source_within _ n.content c.in_ok-source.source (c.in_ok-source.ensures.value told n.content (subst (λ (b : List ℕ). IsContent b n.content c.loop-place.place) (sym then) n.there)) in
@@ -67,5 +67,5 @@ loop-place-preserved g c = record {
 
 pub returns-clause-value : goal.returns-clause-value
 returns-clause-value g c = λ told ks between.
-    let bytes : List ℕ = main_bytes (g.V.Volume.log c.args.volume.now) in
+    let bytes : List ℕ = main_bytes (g.V.Volume.state c.args.volume.now).log in
     ended bytes c.loop-place.place c.args.end (entries_from bytes c.loop-place.entries.entries) ks c.loop-place-test.false (c.loop-place.invariant.rest told ks between)

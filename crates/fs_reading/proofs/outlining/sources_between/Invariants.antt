@@ -8,12 +8,12 @@ use Rattle.fs_reading.proofs.outlining.sources_between.Given as goal
 
 abbrev pub invariant-loop-place : goal.invariant-loop-place
 invariant-loop-place g l = record {
-  same : g.V.Volume.log l.volume ≡ g.V.Volume.log l.fn.volume;
-  reads : g.V.Volume.read_faults l.volume ≡ g.V.Volume.read_faults l.fn.volume;
-  writes : g.V.Volume.write_faults l.volume ≡ g.V.Volume.write_faults l.fn.volume;
-  rest : g.V.Volume.told → (ks : List Known) → RecordsBetween (main_bytes (g.V.Volume.log l.fn.volume)) l.fn.from l.fn.end ks
-      → StandsFrom (main_bytes (g.V.Volume.log l.fn.volume)) l.place l.fn.end (entries_from (main_bytes (g.V.Volume.log l.fn.volume)) l.entries.entries) ks;
-  within : g.V.Volume.told → EntriesWithin (main_bytes (g.V.Volume.log l.fn.volume)) l.entries.entries;
+  same : (g.V.Volume.state l.volume).log ≡ (g.V.Volume.state l.fn.volume).log;
+  reads : (g.V.Volume.state l.volume).read_faults ≡ (g.V.Volume.state l.fn.volume).read_faults;
+  writes : (g.V.Volume.state l.volume).write_faults ≡ (g.V.Volume.state l.fn.volume).write_faults;
+  rest : g.V.Volume.told → (ks : List Known) → RecordsBetween (main_bytes (g.V.Volume.state l.fn.volume).log) l.fn.from l.fn.end ks
+      → StandsFrom (main_bytes (g.V.Volume.state l.fn.volume).log) l.place l.fn.end (entries_from (main_bytes (g.V.Volume.state l.fn.volume).log) l.entries.entries) ks;
+  within : g.V.Volume.told → EntriesWithin (main_bytes (g.V.Volume.state l.fn.volume).log) l.entries.entries;
   formed : AreSources l.entries.entries;
 }
 

@@ -17,8 +17,8 @@ use Rattle.fs_reading.proofs.sizes.note_all.Goals as goal
 
 pub data_header_at-requires : goal.data_header_at-requires
 data_header_at-requires g c = λ told.
-    let bytes : List ℕ = main_bytes (g.V.Volume.log c.args.volume.now) in
-    let now : main_bytes (g.V.Volume.log c.note.volume) ≡ bytes = ap main_bytes c.note.invariant.same in
+    let bytes : List ℕ = main_bytes (g.V.Volume.state c.args.volume.now).log in
+    let now : main_bytes (g.V.Volume.state c.note.volume).log ≡ bytes = ap main_bytes c.note.invariant.same in
     let stand = c.requires.stand told in
     let place : Place = c.index-places-count.result in
     let x = at_index (RecordStands bytes) stand.0 c.note.count place place stand.2 (omega (arith, c.note-test.true, ap (λ (l : List Place). length l) stand.1, length-map stand.0 place_of)) (c.index-places-count.is ∙ ap (λ (l : List Place). get_or l c.note.count place) stand.1) in
@@ -27,8 +27,8 @@ data_header_at-requires g c = λ told.
 
 pub size_at-requires-clause-some : goal.size_at-requires-clause-some
 size_at-requires-clause-some g c = λ told.
-    let bytes : List ℕ = main_bytes (g.V.Volume.log c.args.volume.now) in
-    let then : main_bytes (g.V.Volume.log c.data_header_at.new.volume) ≡ bytes = ap main_bytes (c.data_header_at.ensures.same ∙ c.note.invariant.same) in
+    let bytes : List ℕ = main_bytes (g.V.Volume.state c.args.volume.now).log in
+    let then : main_bytes (g.V.Volume.state c.data_header_at.new.volume).log ≡ bytes = ap main_bytes (c.data_header_at.ensures.read.same ∙ c.note.invariant.same) in
     let stand = c.requires.stand told in
     let place : Place = c.index-places-count.result in
     let x = at_index (RecordStands bytes) stand.0 c.note.count place place stand.2 (omega (arith, c.note-test.true, ap (λ (l : List Place). length l) stand.1, length-map stand.0 place_of)) (c.index-places-count.is ∙ ap (λ (l : List Place). get_or l c.note.count place) stand.1) in
@@ -36,15 +36,15 @@ size_at-requires-clause-some g c = λ told.
 
 pub note-preserved : goal.note-preserved
 note-preserved g c =
-    let bytes : List ℕ = main_bytes (g.V.Volume.log c.args.volume.now) in
-    let now : main_bytes (g.V.Volume.log c.note.volume) ≡ bytes = ap main_bytes c.note.invariant.same in
-    let then : main_bytes (g.V.Volume.log c.data_header_at.new.volume) ≡ bytes = ap main_bytes c.data_header_at.ensures.same ∙ now in
+    let bytes : List ℕ = main_bytes (g.V.Volume.state c.args.volume.now).log in
+    let now : main_bytes (g.V.Volume.state c.note.volume).log ≡ bytes = ap main_bytes c.note.invariant.same in
+    let then : main_bytes (g.V.Volume.state c.data_header_at.new.volume).log ≡ bytes = ap main_bytes c.data_header_at.ensures.read.same ∙ now in
     let i : ℕ = c.note.count in
     let place : Place = c.index-places-count.result in
     record {
-      same = c.size_at.ensures.same ∙ c.data_header_at.ensures.same ∙ c.note.invariant.same;
-      reads = c.in_ok-size.ensures.uncounted ∙ c.in_ok-header.ensures.uncounted ∙ c.note.invariant.reads;
-      writes = c.size_at.ensures.write_faults ∙ c.data_header_at.ensures.write_faults ∙ c.note.invariant.writes;
+      same = c.size_at.ensures.read.same ∙ c.data_header_at.ensures.read.same ∙ c.note.invariant.same;
+      reads = c.in_ok-size.ensures.read.uncounted ∙ c.in_ok-header.ensures.read.uncounted ∙ c.note.invariant.reads;
+      writes = c.size_at.ensures.read.write_faults ∙ c.data_header_at.ensures.read.write_faults ∙ c.note.invariant.writes;
       long = grind (arith, common_steps);
       noted = λ told ks is all.
           let x = at_index (RecordStands bytes) ks i place place all (omega (arith, c.note-test.true, ap (λ (l : List Place). length l) is, length-map ks place_of)) (c.index-places-count.is ∙ ap (λ (l : List Place). get_or l i place) is) in
@@ -62,4 +62,4 @@ note-preserved g c =
 
 pub returns-clause-noted : goal.returns-clause-noted
 returns-clause-noted g c = λ told ks is all.
-    c.note.invariant.noted told ks is all ∙ ap (λ (l : List Known). map (noted_of (main_bytes (g.V.Volume.log c.args.volume.now))) l) (take_all c.note.count ks (omega (arith, c.note-test.false, ap (λ (l : List Place). length l) is, length-map ks place_of)))
+    c.note.invariant.noted told ks is all ∙ ap (λ (l : List Known). map (noted_of (main_bytes (g.V.Volume.state c.args.volume.now).log)) l) (take_all c.note.count ks (omega (arith, c.note-test.false, ap (λ (l : List Place). length l) is, length-map ks place_of)))

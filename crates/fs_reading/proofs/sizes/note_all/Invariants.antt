@@ -9,10 +9,10 @@ use Rattle.fs_reading.proofs.sizes.note_all.Given as goal
 
 abbrev pub invariant-note : goal.invariant-note
 invariant-note g l = record {
-  same : g.V.Volume.log l.volume ≡ g.V.Volume.log l.fn.volume;
-  reads : g.V.Volume.read_faults l.volume ≡ g.V.Volume.read_faults l.fn.volume;
-  writes : g.V.Volume.write_faults l.volume ≡ g.V.Volume.write_faults l.fn.volume;
+  same : (g.V.Volume.state l.volume).log ≡ (g.V.Volume.state l.fn.volume).log;
+  reads : (g.V.Volume.state l.volume).read_faults ≡ (g.V.Volume.state l.fn.volume).read_faults;
+  writes : (g.V.Volume.state l.volume).write_faults ≡ (g.V.Volume.state l.fn.volume).write_faults;
   long : vec_len l.noted ≡ l.count;
-  noted : g.V.Volume.told → (ks : List Known) → l.places ≡ map place_of ks → AllByRecursion (RecordStands (main_bytes (g.V.Volume.log l.fn.volume))) ks
-      → l.noted.items ≡ map (noted_of (main_bytes (g.V.Volume.log l.fn.volume))) (take l.count ks);
+  noted : g.V.Volume.told → (ks : List Known) → l.places ≡ map place_of ks → AllByRecursion (RecordStands (main_bytes (g.V.Volume.state l.fn.volume).log)) ks
+      → l.noted.items ≡ map (noted_of (main_bytes (g.V.Volume.state l.fn.volume).log)) (take l.count ks);
 }

@@ -8,7 +8,7 @@ use Rattle.fs_reading.proofs.transaction.read_transaction_at.Goals as goal
 
 pub transaction_at-requires-clause-stands : goal.transaction_at-requires-clause-stands
 transaction_at-requires-clause-stands g c = λ told.
-    let bytes : List ℕ = main_bytes (g.V.Volume.log c.args.volume.now) in
+    let bytes : List ℕ = main_bytes (g.V.Volume.state c.args.volume.now).log in
     let file = c.requires told in
     let there = stands bytes file.reached file.begins in
     let n = numbered bytes file.reached.starts file.reached.list file.number c.args.place there.transactions there.changes file.is in
@@ -16,7 +16,7 @@ transaction_at-requires-clause-stands g c = λ told.
 
 pub returns-clause-transaction : goal.returns-clause-transaction
 returns-clause-transaction g c = λ told reached number begins is.
-    let bytes : List ℕ = main_bytes (g.V.Volume.log c.args.volume.now) in
+    let bytes : List ℕ = main_bytes (g.V.Volume.state c.args.volume.now).log in
     let there = stands bytes reached begins in
     let n = numbered bytes reached.starts reached.list number c.args.place there.transactions there.changes is in
     if_ok c.transaction_at.result (λ (t : Transaction). t ≡ n.transaction) (λ (t : Transaction). slice_get reached.list number ≡ Some t)

@@ -8,10 +8,10 @@ use Rattle.fs_reading.proofs.undo_log.lines_at.Given as goal
 abbrev pub invariant-loop-left : goal.invariant-loop-left
 invariant-loop-left g l = record {
   within : l.left ≤ length l.places;
-  same : g.V.Volume.log l.volume ≡ g.V.Volume.log l.fn.volume;
-  reads : g.V.Volume.read_faults l.volume ≡ g.V.Volume.read_faults l.fn.volume;
-  writes : g.V.Volume.write_faults l.volume ≡ g.V.Volume.write_faults l.fn.volume;
-  lines : g.V.Volume.told → l.lines ≡ reverse (filter_map (log_line_at (main_bytes (g.V.Volume.log l.fn.volume))) (drop l.left l.places));
+  same : (g.V.Volume.state l.volume).log ≡ (g.V.Volume.state l.fn.volume).log;
+  reads : (g.V.Volume.state l.volume).read_faults ≡ (g.V.Volume.state l.fn.volume).read_faults;
+  writes : (g.V.Volume.state l.volume).write_faults ≡ (g.V.Volume.state l.fn.volume).write_faults;
+  lines : g.V.Volume.told → l.lines ≡ reverse (filter_map (log_line_at (main_bytes (g.V.Volume.state l.fn.volume).log)) (drop l.left l.places));
 }
 
 abbrev pub decreases-loop-left : goal.decreases-loop-left

@@ -11,12 +11,12 @@ use Rattle.fs_reading.proofs.undo_log.read_undo_log_at.Goals as goal
 
 pub lines_at-requires-clause-texts : goal.lines_at-requires-clause-texts
 lines_at-requires-clause-texts g c = λ told.
-    let bytes : List ℕ = main_bytes (g.V.Volume.log c.args.volume.now) in
+    let bytes : List ℕ = main_bytes (g.V.Volume.state c.args.volume.now).log in
     let file = c.requires told in
     subst (λ (ps : List Place). AllByRecursion (λ p. HasTexts bytes p.at) ps) (sym file.are) (all_have_texts bytes file.reached.starts file.reached.list (stands bytes file.reached file.begins).transactions)
 
 pub returns-clause-lines : goal.returns-clause-lines
 returns-clause-lines g c = λ told reached begins are.
-    let bytes : List ℕ = main_bytes (g.V.Volume.log c.args.volume.now) in
+    let bytes : List ℕ = main_bytes (g.V.Volume.state c.args.volume.now).log in
     let said = ap (λ (ps : List Place). filter_map (log_line_at bytes) ps) are ∙ undo_lines bytes reached.starts reached.list (stands bytes reached begins).transactions in
     subst (λ (l : List LogLine). IfOk c.lines_at.result (λ lines. lines ≡ reverse l)) said (c.lines_at.ensures.lines told)
