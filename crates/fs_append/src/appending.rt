@@ -4,10 +4,10 @@ ghost use Rattle.std.specs.Prelude.{◌≡◌, ◌⊎◌, ◌+◌, ◌<◌, ◌�
 ghost use Rattle.zb_volume.specs.declared.areas.Area.{Area};
 ghost use Rattle.zb_volume.specs.Calls.{Wrote, Cut, Synced};
 ghost use Rattle.zb_volume.specs.Disk.{seen, area_length, written, IsSettled};
-ghost use Rattle.zb_base.specs.Counts.{HasCause};
 ghost use Rattle.zb_volume.specs.Moments.{LeavesOnly, StaysAs};
 ghost use Rattle.fs_records.specs.Blocks.{Reached};
 ghost use Rattle.fs_append.specs.Appending.{IsStillRead, IsVote, IsVoted};
+ghost use Rattle.zb_volume.specs.States.{OnlyWrites};
 
 use fs_records::{COMMITTED, STATUS_PLACE};
 use zb_volume::{Area, StoreFault, Volume, cut_and_sync, write_and_sync};
@@ -18,20 +18,20 @@ use zb_volume::{Area, StoreFault, Volume, cut_and_sync, write_and_sync};
 /// would be longer than 2^63 - 1 bytes, some of its bytes may stand there or none.
 pub fn vote<V: Volume>(volume: &mut V, end: u64, bytes: &[u8]) -> Result<(), StoreFault>
     requires end { end < 2 ^ 63 }
-    requires within { V.told → end ≤ area_length (V.log volume.old) Area.Main }
+    requires within { V.told → end ≤ area_length (V.state volume.old).log Area.Main }
 
     ensures content { V.told → OnOk result
-        (seen (V.log volume.new) Area.Main ≡ written (seen (V.log volume.old) Area.Main) end bytes.now) }
-    ensures settled { V.told → OnOk result (IsSettled (V.log volume.new) Area.Main) }
+        (seen (V.state volume.new).log Area.Main
+        ≡ written (seen (V.state volume.old).log Area.Main) end bytes.now) }
+    ensures settled { V.told → OnOk result (IsSettled (V.state volume.new).log Area.Main) }
     ensures calls { V.told → OnOk result
-        (V.log volume.new ≡ Synced Area.Main ∷ Wrote Area.Main end bytes.now ∷ V.log volume.old) }
-    ensures any_moment { V.told → (s : Reached) → IsVote (V.log volume.old) s end bytes.now →
-        LeavesOnly Area.Main (IsStillRead s) (V.log volume.old) (V.log volume.new) }
-    ensures side { V.told → StaysAs Area.Side (V.log volume.old) (V.log volume.new) }
+        ((V.state volume.new).log ≡ Synced Area.Main ∷ Wrote Area.Main end bytes.now
+        ∷ (V.state volume.old).log) }
+    ensures any_moment { V.told → (s : Reached) → IsVote (V.state volume.old).log s end bytes.now →
+        LeavesOnly Area.Main (IsStillRead s) (V.state volume.old).log (V.state volume.new).log }
+    ensures side { V.told → StaysAs Area.Side (V.state volume.old).log (V.state volume.new).log }
     ensures limit { OnOk result (end + length bytes.now < 2 ^ 63) }
-    ensures cause { HasCause (V.write_faults volume.old) (V.write_faults volume.new) result }
-    ensures uncounted { OnOk result (V.write_faults volume.new ≡ V.write_faults volume.old) }
-    ensures read_faults { V.read_faults volume.new ≡ V.read_faults volume.old }
+    ensures write { OnlyWrites (V.state volume.old) (V.state volume.new) result }
 {
     write_and_sync(volume, Area::Main, end, bytes)
 }
@@ -42,21 +42,22 @@ pub fn vote<V: Volume>(volume: &mut V, end: u64, bytes: &[u8]) -> Result<(), Sto
 /// either may be left.
 pub fn finish<V: Volume>(volume: &mut V, end: u64) -> Result<(), StoreFault>
     requires end { end < 2 ^ 63 }
-    requires within { V.told → end + 17 ≤ area_length (V.log volume.old) Area.Main }
+    requires within { V.told → end + 17 ≤ area_length (V.state volume.old).log Area.Main }
 
     ensures content { V.told → OnOk result
-        (seen (V.log volume.new) Area.Main ≡ slice_set (seen (V.log volume.old) Area.Main) (end + 16) 32) }
-    ensures settled { V.told → OnOk result (IsSettled (V.log volume.new) Area.Main) }
+        (seen (V.state volume.new).log Area.Main
+        ≡ slice_set (seen (V.state volume.old).log Area.Main) (end + 16) 32) }
+    ensures settled { V.told → OnOk result (IsSettled (V.state volume.new).log Area.Main) }
     ensures calls { V.told → OnOk result
-        (V.log volume.new ≡ Synced Area.Main ∷ Wrote Area.Main (end + 16) (32 ∷ []) ∷ V.log volume.old) }
-    ensures any_moment { V.told → IsSettled (V.log volume.old) Area.Main → LeavesOnly Area.Main
-        (λ image. (image ≡ seen (V.log volume.old) Area.Main)
-        ⊎ (image ≡ slice_set (seen (V.log volume.old) Area.Main) (end + 16) 32))
-        (V.log volume.old) (V.log volume.new) }
-    ensures side { V.told → StaysAs Area.Side (V.log volume.old) (V.log volume.new) }
-    ensures cause { HasCause (V.write_faults volume.old) (V.write_faults volume.new) result }
-    ensures uncounted { OnOk result (V.write_faults volume.new ≡ V.write_faults volume.old) }
-    ensures read_faults { V.read_faults volume.new ≡ V.read_faults volume.old }
+        ((V.state volume.new).log ≡ Synced Area.Main ∷ Wrote Area.Main (end + 16) (32 ∷ []) ∷
+        (V.state volume.old).log) }
+    ensures any_moment { V.told → IsSettled (V.state volume.old).log Area.Main
+        → LeavesOnly Area.Main
+        (λ image. (image ≡ seen (V.state volume.old).log Area.Main)
+        ⊎ (image ≡ slice_set (seen (V.state volume.old).log Area.Main) (end + 16) 32))
+        (V.state volume.old).log (V.state volume.new).log }
+    ensures side { V.told → StaysAs Area.Side (V.state volume.old).log (V.state volume.new).log }
+    ensures write { OnlyWrites (V.state volume.old) (V.state volume.new) result }
 {
     write_and_sync(volume, Area::Main, end + STATUS_PLACE as u64, &[COMMITTED])
 }
@@ -66,19 +67,19 @@ pub fn finish<V: Volume>(volume: &mut V, end: u64) -> Result<(), StoreFault>
 /// `end` bytes alone. After a fault the transaction may still stand there, or some of it.
 pub fn abort<V: Volume>(volume: &mut V, end: u64) -> Result<(), StoreFault>
     requires end { end < 2 ^ 63 }
-    requires within { V.told → end ≤ area_length (V.log volume.old) Area.Main }
+    requires within { V.told → end ≤ area_length (V.state volume.old).log Area.Main }
 
     ensures content { V.told → OnOk result
-        (seen (V.log volume.new) Area.Main ≡ take end (seen (V.log volume.old) Area.Main)) }
-    ensures settled { V.told → OnOk result (IsSettled (V.log volume.new) Area.Main) }
+        (seen (V.state volume.new).log Area.Main
+        ≡ take end (seen (V.state volume.old).log Area.Main)) }
+    ensures settled { V.told → OnOk result (IsSettled (V.state volume.new).log Area.Main) }
     ensures calls { V.told → OnOk result
-        (V.log volume.new ≡ Synced Area.Main ∷ Cut Area.Main end ∷ V.log volume.old) }
-    ensures any_moment { V.told → (s : Reached) → IsVoted (V.log volume.old) s end →
-        LeavesOnly Area.Main (IsStillRead s) (V.log volume.old) (V.log volume.new) }
-    ensures side { V.told → StaysAs Area.Side (V.log volume.old) (V.log volume.new) }
-    ensures cause { HasCause (V.write_faults volume.old) (V.write_faults volume.new) result }
-    ensures uncounted { OnOk result (V.write_faults volume.new ≡ V.write_faults volume.old) }
-    ensures read_faults { V.read_faults volume.new ≡ V.read_faults volume.old }
+        ((V.state volume.new).log ≡ Synced Area.Main ∷ Cut Area.Main end
+        ∷ (V.state volume.old).log) }
+    ensures any_moment { V.told → (s : Reached) → IsVoted (V.state volume.old).log s end →
+        LeavesOnly Area.Main (IsStillRead s) (V.state volume.old).log (V.state volume.new).log }
+    ensures side { V.told → StaysAs Area.Side (V.state volume.old).log (V.state volume.new).log }
+    ensures write { OnlyWrites (V.state volume.old) (V.state volume.new) result }
 {
     cut_and_sync(volume, Area::Main, end)
 }

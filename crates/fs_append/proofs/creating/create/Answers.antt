@@ -8,7 +8,7 @@ pub returns-in_err-cut-clause-any_moment : goal.returns-in_err-cut-clause-any_mo
 returns-in_err-cut-clause-any_moment g c told = still_leaves _ _ c.args.bytes.now (cut_stays c.cut.result _ _ (c.cut.ensures.done told) (c.cut.ensures.failed told))
 
 -- after the write, done or not
-stays : (g : _) (c : After-write_at g) → g.V.Volume.told → StaysAs Main (g.V.Volume.log c.args.volume.now) (g.V.Volume.log c.write_at.new.self)
+stays : (g : _) (c : After-write_at g) → g.V.Volume.told → StaysAs Main (g.V.Volume.state c.args.volume.now).log (g.V.Volume.state c.write_at.new.self).log
 stays g c told = write_stays c.write_at.result _ _ _ c.args.bytes.now (cut_stays c.cut.result _ _ (c.cut.ensures.done told) (c.cut.ensures.failed told)) (c.write_at.ensures.done told) (c.write_at.ensures.failed told)
 
 pub returns-in_err-write_at-clause-any_moment : goal.returns-in_err-write_at-clause-any_moment
