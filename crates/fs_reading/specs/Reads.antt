@@ -1,5 +1,5 @@
 -- What a call that reads Main leaves of a volume. Source: own.
-use Rattle.std.specs.Prelude.{◌≡◌, ℕ, ◌≤◌, Result, OnOk, IsErrOf}
+use Rattle.std.specs.Prelude.{◌≡◌, ◌≤◌, Result, OnOk, IsErrOf}
 use Rattle.zb_base.specs.Counts.{Rose}
 use Rattle.zb_volume.specs.States.{VolumeState}
 use Rattle.fs_reading.specs.declared.errors.ReadError.{ReadError}
