@@ -1,12 +1,12 @@
 //! What stands where a transaction may begin.
 
-ghost use Rattle.std.specs.Prelude.{◌≡◌, ◌-◌, ◌≤◌, ℕ, List, length, drop, IfOk, OnOk};
+ghost use Rattle.std.specs.Prelude.{◌≡◌, ◌-◌, ◌≤◌, ℕ, List, length, drop, IfOk};
 ghost use Rattle.fs_records.specs.Headers.{header_of};
 ghost use Rattle.fs_records.specs.Rules.{verdict};
-ghost use Rattle.zb_base.specs.Counts.{HasCause};
 ghost use Rattle.fs_recovery.specs.Reading.{Shows};
 ghost use Rattle.fs_recovery.specs.Heads.{Decides, IsFit, IsOpen, Judges, closed};
 ghost use Rattle.zb_volume.specs.Disk.{main_bytes};
+ghost use Rattle.zb_volume.specs.States.{OnlyReads};
 
 use crate::head::Head;
 use crate::pieces::{header_at, number_behind};
@@ -40,7 +40,8 @@ fn judge_front(header: &Header, room: u64) -> Option<Head>
 
 /// What a header is by its closing length, behind transactions up to this number.
 fn judge_end(header: Header, closing: u64, newest: Tid) -> Head
-    ensures judges { (rest : List ℕ) → header ≡ header_of rest → verdict newest rest ≡ closed newest header closing
+    ensures judges { (rest : List ℕ) → header ≡ header_of rest → verdict newest rest
+        ≡ closed newest header closing
         → Judges result newest rest }
     ensures fit { (room : ℕ) → IsOpen header room → IsFit result newest room }
 {
@@ -63,18 +64,18 @@ pub fn judge<V: Volume, const N: usize>(
 ) -> Result<Head, StoreFault>
     requires small { 42 ≤ N }
     requires order { p ≤ window.old.length }
-    requires length { V.told → window.old.length ≡ length (main_bytes (V.log volume.old)) }
+    requires length { V.told → window.old.length ≡ length (main_bytes (V.state volume.old).log) }
     requires shows { V.told →
-        Shows window.old.at window.old.count window.old.held window.old.ahead (main_bytes (V.log volume.old)) }
-    ensures value { V.told → IfOk result (λ x. Judges x newest (drop p (main_bytes (V.log volume.old)))) }
+        Shows window.old.at window.old.count window.old.held window.old.ahead
+        (main_bytes (V.state volume.old).log) }
+    ensures value { V.told → IfOk result (λ x.
+        Judges x newest (drop p (main_bytes (V.state volume.old).log))) }
     ensures fit { IfOk result (λ x. IsFit x newest (window.old.length - p)) }
     ensures shows { V.told →
-        Shows window.new.at window.new.count window.new.held window.new.ahead (main_bytes (V.log volume.old)) }
+        Shows window.new.at window.new.count window.new.held window.new.ahead
+        (main_bytes (V.state volume.old).log) }
     ensures length { window.new.length ≡ window.old.length }
-    ensures same { V.log volume.new ≡ V.log volume.old }
-    ensures cause { HasCause (V.read_faults volume.old) (V.read_faults volume.new) result }
-    ensures uncounted { OnOk result (V.read_faults volume.new ≡ V.read_faults volume.old) }
-    ensures write_faults { V.write_faults volume.new ≡ V.write_faults volume.old }
+    ensures read { OnlyReads (V.state volume.old) (V.state volume.new) result }
 {
     let room = window.length - p;
     if room == 0 {

@@ -1,19 +1,18 @@
 //! A file is opened.
 
-ghost use Rattle.std.specs.Prelude.{◌≡◌, ◌≢◌, ℕ, ◌+◌, ◌<◌, ◌≤◌, ◌^◌, List, [], length, take, drop, IfOk, OnOk};
+ghost use Rattle.std.specs.Prelude.{◌≡◌, ◌≢◌, ◌+◌, ◌<◌, ◌≤◌, ◌^◌, [], length, take, IfOk, OnOk};
 ghost use Rattle.std.specs.Str.{bytes_eq};
 ghost use Rattle.zb_volume.specs.declared.areas.Area.{Area};
 ghost use Rattle.zb_volume.specs.Disk.{IsSettled, main_bytes};
-ghost use Rattle.zb_base.specs.Counts.{HasCause};
 ghost use Rattle.zb_volume.specs.Moments.{StaysAs};
 ghost use Rattle.zb_base.specs.Bytes.{AreBytes};
 ghost use Rattle.fs_records.specs.Blocks.{magic};
-ghost use Rattle.fs_records.specs.Headers.{header_of};
 ghost use Rattle.fs_records.specs.Rules.{texts_length};
-ghost use Rattle.fs_recovery.specs.Reading.{Shows, CountsReads, CountsFault, RefusesMain};
+ghost use Rattle.fs_recovery.specs.Reading.{Shows, CountsFault, OnlyReadsToOpen, RefusesMain};
 ghost use Rattle.fs_recovery.specs.Heads.{HeaderBegins};
 ghost use Rattle.fs_recovery.specs.Opens.{newest_kept, KeptBefore, BlockRead, IsBounded, IsNoList, IsWhole, Opens, MomentsOfOpening, ImagesStand};
 ghost use Rattle.fs_recovery.specs.Counting.{Numbered};
+ghost use Rattle.zb_volume.specs.States.{OnlyReads};
 
 use crate::blocks::judge;
 use crate::errors::OpenError;
@@ -60,23 +59,24 @@ fn keep_block<V: Volume, const N: usize>(
     requires texts { 23 + texts_length header.now ≤ header.now.length }
     requires above { newest_kept index.old < header.now.tid }
     requires before { KeptBefore index.old p }
-    requires length { V.told → window.old.length ≡ length (main_bytes (V.log volume.old)) }
+    requires length { V.told → window.old.length ≡ length (main_bytes (V.state volume.old).log) }
     requires shows { V.told →
-        Shows window.old.at window.old.count window.old.held window.old.ahead (main_bytes (V.log volume.old)) }
-    requires bytes { V.told → AreBytes (main_bytes (V.log volume.old)) }
+        Shows window.old.at window.old.count window.old.held window.old.ahead
+        (main_bytes (V.state volume.old).log) }
+    requires bytes { V.told → AreBytes (main_bytes (V.state volume.old).log) }
     ensures before { OnOk result (KeptBefore index.new (p + header.now.length + 8)) }
     ensures newest { OnOk result (newest_kept index.new ≡ header.now.tid) }
-    ensures read { V.told →
-        HeaderBegins (main_bytes (V.log volume.old)) p (newest_kept index.old) header.now →
-        Numbered (main_bytes (V.log volume.old)) p (newest_kept index.old) index.old numbers.old →
-        BlockRead (main_bytes (V.log volume.old)) (p + header.now.length + 8) header.now.tid
-        index.new numbers.new result }
+    ensures block { V.told
+        → HeaderBegins (main_bytes (V.state volume.old).log) p (newest_kept index.old) header.now
+        → Numbered (main_bytes (V.state volume.old).log) p
+        (newest_kept index.old) index.old numbers.old
+        → BlockRead (main_bytes (V.state volume.old).log)
+        (p + header.now.length + 8) header.now.tid index.new numbers.new result }
     ensures shows { V.told →
-        Shows window.new.at window.new.count window.new.held window.new.ahead (main_bytes (V.log volume.old)) }
+        Shows window.new.at window.new.count window.new.held window.new.ahead
+        (main_bytes (V.state volume.old).log) }
     ensures length { window.new.length ≡ window.old.length }
-    ensures same { V.log volume.new ≡ V.log volume.old }
-    ensures counts { CountsReads (V.read_faults volume.old) (V.read_faults volume.new) result }
-    ensures write_faults { V.write_faults volume.new ≡ V.write_faults volume.old }
+    ensures read { OnlyReadsToOpen (V.state volume.old) (V.state volume.new) result }
 {
     let texts = header.user as u64 + header.description as u64 + header.extension as u64;
     let from = p + (HEADER_LENGTH as u64 + texts);
@@ -105,17 +105,16 @@ fn read_blocks<V: Volume, const N: usize>(
 ) -> Result<Opened, OpenError>
     requires small { 42 ≤ N }
     requires long { 4 ≤ window.old.length }
-    requires length { V.told → window.old.length ≡ length (main_bytes (V.log volume.old)) }
+    requires length { V.told → window.old.length ≡ length (main_bytes (V.state volume.old).log) }
     requires shows { V.told →
-        Shows window.old.at window.old.count window.old.held window.old.ahead (main_bytes (V.log volume.old)) }
-    requires bytes { V.told → AreBytes (main_bytes (V.log volume.old)) }
-    requires magic { V.told → take 4 (main_bytes (V.log volume.old)) ≡ magic }
-    ensures opens { V.told → Opens (main_bytes (V.log volume.old)) result }
+        Shows window.old.at window.old.count window.old.held window.old.ahead
+        (main_bytes (V.state volume.old).log) }
+    requires bytes { V.told → AreBytes (main_bytes (V.state volume.old).log) }
+    requires magic { V.told → take 4 (main_bytes (V.state volume.old).log) ≡ magic }
+    ensures opens { V.told → Opens (main_bytes (V.state volume.old).log) result }
     ensures bounded { IfOk result (λ o. IsBounded o) }
     ensures end { IfOk result (λ o. o.end ≤ window.old.length) }
-    ensures same { V.log volume.new ≡ V.log volume.old }
-    ensures counts { CountsReads (V.read_faults volume.old) (V.read_faults volume.new) result }
-    ensures write_faults { V.write_faults volume.new ≡ V.write_faults volume.old }
+    ensures read { OnlyReadsToOpen (V.state volume.old) (V.state volume.new) result }
 {
     let mut index = Index::new(alloc);
     let mut numbers = Numbers::new(alloc);
@@ -163,18 +162,17 @@ fn has_magic<V: Volume, const N: usize>(
 ) -> Result<bool, StoreFault>
     requires small { 42 ≤ N }
     requires long { 4 ≤ window.old.length }
-    requires length { V.told → window.old.length ≡ length (main_bytes (V.log volume.old)) }
+    requires length { V.told → window.old.length ≡ length (main_bytes (V.state volume.old).log) }
     requires shows { V.told →
-        Shows window.old.at window.old.count window.old.held window.old.ahead (main_bytes (V.log volume.old)) }
+        Shows window.old.at window.old.count window.old.held window.old.ahead
+        (main_bytes (V.state volume.old).log) }
     ensures value { V.told →
-        IfOk result (λ b. b ≡ bytes_eq (take 4 (main_bytes (V.log volume.old))) magic) }
+        IfOk result (λ b. b ≡ bytes_eq (take 4 (main_bytes (V.state volume.old).log)) magic) }
     ensures shows { V.told →
-        Shows window.new.at window.new.count window.new.held window.new.ahead (main_bytes (V.log volume.old)) }
+        Shows window.new.at window.new.count window.new.held window.new.ahead
+        (main_bytes (V.state volume.old).log) }
     ensures length { window.new.length ≡ window.old.length }
-    ensures same { V.log volume.new ≡ V.log volume.old }
-    ensures cause { HasCause (V.read_faults volume.old) (V.read_faults volume.new) result }
-    ensures uncounted { OnOk result (V.read_faults volume.new ≡ V.read_faults volume.old) }
-    ensures write_faults { V.write_faults volume.new ≡ V.write_faults volume.old }
+    ensures read { OnlyReads (V.state volume.old) (V.state volume.new) result }
 {
     let mut front = [0; 4];
     window.read(volume, 0, &mut front)?;
@@ -184,15 +182,13 @@ fn has_magic<V: Volume, const N: usize>(
 /// Reads Main, which has so many bytes.
 fn read_main<V: Volume>(alloc: Global, volume: &mut V, long: u64) -> Result<Opened, OpenError>
     requires limit { long < 2 ^ 63 }
-    requires some { V.told → main_bytes (V.log volume.old) ≢ [] }
-    requires length { V.told → long ≡ length (main_bytes (V.log volume.old)) }
-    requires bytes { V.told → AreBytes (main_bytes (V.log volume.old)) }
-    ensures opens { V.told → Opens (main_bytes (V.log volume.old)) result }
+    requires some { V.told → main_bytes (V.state volume.old).log ≢ [] }
+    requires length { V.told → long ≡ length (main_bytes (V.state volume.old).log) }
+    requires bytes { V.told → AreBytes (main_bytes (V.state volume.old).log) }
+    ensures opens { V.told → Opens (main_bytes (V.state volume.old).log) result }
     ensures bounded { IfOk result (λ o. IsBounded o) }
     ensures end { IfOk result (λ o. o.end ≤ long) }
-    ensures same { V.log volume.new ≡ V.log volume.old }
-    ensures counts { CountsReads (V.read_faults volume.old) (V.read_faults volume.new) result }
-    ensures write_faults { V.write_faults volume.new ≡ V.write_faults volume.old }
+    ensures read { OnlyReadsToOpen (V.state volume.old) (V.state volume.new) result }
 {
     if long < 4 {
         return Err(OpenError::NotFileStorage);
@@ -210,12 +206,10 @@ fn read_main<V: Volume>(alloc: Global, volume: &mut V, long: u64) -> Result<Open
 ///
 /// Its answers are those of `open_main`, but that a StoreFault comes only where a read failed.
 pub fn read_file<V: Volume>(alloc: Global, volume: &mut V) -> Result<Opened, OpenError>
-    requires { V.told → main_bytes (V.log volume.old) ≢ [] }
-    ensures opens { V.told → Opens (main_bytes (V.log volume.old)) result }
+    requires { V.told → main_bytes (V.state volume.old).log ≢ [] }
+    ensures opens { V.told → Opens (main_bytes (V.state volume.old).log) result }
     ensures bounded { IfOk result (λ o. IsBounded o) }
-    ensures same { V.log volume.new ≡ V.log volume.old }
-    ensures counts { CountsReads (V.read_faults volume.old) (V.read_faults volume.new) result }
-    ensures write_faults { V.write_faults volume.new ≡ V.write_faults volume.old }
+    ensures read { OnlyReadsToOpen (V.state volume.old) (V.state volume.new) result }
 {
     let long = volume.len(Area::Main)?;
     let opened = read_main(alloc, volume, long)?;
@@ -235,20 +229,22 @@ pub fn read_file<V: Volume>(alloc: Global, volume: &mut V) -> Result<Opened, Ope
 /// content is skipped, and no file takes more than two reads for each transaction, two for each data
 /// record and one besides.
 pub fn open_main<V: Volume>(alloc: Global, volume: &mut V) -> Result<Opened, OpenError>
-    requires { V.told → main_bytes (V.log volume.old) ≢ [] }
-    ensures opens { V.told → Opens (main_bytes (V.log volume.old)) result }
+    requires { V.told → main_bytes (V.state volume.old).log ≢ [] }
+    ensures opens { V.told → Opens (main_bytes (V.state volume.old).log) result }
     ensures content { V.told →
-        IfOk result (λ o. main_bytes (V.log volume.new) ≡ take o.end (main_bytes (V.log volume.old))) }
-    ensures whole { V.told → IfOk result (λ o. IsWhole (main_bytes (V.log volume.new)) o) }
-    ensures settled { V.told → OnOk result (IsSettled (V.log volume.new) Area.Main) }
-    ensures untouched { RefusesMain result → V.log volume.new ≡ V.log volume.old }
-    ensures harmed { V.told → IsNoList (main_bytes (V.log volume.old)) → V.log volume.new ≡ V.log volume.old }
-    ensures side { V.told → StaysAs Area.Side (V.log volume.old) (V.log volume.new) }
-    ensures any_moment { V.told → MomentsOfOpening (V.log volume.old) (V.log volume.new) }
-    ensures images { V.told → ImagesStand (V.log volume.old) (V.log volume.new) }
+        IfOk result (λ o. main_bytes (V.state volume.new).log
+        ≡ take o.end (main_bytes (V.state volume.old).log)) }
+    ensures whole { V.told → IfOk result (λ o. IsWhole (main_bytes (V.state volume.new).log) o) }
+    ensures settled { V.told → OnOk result (IsSettled (V.state volume.new).log Area.Main) }
+    ensures untouched { RefusesMain result → (V.state volume.new).log ≡ (V.state volume.old).log }
+    ensures harmed { V.told → IsNoList (main_bytes (V.state volume.old).log)
+        → (V.state volume.new).log ≡ (V.state volume.old).log }
+    ensures side { V.told → StaysAs Area.Side (V.state volume.old).log (V.state volume.new).log }
+    ensures any_moment { V.told → MomentsOfOpening (V.state volume.old).log
+        (V.state volume.new).log }
+    ensures images { V.told → ImagesStand (V.state volume.old).log (V.state volume.new).log }
     ensures bounded { IfOk result (λ o. IsBounded o) }
-    ensures counts { CountsFault (V.log volume.old) (V.log volume.new) (V.read_faults volume.old)
-        (V.read_faults volume.new) (V.write_faults volume.old) (V.write_faults volume.new) result }
+    ensures counts { CountsFault (V.state volume.old) (V.state volume.new) result }
 {
     let long = volume.len(Area::Main)?;
     let opened = read_main(alloc, volume, long)?;

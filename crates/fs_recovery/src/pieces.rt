@@ -1,11 +1,11 @@
 //! Headers and numbers of Main.
 
-ghost use Rattle.std.specs.Prelude.{◌≡◌, ◌+◌, ◌<◌, ◌^◌, ◌≤◌, length, drop, IfOk, OnOk};
-ghost use Rattle.zb_base.specs.Counts.{HasCause};
+ghost use Rattle.std.specs.Prelude.{◌≡◌, ◌+◌, ◌<◌, ◌≤◌, length, drop, IfOk};
 ghost use Rattle.fs_records.specs.Headers.{header_of, data_header_of};
 ghost use Rattle.fs_records.specs.Numbers.{number_in};
 ghost use Rattle.fs_recovery.specs.Reading.{Shows};
 ghost use Rattle.zb_volume.specs.Disk.{main_bytes};
+ghost use Rattle.zb_volume.specs.States.{OnlyReads};
 
 use crate::window::Window;
 use byteorder::{BigEndian, ByteOrder};
@@ -23,17 +23,17 @@ pub fn header_at<V: Volume, const N: usize>(
 ) -> Result<Header, StoreFault>
     requires small { 42 ≤ N }
     requires within { at + 23 ≤ window.old.length }
-    requires length { V.told → window.old.length ≡ length (main_bytes (V.log volume.old)) }
+    requires length { V.told → window.old.length ≡ length (main_bytes (V.state volume.old).log) }
     requires shows { V.told →
-        Shows window.old.at window.old.count window.old.held window.old.ahead (main_bytes (V.log volume.old)) }
-    ensures value { V.told → IfOk result (λ h. h ≡ header_of (drop at (main_bytes (V.log volume.old)))) }
+        Shows window.old.at window.old.count window.old.held window.old.ahead
+        (main_bytes (V.state volume.old).log) }
+    ensures value { V.told → IfOk result (λ h. h
+        ≡ header_of (drop at (main_bytes (V.state volume.old).log))) }
     ensures shows { V.told →
-        Shows window.new.at window.new.count window.new.held window.new.ahead (main_bytes (V.log volume.old)) }
+        Shows window.new.at window.new.count window.new.held window.new.ahead
+        (main_bytes (V.state volume.old).log) }
     ensures length { window.new.length ≡ window.old.length }
-    ensures same { V.log volume.new ≡ V.log volume.old }
-    ensures cause { HasCause (V.read_faults volume.old) (V.read_faults volume.new) result }
-    ensures uncounted { OnOk result (V.read_faults volume.new ≡ V.read_faults volume.old) }
-    ensures write_faults { V.write_faults volume.new ≡ V.write_faults volume.old }
+    ensures read { OnlyReads (V.state volume.old) (V.state volume.new) result }
 {
     let mut buffer = [0; HEADER_LENGTH];
     window.read(volume, at, &mut buffer)?;
@@ -49,18 +49,17 @@ pub fn data_header_at<V: Volume, const N: usize>(
 ) -> Result<DataHeader, StoreFault>
     requires small { 42 ≤ N }
     requires within { at + 42 ≤ window.old.length }
-    requires length { V.told → window.old.length ≡ length (main_bytes (V.log volume.old)) }
+    requires length { V.told → window.old.length ≡ length (main_bytes (V.state volume.old).log) }
     requires shows { V.told →
-        Shows window.old.at window.old.count window.old.held window.old.ahead (main_bytes (V.log volume.old)) }
+        Shows window.old.at window.old.count window.old.held window.old.ahead
+        (main_bytes (V.state volume.old).log) }
     ensures value { V.told →
-        IfOk result (λ h. h ≡ data_header_of (drop at (main_bytes (V.log volume.old)))) }
+        IfOk result (λ h. h ≡ data_header_of (drop at (main_bytes (V.state volume.old).log))) }
     ensures shows { V.told →
-        Shows window.new.at window.new.count window.new.held window.new.ahead (main_bytes (V.log volume.old)) }
+        Shows window.new.at window.new.count window.new.held window.new.ahead
+        (main_bytes (V.state volume.old).log) }
     ensures length { window.new.length ≡ window.old.length }
-    ensures same { V.log volume.new ≡ V.log volume.old }
-    ensures cause { HasCause (V.read_faults volume.old) (V.read_faults volume.new) result }
-    ensures uncounted { OnOk result (V.read_faults volume.new ≡ V.read_faults volume.old) }
-    ensures write_faults { V.write_faults volume.new ≡ V.write_faults volume.old }
+    ensures read { OnlyReads (V.state volume.old) (V.state volume.new) result }
 {
     let mut buffer = [0; DATA_HEADER_LENGTH];
     window.read(volume, at, &mut buffer)?;
@@ -77,18 +76,18 @@ pub fn number_behind<V: Volume, const N: usize>(
     n: u64,
 ) -> Result<u64, StoreFault>
     requires within { at + n + 8 ≤ window.old.length }
-    requires length { V.told → window.old.length ≡ length (main_bytes (V.log volume.old)) }
+    requires length { V.told → window.old.length ≡ length (main_bytes (V.state volume.old).log) }
     requires shows { V.told →
-        Shows window.old.at window.old.count window.old.held window.old.ahead (main_bytes (V.log volume.old)) }
-    ensures value { V.told →
-        IfOk result (λ x. x ≡ number_in 8 (drop n (drop at (main_bytes (V.log volume.old))))) }
+        Shows window.old.at window.old.count window.old.held window.old.ahead
+        (main_bytes (V.state volume.old).log) }
+    ensures value { V.told
+        → IfOk result (λ x. x
+        ≡ number_in 8 (drop n (drop at (main_bytes (V.state volume.old).log)))) }
     ensures shows { V.told →
-        Shows window.new.at window.new.count window.new.held window.new.ahead (main_bytes (V.log volume.old)) }
+        Shows window.new.at window.new.count window.new.held window.new.ahead
+        (main_bytes (V.state volume.old).log) }
     ensures length { window.new.length ≡ window.old.length }
-    ensures same { V.log volume.new ≡ V.log volume.old }
-    ensures cause { HasCause (V.read_faults volume.old) (V.read_faults volume.new) result }
-    ensures uncounted { OnOk result (V.read_faults volume.new ≡ V.read_faults volume.old) }
-    ensures write_faults { V.write_faults volume.new ≡ V.write_faults volume.old }
+    ensures read { OnlyReads (V.state volume.old) (V.state volume.new) result }
 {
     let mut buffer = [0; 8];
     window.peek(volume, at + n, &mut buffer)?;

@@ -1,15 +1,15 @@
 //! The data records of a transaction.
 
 ghost use Rattle.std.specs.Prelude.{◌≡◌, ℕ, ◌+◌, ◌-◌, ◌<◌, ◌≤◌, List, All, length, drop, IfOk, OnOk};
-ghost use Rattle.zb_base.specs.Counts.{HasCause};
 ghost use Rattle.zb_base.specs.Bytes.{AreBytes};
 ghost use Rattle.fs_records.specs.Blocks.{Known};
 ghost use Rattle.fs_records.specs.Rules.{record_at, payload_size, is_astray};
 ghost use Rattle.fs_index.specs.Places.{knows, places_in, AreBefore};
 ghost use Rattle.fs_records.specs.Indexed.{ArePlacesOf};
-ghost use Rattle.fs_recovery.specs.Reading.{Shows, CountsReads};
+ghost use Rattle.fs_recovery.specs.Reading.{Shows, OnlyReadsToOpen};
 ghost use Rattle.fs_recovery.specs.Records.{RecordGives, RecordsRead};
 ghost use Rattle.zb_volume.specs.Disk.{main_bytes};
+ghost use Rattle.zb_volume.specs.States.{OnlyReads};
 
 use crate::counted::{Counted, with_record};
 use crate::errors::OpenError;
@@ -37,19 +37,18 @@ fn is_astray<V: Volume, const N: usize>(
     index: &Index,
 ) -> Result<bool, StoreFault>
     requires within { q + 42 + payload_size header.now ≤ window.old.length }
-    requires length { V.told → window.old.length ≡ length (main_bytes (V.log volume.old)) }
+    requires length { V.told → window.old.length ≡ length (main_bytes (V.state volume.old).log) }
     requires shows { V.told →
-        Shows window.old.at window.old.count window.old.held window.old.ahead (main_bytes (V.log volume.old)) }
+        Shows window.old.at window.old.count window.old.held window.old.ahead
+        (main_bytes (V.state volume.old).log) }
     ensures value { V.told →
         IfOk result (λ b. b ≡ is_astray (knows index.now.entries) header.now
-        (drop q (main_bytes (V.log volume.old)))) }
+        (drop q (main_bytes (V.state volume.old).log))) }
     ensures shows { V.told →
-        Shows window.new.at window.new.count window.new.held window.new.ahead (main_bytes (V.log volume.old)) }
+        Shows window.new.at window.new.count window.new.held window.new.ahead
+        (main_bytes (V.state volume.old).log) }
     ensures length { window.new.length ≡ window.old.length }
-    ensures same { V.log volume.new ≡ V.log volume.old }
-    ensures cause { HasCause (V.read_faults volume.old) (V.read_faults volume.new) result }
-    ensures uncounted { OnOk result (V.read_faults volume.new ≡ V.read_faults volume.old) }
-    ensures write_faults { V.write_faults volume.new ≡ V.write_faults volume.old }
+    ensures read { OnlyReads (V.state volume.old) (V.state volume.new) result }
 {
     if header.length != 0 {
         return Ok(false);
@@ -83,19 +82,19 @@ fn read_record<V: Volume, const N: usize>(
     requires small { 42 ≤ N }
     requires order { q ≤ end }
     requires within { end ≤ window.old.length }
-    requires length { V.told → window.old.length ≡ length (main_bytes (V.log volume.old)) }
+    requires length { V.told → window.old.length ≡ length (main_bytes (V.state volume.old).log) }
     requires shows { V.told →
-        Shows window.old.at window.old.count window.old.held window.old.ahead (main_bytes (V.log volume.old)) }
+        Shows window.old.at window.old.count window.old.held window.old.ahead
+        (main_bytes (V.state volume.old).log) }
     ensures size { IfOk result (λ r. (0 < r.1) × (r.1 ≤ end - q)) }
     ensures value { V.told →
         RecordGives result q (record_at (knows index.now.entries) place tid (end - q)
-        (drop q (main_bytes (V.log volume.old)))) }
+        (drop q (main_bytes (V.state volume.old).log))) }
     ensures shows { V.told →
-        Shows window.new.at window.new.count window.new.held window.new.ahead (main_bytes (V.log volume.old)) }
+        Shows window.new.at window.new.count window.new.held window.new.ahead
+        (main_bytes (V.state volume.old).log) }
     ensures length { window.new.length ≡ window.old.length }
-    ensures same { V.log volume.new ≡ V.log volume.old }
-    ensures counts { CountsReads (V.read_faults volume.old) (V.read_faults volume.new) result }
-    ensures write_faults { V.write_faults volume.new ≡ V.write_faults volume.old }
+    ensures read { OnlyReadsToOpen (V.state volume.old) (V.state volume.new) result }
 {
     let room = end - q;
     if room < DATA_HEADER_LENGTH as u64 {
@@ -135,22 +134,23 @@ pub fn read_records<V: Volume, const N: usize>(
     requires small { 42 ≤ N }
     requires order { from ≤ end }
     requires within { end ≤ window.old.length }
-    requires length { V.told → window.old.length ≡ length (main_bytes (V.log volume.old)) }
+    requires length { V.told → window.old.length ≡ length (main_bytes (V.state volume.old).log) }
     requires shows { V.told →
-        Shows window.old.at window.old.count window.old.held window.old.ahead (main_bytes (V.log volume.old)) }
-    requires bytes { V.told → AreBytes (main_bytes (V.log volume.old)) }
+        Shows window.old.at window.old.count window.old.held window.old.ahead
+        (main_bytes (V.state volume.old).log) }
+    requires bytes { V.told → AreBytes (main_bytes (V.state volume.old).log) }
     requires before { AreBefore index.old.entries tid from }
     requires earlier { (oid : ℕ) → All (λ p. p.serial < tid) (places_in index.old.entries oid) }
     ensures before { OnOk result (AreBefore index.new.entries tid end) }
-    ensures read { V.told → (known : List Known) → ArePlacesOf known index.old.entries →
-        RecordsRead (main_bytes (V.log volume.old)) known place tid from end index.new.entries result }
+    ensures records { V.told → (known : List Known) → ArePlacesOf known index.old.entries
+        → RecordsRead (main_bytes
+        (V.state volume.old).log) known place tid from end index.new.entries result }
     ensures transactions { index.new.transactions ≡ index.old.transactions }
     ensures shows { V.told →
-        Shows window.new.at window.new.count window.new.held window.new.ahead (main_bytes (V.log volume.old)) }
+        Shows window.new.at window.new.count window.new.held window.new.ahead
+        (main_bytes (V.state volume.old).log) }
     ensures length { window.new.length ≡ window.old.length }
-    ensures same { V.log volume.new ≡ V.log volume.old }
-    ensures counts { CountsReads (V.read_faults volume.old) (V.read_faults volume.new) result }
-    ensures write_faults { V.write_faults volume.new ≡ V.write_faults volume.old }
+    ensures read { OnlyReadsToOpen (V.state volume.old) (V.state volume.new) result }
 {
     let mut q = from;
     let mut counted = Counted {

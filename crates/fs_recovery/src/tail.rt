@@ -3,25 +3,25 @@
 ghost use Rattle.std.specs.Prelude.{◌≡◌, ◌≤◌, length, take, OnOk};
 ghost use Rattle.zb_volume.specs.declared.areas.Area.{Area};
 ghost use Rattle.zb_volume.specs.Disk.{IsSettled, main_bytes};
-ghost use Rattle.zb_base.specs.Counts.{HasCause};
 ghost use Rattle.zb_volume.specs.Images.{CrashLeavesWith};
 ghost use Rattle.zb_volume.specs.Moments.{LeavesOnly, StaysAs};
+ghost use Rattle.zb_volume.specs.States.{OnlyWrites};
 
 use zb_volume::{Area, StoreFault, Volume};
 
 /// Cuts Main to its first `end` bytes, and syncs it.
 fn cut_and_sync<V: Volume>(volume: &mut V, end: u64) -> Result<(), StoreFault>
-    requires { V.told → end ≤ length (main_bytes (V.log volume.old)) }
+    requires { V.told → end ≤ length (main_bytes (V.state volume.old).log) }
     ensures content { V.told →
-        OnOk result (main_bytes (V.log volume.new) ≡ take end (main_bytes (V.log volume.old))) }
-    ensures settled { V.told → OnOk result (IsSettled (V.log volume.new) Area.Main) }
+        OnOk result (main_bytes (V.state volume.new).log
+        ≡ take end (main_bytes (V.state volume.old).log)) }
+    ensures settled { V.told → OnOk result (IsSettled (V.state volume.new).log Area.Main) }
     ensures any_moment { V.told → LeavesOnly Area.Main
-        (CrashLeavesWith (V.log volume.old) Area.Main (take end (main_bytes (V.log volume.old))))
-        (V.log volume.old) (V.log volume.new) }
-    ensures side { V.told → StaysAs Area.Side (V.log volume.old) (V.log volume.new) }
-    ensures cause { HasCause (V.write_faults volume.old) (V.write_faults volume.new) result }
-    ensures uncounted { OnOk result (V.write_faults volume.new ≡ V.write_faults volume.old) }
-    ensures read_faults { V.read_faults volume.new ≡ V.read_faults volume.old }
+        (CrashLeavesWith (V.state volume.old).log Area.Main
+        (take end (main_bytes (V.state volume.old).log)))
+        (V.state volume.old).log (V.state volume.new).log }
+    ensures side { V.told → StaysAs Area.Side (V.state volume.old).log (V.state volume.new).log }
+    ensures write { OnlyWrites (V.state volume.old) (V.state volume.new) result }
 {
     volume.cut(Area::Main, end)?;
     volume.sync(Area::Main)?;
@@ -30,15 +30,14 @@ fn cut_and_sync<V: Volume>(volume: &mut V, end: u64) -> Result<(), StoreFault>
 
 /// Syncs Main.
 fn sync_main<V: Volume>(volume: &mut V) -> Result<(), StoreFault>
-    ensures content { V.told → OnOk result (main_bytes (V.log volume.new) ≡ main_bytes (V.log volume.old)) }
-    ensures settled { V.told → OnOk result (IsSettled (V.log volume.new) Area.Main) }
+    ensures content { V.told → OnOk result (main_bytes (V.state volume.new).log
+        ≡ main_bytes (V.state volume.old).log) }
+    ensures settled { V.told → OnOk result (IsSettled (V.state volume.new).log Area.Main) }
     ensures any_moment { V.told → LeavesOnly Area.Main
-        (CrashLeavesWith (V.log volume.old) Area.Main (main_bytes (V.log volume.old)))
-        (V.log volume.old) (V.log volume.new) }
-    ensures side { V.told → StaysAs Area.Side (V.log volume.old) (V.log volume.new) }
-    ensures cause { HasCause (V.write_faults volume.old) (V.write_faults volume.new) result }
-    ensures uncounted { OnOk result (V.write_faults volume.new ≡ V.write_faults volume.old) }
-    ensures read_faults { V.read_faults volume.new ≡ V.read_faults volume.old }
+        (CrashLeavesWith (V.state volume.old).log Area.Main (main_bytes (V.state volume.old).log))
+        (V.state volume.old).log (V.state volume.new).log }
+    ensures side { V.told → StaysAs Area.Side (V.state volume.old).log (V.state volume.new).log }
+    ensures write { OnlyWrites (V.state volume.old) (V.state volume.new) result }
 {
     volume.sync(Area::Main)?;
     Ok(())
@@ -47,18 +46,18 @@ fn sync_main<V: Volume>(volume: &mut V) -> Result<(), StoreFault>
 /// Keeps the first `end` of the `long` bytes of Main, and makes sure of them. At every moment a
 /// crash leaves of Main what it could leave before, or that cut at some length down to this one.
 pub fn keep_front<V: Volume>(volume: &mut V, long: u64, end: u64) -> Result<(), StoreFault>
-    requires long { V.told → long ≡ length (main_bytes (V.log volume.old)) }
+    requires long { V.told → long ≡ length (main_bytes (V.state volume.old).log) }
     requires within { end ≤ long }
     ensures content { V.told →
-        OnOk result (main_bytes (V.log volume.new) ≡ take end (main_bytes (V.log volume.old))) }
-    ensures settled { V.told → OnOk result (IsSettled (V.log volume.new) Area.Main) }
+        OnOk result (main_bytes (V.state volume.new).log
+        ≡ take end (main_bytes (V.state volume.old).log)) }
+    ensures settled { V.told → OnOk result (IsSettled (V.state volume.new).log Area.Main) }
     ensures any_moment { V.told → LeavesOnly Area.Main
-        (CrashLeavesWith (V.log volume.old) Area.Main (take end (main_bytes (V.log volume.old))))
-        (V.log volume.old) (V.log volume.new) }
-    ensures side { V.told → StaysAs Area.Side (V.log volume.old) (V.log volume.new) }
-    ensures cause { HasCause (V.write_faults volume.old) (V.write_faults volume.new) result }
-    ensures uncounted { OnOk result (V.write_faults volume.new ≡ V.write_faults volume.old) }
-    ensures read_faults { V.read_faults volume.new ≡ V.read_faults volume.old }
+        (CrashLeavesWith (V.state volume.old).log Area.Main
+        (take end (main_bytes (V.state volume.old).log)))
+        (V.state volume.old).log (V.state volume.new).log }
+    ensures side { V.told → StaysAs Area.Side (V.state volume.old).log (V.state volume.new).log }
+    ensures write { OnlyWrites (V.state volume.old) (V.state volume.new) result }
 {
     if end < long {
         return cut_and_sync(volume, end);

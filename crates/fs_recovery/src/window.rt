@@ -1,9 +1,9 @@
 //! A piece of Main that was read.
 
 ghost use Rattle.std.specs.Prelude.{◌≡◌, ◌+◌, ◌-◌, ◌<◌, ◌≤◌, ◌^◌, length, min, take, drop, true, OnOk};
-ghost use Rattle.zb_base.specs.Counts.{HasCause};
 ghost use Rattle.fs_recovery.specs.Reading.{Shows, Holds, Covers};
 ghost use Rattle.zb_volume.specs.Disk.{main_bytes};
+ghost use Rattle.zb_volume.specs.States.{OnlyReads};
 
 use zb_volume::{Area, StoreFault, Volume};
 
@@ -70,15 +70,12 @@ impl Ahead {
 
     /// Holds the bytes at a place, of which there are `room`, as many as there is room for.
     fn fill<V: Volume>(&mut self, volume: &mut V, at: u64, room: u64) -> Result<(), StoreFault>
-        requires within { V.told → at + room ≤ length (main_bytes (V.log volume.old)) }
+        requires within { V.told → at + room ≤ length (main_bytes (V.state volume.old).log) }
         ensures holds { V.told →
-            Holds self.new.at self.new.count self.new.held (main_bytes (V.log volume.old)) }
+            Holds self.new.at self.new.count self.new.held (main_bytes (V.state volume.old).log) }
         ensures at { OnOk result (self.new.at ≡ at) }
         ensures count { OnOk result (self.new.count ≡ min room 128) }
-        ensures same { V.log volume.new ≡ V.log volume.old }
-        ensures cause { HasCause (V.read_faults volume.old) (V.read_faults volume.new) result }
-        ensures uncounted { OnOk result (V.read_faults volume.new ≡ V.read_faults volume.old) }
-        ensures write_faults { V.write_faults volume.new ≡ V.write_faults volume.old }
+        ensures read { OnlyReads (V.state volume.old) (V.state volume.new) result }
     {
         let mut m = AHEAD;
         if room < AHEAD as u64 {
@@ -150,17 +147,16 @@ impl<const N: usize> Window<N> {
         requires small { n ≤ 42 }
         requires room { 42 ≤ N }
         requires within { at + n ≤ self.old.length }
-        requires length { V.told → self.old.length ≡ length (main_bytes (V.log volume.old)) }
+        requires length { V.told → self.old.length ≡ length (main_bytes (V.state volume.old).log) }
         requires shows { V.told →
-            Shows self.old.at self.old.count self.old.held self.old.ahead (main_bytes (V.log volume.old)) }
+            Shows self.old.at self.old.count self.old.held self.old.ahead
+            (main_bytes (V.state volume.old).log) }
         ensures shows { V.told →
-            Shows self.new.at self.new.count self.new.held self.new.ahead (main_bytes (V.log volume.old)) }
+            Shows self.new.at self.new.count self.new.held self.new.ahead
+            (main_bytes (V.state volume.old).log) }
         ensures covers { OnOk result (Covers self.new.at self.new.count at n) }
         ensures length { self.new.length ≡ self.old.length }
-        ensures same { V.log volume.new ≡ V.log volume.old }
-        ensures cause { HasCause (V.read_faults volume.old) (V.read_faults volume.new) result }
-        ensures uncounted { OnOk result (V.read_faults volume.new ≡ V.read_faults volume.old) }
-        ensures write_faults { V.write_faults volume.new ≡ V.write_faults volume.old }
+        ensures read { OnlyReads (V.state volume.old) (V.state volume.new) result }
     {
         if self.covers(at, n) {
             return Ok(());
@@ -199,18 +195,18 @@ impl<const N: usize> Window<N> {
         requires small { length out.old ≤ 42 }
         requires room { 42 ≤ N }
         requires within { at + length out.old ≤ self.old.length }
-        requires length { V.told → self.old.length ≡ length (main_bytes (V.log volume.old)) }
+        requires length { V.told → self.old.length ≡ length (main_bytes (V.state volume.old).log) }
         requires shows { V.told →
-            Shows self.old.at self.old.count self.old.held self.old.ahead (main_bytes (V.log volume.old)) }
+            Shows self.old.at self.old.count self.old.held self.old.ahead
+            (main_bytes (V.state volume.old).log) }
         ensures bytes { V.told →
-            OnOk result (out.new ≡ take (length out.old) (drop at (main_bytes (V.log volume.old)))) }
+            OnOk result (out.new ≡ take (length out.old)
+            (drop at (main_bytes (V.state volume.old).log))) }
         ensures shows { V.told →
-            Shows self.new.at self.new.count self.new.held self.new.ahead (main_bytes (V.log volume.old)) }
+            Shows self.new.at self.new.count self.new.held self.new.ahead
+            (main_bytes (V.state volume.old).log) }
         ensures length { self.new.length ≡ self.old.length }
-        ensures same { V.log volume.new ≡ V.log volume.old }
-        ensures cause { HasCause (V.read_faults volume.old) (V.read_faults volume.new) result }
-        ensures uncounted { OnOk result (V.read_faults volume.new ≡ V.read_faults volume.old) }
-        ensures write_faults { V.write_faults volume.new ≡ V.write_faults volume.old }
+        ensures read { OnlyReads (V.state volume.old) (V.state volume.new) result }
     {
         let n = out.len();
         if self.ahead.covers(at, n) {
@@ -233,18 +229,18 @@ impl<const N: usize> Window<N> {
         requires small { length out.old ≤ 42 }
         requires room { 42 ≤ N }
         requires within { at + length out.old ≤ self.old.length }
-        requires length { V.told → self.old.length ≡ length (main_bytes (V.log volume.old)) }
+        requires length { V.told → self.old.length ≡ length (main_bytes (V.state volume.old).log) }
         requires shows { V.told →
-            Shows self.old.at self.old.count self.old.held self.old.ahead (main_bytes (V.log volume.old)) }
+            Shows self.old.at self.old.count self.old.held self.old.ahead
+            (main_bytes (V.state volume.old).log) }
         ensures bytes { V.told →
-            OnOk result (out.new ≡ take (length out.old) (drop at (main_bytes (V.log volume.old)))) }
+            OnOk result (out.new ≡ take (length out.old)
+            (drop at (main_bytes (V.state volume.old).log))) }
         ensures shows { V.told →
-            Shows self.new.at self.new.count self.new.held self.new.ahead (main_bytes (V.log volume.old)) }
+            Shows self.new.at self.new.count self.new.held self.new.ahead
+            (main_bytes (V.state volume.old).log) }
         ensures length { self.new.length ≡ self.old.length }
-        ensures same { V.log volume.new ≡ V.log volume.old }
-        ensures cause { HasCause (V.read_faults volume.old) (V.read_faults volume.new) result }
-        ensures uncounted { OnOk result (V.read_faults volume.new ≡ V.read_faults volume.old) }
-        ensures write_faults { V.write_faults volume.new ≡ V.write_faults volume.old }
+        ensures read { OnlyReads (V.state volume.old) (V.state volume.new) result }
     {
         let n = out.len();
         if self.covers(at, n) {
@@ -266,18 +262,18 @@ impl<const N: usize> Window<N> {
     ) -> Result<(), StoreFault>
         requires small { length out.old ≤ 128 }
         requires within { at + length out.old ≤ self.old.length }
-        requires length { V.told → self.old.length ≡ length (main_bytes (V.log volume.old)) }
+        requires length { V.told → self.old.length ≡ length (main_bytes (V.state volume.old).log) }
         requires shows { V.told →
-            Shows self.old.at self.old.count self.old.held self.old.ahead (main_bytes (V.log volume.old)) }
+            Shows self.old.at self.old.count self.old.held self.old.ahead
+            (main_bytes (V.state volume.old).log) }
         ensures bytes { V.told →
-            OnOk result (out.new ≡ take (length out.old) (drop at (main_bytes (V.log volume.old)))) }
+            OnOk result (out.new ≡ take (length out.old)
+            (drop at (main_bytes (V.state volume.old).log))) }
         ensures shows { V.told →
-            Shows self.new.at self.new.count self.new.held self.new.ahead (main_bytes (V.log volume.old)) }
+            Shows self.new.at self.new.count self.new.held self.new.ahead
+            (main_bytes (V.state volume.old).log) }
         ensures length { self.new.length ≡ self.old.length }
-        ensures same { V.log volume.new ≡ V.log volume.old }
-        ensures cause { HasCause (V.read_faults volume.old) (V.read_faults volume.new) result }
-        ensures uncounted { OnOk result (V.read_faults volume.new ≡ V.read_faults volume.old) }
-        ensures write_faults { V.write_faults volume.new ≡ V.write_faults volume.old }
+        ensures read { OnlyReads (V.state volume.old) (V.state volume.new) result }
     {
         let n = out.len();
         if self.covers(at, n) {
@@ -304,18 +300,18 @@ impl<const N: usize> Window<N> {
     ) -> Result<(), StoreFault>
         requires small { length out.old ≤ 128 }
         requires within { at + length out.old ≤ self.old.length }
-        requires length { V.told → self.old.length ≡ length (main_bytes (V.log volume.old)) }
+        requires length { V.told → self.old.length ≡ length (main_bytes (V.state volume.old).log) }
         requires shows { V.told →
-            Shows self.old.at self.old.count self.old.held self.old.ahead (main_bytes (V.log volume.old)) }
+            Shows self.old.at self.old.count self.old.held self.old.ahead
+            (main_bytes (V.state volume.old).log) }
         ensures bytes { V.told →
-            OnOk result (out.new ≡ take (length out.old) (drop at (main_bytes (V.log volume.old)))) }
+            OnOk result (out.new ≡ take (length out.old)
+            (drop at (main_bytes (V.state volume.old).log))) }
         ensures shows { V.told →
-            Shows self.new.at self.new.count self.new.held self.new.ahead (main_bytes (V.log volume.old)) }
+            Shows self.new.at self.new.count self.new.held self.new.ahead
+            (main_bytes (V.state volume.old).log) }
         ensures length { self.new.length ≡ self.old.length }
-        ensures same { V.log volume.new ≡ V.log volume.old }
-        ensures cause { HasCause (V.read_faults volume.old) (V.read_faults volume.new) result }
-        ensures uncounted { OnOk result (V.read_faults volume.new ≡ V.read_faults volume.old) }
-        ensures write_faults { V.write_faults volume.new ≡ V.write_faults volume.old }
+        ensures read { OnlyReads (V.state volume.old) (V.state volume.new) result }
     {
         let n = out.len();
         if self.covers(at, n) {

@@ -37,7 +37,7 @@ returns-clause-before g c =
 pub returns-clause-newest : goal.returns-clause-newest
 returns-clause-newest g c = newest_pushed c.read_records.new.index.transactions _ c.push_transaction.new.self c.in_ok-push_transaction.ensures.ok
 
-pub returns-clause-read : goal.returns-clause-read
-returns-clause-read g c = λ told begins so_far.
-    accepted (main_bytes (g.V.Volume.log c.args.volume.now)) c.args.index.now c.read_records.new.index c.push_transaction.new.self c.args.numbers.now c.add_counted.new.self c.in_ok-counted.counted _ c.args.p _ c.args.header.now (omega (arith, c.ranges.p.fits)) (c.requires.bytes told) begins refl
-    (c.in_ok-counted.ensures.read told) c.read_records.ensures.transactions c.in_ok-push_transaction.ensures.ok c.push_transaction.ensures.objects c.in_ok-add_counted.ensures.ok so_far
+pub returns-clause-block : goal.returns-clause-block
+returns-clause-block g c = λ told begins so_far.
+    accepted (main_bytes (g.V.Volume.state c.args.volume.now).log) c.args.index.now c.read_records.new.index c.push_transaction.new.self c.args.numbers.now c.add_counted.new.self c.in_ok-counted.counted _ c.args.p _ c.args.header.now (omega (arith, c.ranges.p.fits)) (c.requires.bytes told) begins refl
+    (c.in_ok-counted.ensures.records told) c.read_records.ensures.transactions c.in_ok-push_transaction.ensures.ok c.push_transaction.ensures.objects c.in_ok-add_counted.ensures.ok so_far

@@ -17,14 +17,14 @@ scan-init g c = record {
   same = refl;
   counts = refl;
   write_faults = refl;
-  so_far = λ told. nothing_read (main_bytes (g.V.Volume.log c.args.volume.now)) c.new-index.result c.new-numbers.result (c.requires.magic told) c.new-index.ensures.objects c.new-index.ensures.transactions c.new-numbers.ensures;
+  so_far = λ told. nothing_read (main_bytes (g.V.Volume.state c.args.volume.now).log) c.new-index.result c.new-numbers.result (c.requires.magic told) c.new-index.ensures.objects c.new-index.ensures.transactions c.new-numbers.ensures;
 }
 
 pub scan-preserved : goal.scan-preserved
 scan-preserved g c =
-    let bytes : List ℕ = main_bytes (g.V.Volume.log c.args.volume.now) in
-    let now : main_bytes (g.V.Volume.log c.scan.volume) ≡ bytes = ap main_bytes c.scan.invariant.same in
-    let then : main_bytes (g.V.Volume.log c.judge.new.volume) ≡ bytes = ap main_bytes c.judge.ensures.same ∙ now in
+    let bytes : List ℕ = main_bytes (g.V.Volume.state c.args.volume.now).log in
+    let now : main_bytes (g.V.Volume.state c.scan.volume).log ≡ bytes = ap main_bytes c.scan.invariant.same in
+    let then : main_bytes (g.V.Volume.state c.judge.new.volume).log ≡ bytes = ap main_bytes c.judge.ensures.read.same ∙ now in
     let fit = rw c.in-Begun.is at c.in_ok-judge.ensures.fit in
     record {
       first = omega (arith, c.scan.invariant.first);
@@ -34,11 +34,11 @@ scan-preserved g c =
       before = c.in_ok-keep_block-in-Begun.ensures.before;
       length = c.keep_block.ensures.length ∙ c.judge.ensures.length ∙ c.scan.invariant.length;
       shows = λ told. subst (λ (b : List ℕ). Shows c.keep_block.new.window.at c.keep_block.new.window.count c.keep_block.new.window.held c.keep_block.new.window.ahead b) then (c.keep_block.ensures.shows told);
-      same = c.keep_block.ensures.same ∙ c.judge.ensures.same ∙ c.scan.invariant.same;
-      counts = c.in_ok-keep_block-in-Begun.ensures.counts ∙ c.in_ok-judge.ensures.uncounted ∙ c.scan.invariant.counts;
-      write_faults = c.keep_block.ensures.write_faults ∙ c.judge.ensures.write_faults ∙ c.scan.invariant.write_faults;
+      same = c.keep_block.ensures.read.same ∙ c.judge.ensures.read.same ∙ c.scan.invariant.same;
+      counts = c.in_ok-keep_block-in-Begun.ensures.read.counts ∙ c.in_ok-judge.ensures.read.uncounted ∙ c.scan.invariant.counts;
+      write_faults = c.keep_block.ensures.read.write_faults ∙ c.judge.ensures.read.write_faults ∙ c.scan.invariant.write_faults;
       so_far = λ told.
           let judged = rw c.in-Begun.is at (c.in_ok-judge.ensures.value told) in
-          block_done bytes (main_bytes (g.V.Volume.log c.judge.new.volume)) (main_bytes (g.V.Volume.log c.scan.volume)) c.scan.p c.scan.newest _ _ _ c.in-Begun.header c.scan.index c.keep_block.new.index c.scan.numbers c.keep_block.new.numbers
-          then now c.scan.invariant.newest judged (c.scan.invariant.so_far told) (c.in_ok-keep_block-in-Begun.ensures.read told);
+          block_done bytes (main_bytes (g.V.Volume.state c.judge.new.volume).log) (main_bytes (g.V.Volume.state c.scan.volume).log) c.scan.p c.scan.newest _ _ _ c.in-Begun.header c.scan.index c.keep_block.new.index c.scan.numbers c.keep_block.new.numbers
+          then now c.scan.invariant.newest judged (c.scan.invariant.so_far told) (c.in_ok-keep_block-in-Begun.ensures.block told);
     }

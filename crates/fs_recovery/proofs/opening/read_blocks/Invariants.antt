@@ -13,11 +13,11 @@ invariant-scan g l = record {
   below : l.newest < 2 ^ 64 - 1;
   before : KeptBefore l.index l.p;
   length : l.window.length ≡ l.fn.window.length;
-  shows : g.V.Volume.told → Shows l.window.at l.window.count l.window.held l.window.ahead (main_bytes (g.V.Volume.log l.fn.volume));
-  same : g.V.Volume.log l.volume ≡ g.V.Volume.log l.fn.volume;
-  counts : g.V.Volume.read_faults l.volume ≡ g.V.Volume.read_faults l.fn.volume;
-  write_faults : g.V.Volume.write_faults l.volume ≡ g.V.Volume.write_faults l.fn.volume;
-  so_far : g.V.Volume.told → Numbered (main_bytes (g.V.Volume.log l.fn.volume)) l.p l.newest l.index l.numbers;
+  shows : g.V.Volume.told → Shows l.window.at l.window.count l.window.held l.window.ahead (main_bytes (g.V.Volume.state l.fn.volume).log);
+  same : (g.V.Volume.state l.volume).log ≡ (g.V.Volume.state l.fn.volume).log;
+  counts : (g.V.Volume.state l.volume).read_faults ≡ (g.V.Volume.state l.fn.volume).read_faults;
+  write_faults : (g.V.Volume.state l.volume).write_faults ≡ (g.V.Volume.state l.fn.volume).write_faults;
+  so_far : g.V.Volume.told → Numbered (main_bytes (g.V.Volume.state l.fn.volume).log) l.p l.newest l.index l.numbers;
 }
 
 abbrev pub decreases-scan : goal.decreases-scan

@@ -15,11 +15,11 @@ invariant-loop-q g l = record {
   before : AreBefore l.index.entries l.tid l.q;
   transactions : l.index.transactions ≡ l.fn.index.transactions;
   length : l.window.length ≡ l.fn.window.length;
-  shows : g.V.Volume.told → Shows l.window.at l.window.count l.window.held l.window.ahead (main_bytes (g.V.Volume.log l.fn.volume));
-  same : g.V.Volume.log l.volume ≡ g.V.Volume.log l.fn.volume;
-  counts : g.V.Volume.read_faults l.volume ≡ g.V.Volume.read_faults l.fn.volume;
-  write_faults : g.V.Volume.write_faults l.volume ≡ g.V.Volume.write_faults l.fn.volume;
-  read : g.V.Volume.told → (known : List Known) → ArePlacesOf known l.fn.index.entries → RecordsCounted (main_bytes (g.V.Volume.log l.fn.volume)) known l.place l.tid l.from l.q l.index.entries l.counted;
+  shows : g.V.Volume.told → Shows l.window.at l.window.count l.window.held l.window.ahead (main_bytes (g.V.Volume.state l.fn.volume).log);
+  same : (g.V.Volume.state l.volume).log ≡ (g.V.Volume.state l.fn.volume).log;
+  counts : (g.V.Volume.state l.volume).read_faults ≡ (g.V.Volume.state l.fn.volume).read_faults;
+  write_faults : (g.V.Volume.state l.volume).write_faults ≡ (g.V.Volume.state l.fn.volume).write_faults;
+  read : g.V.Volume.told → (known : List Known) → ArePlacesOf known l.fn.index.entries → RecordsCounted (main_bytes (g.V.Volume.state l.fn.volume).log) known l.place l.tid l.from l.q l.index.entries l.counted;
 }
 
 abbrev pub decreases-loop-q : goal.decreases-loop-q

@@ -11,28 +11,28 @@ use Rattle.fs_recovery.proofs.tail.cut_and_sync.Goals.{After-sync}
 
 pub returns-in_err-cut-clause-any_moment : goal.returns-in_err-cut-clause-any_moment
 returns-in_err-cut-clause-any_moment g c told =
-    let log = g.V.Volume.log c.args.volume.now in
-    change_leaves c.cut.result log (g.V.Volume.log c.cut.new.self) Main _ (CutTo Main c.args.end) (cut_leaves log Main c.args.end) (c.cut.ensures.done told) (c.cut.ensures.failed told)
+    let log = (g.V.Volume.state c.args.volume.now).log in
+    change_leaves c.cut.result log (g.V.Volume.state c.cut.new.self).log Main _ (CutTo Main c.args.end) (cut_leaves log Main c.args.end) (c.cut.ensures.done told) (c.cut.ensures.failed told)
 
 pub returns-in_err-cut-clause-side : goal.returns-in_err-cut-clause-side
 returns-in_err-cut-clause-side g c told =
-    one_stays c.cut.result (g.V.Volume.log c.args.volume.now) (g.V.Volume.log c.cut.new.self) (CutTo Main c.args.end) Side refl (c.cut.ensures.done told) (c.cut.ensures.failed told)
+    one_stays c.cut.result (g.V.Volume.state c.args.volume.now).log (g.V.Volume.state c.cut.new.self).log (CutTo Main c.args.end) Side refl (c.cut.ensures.done told) (c.cut.ensures.failed told)
 
 -- after the sync, done or not
 second : (g : _) (c : After-sync g) → g.V.Volume.told
-    → LeavesOnly Main (CrashLeavesWith (g.V.Volume.log c.args.volume.now) Main (take c.args.end (main_bytes (g.V.Volume.log c.args.volume.now)))) (g.V.Volume.log c.args.volume.now) (g.V.Volume.log c.sync.new.self)
+    → LeavesOnly Main (CrashLeavesWith (g.V.Volume.state c.args.volume.now).log Main (take c.args.end (main_bytes (g.V.Volume.state c.args.volume.now).log))) (g.V.Volume.state c.args.volume.now).log (g.V.Volume.state c.sync.new.self).log
 second g c told =
-    let log = g.V.Volume.log c.args.volume.now in
+    let log = (g.V.Volume.state c.args.volume.now).log in
     let changed = c.in_ok-cut.ensures.done told in
-    sync_leaves c.sync.result log (g.V.Volume.log c.cut.new.self) (g.V.Volume.log c.sync.new.self) Main _ (g.met.V.Volume.seen_is_left c.args.volume.now Main told)
+    sync_leaves c.sync.result log (g.V.Volume.state c.cut.new.self).log (g.V.Volume.state c.sync.new.self).log Main _ (g.met.V.Volume.seen_is_left c.args.volume.now Main told)
     (ap (λ l. main_bytes l) changed ∙ seen-cut log Main c.args.end)
-    (change_leaves c.cut.result log (g.V.Volume.log c.cut.new.self) Main _ (CutTo Main c.args.end) (cut_leaves log Main c.args.end) (c.cut.ensures.done told) (c.cut.ensures.failed told)) (c.sync.ensures.done told) (c.sync.ensures.failed told)
+    (change_leaves c.cut.result log (g.V.Volume.state c.cut.new.self).log Main _ (CutTo Main c.args.end) (cut_leaves log Main c.args.end) (c.cut.ensures.done told) (c.cut.ensures.failed told)) (c.sync.ensures.done told) (c.sync.ensures.failed told)
 
-second_side : (g : _) (c : After-sync g) → g.V.Volume.told → StaysAs Side (g.V.Volume.log c.args.volume.now) (g.V.Volume.log c.sync.new.self)
+second_side : (g : _) (c : After-sync g) → g.V.Volume.told → StaysAs Side (g.V.Volume.state c.args.volume.now).log (g.V.Volume.state c.sync.new.self).log
 second_side g c told =
-    let log = g.V.Volume.log c.args.volume.now in
-    next_stays c.sync.result log (g.V.Volume.log c.cut.new.self) (g.V.Volume.log c.sync.new.self) (SyncOf Main) Side refl
-    (one_stays c.cut.result log (g.V.Volume.log c.cut.new.self) (CutTo Main c.args.end) Side refl (c.cut.ensures.done told) (c.cut.ensures.failed told)) (c.sync.ensures.done told) (c.sync.ensures.failed told)
+    let log = (g.V.Volume.state c.args.volume.now).log in
+    next_stays c.sync.result log (g.V.Volume.state c.cut.new.self).log (g.V.Volume.state c.sync.new.self).log (SyncOf Main) Side refl
+    (one_stays c.cut.result log (g.V.Volume.state c.cut.new.self).log (CutTo Main c.args.end) Side refl (c.cut.ensures.done told) (c.cut.ensures.failed told)) (c.sync.ensures.done told) (c.sync.ensures.failed told)
 
 pub returns-in_err-sync-clause-any_moment : goal.returns-in_err-sync-clause-any_moment
 returns-in_err-sync-clause-any_moment g c = second g (goal.at.returns-in_err-sync-clause-any_moment g c).After-sync

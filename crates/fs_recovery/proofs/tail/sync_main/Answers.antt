@@ -11,14 +11,14 @@ use Rattle.fs_recovery.proofs.tail.sync_main.Goals.{After-sync}
 
 -- after the sync, done or not
 first : (g : _) (c : After-sync g) → g.V.Volume.told
-    → LeavesOnly Main (CrashLeavesWith (g.V.Volume.log c.args.volume.now) Main (main_bytes (g.V.Volume.log c.args.volume.now))) (g.V.Volume.log c.args.volume.now) (g.V.Volume.log c.sync.new.self)
+    → LeavesOnly Main (CrashLeavesWith (g.V.Volume.state c.args.volume.now).log Main (main_bytes (g.V.Volume.state c.args.volume.now).log)) (g.V.Volume.state c.args.volume.now).log (g.V.Volume.state c.sync.new.self).log
 first g c told =
-    let log = g.V.Volume.log c.args.volume.now in
-    sync_leaves c.sync.result log log (g.V.Volume.log c.sync.new.self) Main (main_bytes log) (g.met.V.Volume.seen_is_left c.args.volume.now Main told) refl
+    let log = (g.V.Volume.state c.args.volume.now).log in
+    sync_leaves c.sync.result log log (g.V.Volume.state c.sync.new.self).log Main (main_bytes log) (g.met.V.Volume.seen_is_left c.args.volume.now Main told) refl
     (here (more_left (disk log Main).pending (main_bytes log))) (c.sync.ensures.done told) (c.sync.ensures.failed told)
 
-first_side : (g : _) (c : After-sync g) → g.V.Volume.told → StaysAs Side (g.V.Volume.log c.args.volume.now) (g.V.Volume.log c.sync.new.self)
-first_side g c told = one_stays c.sync.result (g.V.Volume.log c.args.volume.now) (g.V.Volume.log c.sync.new.self) (SyncOf Main) Side refl (c.sync.ensures.done told) (c.sync.ensures.failed told)
+first_side : (g : _) (c : After-sync g) → g.V.Volume.told → StaysAs Side (g.V.Volume.state c.args.volume.now).log (g.V.Volume.state c.sync.new.self).log
+first_side g c told = one_stays c.sync.result (g.V.Volume.state c.args.volume.now).log (g.V.Volume.state c.sync.new.self).log (SyncOf Main) Side refl (c.sync.ensures.done told) (c.sync.ensures.failed told)
 
 pub returns-in_err-sync-clause-any_moment : goal.returns-in_err-sync-clause-any_moment
 returns-in_err-sync-clause-any_moment g c = first g (goal.at.returns-in_err-sync-clause-any_moment g c).After-sync

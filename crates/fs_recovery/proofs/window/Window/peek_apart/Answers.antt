@@ -6,15 +6,15 @@ use Rattle.fs_recovery.proofs.window.Window.peek_apart.Goals as goal
 pub returns-then-covers-clause-bytes : goal.returns-then-covers-clause-bytes
 returns-then-covers-clause-bytes g c = λ told.
     c.copy_from_slice.ensures.after ∙ c.piece.ensures.bytes
-    ∙ shown c.args.self.now.at c.args.self.now.count c.args.at (length c.args.out.now) c.args.self.now.held (main_bytes (g.V.Volume.log c.args.volume.now)) (c.requires.shows told).near (c.covers.ensures c.if-covers.true)
+    ∙ shown c.args.self.now.at c.args.self.now.count c.args.at (length c.args.out.now) c.args.self.now.held (main_bytes (g.V.Volume.state c.args.volume.now).log) (c.requires.shows told).near (c.covers.ensures c.if-covers.true)
 
 pub returns-then-covers-2-clause-bytes : goal.returns-then-covers-2-clause-bytes
 returns-then-covers-2-clause-bytes g c = λ told.
     c.copy_from_slice-then-covers-2.ensures.after ∙ c.piece-then-covers-2.ensures.bytes
-    ∙ shown c.args.self.now.ahead.at c.args.self.now.ahead.count c.args.at (length c.args.out.now) c.args.self.now.ahead.held (main_bytes (g.V.Volume.log c.args.volume.now)) (c.requires.shows told).far (c.covers-2.ensures.covers c.if-covers-2.true)
+    ∙ shown c.args.self.now.ahead.at c.args.self.now.ahead.count c.args.at (length c.args.out.now) c.args.self.now.ahead.held (main_bytes (g.V.Volume.state c.args.volume.now).log) (c.requires.shows told).far (c.covers-2.ensures.covers c.if-covers-2.true)
 
 pub returns-clause-bytes : goal.returns-clause-bytes
 returns-clause-bytes g c = λ told.
     c.copy_from_slice-2.ensures.after ∙ c.piece-2.ensures.bytes
-    ∙ shown c.fill.new.self.at c.fill.new.self.count c.args.at (length c.args.out.now) c.fill.new.self.held (main_bytes (g.V.Volume.log c.args.volume.now)) (c.fill.ensures.holds told)
+    ∙ shown c.fill.new.self.at c.fill.new.self.count c.args.at (length c.args.out.now) c.fill.new.self.held (main_bytes (g.V.Volume.state c.args.volume.now).log) (c.fill.ensures.holds told)
     (record { no_earlier = omega (arith, c.in_ok-fill.ensures.at); no_later = omega (arith, c.in_ok-fill.ensures.at, c.in_ok-fill.ensures.count, c.requires.small, c.requires.within) })

@@ -6,9 +6,9 @@ use Rattle.fs_recovery.proofs.window.Window.read_far.Goals as goal
 pub returns-then-covers-clause-bytes : goal.returns-then-covers-clause-bytes
 returns-then-covers-clause-bytes g c = λ told.
     c.copy_from_slice.ensures.after ∙ c.piece.ensures.bytes
-    ∙ shown c.args.self.now.ahead.at c.args.self.now.ahead.count c.args.at (length c.args.out.now) c.args.self.now.ahead.held (main_bytes (g.V.Volume.log c.args.volume.now)) (c.requires.shows told).far (c.covers.ensures.covers c.if-covers.true)
+    ∙ shown c.args.self.now.ahead.at c.args.self.now.ahead.count c.args.at (length c.args.out.now) c.args.self.now.ahead.held (main_bytes (g.V.Volume.state c.args.volume.now).log) (c.requires.shows told).far (c.covers.ensures.covers c.if-covers.true)
 
 pub returns-clause-bytes : goal.returns-clause-bytes
 returns-clause-bytes g c = λ told.
     c.copy_from_slice-2.ensures.after ∙ c.piece-2.ensures.bytes
-    ∙ shown c.fill.new.self.at c.fill.new.self.count c.args.at (length c.args.out.now) c.fill.new.self.held (main_bytes (g.V.Volume.log c.args.volume.now)) (c.fill.ensures.shows told).near c.in_ok-fill.ensures.covers
+    ∙ shown c.fill.new.self.at c.fill.new.self.count c.args.at (length c.args.out.now) c.fill.new.self.held (main_bytes (g.V.Volume.state c.args.volume.now).log) (c.fill.ensures.shows told).near c.in_ok-fill.ensures.covers
