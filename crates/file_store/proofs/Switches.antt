@@ -1,8 +1,8 @@
 -- The list that goes, and what a crash leaves while another one takes its place.
-use Rattle.std.proofs.Common.{◌≡◌, ◌⊎◌, inl, inr, ⊎_elim, ℕ, List, [], Option, Some, None, refl, subst}
+use Rattle.std.proofs.Common.{◌≡◌, ◌⊎◌, inl, inr, ⊎_elim, ℕ, List, [], ◌∷◌, Option, Some, None, refl, sym, subst, arith}
 use Rattle.std.specs.Option.{option_map_or}
 use Rattle.zb_volume.specs.declared.areas.Area.TheVariants.{Main, Side}
-use Rattle.zb_volume.specs.Calls.{Event}
+use Rattle.zb_volume.specs.Calls.{Event, Replaced, Synced}
 use Rattle.zb_volume.specs.Disk.{seen, IsSettled}
 use Rattle.zb_volume.specs.Durable.{OldOrSide}
 use Rattle.zb_volume.specs.Lasting.{settled_leaves}
@@ -14,6 +14,9 @@ use Rattle.fs_records.specs.Blocks.{Reached}
 use Rattle.fs_records.specs.Databases.{database_of, reading_of}
 use Rattle.fs_records.specs.File.{no_bytes}
 use Rattle.fs_records.specs.Listed.{listed, reading_in, reading_stands}
+use Rattle.fs_recovery.specs.declared.opening.Opened.{Opened}
+use Rattle.pack_copy.specs.Copying.{CopyKept, IsCopied, opened_of}
+use Rattle.file_store.specs.Packing.{IsPackedMain}
 
 -- what bytes stand for is a database, or the empty list
 pub listed_database : (bytes : List ℕ) → IsDatabase (listed bytes)
@@ -28,3 +31,16 @@ pub old_or_side : (old new : List Event) → IsSettled old Main → LeavesOnly M
 old_or_side old new settled leaves =
     leaves_less Main (OldOrSide old) (λ image. (image ≡ seen old Main) ⊎ (image ≡ seen old Side)) old new
     (λ c. ⊎_elim (λ left. inl (settled_leaves old Main (λ image. image ≡ seen old Main) settled refl c left)) (λ side. inr side)) leaves
+
+-- what the sync of Side and the replace make of a copy
+pub switched : (mid new : List Event) (copy : CopyKept) (o : Opened) (list : List Transaction) → new ≡ Replaced ∷ Synced Side ∷ mid → IsCopied (seen mid Side) copy → o ≡ opened_of copy → listed (seen mid Side) ≡ list → IsPackedMain new o list
+switched mid new copy o list calls copied opened is =
+    subst (λ (log : List Event). IsPackedMain log o list) (sym calls) (subst (λ (x : Opened). IsPackedMain (Replaced ∷ Synced Side ∷ mid) x list) (sym opened) (record {
+      settled = refl;
+      fits = copied.fits;
+      whole = copied.whole;
+      long = omega (arith, copied.long);
+      list_is = is;
+      side = refl;
+      side_settled = refl;
+    }))

@@ -4,9 +4,9 @@ ghost use Rattle.std.specs.Prelude.{◌≡◌, [], IfOk, OnOk};
 ghost use Rattle.zb_volume.specs.declared.areas.Area.{Area};
 ghost use Rattle.zb_volume.specs.Disk.{seen};
 ghost use Rattle.zb_volume.specs.Moments.{StaysAs};
-ghost use Rattle.zb_base.specs.Counts.{HasCause};
 ghost use Rattle.fs_records.specs.Listed.{listed};
 ghost use Rattle.pack_copy.specs.Copying.{IsCopied};
+ghost use Rattle.zb_volume.specs.States.{OnlyWrites};
 
 use crate::state::CopyState;
 use fs_index::Index;
@@ -22,13 +22,12 @@ const MAGIC: &[u8; 4] = b"FS30";
 /// transactions. It takes no memory. After a fault Side may hold anything; Main is as it was at every
 /// moment.
 pub fn begin<V: Volume>(alloc: Global, volume: &mut V, tid: Tid) -> Result<CopyState, StoreFault>
-    ensures copied { V.told → IfOk result (λ c. IsCopied (seen (V.log volume.new) Area.Side) c) }
-    ensures empty { V.told → OnOk result (listed (seen (V.log volume.new) Area.Side) ≡ []) }
+    ensures copied { V.told
+        → IfOk result (λ c. IsCopied (seen (V.state volume.new).log Area.Side) c) }
+    ensures empty { V.told → OnOk result (listed (seen (V.state volume.new).log Area.Side) ≡ []) }
     ensures tid { IfOk result (λ c. c.tid ≡ tid) }
-    ensures main { V.told → StaysAs Area.Main (V.log volume.old) (V.log volume.new) }
-    ensures cause { HasCause (V.write_faults volume.old) (V.write_faults volume.new) result }
-    ensures uncounted { OnOk result (V.write_faults volume.new ≡ V.write_faults volume.old) }
-    ensures read_faults { V.read_faults volume.new ≡ V.read_faults volume.old }
+    ensures main { V.told → StaysAs Area.Main (V.state volume.old).log (V.state volume.new).log }
+    ensures write { OnlyWrites (V.state volume.old) (V.state volume.new) result }
 {
     volume.cut(Area::Side, 0)?;
     volume.write_at(Area::Side, 0, MAGIC)?;

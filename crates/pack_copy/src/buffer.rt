@@ -43,12 +43,11 @@ fn are_bytes(bytes: &[u8])
 
 /// Fills `out` with the bytes of Main from a place on.
 fn read_main<V: Volume>(volume: &mut V, at: u64, out: &mut [u8]) -> Result<(), StoreError>
-    requires { V.told → at + length out.old ≤ length (main_bytes (V.log volume.old)) }
+    requires { V.told → at + length out.old ≤ length (main_bytes (V.state volume.old).log) }
     ensures bytes { V.told → OnOk result
-        (out.new ≡ take (length out.old) (drop at (main_bytes (V.log volume.old)))) }
-    ensures same { V.log volume.new ≡ V.log volume.old }
-    ensures counts { IsCopyCounted (V.read_faults volume.old) (V.read_faults volume.new)
-        (V.write_faults volume.old) (V.write_faults volume.new) result }
+        (out.new ≡ take (length out.old) (drop at (main_bytes (V.state volume.old).log))) }
+    ensures same { (V.state volume.new).log ≡ (V.state volume.old).log }
+    ensures counts { IsCopyCounted (V.state volume.old) (V.state volume.new) result }
 {
     match volume.read(Area::Main, at, out) {
         Ok(()) => Ok(()),
@@ -58,13 +57,12 @@ fn read_main<V: Volume>(volume: &mut V, at: u64, out: &mut [u8]) -> Result<(), S
 
 /// Writes a text behind Side.
 fn write_behind<V: Volume>(volume: &mut V, end: u64, text: &[u8]) -> Result<(), StoreError>
-    requires { V.told → end ≡ length (seen (V.log volume.old) Area.Side) }
-    ensures content { V.told → OnOk result (seen (V.log volume.new) Area.Side
-        ≡ seen (V.log volume.old) Area.Side ++ text.now) }
+    requires { V.told → end ≡ length (seen (V.state volume.old).log Area.Side) }
+    ensures content { V.told → OnOk result (seen (V.state volume.new).log Area.Side
+        ≡ seen (V.state volume.old).log Area.Side ++ text.now) }
     ensures limit { OnOk result (end + length text.now < 2 ^ 63) }
-    ensures main { V.told → StaysAs Area.Main (V.log volume.old) (V.log volume.new) }
-    ensures counts { IsCopyCounted (V.read_faults volume.old) (V.read_faults volume.new)
-        (V.write_faults volume.old) (V.write_faults volume.new) result }
+    ensures main { V.told → StaysAs Area.Main (V.state volume.old).log (V.state volume.new).log }
+    ensures counts { IsCopyCounted (V.state volume.old) (V.state volume.new) result }
 {
     match volume.write_at(Area::Side, end, text) {
         Ok(()) => Ok(()),
@@ -92,13 +90,13 @@ impl Buffer {
 
     /// Writes the bytes that are held behind Side, and holds nothing then.
     pub(crate) fn flush<V: Volume>(&mut self, volume: &mut V) -> Result<(), StoreError>
-        requires { V.told → IsAtEnd (V.log volume.old) self.old }
+        requires { V.told → IsAtEnd (V.state volume.old).log self.old }
         ensures appended { V.told → OnOk result
-            (IsAppended (V.log volume.old) self.old (V.log volume.new) self.new []) }
+            (IsAppended (V.state volume.old).log self.old (V.state volume.new).log self.new []) }
         ensures empty { OnOk result (self.new.bytes ≡ []) }
-        ensures main { V.told → StaysAs Area.Main (V.log volume.old) (V.log volume.new) }
-        ensures counts { IsCopyCounted (V.read_faults volume.old) (V.read_faults volume.new)
-            (V.write_faults volume.old) (V.write_faults volume.new) result }
+        ensures main { V.told
+            → StaysAs Area.Main (V.state volume.old).log (V.state volume.new).log }
+        ensures counts { IsCopyCounted (V.state volume.old) (V.state volume.new) result }
     {
         write_behind(volume, self.end, &self.bytes[..self.held])?;
         self.end += self.held as u64;
@@ -108,13 +106,13 @@ impl Buffer {
 
     /// Writes the bytes that are held where there is no room for one more.
     fn make_room<V: Volume>(&mut self, volume: &mut V) -> Result<(), StoreError>
-        requires { V.told → IsAtEnd (V.log volume.old) self.old }
+        requires { V.told → IsAtEnd (V.state volume.old).log self.old }
         ensures appended { V.told → OnOk result
-            (IsAppended (V.log volume.old) self.old (V.log volume.new) self.new []) }
+            (IsAppended (V.state volume.old).log self.old (V.state volume.new).log self.new []) }
         ensures room { OnOk result (length self.new.bytes < 65536) }
-        ensures main { V.told → StaysAs Area.Main (V.log volume.old) (V.log volume.new) }
-        ensures counts { IsCopyCounted (V.read_faults volume.old) (V.read_faults volume.new)
-            (V.write_faults volume.old) (V.write_faults volume.new) result }
+        ensures main { V.told
+            → StaysAs Area.Main (V.state volume.old).log (V.state volume.new).log }
+        ensures counts { IsCopyCounted (V.state volume.old) (V.state volume.new) result }
     {
         if self.held < PIECE {
             return Ok(());
@@ -144,17 +142,16 @@ impl Buffer {
         most: u64,
     ) -> Result<usize, StoreError>
         requires room { length self.old.bytes < 65536 }
-        requires within { V.told → at + most ≤ length (main_bytes (V.log volume.old)) }
+        requires within { V.told → at + most ≤ length (main_bytes (V.state volume.old).log) }
         ensures count { IfOk result (λ count. count ≤ most) }
         ensures some { 0 < most → IfOk result (λ count. 0 < count) }
         ensures held { V.told → IfOk result (λ count. self.new.bytes
-            ≡ self.old.bytes ++ take count (drop at (main_bytes (V.log volume.old)))) }
+            ≡ self.old.bytes ++ take count (drop at (main_bytes (V.state volume.old).log))) }
         ensures fits { V.told → IfOk result (λ count.
-            AreBytes (take count (drop at (main_bytes (V.log volume.old))))) }
+            AreBytes (take count (drop at (main_bytes (V.state volume.old).log)))) }
         ensures end { self.new.end ≡ self.old.end }
-        ensures same { V.log volume.new ≡ V.log volume.old }
-        ensures counts { IsCopyCounted (V.read_faults volume.old) (V.read_faults volume.new)
-            (V.write_faults volume.old) (V.write_faults volume.new) result }
+        ensures same { (V.state volume.new).log ≡ (V.state volume.old).log }
+        ensures counts { IsCopyCounted (V.state volume.old) (V.state volume.new) result }
     {
         let room = PIECE - self.held;
         let count = most.min(room as u64) as usize;
@@ -167,12 +164,13 @@ impl Buffer {
 
     /// Puts bytes behind those that are held.
     pub(crate) fn put<V: Volume>(&mut self, volume: &mut V, bytes: &[u8]) -> Result<(), StoreError>
-        requires { V.told → IsAtEnd (V.log volume.old) self.old }
-        ensures appended { V.told → OnOk result
-            (IsAppended (V.log volume.old) self.old (V.log volume.new) self.new bytes.now) }
-        ensures main { V.told → StaysAs Area.Main (V.log volume.old) (V.log volume.new) }
-        ensures counts { IsCopyCounted (V.read_faults volume.old) (V.read_faults volume.new)
-            (V.write_faults volume.old) (V.write_faults volume.new) result }
+        requires { V.told → IsAtEnd (V.state volume.old).log self.old }
+        ensures appended { V.told
+            → OnOk result (IsAppended (V.state volume.old).log self.old
+            (V.state volume.new).log self.new bytes.now) }
+        ensures main { V.told
+            → StaysAs Area.Main (V.state volume.old).log (V.state volume.new).log }
+        ensures counts { IsCopyCounted (V.state volume.old) (V.state volume.new) result }
     {
         are_bytes(bytes);
         let mut done = 0;
@@ -191,15 +189,15 @@ impl Buffer {
         at: u64,
         count: u64,
     ) -> Result<(), StoreError>
-        requires end { V.told → IsAtEnd (V.log volume.old) self.old }
-        requires short { V.told → length (main_bytes (V.log volume.old)) < 2 ^ 64 }
-        requires within { V.told → at + count ≤ length (main_bytes (V.log volume.old)) }
+        requires end { V.told → IsAtEnd (V.state volume.old).log self.old }
+        requires short { V.told → length (main_bytes (V.state volume.old).log) < 2 ^ 64 }
+        requires within { V.told → at + count ≤ length (main_bytes (V.state volume.old).log) }
         ensures appended { V.told → OnOk result
-            (IsAppended (V.log volume.old) self.old (V.log volume.new) self.new
-            (take count (drop at (main_bytes (V.log volume.old))))) }
-        ensures main { V.told → StaysAs Area.Main (V.log volume.old) (V.log volume.new) }
-        ensures counts { IsCopyCounted (V.read_faults volume.old) (V.read_faults volume.new)
-            (V.write_faults volume.old) (V.write_faults volume.new) result }
+            (IsAppended (V.state volume.old).log self.old (V.state volume.new).log self.new
+            (take count (drop at (main_bytes (V.state volume.old).log)))) }
+        ensures main { V.told
+            → StaysAs Area.Main (V.state volume.old).log (V.state volume.new).log }
+        ensures counts { IsCopyCounted (V.state volume.old) (V.state volume.new) result }
     {
         let mut done = 0;
         while done < count {

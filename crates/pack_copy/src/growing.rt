@@ -85,19 +85,21 @@ pub(crate) fn append<V: Volume>(
     requires outline { IsOutline outline.now }
     requires above { newest_kept to.old.index ≤ outline.now.tid }
     requires bound { outline.now.tid < 2 ^ 64 - 1 }
-    requires short { V.told → length (main_bytes (V.log volume.old)) < 2 ^ 64 }
-    requires within { V.told → AllStandWithin (main_bytes (V.log volume.old)) outline.now.changes }
-    requires copied { V.told → IsCopied (seen (V.log volume.old) Area.Side) to.old }
-    requires later { V.told → newest_tid (listed (seen (V.log volume.old) Area.Side)) < outline.now.tid }
-    ensures copied { V.told → OnOk result (IsCopied (seen (V.log volume.new) Area.Side) to.new) }
-    ensures list { V.told → OnOk result (listed (seen (V.log volume.new) Area.Side)
-        ≡ listed (seen (V.log volume.old) Area.Side)
-        ++ outlined_transaction (main_bytes (V.log volume.old)) outline.now ∷ []) }
-    ensures main { V.told → StaysAs Area.Main (V.log volume.old) (V.log volume.new) }
+    requires short { V.told → length (main_bytes (V.state volume.old).log) < 2 ^ 64 }
+    requires within { V.told
+        → AllStandWithin (main_bytes (V.state volume.old).log) outline.now.changes }
+    requires copied { V.told → IsCopied (seen (V.state volume.old).log Area.Side) to.old }
+    requires later { V.told
+        → newest_tid (listed (seen (V.state volume.old).log Area.Side)) < outline.now.tid }
+    ensures copied { V.told
+        → OnOk result (IsCopied (seen (V.state volume.new).log Area.Side) to.new) }
+    ensures list { V.told → OnOk result (listed (seen (V.state volume.new).log Area.Side)
+        ≡ listed (seen (V.state volume.old).log Area.Side)
+        ++ outlined_transaction (main_bytes (V.state volume.old).log) outline.now ∷ []) }
+    ensures main { V.told → StaysAs Area.Main (V.state volume.old).log (V.state volume.new).log }
     ensures newest { OnOk result (newest_kept to.new.index ≡ outline.now.tid) }
     ensures tid { to.new.tid ≡ to.old.tid }
-    ensures counts { IsCopyCounted (V.read_faults volume.old) (V.read_faults volume.new)
-        (V.write_faults volume.old) (V.write_faults volume.new) result }
+    ensures counts { IsCopyCounted (V.state volume.old) (V.state volume.new) result }
 {
     let ready = to.make_ready(alloc, outline)?;
     write_block(volume, buffer, &to.index, to.end, ready.end, outline)?;

@@ -52,18 +52,17 @@ fn with_tid(outline: Outline, tid: Tid) -> Outline
 
 /// The outline of the transaction at a place of Main, with the number that its place has.
 fn read_at<V: Volume>(alloc: Global, volume: &mut V, start: Place) -> Result<Outline, StoreError>
-    requires { V.told → IsStart (seen (V.log volume.old) Area.Main) start }
+    requires { V.told → IsStart (seen (V.state volume.old).log Area.Main) start }
     ensures transaction { V.told → (reached : Reached) (number : ℕ)
-        → Begins (seen (V.log volume.old) Area.Main) reached → IsStartOf reached number start
+        → Begins (seen (V.state volume.old).log Area.Main) reached → IsStartOf reached number start
         → IfOk result (λ outline. slice_get reached.list number
-        ≡ Some (outlined_transaction (seen (V.log volume.old) Area.Main) outline)) }
+        ≡ Some (outlined_transaction (seen (V.state volume.old).log Area.Main) outline)) }
     ensures within { V.told → IfOk result (λ outline.
-        AllStandWithin (seen (V.log volume.old) Area.Main) outline.changes) }
+        AllStandWithin (seen (V.state volume.old).log Area.Main) outline.changes) }
     ensures formed { IfOk result (λ outline. IsOutline outline) }
     ensures tid { IfOk result (λ outline. outline.tid ≡ start.serial) }
-    ensures same { V.log volume.new ≡ V.log volume.old }
-    ensures counts { IsCopyCounted (V.read_faults volume.old) (V.read_faults volume.new)
-        (V.write_faults volume.old) (V.write_faults volume.new) result }
+    ensures same { (V.state volume.new).log ≡ (V.state volume.old).log }
+    ensures counts { IsCopyCounted (V.state volume.old) (V.state volume.new) result }
 {
     let tid = start.serial;
     let outline = read_outline_at(alloc, volume, start)?;
@@ -84,7 +83,8 @@ enum Extent {
 
 /// Whether a turn has copied enough, where so many changes are copied in all.
 fn is_over(extent: Extent, changes: u64) -> bool
-    ensures turn { (before : ℕ) → extent ≡ Extent.Turn before → IsTrue result → before + changes_a_turn ≤ changes }
+    ensures turn { (before : ℕ) → extent ≡ Extent.Turn before → IsTrue result
+        → before + changes_a_turn ≤ changes }
     ensures rest { extent ≡ Extent.Rest → result ≡ false }
 {
     match extent {
@@ -108,24 +108,24 @@ fn copy_one<V: Volume>(
 ) -> Result<bool, StoreError>
     requires above { newest_kept to.old.index ≤ start.serial }
     requires bound { start.serial < 2 ^ 64 - 1 }
-    requires source { V.told → IsSource (seen (V.log volume.old) Area.Main) from.now }
+    requires source { V.told → IsSource (seen (V.state volume.old).log Area.Main) from.now }
     requires next { V.told → (number : ℕ)
-        × IsStartOf (reached_in (seen (V.log volume.old) Area.Main)) number start
-        × IsCopiedUpTo (listed (seen (V.log volume.old) Area.Main)) (seen (V.log volume.old) Area.Side)
-        to.old keep.now number }
+        × IsStartOf (reached_in (seen (V.state volume.old).log Area.Main)) number start
+        × IsCopiedUpTo (listed (seen (V.state volume.old).log Area.Main))
+        (seen (V.state volume.old).log Area.Side) to.old keep.now number }
     ensures next { V.told → (number : ℕ)
-        → IsStartOf (reached_in (seen (V.log volume.old) Area.Main)) number start
-        → IsCopiedUpTo (listed (seen (V.log volume.old) Area.Main)) (seen (V.log volume.old) Area.Side)
-        to.old keep.now number
-        → IfOk result (GoesOn (listed (seen (V.log volume.old) Area.Main))
-        (seen (V.log volume.new) Area.Side) to.new keep.now number) }
+        → IsStartOf (reached_in (seen (V.state volume.old).log Area.Main)) number start
+        → IsCopiedUpTo (listed (seen (V.state volume.old).log Area.Main))
+        (seen (V.state volume.old).log Area.Side) to.old keep.now number
+        → IfOk result (GoesOn (listed (seen (V.state volume.old).log Area.Main))
+        (seen (V.state volume.new).log Area.Side) to.new keep.now number) }
     ensures enough { IfOk result (λ over. over ≡ false → enough ≡ true) }
     ensures newest { OnOk result (newest_kept to.new.index ≤ start.serial) }
     ensures tid { to.new.tid ≡ to.old.tid }
-    ensures unmoved { IfOk result (λ over. over ≡ false → (V.log volume.new ≡ V.log volume.old) × (to.new ≡ to.old)) }
-    ensures main { V.told → StaysAs Area.Main (V.log volume.old) (V.log volume.new) }
-    ensures counts { IsCopyCounted (V.read_faults volume.old) (V.read_faults volume.new)
-        (V.write_faults volume.old) (V.write_faults volume.new) result }
+    ensures unmoved { IfOk result (λ over. over ≡ false → ((V.state volume.new).log
+        ≡ (V.state volume.old).log) × (to.new ≡ to.old)) }
+    ensures main { V.told → StaysAs Area.Main (V.state volume.old).log (V.state volume.new).log }
+    ensures counts { IsCopyCounted (V.state volume.old) (V.state volume.new) result }
 {
     let outline = read_at(alloc, volume, start)?;
     match left_of(from, to.tid, keep, outline) {
@@ -154,18 +154,21 @@ fn copy_from<V: Volume>(
     requires within { first ≤ length from.now.transactions }
     requires above { IsBelowNext from.now.transactions (newest_kept to.old.index) first }
     requires bound { All (λ p. p.serial < 2 ^ 64 - 1) from.now.transactions }
-    requires source { V.told → IsSource (seen (V.log volume.old) Area.Main) from.now }
-    requires up_to { V.told → IsCopiedUpTo (listed (seen (V.log volume.old) Area.Main))
-        (seen (V.log volume.old) Area.Side) to.old keep.now first }
-    ensures ends { V.told → IfOk result (Ends (listed (seen (V.log volume.old) Area.Main))
-        (seen (V.log volume.new) Area.Side) to.new keep.now first (length from.now.transactions)) }
-    ensures turn { V.told → (before : ℕ) → extent ≡ Extent.Turn before → IfOk result (λ whole.
-        whole ≡ false → before + changes_a_turn ≤ change_count (listed (seen (V.log volume.new) Area.Side))) }
+    requires source { V.told → IsSource (seen (V.state volume.old).log Area.Main) from.now }
+    requires up_to { V.told → IsCopiedUpTo (listed (seen (V.state volume.old).log Area.Main))
+        (seen (V.state volume.old).log Area.Side) to.old keep.now first }
+    ensures ends { V.told
+        → IfOk result (Ends (listed (seen (V.state volume.old).log Area.Main))
+        (seen (V.state volume.new).log Area.Side) to.new keep.now first
+        (length from.now.transactions)) }
+    ensures turn { V.told → (before : ℕ) → extent ≡ Extent.Turn before
+        → IfOk result (λ whole. whole ≡ false
+        → before + changes_a_turn ≤ change_count
+        (listed (seen (V.state volume.new).log Area.Side))) }
     ensures rest { extent ≡ Extent.Rest → IfOk result (λ whole. whole ≡ true) }
     ensures tid { to.new.tid ≡ to.old.tid }
-    ensures main { V.told → StaysAs Area.Main (V.log volume.old) (V.log volume.new) }
-    ensures counts { IsCopyCounted (V.read_faults volume.old) (V.read_faults volume.new)
-        (V.write_faults volume.old) (V.write_faults volume.new) result }
+    ensures main { V.told → StaysAs Area.Main (V.state volume.old).log (V.state volume.new).log }
+    ensures counts { IsCopyCounted (V.state volume.old) (V.state volume.new) result }
 {
     let mut buffer = Buffer::new(alloc)?;
     let starts = from.transactions();
@@ -205,20 +208,20 @@ pub fn copy_turn<V: Volume>(
     keep: &OidSet,
 ) -> Result<Copied, StoreError>
     requires bound { All (λ p. p.serial < 2 ^ 64 - 1) from.now.transactions }
-    requires source { V.told → IsSource (seen (V.log volume.old) Area.Main) from.now }
-    requires copied { V.told → IsCopied (seen (V.log volume.old) Area.Side) to.old }
+    requires source { V.told → IsSource (seen (V.state volume.old).log Area.Main) from.now }
+    requires copied { V.told → IsCopied (seen (V.state volume.old).log Area.Side) to.old }
     requires prefix { V.told → IsPrefixOf
-        (packed_by to.old.tid keep.now (listed (seen (V.log volume.old) Area.Main)))
-        (listed (seen (V.log volume.old) Area.Side)) }
-    ensures copied { V.told → OnOk result (IsCopied (seen (V.log volume.new) Area.Side) to.new) }
+        (packed_by to.old.tid keep.now (listed (seen (V.state volume.old).log Area.Main)))
+        (listed (seen (V.state volume.old).log Area.Side)) }
+    ensures copied { V.told
+        → OnOk result (IsCopied (seen (V.state volume.new).log Area.Side) to.new) }
     ensures turn { V.told → IfOk result (IsCopyTurn
-        (packed_by to.old.tid keep.now (listed (seen (V.log volume.old) Area.Main)))
-        (copied_in to.old.tid (seen (V.log volume.old) Area.Side))
-        (copied_in to.new.tid (seen (V.log volume.new) Area.Side))) }
+        (packed_by to.old.tid keep.now (listed (seen (V.state volume.old).log Area.Main)))
+        (copied_in to.old.tid (seen (V.state volume.old).log Area.Side))
+        (copied_in to.new.tid (seen (V.state volume.new).log Area.Side))) }
     ensures tid { to.new.tid ≡ to.old.tid }
-    ensures main { V.told → StaysAs Area.Main (V.log volume.old) (V.log volume.new) }
-    ensures counts { IsCopyCounted (V.read_faults volume.old) (V.read_faults volume.new)
-        (V.write_faults volume.old) (V.write_faults volume.new) result }
+    ensures main { V.told → StaysAs Area.Main (V.state volume.old).log (V.state volume.new).log }
+    ensures counts { IsCopyCounted (V.state volume.old) (V.state volume.new) result }
 {
     let first = count_up_to(from.transactions(), to.newest());
     let turn = Extent::Turn(to.changes());
@@ -239,20 +242,22 @@ pub fn copy_rest<V: Volume>(
     keep: &OidSet,
 ) -> Result<(), StoreError>
     requires bound { All (λ p. p.serial < 2 ^ 64 - 1) from.now.transactions }
-    requires source { V.told → IsSource (seen (V.log volume.old) Area.Main) from.now }
-    requires copied { V.told → IsCopied (seen (V.log volume.old) Area.Side) to.old }
+    requires source { V.told → IsSource (seen (V.state volume.old).log Area.Main) from.now }
+    requires copied { V.told → IsCopied (seen (V.state volume.old).log Area.Side) to.old }
     requires prefix { V.told → IsPrefixOf
-        (packed_by to.old.tid keep.now (listed (seen (V.log volume.old) Area.Main)))
-        (listed (seen (V.log volume.old) Area.Side)) }
-    ensures copied { V.told → OnOk result (IsCopied (seen (V.log volume.new) Area.Side) to.new) }
-    ensures list { V.told → OnOk result (listed (seen (V.log volume.new) Area.Side)
-        ≡ packed_by to.old.tid keep.now (listed (seen (V.log volume.old) Area.Main))) }
-    ensures text { V.told → OnOk result (seen (V.log volume.new) Area.Side
-        ≡ full_file (packed_by to.old.tid keep.now (listed (seen (V.log volume.old) Area.Main)))) }
+        (packed_by to.old.tid keep.now (listed (seen (V.state volume.old).log Area.Main)))
+        (listed (seen (V.state volume.old).log Area.Side)) }
+    ensures copied { V.told
+        → OnOk result (IsCopied (seen (V.state volume.new).log Area.Side) to.new) }
+    ensures list { V.told → OnOk result (listed (seen (V.state volume.new).log Area.Side)
+        ≡ packed_by to.old.tid keep.now (listed (seen (V.state volume.old).log Area.Main))) }
+    ensures text { V.told
+        → OnOk result (seen (V.state volume.new).log Area.Side
+        ≡ full_file (packed_by to.old.tid keep.now
+        (listed (seen (V.state volume.old).log Area.Main)))) }
     ensures tid { to.new.tid ≡ to.old.tid }
-    ensures main { V.told → StaysAs Area.Main (V.log volume.old) (V.log volume.new) }
-    ensures counts { IsCopyCounted (V.read_faults volume.old) (V.read_faults volume.new)
-        (V.write_faults volume.old) (V.write_faults volume.new) result }
+    ensures main { V.told → StaysAs Area.Main (V.state volume.old).log (V.state volume.new).log }
+    ensures counts { IsCopyCounted (V.state volume.old) (V.state volume.new) result }
 {
     let first = count_up_to(from.transactions(), to.newest());
     let _ = copy_from(alloc, volume, from, to, keep, first, Extent::Rest)?;

@@ -74,15 +74,16 @@ fn put_payload<V: Volume>(
     buffer: &mut Buffer,
     source: Option<Source>,
 ) -> Result<(), StoreError>
-    requires end { V.told → IsAtEnd (V.log volume.old) buffer.old }
-    requires short { V.told → length (main_bytes (V.log volume.old)) < 2 ^ 64 }
-    requires within { V.told → StandsWithin (main_bytes (V.log volume.old)) source }
-    ensures appended { V.told → OnOk result
-        (IsAppended (V.log volume.old) buffer.old (V.log volume.new) buffer.new
-        (payload_text (full_payload (outlined_content (main_bytes (V.log volume.old)) source)))) }
-    ensures main { V.told → StaysAs Area.Main (V.log volume.old) (V.log volume.new) }
-    ensures counts { IsCopyCounted (V.read_faults volume.old) (V.read_faults volume.new)
-        (V.write_faults volume.old) (V.write_faults volume.new) result }
+    requires end { V.told → IsAtEnd (V.state volume.old).log buffer.old }
+    requires short { V.told → length (main_bytes (V.state volume.old).log) < 2 ^ 64 }
+    requires within { V.told → StandsWithin (main_bytes (V.state volume.old).log) source }
+    ensures appended { V.told
+        → OnOk result (IsAppended (V.state volume.old).log buffer.old
+        (V.state volume.new).log buffer.new
+        (payload_text (full_payload
+        (outlined_content (main_bytes (V.state volume.old).log) source)))) }
+    ensures main { V.told → StaysAs Area.Main (V.state volume.old).log (V.state volume.new).log }
+    ensures counts { IsCopyCounted (V.state volume.old) (V.state volume.new) result }
 {
     match source {
         Some(source) => {
@@ -102,17 +103,19 @@ fn put_record<V: Volume>(
     at: u64,
     change: &OutlinedChange,
 ) -> Result<(), StoreError>
-    requires end { V.told → IsAtEnd (V.log volume.old) buffer.old }
-    requires short { V.told → length (main_bytes (V.log volume.old)) < 2 ^ 64 }
-    requires within { V.told → StandsWithin (main_bytes (V.log volume.old)) change.now.source }
-    ensures appended { V.told → OnOk result
-        (IsAppended (V.log volume.old) buffer.old (V.log volume.new) buffer.new
-        (record_text at tid (record_in places.now.entries (main_bytes (V.log volume.old)) change.now))) }
+    requires end { V.told → IsAtEnd (V.state volume.old).log buffer.old }
+    requires short { V.told → length (main_bytes (V.state volume.old).log) < 2 ^ 64 }
+    requires within { V.told
+        → StandsWithin (main_bytes (V.state volume.old).log) change.now.source }
+    ensures appended { V.told
+        → OnOk result (IsAppended (V.state volume.old).log buffer.old
+        (V.state volume.new).log buffer.new
+        (record_text at tid
+        (record_in places.now.entries (main_bytes (V.state volume.old).log) change.now))) }
     ensures room { V.told → OnOk result
-        (HasRoom (record_in places.now.entries (main_bytes (V.log volume.old)) change.now)) }
-    ensures main { V.told → StaysAs Area.Main (V.log volume.old) (V.log volume.new) }
-    ensures counts { IsCopyCounted (V.read_faults volume.old) (V.read_faults volume.new)
-        (V.write_faults volume.old) (V.write_faults volume.new) result }
+        (HasRoom (record_in places.now.entries (main_bytes (V.state volume.old).log) change.now)) }
+    ensures main { V.told → StaysAs Area.Main (V.state volume.old).log (V.state volume.new).log }
+    ensures counts { IsCopyCounted (V.state volume.old) (V.state volume.new) result }
 {
     let header = DataHeader {
         oid: change.oid,
@@ -136,17 +139,17 @@ fn put_records<V: Volume>(
     at: u64,
     changes: &[OutlinedChange],
 ) -> Result<(), StoreError>
-    requires end { V.told → IsAtEnd (V.log volume.old) buffer.old }
-    requires short { V.told → length (main_bytes (V.log volume.old)) < 2 ^ 64 }
-    requires within { V.told → AllStandWithin (main_bytes (V.log volume.old)) changes.now }
+    requires end { V.told → IsAtEnd (V.state volume.old).log buffer.old }
+    requires short { V.told → length (main_bytes (V.state volume.old).log) < 2 ^ 64 }
+    requires within { V.told → AllStandWithin (main_bytes (V.state volume.old).log) changes.now }
     ensures appended { V.told → OnOk result
-        (IsAppended (V.log volume.old) buffer.old (V.log volume.new) buffer.new (records_text at tid
-        (map (record_in places.now.entries (main_bytes (V.log volume.old))) changes.now))) }
+        (IsAppended (V.state volume.old).log buffer.old (V.state volume.new).log buffer.new
+        (records_text at tid
+        (map (record_in places.now.entries (main_bytes (V.state volume.old).log)) changes.now))) }
     ensures room { V.told → OnOk result (AllByRecursion HasRoom
-        (map (record_in places.now.entries (main_bytes (V.log volume.old))) changes.now)) }
-    ensures main { V.told → StaysAs Area.Main (V.log volume.old) (V.log volume.new) }
-    ensures counts { IsCopyCounted (V.read_faults volume.old) (V.read_faults volume.new)
-        (V.write_faults volume.old) (V.write_faults volume.new) result }
+        (map (record_in places.now.entries (main_bytes (V.state volume.old).log)) changes.now)) }
+    ensures main { V.told → StaysAs Area.Main (V.state volume.old).log (V.state volume.new).log }
+    ensures counts { IsCopyCounted (V.state volume.old) (V.state volume.new) result }
 {
     'record: for change in changes {
         put_record(volume, buffer, places, tid, at, change)?;
@@ -161,14 +164,13 @@ fn put_head<V: Volume>(
     header: &Header,
     outline: &Outline,
 ) -> Result<(), StoreError>
-    requires { V.told → IsAtEnd (V.log volume.old) buffer.old }
+    requires { V.told → IsAtEnd (V.state volume.old).log buffer.old }
     ensures appended { V.told → OnOk result
-        (IsAppended (V.log volume.old) buffer.old (V.log volume.new) buffer.new
+        (IsAppended (V.state volume.old).log buffer.old (V.state volume.new).log buffer.new
         (header_text header.now
         ++ (outline.now.user ++ (outline.now.description ++ outline.now.extension)))) }
-    ensures main { V.told → StaysAs Area.Main (V.log volume.old) (V.log volume.new) }
-    ensures counts { IsCopyCounted (V.read_faults volume.old) (V.read_faults volume.new)
-        (V.write_faults volume.old) (V.write_faults volume.new) result }
+    ensures main { V.told → StaysAs Area.Main (V.state volume.old).log (V.state volume.new).log }
+    ensures counts { IsCopyCounted (V.state volume.old) (V.state volume.new) result }
 {
     buffer.put(volume, &write_header(header))?;
     buffer.put(volume, outline.user.as_slice())?;
@@ -189,19 +191,24 @@ pub(crate) fn write_block<V: Volume>(
 ) -> Result<(), StoreError>
     requires outline { IsOutline outline.now }
     requires end { end ≡ end_in (records_begin at outline.now) outline.now.changes + 8 }
-    requires side { V.told → at ≡ length (seen (V.log volume.old) Area.Side) }
-    requires short { V.told → length (main_bytes (V.log volume.old)) < 2 ^ 64 }
-    requires within { V.told → AllStandWithin (main_bytes (V.log volume.old)) outline.now.changes }
-    ensures text { V.told → OnOk result (seen (V.log volume.new) Area.Side
-        ≡ seen (V.log volume.old) Area.Side
-        ++ block_text at (block_in places.now.entries (main_bytes (V.log volume.old)) outline.now)) }
-    ensures fits { V.told → OnOk result (AreBytes
-        (block_text at (block_in places.now.entries (main_bytes (V.log volume.old)) outline.now))) }
-    ensures room { V.told → OnOk result (AllByRecursion HasRoom
-        (map (record_in places.now.entries (main_bytes (V.log volume.old))) outline.now.changes)) }
-    ensures main { V.told → StaysAs Area.Main (V.log volume.old) (V.log volume.new) }
-    ensures counts { IsCopyCounted (V.read_faults volume.old) (V.read_faults volume.new)
-        (V.write_faults volume.old) (V.write_faults volume.new) result }
+    requires side { V.told → at ≡ length (seen (V.state volume.old).log Area.Side) }
+    requires short { V.told → length (main_bytes (V.state volume.old).log) < 2 ^ 64 }
+    requires within { V.told
+        → AllStandWithin (main_bytes (V.state volume.old).log) outline.now.changes }
+    ensures text { V.told → OnOk result (seen (V.state volume.new).log Area.Side
+        ≡ seen (V.state volume.old).log Area.Side
+        ++ block_text at (block_in places.now.entries
+        (main_bytes (V.state volume.old).log) outline.now)) }
+    ensures fits { V.told
+        → OnOk result (AreBytes
+        (block_text at (block_in places.now.entries
+        (main_bytes (V.state volume.old).log) outline.now))) }
+    ensures room { V.told
+        → OnOk result (AllByRecursion HasRoom
+        (map (record_in places.now.entries
+        (main_bytes (V.state volume.old).log)) outline.now.changes)) }
+    ensures main { V.told → StaysAs Area.Main (V.state volume.old).log (V.state volume.new).log }
+    ensures counts { IsCopyCounted (V.state volume.old) (V.state volume.new) result }
 {
     let length = end - 8 - at;
     let header = Header {

@@ -11,7 +11,7 @@ pub returns-in_err-cut-clause-main : goal.returns-in_err-cut-clause-main
 returns-in_err-cut-clause-main g c told = one_stays c.cut.result _ _ (CutTo Side 0) Main refl (c.cut.ensures.done told) (c.cut.ensures.failed told)
 
 -- after the write, done or not
-stays : (g : _) (c : After-write_at g) → g.V.Volume.told → StaysAs Main (g.V.Volume.log c.args.volume.now) (g.V.Volume.log c.write_at.new.self)
+stays : (g : _) (c : After-write_at g) → g.V.Volume.told → StaysAs Main (g.V.Volume.state c.args.volume.now).log (g.V.Volume.state c.write_at.new.self).log
 stays g c told = next_stays c.write_at.result _ _ _ (WriteAt Side 0 _) Main refl (one_stays c.cut.result _ _ (CutTo Side 0) Main refl (c.cut.ensures.done told) (c.cut.ensures.failed told)) (c.write_at.ensures.done told) (c.write_at.ensures.failed told)
 
 pub returns-in_err-write_at-clause-main : goal.returns-in_err-write_at-clause-main

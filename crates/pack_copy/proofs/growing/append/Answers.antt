@@ -15,13 +15,13 @@ keep-requires-clause-next g c = stands_next c.make_ready.new.self c.args.outline
 
 pub returns-clause-copied : goal.returns-clause-copied
 returns-clause-copied g c = λ told.
-    (grown_so (seen (g.V.Volume.log c.args.volume.now) Side) (seen (g.V.Volume.log c.args.volume.now) Main) (seen (g.V.Volume.log c.write_block.new.volume) Side) c.args.to.now c.make_ready.new.self c.keep.new.self c.args.outline.now c.in_ok-ready.ready
+    (grown_so (seen (g.V.Volume.state c.args.volume.now).log Side) (seen (g.V.Volume.state c.args.volume.now).log Main) (seen (g.V.Volume.state c.write_block.new.volume).log Side) c.args.to.now c.make_ready.new.self c.keep.new.self c.args.outline.now c.in_ok-ready.ready
     c.to.inside.end c.to.inside.index (ap (λ (k : CopyKept). k.end) c.to.view_is) (ap (λ (k : CopyKept). k.index) c.to.view_is) (c.requires.copied told) c.in_ok-ready.ensures.same c.requires.outline (c.requires.within told) c.in_ok-ready.ensures.ready
     (c.in_ok-write_block.ensures.text told) (c.in_ok-write_block.ensures.fits told) (c.in_ok-write_block.ensures.room told) c.keep.ensures c.requires.bound (c.requires.later told)).copied
 
 pub returns-clause-list : goal.returns-clause-list
 returns-clause-list g c = λ told.
-    (grown_so (seen (g.V.Volume.log c.args.volume.now) Side) (seen (g.V.Volume.log c.args.volume.now) Main) (seen (g.V.Volume.log c.write_block.new.volume) Side) c.args.to.now c.make_ready.new.self c.keep.new.self c.args.outline.now c.in_ok-ready.ready
+    (grown_so (seen (g.V.Volume.state c.args.volume.now).log Side) (seen (g.V.Volume.state c.args.volume.now).log Main) (seen (g.V.Volume.state c.write_block.new.volume).log Side) c.args.to.now c.make_ready.new.self c.keep.new.self c.args.outline.now c.in_ok-ready.ready
     c.to.inside.end c.to.inside.index (ap (λ (k : CopyKept). k.end) c.to.view_is) (ap (λ (k : CopyKept). k.index) c.to.view_is) (c.requires.copied told) c.in_ok-ready.ensures.same c.requires.outline (c.requires.within told) c.in_ok-ready.ensures.ready
     (c.in_ok-write_block.ensures.text told) (c.in_ok-write_block.ensures.fits told) (c.in_ok-write_block.ensures.room told) c.keep.ensures c.requires.bound (c.requires.later told)).list
 

@@ -20,10 +20,10 @@ copy-init g c =
     let first : c.args.first ≡ c.args.first + 0 = omega arith in
     record {
       main = λ told. here refl;
-      up_to = λ told. subst (λ (n : ℕ). IsCopiedUpTo (listed (seen (g.V.Volume.log c.args.volume.now) Main)) (seen (g.V.Volume.log c.args.volume.now) Side) c.args.to.now c.args.keep.now n) first (c.requires.up_to told);
+      up_to = λ told. subst (λ (n : ℕ). IsCopiedUpTo (listed (seen (g.V.Volume.state c.args.volume.now).log Main)) (seen (g.V.Volume.state c.args.volume.now).log Side) c.args.to.now c.args.keep.now n) first (c.requires.up_to told);
       above = subst (λ (n : ℕ). IsBelowNext c.args.from.now.transactions (newest_kept c.args.to.now.index) n) first c.requires.above;
       tid = refl;
-      counts = record { reads_same = refl; writes_same = refl };
+      counts = record { reads = refl; writes = refl };
     }
 
 pub copy_one-requires-clause-source : goal.copy_one-requires-clause-source
@@ -31,13 +31,13 @@ copy_one-requires-clause-source g c = λ told. subst (λ (m : List ℕ). IsSourc
 
 pub copy_one-requires-clause-next : goal.copy_one-requires-clause-next
 copy_one-requires-clause-next g c = λ told.
-    let main = seen (g.V.Volume.log c.args.volume.now) Main in
-    let same : main ≡ seen (g.V.Volume.log c.copy.volume) Main = sym (seen_same Main _ _ (c.copy.invariant.main told)) in
+    let main = seen (g.V.Volume.state c.args.volume.now).log Main in
+    let same : main ≡ seen (g.V.Volume.state c.copy.volume).log Main = sym (seen_same Main _ _ (c.copy.invariant.main told)) in
     let source = c.requires.source told in
     let start = start_is c.transactions-starts.result.now (reached_in main).starts c.args.first c.copy.start-index c.start-item.result (c.transactions-starts.ensures.value ∙ source.index.transactions) c.copy-test.true c.start-item.is in (
       c.args.first + c.copy.start-index,
       subst (λ (m : List ℕ). IsStartOf (reached_in m) (c.args.first + c.copy.start-index) c.start-item.result) same start,
-      subst (λ (m : List ℕ). IsCopiedUpTo (listed m) (seen (g.V.Volume.log c.copy.volume) Side) c.copy.to c.args.keep.now (c.args.first + c.copy.start-index)) same (c.copy.invariant.up_to told),
+      subst (λ (m : List ℕ). IsCopiedUpTo (listed m) (seen (g.V.Volume.state c.copy.volume).log Side) c.copy.to c.args.keep.now (c.args.first + c.copy.start-index)) same (c.copy.invariant.up_to told),
     )
 
 pub returns-in_err-over-clause-main : goal.returns-in_err-over-clause-main
@@ -45,48 +45,48 @@ returns-in_err-over-clause-main g c = λ told. stays_join Main _ _ _ (c.copy.inv
 
 -- how the next transaction was gone over
 next : (g : _) (c : In_ok-over g) → g.V.Volume.told
-    → GoesOn (listed (seen (g.V.Volume.log c.args.volume.now) Main)) (seen (g.V.Volume.log c.copy_one.new.volume) Side) c.copy_one.new.to c.args.keep.now (c.args.first + c.copy.start-index) c.in_ok-over.over
+    → GoesOn (listed (seen (g.V.Volume.state c.args.volume.now).log Main)) (seen (g.V.Volume.state c.copy_one.new.volume).log Side) c.copy_one.new.to c.args.keep.now (c.args.first + c.copy.start-index) c.in_ok-over.over
 next g c told =
-    let main = seen (g.V.Volume.log c.args.volume.now) Main in
-    let same : main ≡ seen (g.V.Volume.log c.copy.volume) Main = sym (seen_same Main _ _ (c.copy.invariant.main told)) in
+    let main = seen (g.V.Volume.state c.args.volume.now).log Main in
+    let same : main ≡ seen (g.V.Volume.state c.copy.volume).log Main = sym (seen_same Main _ _ (c.copy.invariant.main told)) in
     let source = c.requires.source told in
     let start = start_is c.transactions-starts.result.now (reached_in main).starts c.args.first c.copy.start-index c.start-item.result (c.transactions-starts.ensures.value ∙ source.index.transactions) c.copy-test.true c.start-item.is in
-    subst (λ (m : List ℕ). GoesOn (listed m) (seen (g.V.Volume.log c.copy_one.new.volume) Side) c.copy_one.new.to c.args.keep.now (c.args.first + c.copy.start-index) c.in_ok-over.over) (sym same)
+    subst (λ (m : List ℕ). GoesOn (listed m) (seen (g.V.Volume.state c.copy_one.new.volume).log Side) c.copy_one.new.to c.args.keep.now (c.args.first + c.copy.start-index) c.in_ok-over.over) (sym same)
     (c.in_ok-over.ensures.next told (c.args.first + c.copy.start-index)
     (subst (λ (m : List ℕ). IsStartOf (reached_in m) (c.args.first + c.copy.start-index) c.start-item.result) same start)
-    (subst (λ (m : List ℕ). IsCopiedUpTo (listed m) (seen (g.V.Volume.log c.copy.volume) Side) c.copy.to c.args.keep.now (c.args.first + c.copy.start-index)) same (c.copy.invariant.up_to told)))
+    (subst (λ (m : List ℕ). IsCopiedUpTo (listed m) (seen (g.V.Volume.state c.copy.volume).log Side) c.copy.to c.args.keep.now (c.args.first + c.copy.start-index)) same (c.copy.invariant.up_to told)))
 
 pub copy-preserved : goal.copy-preserved
 copy-preserved g c =
-    let main = seen (g.V.Volume.log c.args.volume.now) Main in
+    let main = seen (g.V.Volume.state c.args.volume.now).log Main in
     let after : (c.args.first + c.copy.start-index) + 1 ≡ c.args.first + (c.copy.start-index + 1) = omega arith in
     record {
       main = λ told. stays_join Main _ _ _ (c.copy.invariant.main told) (c.copy_one.ensures.main told);
       up_to = λ told.
-          subst (λ (n : ℕ). IsCopiedUpTo (listed main) (seen (g.V.Volume.log c.copy_one.new.volume) Side) c.copy_one.new.to c.args.keep.now n) after
-          (subst (λ (b : Bool). GoesOn (listed main) (seen (g.V.Volume.log c.copy_one.new.volume) Side) c.copy_one.new.to c.args.keep.now (c.args.first + c.copy.start-index) b) c.if-not-over.false (next g (goal.at.copy-preserved g c).In_ok-over told));
+          subst (λ (n : ℕ). IsCopiedUpTo (listed main) (seen (g.V.Volume.state c.copy_one.new.volume).log Side) c.copy_one.new.to c.args.keep.now n) after
+          (subst (λ (b : Bool). GoesOn (listed main) (seen (g.V.Volume.state c.copy_one.new.volume).log Side) c.copy_one.new.to c.args.keep.now (c.args.first + c.copy.start-index) b) c.if-not-over.false (next g (goal.at.copy-preserved g c).In_ok-over told));
       above = next_above c.transactions-starts.result.now c.args.from.now.transactions c.args.first c.copy.start-index (newest_kept c.copy_one.new.to.index) c.start-item.result c.transactions-starts.ensures.value c.transactions-starts.ensures.rising c.copy-test.true c.start-item.is c.in_ok-over.ensures.newest;
       tid = c.copy_one.ensures.tid ∙ c.copy.invariant.tid;
       counts = record {
-        reads_same = c.in_ok-over.ensures.counts.reads_same ∙ c.copy.invariant.counts.reads_same;
-        writes_same = c.in_ok-over.ensures.counts.writes_same ∙ c.copy.invariant.counts.writes_same;
+        reads = c.in_ok-over.ensures.counts.reads ∙ c.copy.invariant.counts.reads;
+        writes = c.in_ok-over.ensures.counts.writes ∙ c.copy.invariant.counts.writes;
       };
     }
 
 pub returns-then-not-over-clause-ends : goal.returns-then-not-over-clause-ends
 returns-then-not-over-clause-ends g c = λ told.
-    let main = seen (g.V.Volume.log c.args.volume.now) Main in
+    let main = seen (g.V.Volume.state c.args.volume.now).log Main in
     let still = c.in_ok-over.ensures.unmoved c.if-not-over.true in
     record {
       more = c.copy.start-index;
-      up_to = subst (λ (k : CopyKept). IsCopiedUpTo (listed main) (seen (g.V.Volume.log c.copy_one.new.volume) Side) k c.args.keep.now (c.args.first + c.copy.start-index)) (sym still.1)
+      up_to = subst (λ (k : CopyKept). IsCopiedUpTo (listed main) (seen (g.V.Volume.state c.copy_one.new.volume).log Side) k c.args.keep.now (c.args.first + c.copy.start-index)) (sym still.1)
           (subst (λ (l : List Event). IsCopiedUpTo (listed main) (seen l Side) c.copy.to c.args.keep.now (c.args.first + c.copy.start-index)) (sym still.0) (c.copy.invariant.up_to told));
-      end = subst (λ (b : Bool). GoesOn (listed main) (seen (g.V.Volume.log c.copy_one.new.volume) Side) c.copy_one.new.to c.args.keep.now (c.args.first + c.copy.start-index) b) c.if-not-over.true (next g (goal.at.returns-then-not-over-clause-ends g c).In_ok-over told);
+      end = subst (λ (b : Bool). GoesOn (listed main) (seen (g.V.Volume.state c.copy_one.new.volume).log Side) c.copy_one.new.to c.args.keep.now (c.args.first + c.copy.start-index) b) c.if-not-over.true (next g (goal.at.returns-then-not-over-clause-ends g c).In_ok-over told);
     }
 
 pub returns-then-not-over-clause-turn : goal.returns-then-not-over-clause-turn
 returns-then-not-over-clause-turn g c = λ told before is none.
-    let side = seen (g.V.Volume.log c.copy.volume) Side in
+    let side = seen (g.V.Volume.state c.copy.volume).log Side in
     let k = copied_counts side c.copy.to (c.copy.invariant.up_to told).copied in
     let changes = c.changes.ensures (listed side) k.0 k.1 in
     let still = c.in_ok-over.ensures.unmoved c.if-not-over.true in

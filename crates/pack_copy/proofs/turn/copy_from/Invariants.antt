@@ -4,16 +4,16 @@ use Rattle.zb_volume.specs.Disk.{seen}
 use Rattle.zb_volume.specs.Moments.{StaysAs}
 use Rattle.fs_records.specs.Listed.{listed}
 use Rattle.fs_recovery.specs.Opens.{newest_kept}
-use Rattle.pack_copy.specs.Counting.{AreStill}
+use Rattle.zb_volume.specs.States.{FaultsStand}
 use Rattle.pack_copy.specs.UpTo.{IsBelowNext, IsCopiedUpTo}
 use Rattle.pack_copy.proofs.turn.copy_from.Given as goal
 
 -- the transactions up to the next one were gone over
 abbrev pub invariant-copy : goal.invariant-copy
 invariant-copy g l = record {
-  main : g.V.Volume.told → StaysAs Main (g.V.Volume.log l.fn.volume) (g.V.Volume.log l.volume);
-  up_to : g.V.Volume.told → IsCopiedUpTo (listed (seen (g.V.Volume.log l.fn.volume) Main)) (seen (g.V.Volume.log l.volume) Side) l.to l.fn.keep (l.fn.first + l.start-index);
+  main : g.V.Volume.told → StaysAs Main (g.V.Volume.state l.fn.volume).log (g.V.Volume.state l.volume).log;
+  up_to : g.V.Volume.told → IsCopiedUpTo (listed (seen (g.V.Volume.state l.fn.volume).log Main)) (seen (g.V.Volume.state l.volume).log Side) l.to l.fn.keep (l.fn.first + l.start-index);
   above : IsBelowNext l.fn.from.transactions (newest_kept l.to.index) (l.fn.first + l.start-index);
   tid : l.to.tid ≡ l.fn.to.tid;
-  counts : AreStill (g.V.Volume.read_faults l.fn.volume) (g.V.Volume.read_faults l.volume) (g.V.Volume.write_faults l.fn.volume) (g.V.Volume.write_faults l.volume);
+  counts : FaultsStand (g.V.Volume.state l.fn.volume) (g.V.Volume.state l.volume);
 }

@@ -14,7 +14,7 @@ use Rattle.pack_copy.proofs.turn.copy_one.Goals as goal
 pub read_at-requires : goal.read_at-requires
 read_at-requires g c = λ told.
     let n = c.requires.next told in
-    is_start (seen (g.V.Volume.log c.args.volume.now) Main) c.args.from.now n.0 c.args.start (c.requires.source told) n.1
+    is_start (seen (g.V.Volume.state c.args.volume.now).log Main) c.args.from.now n.0 c.args.start (c.requires.source told) n.1
 
 pub returns-in_err-outline-clause-main : goal.returns-in_err-outline-clause-main
 returns-in_err-outline-clause-main g c told = stays_same Main _ _ c.read_at.ensures.same
@@ -27,23 +27,23 @@ append-requires-clause-short g c = λ told. omega (arith, ap (λ l. length (seen
 
 pub append-requires-clause-within : goal.append-requires-clause-within
 append-requires-clause-within g c = λ told.
-    let main = seen (g.V.Volume.log c.args.volume.now) Main in
+    let main = seen (g.V.Volume.state c.args.volume.now).log Main in
     subst (λ (b : List ℕ). AllStandWithin b c.in-Some.left.changes) (ap (λ l. seen l Main) (sym c.read_at.ensures.same))
     (left_within main c.to.inside.tid c.args.keep.now c.args.from.now.entries c.in_ok-outline.outline c.in-Some.left (sym c.left_of.ensures.value ∙ c.in-Some.is) (c.in_ok-outline.ensures.within told))
 
 pub append-requires-clause-later : goal.append-requires-clause-later
 append-requires-clause-later g c = λ told.
-    let main = seen (g.V.Volume.log c.args.volume.now) Main in
+    let main = seen (g.V.Volume.state c.args.volume.now).log Main in
     let n = c.requires.next told in
     let x = outlined_transaction main c.in_ok-outline.outline in
     let get = c.in_ok-outline.ensures.transaction told (reached_in main) n.0 (source_begins main c.args.from.now (c.requires.source told)) n.1 in
     subst (λ (b : List ℕ). newest_tid (listed b) < c.in-Some.left.tid) (ap (λ l. seen l Side) (sym c.read_at.ensures.same))
-    (later_left main (seen (g.V.Volume.log c.args.volume.now) Side) c.args.from.now c.args.to.now c.args.keep.now n.0 c.to.inside.tid x (c.requires.source told) get (ap (λ (k : CopyKept). k.tid) c.to.view_is) n.2 (outlined_transaction main c.in-Some.left) (left_some main c.to.inside.tid c.args.keep.now c.args.from.now.entries c.in_ok-outline.outline c.in-Some.left (sym c.left_of.ensures.value ∙ c.in-Some.is)))
+    (later_left main (seen (g.V.Volume.state c.args.volume.now).log Side) c.args.from.now c.args.to.now c.args.keep.now n.0 c.to.inside.tid x (c.requires.source told) get (ap (λ (k : CopyKept). k.tid) c.to.view_is) n.2 (outlined_transaction main c.in-Some.left) (left_some main c.to.inside.tid c.args.keep.now c.args.from.now.entries c.in_ok-outline.outline c.in-Some.left (sym c.left_of.ensures.value ∙ c.in-Some.is)))
 
 pub returns-in_ok-append-in-Some-clause-next : goal.returns-in_ok-append-in-Some-clause-next
 returns-in_ok-append-in-Some-clause-next g c = λ told number start upto.
-    let main = seen (g.V.Volume.log c.args.volume.now) Main in
-    let side = seen (g.V.Volume.log c.args.volume.now) Side in
+    let main = seen (g.V.Volume.state c.args.volume.now).log Main in
+    let side = seen (g.V.Volume.state c.args.volume.now).log Side in
     let x = outlined_transaction main c.in_ok-outline.outline in
     let get = c.in_ok-outline.ensures.transaction told (reached_in main) number (source_begins main c.args.from.now (c.requires.source told)) start in
     one_more main side c.args.from.now c.args.to.now c.args.keep.now number c.to.inside.tid x (c.requires.source told) get (ap (λ (k : CopyKept). k.tid) c.to.view_is) upto (outlined_transaction main c.in-Some.left) _ _
@@ -51,21 +51,21 @@ returns-in_ok-append-in-Some-clause-next g c = λ told number start upto.
 
 pub returns-then-enough-clause-next : goal.returns-then-enough-clause-next
 returns-then-enough-clause-next g c = λ told number start upto.
-    let main = seen (g.V.Volume.log c.args.volume.now) Main in
+    let main = seen (g.V.Volume.state c.args.volume.now).log Main in
     let x = outlined_transaction main c.in_ok-outline.outline in
     let get = c.in_ok-outline.ensures.transaction told (reached_in main) number (source_begins main c.args.from.now (c.requires.source told)) start in
-    more_left main (seen (g.V.Volume.log c.args.volume.now) Side) c.args.from.now c.args.to.now c.args.keep.now number c.to.inside.tid x (c.requires.source told) get (ap (λ (k : CopyKept). k.tid) c.to.view_is) upto (outlined_transaction main c.in-Some.left) (left_some main c.to.inside.tid c.args.keep.now c.args.from.now.entries c.in_ok-outline.outline c.in-Some.left (sym c.left_of.ensures.value ∙ c.in-Some.is))
+    more_left main (seen (g.V.Volume.state c.args.volume.now).log Side) c.args.from.now c.args.to.now c.args.keep.now number c.to.inside.tid x (c.requires.source told) get (ap (λ (k : CopyKept). k.tid) c.to.view_is) upto (outlined_transaction main c.in-Some.left) (left_some main c.to.inside.tid c.args.keep.now c.args.from.now.entries c.in_ok-outline.outline c.in-Some.left (sym c.left_of.ensures.value ∙ c.in-Some.is))
 
 pub returns-then-enough-clause-main : goal.returns-then-enough-clause-main
 returns-then-enough-clause-main g c told = stays_same Main _ _ c.read_at.ensures.same
 
 pub returns-in-None-clause-next : goal.returns-in-None-clause-next
 returns-in-None-clause-next g c = λ told number start upto.
-    let main = seen (g.V.Volume.log c.args.volume.now) Main in
+    let main = seen (g.V.Volume.state c.args.volume.now).log Main in
     let x = outlined_transaction main c.in_ok-outline.outline in
     let get = c.in_ok-outline.ensures.transaction told (reached_in main) number (source_begins main c.args.from.now (c.requires.source told)) start in
     subst (λ (b : List ℕ). IsCopiedUpTo (listed main) b c.args.to.now c.args.keep.now (number + 1)) (ap (λ l. seen l Side) (sym c.read_at.ensures.same))
-    (none_left main (seen (g.V.Volume.log c.args.volume.now) Side) c.args.from.now c.args.to.now c.args.keep.now number c.to.inside.tid x (c.requires.source told) get (ap (λ (k : CopyKept). k.tid) c.to.view_is) upto (left_none main c.to.inside.tid c.args.keep.now c.args.from.now.entries c.in_ok-outline.outline (sym c.left_of.ensures.value ∙ c.in-None.is)))
+    (none_left main (seen (g.V.Volume.state c.args.volume.now).log Side) c.args.from.now c.args.to.now c.args.keep.now number c.to.inside.tid x (c.requires.source told) get (ap (λ (k : CopyKept). k.tid) c.to.view_is) upto (left_none main c.to.inside.tid c.args.keep.now c.args.from.now.entries c.in_ok-outline.outline (sym c.left_of.ensures.value ∙ c.in-None.is)))
 
 pub returns-in-None-clause-main : goal.returns-in-None-clause-main
 returns-in-None-clause-main g c told = stays_same Main _ _ c.read_at.ensures.same

@@ -11,14 +11,14 @@ use Rattle.pack_copy.proofs.turn.copy_rest.Goals.{In_ok-copy_from}
 
 pub copy_from-requires-clause-up_to : goal.copy_from-requires-clause-up_to
 copy_from-requires-clause-up_to g c = λ told.
-    goes_on (seen (g.V.Volume.log c.args.volume.now) Main) (seen (g.V.Volume.log c.args.volume.now) Side) c.args.from.now c.args.to.now c.args.keep.now c.transactions.result.now c.newest.result c.count_up_to-first.result
+    goes_on (seen (g.V.Volume.state c.args.volume.now).log Main) (seen (g.V.Volume.state c.args.volume.now).log Side) c.args.from.now c.args.to.now c.args.keep.now c.transactions.result.now c.newest.result c.count_up_to-first.result
     (c.requires.source told) (c.requires.copied told) (c.requires.prefix told) c.transactions.ensures.value c.newest.ensures.value c.count_up_to-first.ensures
 
 -- the whole packed list stands there
-whole : (g : _) (c : In_ok-copy_from g) → g.V.Volume.told → listed (seen (g.V.Volume.log c.copy_from.new.volume) Side) ≡ packed_by c.args.to.now.tid c.args.keep.now (listed (seen (g.V.Volume.log c.args.volume.now) Main))
+whole : (g : _) (c : In_ok-copy_from g) → g.V.Volume.told → listed (seen (g.V.Volume.state c.copy_from.new.volume).log Side) ≡ packed_by c.args.to.now.tid c.args.keep.now (listed (seen (g.V.Volume.state c.args.volume.now).log Main))
 whole g c told =
-    let main = seen (g.V.Volume.log c.args.volume.now) Main in
-    let side = seen (g.V.Volume.log c.copy_from.new.volume) Side in
+    let main = seen (g.V.Volume.state c.args.volume.now).log Main in
+    let side = seen (g.V.Volume.state c.copy_from.new.volume).log Side in
     let ends = c.in_ok-copy_from.ensures.ends told in
     all_copied main side c.args.from.now c.copy_from.new.to c.args.keep.now c.args.to.now.tid (c.requires.source told) c.copy_from.ensures.tid
     (to_the_end (listed main) side c.copy_from.new.to c.args.keep.now _ _ _ (c.in_ok-copy_from.ensures.rest refl) ends)
@@ -30,4 +30,4 @@ pub returns-clause-list : goal.returns-clause-list
 returns-clause-list g c = λ told. whole g c told
 
 pub returns-clause-text : goal.returns-clause-text
-returns-clause-text g c = λ told. copied_in_full (seen (g.V.Volume.log c.copy_from.new.volume) Side) c.copy_from.new.to (c.in_ok-copy_from.ensures.ends told).up_to.copied ∙ ap full_file (whole g c told)
+returns-clause-text g c = λ told. copied_in_full (seen (g.V.Volume.state c.copy_from.new.volume).log Side) c.copy_from.new.to (c.in_ok-copy_from.ensures.ends told).up_to.copied ∙ ap full_file (whole g c told)

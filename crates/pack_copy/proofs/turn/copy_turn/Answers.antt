@@ -8,7 +8,7 @@ use Rattle.pack_copy.proofs.turn.copy_turn.Goals as goal
 
 pub copy_from-requires-clause-up_to : goal.copy_from-requires-clause-up_to
 copy_from-requires-clause-up_to g c = λ told.
-    goes_on (seen (g.V.Volume.log c.args.volume.now) Main) (seen (g.V.Volume.log c.args.volume.now) Side) c.args.from.now c.args.to.now c.args.keep.now c.transactions.result.now c.newest.result c.count_up_to-first.result
+    goes_on (seen (g.V.Volume.state c.args.volume.now).log Main) (seen (g.V.Volume.state c.args.volume.now).log Side) c.args.from.now c.args.to.now c.args.keep.now c.transactions.result.now c.newest.result c.count_up_to-first.result
     (c.requires.source told) (c.requires.copied told) (c.requires.prefix told) c.transactions.ensures.value c.newest.ensures.value c.count_up_to-first.ensures
 
 pub returns-clause-copied : goal.returns-clause-copied
@@ -16,9 +16,9 @@ returns-clause-copied g c = λ told. (c.in_ok-whole.ensures.ends told).up_to.cop
 
 pub returns-clause-turn : goal.returns-clause-turn
 returns-clause-turn g c = λ told.
-    let main = seen (g.V.Volume.log c.args.volume.now) Main in
-    let was = seen (g.V.Volume.log c.args.volume.now) Side in
-    let now = seen (g.V.Volume.log c.copy_from.new.volume) Side in
+    let main = seen (g.V.Volume.state c.args.volume.now).log Main in
+    let was = seen (g.V.Volume.state c.args.volume.now).log Side in
+    let now = seen (g.V.Volume.state c.copy_from.new.volume).log Side in
     let upto = goes_on main was c.args.from.now c.args.to.now c.args.keep.now c.transactions.result.now c.newest.result c.count_up_to-first.result
     (c.requires.source told) (c.requires.copied told) (c.requires.prefix told) c.transactions.ensures.value c.newest.ensures.value c.count_up_to-first.ensures in
     let ends = c.in_ok-whole.ensures.ends told in

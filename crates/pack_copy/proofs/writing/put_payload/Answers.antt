@@ -13,7 +13,7 @@ put_main-requires-clause-within g c = λ told.
 
 pub returns-in-Some-clause-appended : goal.returns-in-Some-clause-appended
 returns-in-Some-clause-appended g c = λ told.
-    let main : List ℕ = main_bytes (g.V.Volume.log c.args.volume.now) in
+    let main : List ℕ = main_bytes (g.V.Volume.state c.args.volume.now).log in
     let here = rw c.in-Some.is at (c.requires.within told) in
     let from : c.saturating_add-from.result ≡ c.in-Some.source.at + 42 = omega (arith, here, c.requires.short told, c.saturating_add-from.ensures) in
     let same : take c.in-Some.source.length (drop c.saturating_add-from.result main) ≡ payload_text (full_payload (outlined_content main c.args.source)) =

@@ -20,21 +20,21 @@ put_payload-requires-clause-within g c = λ told. subst (λ (xs : List ℕ). Sta
 
 pub returns-clause-appended : goal.returns-clause-appended
 returns-clause-appended g c = λ told.
-    let main : List ℕ = main_bytes (g.V.Volume.log c.args.volume.now) in
+    let main : List ℕ = main_bytes (g.V.Volume.state c.args.volume.now).log in
     let oid : ℕ = c.args.change.now.oid in
     let h : DataHeader = head_of oid c.args.tid c.newest.result c.args.at c.length_of.result in
     let previous : c.newest.result ≡ previous_in c.args.places.now.entries oid = c.newest.ensures ∙ ap (λ (ps : List Place). at_or_0 (last_or None ps)) c.places.ensures.value in
     let head : h ≡ head_of oid c.args.tid (previous_in c.args.places.now.entries oid) c.args.at (source_length c.args.change.now.source) =
     ap (λ (n : ℕ). head_of oid c.args.tid n c.args.at c.length_of.result) previous ∙ ap (head_of oid c.args.tid (previous_in c.args.places.now.entries oid) c.args.at) c.length_of.ensures in
-    let same : main_bytes (g.V.Volume.log c.put.new.volume) ≡ main = seen_same Main _ _ (c.put.ensures.main told) in
+    let same : main_bytes (g.V.Volume.state c.put.new.volume).log ≡ main = seen_same Main _ _ (c.put.ensures.main told) in
     let payload : List ℕ → List ℕ = λ xs. payload_text (full_payload (outlined_content xs c.args.change.now.source)) in
-    let text = ap (λ (xs : List ℕ). xs ++ payload (main_bytes (g.V.Volume.log c.put.new.volume))) c.write_data_header.ensures.text ∙ ap (λ (xs : List ℕ). data_header_text h ++ payload xs) same
+    let text = ap (λ (xs : List ℕ). xs ++ payload (main_bytes (g.V.Volume.state c.put.new.volume).log)) c.write_data_header.ensures.text ∙ ap (λ (xs : List ℕ). data_header_text h ++ payload xs) same
     ∙ record_is c.args.places.now.entries main c.args.at c.args.tid c.args.change.now h (c.requires.within told) head in
     ok_then c.put_payload.result _ _ (λ rest. appended_is _ _ _ _ _ _ text (appended_join _ _ _ _ _ _ _ _ (c.in_ok-put.ensures.appended told) rest)) (c.put_payload.ensures.appended told)
 
 pub returns-clause-room : goal.returns-clause-room
 returns-clause-room g c = λ told.
-    let main : List ℕ = main_bytes (g.V.Volume.log c.args.volume.now) in
+    let main : List ℕ = main_bytes (g.V.Volume.state c.args.volume.now).log in
     let oid : ℕ = c.args.change.now.oid in
     let h : DataHeader = head_of oid c.args.tid c.newest.result c.args.at c.length_of.result in
     let previous : c.newest.result ≡ previous_in c.args.places.now.entries oid = c.newest.ensures ∙ ap (λ (ps : List Place). at_or_0 (last_or None ps)) c.places.ensures.value in

@@ -16,10 +16,10 @@ use Rattle.pack_copy.proofs.writing.put_records.Goals as goal
 
 pub record-init : goal.record-init
 record-init g c = record {
-  appended = λ told. appended_none (g.V.Volume.log c.args.volume.now) c.args.buffer.now (c.requires.end told);
+  appended = λ told. appended_none (g.V.Volume.state c.args.volume.now).log c.args.buffer.now (c.requires.end told);
   room = λ told. tt;
   main = λ told. here refl;
-  counts = record { reads_same = refl; writes_same = refl };
+  counts = record { reads = refl; writes = refl };
 }
 
 pub put_record-requires-clause-end : goal.put_record-requires-clause-end
@@ -31,14 +31,14 @@ put_record-requires-clause-short g c = λ told. omega (arith, c.requires.short t
 pub put_record-requires-clause-within : goal.put_record-requires-clause-within
 put_record-requires-clause-within g c = λ told.
     subst (λ (xs : List ℕ). StandsWithin xs c.change-item.result.source) (sym (seen_same Main _ _ (c.record.invariant.main told)))
-    (subst (λ (x : OutlinedChange). StandsWithin (main_bytes (g.V.Volume.log c.args.volume.now)) x.source) (sym c.change-item.is) (c.requires.within told c.record.change-index c.change-item.result c.record-test.true))
+    (subst (λ (x : OutlinedChange). StandsWithin (main_bytes (g.V.Volume.state c.args.volume.now).log) x.source) (sym c.change-item.is) (c.requires.within told c.record.change-index c.change-item.result c.record-test.true))
 
 pub returns-in_err-put_record-clause-main : goal.returns-in_err-put_record-clause-main
 returns-in_err-put_record-clause-main g c = λ told. stays_join Main _ _ _ (c.record.invariant.main told) (c.put_record.ensures.main told)
 
 pub record-preserved : goal.record-preserved
 record-preserved g c =
-    let main : List ℕ = main_bytes (g.V.Volume.log c.args.volume.now) in
+    let main : List ℕ = main_bytes (g.V.Volume.state c.args.volume.now).log in
     let entries = c.args.places.now.entries in
     let cs : List OutlinedChange = c.args.changes.now in
     let one : OutlinedChange = c.change-item.result in
@@ -54,17 +54,17 @@ record-preserved g c =
           room_more entries main cs c.record.change-index one c.record-test.true c.change-item.is (c.record.invariant.room told) (subst (λ (xs : List ℕ). HasRoom (record_in entries xs one)) same (c.in_ok-put_record.ensures.room told));
       main = λ told. stays_join Main _ _ _ (c.record.invariant.main told) (c.put_record.ensures.main told);
       counts = record {
-        reads_same = c.in_ok-put_record.ensures.counts.reads_same ∙ c.record.invariant.counts.reads_same;
-        writes_same = c.in_ok-put_record.ensures.counts.writes_same ∙ c.record.invariant.counts.writes_same;
+        reads = c.in_ok-put_record.ensures.counts.reads ∙ c.record.invariant.counts.reads;
+        writes = c.in_ok-put_record.ensures.counts.writes ∙ c.record.invariant.counts.writes;
       };
     }
 
 pub returns-clause-appended : goal.returns-clause-appended
 returns-clause-appended g c = λ told.
     let all = take_all c.record.change-index c.args.changes.now c.record-test.false in
-    appended_is _ _ _ _ _ _ (ap (λ (cs : List OutlinedChange). records_text c.args.at c.args.tid (map (record_in c.args.places.now.entries (main_bytes (g.V.Volume.log c.args.volume.now))) cs)) all) (c.record.invariant.appended told)
+    appended_is _ _ _ _ _ _ (ap (λ (cs : List OutlinedChange). records_text c.args.at c.args.tid (map (record_in c.args.places.now.entries (main_bytes (g.V.Volume.state c.args.volume.now).log)) cs)) all) (c.record.invariant.appended told)
 
 pub returns-clause-room : goal.returns-clause-room
 returns-clause-room g c = λ told.
     let all = take_all c.record.change-index c.args.changes.now c.record-test.false in
-    subst (λ (cs : List OutlinedChange). AllByRecursion HasRoom (map (record_in c.args.places.now.entries (main_bytes (g.V.Volume.log c.args.volume.now))) cs)) all (c.record.invariant.room told)
+    subst (λ (cs : List OutlinedChange). AllByRecursion HasRoom (map (record_in c.args.places.now.entries (main_bytes (g.V.Volume.state c.args.volume.now).log)) cs)) all (c.record.invariant.room told)

@@ -33,19 +33,19 @@ returns-clause-main g c = λ told.
 
 -- the whole text was put behind Side and what is held
 whole : (g : _) (c : After-flush g) → g.V.Volume.told
-    → OnOk c.flush.result (IsAppended (g.V.Volume.log c.args.volume.now) c.start.new.self (g.V.Volume.log c.flush.new.volume) c.flush.new.self (block_text c.args.at (block_in c.args.places.now.entries (main_bytes (g.V.Volume.log c.args.volume.now)) c.args.outline.now)))
+    → OnOk c.flush.result (IsAppended (g.V.Volume.state c.args.volume.now).log c.start.new.self (g.V.Volume.state c.flush.new.volume).log c.flush.new.self (block_text c.args.at (block_in c.args.places.now.entries (main_bytes (g.V.Volume.state c.args.volume.now).log) c.args.outline.now)))
 whole g c told =
     let o = c.args.outline.now in
-    let main : List ℕ = main_bytes (g.V.Volume.log c.args.volume.now) in
+    let main : List ℕ = main_bytes (g.V.Volume.state c.args.volume.now).log in
     let entries = c.args.places.now.entries in
     let long : ℕ = c.args.end - 8 - c.args.at in
     let h : Header = record { tid = o.tid; length = long; status = c.status_of.result; user = c.len.result; description = c.len-2.result; extension = c.len-3.result } in
     let head : h ≡ record { tid = o.tid; length = long; status = cond o.packed 112 32; user = length o.user; description = length o.description; extension = length o.extension } =
     rw (c.status_of.ensures, c.len.ensures, c.len-2.ensures, c.len-3.ensures) refl in
-    let same : main_bytes (g.V.Volume.log c.put_head.new.volume) ≡ main = seen_same Main _ _ (c.put_head.ensures.main told) in
+    let same : main_bytes (g.V.Volume.state c.put_head.new.volume).log ≡ main = seen_same Main _ _ (c.put_head.ensures.main told) in
     let long_is = length_is entries main c.args.at c.args.end o (c.requires.within told) c.requires.end in
     let first : List ℕ = header_text h ++ (o.user ++ (o.description ++ o.extension)) in
-    let records : records_text c.args.at o.tid (map (record_in entries (main_bytes (g.V.Volume.log c.put_head.new.volume))) c.as_slice-changes.result.now) ≡ records_text c.args.at o.tid (map (record_in entries main) o.changes) =
+    let records : records_text c.args.at o.tid (map (record_in entries (main_bytes (g.V.Volume.state c.put_head.new.volume).log)) c.as_slice-changes.result.now) ≡ records_text c.args.at o.tid (map (record_in entries main) o.changes) =
     ap (λ (xs : List ℕ). records_text c.args.at o.tid (map (record_in entries xs) c.as_slice-changes.result.now)) same ∙ ap (λ (cs : List OutlinedChange). records_text c.args.at o.tid (map (record_in entries main) cs)) c.as_slice-changes.ensures in
     let text = ap (λ (xs : List ℕ). ((first ++ xs) ++ c.number_bytes.result) ++ []) records
     ∙ ap (λ (xs : List ℕ). ((first ++ records_text c.args.at o.tid (map (record_in entries main) o.changes)) ++ xs) ++ []) c.number_bytes.ensures
@@ -67,5 +67,5 @@ returns-clause-room g c = λ told.
     let entries = c.args.places.now.entries in
     let same = seen_same Main _ _ (c.put_head.ensures.main told) in
     ok_so c.flush.result _
-    (subst (λ (cs : List OutlinedChange). AllByRecursion HasRoom (map (record_in entries (main_bytes (g.V.Volume.log c.args.volume.now))) cs)) c.as_slice-changes.ensures
+    (subst (λ (cs : List OutlinedChange). AllByRecursion HasRoom (map (record_in entries (main_bytes (g.V.Volume.state c.args.volume.now).log)) cs)) c.as_slice-changes.ensures
     (subst (λ (xs : List ℕ). AllByRecursion HasRoom (map (record_in entries xs) c.as_slice-changes.result.now)) same (c.in_ok-put_records.ensures.room told)))

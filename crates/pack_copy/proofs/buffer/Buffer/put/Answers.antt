@@ -10,9 +10,9 @@ use Rattle.pack_copy.proofs.buffer.Buffer.put.Goals as goal
 pub loop-done-init : goal.loop-done-init
 loop-done-init g c = record {
   within = omega arith;
-  appended = λ told. appended_none (g.V.Volume.log c.args.volume.now) c.args.self.now (c.requires told);
+  appended = λ told. appended_none (g.V.Volume.state c.args.volume.now).log c.args.self.now (c.requires told);
   main = λ told. here refl;
-  counts = record { reads_same = refl; writes_same = refl };
+  counts = record { reads = refl; writes = refl };
 }
 
 pub make_room-requires : goal.make_room-requires
@@ -38,8 +38,8 @@ loop-done-preserved g c =
           (appended_join _ _ _ _ _ _ (take done bytes ++ []) (take more rest) so_far taken);
       main = λ told. stays_join Main _ _ _ (c.loop-done.invariant.main told) (c.make_room.ensures.main told);
       counts = record {
-        reads_same = c.in_ok-make_room.ensures.counts.reads_same ∙ c.loop-done.invariant.counts.reads_same;
-        writes_same = c.in_ok-make_room.ensures.counts.writes_same ∙ c.loop-done.invariant.counts.writes_same;
+        reads = c.in_ok-make_room.ensures.counts.reads ∙ c.loop-done.invariant.counts.reads;
+        writes = c.in_ok-make_room.ensures.counts.writes ∙ c.loop-done.invariant.counts.writes;
       };
     }
 

@@ -2,16 +2,16 @@ use Rattle.std.proofs.Common.{◌≡◌, ◌-◌, ◌≤◌, length, take}
 use Rattle.zb_volume.specs.declared.areas.Area.TheVariants.{Main}
 use Rattle.zb_volume.specs.Moments.{StaysAs}
 use Rattle.pack_copy.specs.Appending.{IsAppended}
-use Rattle.pack_copy.specs.Counting.{AreStill}
+use Rattle.zb_volume.specs.States.{FaultsStand}
 use Rattle.pack_copy.proofs.buffer.Buffer.put.Given as goal
 
 -- the first bytes were put there
 abbrev pub invariant-loop-done : goal.invariant-loop-done
 invariant-loop-done g l = record {
   within : l.done ≤ length l.bytes;
-  appended : g.V.Volume.told → IsAppended (g.V.Volume.log l.fn.volume) l.fn.self (g.V.Volume.log l.volume) l.self (take l.done l.bytes);
-  main : g.V.Volume.told → StaysAs Main (g.V.Volume.log l.fn.volume) (g.V.Volume.log l.volume);
-  counts : AreStill (g.V.Volume.read_faults l.fn.volume) (g.V.Volume.read_faults l.volume) (g.V.Volume.write_faults l.fn.volume) (g.V.Volume.write_faults l.volume);
+  appended : g.V.Volume.told → IsAppended (g.V.Volume.state l.fn.volume).log l.fn.self (g.V.Volume.state l.volume).log l.self (take l.done l.bytes);
+  main : g.V.Volume.told → StaysAs Main (g.V.Volume.state l.fn.volume).log (g.V.Volume.state l.volume).log;
+  counts : FaultsStand (g.V.Volume.state l.fn.volume) (g.V.Volume.state l.volume);
 }
 
 abbrev pub decreases-loop-done : goal.decreases-loop-done

@@ -10,9 +10,9 @@ use Rattle.pack_copy.proofs.buffer.Buffer.put_main.Goals as goal
 pub loop-done-init : goal.loop-done-init
 loop-done-init g c = record {
   within = omega arith;
-  appended = λ told. appended_none (g.V.Volume.log c.args.volume.now) c.args.self.now (c.requires.end told);
+  appended = λ told. appended_none (g.V.Volume.state c.args.volume.now).log c.args.self.now (c.requires.end told);
   main = λ told. here refl;
-  counts = record { reads_same = refl; writes_same = refl };
+  counts = record { reads = refl; writes = refl };
 }
 
 pub make_room-requires : goal.make_room-requires
@@ -34,7 +34,7 @@ returns-in_err-more-clause-main g c = λ told. stays_join Main _ _ _ (stays_join
 
 pub loop-done-preserved : goal.loop-done-preserved
 loop-done-preserved g c =
-    let main : List ℕ = main_bytes (g.V.Volume.log c.args.volume.now) in
+    let main : List ℕ = main_bytes (g.V.Volume.state c.args.volume.now).log in
     let done : ℕ = c.loop-done.done in
     let more : ℕ = c.in_ok-more.more in
     let from : ℕ = c.saturating_add-from.result in
@@ -42,24 +42,24 @@ loop-done-preserved g c =
       within = omega (arith, c.in_ok-more.ensures.count, c.loop-done-test.true);
       appended = λ told.
           let was = seen_same Main _ _ (c.loop-done.invariant.main told) in
-          let now : main_bytes (g.V.Volume.log c.make_room.new.volume) ≡ main = seen_same Main _ _ (c.make_room.ensures.main told) ∙ was in
+          let now : main_bytes (g.V.Volume.state c.make_room.new.volume).log ≡ main = seen_same Main _ _ (c.make_room.ensures.main told) ∙ was in
           let room = c.in_ok-make_room.ensures.appended told in
           let so_far = appended_join _ _ _ _ _ _ (take done (drop c.args.at main)) [] (c.loop-done.invariant.appended told) room in
           let at : from ≡ c.args.at + done = omega (arith, c.requires.within told, c.requires.short told, c.saturating_add-from.ensures, c.loop-done-test.true) in
-          let part : take more (drop from (main_bytes (g.V.Volume.log c.make_room.new.volume))) ≡ take more (drop (c.args.at + done) main) = ap (λ (xs : List ℕ). take more (drop from xs)) now ∙ ap (λ (n : ℕ). take more (drop n main)) at in
-          let read = held_more _ _ c.make_room.new.self c.read_in.new.self (take more (drop from (main_bytes (g.V.Volume.log c.make_room.new.volume)))) c.read_in.ensures.same (c.in_ok-more.ensures.held told) c.read_in.ensures.end room.end (c.in_ok-more.ensures.fits told) in
-          appended_is _ _ _ _ ((take done (drop c.args.at main) ++ []) ++ take more (drop from (main_bytes (g.V.Volume.log c.make_room.new.volume)))) (take (done + more) (drop c.args.at main))
-          (ap (λ (xs : List ℕ). xs ++ take more (drop from (main_bytes (g.V.Volume.log c.make_room.new.volume)))) (append-nil (take done (drop c.args.at main))) ∙ ap (λ (xs : List ℕ). take done (drop c.args.at main) ++ xs) part ∙ pieces_join done more c.args.at main)
+          let part : take more (drop from (main_bytes (g.V.Volume.state c.make_room.new.volume).log)) ≡ take more (drop (c.args.at + done) main) = ap (λ (xs : List ℕ). take more (drop from xs)) now ∙ ap (λ (n : ℕ). take more (drop n main)) at in
+          let read = held_more _ _ c.make_room.new.self c.read_in.new.self (take more (drop from (main_bytes (g.V.Volume.state c.make_room.new.volume).log))) c.read_in.ensures.same (c.in_ok-more.ensures.held told) c.read_in.ensures.end room.end (c.in_ok-more.ensures.fits told) in
+          appended_is _ _ _ _ ((take done (drop c.args.at main) ++ []) ++ take more (drop from (main_bytes (g.V.Volume.state c.make_room.new.volume).log))) (take (done + more) (drop c.args.at main))
+          (ap (λ (xs : List ℕ). xs ++ take more (drop from (main_bytes (g.V.Volume.state c.make_room.new.volume).log))) (append-nil (take done (drop c.args.at main))) ∙ ap (λ (xs : List ℕ). take done (drop c.args.at main) ++ xs) part ∙ pieces_join done more c.args.at main)
           (appended_join _ _ _ _ _ _ (take done (drop c.args.at main) ++ []) _ so_far read);
       main = λ told. stays_join Main _ _ _ (stays_join Main _ _ _ (c.loop-done.invariant.main told) (c.make_room.ensures.main told)) (stays_same Main _ _ c.read_in.ensures.same);
       counts = record {
-        reads_same = c.in_ok-more.ensures.counts.reads_same ∙ c.in_ok-make_room.ensures.counts.reads_same ∙ c.loop-done.invariant.counts.reads_same;
-        writes_same = c.in_ok-more.ensures.counts.writes_same ∙ c.in_ok-make_room.ensures.counts.writes_same ∙ c.loop-done.invariant.counts.writes_same;
+        reads = c.in_ok-more.ensures.counts.reads ∙ c.in_ok-make_room.ensures.counts.reads ∙ c.loop-done.invariant.counts.reads;
+        writes = c.in_ok-more.ensures.counts.writes ∙ c.in_ok-make_room.ensures.counts.writes ∙ c.loop-done.invariant.counts.writes;
       };
     }
 
 pub returns-clause-appended : goal.returns-clause-appended
 returns-clause-appended g c = λ told.
-    let main : List ℕ = main_bytes (g.V.Volume.log c.args.volume.now) in
+    let main : List ℕ = main_bytes (g.V.Volume.state c.args.volume.now).log in
     let all : c.loop-done.done ≡ c.args.count = omega (arith, c.loop-done.invariant.within, c.loop-done-test.false) in
     appended_is _ _ _ _ (take c.loop-done.done (drop c.args.at main)) (take c.args.count (drop c.args.at main)) (ap (λ (n : ℕ). take n (drop c.args.at main)) all) (c.loop-done.invariant.appended told)
