@@ -1,3 +1,4 @@
 pub mod Counts
 pub mod Greatest
+pub mod Turns
 pub mod Votes

@@ -8,7 +8,7 @@ ghost use Rattle.zb_model.specs.DatabaseLaws.{ForSome-IsDatabase-prop, IsDatabas
 
 use crate::gathering::{gather_history, gather_undo_log};
 use crate::making::{copy_of, find_below, make_voted};
-use crate::packing::{count_changes, pack_list};
+use crate::packing::{copied_length, count_changes, pack_list};
 use crate::walks::{count_to, first_above, greatest_oid_of, pack_point_of, transaction_with};
 use std::alloc::{AllocError, Global};
 use zb_ids::{ListOf, Oid, Tid};
@@ -80,8 +80,6 @@ impl Store for MappingStore {
     ghost told = { Unit {0} };
 
     ghost lasts = { ⊥ };
-
-    ghost quiet = { Unit {0} };
 
     ghost stands = { λ _ _. ⊥ };
 
@@ -179,17 +177,20 @@ impl Store for MappingStore {
     }
 
     fn pack_copy(&mut self, alloc: Global, keep: &OidSet) -> Result<Copied, StoreError> {
-        let tid = match self.begun.take() {
-            Some(begun) => begun.tid,
-            None => Tid(0),
+        let (tid, first) = match self.begun.take() {
+            Some(begun) => (begun.tid, begun.copied.len()),
+            None => (Tid(0), 0),
         };
-        let packed = pack_list(alloc, self.items.as_slice(), tid, keep)?;
+        let mut packed = pack_list(alloc, self.items.as_slice(), tid, keep)?;
+        let length = copied_length(packed.as_slice(), first);
+        let whole = length == packed.len();
+        packed.truncate(length);
         let count = count_changes(packed.as_slice());
         self.begun = Some(Begun {
             tid,
             copied: ListOf::from_vec(packed),
         });
-        Ok(Copied { count, whole: true })
+        Ok(Copied { count, whole })
     }
 
     fn pack_switch(&mut self, alloc: Global, keep: &OidSet) -> Result<Packed, StoreError> {

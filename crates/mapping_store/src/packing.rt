@@ -1,10 +1,11 @@
 //! What a pack leaves of a plain list of transactions. Each object's serial is looked up by going over
 //! the list.
 
-ghost use Rattle.std.specs.Prelude.{◌≡◌, ◌<◌, ◌≤◌, ◌^◌, filter, IfOk};
+ghost use Rattle.std.specs.Prelude.{◌≡◌, ◌+◌, ◌++◌, ◌<◌, ◌≤◌, ◌^◌, List, filter, length, take, IfOk};
 ghost use Rattle.zb_model.specs.Database.{IsDatabase};
 ghost use Rattle.zb_model.specs.Packing.{is_held, packed_by, packed_one, serial_up_to, stays};
-ghost use Rattle.zb_model.specs.Packs.{change_count};
+ghost use Rattle.zb_model.specs.declared.data.Transaction.{Transaction};
+ghost use Rattle.zb_model.specs.Packs.{change_count, turn_from};
 
 use std::alloc::{AllocError, Global};
 use zb_ids::{ListOf, Oid, Tid};
@@ -123,4 +124,37 @@ pub(crate) fn count_changes(list: &[Transaction]) -> u64
         count += transaction.changes.len() as u64;
     }
     count
+}
+
+/// How many changes are copied when a turn ends.
+const CHANGES_A_TURN: u64 = 64;
+
+/// How many of these transactions a turn copies.
+#[tactic(auto, using(crate::proofs::Counts::count_first, crate::proofs::Turns::turn_next))]
+fn turn_length(list: &[Transaction]) -> usize
+    requires { change_count list.now < 2 ^ 64 }
+    ensures within { result ≤ length list.now }
+    ensures turn { take result list.now ≡ turn_from 0 list.now }
+{
+    let mut count: u64 = 0;
+    let mut number = 0;
+    for transaction in list {
+        if count >= CHANGES_A_TURN {
+            return number;
+        }
+        count += transaction.changes.len() as u64;
+        number += 1;
+    }
+    number
+}
+
+/// How many transactions of a packed list are copied behind a turn, where so many were before it.
+pub(crate) fn copied_length(packed: &[Transaction], first: usize) -> usize
+    requires first { first ≤ length packed.now }
+    requires bounded { change_count packed.now < 2 ^ 64 }
+    ensures within { result ≤ length packed.now }
+    ensures turn { (front rest : List Transaction) → packed.now ≡ front ++ rest → length front ≡ first
+        → take result packed.now ≡ front ++ turn_from 0 rest }
+{
+    first + turn_length(&packed[first..])
 }

@@ -10,4 +10,5 @@ pub mod Lefts
 pub mod Fronts
 pub mod Begun
 pub mod Keeping
+pub mod Short
 pub mod Turns

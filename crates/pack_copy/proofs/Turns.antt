@@ -1,5 +1,5 @@
 -- A transaction of Main is copied to Side.
-use Rattle.std.proofs.Common.{◌≡◌, ℕ, zero, suc, ◌+◌, ◌-◌, ◌<◌, ◌≤◌, Bool, true, false, List, [], ◌∷◌, ◌++◌, length, get_or, map, take, drop, Option, Some, None, Result, Ok, Err, OnOk, refl, sym, ap, subst, ◌∙◌, arith}
+use Rattle.std.proofs.Common.{◌≡◌, ℕ, zero, suc, ◌+◌, ◌-◌, ◌<◌, ◌≤◌, ◌⊎◌, Bool, true, false, List, [], ◌∷◌, ◌++◌, length, get_or, map, take, drop, Option, Some, None, Result, Ok, Err, OnOk, refl, sym, ap, subst, ◌∙◌, arith, drop_of_length-le}
 use Rattle.std.specs.Prelude.{slice_get}
 use Rattle.std.specs.List.{cons_option, filter_map, last_or}
 use Rattle.std.specs.Option.{option_map_or}
@@ -18,13 +18,14 @@ use Rattle.fs_records.specs.Listed.{listed, reached_in}
 use Rattle.fs_index.specs.Places.{Kept, IsRising}
 use Rattle.fs_reading.specs.Main.{IsStart, IsStartOf}
 use Rattle.fs_recovery.specs.Opens.{newest_kept}
-use Rattle.zb_model.specs.Packs.{IsAllOrATurn, IsCopyTurn, IsPrefixOf, change_count, changes_a_turn}
+use Rattle.zb_model.specs.Packs.{IsAllCopied, IsCopyTurn, IsPrefixOf, change_count, changes_a_turn, turn_from}
 use Rattle.pack_copy.specs.CopiedLaws.{copied_list}
 use Rattle.pack_copy.specs.Copying.{CopyKept, IsCopied, IsSource, copied_in}
 use Rattle.pack_copy.specs.Filtering.{left_by}
-use Rattle.pack_copy.specs.UpTo.{Ends, IsAllOrMore, IsBelowNext, IsCopiedUpTo, IsCountUpTo, IsSomeLeft}
+use Rattle.pack_copy.specs.UpTo.{AreShort, Ends, IsAllOrMore, IsBelowNext, IsCopiedUpTo, IsCountUpTo, IsSomeLeft}
 use Rattle.pack_copy.proofs.Fronts.{database_rises, front_is, gone_over, later, left_more, left_next, left_parts, newest_same, some_left, tid_kept}
 use Rattle.pack_copy.proofs.Lefts.{left_is, source_begins, source_list}
+use Rattle.pack_copy.proofs.Short.{short_behind, turn_copies}
 
 -- ---- answers
 
@@ -176,26 +177,38 @@ module _ (main was now : List ℕ) (from : Kept) (old new : CopyKept) (keep : Fi
   grown : (more : ℕ) → IsCopiedUpTo (listed main) now new keep (first + more) → listed now ≡ listed was ++ behind more
   grown more upto = now_is more upto ∙ left_more F first more (listed main) ∙ ap (λ (l : List Transaction). l ++ behind more) (sym before.left)
 
-  as_much : (more : ℕ) → IsCopiedUpTo (listed main) now new keep (first + more) → change_count (listed was) + changes_a_turn ≤ change_count (listed now) → changes_a_turn ≤ change_count (behind more)
+  as_much : (more : ℕ) → IsCopiedUpTo (listed main) now new keep (first + more) → change_count (listed was) + changes_a_turn ≤ change_count (listed now) → changes_a_turn ≤ 0 + change_count (behind more)
   as_much more upto enough =
       let parts : change_count (listed now) ≡ change_count (listed was) + change_count (behind more) = ap change_count (grown more upto) ∙ sum_by-append (λ (x : Transaction). length x.changes) (listed was) (behind more) in
       omega (arith, enough, parts)
 
-  turn_so : (whole : Bool) (more : ℕ) → IsCopiedUpTo (listed main) now new keep (first + more) → IsAllOrMore new.tid keep (listed main) (length from.transactions) (first + more) whole
-      → (whole ≡ false → change_count (listed was) + changes_a_turn ≤ change_count (listed now)) → IsAllOrATurn (packed_by old.tid keep (listed main)) (listed now) (behind more) whole
-  turn_so true more upto all enough = now_is more upto ∙ ap (filter_map F) (take_all (first + more) (listed main) (omega (arith, all, all_long main from source)))
-  turn_so false more upto some enough = (
-    λ all. some (ap (λ (k : ℕ). filter_map (packed_one k keep (listed main)) (take (first + more) (listed main))) tid ∙ sym (now_is more upto) ∙ all ∙ ap (λ (k : ℕ). packed_by k keep (listed main)) (sym tid)),
-    as_much more upto (enough refl),
-  )
+  -- what is left behind what was copied
+  abbrev left_behind : ℕ → List Transaction
+  left_behind more = filter_map F (drop more (drop first (listed main)))
 
-  pub turn_is : (whole : Bool) → Ends (listed main) now new keep first (length from.transactions) whole → (whole ≡ false → change_count (listed was) + changes_a_turn ≤ change_count (listed now))
+  parts : (more : ℕ) → filter_map F (drop first (listed main)) ≡ behind more ++ left_behind more
+  parts more = left_parts F more (drop first (listed main))
+
+  all_so : (whole : Bool) (more : ℕ) → IsCopiedUpTo (listed main) now new keep (first + more) → IsAllOrMore new.tid keep (listed main) (length from.transactions) (first + more) whole → IsAllCopied (packed_by old.tid keep (listed main)) (listed now) whole
+  all_so true more upto all = now_is more upto ∙ ap (filter_map F) (take_all (first + more) (listed main) (omega (arith, all, all_long main from source)))
+  all_so false more upto some =
+    λ all. some (ap (λ (k : ℕ). filter_map (packed_one k keep (listed main)) (take (first + more) (listed main))) tid ∙ sym (now_is more upto) ∙ all ∙ ap (λ (k : ℕ). packed_by k keep (listed main)) (sym tid))
+
+  ends_so : (whole : Bool) (more : ℕ) → IsCopiedUpTo (listed main) now new keep (first + more) → IsAllOrMore new.tid keep (listed main) (length from.transactions) (first + more) whole
+      → (whole ≡ false → change_count (listed was) + changes_a_turn ≤ change_count (listed now)) → (left_behind more ≡ []) ⊎ (changes_a_turn ≤ 0 + change_count (behind more))
+  ends_so true more upto all enough = inl (ap (filter_map F) (drop_of_length-le more (drop first (listed main)) (omega (arith, all, all_long main from source, length-drop first (listed main)))))
+  ends_so false more upto some enough = inr (as_much more upto (enough refl))
+
+  pub turn_is : (whole : Bool) → Ends (listed main) now new keep first (length from.transactions) whole → (whole ≡ false → change_count (listed was) + changes_a_turn ≤ change_count (listed now)) → AreShort (change_count (listed was)) (listed was) (listed now)
       → IsCopyTurn (packed_by old.tid keep (listed main)) (copied_in old.tid was) (copied_in new.tid now) (record { count = count; whole = whole })
-  turn_is whole ends enough = record {
-    more = behind ends.more;
+  turn_is whole ends enough short = record {
+    rest = filter_map F (drop first (listed main));
+    left = left_parts F first (listed main) ∙ ap (λ (l : List Transaction). l ++ filter_map F (drop first (listed main))) (sym before.left);
     tid = tid;
-    grown = grown ends.more ends.up_to;
-    prefix = (filter_map F (drop (first + ends.more) (listed main)), left_parts F (first + ends.more) (listed main) ∙ ap (λ (l : List Transaction). l ++ filter_map F (drop (first + ends.more) (listed main))) (sym (now_is ends.more ends.up_to)));
+    grown = grown ends.more ends.up_to ∙ ap (λ (l : List Transaction). listed was ++ l)
+        (sym (ap (turn_from 0) (parts ends.more) ∙ turn_copies 0 (behind ends.more) (left_behind ends.more)
+        (short_behind (listed was) (behind ends.more) (subst (AreShort (change_count (listed was)) (listed was)) (grown ends.more ends.up_to) short))
+        (ends_so whole ends.more ends.up_to ends.end enough)));
     count = count_is;
-    whole = turn_so whole ends.more ends.up_to ends.end enough;
+    whole = all_so whole ends.more ends.up_to ends.end;
   }

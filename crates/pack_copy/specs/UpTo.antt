@@ -1,10 +1,11 @@
 -- How far a copy has come. Source: own.
-use Rattle.std.specs.Prelude.{◌≡◌, ℕ, ◌+◌, ◌<◌, ◌≤◌, Bool, true, false, List, length, take, slice_index_or}
+use Rattle.std.specs.Prelude.{◌≡◌, ℕ, ◌+◌, ◌<◌, ◌≤◌, ◌⊎◌, Bool, true, false, List, [], ◌∷◌, ◌++◌, length, take, slice_index_or}
 use Rattle.std.specs.List.{filter_map}
 use Rattle.std.specs.Ordering.{nat_cmp}
 use Rattle.std.specs.FinSet.{FinSet}
 use Rattle.zb_model.specs.declared.data.Transaction.{Transaction}
 use Rattle.zb_model.specs.Packing.{packed_one}
+use Rattle.zb_model.specs.Packs.{change_count, changes_a_turn}
 use Rattle.fs_index.specs.declared.place.Place.{Place}
 use Rattle.fs_records.specs.Listed.{listed}
 use Rattle.pack_copy.specs.Copying.{CopyKept, IsCopied}
@@ -43,3 +44,12 @@ pub record Ends (list : List Transaction) (side : List ℕ) (c : CopyKept) (keep
   pub more : ℕ
   pub up_to : IsCopiedUpTo list side c keep (first + more)
   pub end : IsAllOrMore c.tid keep list total (first + more) whole
+
+-- a list is as it was, or, where that isn't enough, has one transaction more
+abbrev pub AddsUnlessEnough : Bool → List Transaction → List Transaction → Type 0
+AddsUnlessEnough true old new = new ≡ old
+AddsUnlessEnough false old new = (new ≡ old) ⊎ ((x : Transaction) × (new ≡ old ++ x ∷ []))
+
+-- behind a turn over these transactions, which had so many changes before it: whatever front the turn came by has fewer changes than a turn copies besides them
+abbrev pub AreShort : ℕ → List Transaction → List Transaction → Type 0
+AreShort before was now = (k : ℕ) → length was ≤ k → k < length now → change_count (take k now) < before + changes_a_turn

@@ -13,7 +13,7 @@ ghost use Rattle.fs_reading.specs.Main.{IsStart, IsStartOf};
 ghost use Rattle.fs_recovery.specs.Opens.{newest_kept};
 ghost use Rattle.fs_reading.specs.Outlines.{AllStandWithin, IsOutline, outlined_transaction};
 ghost use Rattle.pack_copy.specs.Copying.{IsCopied, IsSource, copied_in};
-ghost use Rattle.pack_copy.specs.UpTo.{Ends, GoesOn, IsBelowNext, IsCopiedUpTo, IsCountUpTo};
+ghost use Rattle.pack_copy.specs.UpTo.{AddsUnlessEnough, AreShort, Ends, GoesOn, IsBelowNext, IsCopiedUpTo, IsCountUpTo};
 ghost use Rattle.pack_copy.specs.InFull.{full_file};
 ghost use Rattle.pack_copy.specs.Counting.{IsCopyCounted};
 
@@ -69,7 +69,7 @@ fn read_at<V: Volume>(alloc: Global, volume: &mut V, start: Place) -> Result<Out
     Ok(with_tid(outline, tid))
 }
 
-/// How many changes a turn copies at least, where something is left behind it.
+/// A turn ends once it has copied so many changes.
 const CHANGES_A_TURN: u64 = 64;
 
 /// How far a copy goes on.
@@ -85,6 +85,8 @@ enum Extent {
 fn is_over(extent: Extent, changes: u64) -> bool
     ensures turn { (before : ℕ) → extent ≡ Extent.Turn before → IsTrue result
         → before + changes_a_turn ≤ changes }
+    ensures early { (before : ℕ) → extent ≡ Extent.Turn before → result ≡ false
+        → changes < before + changes_a_turn }
     ensures rest { extent ≡ Extent.Rest → result ≡ false }
 {
     match extent {
@@ -120,6 +122,9 @@ fn copy_one<V: Volume>(
         → IfOk result (GoesOn (listed (seen (V.state volume.old).log Area.Main))
         (seen (V.state volume.new).log Area.Side) to.new keep.now number) }
     ensures enough { IfOk result (λ over. over ≡ false → enough ≡ true) }
+    ensures added { V.told → IfOk result (λ over. AddsUnlessEnough enough
+        (listed (seen (V.state volume.old).log Area.Side))
+        (listed (seen (V.state volume.new).log Area.Side))) }
     ensures newest { OnOk result (newest_kept to.new.index ≤ start.serial) }
     ensures tid { to.new.tid ≡ to.old.tid }
     ensures unmoved { IfOk result (λ over. over ≡ false → ((V.state volume.new).log
@@ -164,6 +169,9 @@ fn copy_from<V: Volume>(
     ensures turn { V.told → (before : ℕ) → extent ≡ Extent.Turn before
         → IfOk result (λ whole. whole ≡ false
         → before + changes_a_turn ≤ change_count
+        (listed (seen (V.state volume.new).log Area.Side))) }
+    ensures short { V.told → (before : ℕ) → extent ≡ Extent.Turn before
+        → OnOk result (AreShort before (listed (seen (V.state volume.old).log Area.Side))
         (listed (seen (V.state volume.new).log Area.Side))) }
     ensures rest { extent ≡ Extent.Rest → IfOk result (λ whole. whole ≡ true) }
     ensures tid { to.new.tid ≡ to.old.tid }

@@ -15,5 +15,6 @@ pub mod SerialLaws
 pub mod SetLaws
 pub mod StayLaws
 pub mod Stores
+pub mod TurnLaws
 pub mod Voting
 pub mod VotingLaws

@@ -1,5 +1,5 @@
 -- What the calls of a pack do to a store. Source: `pack` of ZODB's FileStorage; copying in turns is own.
-use Rattle.std.specs.Prelude.{◌≡◌, ℕ, ◌+◌, ◌≤◌, ◌⊎◌, List, [], ◌++◌, Bool, true, false, Some, length}
+use Rattle.std.specs.Prelude.{◌≡◌, ℕ, ◌+◌, ◌⊎◌, List, [], ◌∷◌, ◌++◌, Bool, true, false, Some, length, nat_le, if◌then◌else◌}
 use Rattle.std.specs.List.{sum_by}
 use Rattle.std.specs.Option.{ForSome}
 use Rattle.std.specs.Ordering.{nat_cmp}
@@ -26,23 +26,28 @@ new_pack tid = record { tid = tid; copied = [] }
 abbrev pub IsCopyOf : FinSet nat_cmp → List Transaction → BegunPack → Type 0
 IsCopyOf keep list pack = IsPrefixOf (packed_by pack.tid keep list) pack.copied
 
--- at least so many changes are copied in a turn, unless nothing is left
+-- a turn ends once it has copied so many changes, or nothing is left
 abbrev pub changes_a_turn : ℕ
 changes_a_turn = 64
 
--- all is copied; or something is left, and these were as many as a turn copies
-abbrev pub IsAllOrATurn : List Transaction → List Transaction → List Transaction → Bool → Type 0
-IsAllOrATurn packed copied more true = copied ≡ packed
-IsAllOrATurn packed copied more false = (copied ≡ packed → ⊥) × (changes_a_turn ≤ change_count more)
+-- Of these transactions, those that a turn copies still which has copied so many changes: each whole, until the turn ends. One without changes counts nothing, and ends no turn.
+abbrev pub turn_from : ℕ → List Transaction → List Transaction
+turn_from count [] = []
+turn_from count (x ∷ rest) = if nat_le changes_a_turn count then [] else x ∷ turn_from (count + length x.changes) rest
 
--- More transactions of the packed list are copied, each whole. The count is that of all that are copied.
+-- whether all is copied
+abbrev pub IsAllCopied : List Transaction → List Transaction → Bool → Type 0
+IsAllCopied packed copied true = copied ≡ packed
+IsAllCopied packed copied false = copied ≡ packed → ⊥
+
+-- The next transactions of the packed list are copied, those of one turn. The count is that of all that are copied.
 pub record IsCopyTurn (packed : List Transaction) (old new : BegunPack) (copied : Copied) : Type 0 where
-  pub more : List Transaction
+  pub rest : List Transaction
+  pub left : packed ≡ old.copied ++ rest
   pub tid : new.tid ≡ old.tid
-  pub grown : new.copied ≡ old.copied ++ more
-  pub prefix : IsPrefixOf packed new.copied
+  pub grown : new.copied ≡ old.copied ++ turn_from 0 rest
   pub count : copied.count ≡ change_count new.copied
-  pub whole : IsAllOrATurn packed new.copied more copied.whole
+  pub whole : IsAllCopied packed new.copied copied.whole
 
 -- the changes that stay are those of the packed list, and the others went
 pub record IsPackCount (list packed : List Transaction) (counts : Packed) : Type 0 where

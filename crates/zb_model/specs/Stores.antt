@@ -1,8 +1,10 @@
 -- What contracts see of a store, and what they say of its outcomes. Own.
-use Rattle.std.specs.Prelude.{◌≡◌, ℕ, ◌≤◌, ◌⊎◌, Bool, Option, None, List, [], ◌∷◌, ◌++◌, Result, Ok, Err, IfErr, OnOk}
+use Rattle.std.specs.Prelude.{◌≡◌, ℕ, ◌≤◌, ◌⊎◌, Bool, true, false, Option, None, List, [], ◌∷◌, ◌++◌, Result, Ok, Err, IfErr, OnOk, OnErr, IsErrOf}
 use Rattle.std.specs.Option.{option_map}
+use Rattle.zb_volume.specs.declared.areas.Area.TheVariants.{Side}
 use Rattle.zb_volume.specs.Calls.{Event}
-use Rattle.zb_base.specs.Counts.{Rose}
+use Rattle.zb_volume.specs.Disk.{seen, IsSettled}
+use Rattle.zb_base.specs.Counts.{HasCause, Rose}
 use Rattle.zb_model.specs.declared.data.Transaction.{Transaction}
 use Rattle.zb_model.specs.declared.store_error.StoreError.{StoreError}
 use Rattle.zb_model.specs.declared.store_error.StoreError.TheVariants.{StoreFault, ReadFault, Memory}
@@ -134,3 +136,54 @@ SwitchKeepsRest old new = new ≡ record old { list = new.list; begun = new.begu
 -- dropping a pack leaves all else
 abbrev pub DropKeepsRest : StoreState → StoreState → Type 0
 DropKeepsRest old new = new ≡ record old { begun = None }
+
+-- ---- what a call leaves, in one word
+
+-- a store is broken behind a call where that answers a store fault, and there alone
+pub record BreaksByFault {T : Type 0} (new : StoreState) (result : Result T StoreError) : Type 0 where
+  pub whole : UnlessFault result (new.broken ≡ false)
+  pub breaks : IsErrOf result StoreFault → new.broken ≡ true
+
+-- likewise of a call whose one error is a store fault, which takes no memory and reads nothing: such a fault is counted, and else no count has moved
+pub record MayBreak {T E : Type 0} (old new : StoreState) (result : Result T E) : Type 0 where
+  pub whole : OnOk result (new.broken ≡ false)
+  pub breaks : OnErr result (new.broken ≡ true)
+  pub cause : HasCause old.faults new.faults result
+  pub uncounted : OnOk result (new.faults ≡ old.faults)
+
+-- A vote leaves the begun pack and the number of the newest, the list too unless it answers a store fault, and all but the counts where it is refused otherwise.
+pub record VoteLeaves {T : Type 0} (told : Type 0) (old new : StoreState) (result : Result T StoreError) : Type 0 where
+  pub keeps : VoteKeepsRest old new
+  pub begun : KeepsBegun told old new
+  pub list : told → UnlessFault result (new.list ≡ old.list)
+  pub refused : IfErr result (RefusalKeepsRest old new)
+
+-- a finish leaves the begun pack and the count of read faults
+pub record FinishLeaves (told : Type 0) (old new : StoreState) : Type 0 where
+  pub keeps : FinishKeepsRest old new
+  pub begun : KeepsBegun told old new
+
+-- an abort leaves these and the number of the newest, and, unless it answers a store fault, the list
+pub record AbortLeaves {T E : Type 0} (told : Type 0) (old new : StoreState) (result : Result T E) : Type 0 where
+  pub keeps : AbortKeepsRest old new
+  pub begun : KeepsBegun told old new
+  pub list : told → OnOk result (new.list ≡ old.list)
+
+-- Beginning and copying a pack leave what is voted and the number of the newest, and, unless they answer a store fault, the list. With an error no pack is begun.
+pub record CopyLeaves {T : Type 0} (told : Type 0) (old new : StoreState) (result : Result T StoreError) : Type 0 where
+  pub keeps : CopyKeepsRest old new
+  pub voted : KeepsVoted told old new
+  pub list : told → UnlessFault result (new.list ≡ old.list)
+  pub none : OnErr result (new.begun ≡ None)
+
+-- A switch leaves no pack begun. With an error the number of the newest is as before, and, unless that is a store fault, the list.
+pub record SwitchLeaves {T : Type 0} (told : Type 0) (old new : StoreState) (result : Result T StoreError) : Type 0 where
+  pub keeps : SwitchKeepsRest old new
+  pub none : new.begun ≡ None
+  pub unchanged : told → OnErr result (UnlessFault result (new.list ≡ old.list))
+  pub unmoved : OnErr result (new.newest ≡ old.newest)
+
+-- Side is empty, and a crash leaves it so
+pub record SideIsEmpty (log : List Event) : Type 0 where
+  pub empty : seen log Side ≡ []
+  pub settled : IsSettled log Side

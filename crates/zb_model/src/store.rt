@@ -1,16 +1,15 @@
 //! What a store promises, however it keeps its list, and what a crash leaves of it.
 
-ghost use Rattle.std.specs.Prelude.{◌≡◌, ℕ, ◌<◌, ◌-◌, ◌^◌, ◌++◌, ◌∷◌, [], None, Some, IsSome, IfErr, IfOk, IsErrOf, OnOk, OnErr, false, true};
+ghost use Rattle.std.specs.Prelude.{◌≡◌, ℕ, ◌<◌, ◌-◌, ◌^◌, ◌++◌, ◌∷◌, [], None, Some, IsSome, IfOk, OnOk, OnErr, false};
 ghost use Rattle.std.specs.Option.{ForSome};
 ghost use Rattle.zb_volume.specs.declared.areas.Area.{Area};
-ghost use Rattle.zb_base.specs.Counts.{HasCause};
 ghost use Rattle.zb_volume.specs.Moments.{LeavesOnly, StaysAs};
 ghost use Rattle.zb_model.specs.Database.{newest_tid, serial_of};
 ghost use Rattle.zb_model.specs.Lists.{history_of, undo_log_of};
 ghost use Rattle.zb_model.specs.Queries.{changes_up_to, found_below, first_after, greatest_oid, pack_point, transaction_at};
 ghost use Rattle.zb_model.specs.Packing.{packed_by};
 ghost use Rattle.zb_model.specs.Packs.{IsCopyOf, IsCopyTurn, IsPackCount, StandsForOneOfTwo, new_pack};
-ghost use Rattle.zb_model.specs.Stores.{AbortKeepsRest, CopyKeepsRest, DropKeepsRest, FinishKeepsRest, HasStoreCause, IsOnlyRead, KeepsBegun, KeepsVoted, RefusalKeepsRest, StandsForOneOf, SwitchKeepsRest, UnlessFault, VoteKeepsRest, tid_of_begun};
+ghost use Rattle.zb_model.specs.Stores.{AbortLeaves, BreaksByFault, CopyLeaves, DropKeepsRest, FinishLeaves, HasStoreCause, IsOnlyRead, MayBreak, SideIsEmpty, StandsForOneOf, SwitchLeaves, UnlessFault, VoteLeaves, tid_of_begun};
 ghost use Rattle.zb_model.specs.Voting.{IsVotable, IsWellFormed, voted_of};
 
 use crate::data::Transaction;
@@ -53,9 +52,6 @@ pub trait Store {
 
     /// Whether their list lies on a disk, so that it outlives a crash.
     ghost lasts: { Type 0 };
-
-    /// Whether no call of theirs changes a volume.
-    ghost quiet: { Type 0 };
 
     /// What contracts see of a store.
     ghost state: { Self → StoreState };
@@ -128,124 +124,93 @@ pub trait Store {
         requires later { (state self.old).newest < new.now.tid }
         requires well_formed { IsWellFormed new.now }
         requires votable { told → IsVotable (state self.old).list new.now }
-        ensures whole { UnlessFault result ((state self.new).broken ≡ false) }
-        ensures breaks { IsErrOf result StoreError.StoreFault → (state self.new).broken ≡ true }
         ensures some { OnOk result (IsSome (state self.new).voted) }
         ensures voted { told → OnOk result ((state self.new).voted ≡ Some (voted_of (state self.old).list new.now)) }
         ensures tid { OnOk result (ForSome (state self.new).voted (λ t. t.tid ≡ new.now.tid)) }
         ensures none { OnErr result ((state self.new).voted ≡ None) }
-        ensures keeps { VoteKeepsRest (state self.old) (state self.new) }
-        ensures begun { KeepsBegun told (state self.old) (state self.new) }
-        ensures refused { IfErr result (RefusalKeepsRest (state self.old) (state self.new)) }
-        ensures list { told → UnlessFault result ((state self.new).list ≡ (state self.old).list) }
+        ensures leaves { VoteLeaves told (state self.old) (state self.new) result }
+        ensures fault { BreaksByFault (state self.new) result }
+        ensures cause { HasStoreCause (state self.old) (state self.new) result }
         ensures any_moment { lasts → LeavesOnly Area.Main (λ bytes. stands bytes (state self.old).list)
             (state self.old).log (state self.new).log }
-        ensures side { lasts → StaysAs Area.Side (state self.old).log (state self.new).log }
-        ensures quiet { quiet → (state self.new).log ≡ (state self.old).log }
-        ensures cause { HasStoreCause (state self.old) (state self.new) result };
+        ensures side { lasts → StaysAs Area.Side (state self.old).log (state self.new).log };
 
     /// Puts the voted transaction at the end of the list. It takes no memory.
     fn finish(&mut self) -> Result<(), StoreFault>
         requires whole { (state self.old).broken ≡ false }
         requires voted { IsSome (state self.old).voted }
-        ensures whole { OnOk result ((state self.new).broken ≡ false) }
-        ensures breaks { OnErr result ((state self.new).broken ≡ true) }
         ensures list { told → OnOk result
             (ForSome (state self.old).voted (λ t. (state self.new).list ≡ (state self.old).list ++ t ∷ [])) }
         ensures number { OnOk result
             (ForSome (state self.old).voted (λ t. (state self.new).newest ≡ t.tid)) }
         ensures voted { OnOk result ((state self.new).voted ≡ None) }
+        ensures leaves { FinishLeaves told (state self.old) (state self.new) }
+        ensures fault { MayBreak (state self.old) (state self.new) result }
         ensures any_moment { lasts → ForSome (state self.old).voted (λ t. LeavesOnly Area.Main
             (StandsForOneOf stands (state self.old).list t) (state self.old).log (state self.new).log) }
-        ensures side { lasts → StaysAs Area.Side (state self.old).log (state self.new).log }
-        ensures quiet { quiet → (state self.new).log ≡ (state self.old).log }
-        ensures cause { HasCause (state self.old).faults (state self.new).faults result }
-        ensures uncounted { OnOk result ((state self.new).faults ≡ (state self.old).faults) }
-        ensures keeps { FinishKeepsRest (state self.old) (state self.new) }
-        ensures begun { KeepsBegun told (state self.old) (state self.new) };
+        ensures side { lasts → StaysAs Area.Side (state self.old).log (state self.new).log };
 
     /// Drops the voted transaction. It takes no memory.
     fn abort(&mut self) -> Result<(), StoreFault>
         requires whole { (state self.old).broken ≡ false }
         requires voted { IsSome (state self.old).voted }
-        ensures whole { OnOk result ((state self.new).broken ≡ false) }
-        ensures breaks { OnErr result ((state self.new).broken ≡ true) }
-        ensures list { told → OnOk result ((state self.new).list ≡ (state self.old).list) }
         ensures voted { OnOk result ((state self.new).voted ≡ None) }
+        ensures leaves { AbortLeaves told (state self.old) (state self.new) result }
+        ensures fault { MayBreak (state self.old) (state self.new) result }
         ensures any_moment { lasts → LeavesOnly Area.Main (λ bytes. stands bytes (state self.old).list)
             (state self.old).log (state self.new).log }
-        ensures side { lasts → StaysAs Area.Side (state self.old).log (state self.new).log }
-        ensures quiet { quiet → (state self.new).log ≡ (state self.old).log }
-        ensures cause { HasCause (state self.old).faults (state self.new).faults result }
-        ensures uncounted { OnOk result ((state self.new).faults ≡ (state self.old).faults) }
-        ensures keeps { AbortKeepsRest (state self.old) (state self.new) }
-        ensures begun { KeepsBegun told (state self.old) (state self.new) };
+        ensures side { lasts → StaysAs Area.Side (state self.old).log (state self.new).log };
 
     /// Begins a pack that goes over the transactions up to a tid, in place of any other that is begun:
     /// nothing is copied yet. What is voted stays so. With an error no pack is begun.
     fn pack_begin(&mut self, alloc: Global, tid: Tid) -> Result<(), StoreError>
         requires { (state self.old).broken ≡ false }
-        ensures whole { UnlessFault result ((state self.new).broken ≡ false) }
-        ensures breaks { IsErrOf result StoreError.StoreFault → (state self.new).broken ≡ true }
         ensures begun { told → OnOk result ((state self.new).begun ≡ Some (new_pack tid)) }
         ensures tid { OnOk result (tid_of_begun (state self.new) ≡ Some tid) }
-        ensures none { OnErr result ((state self.new).begun ≡ None) }
-        ensures keeps { CopyKeepsRest (state self.old) (state self.new) }
-        ensures voted { KeepsVoted told (state self.old) (state self.new) }
-        ensures list { told → UnlessFault result ((state self.new).list ≡ (state self.old).list) }
-        ensures main { lasts → StaysAs Area.Main (state self.old).log (state self.new).log }
-        ensures quiet { quiet → (state self.new).log ≡ (state self.old).log }
-        ensures cause { HasStoreCause (state self.old) (state self.new) result };
+        ensures leaves { CopyLeaves told (state self.old) (state self.new) result }
+        ensures fault { BreaksByFault (state self.new) result }
+        ensures cause { HasStoreCause (state self.old) (state self.new) result }
+        ensures main { lasts → StaysAs Area.Main (state self.old).log (state self.new).log };
 
     /// Copies more of the packed list, in which just the objects of a set are kept: transaction by
-    /// transaction, each whole, and at least 64 changes in a turn where something is left behind it. The
+    /// transaction, each whole, until 64 changes or more are copied in this turn or nothing is left. The
     /// set is the same in each call of one pack. What is voted stays so. With an error no pack is begun.
     fn pack_copy(&mut self, alloc: Global, keep: &OidSet) -> Result<Copied, StoreError>
         requires whole { (state self.old).broken ≡ false }
         requires begun { IsSome (state self.old).begun }
         requires copy { told → ForSome (state self.old).begun (IsCopyOf keep.now (state self.old).list) }
-        ensures whole { UnlessFault result ((state self.new).broken ≡ false) }
-        ensures breaks { IsErrOf result StoreError.StoreFault → (state self.new).broken ≡ true }
         ensures tid { OnOk result (tid_of_begun (state self.new) ≡ tid_of_begun (state self.old)) }
         ensures copied { told → IfOk result (λ copied. ForSome (state self.old).begun (λ old.
             ForSome (state self.new).begun (λ new.
             IsCopyTurn (packed_by old.tid keep.now (state self.old).list) old new copied))) }
-        ensures none { OnErr result ((state self.new).begun ≡ None) }
-        ensures keeps { CopyKeepsRest (state self.old) (state self.new) }
-        ensures voted { KeepsVoted told (state self.old) (state self.new) }
-        ensures list { told → UnlessFault result ((state self.new).list ≡ (state self.old).list) }
-        ensures main { lasts → StaysAs Area.Main (state self.old).log (state self.new).log }
-        ensures quiet { quiet → (state self.new).log ≡ (state self.old).log }
-        ensures cause { HasStoreCause (state self.old) (state self.new) result };
+        ensures leaves { CopyLeaves told (state self.old) (state self.new) result }
+        ensures fault { BreaksByFault (state self.new) result }
+        ensures cause { HasStoreCause (state self.old) (state self.new) result }
+        ensures main { lasts → StaysAs Area.Main (state self.old).log (state self.new).log };
 
-    /// Copies what is left of the packed list, and puts it in the place of the list in one step. Whatever
-    /// is answered, no pack is begun behind it; with an error the list is as before, or, where it is a
-    /// store fault, a crash leaves one of the two.
+    /// Copies what is left of the packed list, and puts it in the place of the list in one step; then Side
+    /// is empty. Whatever is answered, no pack is begun behind it; with an error the list is as before,
+    /// or, where it is a store fault, a crash leaves one of the two.
     fn pack_switch(&mut self, alloc: Global, keep: &OidSet) -> Result<Packed, StoreError>
         requires whole { (state self.old).broken ≡ false }
         requires free { (state self.old).voted ≡ None }
         requires begun { IsSome (state self.old).begun }
         requires copy { told → ForSome (state self.old).begun (IsCopyOf keep.now (state self.old).list) }
-        ensures whole { UnlessFault result ((state self.new).broken ≡ false) }
-        ensures breaks { IsErrOf result StoreError.StoreFault → (state self.new).broken ≡ true }
         ensures list { told → OnOk result (ForSome (state self.old).begun (λ pack.
             (state self.new).list ≡ packed_by pack.tid keep.now (state self.old).list)) }
         ensures number { told → OnOk result ((state self.new).newest ≡ newest_tid (state self.new).list) }
         ensures counts { told → IfOk result (λ counts.
             IsPackCount (state self.old).list (state self.new).list counts) }
-        ensures unchanged { told → OnErr result
-            (UnlessFault result ((state self.new).list ≡ (state self.old).list)) }
-        ensures unmoved { OnErr result ((state self.new).newest ≡ (state self.old).newest) }
-        ensures none { (state self.new).begun ≡ None }
-        ensures keeps { SwitchKeepsRest (state self.old) (state self.new) }
+        ensures leaves { SwitchLeaves told (state self.old) (state self.new) result }
+        ensures fault { BreaksByFault (state self.new) result }
+        ensures cause { HasStoreCause (state self.old) (state self.new) result }
         ensures main { lasts → OnErr result
             (UnlessFault result (StaysAs Area.Main (state self.old).log (state self.new).log)) }
         ensures any_moment { lasts → ForSome (state self.old).begun (λ pack. LeavesOnly Area.Main
             (StandsForOneOfTwo stands (state self.old).list
             (packed_by pack.tid keep.now (state self.old).list))
             (state self.old).log (state self.new).log) }
-        ensures quiet { quiet → (state self.new).log ≡ (state self.old).log }
-        ensures cause { HasStoreCause (state self.old) (state self.new) result };
+        ensures side { lasts → OnOk result (SideIsEmpty (state self.new).log) };
 
     /// Drops the pack that is begun, if one is. It calls no volume and takes no memory.
     fn pack_drop(&mut self)

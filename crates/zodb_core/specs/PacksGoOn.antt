@@ -15,6 +15,7 @@ use Rattle.zb_model.specs.declared.store_error.StoreError.{StoreError}
 use Rattle.zb_model.specs.Database.{ObjectRevision}
 use Rattle.zb_model.specs.Packing.{is_held, packed_by, packed_form, packed_one, serial_up_to, stays}
 use Rattle.zb_model.specs.Packs.{IsCopyOf, IsCopyTurn, IsPrefixOf, new_pack}
+use Rattle.zb_model.specs.TurnLaws.{copied_is_front}
 use Rattle.zb_model.specs.Stores.{AbortKeepsRest, BegunPack, CopyKeepsRest, KeepsBegun, KeepsVoted, StoreState, UnlessFault, VoteKeepsRest, tid_of_begun}
 use Rattle.zodb_core.specs.GrowthLaws.{revision_behind}
 
@@ -61,7 +62,7 @@ copied_more : (keep : FinSet nat_cmp) (list now : List Transaction) (old new : O
 copied_more keep list now None new copied some same turn = absurd cc
 copied_more keep list now (Some o) new copied some same turn = λ pack is.
     let t = turn o refl pack is in
-    subst (λ (l : List Transaction). IsCopyOf keep l pack) (sym same) (subst (λ (n : ℕ). IsPrefixOf (packed_by n keep list) pack.copied) (sym t.tid) t.prefix)
+    subst (λ (l : List Transaction). IsCopyOf keep l pack) (sym same) (subst (λ (n : ℕ). IsPrefixOf (packed_by n keep list) pack.copied) (sym t.tid) (copied_is_front (packed_by o.tid keep list) o pack copied t))
 
 -- and one that a turn went on with
 pub packing_turned : (told : Type 0) (keep : FinSet nat_cmp) (old new : StoreState) (copied : Copied) → IsPacking told keep old → new.broken ≡ false → tid_of_begun new ≡ tid_of_begun old → (told → new.list ≡ old.list)

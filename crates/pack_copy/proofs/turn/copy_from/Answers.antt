@@ -9,7 +9,8 @@ use Rattle.fs_recovery.specs.Opens.{newest_kept}
 use Rattle.fs_reading.specs.Main.{IsStartOf}
 use Rattle.pack_copy.specs.CopiedLaws.{copied_counts}
 use Rattle.pack_copy.specs.Copying.{CopyKept, IsSource}
-use Rattle.pack_copy.specs.UpTo.{GoesOn, IsBelowNext, IsCopiedUpTo}
+use Rattle.pack_copy.specs.UpTo.{AreShort, GoesOn, IsBelowNext, IsCopiedUpTo}
+use Rattle.pack_copy.proofs.Short.{short_more}
 use Rattle.pack_copy.proofs.Stays.{seen_same, stays_join}
 use Rattle.pack_copy.proofs.Turns.{all_gone, next_above, start_is}
 use Rattle.pack_copy.proofs.turn.copy_from.Goals as goal
@@ -21,6 +22,7 @@ copy-init g c =
     record {
       main = λ told. here refl;
       up_to = λ told. subst (λ (n : ℕ). IsCopiedUpTo (listed (seen (g.V.Volume.state c.args.volume.now).log Main)) (seen (g.V.Volume.state c.args.volume.now).log Side) c.args.to.now c.args.keep.now n) first (c.requires.up_to told);
+      short = λ told before is k above within. absurd (omega (arith, above, within));
       above = subst (λ (n : ℕ). IsBelowNext c.args.from.now.transactions (newest_kept c.args.to.now.index) n) first c.requires.above;
       tid = refl;
       counts = record { reads = refl; writes = refl };
@@ -65,6 +67,12 @@ copy-preserved g c =
       up_to = λ told.
           subst (λ (n : ℕ). IsCopiedUpTo (listed main) (seen (g.V.Volume.state c.copy_one.new.volume).log Side) c.copy_one.new.to c.args.keep.now n) after
           (subst (λ (b : Bool). GoesOn (listed main) (seen (g.V.Volume.state c.copy_one.new.volume).log Side) c.copy_one.new.to c.args.keep.now (c.args.first + c.copy.start-index) b) c.if-not-over.false (next g (goal.at.copy-preserved g c).In_ok-over told));
+      short = λ told before is.
+          let side = seen (g.V.Volume.state c.copy.volume).log Side in
+          let k = copied_counts side c.copy.to (c.copy.invariant.up_to told).copied in
+          let changes = c.changes.ensures (listed side) k.0 k.1 in
+          short_more c.is_over-enough.result before (listed (seen (g.V.Volume.state c.args.volume.now).log Side)) (listed side) (listed (seen (g.V.Volume.state c.copy_one.new.volume).log Side))
+          (λ early. omega (arith, c.is_over-enough.ensures.early before is early, changes)) (c.in_ok-over.ensures.added told) (c.copy.invariant.short told before is);
       above = next_above c.transactions-starts.result.now c.args.from.now.transactions c.args.first c.copy.start-index (newest_kept c.copy_one.new.to.index) c.start-item.result c.transactions-starts.ensures.value c.transactions-starts.ensures.rising c.copy-test.true c.start-item.is c.in_ok-over.ensures.newest;
       tid = c.copy_one.ensures.tid ∙ c.copy.invariant.tid;
       counts = record {
@@ -92,6 +100,14 @@ returns-then-not-over-clause-turn g c = λ told before is none.
     let still = c.in_ok-over.ensures.unmoved c.if-not-over.true in
     let passed = c.is_over-enough.ensures.turn before is (c.in_ok-over.ensures.enough c.if-not-over.true) in
     subst (λ (l : List Event). before + changes_a_turn ≤ change_count (listed (seen l Side))) (sym still.0) (omega (arith, passed, changes))
+
+pub returns-then-not-over-clause-short : goal.returns-then-not-over-clause-short
+returns-then-not-over-clause-short g c = λ told before is.
+    let still = c.in_ok-over.ensures.unmoved c.if-not-over.true in
+    subst (λ (l : List Event). AreShort before (listed (seen (g.V.Volume.state c.args.volume.now).log Side)) (listed (seen l Side))) (sym still.0) (c.copy.invariant.short told before is)
+
+pub returns-clause-short : goal.returns-clause-short
+returns-clause-short g c = λ told before is. c.copy.invariant.short told before is
 
 pub returns-clause-ends : goal.returns-clause-ends
 returns-clause-ends g c = λ told. record {

@@ -7,6 +7,7 @@ use Rattle.pack_copy.specs.Copying.{CopyKept, IsCopied}
 use Rattle.pack_copy.specs.UpTo.{IsCopiedUpTo}
 use Rattle.fs_reading.specs.Outlines.{AllStandWithin, outlined_transaction}
 use Rattle.pack_copy.proofs.Lefts.{left_none, left_some, left_within, source_begins}
+use Rattle.pack_copy.proofs.Short.{one_adds, same_adds}
 use Rattle.pack_copy.proofs.Stays.{stays_same}
 use Rattle.pack_copy.proofs.Turns.{is_start, later_left, more_left, none_left, one_more}
 use Rattle.pack_copy.proofs.turn.copy_one.Goals as goal
@@ -69,3 +70,16 @@ returns-in-None-clause-next g c = λ told number start upto.
 
 pub returns-in-None-clause-main : goal.returns-in-None-clause-main
 returns-in-None-clause-main g c told = stays_same Main _ _ c.read_at.ensures.same
+
+-- ---- what is added
+
+pub returns-in_ok-append-in-Some-clause-added : goal.returns-in_ok-append-in-Some-clause-added
+returns-in_ok-append-in-Some-clause-added g c = λ told.
+    one_adds c.args.enough _ _ (outlined_transaction (seen (g.V.Volume.state c.read_at.new.volume).log Main) c.in-Some.left) c.if-enough.false
+    (c.in_ok-append-in-Some.ensures.list told ∙ ap (λ l. listed (seen l Side) ++ outlined_transaction (seen (g.V.Volume.state c.read_at.new.volume).log Main) c.in-Some.left ∷ []) c.read_at.ensures.same)
+
+pub returns-then-enough-clause-added : goal.returns-then-enough-clause-added
+returns-then-enough-clause-added g c = λ told. same_adds c.args.enough _ _ (ap (λ l. listed (seen l Side)) c.read_at.ensures.same)
+
+pub returns-in-None-clause-added : goal.returns-in-None-clause-added
+returns-in-None-clause-added g c = λ told. same_adds c.args.enough _ _ (ap (λ l. listed (seen l Side)) c.read_at.ensures.same)

@@ -1,8 +1,9 @@
-use Rattle.std.proofs.Common.{refl, arith}
+use Rattle.std.proofs.Common.{ℕ, refl, subst, arith}
 use Rattle.zb_volume.specs.declared.areas.Area.TheVariants.{Main, Side}
 use Rattle.zb_volume.specs.Disk.{seen}
 use Rattle.fs_records.specs.Listed.{listed}
 use Rattle.pack_copy.specs.CopiedLaws.{copied_counts}
+use Rattle.pack_copy.specs.UpTo.{AreShort}
 use Rattle.pack_copy.proofs.Turns.{goes_on, turn_is}
 use Rattle.pack_copy.proofs.turn.copy_turn.Goals as goal
 
@@ -27,3 +28,4 @@ returns-clause-turn g c = λ told.
     let first = c.changes.ensures (listed was) before.0 before.1 in
     turn_is main was now c.args.from.now c.args.to.now c.copy_from.new.to c.args.keep.now c.count_up_to-first.result (c.requires.source told) c.copy_from.ensures.tid upto c.changes-2.result (c.changes-2.ensures (listed now) after.0 after.1)
     c.in_ok-whole.whole ends (λ part. let enough = c.in_ok-whole.ensures.turn told c.changes.result refl part in omega (arith, enough, first))
+    (subst (λ (n : ℕ). AreShort n (listed was) (listed now)) first (c.in_ok-whole.ensures.short told c.changes.result refl))

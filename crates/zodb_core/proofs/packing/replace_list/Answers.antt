@@ -17,7 +17,7 @@ pub returns-clause-list : goal.returns-clause-list
 returns-clause-list g c = λ told.
     let s = g.St.Store.state c.args.store.now in
     let mid = g.St.Store.state c.pack_begin.new.self in
-    switched_list c.pack_switch.result c.args.keep.now mid.begun c.args.tid s.list mid.list (g.St.Store.state c.pack_switch.new.self).list (c.in-Ok.ensures.begun told) (c.in-Ok.ensures.list told) (c.pack_switch.ensures.list told)
+    switched_list c.pack_switch.result c.args.keep.now mid.begun c.args.tid s.list mid.list (g.St.Store.state c.pack_switch.new.self).list (c.in-Ok.ensures.begun told) (c.in-Ok.ensures.leaves.list told) (c.pack_switch.ensures.list told)
 
 pub returns-clause-main : goal.returns-clause-main
 returns-clause-main g c = λ lasts.
@@ -29,5 +29,5 @@ pub returns-clause-any_moment : goal.returns-clause-any_moment
 returns-clause-any_moment g c = λ lasts told.
     let s = g.St.Store.state c.args.store.now in
     let mid = g.St.Store.state c.pack_begin.new.self in
-    switch_moments g.St.Store.stands c.args.keep.now mid.begun c.args.tid s.list mid.list s.log mid.log (g.St.Store.state c.pack_switch.new.self).log (c.in-Ok.ensures.begun told) (c.in-Ok.ensures.list told)
+    switch_moments g.St.Store.stands c.args.keep.now mid.begun c.args.tid s.list mid.list s.log mid.log (g.St.Store.state c.pack_switch.new.self).log (c.in-Ok.ensures.begun told) (c.in-Ok.ensures.leaves.list told)
     (g.met.St.Store.lasting c.args.store.now lasts c.requires.whole) (c.pack_begin.ensures.main lasts) (c.pack_switch.ensures.any_moment lasts)
