@@ -1,5 +1,5 @@
 -- A turn of copying ends as soon as it may.
-use Rattle.std.proofs.Common.{◌≡◌, ℕ, zero, suc, ◌+◌, ◌<◌, ◌≤◌, ◌⊎◌, ⊎_elim, Bool, true, false, List, [], ◌∷◌, ◌++◌, length, take, refl, sym, ap, subst, ◌∙◌, arith, take_all}
+use Rattle.std.proofs.Common.{◌≡◌, ℕ, zero, suc, ◌+◌, ◌<◌, ◌≤◌, ◌⊎◌, inl, inr, ⊎_elim, Bool, true, false, List, [], ◌∷◌, ◌++◌, length, take, refl, sym, ap, subst, ◌∙◌, arith, take_all}
 use Rattle.std.proofs.lemmas.Bool.{cases_lt}
 use Rattle.std.proofs.lemmas.List.Sums.{sum_by-append, sum_by-cons}
 use Rattle.zb_model.specs.declared.data.Transaction.{Transaction}
@@ -32,8 +32,8 @@ short_more false before was now new early (inl same) short = subst (AreShort bef
 short_more false before was now new early (inr more) short = subst (AreShort before was) (sym more.1) (λ k above within.
     ⊎_elim (λ (front : k < length now). rw (front_of now (more.0 ∷ []) k (omega (arith, front))) (short k above front))
     (λ (all : length now ≤ k).
-        let e : take k (now ++ more.0 ∷ []) ≡ now = front_of now (more.0 ∷ []) k (omega (arith, longer now more.0, within)) ∙ take_all k now all in
-        rw e (early refl))
+    let e : take k (now ++ more.0 ∷ []) ≡ now = front_of now (more.0 ∷ []) k (omega (arith, longer now more.0, within)) ∙ take_all k now all in
+    rw e (early refl))
     (cases_lt k (length now)))
 
 -- ---- what a turn copies
@@ -56,11 +56,11 @@ turn_copies count (x ∷ more) rest short ends =
     let first : count < changes_a_turn = omega (arith, short 0 (omega arith)) in
     let behind : (k : ℕ) → k < length more → (count + length x.changes) + change_count (take k more) < changes_a_turn = λ k within. omega (arith, short (suc k) (omega (arith, within)), sum_by-cons changes_in x (take k more)) in
     let end : (rest ≡ []) ⊎ (changes_a_turn ≤ (count + length x.changes) + change_count more) =
-        ⊎_elim (λ (none : rest ≡ []). inl none) (λ (enough : changes_a_turn ≤ count + change_count (x ∷ more)). let n : changes_a_turn ≤ (count + length x.changes) + change_count more = omega (arith, enough, sum_by-cons changes_in x more) in inr n) ends in
+    ⊎_elim (λ (none : rest ≡ []). inl none) (λ (enough : changes_a_turn ≤ count + change_count (x ∷ more)). let n : changes_a_turn ≤ (count + length x.changes) + change_count more = omega (arith, enough, sum_by-cons changes_in x more) in inr n) ends in
     goes_on count x (more ++ rest) first ∙ ap (λ (l : List Transaction). x ∷ l) (turn_copies (count + length x.changes) more rest behind end)
 
 behind_front : (was more : List Transaction) (k : ℕ) → take (length was + k) (was ++ more) ≡ was ++ take k more
-behind_front [] more k = let e : length [] + k ≡ k = omega arith in ap (λ (n : ℕ). take n more) e
+behind_front [] more k = let e : length {A = Transaction} [] + k ≡ k = omega arith in ap (λ (n : ℕ). take n more) e
 behind_front (x ∷ was) more k =
     let e : length (x ∷ was) + k ≡ suc (length was + k) = omega arith in
     ap (λ (n : ℕ). take n (x ∷ was ++ more)) e ∙ ap (λ (l : List Transaction). x ∷ l) (behind_front was more k)

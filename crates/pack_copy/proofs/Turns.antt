@@ -1,5 +1,5 @@
 -- A transaction of Main is copied to Side.
-use Rattle.std.proofs.Common.{◌≡◌, ℕ, zero, suc, ◌+◌, ◌-◌, ◌<◌, ◌≤◌, ◌⊎◌, Bool, true, false, List, [], ◌∷◌, ◌++◌, length, get_or, map, take, drop, Option, Some, None, Result, Ok, Err, OnOk, refl, sym, ap, subst, ◌∙◌, arith, drop_of_length-le}
+use Rattle.std.proofs.Common.{◌≡◌, ℕ, zero, suc, ◌+◌, ◌-◌, ◌<◌, ◌≤◌, ◌⊎◌, inl, inr, Bool, true, false, List, [], ◌∷◌, ◌++◌, length, get_or, map, take, drop, Option, Some, None, Result, Ok, Err, OnOk, refl, sym, ap, subst, ◌∙◌, arith, drop_of_length-le}
 use Rattle.std.specs.Prelude.{slice_get}
 use Rattle.std.specs.List.{cons_option, filter_map, last_or}
 use Rattle.std.specs.Option.{option_map_or}
@@ -192,7 +192,7 @@ module _ (main was now : List ℕ) (from : Kept) (old new : CopyKept) (keep : Fi
   all_so : (whole : Bool) (more : ℕ) → IsCopiedUpTo (listed main) now new keep (first + more) → IsAllOrMore new.tid keep (listed main) (length from.transactions) (first + more) whole → IsAllCopied (packed_by old.tid keep (listed main)) (listed now) whole
   all_so true more upto all = now_is more upto ∙ ap (filter_map F) (take_all (first + more) (listed main) (omega (arith, all, all_long main from source)))
   all_so false more upto some =
-    λ all. some (ap (λ (k : ℕ). filter_map (packed_one k keep (listed main)) (take (first + more) (listed main))) tid ∙ sym (now_is more upto) ∙ all ∙ ap (λ (k : ℕ). packed_by k keep (listed main)) (sym tid))
+      λ all. some (ap (λ (k : ℕ). filter_map (packed_one k keep (listed main)) (take (first + more) (listed main))) tid ∙ sym (now_is more upto) ∙ all ∙ ap (λ (k : ℕ). packed_by k keep (listed main)) (sym tid))
 
   ends_so : (whole : Bool) (more : ℕ) → IsCopiedUpTo (listed main) now new keep (first + more) → IsAllOrMore new.tid keep (listed main) (length from.transactions) (first + more) whole
       → (whole ≡ false → change_count (listed was) + changes_a_turn ≤ change_count (listed now)) → (left_behind more ≡ []) ⊎ (changes_a_turn ≤ 0 + change_count (behind more))
