@@ -7,4 +7,5 @@ pub mod Placing
 pub mod Shown
 pub mod Sides
 pub mod Sizes
+pub mod Switches
 pub mod Writes

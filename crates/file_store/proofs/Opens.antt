@@ -1,22 +1,21 @@
 -- What is opened is kept, and what a crash leaves of it.
 use Rattle.std.proofs.Common.{◌≡◌, ◌≢◌, ◌⊎◌, inl, inr, ℕ, ◌^◌, ◌<◌, ◌≤◌, List, [], ◌∷◌, ◌++◌, length, map, take, drop, Option, Some, None, refl, sym, ap, subst, ◌∙◌, arith}
-use Rattle.std.specs.Result.{IsErr, IsErrAnd, IfErr}
-use Rattle.std.specs.Prelude.{Result, Ok, Err, IfOk, IfSome, OnErr, option_map, slice_get}
+use Rattle.std.specs.Prelude.{Result, Ok, Err, OnOk}
 use Rattle.std.specs.List.{last_or}
 use Rattle.std.specs.Option.{option_map_or}
-use Rattle.std.proofs.lemmas.List.{nil_from_length, length-append, length-take, take_at}
+use Rattle.std.proofs.lemmas.List.{nil_from_length, length-append, length-take}
+use Rattle.zb_base.specs.Counts.{Rose}
 use Rattle.zb_ids.specs.declared.stamp.Stamp.{Stamp}
-use Rattle.zb_base.specs.Counts.{rose_after}
 use Rattle.zb_volume.specs.declared.areas.Area.TheVariants.{Main, Side}
 use Rattle.zb_volume.specs.Calls.{Event}
 use Rattle.zb_volume.specs.Disk.{seen, IsSettled}
 use Rattle.zb_volume.specs.Images.{CrashLeaves}
 use Rattle.zb_volume.specs.Moments.{Leaves, LeavesOnly, StaysAs, here}
+use Rattle.zb_volume.specs.States.{VolumeState, FaultsStand}
+use Rattle.zb_volume.specs.Lasting.{settled_leaves}
+use Rattle.zb_volume.specs.Runs.{weaker}
 use Rattle.zb_ids.specs.Tids.{stamp_number}
 use Rattle.zb_model.specs.Creation.{first_transaction}
-use Rattle.zb_outside.specs.Stamps.{stamps_after}
-use Rattle.zb_volume.specs.Lasting.{settled_leaves}
-use Rattle.zb_volume.specs.Runs.{joined, weaker}
 use Rattle.zb_model.specs.declared.data.Transaction.{Transaction}
 use Rattle.fs_index.specs.declared.place.Place.{Place}
 use Rattle.zb_base.specs.Bytes.{AreBytes, AreBytes-take}
@@ -25,19 +24,20 @@ use Rattle.fs_records.specs.File.{IsReadAs, StandsFor, no_bytes, a_file}
 use Rattle.fs_records.specs.Databases.{reading_of}
 use Rattle.fs_records.specs.Listed.{listed, reached_in, reading_is, reached_is}
 use Rattle.fs_records.specs.Indexed.{places_of}
-use Rattle.fs_records.specs.Unique.{one_list, never_both}
 use Rattle.fs_records.specs.WriteLaws.{length-read, without_tail_stands}
 use Rattle.fs_recovery.specs.declared.opening.Opened.{Opened}
 use Rattle.fs_recovery.specs.declared.errors.OpenError.{OpenError}
 use Rattle.fs_recovery.specs.declared.errors.OpenError.TheVariants.{StoreFault, BadRecord, NotFileStorage, Memory}
 use Rattle.fs_recovery.specs.Ends.{whole_end}
 use Rattle.fs_recovery.specs.Opens.{ImagesStand, IsNoList, IsOpened, IsWhole, Opens}
-use Rattle.fs_recovery.specs.Reading.{CountsFault, CountsReads, RefusesMain}
+use Rattle.fs_recovery.specs.Reading.{CountsFault, RefusesMain}
+use Rattle.fs_recovery.specs.Numbers.{AreNumbersOf}
+use Rattle.file_store.specs.declared.ready.Ready.{Ready}
+use Rattle.file_store.specs.First.{file_with}
 use Rattle.file_store.specs.Kept.{IsKept, StandsForList}
 use Rattle.file_store.specs.KeptLaws.{list_read}
-use Rattle.fs_recovery.specs.Numbers.{AreNumbersOf}
-use Rattle.file_store.specs.First.{file_with}
-use Rattle.file_store.specs.Opening.{Harm, IsBegun, IsMade, IsNewFile, IsUnlessWritten, there, made, IsNewOr, KeepsList, MakesList, first_list, without_tail}
+use Rattle.file_store.specs.Opening.{Harm, IsFirst, IsNewOr, IsUnlessWritten, KeepsList, MakesList, first_list, without_tail}
+use Rattle.file_store.specs.Outcomes.{HasOpenCause, IsOpening, IsReady, IsRefusal, MomentsOfMain}
 use Rattle.file_store.specs.Staging.{StagedKept}
 
 -- ---- what is kept
@@ -108,9 +108,6 @@ file_of bytes stamp cut (a_file s stands l) = (s, stands, l)
 file_begins : (bytes : List ℕ) (s : Reached) → Begins bytes s → bytes ≢ []
 file_begins bytes s begins none = absurd (cc (begins.parts, none))
 
-pub file_some : (bytes : List ℕ) (stamp : Stamp) (cut : Option ℕ) → StandsFor bytes (first_list stamp) cut → bytes ≢ []
-file_some bytes stamp cut stands = let f = file_of bytes stamp cut stands in file_begins bytes f.0 f.1.begins
-
 -- what is no list isn't empty
 no_list_some : (bytes : List ℕ) → IsNoList bytes → bytes ≢ []
 no_list_some bytes (inl none) = none.0
@@ -122,47 +119,11 @@ images old new s cut list is stands settled all =
     weaker (Leaves Main (λ image. (k : Option ℕ) × IsReadAs image s k)) (Leaves Main (λ bytes. StandsForList bytes list)) old new
     (λ log left image crash. let x = left image crash in (x.0, a_file s x.1 is)) (all s cut stands settled)
 
-pub keeps_after : (old mid new : List Event) → (seen old Main ≢ [] → mid ≡ old) → ImagesStand mid new → KeepsList old new
-keeps_after old mid new same all list cut some (no_bytes none l c) settled = absurd (some none)
-keeps_after old mid new same all list cut some (a_file s stands l) settled =
-    images old new s cut list l stands settled (subst (λ (log : List Event). ImagesStand log new) (same some) all)
-
-same_stamp : (told : List Stamp) (a b : Stamp) → slice_get told 0 ≡ Some a → slice_get told 0 ≡ Some b → a ≡ b
-same_stamp told a b one other = cc
-
-makes_of : (old mid new : List Event) (told : List Stamp) (now : Option (List Stamp)) → IsBegun old mid (Some told) now → ImagesStand mid new → (stamp : Stamp) → slice_get told 0 ≡ Some stamp → MakesList stamp old new
-makes_of old mid new told now (there some same stamps) all stamp is empty settled = absurd (some empty)
-makes_of old mid new told now (made by empty given stamps stands mid_settled moments) all stamp is nothing settled =
-    let one : by ≡ stamp = same_stamp told by stamp given is in
-    let f = file_of (seen mid Main) by None stands in
-    subst (λ (x : Stamp). LeavesOnly Main (IsNewOr x) old new) one
-    (joined (Leaves Main (IsNewOr by)) old mid new (moments nothing settled)
-    (weaker (Leaves Main (λ bytes. StandsForList bytes (first_list by))) (Leaves Main (IsNewOr by)) mid new (λ log left image crash. inr (left image crash))
-    (images mid new f.0 None (first_list by) f.2 f.1 mid_settled all)))
-
-pub makes_after : (old mid new : List Event) (stamps now : Option (List Stamp)) → IsBegun old mid stamps now → ImagesStand mid new → IfSome stamps (λ told. (stamp : Stamp) → slice_get told 0 ≡ Some stamp → MakesList stamp old new)
-makes_after old mid new None now begun all = tt
-makes_after old mid new (Some told) now begun all = λ stamp is. makes_of old mid new told now begun all stamp is
+pub keeps_opened : (old new : List Event) → ImagesStand old new → KeepsList old new
+keeps_opened old new all list cut some (no_bytes none l c) settled = absurd (some none)
+keeps_opened old new all list cut some (a_file s stands l) settled = images old new s cut list l stands settled all
 
 -- ---- what is opened
-
--- what is no list was there before
-pub untouched_after : (old mid new : List Event) → (seen old Main ≢ [] → mid ≡ old) → (IsNoList (seen mid Main) → new ≡ mid) → IsNoList (seen old Main) → new ≡ old
-untouched_after old mid new same harmed none =
-    let is : mid ≡ old = same (no_list_some (seen old Main) none) in
-    harmed (subst (λ (log : List Event). IsNoList (seen log Main)) (sym is) none) ∙ is
-
--- a file isn't harmed
-unharmed : (bytes : List ℕ) (s : Reached) (cut : Option ℕ) (e : OpenError) → IsReadAs bytes s cut → Harm bytes e → (other : List ℕ) → Harm other e
-unharmed bytes s cut StoreFault stands harm other = tt
-unharmed bytes s cut (BadRecord at field) stands harm other = absurd (never_both bytes s cut at field stands harm)
-unharmed bytes s cut NotFileStorage stands harm other = absurd (harm.1 (ap (take 4) stands.begins.parts ∙ take_at magic (blocks_text file_start stands.begins.blocks ++ drop s.end bytes) 4 refl))
-unharmed bytes s cut Memory stands harm other = tt
-
-pub harm_after : (old mid : List Event) (stamps now : Option (List Stamp)) (e : OpenError) → IsBegun old mid stamps now → Harm (seen mid Main) e → Harm (seen old Main) e
-harm_after old mid stamps now e (there some same kept) harm = subst (λ (log : List Event). Harm (seen log Main) e) same harm
-harm_after old mid stamps now e (made by empty given left stands settled moments) harm =
-    let f = file_of (seen mid Main) by None stands in unharmed (seen mid Main) f.0 None e f.1 harm (seen old Main)
 
 -- the list of what is left is what was opened
 pub opened_list : (was now : List ℕ) (o : Opened) (opened : IsOpened was o) → now ≡ take o.end was → AreBytes was → o.end < 2 ^ 63 → listed now ≡ opened.reached.list
@@ -177,52 +138,11 @@ pub opened_stands : (was now : List ℕ) (o : Opened) (cut : Option ℕ) (opened
 opened_stands was now o cut opened is fits limit cut_is =
     a_file opened.reached (subst (λ (k : Option ℕ). IsReadAs was opened.reached k) (sym cut_is) opened.stands) (opened_list was now o opened is fits limit)
 
-pub made_after : (old mid : List Event) (now : List ℕ) (stamps left : Option (List Stamp)) (o : Opened) (cut : Option ℕ) → IsBegun old mid stamps left → IsOpened (seen mid Main) o → now ≡ take o.end (seen mid Main) → AreBytes (seen mid Main) → o.end < 2 ^ 63 → cut ≡ o.cut
-    → seen old Main ≡ [] → IsMade stamps (listed now) cut
-made_after old mid now stamps left o cut (there some same kept) opened is fits limit cut_is empty = absurd (some empty)
-made_after old mid now stamps left o cut (made by none first kept stands settled moments) opened is fits limit cut_is empty =
-    let f = file_of (seen mid Main) by None stands in
-    let same = one_list (seen mid Main) opened.reached f.0 o.cut None opened.stands f.1 in record {
-      stamp = by;
-      first = first;
-      list_is = opened_list (seen mid Main) now o opened is fits limit ∙ ap (λ (s : Reached). s.list) same.0 ∙ sym f.2;
-      cut_is = cut_is ∙ same.1;
-    }
-
-pub left_after : (old mid : List Event) (stamps left : Option (List Stamp)) → IsBegun old mid stamps left → seen old Main ≡ [] → left ≡ option_map stamps_after stamps
-left_after old mid stamps left (there some same kept) empty = absurd (some empty)
-left_after old mid stamps left (made by none first is stands settled moments) empty = is
-
--- ---- answers of the steps
-
-pub err_is : {T : Type 0} (r : Result T OpenError) (P : OpenError → Type 0) (e : OpenError) → IsErrAnd r (λ x. x ≡ e) → P e → IfErr r P
-err_is (Ok x) P e is p = tt
-err_is (Err x) P e is p = subst P (sym is) p
-
-pub err_not_ok : {T E : Type 0} (r : Result T E) (P : T → Type 0) → IsErr r → IfOk r P
-err_not_ok (Ok x) P is = absurd cc
-err_not_ok (Err x) P is = tt
-
-pub of_all : (stamps : Option (List Stamp)) (P : List Stamp → Type 0) → ((told : List Stamp) → P told) → IfSome stamps P
-of_all None P all = tt
-of_all (Some told) P all = all told
-
 pub opens_harm : (bytes : List ℕ) (e : OpenError) → Opens bytes (Err e) → Harm bytes e
 opens_harm bytes StoreFault opens = tt
 opens_harm bytes (BadRecord at field) opens = opens
 opens_harm bytes NotFileStorage opens = opens
 opens_harm bytes Memory opens = tt
-
-pub begun_made : (stamp : Stamp) (old mid new : List Event) (stamps left : Option (List Stamp)) (n : ℕ) → mid ≡ old → n ≡ length (seen old Main) → n ≤ 0 → IfSome stamps (λ told. slice_get told 0 ≡ Some stamp) → left ≡ option_map stamps_after stamps
-    → StandsFor (seen new Main) (first_list stamp) None → IsSettled new Main → MakesList stamp mid new → IsBegun old new stamps left
-begun_made stamp old mid new stamps left n same n_is none first is stands settled moments =
-    made stamp (nil_from_length (seen old Main) (omega (arith, n_is, none))) first is stands settled (subst (λ (log : List Event). MakesList stamp log new) same moments)
-
-pub still_some : (old new : List Event) (stamps : Option (List Stamp)) → new ≡ old → IfSome stamps (λ told. (stamp : Stamp) → slice_get told 0 ≡ Some stamp → MakesList stamp old new)
-still_some old new stamps same = of_all stamps (λ told. (stamp : Stamp) → slice_get told 0 ≡ Some stamp → MakesList stamp old new) (λ told stamp is. still_makes stamp old new same)
-
-pub keeps_same : (old new : List Event) → (seen old Main ≢ [] → new ≡ old) → KeepsList old new
-keeps_same old new same list cut some stands settled = still_keeps old new (same some) list cut some stands settled
 
 pub taken_fits : (was now : List ℕ) (end : ℕ) → now ≡ take end was → AreBytes was → AreBytes now
 taken_fits was now end is fits = subst (λ (b : List ℕ). AreBytes b) (sym is) (AreBytes-take end was fits)
@@ -230,90 +150,8 @@ taken_fits was now end is fits = subst (λ (b : List ℕ). AreBytes b) (sym is) 
 pub taken_within : (was now : List ℕ) (end : ℕ) → now ≡ take end was → length now ≤ end
 taken_within was now end is = omega (arith, ap length is, length-take end was)
 
-pub opened_after : (old mid new : List Event) (o : Opened) (cut : Option ℕ) → mid ≡ old → IsOpened (seen mid Main) o → seen new Main ≡ take o.end (seen mid Main) → AreBytes (seen mid Main) → o.end < 2 ^ 63 → cut ≡ o.cut
-    → StandsFor (seen old Main) (listed (seen new Main)) cut
-opened_after old mid new o cut same opened is fits limit cut_is =
-    subst (λ (log : List Event). StandsFor (seen log Main) (listed (seen new Main)) cut) same (opened_stands (seen mid Main) (seen new Main) o cut opened is fits limit cut_is)
-
-pub images_kept : (old mid new : List Event) → new ≡ mid → ImagesStand old mid → ImagesStand old new
-images_kept old mid new same all = subst (λ (log : List Event). ImagesStand old log) (sym same) all
-
--- ---- a file that was just made
-
--- a file that has no tail is read whole
-pub fresh_content : (bytes : List ℕ) (o : Opened) (list : List Transaction) → IsOpened bytes o → StandsFor bytes list None → bytes ≢ [] → (o.cut ≡ None) × (bytes ≡ take o.end bytes)
-fresh_content bytes o list opened (no_bytes none l c) some = absurd (some none)
-fresh_content bytes o list opened (a_file s stands l) some =
-    let same = one_list bytes opened.reached s o.cut None opened.stands stands in
-    let end : s.end ≡ o.end = sym (ap (λ (x : Reached). x.end) same.0) ∙ opened.end_is in (
-      same.1,
-      sym (whole_end bytes s stands) ∙ ap (λ (n : ℕ). take n bytes) end,
-    )
-
-pub fresh_whole : (bytes : List ℕ) (o : Opened) (list : List Transaction) → IsOpened bytes o → StandsFor bytes list None → bytes ≢ [] → IsWhole bytes o
-fresh_whole bytes o list opened stands some = record {
-  reached = opened.reached;
-  stands = subst (λ (k : Option ℕ). IsReadAs bytes opened.reached k) (fresh_content bytes o list opened stands some).0 opened.stands;
-  end_is = opened.end_is;
-  index = opened.index;
-  counted = opened.counted;
-}
-
--- and nothing was done to it
-pub images_still : (old new : List Event) → new ≡ old → ImagesStand old new
-images_still old new same s cut stands settled =
-    subst (λ (log : List Event). LeavesOnly Main (λ image. (k : Option ℕ) × IsReadAs image s k) old log) (sym same)
-    (here (settled_leaves old Main (λ image. (k : Option ℕ) × IsReadAs image s k) settled (cut, stands)))
-
-pub counts_still : {T : Type 0} (r : Result T OpenError) (old new : List Event) (reads reads' writes writes' : ℕ) → new ≡ old → writes' ≡ writes → CountsReads reads reads' r → CountsFault old new reads reads' writes writes' r
-counts_still (Ok x) old new reads reads' writes writes' same still counts = (counts, still)
-counts_still (Err StoreFault) old new reads reads' writes writes' same still counts = inl (record { rose = counts.1; later = counts.0; writes_same = still; untouched = same })
-counts_still (Err (BadRecord at field)) old new reads reads' writes writes' same still counts = (counts, still)
-counts_still (Err NotFileStorage) old new reads reads' writes writes' same still counts = (counts, still)
-counts_still (Err Memory) old new reads reads' writes writes' same still counts = (counts, still)
-
-pub fresh_read : (r : Result Opened OpenError) (bytes now : List ℕ) (list : List Transaction) → now ≡ bytes → Opens bytes r → StandsFor bytes list None → bytes ≢ [] → IfOk r (λ o. now ≡ take o.end bytes)
-fresh_read (Ok o) bytes now list same opened stands some = same ∙ (fresh_content bytes o list opened stands some).1
-fresh_read (Err e) bytes now list same opened stands some = tt
-
-pub fresh_kept : (r : Result Opened OpenError) (bytes now : List ℕ) (list : List Transaction) → now ≡ bytes → Opens bytes r → StandsFor bytes list None → bytes ≢ [] → IfOk r (λ o. IsWhole now o)
-fresh_kept (Ok o) bytes now list same opened stands some = subst (λ (b : List ℕ). IsWhole b o) (sym same) (fresh_whole bytes o list opened stands some)
-fresh_kept (Err e) bytes now list same opened stands some = tt
-
--- ---- what an opening leaves as it was
-
 pub stays_still : (old new : List Event) → new ≡ old → StaysAs Side old new
 stays_still old new same = subst (λ (log : List Event). StaysAs Side old log) (sym same) (here refl)
-
-pub stays_after : (old mid new : List Event) → mid ≡ old → StaysAs Side mid new → StaysAs Side old new
-stays_after old mid new same stays = subst (λ (log : List Event). StaysAs Side log new) same stays
-
--- an error of opening: nothing was changed, or a write failed
-pub unless_written : {T : Type 0} (r : Result T OpenError) (old mid new : List Event) (reads reads' writes mid_writes writes' : ℕ) → mid ≡ old → writes ≤ mid_writes
-    → (RefusesMain r → new ≡ mid) → CountsFault mid new reads reads' mid_writes writes' r → OnErr r (IsUnlessWritten old new writes writes')
-unless_written (Ok x) old mid new reads reads' writes mid_writes writes' same still untouched counts = tt
-unless_written (Err StoreFault) old mid new reads reads' writes mid_writes writes' same still untouched (inl failed) = inl (failed.untouched ∙ same)
-unless_written (Err StoreFault) old mid new reads reads' writes mid_writes writes' same still untouched (inr failed) = inr (rose_after writes mid_writes writes' still failed.rose)
-unless_written (Err (BadRecord at field)) old mid new reads reads' writes mid_writes writes' same still untouched counts = inl (untouched tt ∙ same)
-unless_written (Err NotFileStorage) old mid new reads reads' writes mid_writes writes' same still untouched counts = inl (untouched tt ∙ same)
-unless_written (Err Memory) old mid new reads reads' writes mid_writes writes' same still untouched counts = inl (untouched tt ∙ same)
-
--- any other error than a fault comes where no call has failed
-pub counts_calm : (T : Type 0) (e : OpenError) (old new : List Event) (reads reads' writes writes' : ℕ) → ¬ (e ≡ StoreFault) → CountsFault {T = T} old new reads reads' writes writes' (Err e) → (reads' ≡ reads) × (writes' ≡ writes)
-counts_calm T StoreFault old new reads reads' writes writes' other counts = absurd (other refl)
-counts_calm T (BadRecord at field) old new reads reads' writes writes' other counts = counts
-counts_calm T NotFileStorage old new reads reads' writes writes' other counts = counts
-counts_calm T Memory old new reads reads' writes writes' other counts = counts
-
-pub any_err : {T : Type 0} (r : Result T OpenError) (P : OpenError → Type 0) → ((e : OpenError) → P e) → IfErr r P
-any_err (Ok x) P all = tt
-any_err (Err e) P all = all e
-
-pub on_err : {T E : Type 0} (r : Result T E) (P : Type 0) → P → OnErr r P
-on_err (Ok x) P holds = tt
-on_err (Err e) P holds = holds
-
--- ---- the bytes that are left
 
 left_cut : (was : List ℕ) (s : Reached) (cut : Option ℕ) → IsReadAs was s cut → take s.end was ≡ without_tail was cut
 left_cut was s None stands = whole_end was s stands
@@ -324,22 +162,142 @@ pub left_of : (was now : List ℕ) (o : Opened) (cut : Option ℕ) → IsOpened 
 left_of was now o cut opened is cut_is =
     is ∙ ap (λ (n : ℕ). take n was) (sym opened.end_is) ∙ left_cut was opened.reached o.cut opened.stands ∙ ap (λ (k : Option ℕ). without_tail was k) (sym cut_is)
 
-pub left_there : (old mid new : List Event) (o : Opened) (cut : Option ℕ) → mid ≡ old → IsOpened (seen mid Main) o → seen new Main ≡ take o.end (seen mid Main) → cut ≡ o.cut → seen new Main ≡ without_tail (seen old Main) cut
-left_there old mid new o cut same opened is cut_is =
-    left_of (seen mid Main) (seen new Main) o cut opened is cut_is ∙ ap (λ (log : List Event). without_tail (seen log Main) cut) same
+-- ---- causes
 
--- a new file has no tail
-pub left_new : (mid new : List Event) (stamps : Option (List Stamp)) (o : Opened) (cut : Option ℕ) (list : List Transaction) → IsOpened (seen mid Main) o → seen new Main ≡ take o.end (seen mid Main) → cut ≡ o.cut → IsMade stamps list cut
-    → IsNewFile stamps (seen mid Main) → IsNewFile stamps (seen new Main)
-left_new mid new stamps o cut list opened is cut_is is_made file =
-    subst (λ (b : List ℕ). IsNewFile stamps b) (sym (left_of (seen mid Main) (seen new Main) o cut opened is cut_is ∙ ap (λ (k : Option ℕ). without_tail (seen mid Main) k) is_made.cut_is)) file
+-- a read failed
+pub read_cause : (old new : VolumeState) → Rose old.read_faults new.read_faults → old.read_faults ≤ new.read_faults → new.write_faults ≡ old.write_faults → HasOpenCause old new StoreFault
+read_cause old new rose later same = record { reads_later = later; writes_later = omega (arith, same); fault = λ is. inl rose; unfailed = λ other. absurd (other refl) }
 
-pub new_file : (stamp : Stamp) (stamps : Option (List Stamp)) (bytes : List ℕ) → IfSome stamps (λ told. slice_get told 0 ≡ Some stamp) → bytes ≡ file_with (first_transaction (stamp_number stamp)) → IsNewFile stamps bytes
-new_file stamp stamps bytes first is = record { stamp = stamp; first = first; file = is }
+-- a write failed
+pub write_cause : (old new : VolumeState) → Rose old.write_faults new.write_faults → old.write_faults ≤ new.write_faults → new.read_faults ≡ old.read_faults → HasOpenCause old new StoreFault
+write_cause old new rose later same = record { reads_later = omega (arith, same); writes_later = later; fault = λ is. inr rose; unfailed = λ other. absurd (other refl) }
+
+-- neither did
+pub still_cause : (old new : VolumeState) (e : OpenError) → ¬ (e ≡ StoreFault) → FaultsStand old new → HasOpenCause old new e
+still_cause old new e other stand = record { reads_later = omega (arith, stand.reads); writes_later = omega (arith, stand.writes); fault = λ is. absurd (other is); unfailed = λ not. stand }
+
+open_cause : (old new : VolumeState) (e : OpenError) → CountsFault {T = Opened} old new (Err e) → HasOpenCause old new e
+open_cause old new StoreFault (inl failed) = read_cause old new failed.rose failed.later failed.writes_same
+open_cause old new StoreFault (inr failed) = write_cause old new failed.rose failed.later failed.reads_same
+open_cause old new (BadRecord at field) stand = still_cause old new (BadRecord at field) (λ is. cc) stand
+open_cause old new NotFileStorage stand = still_cause old new NotFileStorage (λ is. cc) stand
+open_cause old new Memory stand = still_cause old new Memory (λ is. cc) stand
+
+-- ---- outcomes
+
+-- a call that is refused
+pub refused : (T : Type 0) (stamps : Option (List Stamp)) (old new : VolumeState) (r : Result Ready OpenError) (x e : OpenError) → r ≡ Err x → x ≡ e → IsRefusal T stamps old new e → IsOpening T stamps old new r
+refused T stamps old new r x e is same refusal =
+    subst (λ (q : Result Ready OpenError). IsOpening T stamps old new q) (sym is) (record { ready = tt; refused = subst (λ (y : OpenError). IsRefusal T stamps old new y) (sym same) refusal })
+
+-- nothing was done
+pub refused_still : (T : Type 0) (stamps : Option (List Stamp)) (old new : VolumeState) (e : OpenError) → new.log ≡ old.log → (T → Harm (seen old.log Main) e) → HasOpenCause old new e → IsRefusal T stamps old new e
+refused_still T stamps old new e same harm cause = record {
+  harm = harm;
+  untouched = λ told none. same;
+  unharmed = λ told. inl same;
+  side = λ told some. stays_still old.log new.log same;
+  moments = λ told. record { keeps = still_keeps old.log new.log same; makes = λ empty. inl same };
+  cause = cause;
+}
+
+-- a file wasn't opened: nothing was changed, or a write failed
+unless_written : (old new : VolumeState) (e : OpenError) → (RefusesMain {T = Opened} (Err e) → new.log ≡ old.log) → CountsFault {T = Opened} old new (Err e) → IsUnlessWritten old.log new.log old.write_faults new.write_faults
+unless_written old new StoreFault untouched (inl failed) = inl failed.untouched
+unless_written old new StoreFault untouched (inr failed) = inr failed.rose
+unless_written old new (BadRecord at field) untouched counts = inl (untouched tt)
+unless_written old new NotFileStorage untouched counts = inl (untouched tt)
+unless_written old new Memory untouched counts = inl (untouched tt)
+
+pub open_refused : (T : Type 0) (stamps : Option (List Stamp)) (old new : VolumeState) (e : OpenError) → (T → seen old.log Main ≢ []) → (T → Opens (seen old.log Main) (Err e)) → (RefusesMain {T = Opened} (Err e) → new.log ≡ old.log)
+    → (T → IsNoList (seen old.log Main) → new.log ≡ old.log) → (T → StaysAs Side old.log new.log) → (T → ImagesStand old.log new.log) → CountsFault {T = Opened} old new (Err e) → IsRefusal T stamps old new e
+open_refused T stamps old new e some opens untouched harmed side all counts = record {
+  harm = λ told. opens_harm (seen old.log Main) e (opens told);
+  untouched = harmed;
+  unharmed = λ told. unless_written old new e untouched counts;
+  side = λ told there. side told;
+  moments = λ told. record { keeps = keeps_opened old.log new.log (all told); makes = λ empty. absurd (some told empty) };
+  cause = open_cause old new e counts;
+}
+
+-- a file was opened
+pub open_ready : (T : Type 0) (stamps : Option (List Stamp)) (old new : VolumeState) (o : Opened) (r : Ready) → (T → seen old.log Main ≢ []) → (T → AreBytes (seen old.log Main)) → (T → IsOpened (seen old.log Main) o)
+    → (T → seen new.log Main ≡ take o.end (seen old.log Main)) → (T → IsWhole (seen new.log Main) o) → (T → IsSettled new.log Main) → (T → StaysAs Side old.log new.log) → (T → ImagesStand old.log new.log) → o.end < 2 ^ 63 → FaultsStand old new
+    → ((bytes : List ℕ) → IsWhole bytes o → AreBytes bytes → length bytes ≤ o.end → IsKept bytes r.index r.numbers) → r.index.staged ≡ None → r.cut ≡ o.cut → IsReady T stamps old new r
+open_ready T stamps old new o r some fits opens content whole settled side all limit stand kept free cut = record {
+  kept = λ told. kept (seen new.log Main) (whole told) (taken_fits (seen old.log Main) (seen new.log Main) o.end (content told) (fits told)) (taken_within (seen old.log Main) (seen new.log Main) o.end (content told));
+  free = free;
+  settled = settled;
+  main = λ told. record {
+    reopened = λ there. record {
+      opened = opened_stands (seen old.log Main) (seen new.log Main) o r.cut (opens told) (content told) (fits told) limit cut;
+      content = left_of (seen old.log Main) (seen new.log Main) o r.cut (opens told) (content told) cut;
+      side = side told;
+    };
+    anew = λ empty. absurd (some told empty);
+  };
+  moments = λ told. record { keeps = keeps_opened old.log new.log (all told); makes = λ empty. absurd (some told empty) };
+  faults = stand;
+}
+
+-- while a file is made
+made_moments : (stamps : Option (List Stamp)) (old new : List Event) (clock : Stamp) → seen old Main ≡ [] → IsFirst stamps clock → MakesList clock old new → MomentsOfMain stamps old new
+made_moments stamps old new clock empty first makes = record { keeps = λ list cut some stands settled. absurd (some empty); makes = λ none. inr (clock, first, makes) }
+
+-- a file wasn't made, since a write failed
+pub make_refused : (T : Type 0) (stamps : Option (List Stamp)) (old new : VolumeState) (clock : Stamp) → (T → seen old.log Main ≡ []) → IsFirst stamps clock → (T → MakesList clock old.log new.log)
+    → Rose old.write_faults new.write_faults → old.write_faults ≤ new.write_faults → new.read_faults ≡ old.read_faults → IsRefusal T stamps old new StoreFault
+make_refused T stamps old new clock empty first makes rose later same = record {
+  harm = λ told. tt;
+  untouched = λ told none. absurd (no_list_some (seen old.log Main) none (empty told));
+  unharmed = λ told. inr rose;
+  side = λ told some. absurd (some (empty told));
+  moments = λ told. made_moments stamps old.log new.log clock (empty told) first (makes told);
+  cause = write_cause old new rose later same;
+}
+
+-- the list of a new file
+first_listed : (bytes : List ℕ) (clock : Stamp) → AreBytes bytes → length bytes < 2 ^ 63 → StandsFor bytes (first_list clock) None → listed bytes ≡ first_list clock
+first_listed bytes clock fits short stands = let f = file_of bytes clock None stands in list_read bytes f.0 None (reading_is bytes f.0 None fits (omega (arith, short)) f.1) ∙ sym f.2
+
+-- a file was made
+pub make_ready : (T : Type 0) (stamps : Option (List Stamp)) (old new : VolumeState) (clock : Stamp) (bytes : List ℕ) (r : Ready) → (T → seen old.log Main ≡ []) → IsFirst stamps clock → StandsFor bytes (first_list clock) None
+    → bytes ≡ file_with (first_transaction (stamp_number clock)) → IsKept bytes r.index r.numbers → r.index.staged ≡ None → r.cut ≡ None → (T → seen new.log Main ≡ bytes) → (T → IsSettled new.log Main) → (T → MakesList clock old.log new.log)
+    → FaultsStand old new → IsReady T stamps old new r
+make_ready T stamps old new clock bytes r empty first stands file kept free cut content settled makes stand = record {
+  kept = λ told. subst (λ (b : List ℕ). IsKept b r.index r.numbers) (sym (content told)) kept;
+  free = free;
+  settled = settled;
+  main = λ told. record {
+    reopened = λ some. absurd (some (empty told));
+    anew = λ none. record {
+      made = record { stamp = clock; first = first; list_is = ap listed (content told) ∙ first_listed bytes clock kept.fits kept.short stands; cut_is = cut };
+      new_file = record { stamp = clock; first = first; file = content told ∙ file };
+    };
+  };
+  moments = λ told. made_moments stamps old.log new.log clock (empty told) first (makes told);
+  faults = stand;
+}
+
+-- ---- a call that only reads
+
+state_of : List Event → ℕ → ℕ → VolumeState
+state_of log reads writes = record { log = log; read_faults = reads; write_faults = writes }
+
+-- leaves the volume as it was, where it is answered
+pub same_state : (old new : VolumeState) → new.log ≡ old.log → new.read_faults ≡ old.read_faults → new.write_faults ≡ old.write_faults → new ≡ old
+same_state old new log reads writes =
+    ap (λ (l : List Event). state_of l new.read_faults new.write_faults) log
+    ∙ ap (λ (n : ℕ). state_of old.log n new.write_faults) reads
+    ∙ ap (λ (n : ℕ). state_of old.log old.read_faults n) writes
 
 -- Main isn't empty where it has bytes
-pub never_empty : (P : Type 0) (bytes : List ℕ) (n : ℕ) → n ≡ length bytes → 0 < n → bytes ≡ [] → P
-never_empty P bytes n is some empty = absurd (none (omega (arith, is, some, ap length empty)))
-  where
-    none : ⊥ → ⊥
-    none never = never
+pub some_bytes : (old new : List Event) (n : ℕ) → new ≡ old → n ≡ length (seen old Main) → 0 < n → seen new Main ≢ []
+some_bytes old new n same is some empty = omega (arith, is, some, ap length (ap (λ (log : List Event). seen log Main) (sym same) ∙ empty))
+
+pub no_bytes_there : (old new : List Event) (n : ℕ) → new ≡ old → n ≡ length (seen old Main) → n ≤ 0 → seen new Main ≡ []
+no_bytes_there old new n same is none = ap (λ (log : List Event). seen log Main) same ∙ nil_from_length (seen old Main) (omega (arith, is, none))
+
+pub any_ok : {A E : Type 0} (r : Result A E) (P : Type 0) → P → OnOk r P
+any_ok (Ok x) P holds = holds
+any_ok (Err e) P holds = tt

@@ -35,10 +35,14 @@ SomeRose reads reads_now writes writes_now = Rose reads reads_now ⊎ Rose write
 abbrev pub IsUnlessWritten : List Event → List Event → ℕ → ℕ → Type 0
 IsUnlessWritten old new writes writes_now = (new ≡ old) ⊎ Rose writes writes_now
 
+-- a stamp is the clock's first, where the clock tells
+abbrev pub IsFirst : Option (List Stamp) → Stamp → Type 0
+IsFirst stamps stamp = IfSome stamps (λ told. slice_get told 0 ≡ Some stamp)
+
 -- a list is that of a new database, without a tail, by the clock's first stamp where the clock tells
 pub record IsMade (stamps : Option (List Stamp)) (list : List Transaction) (cut : Option ℕ) : Type 0 where
   pub stamp : Stamp
-  pub first : IfSome stamps (λ told. slice_get told 0 ≡ Some stamp)
+  pub first : IsFirst stamps stamp
   pub list_is : list ≡ first_list stamp
   pub cut_is : cut ≡ None
 
@@ -50,7 +54,7 @@ without_tail bytes (Some at) = take at bytes
 -- bytes are the file of a new database, by the clock's first stamp where the clock tells
 pub record IsNewFile (stamps : Option (List Stamp)) (bytes : List ℕ) : Type 0 where
   pub stamp : Stamp
-  pub first : IfSome stamps (λ told. slice_get told 0 ≡ Some stamp)
+  pub first : IsFirst stamps stamp
   pub file : bytes ≡ file_with (first_transaction (stamp_number stamp))
 
 -- the clock gave one stamp, or none
@@ -69,12 +73,6 @@ KeepsList old new = (list : List Transaction) (cut : Option ℕ) → seen old Ma
 abbrev pub MakesList : Stamp → List Event → List Event → Type 0
 MakesList stamp old new = seen old Main ≡ [] → IsSettled old Main → LeavesOnly Main (IsNewOr stamp) old new
 
--- nothing of Main is pending, and it stands for a list without a tail
-abbrev pub IsFresh : List Event → Type 0
-IsFresh log = IsSettled log Main × ((list : List Transaction) × StandsFor (seen log Main) list None)
-
--- Main isn't empty: it wasn't, and nothing was done, or a new file was made with the clock's first stamp
-pub data IsBegun (old new : List Event) (stamps stamps_now : Option (List Stamp)) : Type 0 where
-  there : seen old Main ≢ [] → new ≡ old → stamps_now ≡ stamps → IsBegun old new stamps stamps_now
-  made : (stamp : Stamp) → seen old Main ≡ [] → IfSome stamps (λ told. slice_get told 0 ≡ Some stamp) → stamps_now ≡ option_map stamps_after stamps
-      → StandsFor (seen new Main) (first_list stamp) None → IsSettled new Main → MakesList stamp old new → IsBegun old new stamps stamps_now
+-- while a file was made nothing was done, or it was made by a stamp, the clock's first where the clock tells
+abbrev pub MakesFile : Option (List Stamp) → List Event → List Event → Type 0
+MakesFile stamps old new = (new ≡ old) ⊎ ((stamp : Stamp) × IsFirst stamps stamp × MakesList stamp old new)

@@ -5,9 +5,10 @@ mod first;
 mod opening;
 mod packing;
 mod preparing;
+mod ready;
 mod staged;
 mod staging;
 mod store;
+mod switching;
 
-pub use opening::create_if_empty;
 pub use store::FileStore;

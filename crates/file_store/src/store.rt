@@ -1,23 +1,19 @@
 //! The store over a volume.
 
-ghost use Rattle.std.specs.Prelude.{◌≡◌, ◌≢◌, ◌≤◌, [], None, Some, false, length, option_map, slice_get, IfErr, IfOk, IfSome, OnOk};
+ghost use Rattle.std.specs.Prelude.{◌≡◌, None, Some, false, length, option_map, IfErr, IfOk};
 ghost use Rattle.std.specs.Option.{ForSome};
 ghost use Rattle.zb_volume.specs.declared.areas.Area.TheVariants.{Main, Side};
 ghost use Rattle.zb_volume.specs.Disk.{seen, IsSettled};
-ghost use Rattle.zb_volume.specs.Moments.{StaysAs};
-ghost use Rattle.zb_ids.specs.declared.stamp.Stamp.{Stamp};
-ghost use Rattle.zb_outside.specs.Stamps.{stamps_after};
-ghost use Rattle.fs_records.specs.File.{StandsFor};
-ghost use Rattle.fs_recovery.specs.declared.errors.OpenError.TheVariants.{StoreFault as Fault};
-ghost use Rattle.fs_recovery.specs.Opens.{IsNoList};
 ghost use Rattle.file_store.specs.Kept.{HasRoomForTally, IsCopyKept, IsKept, IsVotedIn, StandsForList};
 ghost use Rattle.file_store.specs.KeptLaws.{copied_once, kept_once, voted_once};
-ghost use Rattle.file_store.specs.Opening.{GaveAtMostOne, Harm, IsMade, IsNewFile, IsUnlessWritten, KeepsList, MakesList, SomeRose, without_tail};
+ghost use Rattle.file_store.specs.Outcomes.{AsksClock, IsOpenStore, IsRefusal};
 
-use crate::opening::{Ready, keep as keep_opened, open};
+use crate::opening::{keep as keep_opened, open};
 use crate::packing::pack_file;
 use crate::preparing::{count_staged, prepare};
+use crate::ready::Ready;
 use crate::staging::StagedIndex;
+use crate::switching::Switched;
 use fs_append as append;
 use fs_index::last_of;
 use fs_reading::{
@@ -25,7 +21,6 @@ use fs_reading::{
 };
 use fs_recovery::{Numbers, OpenError};
 use pack_copy::{CopyState, begin, copy_turn};
-use pack_switch::Switched;
 use std::alloc::Global;
 use zb_ids::{ListOf, Oid, Tid};
 use zb_model::{
@@ -50,10 +45,13 @@ pub struct FileStore<V: Volume> {
     /// Whether a call is under way that changes the volume, or one has failed.
     pub(crate) broken: bool,
     ghost room: { ForSome index.staged (λ s. HasRoomForTally numbers (length s.records)) },
-    ghost settled: { V.told → broken ≡ false → IsSettled (V.log volume) Main },
-    ghost kept: { V.told → broken ≡ false → IsKept (seen (V.log volume) Main) index numbers } by { kept_once V.told (broken ≡ false) (seen (V.log volume) Main) index numbers },
-    ghost voted: { V.told → broken ≡ false → ForSome index.staged (λ s. IsVotedIn (seen (V.log volume) Main) s index) } by { voted_once V.told (broken ≡ false) (seen (V.log volume) Main) index },
-    ghost copied: { V.told → broken ≡ false → ForSome copy (λ c. IsCopyKept (seen (V.log volume) Side) c) } by { copied_once V.told (broken ≡ false) (seen (V.log volume) Side) copy },
+    ghost settled: { V.told → broken ≡ false → IsSettled (V.state volume).log Main },
+    ghost kept: { V.told → broken ≡ false
+        → IsKept (seen (V.state volume).log Main) index numbers } by { kept_once V.told (broken ≡ false) (seen (V.state volume).log Main) index numbers },
+    ghost voted: { V.told → broken ≡ false
+        → ForSome index.staged (λ s. IsVotedIn (seen (V.state volume).log Main) s index) } by { voted_once V.told (broken ≡ false) (seen (V.state volume).log Main) index },
+    ghost copied: { V.told → broken ≡ false
+        → ForSome copy (λ c. IsCopyKept (seen (V.state volume).log Side) c) } by { copied_once V.told (broken ≡ false) (seen (V.state volume).log Side) copy },
 }
 
 impl<V: Volume + Drop> FileStore<V> {
@@ -61,59 +59,22 @@ impl<V: Volume + Drop> FileStore<V> {
     /// the first transaction alone, with a stamp of the clock, which is asked for only there. What was
     /// voted and never finished is cut off, and its place is answered beside the store.
     ///
-    /// An error hands the volume back. Where Main is damaged or no file nothing was changed, and where it
-    /// wasn't empty nothing was changed with any error but that of a write that failed. Side is as it was
-    /// unless the file was made. Any error but `StoreFault` comes only where no call of the volume failed.
-    /// Where the file is opened, none has failed, and Main's bytes are as they were without the tail, or,
-    /// where it was empty, the file of a new database.
+    /// An error hands the volume back. Nothing was changed with any error but that of a write that
+    /// failed, and where Main is damaged or no file. Side is as it was unless the file was made. Any
+    /// error but `StoreFault` comes only where no call of the volume failed. Where the file is opened,
+    /// none has failed, and Main's bytes are as they were without the tail, or, where it was empty, the
+    /// file of a new database.
     pub fn create_or_open<C: Clock>(
         alloc: Global,
         mut volume: V,
         clock: &mut C,
     ) -> Result<(FileStore<V>, Option<u64>), (OpenError, V)>
-        ensures whole { IfOk result (λ r. (⟦<FileStore<V> as Store>⟧.state r.0).broken ≡ false) }
-        ensures free { IfOk result (λ r. (⟦<FileStore<V> as Store>⟧.state r.0).voted ≡ None) }
-        ensures begun { IfOk result (λ r. (⟦<FileStore<V> as Store>⟧.state r.0).begun ≡ None) }
-        ensures opened { V.told → seen (V.log volume) Main ≢ [] → IfOk result (λ r.
-            StandsFor (seen (V.log volume) Main) (⟦<FileStore<V> as Store>⟧.state r.0).list r.1) }
-        ensures made { V.told → seen (V.log volume) Main ≡ [] → IfOk result (λ r.
-            IsMade (C.stamps clock.old) (⟦<FileStore<V> as Store>⟧.state r.0).list r.1) }
-        ensures content { V.told → seen (V.log volume) Main ≢ [] → IfOk result (λ r.
-            seen (⟦<FileStore<V> as Store>⟧.state r.0).log Main ≡ without_tail (seen (V.log volume) Main) r.1) }
-        ensures new_file { V.told → seen (V.log volume) Main ≡ [] → IfOk result (λ r.
-            IsNewFile (C.stamps clock.old) (seen (⟦<FileStore<V> as Store>⟧.state r.0).log Main)) }
-        ensures stamps_kept { V.told → seen (V.log volume) Main ≢ []
-            → C.stamps clock.new ≡ C.stamps clock.old }
-        ensures stamps_left { V.told → seen (V.log volume) Main ≡ []
-            → OnOk result (C.stamps clock.new ≡ option_map stamps_after (C.stamps clock.old)) }
-        ensures stamps_given { GaveAtMostOne (C.stamps clock.old) (C.stamps clock.new) }
-        ensures harm { V.told → IfErr result (λ e. Harm (seen (V.log volume) Main) e.0) }
-        ensures untouched { V.told → IsNoList (seen (V.log volume) Main)
-            → IfErr result (λ e. V.log e.1 ≡ V.log volume) }
-        ensures unharmed { V.told → seen (V.log volume) Main ≢ [] → IfErr result (λ e.
-            IsUnlessWritten (V.log volume) (V.log e.1) (V.write_faults volume) (V.write_faults e.1)) }
-        ensures side { V.told → seen (V.log volume) Main ≢ [] → IfOk result (λ r.
-            StaysAs Side (V.log volume) (⟦<FileStore<V> as Store>⟧.state r.0).log) }
-        ensures side_refused { V.told → seen (V.log volume) Main ≢ [] → IfErr result (λ e.
-            StaysAs Side (V.log volume) (V.log e.1)) }
-        ensures keeps { V.told → IfOk result (λ r. KeepsList (V.log volume) (⟦<FileStore<V> as Store>⟧.state r.0).log) }
-        ensures keeps_refused { V.told → IfErr result (λ e. KeepsList (V.log volume) (V.log e.1)) }
-        ensures makes { V.told → IfSome (C.stamps clock.old) (λ stamps. (stamp : Stamp)
-            → slice_get stamps 0 ≡ Some stamp → IfOk result (λ r.
-            MakesList stamp (V.log volume) (⟦<FileStore<V> as Store>⟧.state r.0).log)) }
-        ensures makes_refused { V.told → IfSome (C.stamps clock.old) (λ stamps. (stamp : Stamp)
-            → slice_get stamps 0 ≡ Some stamp → IfErr result (λ e.
-            MakesList stamp (V.log volume) (V.log e.1))) }
-        ensures fault { IfErr result (λ e. e.0 ≡ Fault → SomeRose (V.read_faults volume)
-            (V.read_faults e.1) (V.write_faults volume) (V.write_faults e.1)) }
-        ensures unfailed { IfErr result (λ e. ¬ (e.0 ≡ Fault) → (V.read_faults e.1 ≡ V.read_faults volume)
-            × (V.write_faults e.1 ≡ V.write_faults volume)) }
-        ensures read_faults { IfOk result (λ r.
-            (⟦<FileStore<V> as Store>⟧.state r.0).read_faults ≡ V.read_faults volume) }
-        ensures faults { IfOk result (λ r.
-            (⟦<FileStore<V> as Store>⟧.state r.0).faults ≡ V.write_faults volume) }
-        ensures refused_reads { IfErr result (λ e. V.read_faults volume ≤ V.read_faults e.1) }
-        ensures refused_writes { IfErr result (λ e. V.write_faults volume ≤ V.write_faults e.1) }
+        ensures store { IfOk result (λ r. IsOpenStore V.told (C.stamps clock.old) (V.state volume)
+            (⟦<FileStore<V> as Store>⟧.state r.0) r.1) }
+        ensures refused { IfErr result (λ e.
+            IsRefusal V.told (C.stamps clock.old) (V.state volume) (V.state e.1) e.0) }
+        ensures clock { AsksClock V.told (V.state volume).log (C.stamps clock.old)
+            (C.stamps clock.new) result }
     {
         match open(alloc, &mut volume, clock) {
             Ok(ready) => {
@@ -140,10 +101,13 @@ impl<V: Volume + Drop> FileStore<V> {
     /// when that is opened.
     pub fn into_volume(self) -> V
         ensures stands { V.told → (⟦<FileStore<V> as Store>⟧.state self).broken ≡ false
-            → StandsForList (seen (V.log result) Main) (⟦<FileStore<V> as Store>⟧.state self).list }
-        ensures log { V.log result ≡ (⟦<FileStore<V> as Store>⟧.state self).log }
-        ensures faults { V.write_faults result ≡ (⟦<FileStore<V> as Store>⟧.state self).faults }
-        ensures read_faults { V.read_faults result ≡ (⟦<FileStore<V> as Store>⟧.state self).read_faults }
+            → StandsForList (seen (V.state result).log Main)
+            (⟦<FileStore<V> as Store>⟧.state self).list }
+        ensures log { (V.state result).log ≡ (⟦<FileStore<V> as Store>⟧.state self).log }
+        ensures faults { (V.state result).write_faults
+            ≡ (⟦<FileStore<V> as Store>⟧.state self).faults }
+        ensures read_faults { (V.state result).read_faults
+            ≡ (⟦<FileStore<V> as Store>⟧.state self).read_faults }
     {
         let FileStore {
             volume,
@@ -174,19 +138,25 @@ impl<V: Volume + Drop> Store for FileStore<V> {
     ghost stands = { StandsForList };
 
     ghost state = { λ store. record {
-      list = listed (seen (V.log store.volume) Main);
-      voted = option_map (λ s. voted_in s.tid store.index.end (seen (V.log store.volume) Main)) store.index.staged;
-      begun = option_map (λ c. copied_in c.tid (seen (V.log store.volume) Side)) store.copy;
+      list = listed (seen (V.state store.volume).log Main);
+      voted = option_map
+          (λ s. voted_in s.tid store.index.end (seen (V.state store.volume).log Main))
+          store.index.staged;
+      begun = option_map (λ c. copied_in c.tid (seen (V.state store.volume).log Side)) store.copy;
       newest = store.index.newest;
       broken = store.broken;
-      log = V.log store.volume;
-      faults = V.write_faults store.volume;
-      read_faults = V.read_faults store.volume;
+      log = (V.state store.volume).log;
+      faults = (V.state store.volume).write_faults;
+      read_faults = (V.state store.volume).read_faults;
     } };
 
-    ghost database = { λ store told whole. kept_database (seen (V.log store.volume) Main) store.index store.numbers (store.kept told whole) };
+    ghost database = { λ store told whole.
+        kept_database (seen (V.state store.volume).log Main) store.index store.numbers
+        (store.kept told whole) };
 
-    ghost lasting = { λ store told whole. kept_leaves (V.log store.volume) store.index store.numbers (store.settled told whole) (store.kept told whole) };
+    ghost lasting = { λ store told whole.
+        kept_leaves (V.state store.volume).log store.index store.numbers
+        (store.settled told whole) (store.kept told whole) };
 
     fn newest(&self) -> Tid {
         self.index.newest()

@@ -1,5 +1,5 @@
 -- A turn of copying ends as soon as it may.
-use Rattle.std.proofs.Common.{◌≡◌, ℕ, zero, suc, ◌+◌, ◌<◌, ◌≤◌, ◌⊎◌, ⊎_elim, Bool, true, false, List, [], ◌∷◌, ◌++◌, length, take, refl, sym, ap, subst, ◌∙◌, arith, take_all}
+use Rattle.std.proofs.Common.{◌≡◌, ℕ, zero, suc, ◌+◌, ◌<◌, ◌≤◌, ◌⊎◌, inl, inr, ⊎_elim, Bool, true, false, List, [], ◌∷◌, ◌++◌, length, take, refl, sym, ap, subst, ◌∙◌, arith, take_all}
 use Rattle.std.proofs.lemmas.Bool.{cases_lt}
 use Rattle.std.proofs.lemmas.List.Sums.{sum_by-append, sum_by-cons}
 use Rattle.zb_model.specs.declared.data.Transaction.{Transaction}
@@ -60,7 +60,7 @@ turn_copies count (x ∷ more) rest short ends =
     goes_on count x (more ++ rest) first ∙ ap (λ (l : List Transaction). x ∷ l) (turn_copies (count + length x.changes) more rest behind end)
 
 behind_front : (was more : List Transaction) (k : ℕ) → take (length was + k) (was ++ more) ≡ was ++ take k more
-behind_front [] more k = let e : length [] + k ≡ k = omega arith in ap (λ (n : ℕ). take n more) e
+behind_front [] more k = let e : length {A = Transaction} [] + k ≡ k = omega arith in ap (λ (n : ℕ). take n more) e
 behind_front (x ∷ was) more k =
     let e : length (x ∷ was) + k ≡ suc (length was + k) = omega arith in
     ap (λ (n : ℕ). take n (x ∷ was ++ more)) e ∙ ap (λ (l : List Transaction). x ∷ l) (behind_front was more k)

@@ -1,9 +1,9 @@
 -- A transaction of Main is copied to Side.
-use Rattle.std.proofs.Common.{◌≡◌, ℕ, zero, suc, ◌+◌, ◌-◌, ◌<◌, ◌≤◌, ◌⊎◌, Bool, true, false, List, [], ◌∷◌, ◌++◌, length, get_or, map, take, drop, Option, Some, None, Result, Ok, Err, OnOk, refl, sym, ap, subst, ◌∙◌, arith, drop_of_length-le}
+use Rattle.std.proofs.Common.{◌≡◌, ℕ, zero, suc, ◌+◌, ◌-◌, ◌<◌, ◌≤◌, ◌⊎◌, inl, inr, Bool, true, false, List, [], ◌∷◌, ◌++◌, length, get_or, map, take, drop, Option, Some, None, Result, Ok, Err, OnOk, refl, sym, ap, subst, ◌∙◌, arith}
 use Rattle.std.specs.Prelude.{slice_get}
 use Rattle.std.specs.List.{cons_option, filter_map, last_or}
 use Rattle.std.specs.Option.{option_map_or}
-use Rattle.std.proofs.lemmas.List.{length-drop, length-map, get_or-drop, get_or_default, take_all}
+use Rattle.std.proofs.lemmas.List.{drop_all, length-drop, length-map, get_or-drop, get_or_default, take_all}
 use Rattle.std.proofs.lemmas.List.Sums.{sum_by-append}
 use Rattle.std.proofs.lemmas.Option.{slice_get_read}
 use Rattle.std.specs.Ordering.{nat_cmp}
@@ -196,7 +196,7 @@ module _ (main was now : List ℕ) (from : Kept) (old new : CopyKept) (keep : Fi
 
   ends_so : (whole : Bool) (more : ℕ) → IsCopiedUpTo (listed main) now new keep (first + more) → IsAllOrMore new.tid keep (listed main) (length from.transactions) (first + more) whole
       → (whole ≡ false → change_count (listed was) + changes_a_turn ≤ change_count (listed now)) → (left_behind more ≡ []) ⊎ (changes_a_turn ≤ 0 + change_count (behind more))
-  ends_so true more upto all enough = inl (ap (filter_map F) (drop_of_length-le more (drop first (listed main)) (omega (arith, all, all_long main from source, length-drop first (listed main)))))
+  ends_so true more upto all enough = inl (ap (filter_map F) (drop_all more (drop first (listed main)) (omega (arith, all, all_long main from source, length-drop first (listed main)))))
   ends_so false more upto some enough = inr (as_much more upto (enough refl))
 
   pub turn_is : (whole : Bool) → Ends (listed main) now new keep first (length from.transactions) whole → (whole ≡ false → change_count (listed was) + changes_a_turn ≤ change_count (listed now)) → AreShort (change_count (listed was)) (listed was) (listed now)

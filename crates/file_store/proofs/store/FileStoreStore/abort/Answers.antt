@@ -39,7 +39,7 @@ pub returns-in_err-abort-clause-any_moment : goal.returns-in_err-abort-clause-an
 returns-in_err-abort-clause-any_moment g c = λ told.
     let self = c.args.self.now in
     let s = staged_some self.index.staged _ c.requires.voted in
-    abort_moments (g.V.Volume.log self.volume) self.index self.numbers (self.settled told c.requires.whole) (self.kept told c.requires.whole) (g.V.Volume.log c.abort.new.volume) s.0 c.end.result s.1
+    abort_moments (g.V.Volume.state self.volume).log self.index self.numbers (self.settled told c.requires.whole) (self.kept told c.requires.whole) (g.V.Volume.state c.abort.new.volume).log s.0 c.end.result s.1
     (self.voted told c.requires.whole s.0 s.1) c.end.ensures.value (c.abort.ensures.any_moment told)
 
 pub invariant_of-self-2 : goal.invariant_of-self-2
@@ -51,10 +51,10 @@ invariant_of-self-2 g c =
       room = none_there Staged (λ x. HasRoomForTally self.numbers (length x.records)) c.take_back.new.self.staged (staged_of self.index c.take_back.new.self t);
       settled = λ told whole. c.in_ok-abort.ensures.settled told;
       kept = λ told whole.
-          (aborted (g.V.Volume.log self.volume) self.index self.numbers (self.settled told c.requires.whole) (self.kept told c.requires.whole) (g.V.Volume.log c.abort.new.volume) c.take_back.new.self s.0 c.end.result s.1
+          (aborted (g.V.Volume.state self.volume).log self.index self.numbers (self.settled told c.requires.whole) (self.kept told c.requires.whole) (g.V.Volume.state c.abort.new.volume).log c.take_back.new.self s.0 c.end.result s.1
           (self.voted told c.requires.whole s.0 s.1) c.end.ensures.value (c.in_ok-abort.ensures.content told) (staged_of self.index c.take_back.new.self t) (end_of self.index c.take_back.new.self t) (newest_of self.index c.take_back.new.self t) (places_of self.index c.take_back.new.self t) (starts_of self.index c.take_back.new.self t)).0;
-      voted = λ told whole. none_there Staged (λ x. IsVotedIn (seen (g.V.Volume.log c.abort.new.volume) Main) x c.take_back.new.self) c.take_back.new.self.staged (staged_of self.index c.take_back.new.self t);
-      copied = λ told whole. copied_stays (g.V.Volume.log self.volume) (g.V.Volume.log c.abort.new.volume) self.copy (c.abort.ensures.side told) (self.copied told c.requires.whole);
+      voted = λ told whole. none_there Staged (λ x. IsVotedIn (seen (g.V.Volume.state c.abort.new.volume).log Main) x c.take_back.new.self) c.take_back.new.self.staged (staged_of self.index c.take_back.new.self t);
+      copied = λ told whole. copied_stays (g.V.Volume.state self.volume).log (g.V.Volume.state c.abort.new.volume).log self.copy (c.abort.ensures.side told) (self.copied told c.requires.whole);
     }
 
 pub returns-clause-list : goal.returns-clause-list
@@ -62,18 +62,18 @@ returns-clause-list g c = λ told.
     let self = c.args.self.now in
     let s = staged_some self.index.staged _ c.requires.voted in
     let t = c.take_back.ensures in
-    (aborted (g.V.Volume.log self.volume) self.index self.numbers (self.settled told c.requires.whole) (self.kept told c.requires.whole) (g.V.Volume.log c.abort.new.volume) c.take_back.new.self s.0 c.end.result s.1
+    (aborted (g.V.Volume.state self.volume).log self.index self.numbers (self.settled told c.requires.whole) (self.kept told c.requires.whole) (g.V.Volume.state c.abort.new.volume).log c.take_back.new.self s.0 c.end.result s.1
     (self.voted told c.requires.whole s.0 s.1) c.end.ensures.value (c.in_ok-abort.ensures.content told) (staged_of self.index c.take_back.new.self t) (end_of self.index c.take_back.new.self t) (newest_of self.index c.take_back.new.self t) (places_of self.index c.take_back.new.self t) (starts_of self.index c.take_back.new.self t)).1
 
 pub returns-clause-any_moment : goal.returns-clause-any_moment
 returns-clause-any_moment g c = λ told.
     let self = c.args.self.now in
     let s = staged_some self.index.staged _ c.requires.voted in
-    abort_moments (g.V.Volume.log self.volume) self.index self.numbers (self.settled told c.requires.whole) (self.kept told c.requires.whole) (g.V.Volume.log c.abort.new.volume) s.0 c.end.result s.1
+    abort_moments (g.V.Volume.state self.volume).log self.index self.numbers (self.settled told c.requires.whole) (self.kept told c.requires.whole) (g.V.Volume.state c.abort.new.volume).log s.0 c.end.result s.1
     (self.voted told c.requires.whole s.0 s.1) c.end.ensures.value (c.abort.ensures.any_moment told)
 
 pub returns-clause-begun : goal.returns-clause-begun
-returns-clause-begun g c = keeps_begun g.V.Volume.told (g.V.Volume.log c.args.self.now.volume) (g.V.Volume.log c.abort.new.volume) c.args.self.now.copy _ _ refl refl (λ told. c.abort.ensures.side told)
+returns-clause-begun g c = keeps_begun g.V.Volume.told (g.V.Volume.state c.args.self.now.volume).log (g.V.Volume.state c.abort.new.volume).log c.args.self.now.copy _ _ refl refl (λ told. c.abort.ensures.side told)
 
 pub returns-in_err-abort-clause-begun : goal.returns-in_err-abort-clause-begun
-returns-in_err-abort-clause-begun g c = keeps_begun g.V.Volume.told (g.V.Volume.log c.args.self.now.volume) (g.V.Volume.log c.abort.new.volume) c.args.self.now.copy _ _ refl refl (λ told. c.abort.ensures.side told)
+returns-in_err-abort-clause-begun g c = keeps_begun g.V.Volume.told (g.V.Volume.state c.args.self.now.volume).log (g.V.Volume.state c.abort.new.volume).log c.args.self.now.copy _ _ refl refl (λ told. c.abort.ensures.side told)

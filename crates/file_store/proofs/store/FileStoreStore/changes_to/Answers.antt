@@ -7,6 +7,6 @@ use Rattle.file_store.proofs.store.FileStoreStore.changes_to.Goals as goal
 pub returns : goal.returns
 returns g c = λ told.
     let self = c.args.self.now in
-    let main = seen (g.V.Volume.log self.volume) Main in
+    let main = seen (g.V.Volume.state self.volume).log Main in
     let k = self.kept told c.requires in
     c.changes_to.ensures (listed main) (kept_database main self.index self.numbers k) k.counted

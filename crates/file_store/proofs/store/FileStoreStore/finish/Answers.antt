@@ -19,7 +19,7 @@ pub returns-in_err-finish-clause-any_moment : goal.returns-in_err-finish-clause-
 returns-in_err-finish-clause-any_moment g c = λ told t is.
     let self = c.args.self.now in
     let s = some_mapped Staged Transaction self.index.staged _ t is in
-    finish_moments (g.V.Volume.log self.volume) self.index self.numbers (self.settled told c.requires.whole) (self.kept told c.requires.whole) (g.V.Volume.log c.finish.new.volume) s.0 t c.end.result s.1
+    finish_moments (g.V.Volume.state self.volume).log self.index self.numbers (self.settled told c.requires.whole) (self.kept told c.requires.whole) (g.V.Volume.state c.finish.new.volume).log s.0 t c.end.result s.1
     (self.voted told c.requires.whole s.0 s.1) c.end.ensures.value s.2 (c.finish.ensures.any_moment told (self.settled told c.requires.whole))
 
 pub invariant_of-self-2 : goal.invariant_of-self-2
@@ -32,17 +32,17 @@ invariant_of-self-2 g c =
       room = none_there Staged (λ x. HasRoomForTally c.count_staged.new.numbers (length x.records)) c.keep.new.self.staged none;
       settled = λ told whole. c.in_ok-finish.ensures.settled told;
       kept = λ told whole.
-          finished (g.V.Volume.log self.volume) self.index self.numbers (self.settled told c.requires.whole) (self.kept told c.requires.whole) (g.V.Volume.log c.finish.new.volume) c.keep.new.self c.count_staged.new.numbers s.0 c.end.result s.1
+          finished (g.V.Volume.state self.volume).log self.index self.numbers (self.settled told c.requires.whole) (self.kept told c.requires.whole) (g.V.Volume.state c.finish.new.volume).log c.keep.new.self c.count_staged.new.numbers s.0 c.end.result s.1
           (self.voted told c.requires.whole s.0 s.1) c.end.ensures.value (c.in_ok-finish.ensures.content told) none k (c.count_staged.ensures s.0 s.1);
-      voted = λ told whole. none_there Staged (λ x. IsVotedIn (seen (g.V.Volume.log c.finish.new.volume) Main) x c.keep.new.self) c.keep.new.self.staged none;
-      copied = λ told whole. copied_stays (g.V.Volume.log self.volume) (g.V.Volume.log c.finish.new.volume) self.copy (c.finish.ensures.side told) (self.copied told c.requires.whole);
+      voted = λ told whole. none_there Staged (λ x. IsVotedIn (seen (g.V.Volume.state c.finish.new.volume).log Main) x c.keep.new.self) c.keep.new.self.staged none;
+      copied = λ told whole. copied_stays (g.V.Volume.state self.volume).log (g.V.Volume.state c.finish.new.volume).log self.copy (c.finish.ensures.side told) (self.copied told c.requires.whole);
     }
 
 pub returns-clause-any_moment : goal.returns-clause-any_moment
 returns-clause-any_moment g c = λ told t is.
     let self = c.args.self.now in
     let s = some_mapped Staged Transaction self.index.staged _ t is in
-    finish_moments (g.V.Volume.log self.volume) self.index self.numbers (self.settled told c.requires.whole) (self.kept told c.requires.whole) (g.V.Volume.log c.finish.new.volume) s.0 t c.end.result s.1
+    finish_moments (g.V.Volume.state self.volume).log self.index self.numbers (self.settled told c.requires.whole) (self.kept told c.requires.whole) (g.V.Volume.state c.finish.new.volume).log s.0 t c.end.result s.1
     (self.voted told c.requires.whole s.0 s.1) c.end.ensures.value s.2 (c.finish.ensures.any_moment told (self.settled told c.requires.whole))
 
 pub returns-clause-number : goal.returns-clause-number
@@ -51,7 +51,7 @@ returns-clause-number g c = λ t is.
     (c.keep.ensures.kept s.0 s.1).newest ∙ ap (λ (x : Transaction). x.tid) s.2
 
 pub returns-clause-begun : goal.returns-clause-begun
-returns-clause-begun g c = keeps_begun g.V.Volume.told (g.V.Volume.log c.args.self.now.volume) (g.V.Volume.log c.finish.new.volume) c.args.self.now.copy _ _ refl refl (λ told. c.finish.ensures.side told)
+returns-clause-begun g c = keeps_begun g.V.Volume.told (g.V.Volume.state c.args.self.now.volume).log (g.V.Volume.state c.finish.new.volume).log c.args.self.now.copy _ _ refl refl (λ told. c.finish.ensures.side told)
 
 pub returns-in_err-finish-clause-begun : goal.returns-in_err-finish-clause-begun
-returns-in_err-finish-clause-begun g c = keeps_begun g.V.Volume.told (g.V.Volume.log c.args.self.now.volume) (g.V.Volume.log c.finish.new.volume) c.args.self.now.copy _ _ refl refl (λ told. c.finish.ensures.side told)
+returns-in_err-finish-clause-begun g c = keeps_begun g.V.Volume.told (g.V.Volume.state c.args.self.now.volume).log (g.V.Volume.state c.finish.new.volume).log c.args.self.now.copy _ _ refl refl (λ told. c.finish.ensures.side told)

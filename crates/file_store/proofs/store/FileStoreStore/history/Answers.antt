@@ -5,15 +5,15 @@ use Rattle.file_store.proofs.Shown.{by_places, places_are, still}
 use Rattle.file_store.proofs.store.FileStoreStore.history.Goals as goal
 
 pub read_history_at-requires : goal.read_history_at-requires
-read_history_at-requires g c = λ told. let self = c.args.self.now in places_are (seen (g.V.Volume.log self.volume) Main) self.index self.numbers (self.kept told c.requires) c.args.oid c.places.result.now c.places.ensures.value
+read_history_at-requires g c = λ told. let self = c.args.self.now in places_are (seen (g.V.Volume.state self.volume).log Main) self.index self.numbers (self.kept told c.requires) c.args.oid c.places.result.now c.places.ensures.value
 
 pub invariant_of-self : goal.invariant_of-self
 invariant_of-self g c =
     let self = c.args.self.now in
-    let k = still _ _ _ _ self.index self.numbers self.copy c.read_history_at.ensures.same (record { settled = self.settled; kept = self.kept; voted = self.voted; copied = self.copied }) in
+    let k = still _ _ _ _ self.index self.numbers self.copy c.read_history_at.ensures.read.same (record { settled = self.settled; kept = self.kept; voted = self.voted; copied = self.copied }) in
     record { room = self.room; settled = k.settled; kept = k.kept; voted = k.voted; copied = k.copied }
 
 pub returns-clause-lines : goal.returns-clause-lines
 returns-clause-lines g c = λ told.
     let self = c.args.self.now in
-    by_places (seen (g.V.Volume.log self.volume) Main) self.index self.numbers (self.kept told c.requires) history_of _ c.args.oid c.places.result.now c.places.ensures.value (c.in_ok-lines.ensures.lines told)
+    by_places (seen (g.V.Volume.state self.volume).log Main) self.index self.numbers (self.kept told c.requires) history_of _ c.args.oid c.places.result.now c.places.ensures.value (c.in_ok-lines.ensures.lines told)

@@ -7,21 +7,21 @@ use Rattle.file_store.proofs.Shown.{by_places, end_within, places_are, still}
 use Rattle.file_store.proofs.store.FileStoreStore.load_before.Goals as goal
 
 pub read_before-requires-clause-places : goal.read_before-requires-clause-places
-read_before-requires-clause-places g c = λ told. let self = c.args.self.now in places_are (seen (g.V.Volume.log self.volume) Main) self.index self.numbers (self.kept told c.requires) c.args.oid c.places.result.now c.places.ensures.value
+read_before-requires-clause-places g c = λ told. let self = c.args.self.now in places_are (seen (g.V.Volume.state self.volume).log Main) self.index self.numbers (self.kept told c.requires) c.args.oid c.places.result.now c.places.ensures.value
 
 pub read_before-requires-clause-end : goal.read_before-requires-clause-end
 read_before-requires-clause-end g c = λ told.
     let self = c.args.self.now in
-    let main = seen (g.V.Volume.log self.volume) Main in
+    let main = seen (g.V.Volume.state self.volume).log Main in
     omega (arith, c.end-end.ensures.value, end_within main self.index self.numbers (self.kept told c.requires) self.index.staged refl (self.voted told c.requires))
 
 pub invariant_of-self : goal.invariant_of-self
 invariant_of-self g c =
     let self = c.args.self.now in
-    let k = still _ _ _ _ self.index self.numbers self.copy c.read_before.ensures.same (record { settled = self.settled; kept = self.kept; voted = self.voted; copied = self.copied }) in
+    let k = still _ _ _ _ self.index self.numbers self.copy c.read_before.ensures.read.same (record { settled = self.settled; kept = self.kept; voted = self.voted; copied = self.copied }) in
     record { room = self.room; settled = k.settled; kept = k.kept; voted = k.voted; copied = k.copied }
 
 pub returns-clause-found : goal.returns-clause-found
 returns-clause-found g c = λ told.
     let self = c.args.self.now in
-    by_places (seen (g.V.Volume.log self.volume) Main) self.index self.numbers (self.kept told c.requires) (λ (oid : ℕ) (list : List Transaction). found_below oid c.args.front list) _ c.args.oid c.places.result.now c.places.ensures.value (c.in_ok-found.ensures.found told)
+    by_places (seen (g.V.Volume.state self.volume).log Main) self.index self.numbers (self.kept told c.requires) (λ (oid : ℕ) (list : List Transaction). found_below oid c.args.front list) _ c.args.oid c.places.result.now c.places.ensures.value (c.in_ok-found.ensures.found told)

@@ -8,8 +8,8 @@ use Rattle.file_store.proofs.store.FileStoreStore.pack_begin.Goals as goal
 pub invariant_of-self-2 : goal.invariant_of-self-2
 invariant_of-self-2 g c =
     let self = c.args.self.now in
-    let log = g.V.Volume.log self.volume in
-    let now = g.V.Volume.log c.begin.new.volume in
+    let log = (g.V.Volume.state self.volume).log in
+    let now = (g.V.Volume.state c.begin.new.volume).log in
     record {
       room = self.room;
       settled = λ told whole. settled_stays log now (c.begin.ensures.main told) (self.settled told c.requires);
@@ -19,10 +19,10 @@ invariant_of-self-2 g c =
     }
 
 pub returns-in-Err-clause-voted : goal.returns-in-Err-clause-voted
-returns-in-Err-clause-voted g c = keeps_voted g.V.Volume.told (g.V.Volume.log c.args.self.now.volume) (g.V.Volume.log c.begin.new.volume) c.args.self.now.index _ _ refl refl (λ told. c.begin.ensures.main told)
+returns-in-Err-clause-voted g c = keeps_voted g.V.Volume.told (g.V.Volume.state c.args.self.now.volume).log (g.V.Volume.state c.begin.new.volume).log c.args.self.now.index _ _ refl refl (λ told. c.begin.ensures.main told)
 
 pub returns-clause-voted : goal.returns-clause-voted
-returns-clause-voted g c = keeps_voted g.V.Volume.told (g.V.Volume.log c.args.self.now.volume) (g.V.Volume.log c.begin.new.volume) c.args.self.now.index _ _ refl refl (λ told. c.begin.ensures.main told)
+returns-clause-voted g c = keeps_voted g.V.Volume.told (g.V.Volume.state c.args.self.now.volume).log (g.V.Volume.state c.begin.new.volume).log c.args.self.now.index _ _ refl refl (λ told. c.begin.ensures.main told)
 
 pub returns-clause-list : goal.returns-clause-list
-returns-clause-list g c = λ told. list_stays (g.V.Volume.log c.args.self.now.volume) (g.V.Volume.log c.begin.new.volume) (c.begin.ensures.main told)
+returns-clause-list g c = λ told. list_stays (g.V.Volume.state c.args.self.now.volume).log (g.V.Volume.state c.begin.new.volume).log (c.begin.ensures.main told)

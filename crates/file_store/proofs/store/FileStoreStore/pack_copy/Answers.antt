@@ -11,13 +11,13 @@ use Rattle.file_store.proofs.store.FileStoreStore.pack_copy.Goals as goal
 pub copy_turn-requires-clause-copied : goal.copy_turn-requires-clause-copied
 copy_turn-requires-clause-copied g c = λ told.
     let self = c.args.self.now in
-    copy_is (seen (g.V.Volume.log self.volume) Side) c.in-Some.copy (self.copied told c.requires.whole c.in-Some.copy (sym c.take.ensures.value ∙ c.in-Some.is))
+    copy_is (seen (g.V.Volume.state self.volume).log Side) c.in-Some.copy (self.copied told c.requires.whole c.in-Some.copy (sym c.take.ensures.value ∙ c.in-Some.is))
 
 pub invariant_of-self-in-Ok : goal.invariant_of-self-in-Ok
 invariant_of-self-in-Ok g c =
     let self = c.args.self.now in
-    let log = g.V.Volume.log self.volume in
-    let now = g.V.Volume.log c.copy_turn.new.volume in
+    let log = (g.V.Volume.state self.volume).log in
+    let now = (g.V.Volume.state c.copy_turn.new.volume).log in
     record {
       room = self.room;
       settled = λ told whole. settled_stays log now (c.copy_turn.ensures.main told) (self.settled told c.requires.whole);
@@ -29,8 +29,8 @@ invariant_of-self-in-Ok g c =
 pub invariant_of-self-in-Err : goal.invariant_of-self-in-Err
 invariant_of-self-in-Err g c =
     let self = c.args.self.now in
-    let log = g.V.Volume.log self.volume in
-    let now = g.V.Volume.log c.copy_turn.new.volume in
+    let log = (g.V.Volume.state self.volume).log in
+    let now = (g.V.Volume.state c.copy_turn.new.volume).log in
     record {
       room = self.room;
       settled = λ told whole. settled_stays log now (c.copy_turn.ensures.main told) (self.settled told c.requires.whole);
@@ -40,10 +40,10 @@ invariant_of-self-in-Err g c =
     }
 
 pub returns-in-Ok-clause-voted : goal.returns-in-Ok-clause-voted
-returns-in-Ok-clause-voted g c = keeps_voted g.V.Volume.told (g.V.Volume.log c.args.self.now.volume) (g.V.Volume.log c.copy_turn.new.volume) c.args.self.now.index _ _ refl refl (λ told. c.copy_turn.ensures.main told)
+returns-in-Ok-clause-voted g c = keeps_voted g.V.Volume.told (g.V.Volume.state c.args.self.now.volume).log (g.V.Volume.state c.copy_turn.new.volume).log c.args.self.now.index _ _ refl refl (λ told. c.copy_turn.ensures.main told)
 
 pub returns-in-Ok-clause-list : goal.returns-in-Ok-clause-list
-returns-in-Ok-clause-list g c = λ told. list_stays (g.V.Volume.log c.args.self.now.volume) (g.V.Volume.log c.copy_turn.new.volume) (c.copy_turn.ensures.main told)
+returns-in-Ok-clause-list g c = λ told. list_stays (g.V.Volume.state c.args.self.now.volume).log (g.V.Volume.state c.copy_turn.new.volume).log (c.copy_turn.ensures.main told)
 
 pub returns-in-Err-clause-voted : goal.returns-in-Err-clause-voted
-returns-in-Err-clause-voted g c = keeps_voted g.V.Volume.told (g.V.Volume.log c.args.self.now.volume) (g.V.Volume.log c.copy_turn.new.volume) c.args.self.now.index _ _ refl refl (λ told. c.copy_turn.ensures.main told)
+returns-in-Err-clause-voted g c = keeps_voted g.V.Volume.told (g.V.Volume.state c.args.self.now.volume).log (g.V.Volume.state c.copy_turn.new.volume).log c.args.self.now.index _ _ refl refl (λ told. c.copy_turn.ensures.main told)

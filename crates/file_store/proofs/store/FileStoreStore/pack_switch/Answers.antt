@@ -4,7 +4,7 @@ use Rattle.zb_volume.specs.Disk.{seen}
 use Rattle.zb_volume.specs.Moments.{StaysAs}
 use Rattle.zb_model.specs.declared.packs.Packed.{Packed}
 use Rattle.pack_copy.specs.Copying.{CopyKept}
-use Rattle.pack_switch.specs.declared.switching.Switched.{Switched}
+use Rattle.file_store.specs.declared.switching.Switched.{Switched}
 use Rattle.file_store.specs.Kept.{IsCopyKept}
 use Rattle.file_store.proofs.Commits.{none_there}
 use Rattle.file_store.proofs.Copies.{copy_is}
@@ -16,17 +16,17 @@ use Rattle.file_store.proofs.store.FileStoreStore.pack_switch.Goals as goal
 pub pack_file-requires-clause-copied : goal.pack_file-requires-clause-copied
 pack_file-requires-clause-copied g c = λ told.
     let self = c.args.self.now in
-    copy_is (seen (g.V.Volume.log self.volume) Side) c.in-Some.copy (self.copied told c.requires.whole c.in-Some.copy (sym c.take.ensures.value ∙ c.in-Some.is))
+    copy_is (seen (g.V.Volume.state self.volume).log Side) c.in-Some.copy (self.copied told c.requires.whole c.in-Some.copy (sym c.take.ensures.value ∙ c.in-Some.is))
 
 -- Main, unless a call of the volume failed
-stays : (g : _) (c : goal.After-eq-self g) → g.V.Volume.told → c.eq-self.result ≡ false → StaysAs Main (g.V.Volume.log c.args.self.now.volume) (g.V.Volume.log c.pack_file.new.volume)
+stays : (g : _) (c : goal.After-eq-self g) → g.V.Volume.told → c.eq-self.result ≡ false → StaysAs Main (g.V.Volume.state c.args.self.now.volume).log (g.V.Volume.state c.pack_file.new.volume).log
 stays g c told whole = unbroken Switched c.in-Err.error c.eq-self.result _ c.eq-self.ensures whole (c.in-Err.ensures.main told)
 
 pub invariant_of-self-in-Err : goal.invariant_of-self-in-Err
 invariant_of-self-in-Err g c =
     let self = c.args.self.now in
-    let log = g.V.Volume.log self.volume in
-    let now = g.V.Volume.log c.pack_file.new.volume in
+    let log = (g.V.Volume.state self.volume).log in
+    let now = (g.V.Volume.state c.pack_file.new.volume).log in
     record {
       room = self.room;
       settled = λ told whole. settled_stays log now (stays g c told whole) (self.settled told c.requires.whole);
@@ -37,9 +37,10 @@ invariant_of-self-in-Err g c =
 
 pub returns-in-Ok-clause-number : goal.returns-in-Ok-clause-number
 returns-in-Ok-clause-number g c = λ told.
-    let main = seen (g.V.Volume.log c.pack_file.new.volume) Main in
-    newest_is main c.keep-ready.result.index c.keep-ready.result.numbers (c.keep-ready.ensures.kept main (c.in-Ok.ensures.whole told) (c.in-Ok.ensures.fits told) (c.in-Ok.ensures.long told))
+    let main = seen (g.V.Volume.state c.pack_file.new.volume).log Main in
+    let is = c.in-Ok.ensures.packed told in
+    newest_is main c.keep-ready.result.index c.keep-ready.result.numbers (c.keep-ready.ensures.kept main is.whole is.fits is.long)
 
 pub returns-in-Err-clause-unchanged : goal.returns-in-Err-clause-unchanged
 returns-in-Err-clause-unchanged g c = λ told.
-    unless_less Switched Packed c.in-Err.error _ _ (λ stays. list_stays (g.V.Volume.log c.args.self.now.volume) (g.V.Volume.log c.pack_file.new.volume) stays) (c.in-Err.ensures.main told)
+    unless_less Switched Packed c.in-Err.error _ _ (λ stays. list_stays (g.V.Volume.state c.args.self.now.volume).log (g.V.Volume.state c.pack_file.new.volume).log stays) (c.in-Err.ensures.main told)

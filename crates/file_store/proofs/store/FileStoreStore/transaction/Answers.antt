@@ -5,15 +5,15 @@ use Rattle.file_store.proofs.Shown.{by_starts, starts_are, still}
 use Rattle.file_store.proofs.store.FileStoreStore.transaction.Goals as goal
 
 pub read_transaction_with-requires-clause-starts : goal.read_transaction_with-requires-clause-starts
-read_transaction_with-requires-clause-starts g c = λ told. let self = c.args.self.now in starts_are (seen (g.V.Volume.log self.volume) Main) self.index self.numbers (self.kept told c.requires) c.starts.result.now c.starts.ensures.value
+read_transaction_with-requires-clause-starts g c = λ told. let self = c.args.self.now in starts_are (seen (g.V.Volume.state self.volume).log Main) self.index self.numbers (self.kept told c.requires) c.starts.result.now c.starts.ensures.value
 
 pub invariant_of-self : goal.invariant_of-self
 invariant_of-self g c =
     let self = c.args.self.now in
-    let k = still _ _ _ _ self.index self.numbers self.copy c.read_transaction_with.ensures.same (record { settled = self.settled; kept = self.kept; voted = self.voted; copied = self.copied }) in
+    let k = still _ _ _ _ self.index self.numbers self.copy c.read_transaction_with.ensures.read.same (record { settled = self.settled; kept = self.kept; voted = self.voted; copied = self.copied }) in
     record { room = self.room; settled = k.settled; kept = k.kept; voted = k.voted; copied = k.copied }
 
 pub returns-clause-found : goal.returns-clause-found
 returns-clause-found g c = λ told.
     let self = c.args.self.now in
-    by_starts (seen (g.V.Volume.log self.volume) Main) self.index self.numbers (self.kept told c.requires) (transaction_at c.args.tid) _ c.starts.result.now c.starts.ensures.value (c.in_ok-found.ensures.found told)
+    by_starts (seen (g.V.Volume.state self.volume).log Main) self.index self.numbers (self.kept told c.requires) (transaction_at c.args.tid) _ c.starts.result.now c.starts.ensures.value (c.in_ok-found.ensures.found told)

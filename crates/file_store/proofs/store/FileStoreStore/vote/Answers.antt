@@ -13,24 +13,24 @@ use Rattle.file_store.proofs.store.FileStoreStore.vote.Goals as goal
 pub returns-in_err-text-clause-any_moment : goal.returns-in_err-text-clause-any_moment
 returns-in_err-text-clause-any_moment g c = λ told.
     let self = c.args.self.now in
-    unmoved (g.V.Volume.log self.volume) self.index self.numbers (self.settled told c.requires.whole) (self.kept told c.requires.whole)
+    unmoved (g.V.Volume.state self.volume).log self.index self.numbers (self.settled told c.requires.whole) (self.kept told c.requires.whole)
 
 pub returns-in-Err-clause-any_moment : goal.returns-in-Err-clause-any_moment
 returns-in-Err-clause-any_moment g c = λ told.
     let self = c.args.self.now in
     let free = none_staged self.index.staged _ c.requires.free in
     let p = c.in_ok-text.ensures.prepared in
-    moments (g.V.Volume.log self.volume) self.index self.numbers (self.settled told c.requires.whole) (self.kept told c.requires.whole) (g.V.Volume.log c.vote.new.volume)
-    (c.vote.ensures.any_moment told (reached_in (seen (g.V.Volume.log self.volume) Main))
-    (vote_is (g.V.Volume.log self.volume) self.index self.numbers (self.settled told c.requires.whole) (self.kept told c.requires.whole) c.prepare.new.index c.prepare.new.numbers c.args.new.now c.end.result c.in_ok-text.text c.as_slice.result.now free p (c.end.ensures.value ∙ c.prepare.ensures.end) c.as_slice.ensures.value))
+    moments (g.V.Volume.state self.volume).log self.index self.numbers (self.settled told c.requires.whole) (self.kept told c.requires.whole) (g.V.Volume.state c.vote.new.volume).log
+    (c.vote.ensures.any_moment told (reached_in (seen (g.V.Volume.state self.volume).log Main))
+    (vote_is (g.V.Volume.state self.volume).log self.index self.numbers (self.settled told c.requires.whole) (self.kept told c.requires.whole) c.prepare.new.index c.prepare.new.numbers c.args.new.now c.end.result c.in_ok-text.text c.as_slice.result.now free p (c.end.ensures.value ∙ c.prepare.ensures.end) c.as_slice.ensures.value))
 
 -- what the vote leaves
-leaves : (g : _) (c : goal.In-Ok g) → g.V.Volume.told → Voted (seen (g.V.Volume.log c.args.self.now.volume) Main) (seen (g.V.Volume.log c.vote.new.volume) Main) c.prepare.new.index c.prepare.new.numbers (staged_for c.args.self.now.index c.args.new.now c.in_ok-text.text) c.args.new.now
+leaves : (g : _) (c : goal.In-Ok g) → g.V.Volume.told → Voted (seen (g.V.Volume.state c.args.self.now.volume).log Main) (seen (g.V.Volume.state c.vote.new.volume).log Main) c.prepare.new.index c.prepare.new.numbers (staged_for c.args.self.now.index c.args.new.now c.in_ok-text.text) c.args.new.now
 leaves g c = λ told.
     let self = c.args.self.now in
     let free = none_staged self.index.staged _ c.requires.free in
     let p = c.in_ok-text.ensures.prepared in
-    voted (g.V.Volume.log self.volume) self.index self.numbers (self.settled told c.requires.whole) (self.kept told c.requires.whole) (g.V.Volume.log c.vote.new.volume) c.prepare.new.index c.prepare.new.numbers c.args.new.now c.end.result c.in_ok-text.text c.as_slice.result.now free p c.end.ensures.value c.as_slice.ensures.value c.as_slice.ensures.bytes
+    voted (g.V.Volume.state self.volume).log self.index self.numbers (self.settled told c.requires.whole) (self.kept told c.requires.whole) (g.V.Volume.state c.vote.new.volume).log c.prepare.new.index c.prepare.new.numbers c.args.new.now c.end.result c.in_ok-text.text c.as_slice.result.now free p c.end.ensures.value c.as_slice.ensures.value c.as_slice.ensures.bytes
     c.in_ok-text.ensures.next (c.requires.votable told) c.prepare.ensures.end c.prepare.ensures.newest c.prepare.ensures.places c.prepare.ensures.starts c.prepare.ensures.tallies c.prepare.ensures.greatest c.prepare.ensures.pack_point (c.in-Ok.ensures.content told)
 
 pub invariant_of-self-2 : goal.invariant_of-self-2
@@ -41,23 +41,23 @@ invariant_of-self-2 g c =
       room = room_for c.prepare.new.numbers c.prepare.new.index.staged self.index c.args.new.now c.in_ok-text.text p.staged_is p.room;
       settled = λ told whole. c.in-Ok.ensures.settled told;
       kept = λ told whole. (leaves g c told).kept;
-      voted = λ told whole s some. subst (λ (x : Staged). IsVotedIn (seen (g.V.Volume.log c.vote.new.volume) Main) x c.prepare.new.index) (sym (some_same Staged c.prepare.new.index.staged _ s p.staged_is some)) (leaves g c told).voted;
-      copied = λ told whole. copied_stays (g.V.Volume.log self.volume) (g.V.Volume.log c.vote.new.volume) self.copy (c.vote.ensures.side told) (self.copied told c.requires.whole);
+      voted = λ told whole s some. subst (λ (x : Staged). IsVotedIn (seen (g.V.Volume.state c.vote.new.volume).log Main) x c.prepare.new.index) (sym (some_same Staged c.prepare.new.index.staged _ s p.staged_is some)) (leaves g c told).voted;
+      copied = λ told whole. copied_stays (g.V.Volume.state self.volume).log (g.V.Volume.state c.vote.new.volume).log self.copy (c.vote.ensures.side told) (self.copied told c.requires.whole);
     }
 
 -- the same where the call returns
-left : (g : _) (c : goal.After-drop-text-inside-2 g) → g.V.Volume.told → Voted (seen (g.V.Volume.log c.args.self.now.volume) Main) (seen (g.V.Volume.log c.vote.new.volume) Main) c.prepare.new.index c.prepare.new.numbers (staged_for c.args.self.now.index c.args.new.now c.in_ok-text.text) c.args.new.now
+left : (g : _) (c : goal.After-drop-text-inside-2 g) → g.V.Volume.told → Voted (seen (g.V.Volume.state c.args.self.now.volume).log Main) (seen (g.V.Volume.state c.vote.new.volume).log Main) c.prepare.new.index c.prepare.new.numbers (staged_for c.args.self.now.index c.args.new.now c.in_ok-text.text) c.args.new.now
 left g c = λ told.
     let self = c.args.self.now in
     let free = none_staged self.index.staged _ c.requires.free in
     let p = c.in_ok-text.ensures.prepared in
-    voted (g.V.Volume.log self.volume) self.index self.numbers (self.settled told c.requires.whole) (self.kept told c.requires.whole) (g.V.Volume.log c.vote.new.volume) c.prepare.new.index c.prepare.new.numbers c.args.new.now c.end.result c.in_ok-text.text c.as_slice.result.now free p c.end.ensures.value c.as_slice.ensures.value c.as_slice.ensures.bytes
+    voted (g.V.Volume.state self.volume).log self.index self.numbers (self.settled told c.requires.whole) (self.kept told c.requires.whole) (g.V.Volume.state c.vote.new.volume).log c.prepare.new.index c.prepare.new.numbers c.args.new.now c.end.result c.in_ok-text.text c.as_slice.result.now free p c.end.ensures.value c.as_slice.ensures.value c.as_slice.ensures.bytes
     c.in_ok-text.ensures.next (c.requires.votable told) c.prepare.ensures.end c.prepare.ensures.newest c.prepare.ensures.places c.prepare.ensures.starts c.prepare.ensures.tallies c.prepare.ensures.greatest c.prepare.ensures.pack_point (c.in-Ok.ensures.content told)
 
 pub returns-clause-voted : goal.returns-clause-voted
 returns-clause-voted g c = λ told.
     let p = c.in_ok-text.ensures.prepared in
-    ap (option_map (λ (s : Staged). voted_in s.tid c.prepare.new.index.end (seen (g.V.Volume.log c.vote.new.volume) Main))) p.staged_is ∙ ap Some (left g c told).is
+    ap (option_map (λ (s : Staged). voted_in s.tid c.prepare.new.index.end (seen (g.V.Volume.state c.vote.new.volume).log Main))) p.staged_is ∙ ap Some (left g c told).is
 
 pub returns-clause-list : goal.returns-clause-list
 returns-clause-list g c = λ told. (left g c told).list
@@ -67,15 +67,15 @@ returns-clause-any_moment g c = λ told.
     let self = c.args.self.now in
     let free = none_staged self.index.staged _ c.requires.free in
     let p = c.in_ok-text.ensures.prepared in
-    moments (g.V.Volume.log self.volume) self.index self.numbers (self.settled told c.requires.whole) (self.kept told c.requires.whole) (g.V.Volume.log c.vote.new.volume)
-    (c.vote.ensures.any_moment told (reached_in (seen (g.V.Volume.log self.volume) Main))
-    (vote_is (g.V.Volume.log self.volume) self.index self.numbers (self.settled told c.requires.whole) (self.kept told c.requires.whole) c.prepare.new.index c.prepare.new.numbers c.args.new.now c.end.result c.in_ok-text.text c.as_slice.result.now free p (c.end.ensures.value ∙ c.prepare.ensures.end) c.as_slice.ensures.value))
+    moments (g.V.Volume.state self.volume).log self.index self.numbers (self.settled told c.requires.whole) (self.kept told c.requires.whole) (g.V.Volume.state c.vote.new.volume).log
+    (c.vote.ensures.any_moment told (reached_in (seen (g.V.Volume.state self.volume).log Main))
+    (vote_is (g.V.Volume.state self.volume).log self.index self.numbers (self.settled told c.requires.whole) (self.kept told c.requires.whole) c.prepare.new.index c.prepare.new.numbers c.args.new.now c.end.result c.in_ok-text.text c.as_slice.result.now free p (c.end.ensures.value ∙ c.prepare.ensures.end) c.as_slice.ensures.value))
 
 pub returns-clause-begun : goal.returns-clause-begun
-returns-clause-begun g c = keeps_begun g.V.Volume.told (g.V.Volume.log c.args.self.now.volume) (g.V.Volume.log c.vote.new.volume) c.args.self.now.copy _ _ refl refl (λ told. c.vote.ensures.side told)
+returns-clause-begun g c = keeps_begun g.V.Volume.told (g.V.Volume.state c.args.self.now.volume).log (g.V.Volume.state c.vote.new.volume).log c.args.self.now.copy _ _ refl refl (λ told. c.vote.ensures.side told)
 
 pub returns-in-Err-clause-begun : goal.returns-in-Err-clause-begun
-returns-in-Err-clause-begun g c = keeps_begun g.V.Volume.told (g.V.Volume.log c.args.self.now.volume) (g.V.Volume.log c.vote.new.volume) c.args.self.now.copy _ _ refl refl (λ told. c.vote.ensures.side told)
+returns-in-Err-clause-begun g c = keeps_begun g.V.Volume.told (g.V.Volume.state c.args.self.now.volume).log (g.V.Volume.state c.vote.new.volume).log c.args.self.now.copy _ _ refl refl (λ told. c.vote.ensures.side told)
 
 pub returns-in_err-text-clause-side : goal.returns-in_err-text-clause-side
 returns-in_err-text-clause-side g c = λ told. here refl
