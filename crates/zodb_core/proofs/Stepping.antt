@@ -1,5 +1,5 @@
 -- How a hub's step is a step of each machine that it stands for.
-use Rattle.std.proofs.Common.{◌≡◌, ℕ, List, [], Option, Some, None, Bool, true, false, not, refl, sym, ap, ◌∙◌}
+use Rattle.std.proofs.Common.{◌≡◌, ℕ, List, [], Option, Some, None, Bool, true, false, not, refl, sym, ap, subst, ◌∙◌}
 use Rattle.std.specs.Option.{option_map, option_or}
 use Rattle.zb_base.specs.Counts.{Rose}
 use Rattle.zb_ids.specs.declared.stamp.Stamp.{Stamp}
@@ -165,3 +165,16 @@ pub by_clock : {R F : Type 0} (told : Type 0) (rules : Rules) (m : Machine) (n :
 by_clock told rules m n q r old new before after steps tells stands =
     let at = steps.step tells m stands in
     record { stamp = steps.stamp; left = at.left; ticks = steps.ticks; made = at.made; clock = steps.clock; stands = at.stands }
+
+-- ---- the same for a request by another name
+
+pub still_as : {R F : Type 0} (told : Type 0) (rules : Rules) (n : ℕ) (q asked : Request) (r : Reply) (old new : HubState R F) (before after : Option (List Stamp))
+    → q ≡ asked → (told → (m : Machine) → StandsForMachine old m → (stamps : Option (List Stamp)) → MakesStep rules m n asked r old new stamps stamps) → after ≡ before
+    → StepsByClock told rules n q r old new before after
+still_as told rules n q asked r old new before after is made same =
+    subst (λ (x : Request). StepsByClock told rules n x r old new before after) (sym is) (still_clock told rules n asked r old new before after made same)
+
+pub by_clock_as : {R F : Type 0} (told : Type 0) (rules : Rules) (n : ℕ) (q asked : Request) (r : Reply) (old new : HubState R F) (before after : Option (List Stamp))
+    → q ≡ asked → StepsByClock told rules n asked r old new before after → told → (m : Machine) → StandsForMachine old m → MakesStep rules m n q r old new before after
+by_clock_as told rules n q asked r old new before after is steps tells m stands =
+    subst (λ (x : Request). MakesStep rules m n x r old new before after) (sym is) (by_clock told rules m n asked r old new before after steps tells stands)

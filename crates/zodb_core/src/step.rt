@@ -34,7 +34,7 @@ impl<St: Store, R: Resolver, F: Refs> Hub<St, R, F> {
     /// is put in the place of the list. Every object that references lead to from the root, in a view above
     /// the pack's tid, has the content that it had. One that isn't made for a failed read or for want of
     /// memory leaves Main as it was, but may have written Side.
-    #[tactic(auto, using(crate::proofs::Stepping::by_clock, crate::proofs::Stepping::still_clock, crate::proofs::Votes::closed_failed, crate::proofs::Votes::closed_now, crate::proofs::Votes::moments_kept, crate::proofs::Votes::moments_same, zb_model::specs::StayLaws::stays_same, zb_model::specs::StayLaws::stays_from, crate::specs::SwitchLaws::unpacked_keeps))]
+    #[tactic(auto, using(crate::proofs::Votes::closed_failed, crate::proofs::Votes::closed_now, crate::proofs::Votes::moments_kept, crate::proofs::Votes::moments_same, zb_model::specs::StayLaws::stays_same, zb_model::specs::StayLaws::stays_from, crate::specs::SwitchLaws::unpacked_keeps))]
     pub fn step<C: Clock>(
         &mut self,
         alloc: Global,

@@ -1,0 +1,41 @@
+use Rattle.std.proofs.Common.{rules, refl}
+use Rattle.zodb_core.proofs.Stepping.{by_clock_as, still_as, still_clock}
+use Rattle.zodb_core.proofs.Votes.{closed_failed}
+use Rattle.zodb_core.proofs.hub.Hub.step.Goals as goal
+
+pub returns-then-self-clause-clock : goal.returns-then-self-clause-clock
+returns-then-self-clause-clock g c =
+    still_clock _ _ _ _ _ _ _ _ _ (λ told m stands stamps. closed_failed _ m c.args.session c.args.request c.args.self.now stamps stands (search rules)) refl
+
+pub returns-in-Front-clause-clock : goal.returns-in-Front-clause-clock
+returns-in-Front-clause-clock g c = still_as _ _ _ _ _ _ _ _ _ _ c.in-Front.is c.front.ensures.step refl
+
+pub returns-in-LoadBefore-clause-clock : goal.returns-in-LoadBefore-clause-clock
+returns-in-LoadBefore-clause-clock g c = still_as _ _ _ _ _ _ _ _ _ _ c.in-LoadBefore.is c.load_before.ensures.step refl
+
+pub returns-in-NewOids-clause-clock : goal.returns-in-NewOids-clause-clock
+returns-in-NewOids-clause-clock g c = still_as _ _ _ _ _ _ _ _ _ _ c.in-NewOids.is c.new_oids.ensures.step refl
+
+pub returns-in-Finish-clause-clock : goal.returns-in-Finish-clause-clock
+returns-in-Finish-clause-clock g c = still_as _ _ _ _ _ _ _ _ _ _ c.in-Finish.is c.finish.ensures.step refl
+
+pub returns-in-Abort-clause-clock : goal.returns-in-Abort-clause-clock
+returns-in-Abort-clause-clock g c = still_as _ _ _ _ _ _ _ _ _ _ c.in-Abort.is c.abort.ensures.step refl
+
+pub returns-in-History-clause-clock : goal.returns-in-History-clause-clock
+returns-in-History-clause-clock g c = still_as _ _ _ _ _ _ _ _ _ _ c.in-History.is c.history.ensures.step refl
+
+pub returns-in-UndoLog-clause-clock : goal.returns-in-UndoLog-clause-clock
+returns-in-UndoLog-clause-clock g c = still_as _ _ _ _ _ _ _ _ _ _ c.in-UndoLog.is c.undo_log.ensures.step refl
+
+pub returns-in-Pack-clause-clock : goal.returns-in-Pack-clause-clock
+returns-in-Pack-clause-clock g c = still_as _ _ _ _ _ _ _ _ _ _ c.in-Pack.is c.pack.ensures.step refl
+
+pub returns-in-Close-clause-clock : goal.returns-in-Close-clause-clock
+returns-in-Close-clause-clock g c = still_as _ _ _ _ _ _ _ _ _ _ c.in-Close.is c.close.ensures.step refl
+
+pub returns-in-Vote-clause-step : goal.returns-in-Vote-clause-step
+returns-in-Vote-clause-step g c = by_clock_as _ _ _ _ _ _ _ _ _ _ c.in-Vote.is c.vote.ensures.step
+
+pub returns-in-Undo-clause-step : goal.returns-in-Undo-clause-step
+returns-in-Undo-clause-step g c = by_clock_as _ _ _ _ _ _ _ _ _ _ c.in-Undo.is c.undo.ensures.step
