@@ -1,6 +1,7 @@
 pub mod Commits
 pub mod Copies
 pub mod Creating
+pub mod Leaves
 pub mod Opens
 pub mod Packs
 pub mod Placing

@@ -281,7 +281,7 @@ make_ready T stamps old new clock bytes r empty first stands file kept free cut 
 
 -- ---- a call that only reads
 
-state_of : List Event → ℕ → ℕ → VolumeState
+abbrev state_of : List Event → ℕ → ℕ → VolumeState
 state_of log reads writes = record { log = log; read_faults = reads; write_faults = writes }
 
 -- leaves the volume as it was, where it is answered

@@ -1,6 +1,5 @@
 -- What a pack of the file leaves, at every moment and in the end.
-use Rattle.std.proofs.Common.{◌≡◌, ◌⊎◌, inl, inr, ⊎_elim, ℕ, ◌-◌, ◌≤◌, Bool, true, false, List, [], Option, Some, None, Err, refl, sym, ap, subst, ◌∙◌, arith}
-use Rattle.std.proofs.lemmas.List.{append-nil}
+use Rattle.std.proofs.Common.{◌≡◌, ◌⊎◌, inl, inr, ⊎_elim, ℕ, ◌-◌, ◌≤◌, Bool, true, false, List, [], Option, Some, None, Err, sym, ap, subst, ◌∙◌, arith}
 use denote.Enum.Bare.{sameb}
 use Rattle.std.specs.Option.{ForSome}
 use Rattle.std.specs.Ordering.{nat_cmp}
@@ -12,15 +11,14 @@ use Rattle.zb_volume.specs.Lasting.{settled_leaves}
 use Rattle.zb_volume.specs.Moments.{Leaves, LeavesOnly, StaysAs}
 use Rattle.zb_volume.specs.Runs.{joined, leaves_less, stays_leaves}
 use Rattle.zb_model.specs.declared.data.Transaction.{Transaction}
-use Rattle.zb_model.specs.declared.packs.Copied.{Copied}
 use Rattle.zb_model.specs.declared.packs.Packed.{Packed}
 use Rattle.zb_model.specs.Packing.{packed_by}
 use Rattle.zb_model.specs.PackingLaws.{packed_fewer}
-use Rattle.zb_model.specs.Packs.{IsAllOrATurn, IsCopyOf, IsCopyTurn, IsPackCount, IsPrefixOf, StandsForOneOfTwo, change_count}
+use Rattle.zb_model.specs.Packs.{IsCopyOf, IsPackCount, IsPrefixOf, StandsForOneOfTwo, change_count}
 use Rattle.zb_model.specs.contracts.store_error.StoreError.{the_type}
 use Rattle.zb_model.specs.declared.store_error.StoreError.{StoreError}
 use Rattle.zb_model.specs.declared.store_error.StoreError.TheVariants.{StoreFault, ReadFault, Memory}
-use Rattle.zb_model.specs.Stores.{UnlessFault}
+use Rattle.zb_model.specs.Stores.{BegunPack, UnlessFault}
 use Rattle.fs_records.specs.File.{a_file}
 use Rattle.fs_records.specs.Listed.{listed, reached_in, reading_stands}
 use Rattle.fs_recovery.specs.Numbers.{NumbersKept}
@@ -45,16 +43,12 @@ copied_for bytes c is = (None, copied_stands bytes c is)
 pub prefix_copied : (copy : Option CopyKept) (c : CopyKept) (side : List ℕ) (keep : FinSet nat_cmp) (list : List Transaction) → copy ≡ Some c → ForSome (begun_of copy side) (IsCopyOf keep list) → IsPrefixOf (packed_by c.tid keep list) (listed side)
 prefix_copied copy c side keep list is all = all (copied_in c.tid side) (ap (λ (o : Option CopyKept). begun_of o side) is)
 
--- a turn that copies all
-pub whole_turn : (packed was now : List Transaction) (tid : ℕ) (copied : Copied) → IsPrefixOf packed was → now ≡ packed → copied.count ≡ change_count now → copied.whole ≡ true → IsCopyTurn packed (record { tid = tid; copied = was }) (record { tid = tid; copied = now }) copied
-whole_turn packed was now tid copied prefix is count whole = record {
-  more = prefix.0;
-  tid = refl;
-  grown = is ∙ prefix.1;
-  prefix = ([], sym is ∙ sym (append-nil now));
-  count = count;
-  whole = subst (λ (b : Bool). IsAllOrATurn packed now prefix.0 b) (sym whole) is;
-}
+-- the list is the packed one
+pub switched_list : (copy : Option CopyKept) (c : CopyKept) (side : List ℕ) (keep : FinSet nat_cmp) (list now : List Transaction) → copy ≡ Some c → now ≡ packed_by c.tid keep list → ForSome (begun_of copy side) (λ pack. now ≡ packed_by pack.tid keep list)
+switched_list copy c side keep list now is same pack begun =
+    let here : Some (copied_in c.tid side) ≡ Some pack = sym (ap (λ (o : Option CopyKept). begun_of o side) is) ∙ begun in
+    let one : copied_in c.tid side ≡ pack = cc in
+    same ∙ ap (λ (p : BegunPack). packed_by p.tid keep list) one
 
 -- the two counts of a pack
 pub counted_pack : (t : ℕ) (keep : FinSet nat_cmp) (list main side packed : List Transaction) (counts : Packed) → main ≡ list → packed ≡ side → side ≡ packed_by t keep list → counts.kept ≡ change_count side → counts.dropped ≡ change_count main - change_count side → IsPackCount list packed counts

@@ -1,5 +1,5 @@
 -- The list that goes, and what a crash leaves while another one takes its place.
-use Rattle.std.proofs.Common.{◌≡◌, ◌⊎◌, inl, inr, ⊎_elim, ℕ, List, [], ◌∷◌, Option, Some, None, refl, sym, subst, arith}
+use Rattle.std.proofs.Common.{◌≡◌, ◌⊎◌, inl, inr, ⊎_elim, ℕ, ◌≤◌, List, [], ◌∷◌, length, Option, Some, None, refl, sym, subst, arith}
 use Rattle.std.specs.Option.{option_map_or}
 use Rattle.zb_volume.specs.declared.areas.Area.TheVariants.{Main, Side}
 use Rattle.zb_volume.specs.Calls.{Event, Replaced, Synced}
@@ -32,6 +32,9 @@ old_or_side old new settled leaves =
     leaves_less Main (OldOrSide old) (λ image. (image ≡ seen old Main) ⊎ (image ≡ seen old Side)) old new
     (λ c. ⊎_elim (λ left. inl (settled_leaves old Main (λ image. image ≡ seen old Main) settled refl c left)) (λ side. inr side)) leaves
 
+no_longer : (m n : ℕ) → m ≡ n → m ≤ n
+no_longer m n is = omega (arith, is)
+
 -- what the sync of Side and the replace make of a copy
 pub switched : (mid new : List Event) (copy : CopyKept) (o : Opened) (list : List Transaction) → new ≡ Replaced ∷ Synced Side ∷ mid → IsCopied (seen mid Side) copy → o ≡ opened_of copy → listed (seen mid Side) ≡ list → IsPackedMain new o list
 switched mid new copy o list calls copied opened is =
@@ -39,8 +42,7 @@ switched mid new copy o list calls copied opened is =
       settled = refl;
       fits = copied.fits;
       whole = copied.whole;
-      long = omega (arith, copied.long);
+      long = no_longer (length (seen mid Side)) copy.end copied.long;
       list_is = is;
-      side = refl;
-      side_settled = refl;
+      side = record { empty = refl; settled = refl };
     }))

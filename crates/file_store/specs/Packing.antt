@@ -1,10 +1,11 @@
 -- What a pack of the file leaves. Source: own.
-use Rattle.std.specs.Prelude.{◌≡◌, ◌≤◌, List, [], length}
-use Rattle.zb_volume.specs.declared.areas.Area.TheVariants.{Main, Side}
+use Rattle.std.specs.Prelude.{◌≡◌, ◌≤◌, List, length}
+use Rattle.zb_volume.specs.declared.areas.Area.TheVariants.{Main}
 use Rattle.zb_volume.specs.Calls.{Event}
 use Rattle.zb_volume.specs.Disk.{seen, IsSettled}
 use Rattle.zb_base.specs.Bytes.{AreBytes}
 use Rattle.zb_model.specs.declared.data.Transaction.{Transaction}
+use Rattle.zb_model.specs.Stores.{SideIsEmpty}
 use Rattle.fs_records.specs.Listed.{listed}
 use Rattle.fs_recovery.specs.declared.opening.Opened.{Opened}
 use Rattle.fs_recovery.specs.Opens.{IsWhole}
@@ -16,5 +17,4 @@ pub record IsPackedMain (log : List Event) (o : Opened) (list : List Transaction
   pub whole : IsWhole (seen log Main) o
   pub long : length (seen log Main) ≤ o.end
   pub list_is : listed (seen log Main) ≡ list
-  pub side : seen log Side ≡ []
-  pub side_settled : IsSettled log Side
+  pub side : SideIsEmpty log

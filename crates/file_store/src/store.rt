@@ -133,8 +133,6 @@ impl<V: Volume + Drop> Store for FileStore<V> {
 
     ghost lasts = { V.told };
 
-    ghost quiet = { ⊥ };
-
     ghost stands = { StandsForList };
 
     ghost state = { λ store. record {

@@ -1,4 +1,4 @@
-use Rattle.std.proofs.Common.{inl, inr, refl, subst, sym}
+use Rattle.std.proofs.Common.{List, inl, inr, refl, subst, sym}
 use Rattle.std.proofs.lemmas.Result.{err_from_is_err_and}
 use Rattle.zb_base.specs.Bytes.{AreBytes}
 use Rattle.zb_volume.specs.declared.areas.Area.TheVariants.{Main}

@@ -1,4 +1,5 @@
 use Rattle.std.proofs.Common.{◌≡◌, ℕ, None, refl, ap, length, arith}
+use Rattle.std.proofs.lemmas.Result.{err_from_is_err_and}
 use Rattle.zb_volume.specs.declared.areas.Area.TheVariants.{Main}
 use Rattle.zb_volume.specs.Disk.{seen}
 use Rattle.file_store.specs.declared.staged.Staged.{Staged}
@@ -6,6 +7,7 @@ use Rattle.file_store.specs.Kept.{IsVotedIn, HasRoomForTally}
 use Rattle.fs_index.specs.Places.{places_in}
 use Rattle.file_store.specs.Staging.{StagedKept}
 use Rattle.file_store.proofs.Commits.{staged_some, none_there, abort_moments, aborted}
+use Rattle.file_store.proofs.Leaves.{abort_leaves, not_answered}
 use Rattle.file_store.proofs.Sides.{copied_stays, keeps_begun}
 use Rattle.file_store.proofs.store.FileStoreStore.abort.Goals as goal
 
@@ -57,13 +59,14 @@ invariant_of-self-2 g c =
       copied = λ told whole. copied_stays (g.V.Volume.state self.volume).log (g.V.Volume.state c.abort.new.volume).log self.copy (c.abort.ensures.side told) (self.copied told c.requires.whole);
     }
 
-pub returns-clause-list : goal.returns-clause-list
-returns-clause-list g c = λ told.
+pub returns-clause-leaves : goal.returns-clause-leaves
+returns-clause-leaves g c = abort_leaves _ _ _ _ (newest_of c.args.self.now.index c.take_back.new.self c.take_back.ensures) c.abort.ensures.write.read_faults
+    (keeps_begun g.V.Volume.told (g.V.Volume.state c.args.self.now.volume).log (g.V.Volume.state c.abort.new.volume).log c.args.self.now.copy _ _ refl refl (λ told. c.abort.ensures.side told)) (λ told.
     let self = c.args.self.now in
     let s = staged_some self.index.staged _ c.requires.voted in
     let t = c.take_back.ensures in
     (aborted (g.V.Volume.state self.volume).log self.index self.numbers (self.settled told c.requires.whole) (self.kept told c.requires.whole) (g.V.Volume.state c.abort.new.volume).log c.take_back.new.self s.0 c.end.result s.1
-    (self.voted told c.requires.whole s.0 s.1) c.end.ensures.value (c.in_ok-abort.ensures.content told) (staged_of self.index c.take_back.new.self t) (end_of self.index c.take_back.new.self t) (newest_of self.index c.take_back.new.self t) (places_of self.index c.take_back.new.self t) (starts_of self.index c.take_back.new.self t)).1
+    (self.voted told c.requires.whole s.0 s.1) c.end.ensures.value (c.in_ok-abort.ensures.content told) (staged_of self.index c.take_back.new.self t) (end_of self.index c.take_back.new.self t) (newest_of self.index c.take_back.new.self t) (places_of self.index c.take_back.new.self t) (starts_of self.index c.take_back.new.self t)).1)
 
 pub returns-clause-any_moment : goal.returns-clause-any_moment
 returns-clause-any_moment g c = λ told.
@@ -72,8 +75,9 @@ returns-clause-any_moment g c = λ told.
     abort_moments (g.V.Volume.state self.volume).log self.index self.numbers (self.settled told c.requires.whole) (self.kept told c.requires.whole) (g.V.Volume.state c.abort.new.volume).log s.0 c.end.result s.1
     (self.voted told c.requires.whole s.0 s.1) c.end.ensures.value (c.abort.ensures.any_moment told)
 
-pub returns-clause-begun : goal.returns-clause-begun
-returns-clause-begun g c = keeps_begun g.V.Volume.told (g.V.Volume.state c.args.self.now.volume).log (g.V.Volume.state c.abort.new.volume).log c.args.self.now.copy _ _ refl refl (λ told. c.abort.ensures.side told)
-
-pub returns-in_err-abort-clause-begun : goal.returns-in_err-abort-clause-begun
-returns-in_err-abort-clause-begun g c = keeps_begun g.V.Volume.told (g.V.Volume.state c.args.self.now.volume).log (g.V.Volume.state c.abort.new.volume).log c.args.self.now.copy _ _ refl refl (λ told. c.abort.ensures.side told)
+pub returns-in_err-abort-clause-leaves : goal.returns-in_err-abort-clause-leaves
+returns-in_err-abort-clause-leaves g c =
+    let p = err_from_is_err_and c.from_residual.result c.from_residual.ensures.1 in
+    abort_leaves _ _ _ _ refl c.abort.ensures.write.read_faults
+    (keeps_begun g.V.Volume.told (g.V.Volume.state c.args.self.now.volume).log (g.V.Volume.state c.abort.new.volume).log c.args.self.now.copy _ _ refl refl (λ told. c.abort.ensures.side told))
+    (λ told. not_answered c.from_residual.result p.0 _ p.1)

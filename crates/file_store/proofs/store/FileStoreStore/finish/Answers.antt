@@ -5,6 +5,7 @@ use Rattle.zb_model.specs.declared.data.Transaction.{Transaction}
 use Rattle.file_store.specs.declared.staged.Staged.{Staged}
 use Rattle.file_store.specs.Kept.{IsVotedIn, HasRoomForTally}
 use Rattle.file_store.proofs.Commits.{staged_some, some_mapped, none_there, finish_moments, finished}
+use Rattle.file_store.proofs.Leaves.{finish_leaves}
 use Rattle.file_store.proofs.Sides.{copied_stays, keeps_begun}
 use Rattle.file_store.proofs.store.FileStoreStore.finish.Goals as goal
 
@@ -50,8 +51,10 @@ returns-clause-number g c = λ t is.
     let s = some_mapped Staged Transaction c.args.self.now.index.staged _ t is in
     (c.keep.ensures.kept s.0 s.1).newest ∙ ap (λ (x : Transaction). x.tid) s.2
 
-pub returns-clause-begun : goal.returns-clause-begun
-returns-clause-begun g c = keeps_begun g.V.Volume.told (g.V.Volume.state c.args.self.now.volume).log (g.V.Volume.state c.finish.new.volume).log c.args.self.now.copy _ _ refl refl (λ told. c.finish.ensures.side told)
+pub returns-clause-leaves : goal.returns-clause-leaves
+returns-clause-leaves g c = finish_leaves _ _ _ c.finish.ensures.write.read_faults
+    (keeps_begun g.V.Volume.told (g.V.Volume.state c.args.self.now.volume).log (g.V.Volume.state c.finish.new.volume).log c.args.self.now.copy _ _ refl refl (λ told. c.finish.ensures.side told))
 
-pub returns-in_err-finish-clause-begun : goal.returns-in_err-finish-clause-begun
-returns-in_err-finish-clause-begun g c = keeps_begun g.V.Volume.told (g.V.Volume.state c.args.self.now.volume).log (g.V.Volume.state c.finish.new.volume).log c.args.self.now.copy _ _ refl refl (λ told. c.finish.ensures.side told)
+pub returns-in_err-finish-clause-leaves : goal.returns-in_err-finish-clause-leaves
+returns-in_err-finish-clause-leaves g c = finish_leaves _ _ _ c.finish.ensures.write.read_faults
+    (keeps_begun g.V.Volume.told (g.V.Volume.state c.args.self.now.volume).log (g.V.Volume.state c.finish.new.volume).log c.args.self.now.copy _ _ refl refl (λ told. c.finish.ensures.side told))

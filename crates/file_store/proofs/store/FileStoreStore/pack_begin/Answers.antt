@@ -2,6 +2,7 @@ use Rattle.std.proofs.Common.{refl}
 use Rattle.zb_volume.specs.declared.areas.Area.TheVariants.{Side}
 use Rattle.zb_volume.specs.Disk.{seen}
 use Rattle.file_store.proofs.Copies.{only_copy}
+use Rattle.file_store.proofs.Leaves.{copy_leaves}
 use Rattle.file_store.proofs.Sides.{keeps_voted, kept_stays, list_stays, settled_stays, voted_stays}
 use Rattle.file_store.proofs.store.FileStoreStore.pack_begin.Goals as goal
 
@@ -18,11 +19,12 @@ invariant_of-self-2 g c =
       copied = λ told whole x some. only_copy (seen now Side) c.in-Ok.copy x some (c.in-Ok.ensures.copied told);
     }
 
-pub returns-in-Err-clause-voted : goal.returns-in-Err-clause-voted
-returns-in-Err-clause-voted g c = keeps_voted g.V.Volume.told (g.V.Volume.state c.args.self.now.volume).log (g.V.Volume.state c.begin.new.volume).log c.args.self.now.index _ _ refl refl (λ told. c.begin.ensures.main told)
+pub returns-in-Err-clause-leaves : goal.returns-in-Err-clause-leaves
+returns-in-Err-clause-leaves g c = copy_leaves _ _ _ _ refl
+    (keeps_voted g.V.Volume.told (g.V.Volume.state c.args.self.now.volume).log (g.V.Volume.state c.begin.new.volume).log c.args.self.now.index _ _ refl refl (λ told. c.begin.ensures.main told))
+    (λ told. tt) refl
 
-pub returns-clause-voted : goal.returns-clause-voted
-returns-clause-voted g c = keeps_voted g.V.Volume.told (g.V.Volume.state c.args.self.now.volume).log (g.V.Volume.state c.begin.new.volume).log c.args.self.now.index _ _ refl refl (λ told. c.begin.ensures.main told)
-
-pub returns-clause-list : goal.returns-clause-list
-returns-clause-list g c = λ told. list_stays (g.V.Volume.state c.args.self.now.volume).log (g.V.Volume.state c.begin.new.volume).log (c.begin.ensures.main told)
+pub returns-clause-leaves : goal.returns-clause-leaves
+returns-clause-leaves g c = copy_leaves _ _ _ _ refl
+    (keeps_voted g.V.Volume.told (g.V.Volume.state c.args.self.now.volume).log (g.V.Volume.state c.begin.new.volume).log c.args.self.now.index _ _ refl refl (λ told. c.begin.ensures.main told))
+    (λ told. list_stays (g.V.Volume.state c.args.self.now.volume).log (g.V.Volume.state c.begin.new.volume).log (c.begin.ensures.main told)) tt

@@ -1,11 +1,13 @@
-use Rattle.std.proofs.Common.{refl, sym, ◌∙◌}
+use Rattle.std.proofs.Common.{Option, ap, refl, sym, ◌∙◌}
 use Rattle.zb_volume.specs.declared.areas.Area.TheVariants.{Side}
 use Rattle.zb_volume.specs.Disk.{seen}
+use Rattle.zb_model.specs.declared.packs.Copied.{Copied}
 use Rattle.pack_copy.specs.Copying.{CopyKept}
 use Rattle.file_store.specs.Kept.{IsCopyKept}
 use Rattle.file_store.proofs.Commits.{none_there}
 use Rattle.file_store.proofs.Copies.{copy_is, only_copy}
-use Rattle.file_store.proofs.Sides.{keeps_voted, kept_stays, list_stays, settled_stays, voted_stays}
+use Rattle.file_store.proofs.Leaves.{copy_leaves, unless_any}
+use Rattle.file_store.proofs.Sides.{begun_of, keeps_voted, kept_stays, list_stays, settled_stays, voted_stays}
 use Rattle.file_store.proofs.store.FileStoreStore.pack_copy.Goals as goal
 
 pub copy_turn-requires-clause-copied : goal.copy_turn-requires-clause-copied
@@ -39,11 +41,13 @@ invariant_of-self-in-Err g c =
       copied = λ told whole. none_there CopyKept (λ x. IsCopyKept (seen now Side) x) c.take.new.self c.take.ensures.after;
     }
 
-pub returns-in-Ok-clause-voted : goal.returns-in-Ok-clause-voted
-returns-in-Ok-clause-voted g c = keeps_voted g.V.Volume.told (g.V.Volume.state c.args.self.now.volume).log (g.V.Volume.state c.copy_turn.new.volume).log c.args.self.now.index _ _ refl refl (λ told. c.copy_turn.ensures.main told)
+pub returns-in-Ok-clause-leaves : goal.returns-in-Ok-clause-leaves
+returns-in-Ok-clause-leaves g c = copy_leaves _ _ _ _ refl
+    (keeps_voted g.V.Volume.told (g.V.Volume.state c.args.self.now.volume).log (g.V.Volume.state c.copy_turn.new.volume).log c.args.self.now.index _ _ refl refl (λ told. c.copy_turn.ensures.main told))
+    (λ told. list_stays (g.V.Volume.state c.args.self.now.volume).log (g.V.Volume.state c.copy_turn.new.volume).log (c.copy_turn.ensures.main told)) tt
 
-pub returns-in-Ok-clause-list : goal.returns-in-Ok-clause-list
-returns-in-Ok-clause-list g c = λ told. list_stays (g.V.Volume.state c.args.self.now.volume).log (g.V.Volume.state c.copy_turn.new.volume).log (c.copy_turn.ensures.main told)
-
-pub returns-in-Err-clause-voted : goal.returns-in-Err-clause-voted
-returns-in-Err-clause-voted g c = keeps_voted g.V.Volume.told (g.V.Volume.state c.args.self.now.volume).log (g.V.Volume.state c.copy_turn.new.volume).log c.args.self.now.index _ _ refl refl (λ told. c.copy_turn.ensures.main told)
+pub returns-in-Err-clause-leaves : goal.returns-in-Err-clause-leaves
+returns-in-Err-clause-leaves g c = copy_leaves _ _ _ _ refl
+    (keeps_voted g.V.Volume.told (g.V.Volume.state c.args.self.now.volume).log (g.V.Volume.state c.copy_turn.new.volume).log c.args.self.now.index _ _ refl refl (λ told. c.copy_turn.ensures.main told))
+    (λ told. unless_any Copied c.in-Err.error _ (list_stays (g.V.Volume.state c.args.self.now.volume).log (g.V.Volume.state c.copy_turn.new.volume).log (c.copy_turn.ensures.main told)))
+    (ap (λ (o : Option CopyKept). begun_of o (seen (g.V.Volume.state c.copy_turn.new.volume).log Side)) c.take.ensures.after)

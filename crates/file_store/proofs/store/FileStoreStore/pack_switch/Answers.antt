@@ -1,16 +1,19 @@
-use Rattle.std.proofs.Common.{◌≡◌, false, sym, ◌∙◌}
+use Rattle.std.proofs.Common.{◌≡◌, false, Option, option_map, ap, length, refl, sym, ◌∙◌}
 use Rattle.zb_volume.specs.declared.areas.Area.TheVariants.{Main, Side}
 use Rattle.zb_volume.specs.Disk.{seen}
 use Rattle.zb_volume.specs.Moments.{StaysAs}
 use Rattle.zb_model.specs.declared.packs.Packed.{Packed}
 use Rattle.pack_copy.specs.Copying.{CopyKept}
 use Rattle.file_store.specs.declared.switching.Switched.{Switched}
-use Rattle.file_store.specs.Kept.{IsCopyKept}
-use Rattle.file_store.proofs.Commits.{none_there}
+use Rattle.fs_records.specs.Listed.{listed}
+use Rattle.file_store.specs.declared.staged.Staged.{Staged}
+use Rattle.file_store.specs.Kept.{HasRoomForTally, IsCopyKept, IsVotedIn}
+use Rattle.file_store.proofs.Commits.{none_staged, none_there}
 use Rattle.file_store.proofs.Copies.{copy_is}
-use Rattle.file_store.proofs.Packs.{unbroken, unless_less}
+use Rattle.file_store.proofs.Packs.{switched_list, unbroken, unless_less}
 use Rattle.file_store.proofs.Shown.{newest_is}
-use Rattle.file_store.proofs.Sides.{kept_stays, list_stays, settled_stays, voted_stays}
+use Rattle.file_store.proofs.Leaves.{switch_leaves}
+use Rattle.file_store.proofs.Sides.{begun_of, kept_stays, list_stays, settled_stays, voted_stays}
 use Rattle.file_store.proofs.store.FileStoreStore.pack_switch.Goals as goal
 
 pub pack_file-requires-clause-copied : goal.pack_file-requires-clause-copied
@@ -35,12 +38,37 @@ invariant_of-self-in-Err g c =
       copied = λ told whole. none_there CopyKept (λ x. IsCopyKept (seen now Side) x) c.take.new.self c.take.ensures.after;
     }
 
+pub invariant_of-self-in-Ok : goal.invariant_of-self-in-Ok
+invariant_of-self-in-Ok g c =
+    let now = (g.V.Volume.state c.pack_file.new.volume).log in
+    let index = c.keep-ready.result.index in
+    record {
+      room = none_there Staged (λ x. HasRoomForTally c.keep-ready.result.numbers (length x.records)) index.staged c.keep-ready.ensures.free;
+      settled = λ told whole. (c.in-Ok.ensures.packed told).settled;
+      kept = λ told whole. let is = c.in-Ok.ensures.packed told in c.keep-ready.ensures.kept (seen now Main) is.whole is.fits is.long;
+      voted = λ told whole. none_there Staged (λ x. IsVotedIn (seen now Main) x index) index.staged c.keep-ready.ensures.free;
+      copied = λ told whole. none_there CopyKept (λ x. IsCopyKept (seen now Side) x) c.take.new.self c.take.ensures.after;
+    }
+
+pub returns-in-Ok-clause-list : goal.returns-in-Ok-clause-list
+returns-in-Ok-clause-list g c = λ told.
+    let log = (g.V.Volume.state c.args.self.now.volume).log in
+    switched_list c.args.self.now.copy c.in-Some.copy (seen log Side) c.args.keep.now (listed (seen log Main)) _ (sym c.take.ensures.value ∙ c.in-Some.is) (c.in-Ok.ensures.packed told).list_is
+
 pub returns-in-Ok-clause-number : goal.returns-in-Ok-clause-number
 returns-in-Ok-clause-number g c = λ told.
     let main = seen (g.V.Volume.state c.pack_file.new.volume).log Main in
     let is = c.in-Ok.ensures.packed told in
     newest_is main c.keep-ready.result.index c.keep-ready.result.numbers (c.keep-ready.ensures.kept main is.whole is.fits is.long)
 
-pub returns-in-Err-clause-unchanged : goal.returns-in-Err-clause-unchanged
-returns-in-Err-clause-unchanged g c = λ told.
-    unless_less Switched Packed c.in-Err.error _ _ (λ stays. list_stays (g.V.Volume.state c.args.self.now.volume).log (g.V.Volume.state c.pack_file.new.volume).log stays) (c.in-Err.ensures.main told)
+pub returns-in-Ok-clause-side : goal.returns-in-Ok-clause-side
+returns-in-Ok-clause-side g c = λ told. (c.in-Ok.ensures.packed told).side
+
+pub returns-in-Ok-clause-leaves : goal.returns-in-Ok-clause-leaves
+returns-in-Ok-clause-leaves g c = switch_leaves _ _ _ _ (ap (option_map _) c.keep-ready.ensures.free ∙ sym c.requires.free)
+    (ap (λ (o : Option CopyKept). begun_of o (seen (g.V.Volume.state c.pack_file.new.volume).log Side)) c.take.ensures.after) (λ told. tt) tt
+
+pub returns-in-Err-clause-leaves : goal.returns-in-Err-clause-leaves
+returns-in-Err-clause-leaves g c = switch_leaves _ _ _ _ (ap (option_map _) (none_staged c.args.self.now.index.staged _ c.requires.free) ∙ sym c.requires.free)
+    (ap (λ (o : Option CopyKept). begun_of o (seen (g.V.Volume.state c.pack_file.new.volume).log Side)) c.take.ensures.after)
+    (λ told. unless_less Switched Packed c.in-Err.error _ _ (λ stays. list_stays (g.V.Volume.state c.args.self.now.volume).log (g.V.Volume.state c.pack_file.new.volume).log stays) (c.in-Err.ensures.main told)) refl

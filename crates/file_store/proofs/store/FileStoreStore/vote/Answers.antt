@@ -7,6 +7,8 @@ use Rattle.file_store.specs.declared.staged.Staged.{Staged}
 use Rattle.file_store.specs.Kept.{IsVotedIn, voted_in}
 use Rattle.file_store.proofs.Commits.{unmoved, none_staged, some_same, room_for, vote_is, voted, moments}
 use Rattle.file_store.proofs.Writes.{Voted, staged_for}
+use Rattle.file_store.specs.Staging.{StagedKept}
+use Rattle.file_store.proofs.Leaves.{vote_leaves}
 use Rattle.file_store.proofs.Sides.{copied_stays, keeps_begun}
 use Rattle.file_store.proofs.store.FileStoreStore.vote.Goals as goal
 
@@ -59,9 +61,6 @@ returns-clause-voted g c = λ told.
     let p = c.in_ok-text.ensures.prepared in
     ap (option_map (λ (s : Staged). voted_in s.tid c.prepare.new.index.end (seen (g.V.Volume.state c.vote.new.volume).log Main))) p.staged_is ∙ ap Some (left g c told).is
 
-pub returns-clause-list : goal.returns-clause-list
-returns-clause-list g c = λ told. (left g c told).list
-
 pub returns-clause-any_moment : goal.returns-clause-any_moment
 returns-clause-any_moment g c = λ told.
     let self = c.args.self.now in
@@ -71,11 +70,15 @@ returns-clause-any_moment g c = λ told.
     (c.vote.ensures.any_moment told (reached_in (seen (g.V.Volume.state self.volume).log Main))
     (vote_is (g.V.Volume.state self.volume).log self.index self.numbers (self.settled told c.requires.whole) (self.kept told c.requires.whole) c.prepare.new.index c.prepare.new.numbers c.args.new.now c.end.result c.in_ok-text.text c.as_slice.result.now free p (c.end.ensures.value ∙ c.prepare.ensures.end) c.as_slice.ensures.value))
 
-pub returns-clause-begun : goal.returns-clause-begun
-returns-clause-begun g c = keeps_begun g.V.Volume.told (g.V.Volume.state c.args.self.now.volume).log (g.V.Volume.state c.vote.new.volume).log c.args.self.now.copy _ _ refl refl (λ told. c.vote.ensures.side told)
+pub returns-clause-leaves : goal.returns-clause-leaves
+returns-clause-leaves g c = vote_leaves _ _ _ _ c.prepare.ensures.newest
+    (keeps_begun g.V.Volume.told (g.V.Volume.state c.args.self.now.volume).log (g.V.Volume.state c.vote.new.volume).log c.args.self.now.copy _ _ refl refl (λ told. c.vote.ensures.side told))
+    (λ told. (left g c told).list) tt
 
-pub returns-in-Err-clause-begun : goal.returns-in-Err-clause-begun
-returns-in-Err-clause-begun g c = keeps_begun g.V.Volume.told (g.V.Volume.state c.args.self.now.volume).log (g.V.Volume.state c.vote.new.volume).log c.args.self.now.copy _ _ refl refl (λ told. c.vote.ensures.side told)
+pub returns-in-Err-clause-leaves : goal.returns-in-Err-clause-leaves
+returns-in-Err-clause-leaves g c = vote_leaves _ _ _ _ (ap (λ (i : StagedKept). i.newest) c.take_back.ensures ∙ c.prepare.ensures.newest)
+    (keeps_begun g.V.Volume.told (g.V.Volume.state c.args.self.now.volume).log (g.V.Volume.state c.vote.new.volume).log c.args.self.now.copy _ _ refl refl (λ told. c.vote.ensures.side told))
+    (λ told. tt) tt
 
 pub returns-in_err-text-clause-side : goal.returns-in_err-text-clause-side
 returns-in_err-text-clause-side g c = λ told. here refl
