@@ -12,4 +12,3 @@ pub mod Going
 pub mod Once
 pub mod Visited
 pub mod Rooting
-pub mod Telling

@@ -32,11 +32,6 @@ pub enum Asked {
         /// The object.
         oid: Oid,
     },
-    /// Whether the tree with this root is sound.
-    Check {
-        /// The root.
-        oid: Oid,
-    },
 }
 
 /// What the words ask.
@@ -105,9 +100,6 @@ fn object_command(word: &str, oid: Oid) -> Option<Command>
     }
     if word == "digest" {
         return Some(Command::Ask(Asked::Digest { oid }));
-    }
-    if word == "check" {
-        return Some(Command::Ask(Asked::Check { oid }));
     }
     None
 }

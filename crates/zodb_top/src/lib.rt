@@ -5,7 +5,6 @@
 
 mod answering;
 mod asking;
-mod checking;
 mod command;
 mod entering;
 mod laws;
