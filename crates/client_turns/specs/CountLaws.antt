@@ -73,24 +73,24 @@ refused_if true r is = is
 refused_if false r is = tt
 
 transaction_answers : (t : Changes) (l : Line) → AnswersIfSome (transaction_refusal t l)
-transaction_answers t (line.Store oid base bytes) = refused_if t.is_voted refusal.Voted (refl, refl)
-transaction_answers t (line.Put oid bytes) = refused_if t.is_voted refusal.Voted (refl, refl)
-transaction_answers t (line.Check oid serial) = refused_if t.is_voted refusal.Voted (refl, refl)
-transaction_answers t line.Savepoint = refused_if t.is_voted refusal.Voted (refl, refl)
-transaction_answers t (line.Rollback number) = refused_if t.is_voted refusal.Voted (refl, refl)
-transaction_answers t (line.Vote user description) = refused_if t.is_voted refusal.Voted (refl, refl)
+transaction_answers t (line.Store oid base bytes) = refused_if t.is_voted refusal.Voted (refl, refl, refl)
+transaction_answers t (line.Put oid bytes) = refused_if t.is_voted refusal.Voted (refl, refl, refl)
+transaction_answers t (line.Check oid serial) = refused_if t.is_voted refusal.Voted (refl, refl, refl)
+transaction_answers t line.Savepoint = refused_if t.is_voted refusal.Voted (refl, refl, refl)
+transaction_answers t (line.Rollback number) = refused_if t.is_voted refusal.Voted (refl, refl, refl)
+transaction_answers t (line.Vote user description) = refused_if t.is_voted refusal.Voted (refl, refl, refl)
 transaction_answers t (line.Undo user description tids) =
-    answers_or (refuse_if t.is_voted refusal.Voted) (mixed t.pending) (refused_if t.is_voted refusal.Voted (refl, refl)) (refused_if (nat_lt 0 (pending_count t.pending)) (refusal.Mixed (pending_count t.pending)) (refl, refl))
+    answers_or (refuse_if t.is_voted refusal.Voted) (mixed t.pending) (refused_if t.is_voted refusal.Voted (refl, refl, refl)) (refused_if (nat_lt 0 (pending_count t.pending)) (refusal.Mixed (pending_count t.pending)) (refl, refl, refl))
 transaction_answers t _ = tt
 
 within_answers : (t : Option Changes) (l : Line) → AnswersIfSome (refusal_within t l)
-within_answers None l = (refl, refl)
+within_answers None l = (refl, refl, refl)
 within_answers (Some t) l = transaction_answers t l
 
 line_answers : (t : Option Changes) (l : Line) → AnswersIfSome (line_refusal t l)
 line_answers t line.Open = tt
 line_answers None line.Begin = tt
-line_answers (Some t) line.Begin = (refl, refl)
+line_answers (Some t) line.Begin = (refl, refl, refl)
 line_answers t line.New = tt
 line_answers t (line.History oid) = tt
 line_answers t line.UndoLog = tt
@@ -111,7 +111,7 @@ line_answers t line.Abort = within_answers t line.Abort
 
 connection_answers : (m : Machine) (c : Client) (l : Line) → AnswersIfSome (connection_refusal m c l)
 connection_answers m c l =
-    answers_or (refuse_if (not (is_open_in m.sessions c.session)) refusal.NotOpen) (line_refusal (changes_of c) l) (refused_if (not (is_open_in m.sessions c.session)) refusal.NotOpen (refl, refl)) (line_answers (changes_of c) l)
+    answers_or (refuse_if (not (is_open_in m.sessions c.session)) refusal.NotOpen) (line_refusal (changes_of c) l) (refused_if (not (is_open_in m.sessions c.session)) refusal.NotOpen (refl, refl, refl)) (line_answers (changes_of c) l)
 
 -- ---- a line
 
