@@ -1,6 +1,6 @@
 -- Where no object waits and no transaction is left, all that is reached is marked.
-use Rattle.std.proofs.Common.{◌≡◌, ℕ, ◌+◌, ◌<◌, ◌≤◌, inl, inr, ⊎_elim, Bool, true, false, eqb, ltb, List, [], ◌∷◌, ◌++◌, append-nil, map, Option, Some, None, refl, sym, ap, subst, ◌∙◌}
-use Rattle.std.specs.Prelude.{IfSome, IsTrue, ◌↔◌, Result, Ok, Err, OnOk}
+use Rattle.std.proofs.Common.{◌≡◌, ℕ, ◌+◌, ◌<◌, ◌≤◌, inl, inr, ⊎_elim, true, false, eqb, ltb, List, [], ◌∷◌, ◌++◌, append-nil, map, Option, Some, None, sym, ap, subst, ◌∙◌}
+use Rattle.std.specs.Prelude.{IfSome, IsTrue, ◌↔◌}
 use Rattle.std.specs.Cmp.{nat_cmp_total}
 use Rattle.std.specs.List.{AllByRecursion, flat_map}
 use Rattle.std.specs.Option.{option_map_or}
@@ -12,13 +12,13 @@ use Rattle.zb_model.specs.declared.store_error.StoreError.{StoreError}
 use Rattle.zb_model.specs.declared.store_error.StoreError.TheVariants as store_error
 use Rattle.zb_model.specs.Database.{ObjectRevision, revision_below}
 use Rattle.zb_model.specs.Queries.{first_after, oids_of}
-use Rattle.pack_reach.specs.Marking.{IsChangeRead, IsComplete, IsFollowed, IsMarking, IsNoted, IsRead, IsTransactionRead, KeepsMarks, MarkerState, MayMark, OnlyMarks, with_mark}
+use Rattle.pack_reach.specs.Marking.{HasGrown, IsChangeRead, IsComplete, IsFollowed, IsMarking, IsNoted, IsRead, IsTransactionRead, KeepsMarks, MarkerState, MayMark, OnlyMarks, with_mark}
 use Rattle.pack_reach.specs.Outcomes.{IsAllMarked, RefusesToMark, unread_refusal}
 use Rattle.pack_reach.specs.Reach.{IsLeastUnreadable, IsReached, IsUnreadable, changed_after, is_in, is_pair_in, named_after, references_in, references_of, unreadable_after, unreadable_in, unreadable_of}
 use Rattle.pack_reach.specs.Reached.{reached, unreadable}
-use Rattle.pack_reach.proofs.Growing.{mark_only, mark_sound, mark_there}
+use Rattle.pack_reach.proofs.Growing.{mark_only, mark_sound}
 use Rattle.pack_reach.proofs.Least.{computed_least, one_least, pair_either}
-use Rattle.pack_reach.specs.MemberLaws.{in_either}
+use Rattle.pack_reach.specs.MemberLaws.{in_either, same_bools}
 use Rattle.pack_reach.specs.ReachLaws.{is_all}
 use Rattle.pack_reach.proofs.Seeing.{grown_marking}
 
@@ -26,7 +26,7 @@ use Rattle.pack_reach.proofs.Seeing.{grown_marking}
 abbrev AreRead : (List ℕ → Option (List ℕ)) → List Transaction → MarkerState → Type 0
 AreRead named list m = AllByRecursion (λ (x : Transaction). m.tid < x.tid → IsTransactionRead named m x) list
 
-none_above : (s : ℕ) (list : List Transaction) → first_after s list ≡ None → AllByRecursion (λ (x : Transaction). x.tid ≤ s) list
+pub none_above : (s : ℕ) (list : List Transaction) → first_after s list ≡ None → AllByRecursion (λ (x : Transaction). x.tid ≤ s) list
 none_above s [] e = tt
 none_above s (x ∷ list) e =
     ⊎_elim (λ (a : ltb s x.tid ≡ true).
@@ -126,11 +126,6 @@ each_read named list m k none = all_read named list list m k.read (none_above m.
 pub exactly_marked : (named : List ℕ → Option (List ℕ)) (list : List Transaction) (m : MarkerState) → IsMarking named list m → first_after m.seen list ≡ None → contains m.set 0 ≡ true → m.waiting ≡ [] → (oid : ℕ) → IsTrue (contains m.set oid) ↔ IsReached named m.tid list oid
 exactly_marked named list m k none root e oid = (k.reached oid, reached_marked named list m k (each_read named list m k none) root e oid)
 
-same_bools : (a b : Bool) → (a ≡ true → b ≡ true) → (b ≡ true → a ≡ true) → a ≡ b
-same_bools true b f g = sym (f refl)
-same_bools false true f g = g refl
-same_bools false false f g = refl
-
 pub set_is : (named : List ℕ → Option (List ℕ)) (list : List Transaction) (m : MarkerState) → ((oid : ℕ) → IsTrue (contains m.set oid) ↔ IsReached named m.tid list oid) → m.set ≡ reached named m.tid list
 set_is named list m exact =
     same_set nat_cmp_total nat_cmp-IsAntisymmetric m.set (reached named m.tid list) (λ oid. same_bools (contains m.set oid) (contains (reached named m.tid list) oid) (λ h. (is_all named m.tid list oid).1 ((exact oid).0 h)) (λ h. (exact oid).1 ((is_all named m.tid list oid).0 h)))
@@ -160,15 +155,10 @@ keeps_then a b c f g = record { tid = g.tid ∙ f.tid; kept = λ o h. g.kept o (
 pub only_keeps : (a b : MarkerState) → OnlyMarks a b → KeepsMarks a b
 only_keeps a b f = record { tid = f.tid; kept = f.kept }
 
--- ---- the answer
+pub same_grown : (t : ℕ) (list : List Transaction) → HasGrown t list [] list
+same_grown t list = record { split = sym (append-nil list); above = tt }
 
-pub complete : {T E : Type 0} (r : Result T E) (list : List Transaction) (a b c d : MarkerState) → b ≡ with_mark a 0 → KeepsMarks b c → KeepsMarks c d → first_after c.seen list ≡ None → d.seen ≡ c.seen → OnOk r (d.waiting ≡ []) → OnOk r (IsComplete list d)
-complete (Ok x) list a b c d e f g none seen line = record {
-  root = g.kept 0 (f.kept 0 (ap (λ (m : MarkerState). contains m.set 0) e ∙ mark_there a 0));
-  seen = ap (λ (n : ℕ). first_after n list) seen ∙ none;
-  line = line;
-}
-complete (Err x) list a b c d e f g none seen line = tt
+-- ---- the answer
 
 pub root_marking : (named : List ℕ → Option (List ℕ)) (list : List Transaction) (a b : MarkerState) → IsMarking named list a → b ≡ with_mark a 0 → IsMarking named list b
 root_marking named list a b k e = subst (IsMarking named list) (sym e) (grown_marking named list a (with_mark a 0) k (mark_only a 0) (mark_sound named list a 0 IsReached.root))
@@ -176,10 +166,10 @@ root_marking named list a b k e = subst (IsMarking named list) (sym e) (grown_ma
 pub root_keeps : (a b : MarkerState) → b ≡ with_mark a 0 → KeepsMarks a b
 root_keeps a b e = subst (KeepsMarks a) (sym e) (only_keeps a (with_mark a 0) (mark_only a 0))
 
-pub answered : (named : List ℕ → Option (List ℕ)) (list : List Transaction) (m : MarkerState) (count : ℕ) → IsMarking named list m → IsComplete list m → count ≡ len m.set → m.unreadable ≡ None → IsAllMarked named list m (record { count = count; whole = true })
+pub answered : (named : List ℕ → Option (List ℕ)) (list : List Transaction) (m : MarkerState) (count : ℕ) → IsMarking named list m → IsComplete list m → count ≡ len m.set → m.unreadable ≡ None → IsAllMarked named list m count
 answered named list m count k all e none =
     let exact = exactly_marked named list m k all.seen all.root all.line in
-    record { exact = exact; set = set_is named list m exact; readable = noted_is named list m k all.seen all.root all.line ∙ none; count = e; whole = refl }
+    record { exact = exact; set = set_is named list m exact; readable = noted_is named list m k all.seen all.root all.line ∙ none; count = e }
 
 pub refused : (named : List ℕ → Option (List ℕ)) (list : List Transaction) (m : MarkerState) (p : ℕ × ℕ) → IsMarking named list m → IsComplete list m → m.unreadable ≡ Some p → unreadable named m.tid list ≡ Some p
 refused named list m p k all e = noted_is named list m k all.seen all.root all.line ∙ e

@@ -12,7 +12,7 @@ use Rattle.zb_model.specs.declared.data.Content.TheVariants.{Held, Absent}
 use Rattle.zb_model.specs.declared.data.Transaction.{Transaction}
 use Rattle.zb_model.specs.declared.found.Found.{Found}
 use Rattle.zb_model.specs.declared.found.Found.TheVariants as found
-use Rattle.pack_reach.specs.Marking.{IsChangeRead, IsFoundRead, IsNoted, IsPartlyRead, IsRead, IsSound, IsTransactionRead, MarkerState, MayMark, MayRead, MayReadChange, MayReadFound, OnlyMarks, with_mark, with_marks, with_note, with_record}
+use Rattle.pack_reach.specs.Marking.{IsChangeRead, IsFoundRead, IsNoted, IsPartlyRead, IsRead, IsSound, IsTransactionRead, MarkerState, MarksFresh, MayMark, MayRead, MayReadChange, MayReadFound, OnlyMarks, with_mark, with_marks, with_note, with_record}
 use Rattle.pack_reach.specs.Reach.{IsReached, IsUnreadable, is_at_most, is_in, is_pair_in, references_of, unreadable_in}
 use Rattle.pack_reach.specs.Reached.{lesser}
 use Rattle.pack_reach.proofs.Least.{at_most_other, at_most_self, at_most_through, first_pair, same_pair}
@@ -21,7 +21,7 @@ use Rattle.zb_model.specs.SetLaws.{in_inserted}
 
 -- ---- a new marker
 
-pub new_may : (named : List ℕ → Option (List ℕ)) (list : List Transaction) (t : ℕ) (s : FinSet nat_cmp) (w : List ℕ) → s ≡ empty → w ≡ [] → MayMark named list (record { tid = t; seen = t; set = s; waiting = w; unreadable = None })
+pub new_may : (named : List ℕ → Option (List ℕ)) (list : List Transaction) (t : ℕ) (s : FinSet nat_cmp) (w : List ℕ) → s ≡ empty → w ≡ [] → MayMark named list (record { tid = t; seen = t; set = s; waiting = w; unreadable = None; counted = 0 })
 new_may named list t s w e f =
     let none : (oid : ℕ) → contains s oid ≡ true → ⊥ = λ oid h. no_member oid s e h in
     record {
@@ -34,7 +34,7 @@ new_may named list t s w e f =
         within = omega arith;
         reached = λ oid h. absurd (none oid h);
         noted = tt;
-        read = each_of_all (λ (x : Transaction). t < x.tid → x.tid ≤ t → IsTransactionRead named (record { tid = t; seen = t; set = s; waiting = w; unreadable = None }) x) (λ x l m. absurd (omega (arith, l, m))) list;
+        read = each_of_all (λ (x : Transaction). t < x.tid → x.tid ≤ t → IsTransactionRead named (record { tid = t; seen = t; set = s; waiting = w; unreadable = None; counted = 0 }) x) (λ x l m. absurd (omega (arith, l, m))) list;
         followed = λ oid h. absurd (none oid h);
         waiting = λ oid h. absurd (no_item oid w f h);
       };
@@ -52,23 +52,38 @@ new_may named list t s w e f =
 
 -- ---- more is marked
 
+same_fresh : (m n : MarkerState) → n.set ≡ m.set → n.waiting ≡ m.waiting → MarksFresh m n
+same_fresh m n e f = record { fresh = λ o h. inl (ap (λ (s : FinSet nat_cmp). contains s o) (sym e) ∙ h); line = λ o h. inl (ap (is_in o) (sym f) ∙ h) }
+
 pub only_same : (m : MarkerState) → OnlyMarks m m
-only_same m = record { tid = refl; seen = refl; kept = λ o h. h; line = ([], sym (append-nil m.waiting)); only = λ o h. inl h; noted = λ p h. h; balance = refl }
+only_same m = record { tid = refl; seen = refl; counted = refl; kept = λ o h. h; line = ([], sym (append-nil m.waiting)); marks = same_fresh m m refl refl; noted = λ p h. h; balance = refl }
+
+-- what waits goes on waiting
+pub waits_in : (a b : MarkerState) → OnlyMarks a b → (o : ℕ) → is_in o a.waiting ≡ true → is_in o b.waiting ≡ true
+waits_in a b f o i = ap (is_in o) f.line.1 ∙ in_front o a.waiting f.line.0 i
+
+pub was_not : (a b : Bool) → (a ≡ true → b ≡ true) → b ≡ false → a ≡ false
+was_not true b f e = absurd (both_ways b e (f refl))
+was_not false b f e = refl
+
+fresh_then : (a b c : MarkerState) → OnlyMarks a b → OnlyMarks b c → MarksFresh a c
+fresh_then a b c f g = record {
+  fresh = λ o h. ⊎_elim (λ (i : IsTrue (contains b.set o)). ⊎_elim (λ (j : IsTrue (contains a.set o)). inl j) (λ (j : IsTrue (is_in o b.waiting)). inr (waits_in b c g o j)) (f.marks.fresh o i)) (λ (i : IsTrue (is_in o c.waiting)). inr i) (g.marks.fresh o h);
+  line = λ o h. ⊎_elim (λ (i : IsTrue (is_in o b.waiting)). ⊎_elim (λ (j : IsTrue (is_in o a.waiting)). inl j) (λ (j : (contains a.set o ≡ false) × IsTrue (contains b.set o)). inr (j.0, g.kept o j.1)) (f.marks.line o i))
+      (λ (i : (contains b.set o ≡ false) × IsTrue (contains c.set o)). inr (was_not (contains a.set o) (contains b.set o) (f.kept o) i.0, i.1)) (g.marks.line o h);
+}
 
 pub only_then : (a b c : MarkerState) → OnlyMarks a b → OnlyMarks b c → OnlyMarks a c
 only_then a b c f g = record {
   tid = g.tid ∙ f.tid;
   seen = g.seen ∙ f.seen;
+  counted = g.counted ∙ f.counted;
   kept = λ o h. g.kept o (f.kept o h);
   line = (f.line.0 ++ g.line.0, g.line.1 ∙ ap (λ (w : List ℕ). w ++ g.line.0) f.line.1 ∙ append_assoc a.waiting f.line.0 g.line.0);
-  only = λ o h. ⊎_elim (λ (i : IsTrue (is_in o b.waiting)). ⊎_elim (λ (j : IsTrue (is_in o a.waiting)). inl j) (λ (j : IsTrue (contains b.set o)). inr (g.kept o j)) (f.only o i)) (λ (i : IsTrue (contains c.set o)). inr i) (g.only o h);
+  marks = fresh_then a b c f g;
   noted = λ p h. g.noted p (f.noted p h);
   balance = omega (arith, f.balance, g.balance);
 }
-
--- what waits goes on waiting
-pub waits_in : (a b : MarkerState) → OnlyMarks a b → (o : ℕ) → is_in o a.waiting ≡ true → is_in o b.waiting ≡ true
-waits_in a b f o i = ap (is_in o) f.line.1 ∙ in_front o a.waiting f.line.0 i
 
 pub sound_same : (named : List ℕ → Option (List ℕ)) (list : List Transaction) (m : MarkerState) → IsSound named list m m
 sound_same named list m = record { fresh = λ o h. inl h; found = inl refl }
@@ -91,9 +106,14 @@ inserted_only : (m : MarkerState) (oid : ℕ) → contains m.set oid ≡ false �
 inserted_only m oid out = record {
   tid = refl;
   seen = refl;
+  counted = refl;
   kept = λ o h. in_inserted m.set oid o ∙ or_right (eqb o oid) (contains m.set o) h;
   line = (oid ∷ [], refl);
-  only = λ o h. ⊎_elim (λ (i : is_in o m.waiting ≡ true). inl i) (λ (i : is_in o (oid ∷ []) ≡ true). inr (in_inserted m.set oid o ∙ or_left (eqb o oid) (contains m.set o) (its o i))) (in_either o m.waiting (oid ∷ []) h);
+  marks = record {
+    fresh = λ o h. ⊎_elim (λ (e : eqb o oid ≡ true). inr (in_back o m.waiting (oid ∷ []) (or_left (eqb oid o) (is_in o []) (eq-eqb oid o (sym (eqb-true o oid e)))))) (λ (e : contains m.set o ≡ true). inl e)
+        (or_cases (eqb o oid) (contains m.set o) (sym (in_inserted m.set oid o) ∙ h));
+    line = λ o h. ⊎_elim (λ (i : is_in o m.waiting ≡ true). inl i) (λ (i : is_in o (oid ∷ []) ≡ true). inr (ap (contains m.set) (eqb-true o oid (its o i)) ∙ out, in_inserted m.set oid o ∙ or_left (eqb o oid) (contains m.set o) (its o i))) (in_either o m.waiting (oid ∷ []) h);
+  };
   noted = λ p h. h;
   balance =
       let more : len (insert m.set oid) ≡ len m.set + 1 = len-insert nat_cmp_total m.set oid ∙ ap (λ (b : Bool). cond b (len m.set) (len m.set + 1)) out in
@@ -159,7 +179,7 @@ lesser_found P p None h = inr h
 lesser_found P p (Some m) h = ⊎_elim (λ (e : is_at_most m p ≡ true). rw e (inl refl)) (λ (e : is_at_most m p ≡ false). rw e (inr h)) (cases_Bool (is_at_most m p))
 
 pub note_only : (m : MarkerState) (p : ℕ × ℕ) → OnlyMarks m (with_note m p)
-note_only m p = record { tid = refl; seen = refl; kept = λ o h. h; line = ([], sym (append-nil m.waiting)); only = λ o h. inl h; noted = λ q h. lesser_notes p q m.unreadable h; balance = refl }
+note_only m p = record { tid = refl; seen = refl; counted = refl; kept = λ o h. h; line = ([], sym (append-nil m.waiting)); marks = same_fresh m (with_note m p) refl refl; noted = λ q h. lesser_notes p q m.unreadable h; balance = refl }
 
 pub note_sound : (named : List ℕ → Option (List ℕ)) (list : List Transaction) (m : MarkerState) (p : ℕ × ℕ) → IsUnreadable named m.tid list p → IsSound named list m (with_note m p)
 note_sound named list m p u = record { fresh = λ o h. inl h; found = lesser_found (IsUnreadable named m.tid list) p m.unreadable u }

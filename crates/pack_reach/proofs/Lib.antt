@@ -1,6 +1,9 @@
+pub mod Counting
 pub mod Finishing
 pub mod Following
 pub mod Growing
 pub mod Later
 pub mod Least
+pub mod Overtaking
 pub mod Seeing
+pub mod Taking

@@ -1,7 +1,8 @@
 -- A marker goes over the transactions after the pack's tid.
-use Rattle.std.proofs.Common.{◌≡◌, ℕ, ◌+◌, ◌-◌, ◌^◌, ◌<◌, ◌≤◌, max, inl, inr, ⊎_elim, true, false, eqb, ltb, List, [], ◌∷◌, map, filter, Option, Some, None, refl, sym, ap, subst, ◌∙◌, arith}
+use Rattle.std.proofs.Common.{◌≡◌, ℕ, ◌+◌, ◌-◌, ◌^◌, ◌<◌, ◌≤◌, max, inl, inr, ⊎_elim, Bool, true, false, eqb, ltb, List, [], ◌∷◌, ◌++◌, map, filter, Option, Some, None, refl, sym, ap, subst, ◌∙◌, arith}
 use Rattle.std.specs.Prelude.{IfSome, IsTrue}
 use Rattle.std.specs.List.{AllByRecursion, flat_map}
+use Rattle.std.specs.Option.{option_map}
 use Rattle.std.specs.FinSet.{contains}
 use Rattle.std.proofs.lemmas.Bool.{cases_Bool, cases_lt, or_left, or_right, eq-eqb, ltb-true, ltb-false, lt-ltb, le-ltb}
 use Rattle.zb_model.specs.declared.data.Change.{Change}
@@ -9,7 +10,7 @@ use Rattle.zb_model.specs.declared.data.Transaction.{Transaction}
 use Rattle.zb_model.specs.Database.{IsDatabase, ObjectRevision, newest_tid, revision_below}
 use Rattle.zb_model.specs.Queries.{first_after, is_above, oids_of}
 use Rattle.zb_model.specs.SerialLaws.{RisesTo, database_rises}
-use Rattle.pack_reach.specs.Marking.{IsFollowed, IsMarking, IsNoted, IsRead, IsSound, IsTransactionRead, MarkerState, MayReadChange, MayReadTransaction, OnlyMarks}
+use Rattle.pack_reach.specs.Marking.{IsFollowed, IsMarking, IsNextSeen, IsNoted, IsRead, IsSound, IsTransactionRead, MarkerState, MayReadChange, MayReadTransaction, OnlyMarks}
 use Rattle.pack_reach.specs.Reach.{IsReached, IsUnreadable, is_in, is_pair_in, references_in, references_of, unreadable_in, unreadable_of}
 use Rattle.pack_reach.proofs.Growing.{read_carried, transaction_carried, waits_in}
 use Rattle.pack_reach.proofs.Least.{pair_back, pair_front}
@@ -38,7 +39,7 @@ grown_marking named list a b m f s = record {
       (m.followed o i))
       (λ (i : IsTrue (is_in o b.waiting) × IsReached named a.tid list o). inl i.0)
       (s.fresh o h);
-  waiting = λ o h. ⊎_elim (λ (i : IsTrue (is_in o a.waiting)). f.kept o (m.waiting o i)) (λ (i : IsTrue (contains b.set o)). i) (f.only o h);
+  waiting = λ o h. ⊎_elim (λ (i : IsTrue (is_in o a.waiting)). f.kept o (m.waiting o i)) (λ (i : (contains a.set o ≡ false) × IsTrue (contains b.set o)). i.1) (f.marks.line o h);
 }
 
 -- ---- the next transaction
@@ -142,10 +143,10 @@ next_covers P s low high (y ∷ list) x h e px =
     ((λ l n. absurd (omega (arith, l, ltb-false s y.tid a)), rest.0), rest.1))
     (cases_Bool (ltb s y.tid))
 
-pub next_marking : (named : List ℕ → Option (List ℕ)) (list : List Transaction) (m : MarkerState) (x : Transaction) → IsDatabase list → IsMarking named list m → first_after m.seen list ≡ Some x → IsTransactionRead named m x → IsMarking named list (record m { seen = x.tid })
-next_marking named list m x is k e read =
+pub next_marking : (named : List ℕ → Option (List ℕ)) (list : List Transaction) (m : MarkerState) (x : Transaction) → RisesTo 0 (newest_tid list) list → IsMarking named list m → first_after m.seen list ≡ Some x → IsTransactionRead named m x → IsMarking named list (record m { seen = x.tid })
+next_marking named list m x rises k e read =
     let above = next_is_above m.seen list x e in
-    let covers = next_covers (IsTransactionRead named m) m.seen 0 (newest_tid list) list x (database_rises list is) e read in
+    let covers = next_covers (IsTransactionRead named m) m.seen 0 (newest_tid list) list x rises e read in
     record {
       from = omega (arith, k.from, above);
       within = omega (arith, covers.1);
@@ -172,3 +173,50 @@ none_after s low high (x ∷ list) h l =
 
 pub all_seen : (s : ℕ) (list : List Transaction) → IsDatabase list → 2 ^ 64 - 1 ≤ s → first_after s list ≡ None
 all_seen s list is l = none_after s 0 (newest_tid list) list (database_rises list is) (omega (arith, is.bounded, l))
+
+pub none_up_to : (s : ℕ) (list : List Transaction) → AllByRecursion (λ (x : Transaction). x.tid ≤ s) list → first_after s list ≡ None
+none_up_to s [] all = refl
+none_up_to s (x ∷ list) all =
+    let out : ltb s x.tid ≡ false = le-ltb s x.tid all.0 in
+    rw out (none_up_to s list all.1)
+
+-- ---- the next transaction stands behind those that were seen
+
+abbrev pub first_of : List Transaction → Option Transaction
+first_of [] = None
+first_of (x ∷ list) = Some x
+
+-- they rise from above this tid
+abbrev pub Rises : ℕ → List Transaction → Type 0
+Rises s [] = Unit {0}
+Rises s (x ∷ list) = (s < x.tid) × Rises x.tid list
+
+pub rises_of : (low high : ℕ) (list : List Transaction) → RisesTo low high list → Rises low list
+rises_of low high [] h = tt
+rises_of low high (x ∷ list) h = (h.0, rises_of x.tid high list h.1)
+
+pub rises_from : (low t s : ℕ) (list : List Transaction) → Rises low list → AllByRecursion (λ (x : Transaction). t < x.tid) list → s ≤ max t low → Rises s list
+rises_from low t s [] h above l = tt
+rises_from low t s (x ∷ list) h above l = (omega (arith, h.0, above.0, l), h.1)
+
+pub next_behind : (s : ℕ) (front rest : List Transaction) → AllByRecursion (λ (x : Transaction). x.tid ≤ s) front → Rises s rest → first_after s (front ++ rest) ≡ first_of rest
+next_behind s [] [] all h = refl
+next_behind s [] (x ∷ rest) all h =
+    let above : ltb s x.tid ≡ true = lt-ltb s x.tid h.0 in
+    rw above refl
+next_behind s (x ∷ front) rest all h =
+    let out : ltb s x.tid ≡ false = le-ltb s x.tid all.0 in
+    rw out (next_behind s front rest all.1 h)
+
+pub up_to_more : (s n : ℕ) (list : List Transaction) → s ≤ n → AllByRecursion (λ (x : Transaction). x.tid ≤ s) list → AllByRecursion (λ (x : Transaction). x.tid ≤ n) list
+up_to_more s n list l all = each_implies (λ (x : Transaction). x.tid ≤ s) (λ (x : Transaction). x.tid ≤ n) (λ x h. omega (arith, h, l)) list all
+
+-- ---- it was there
+
+pub next_was : (list : List Transaction) (a b : MarkerState) (r : Bool) → r ≡ true → IsNextSeen list a b r → (a.seen < b.seen) × (option_map (λ (x : Transaction). x.tid) (first_after a.seen list) ≡ Some b.seen)
+next_was list a b true e h = h
+next_was list a b false e h = absurd (cc)
+
+pub next_none : (list : List Transaction) (a b : MarkerState) (r : Bool) → r ≡ false → IsNextSeen list a b r → (first_after a.seen list ≡ None) × (b ≡ a)
+next_none list a b true e h = absurd (cc)
+next_none list a b false e h = h

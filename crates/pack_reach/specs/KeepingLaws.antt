@@ -19,7 +19,7 @@ use Rattle.zb_model.specs.Queries.{end_of, found_below, found_of, is_from}
 use Rattle.zb_model.specs.SerialLaws.{SerialsTo, database_serials}
 use Rattle.pack_reach.specs.Laws.{state_content}
 use Rattle.zb_model.specs.Packing.{is_held, packed_by, packed_form, packed_one, serial_up_to, stays}
-use Rattle.pack_reach.specs.Packed.{packed_of}
+use Rattle.pack_reach.specs.Packed.{kept, packed, packed_of}
 use Rattle.pack_reach.specs.Reach.{IsReached}
 use Rattle.pack_reach.specs.Reached.{reached}
 use Rattle.pack_reach.specs.LeadingLaws.{up_to_is}
@@ -298,13 +298,18 @@ content_kept t front oid list is l (Some r) e =
     (cases_lt t r.serial))
     (cases_Bool (left r))
 
-pub contents_kept : (named : List ℕ → Option (List ℕ)) (t front oid : ℕ) (list : List Transaction) → IsDatabase list → t < front → IsReached named t list oid → state_content oid front (packed_of named t list) ≡ state_content oid front list
-contents_kept named t front oid list is l r =
-    let keep = reached named t list in
-    let kept : contains keep oid ≡ true = (is_all named t list oid).1 r in
+-- whatever objects are kept
+pub kept_contents : (keep : FinSet nat_cmp) (t front oid : ℕ) (list : List Transaction) → IsDatabase list → t < front → contains keep oid ≡ true → state_content oid front (packed_by t keep list) ≡ state_content oid front list
+kept_contents keep t front oid list is l kept =
     ap (λ (rs : List ObjectRevision). content_in (last_or None (filter (is_below front) rs))) (revisions_left t keep oid list is)
     ∙ ap (λ (b : Bool). content_in (last_or None (filter (is_below front) (filter (is_left t b (serial_up_to t oid list)) (revisions oid list))))) kept
     ∙ content_kept t front oid list is l (revision_below oid front list) refl
+
+pub packs_keep : (collects : Bool) (named : List ℕ → Option (List ℕ)) (t front oid : ℕ) (list : List Transaction) → IsDatabase list → t < front → contains (kept collects named t list) oid ≡ true → state_content oid front (packed collects named t list) ≡ state_content oid front list
+packs_keep collects named t front oid list is l there = kept_contents (kept collects named t list) t front oid list is l there
+
+pub contents_kept : (named : List ℕ → Option (List ℕ)) (t front oid : ℕ) (list : List Transaction) → IsDatabase list → t < front → IsReached named t list oid → state_content oid front (packed_of named t list) ≡ state_content oid front list
+contents_kept named t front oid list is l r = kept_contents (reached named t list) t front oid list is l ((is_all named t list oid).1 r)
 
 -- ---- what is left is the end of what was there
 

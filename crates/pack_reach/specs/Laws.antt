@@ -1,5 +1,6 @@
 -- Laws of packing. Own.
-use Rattle.std.specs.Prelude.{◌≡◌, ℕ, ◌<◌, ◌↔◌, List, Option, IsTrue}
+use Rattle.std.specs.Prelude.{◌≡◌, ℕ, ◌<◌, ◌↔◌, List, ◌++◌, Option, None, Bool, true, IsTrue}
+use Rattle.std.specs.List.{AllByRecursion}
 use Rattle.std.specs.Option.{unwrap_or}
 use Rattle.std.specs.Ordering.{nat_cmp}
 use Rattle.std.specs.FinSet.{FinSet, contains}
@@ -10,7 +11,8 @@ use Rattle.zb_model.specs.declared.found.Found.TheVariants as found
 use Rattle.zb_model.specs.Database.{IsDatabase, content_below}
 use Rattle.zb_model.specs.Queries.{found_below}
 use Rattle.zb_model.specs.Packing.{packed_by}
-use Rattle.pack_reach.specs.Packed.{packed_of}
+use Rattle.pack_reach.specs.Late.{overtaken}
+use Rattle.pack_reach.specs.Packed.{kept, packed}
 use Rattle.pack_reach.specs.Reach.{IsLeastUnreadable, IsReached, is_in, references_of}
 use Rattle.pack_reach.specs.Reached.{reached, unreadable}
 
@@ -26,19 +28,25 @@ UnreadableIsLeast = (named : List ℕ → Option (List ℕ)) (t : ℕ) (list : L
 abbrev pub state_content : ℕ → ℕ → List Transaction → Content
 state_content oid front list = unwrap_or (content_below oid front list) Absent
 
--- above the pack's tid, a reached object has the same content in the packed list
+-- above the pack's tid, a kept object has the same content in the packed list
 abbrev pub PackKeepsContents : Type 0
-PackKeepsContents = (named : List ℕ → Option (List ℕ)) (t front oid : ℕ) (list : List Transaction) → IsDatabase list → t < front → IsReached named t list oid
-    → state_content oid front (packed_of named t list) ≡ state_content oid front list
+PackKeepsContents = (collects : Bool) (named : List ℕ → Option (List ℕ)) (t front oid : ℕ) (list : List Transaction) → IsDatabase list → t < front → IsTrue (contains (kept collects named t list) oid)
+    → state_content oid front (packed collects named t list) ≡ state_content oid front list
 
 -- references lead from the root to an object, in the state below a front
 pub data IsLedTo (named : List ℕ → Option (List ℕ)) (front : ℕ) (list : List Transaction) : ℕ → Type 0 where
   root : IsLedTo named front list 0
   next : (from oid : ℕ) → IsLedTo named front list from → IsTrue (is_in oid (references_of named (state_content from front list))) → IsLedTo named front list oid
 
--- above the pack's tid, every object that references lead to from the root is reached
+-- above the pack's tid, a pack that collects keeps every object that references lead to from the root
 abbrev pub StateIsReached : Type 0
-StateIsReached = (named : List ℕ → Option (List ℕ)) (t front oid : ℕ) (list : List Transaction) → t < front → IsLedTo named front list oid → IsReached named t list oid
+StateIsReached = (named : List ℕ → Option (List ℕ)) (t front oid : ℕ) (list : List Transaction) → t < front → IsLedTo named front list oid → IsTrue (contains (kept true named t list) oid)
+
+-- Where no commit overtakes a pack whose copying began over a front of the list, what it leaves of the grown list is what a
+-- pack of that list leaves.
+abbrev pub PackOutlastsCommits : Type 0
+PackOutlastsCommits = (collects : Bool) (named : List ℕ → Option (List ℕ)) (t : ℕ) (front commits : List Transaction) → AllByRecursion (λ (x : Transaction). t < x.tid) commits → overtaken collects named (kept collects named t front) t front commits ≡ None
+    → packed_by t (kept collects named t front) (front ++ commits) ≡ packed collects named t (front ++ commits)
 
 -- A record that is found in a packed list, whatever is kept, is found in the list with the same serial and bytes, and its
 -- next revision, or that there is none, is the same.

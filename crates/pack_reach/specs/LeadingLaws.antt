@@ -3,6 +3,7 @@ use Rattle.std.proofs.Common.{◌≡◌, ℕ, ◌+◌, ◌<◌, ◌≤◌, ◌�
 use Rattle.std.specs.Prelude.{IfSome, unwrap_or}
 use Rattle.std.specs.List.{AllByRecursion, last_or}
 use Rattle.std.specs.Option.{option_map, option_map_or}
+use Rattle.std.specs.FinSet.{contains}
 use Rattle.std.proofs.lemmas.Bool.{cases_Bool, cases_lt, ltb-false, lt-ltb, le-ltb}
 use Rattle.zb_model.specs.declared.data.Change.{Change}
 use Rattle.zb_model.specs.declared.data.Content.TheVariants.{Absent}
@@ -11,7 +12,8 @@ use Rattle.zb_model.specs.Database.{ObjectRevision, is_below, revision_below, re
 use Rattle.pack_reach.specs.Laws.{IsLedTo}
 use Rattle.pack_reach.specs.Reach.{IsReached, is_in, named_after, references_in, references_of}
 use Rattle.pack_reach.specs.MemberLaws.{each_implies, each_in, in_back, in_front, last_has}
-use Rattle.pack_reach.specs.ReachLaws.{revision_has, revisions_have}
+use Rattle.pack_reach.specs.Packed.{kept}
+use Rattle.pack_reach.specs.ReachLaws.{is_all, revision_has, revisions_have}
 
 -- ---- the last revision below a front, where it isn't above t, is the last up to t
 
@@ -94,3 +96,7 @@ led_is_reached named t front list l oid (IsLedTo.next from o led i) =
 
 pub led_to_is_reached : (named : List ℕ → Option (List ℕ)) (t front oid : ℕ) (list : List Transaction) → t < front → IsLedTo named front list oid → IsReached named t list oid
 led_to_is_reached named t front oid list l led = led_is_reached named t front list l oid led
+
+-- so a pack that collects keeps it
+pub led_to_is_kept : (named : List ℕ → Option (List ℕ)) (t front oid : ℕ) (list : List Transaction) → t < front → IsLedTo named front list oid → contains (kept true named t list) oid ≡ true
+led_to_is_kept named t front oid list l led = (is_all named t list oid).1 (led_to_is_reached named t front oid list l led)

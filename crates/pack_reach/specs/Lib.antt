@@ -1,4 +1,7 @@
+pub mod GrowthLaws
 pub mod KeepingLaws
+pub mod Late
+pub mod LateLaws
 pub mod Laws
 pub mod LeadingLaws
 pub mod Marking
@@ -8,3 +11,4 @@ pub mod Packed
 pub mod Reach
 pub mod ReachLaws
 pub mod Reached
+pub mod Uncollected

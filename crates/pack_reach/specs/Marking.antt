@@ -1,7 +1,8 @@
 -- How far the marks of a pack have come. Own.
-use Rattle.std.specs.Prelude.{◌≡◌, ℕ, ◌+◌, ◌<◌, ◌≤◌, ◌⊎◌, List, [], ◌∷◌, ◌++◌, Option, Some, None, Bool, true, false, IsTrue, IfSome, if◌then◌else◌, fold, max, length, refl}
+use Rattle.std.specs.Prelude.{◌≡◌, ℕ, ◌+◌, ◌^◌, ◌<◌, ◌≤◌, ◌⊎◌, List, [], ◌∷◌, ◌++◌, Option, Some, None, Bool, true, false, IsTrue, IfSome, is_some, if◌then◌else◌, fold, max, length, refl}
 use Rattle.std.specs.Coded.{Coded, code_by, coded×, coded_list, coded_option, coded_ℕ}
 use Rattle.std.specs.List.{AllByRecursion}
+use Rattle.std.specs.Option.{option_map}
 use Rattle.std.specs.Ordering.{nat_cmp}
 use Rattle.std.specs.FinSet.{FinSet, code, contains, empty, insert, len}
 use Rattle.zb_model.specs.declared.data.Change.{Change}
@@ -27,16 +28,20 @@ pub record MarkerState : Type 0 where
   pub waiting : List ℕ
   -- of the records that were met and can't be read, the one of the least object, then of the least serial
   pub unreadable : Option (ℕ × ℕ)
+  -- how many marked objects its turns have answered so far; more may be marked already
+  pub counted : ℕ
 
 -- it is stored as the tuple of its fields
 abbrev pub marker_code : Coded MarkerState
 marker_code =
-    code_by (ℕ × (ℕ × (FinSet nat_cmp × (List ℕ × Option (ℕ × ℕ))))) (coded× coded_ℕ (coded× coded_ℕ (coded× (code coded_ℕ) (coded× (coded_list coded_ℕ) (coded_option (coded× coded_ℕ coded_ℕ))))))
-    (λ m. (m.tid, (m.seen, (m.set, (m.waiting, m.unreadable))))) (λ p. record { tid = p.0; seen = p.1.0; set = p.1.1.0; waiting = p.1.1.1.0; unreadable = p.1.1.1.1 }) (λ _. refl)
+    code_by (ℕ × (ℕ × (FinSet nat_cmp × (List ℕ × (Option (ℕ × ℕ) × ℕ)))))
+    (coded× coded_ℕ (coded× coded_ℕ (coded× (code coded_ℕ) (coded× (coded_list coded_ℕ) (coded× (coded_option (coded× coded_ℕ coded_ℕ)) coded_ℕ)))))
+    (λ m. (m.tid, (m.seen, (m.set, (m.waiting, (m.unreadable, m.counted))))))
+    (λ p. record { tid = p.0; seen = p.1.0; set = p.1.1.0; waiting = p.1.1.1.0; unreadable = p.1.1.1.1.0; counted = p.1.1.1.1.1 }) (λ _. refl)
 
 -- a marker that has marked nothing
 abbrev pub new_marker : ℕ → MarkerState
-new_marker t = record { tid = t; seen = t; set = empty; waiting = []; unreadable = None }
+new_marker t = record { tid = t; seen = t; set = empty; waiting = []; unreadable = None; counted = 0 }
 
 -- ---- what a marker has read
 
@@ -71,6 +76,11 @@ pub record IsMarking (named : List ℕ → Option (List ℕ)) (list : List Trans
   pub read : AllByRecursion (λ x. m.tid < x.tid → x.tid ≤ m.seen → IsTransactionRead named m x) list
   pub followed : (oid : ℕ) → IsTrue (contains m.set oid) → IsTrue (is_in oid m.waiting) ⊎ IsFollowed named list m oid
   pub waiting : (oid : ℕ) → IsTrue (is_in oid m.waiting) → IsTrue (contains m.set oid)
+
+-- a list has grown from a front: each transaction behind it is above t
+pub record HasGrown (t : ℕ) (front later list : List Transaction) : Type 0 where
+  pub split : list ≡ front ++ later
+  pub above : AllByRecursion (λ x. t < x.tid) later
 
 -- A marker may mark over a list: it stands for marks made over what the list begins with, and each transaction behind that
 -- is above the pack's tid. A new marker may, over any list.
@@ -116,14 +126,20 @@ MayReadChange named t list tid c = IsReached named t list c.oid × MayRead named
 abbrev pub MayReadTransaction : (List ℕ → Option (List ℕ)) → ℕ → List Transaction → Transaction → Type 0
 MayReadTransaction named t list x = AllByRecursion (MayReadChange named t list x.tid) x.changes
 
+-- what is marked anew waits, and what waits anew is marked anew
+pub record MarksFresh (old new : MarkerState) : Type 0 where
+  pub fresh : (oid : ℕ) → IsTrue (contains new.set oid) → IsTrue (contains old.set oid) ⊎ IsTrue (is_in oid new.waiting)
+  pub line : (oid : ℕ) → IsTrue (is_in oid new.waiting) → IsTrue (is_in oid old.waiting) ⊎ ((contains old.set oid ≡ false) × IsTrue (contains new.set oid))
+
 -- A marker has come further: more is marked, and as many more wait, behind those that did; what was marked or noted still
--- is; the tid and how far transactions are read stay.
+-- is; the tid, how far transactions are read and what turns answered stay.
 pub record OnlyMarks (old new : MarkerState) : Type 0 where
   pub tid : new.tid ≡ old.tid
   pub seen : new.seen ≡ old.seen
+  pub counted : new.counted ≡ old.counted
   pub kept : (oid : ℕ) → IsTrue (contains old.set oid) → IsTrue (contains new.set oid)
   pub line : (more : List ℕ) × (new.waiting ≡ old.waiting ++ more)
-  pub only : (oid : ℕ) → IsTrue (is_in oid new.waiting) → IsTrue (is_in oid old.waiting) ⊎ IsTrue (contains new.set oid)
+  pub marks : MarksFresh old new
   pub noted : (p : ℕ × ℕ) → IsNoted old.unreadable p → IsNoted new.unreadable p
   pub balance : length new.waiting + len old.set ≡ length old.waiting + len new.set
 
@@ -154,15 +170,59 @@ pub record KeepsMarks (old new : MarkerState) : Type 0 where
 
 -- the next transaction is seen, or there is none
 abbrev pub IsNextSeen : List Transaction → MarkerState → MarkerState → Bool → Type 0
-IsNextSeen list old new true = old.seen < new.seen
-IsNextSeen list old new false = first_after new.seen list ≡ None
+IsNextSeen list old new true = (old.seen < new.seen) × (option_map (λ (x : Transaction). x.tid) (first_after old.seen list) ≡ Some new.seen)
+IsNextSeen list old new false = (first_after old.seen list ≡ None) × (new ≡ old)
 
 -- one that waited is followed
 abbrev pub IsOneFollowed : MarkerState → MarkerState → Type 0
 IsOneFollowed old new = 0 < length old.waiting → length new.waiting + 1 + len old.set ≡ length old.waiting + len new.set
+
+-- an object, where it has a revision up to t
+abbrev pub revised : ℕ → List Transaction → ℕ → Option ℕ
+revised t list oid = if is_some (revision_below oid (t + 1) list) then Some oid else None
+
+-- by what was found of it
+abbrev pub revised_as : ℕ → Found → Option ℕ
+revised_as oid (found.Held serial bytes end) = Some oid
+revised_as oid (found.Absent serial) = Some oid
+revised_as oid found.Nothing = None
+
+-- What follows from one that was followed, and is this object where it has a revision up to the pack's tid: what is marked
+-- anew waits, and what waited does, but for the followed one.
+pub record FollowsOne (list : List Transaction) (old new : MarkerState) (followed : Option ℕ) : Type 0 where
+  pub kept : (oid : ℕ) → IsTrue (contains old.set oid) → IsTrue (contains new.set oid)
+  pub fresh : (oid : ℕ) → IsTrue (contains new.set oid) → (IsTrue (contains old.set oid) ⊎ IsTrue (is_in oid old.waiting)) ⊎ IsTrue (is_in oid new.waiting)
+  pub line : (oid : ℕ) → IsTrue (is_in oid new.waiting) → IsTrue (is_in oid old.waiting) ⊎ ((contains old.set oid ≡ false) × IsTrue (contains new.set oid))
+  pub gone : (oid : ℕ) → IsTrue (is_in oid old.waiting) → IsTrue (is_in oid new.waiting) ⊎ (followed ≡ revised old.tid list oid)
+  pub one : IfSome followed (λ oid. IsTrue (is_in oid old.waiting) × IsTrue (is_some (revision_below oid (old.tid + 1) list)))
+
+-- the least is there and isn't greater
+abbrev pub IsLow : Option ℕ → ℕ → Type 0
+IsLow None oid = ⊥
+IsLow (Some n) oid = n ≤ oid
+
+-- Of the objects that were marked beyond a set, and of these those that wait no more, this is the least that has a revision
+-- up to the pack's tid, or none has.
+pub record IsLeastFollowed (list : List Transaction) (before : FinSet nat_cmp) (m : MarkerState) (least : Option ℕ) : Type 0 where
+  pub within : (oid : ℕ) → IsTrue (contains before oid) → IsTrue (contains m.set oid)
+  pub apart : (oid : ℕ) → IsTrue (is_in oid m.waiting) → contains before oid ≡ false
+  pub marked : (oid : ℕ) → IsTrue (is_in oid m.waiting) → IsTrue (contains m.set oid)
+  pub one : IfSome least (λ oid. IsTrue (contains m.set oid) × (contains before oid ≡ false) × IsTrue (is_some (revision_below oid (m.tid + 1) list)))
+  pub low : (oid : ℕ) → IsTrue (contains m.set oid) → contains before oid ≡ false → IsTrue (is_some (revision_below oid (m.tid + 1) list)) → IsTrue (is_in oid m.waiting) ⊎ IsLow least oid
 
 -- the root is marked, no transaction is left to be read, and no object waits
 pub record IsComplete (list : List Transaction) (m : MarkerState) : Type 0 where
   pub root : IsTrue (contains m.set 0)
   pub seen : first_after m.seen list ≡ None
   pub line : m.waiting ≡ []
+
+-- more objects are marked than this
+pub record IsPast (limit : ℕ) (m : MarkerState) : Type 0 where
+  pub past : limit < len m.set
+  pub bound : len m.set < 2 ^ 63
+
+-- all that is reached over a list is marked, and each record that the reach follows could be read
+pub record IsMarkedWhole (named : List ℕ → Option (List ℕ)) (list : List Transaction) (m : MarkerState) : Type 0 where
+  pub marks : IsMarking named list m
+  pub all : IsComplete list m
+  pub readable : m.unreadable ≡ None

@@ -1,7 +1,7 @@
 //! Laws of packing.
 
-ghost use Rattle.pack_reach.specs.Laws.{PackKeepsContents, PackedRecordsStand, ReachedIsAll, StateIsReached};
-ghost use Rattle.pack_reach.specs.Laws.{UnreadableIsLeast};
+ghost use Rattle.pack_reach.specs.Laws.{PackKeepsContents, PackOutlastsCommits, PackedRecordsStand, ReachedIsAll};
+ghost use Rattle.pack_reach.specs.Laws.{StateIsReached, UnreadableIsLeast};
 
 /// The objects that are computed, step by step, are those at the end of a path.
 pub fn reached_is_all()
@@ -13,12 +13,12 @@ pub fn unreadable_is_least()
     ensures { UnreadableIsLeast }
 {}
 
-/// Above the tid of a pack, a reached object has the same content in the packed list, below every front.
+/// Above the tid of a pack, an object that it keeps has the same content in the packed list, below every front.
 pub fn packs_keep_contents()
     ensures { PackKeepsContents }
 {}
 
-/// Above the tid of a pack, every object that references lead to from the root is reached.
+/// Above the tid of a pack that collects, every object that references lead to from the root is kept.
 pub fn states_are_reached()
     ensures { StateIsReached }
 {}
@@ -26,4 +26,9 @@ pub fn states_are_reached()
 /// A record in a packed list stands in the list, with the same serial, bytes and next revision.
 pub fn packed_records_stand()
     ensures { PackedRecordsStand }
+{}
+
+/// What a pack that no commit overtook leaves of the grown list is what a pack of that list leaves.
+pub fn packs_outlast_commits()
+    ensures { PackOutlastsCommits }
 {}

@@ -1,18 +1,23 @@
 //! The marks of a pack.
 
-ghost use Rattle.std.specs.Prelude.{◌≡◌, ◌<◌, ◌+◌, ◌-◌, ◌^◌, ◌∷◌, [], ℕ, List, Option, Some, None, false, true, IfOk};
+ghost use Rattle.std.specs.Prelude.{◌≡◌, ◌<◌, ◌≤◌, ◌+◌, ◌-◌, ◌^◌, ◌∷◌, ◌⊎◌, [], ℕ, List, Option, Some, None, false, true, IfOk};
 ghost use Rattle.std.specs.Prelude.{OnOk, OnErr, if◌then◌else◌, length, min, nat_lt, slice_get};
+ghost use Rattle.std.specs.Ordering.{nat_cmp};
 ghost use Rattle.std.specs.FinSet as set;
 ghost use Rattle.zb_model.specs.declared.data.Transaction.{Transaction};
 ghost use Rattle.zb_model.specs.declared.data.Content.TheVariants as content;
+ghost use Rattle.zb_model.specs.Database.{newest_tid};
 ghost use Rattle.zb_model.specs.Queries.{first_after};
+ghost use Rattle.zb_model.specs.SerialLaws.{RisesTo};
 ghost use Rattle.zb_model.specs.Stores.{IsOnlyRead};
-ghost use Rattle.pack_reach.specs.Marking.{IsChangeRead, IsComplete, IsFoundRead, IsMarking, IsNextSeen, IsOneFollowed};
-ghost use Rattle.pack_reach.specs.Marking.{IsPartlyRead, IsRead, IsTransactionRead, MayMark, MayRead, MayReadChange};
-ghost use Rattle.pack_reach.specs.Marking.{MayReadFound, MayReadTransaction, IsSound, KeepsMarks, OnlyMarks};
-ghost use Rattle.pack_reach.specs.Marking.{new_marker, with_mark, with_marks, with_note, with_record};
+ghost use Rattle.pack_reach.specs.Marking.{FollowsOne, HasGrown, IsChangeRead, IsComplete, IsFoundRead, IsLeastFollowed};
+ghost use Rattle.pack_reach.specs.Marking.{IsMarking, IsNextSeen, IsOneFollowed, IsPartlyRead, IsPast, IsRead};
+ghost use Rattle.pack_reach.specs.Marking.{IsSound, IsTransactionRead, KeepsMarks, MarksFresh, MayMark, MayRead};
+ghost use Rattle.pack_reach.specs.Marking.{MayReadChange, MayReadFound, MayReadTransaction, OnlyMarks, new_marker};
+ghost use Rattle.pack_reach.specs.Marking.{revised_as, with_mark, with_marks, with_note, with_record};
 ghost use Rattle.pack_reach.specs.Reach.{is_at_most};
-ghost use Rattle.pack_reach.specs.Outcomes.{IsMarked, ReadsToMark};
+ghost use Rattle.pack_reach.specs.Late.{lesser_some};
+ghost use Rattle.pack_reach.specs.Outcomes.{readable_as};
 
 use crate::refusal::PackRefusal;
 use std::alloc::{AllocError, Global};
@@ -24,7 +29,7 @@ use zb_model::{Change, Content, Found, OidSet, Refs, RefsError, Store, StoreErro
 /// How far the marks of a pack have come.
 #[derive(Clone, Copy, Debug, PartialEq, Eq)]
 pub struct Marked {
-    /// How many objects are marked.
+    /// How many objects are marked so far, 64 more a turn.
     pub count: u64,
     /// Whether that is all that the pack reaches.
     pub whole: bool,
@@ -34,17 +39,25 @@ pub struct Marked {
 ///
 /// A path starts at the root, at an object that is changed after the pack's tid, or at one that a record
 /// written after it names. Each further step is a reference of an object's last revision up to that tid.
-/// Objects that are marked wait in line until that revision is read, so each is read once.
+/// Objects that are marked wait in line until that revision is read, so each is read once. A record may
+/// name many, so more objects may be marked than the turns have answered.
 ///
 /// Contracts see how far it has come. Each call leaves marks that stand for the list that they were made
 /// over, also where it is refused, and a later call goes on from there.
 #[derive(Drop)]
 pub struct Marker {
-    tid: Tid,
-    seen: Tid,
-    marks: OidSet,
-    waiting: VecDeque<Oid>,
-    unreadable: Option<(Oid, Tid)>,
+    /// The pack's tid.
+    pub(crate) tid: Tid,
+    /// The transactions above the pack's tid are read up to this one.
+    pub(crate) seen: Tid,
+    /// The objects that are marked.
+    pub(crate) marks: OidSet,
+    /// Those of them whose last revision up to the pack's tid isn't read yet.
+    pub(crate) waiting: VecDeque<Oid>,
+    /// Of the records that were met and can't be read, the least.
+    pub(crate) unreadable: Option<(Oid, Tid)>,
+    /// How many marked objects the turns have answered so far.
+    pub(crate) counted: u64,
 }
 
 impl Model for Marker {
@@ -60,6 +73,7 @@ impl Model for Marker {
       set = a.marks;
       waiting = a.waiting.items;
       unreadable = a.unreadable;
+      counted = a.counted;
     } };
 }
 
@@ -76,6 +90,7 @@ impl Marker {
             marks: OidSet::new(alloc),
             waiting: VecDeque::with_capacity(alloc, 64)?,
             unreadable: None,
+            counted: 0,
         })
     }
 
@@ -106,11 +121,29 @@ impl Marker {
     }
 
     /// How many objects are marked.
-    fn count(&self) -> usize
+    fn count(&self) -> u64
         ensures count { result ≡ set.len self.now.set }
         ensures bound { result < 2 ^ 63 }
     {
-        self.marks.len()
+        self.marks.len() as u64
+    }
+
+    /// Whether more objects are marked than this.
+    fn is_past(&self, limit: u64) -> bool
+        ensures past { result ≡ nat_lt limit (set.len self.now.set) }
+        ensures bound { set.len self.now.set < 2 ^ 63 }
+    {
+        limit < self.count()
+    }
+
+    /// Refuses the record that was met and can't be read, if there is one, the least of several.
+    pub(crate) fn readable(&self) -> Result<(), PackRefusal>
+        ensures { result ≡ readable_as self.now.unreadable }
+    {
+        match self.unreadable {
+            Some((oid, tid)) => Err(PackRefusal::Unreadable { oid, tid }),
+            None => Ok(()),
+        }
     }
 
     /// Whether some object waits.
@@ -216,18 +249,22 @@ impl Marker {
         Ok(())
     }
 
-    /// Reads the next transaction above the pack's tid, and answers whether there was one.
-    fn mark_next<St: Store, F: Refs>(
+    /// Reads the next transaction above the pack's tid, and answers whether there was one. The marks then
+    /// stand for each list that rises, begins with what they stood for, and has that one next.
+    pub(crate) fn mark_next<St: Store, F: Refs>(
         &mut self,
         alloc: Global,
         store: &mut St,
         refs: &F,
     ) -> Result<bool, StoreError>
         requires whole { (St.state store.old).broken ≡ false }
-        ensures marks { St.told → IsMarking (F.named refs.now) (St.state store.old).list self.old
-            → IsMarking (F.named refs.now) (St.state store.old).list self.new }
+        ensures marks { St.told → (front : List Transaction) → RisesTo 0 (newest_tid front) front
+            → first_after self.old.seen front ≡ first_after self.old.seen (St.state store.old).list
+            → IsMarking (F.named refs.now) front self.old → IsMarking (F.named refs.now) front self.new }
         ensures next { St.told → IfOk result (IsNextSeen (St.state store.old).list self.old self.new) }
+        ensures fresh { MarksFresh self.old self.new }
         ensures keeps { KeepsMarks self.old self.new }
+        ensures counted { self.new.counted ≡ self.old.counted }
         ensures read { IsOnlyRead (St.state store.old) (St.state store.new) result }
     {
         let Some(transaction) = store.after(alloc, self.seen)? else {
@@ -238,21 +275,28 @@ impl Marker {
         Ok(true)
     }
 
-    /// Reads every transaction above the pack's tid that wasn't read yet.
+    /// Reads every transaction above the pack's tid that wasn't read yet, or as many as mark more objects
+    /// than the limit.
     fn mark_later<St: Store, F: Refs>(
         &mut self,
         alloc: Global,
         store: &mut St,
         refs: &F,
+        limit: u64,
     ) -> Result<(), StoreError>
         requires whole { (St.state store.old).broken ≡ false }
         ensures marks { St.told → IsMarking (F.named refs.now) (St.state store.old).list self.old
             → IsMarking (F.named refs.now) (St.state store.old).list self.new }
-        ensures all { St.told → OnOk result (first_after self.new.seen (St.state store.old).list ≡ None) }
+        ensures all { St.told → OnOk result
+            (IsPast limit self.new ⊎ (first_after self.new.seen (St.state store.old).list ≡ None)) }
         ensures keeps { KeepsMarks self.old self.new }
+        ensures counted { self.new.counted ≡ self.old.counted }
         ensures read { IsOnlyRead (St.state store.old) (St.state store.new) result }
     {
         for _i in 0..u64::MAX {
+            if self.is_past(limit) {
+                return Ok(());
+            }
             if !self.mark_next(alloc, store, refs)? {
                 return Ok(());
             }
@@ -286,105 +330,118 @@ impl Marker {
     }
 
     /// Reads the last revision up to the pack's tid of the object that waits first, which then waits no
-    /// more.
+    /// more, and answers that object where it has one. The marks then stand for each list that they stood
+    /// for and from which the store's has grown.
     fn follow_next<St: Store, F: Refs>(
         &mut self,
         alloc: Global,
         store: &mut St,
         refs: &F,
-    ) -> Result<(), StoreError>
+    ) -> Result<Option<Oid>, StoreError>
         requires whole { (St.state store.old).broken ≡ false }
-        ensures marks { St.told → IsMarking (F.named refs.now) (St.state store.old).list self.old
-            → IsMarking (F.named refs.now) (St.state store.old).list self.new }
+        ensures marks { St.told → (front later : List Transaction)
+            → HasGrown self.old.tid front later (St.state store.old).list
+            → IsMarking (F.named refs.now) front self.old → IsMarking (F.named refs.now) front self.new }
+        ensures follows { St.told → IfOk result (FollowsOne (St.state store.old).list self.old self.new) }
         ensures one { OnOk result (IsOneFollowed self.old self.new) }
         ensures seen { self.new.seen ≡ self.old.seen }
         ensures keeps { KeepsMarks self.old self.new }
+        ensures counted { self.new.counted ≡ self.old.counted }
         ensures read { IsOnlyRead (St.state store.old) (St.state store.new) result }
     {
         let Some(oid) = self.first_waiting() else {
-            return Ok(());
+            return Ok(None);
         };
         let found = store.load_before(alloc, oid, front_behind(self.tid))?;
         self.read_found(alloc, refs, oid, &found)?;
         self.waiting.pop_front();
-        Ok(())
+        Ok(revised_as(oid, &found))
     }
 
-    /// Follows every object that waits, also those that are marked meanwhile, and answers how many are
-    /// marked then.
-    fn follow_all<St: Store, F: Refs>(
+    /// Follows every object that waits, also those that are marked meanwhile, or as many as mark more
+    /// objects than the limit. Answers the least of those that were followed and have a revision up to the
+    /// pack's tid.
+    pub(crate) fn follow_all<St: Store, F: Refs>(
         &mut self,
         alloc: Global,
         store: &mut St,
         refs: &F,
-    ) -> Result<usize, StoreError>
+        limit: u64,
+    ) -> Result<Option<Oid>, StoreError>
         requires whole { (St.state store.old).broken ≡ false }
-        ensures marks { St.told → IsMarking (F.named refs.now) (St.state store.old).list self.old
-            → IsMarking (F.named refs.now) (St.state store.old).list self.new }
-        ensures all { OnOk result (self.new.waiting ≡ []) }
-        ensures count { IfOk result (λ count. count ≡ set.len self.new.set) }
+        ensures marks { St.told → (front later : List Transaction)
+            → HasGrown self.old.tid front later (St.state store.old).list
+            → IsMarking (F.named refs.now) front self.old → IsMarking (F.named refs.now) front self.new }
+        ensures least { St.told → (before : set.FinSet nat_cmp)
+            → IsLeastFollowed (St.state store.old).list before self.old None
+            → IfOk result (IsLeastFollowed (St.state store.old).list before self.new) }
+        ensures all { OnOk result (IsPast limit self.new ⊎ (self.new.waiting ≡ [])) }
         ensures seen { self.new.seen ≡ self.old.seen }
         ensures keeps { KeepsMarks self.old self.new }
+        ensures counted { self.new.counted ≡ self.old.counted }
         ensures read { IsOnlyRead (St.state store.old) (St.state store.new) result }
     {
-        let mut count = self.count();
+        let mut least = None;
         'follow: while self.waits() {
-            self.follow_next(alloc, store, refs)?;
-            count = self.count();
+            if self.is_past(limit) {
+                return Ok(least);
+            }
+            let followed = self.follow_next(alloc, store, refs)?;
+            least = lesser_some(least, followed);
         }
-        Ok(count)
+        Ok(least)
     }
 
-    /// Marks all that is reached, and answers how many objects that is. Records that can't be read are noted.
-    fn mark_reached<St: Store, F: Refs>(
+    /// Marks all that is reached, or more objects than the limit, and answers how many are marked. Records
+    /// that can't be read are noted.
+    pub(crate) fn mark_reached<St: Store, F: Refs>(
         &mut self,
         alloc: Global,
         store: &mut St,
         refs: &F,
-    ) -> Result<usize, StoreError>
+        limit: u64,
+    ) -> Result<u64, StoreError>
         requires whole { (St.state store.old).broken ≡ false }
         ensures marks { St.told → IsMarking (F.named refs.now) (St.state store.old).list self.old
             → IsMarking (F.named refs.now) (St.state store.old).list self.new }
-        ensures all { St.told → OnOk result (IsComplete (St.state store.old).list self.new) }
+        ensures all { St.told → OnOk result
+            ((limit < set.len self.new.set) ⊎ IsComplete (St.state store.old).list self.new) }
         ensures count { IfOk result (λ count. count ≡ set.len self.new.set) }
+        ensures bound { IfOk result (λ count. count < 2 ^ 63) }
         ensures keeps { KeepsMarks self.old self.new }
+        ensures counted { self.new.counted ≡ self.old.counted }
         ensures read { IsOnlyRead (St.state store.old) (St.state store.new) result }
     {
         self.mark(Oid(0))?;
-        self.mark_later(alloc, store, refs)?;
-        self.follow_all(alloc, store, refs)
+        self.mark_later(alloc, store, refs, limit)?;
+        self.follow_all(alloc, store, refs, limit)?;
+        Ok(self.count())
     }
+}
 
-    /// Marks all that a pack reaches over the list of a store, and answers how many objects that is.
-    ///
-    /// The marks go on from those that were made over what the list begins with: each transaction behind
-    /// that is above the pack's tid. A record is read once, and refused where it can't be read only once
-    /// all is marked. Of several that can't, the one of the least object is named, then of the least
-    /// serial. A read of the store that failed and want of memory leave the marks that were made. It only
-    /// reads the store.
-    pub fn mark_turn<St: Store, F: Refs>(
-        &mut self,
-        alloc: Global,
-        store: &mut St,
-        refs: &F,
-    ) -> Result<Marked, PackRefusal>
-        requires whole { (St.state store.old).broken ≡ false }
-        requires may_mark { St.told → MayMark (F.named refs.now) (St.state store.old).list self.old }
-        ensures marked { St.told → IsMarked (F.named refs.now) (St.state store.old).list self.new result }
-        ensures may_mark { St.told → MayMark (F.named refs.now) (St.state store.old).list self.new }
-        ensures keeps { KeepsMarks self.old self.new }
-        ensures count { IfOk result (λ marked. marked.count ≡ set.len self.new.set) }
-        ensures whole { IfOk result (λ marked. marked.whole ≡ true) }
-        ensures read { ReadsToMark (St.state store.old) (St.state store.new) result }
-    {
-        let count = self.mark_reached(alloc, store, refs)?;
-        match self.unreadable {
-            Some((oid, tid)) => Err(PackRefusal::Unreadable { oid, tid }),
-            None => Ok(Marked {
-                count: count as u64,
-                whole: true,
-            }),
-        }
+/// The object, where something was found of it.
+fn revised_as(oid: Oid, found: &Found) -> Option<Oid>
+    ensures { result ≡ revised_as oid found.now }
+{
+    match found {
+        Found::Held {
+            serial: _,
+            bytes: _,
+            end: _,
+        } => Some(oid),
+        Found::Absent { serial: _ } => Some(oid),
+        Found::Nothing => None,
+    }
+}
+
+/// The lesser of two objects, where there are two.
+fn lesser_some(one: Option<Oid>, other: Option<Oid>) -> Option<Oid>
+    ensures { result ≡ lesser_some one other }
+{
+    match (one, other) {
+        (Some(first), Some(second)) => Some(if second < first { second } else { first }),
+        (Some(first), None) => Some(first),
+        (None, second) => second,
     }
 }
 

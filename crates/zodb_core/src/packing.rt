@@ -72,7 +72,7 @@ fn mark_all<St: Store, F: Refs>(
     ensures read { ReadsToMark (St.state store.old) (St.state store.new) result }
 {
     let mut marker = Marker::new(alloc, tid)?;
-    marker.mark_turn(alloc, store, refs)?;
+    marker.mark_all(alloc, store, refs)?;
     Ok(marker)
 }
 

@@ -10,8 +10,9 @@ invariant-loop-i g l =
     let now = g.St.Store.state l.store in
     record {
       same : ReadKeepsRest old now;
-      counted : now.read_faults ≡ old.read_faults;
+      faults : now.read_faults ≡ old.read_faults;
       keeps : KeepsMarks l.fn.self l.self;
+      counted : l.self.counted ≡ l.fn.self.counted;
       marks : g.St.Store.told → IsMarking named old.list l.fn.self → IsMarking named old.list l.self;
       seen : g.St.Store.told → l._i ≤ l.self.seen;
     }

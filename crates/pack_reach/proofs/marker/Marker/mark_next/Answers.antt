@@ -1,32 +1,36 @@
 use Rattle.std.proofs.Common.{◌≡◌, ℕ, Some, ◌∙◌, sym, ap, subst}
+use Rattle.std.specs.Option.{option_map}
+use Rattle.zb_model.specs.declared.data.Transaction.{Transaction}
 use Rattle.zb_model.specs.Queries.{first_after}
 use Rattle.pack_reach.specs.Marking.{IsMarking, MarkerState}
 use Rattle.pack_reach.proofs.Seeing.{grown_marking, may_read_next, next_is_above, next_marking}
 use Rattle.pack_reach.proofs.marker.Marker.mark_next.Goals as goal
 
 pub returns-in_err-read_transaction-clause-marks : goal.returns-in_err-read_transaction-clause-marks
-returns-in_err-read_transaction-clause-marks g c = λ told k.
+returns-in_err-read_transaction-clause-marks g c = λ told front rises same k.
     let named = g.F.Refs.named c.args.refs.now in
     let list = (g.St.Store.state c.args.store.now).list in
+    let x = c.in-Some.transaction in
     let seen : c.self.inside.seen ≡ c.args.self.now.seen = ap (λ (m : MarkerState). m.seen) c.self.view_is in
-    let next : first_after c.args.self.now.seen list ≡ Some c.in-Some.transaction = ap (λ (s : ℕ). first_after s list) (sym seen) ∙ sym (c.in_ok-transaction.ensures.found told) ∙ c.in-Some.is in
-    grown_marking named list c.args.self.now c.read_transaction.new.self k c.read_transaction.ensures.only (c.read_transaction.ensures.sound list (may_read_next named c.args.self.now.tid c.args.self.now.seen list c.in-Some.transaction k.from next))
+    let next : first_after c.args.self.now.seen front ≡ Some x = same ∙ ap (λ (s : ℕ). first_after s list) (sym seen) ∙ sym (c.in_ok-transaction.ensures.found told) ∙ c.in-Some.is in
+    grown_marking named front c.args.self.now c.read_transaction.new.self k c.read_transaction.ensures.only (c.read_transaction.ensures.sound front (may_read_next named c.args.self.now.tid c.args.self.now.seen front x k.from next))
 
 pub returns-clause-marks : goal.returns-clause-marks
-returns-clause-marks g c = λ told k.
+returns-clause-marks g c = λ told front rises same k.
     let named = g.F.Refs.named c.args.refs.now in
     let list = (g.St.Store.state c.args.store.now).list in
     let x = c.in-Some.transaction in
     let b = c.read_transaction.new.self in
     let seen : c.self.inside.seen ≡ c.args.self.now.seen = ap (λ (m : MarkerState). m.seen) c.self.view_is in
-    let next : first_after c.args.self.now.seen list ≡ Some x = ap (λ (s : ℕ). first_after s list) (sym seen) ∙ sym (c.in_ok-transaction.ensures.found told) ∙ c.in-Some.is in
-    let still : first_after b.seen list ≡ Some x = ap (λ (s : ℕ). first_after s list) c.read_transaction.ensures.only.seen ∙ next in
-    let grown = grown_marking named list c.args.self.now b k c.read_transaction.ensures.only (c.read_transaction.ensures.sound list (may_read_next named c.args.self.now.tid c.args.self.now.seen list x k.from next)) in
-    subst (λ (m : MarkerState). IsMarking named list (record m { seen = x.tid })) (sym c.self-2.view_is) (next_marking named list b x (g.met.St.Store.database c.args.store.now told c.requires.whole) grown still c.in_ok-read_transaction.ensures.read)
+    let next : first_after c.args.self.now.seen front ≡ Some x = same ∙ ap (λ (s : ℕ). first_after s list) (sym seen) ∙ sym (c.in_ok-transaction.ensures.found told) ∙ c.in-Some.is in
+    let still : first_after b.seen front ≡ Some x = ap (λ (s : ℕ). first_after s front) c.read_transaction.ensures.only.seen ∙ next in
+    let grown = grown_marking named front c.args.self.now b k c.read_transaction.ensures.only (c.read_transaction.ensures.sound front (may_read_next named c.args.self.now.tid c.args.self.now.seen front x k.from next)) in
+    subst (λ (m : MarkerState). IsMarking named front (record m { seen = x.tid })) (sym c.self-2.view_is) (next_marking named front b x rises grown still c.in_ok-read_transaction.ensures.read)
 
 pub returns-clause-next : goal.returns-clause-next
 returns-clause-next g c = λ told.
     let list = (g.St.Store.state c.args.store.now).list in
+    let x = c.in-Some.transaction in
     let seen : c.self.inside.seen ≡ c.args.self.now.seen = ap (λ (m : MarkerState). m.seen) c.self.view_is in
-    let next : first_after c.args.self.now.seen list ≡ Some c.in-Some.transaction = ap (λ (s : ℕ). first_after s list) (sym seen) ∙ sym (c.in_ok-transaction.ensures.found told) ∙ c.in-Some.is in
-    next_is_above c.args.self.now.seen list c.in-Some.transaction next
+    let next : first_after c.args.self.now.seen list ≡ Some x = ap (λ (s : ℕ). first_after s list) (sym seen) ∙ sym (c.in_ok-transaction.ensures.found told) ∙ c.in-Some.is in
+    (next_is_above c.args.self.now.seen list x next, ap (option_map (λ (y : Transaction). y.tid)) next)
