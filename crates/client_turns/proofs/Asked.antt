@@ -16,6 +16,7 @@ use Rattle.commit_phases.specs.Pending.{pending_of}
 use Rattle.zodb_core.specs.declared.request.Request.TheVariants as request
 use Rattle.zodb_core.specs.HubState.{HubState, StandsForMachine, counts_of, rules_of}
 use Rattle.zodb_core.specs.Machine.{Rules, is_open_in}
+use Rattle.zodb_core.specs.Sound.{IsPackWithin}
 use Rattle.connection_view.specs.declared.connection.Connection.{Connection}
 use Rattle.connection_view.specs.declared.loads.Loaded.{Loaded}
 use Rattle.connection_view.specs.declared.work.Work.{Work}
@@ -43,7 +44,7 @@ use Rattle.client_turns.specs.Turns.{IsGet}
 use Rattle.client_turns.specs.Views.{server_of}
 use Rattle.client_turns.proofs.Hubs.{open_whole}
 use Rattle.client_turns.proofs.Loading.{load_reads}
-use Rattle.client_turns.proofs.One.{StepsTo, client_kept, own_open, refused_open, set_there, starved_open, stays, steps_to, weaken_one, writes_on}
+use Rattle.client_turns.proofs.One.{StepsTo, client_kept, own_open, refused_open, set_there, starved_open, stays, steps_to, weaken_one, within_on, writes_on}
 
 -- what there is at a client's end
 abbrev pub end_of_client : {R F : Type 0} → HubState R F → Option (List Stamp) → Client → LocalState R F
@@ -92,6 +93,7 @@ pub record ReadsTo {R F : Type 0} (v : View) (oid : ℕ) (result : Result (ℕ �
   pub read : IsReadAt m v oid result now
   pub hub : StandsForMachine g now.machine
   pub vote : local.WritesLater now.machine.list now.machine.vote
+  pub within : IsPackWithin now.machine.list now.machine.pack
   pub counts : now.counts ≡ counts_of g.store
   pub stamps : now.stamps ≡ after
   pub last : y.told ≡ x.told
@@ -141,6 +143,7 @@ module _ {R F S : Type 0} (told lasts : Type 0) (stands : List ℕ → List Tran
         read = cached_read m o.transaction.view (local.server_of h) oid result unasked.1 reads;
         hub = takes.stands.hub;
         vote = takes.stands.vote;
+        within = takes.stands.within;
         counts = takes.stands.counts;
         stamps = takes.stands.stamps ∙ sym (same_stamps unasked.0);
         last = same_told unasked.0;
@@ -159,6 +162,7 @@ module _ {R F S : Type 0} (told lasts : Type 0) (stands : List ℕ → List Tran
             (subst (λ (k : ℕ). IsReadAnswered oid k (load_answer made.reply) result) from.switches (subst (λ (z : Result Loaded Refusal). IsReadAnswered oid w.switches z result) made.answer loaded.2));
         hub = s.hub;
         vote = writes_on _ m x.session (request.LoadBefore oid w.front) made.reply s.now s.holds takes.stands.vote;
+        within = within_on _ m x.session (request.LoadBefore oid w.front) made.reply s.now s.holds takes.stands.vote takes.stands.within;
         counts = s.counts;
         stamps = s.stamps;
         last = made.last;
@@ -173,7 +177,7 @@ module _ {R F S : Type 0} (told lasts : Type 0) (stands : List ℕ → List Tran
     holds = r.read;
     client = c;
     placed = ap (λ (z : Moment). z.clients) r.read.rest ∙ set_there m.clients at c takes.there;
-    stands = record { hub = r.hub; vote = r.vote; counts = r.counts; stamps = r.stamps; client = client_kept h g x y c mine (same_but r.last) (r.others x.told mine.told.told mine.told.known mine.may) work view between };
+    stands = record { hub = r.hub; vote = r.vote; within = r.within; counts = r.counts; stamps = r.stamps; client = client_kept h g x y c mine (same_but r.last) (r.others x.told mine.told.told mine.told.known mine.may) work view between };
     others = r.others;
   }
 

@@ -74,6 +74,7 @@ with_one : {R F : Type 0} (b : Moment) (at : ℕ) (d : seen.Client) (y : Client)
 with_one {R} {F} b at d y mid new between stood hub clients is = record {
   hub = subst (λ (h : HubState R F). StandsForMachine h b.machine) (sym hub) stood.hub;
   vote = stood.vote;
+  within = stood.within;
   clients = subst (λ (h : HubState R F). AreClientsOf h new.clients (slice_set b.clients at d)) (sym hub)
       (subst (λ (xs : List Client). AreClientsOf mid.hub xs (slice_set b.clients at d)) (sym clients) (set_at mid.hub mid.clients b.clients at y d stood.clients is));
   counts = stood.counts ∙ ap (λ (h : HubState R F). counts_of h.store) (sym hub);

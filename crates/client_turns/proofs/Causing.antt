@@ -204,6 +204,13 @@ reply_refused rules m behind t c q stamp reply.Aborted ticks why named asks whol
 reply_refused rules m behind t c q stamp (reply.History list) ticks why named asks whole ends is = absurd cc
 reply_refused rules m behind t c q stamp (reply.UndoLog list) ticks why named asks whole ends is = absurd cc
 reply_refused rules m behind t c q stamp (reply.Packed kept dropped) ticks why named asks whole ends is = absurd cc
+reply_refused rules m behind t c q stamp (reply.Packing tid) ticks why named asks whole ends is = absurd cc
+reply_refused rules m behind t c q stamp (reply.Marking count) ticks why named asks whole ends is = absurd cc
+reply_refused rules m behind t c q stamp (reply.Marked count) ticks why named asks whole ends is = absurd cc
+reply_refused rules m behind t c q stamp (reply.Copying count) ticks why named asks whole ends is = absurd cc
+reply_refused rules m behind t c q stamp (reply.Copied count) ticks why named asks whole ends is = absurd cc
+reply_refused rules m behind t c q stamp (reply.Last tid changes) ticks why named asks whole ends is = absurd cc
+reply_refused rules m behind t c q stamp (reply.Since keep commits) ticks why named asks whole ends is = absurd cc
 reply_refused rules m behind t c q stamp reply.Closed ticks why named asks whole ends is = absurd cc
 
 -- behind a step that is refused nothing is told
@@ -219,6 +226,13 @@ untold rules b x n reply.Aborted why is told = omega (arith, ap (λ (y : Moment)
 untold rules b x n (reply.History list) why is told = omega (arith, ap (λ (y : Moment). y.counts.reads) told)
 untold rules b x n (reply.UndoLog list) why is told = omega (arith, ap (λ (y : Moment). y.counts.reads) told)
 untold rules b x n (reply.Packed kept dropped) why is told = omega (arith, ap (λ (y : Moment). y.counts.reads) told)
+untold rules b x n (reply.Packing tid) why is told = omega (arith, ap (λ (y : Moment). y.counts.reads) told)
+untold rules b x n (reply.Marking count) why is told = omega (arith, ap (λ (y : Moment). y.counts.reads) told)
+untold rules b x n (reply.Marked count) why is told = omega (arith, ap (λ (y : Moment). y.counts.reads) told)
+untold rules b x n (reply.Copying count) why is told = omega (arith, ap (λ (y : Moment). y.counts.reads) told)
+untold rules b x n (reply.Copied count) why is told = omega (arith, ap (λ (y : Moment). y.counts.reads) told)
+untold rules b x n (reply.Last tid changes) why is told = omega (arith, ap (λ (y : Moment). y.counts.reads) told)
+untold rules b x n (reply.Since keep commits) why is told = omega (arith, ap (λ (y : Moment). y.counts.reads) told)
 untold rules b x n reply.Closed why is told = omega (arith, ap (λ (y : Moment). y.counts.reads) told)
 untold rules b x n (reply.Refused w) why is told = omega (arith, ap (λ (y : Moment). y.counts.reads) told)
 

@@ -1,16 +1,19 @@
 -- What a crash leaves in a step.
 use Rattle.std.proofs.Common.{◌≡◌, inl, inr, ℕ, Bool, true, false, List, [], ◌∷◌, ◌++◌, Option, Some, None, refl, sym, ap, subst, ◌∙◌}
 use Rattle.std.specs.Option.{IsSomeAnd}
+use Rattle.std.proofs.lemmas.Option.{same_Some}
 use Rattle.zb_volume.specs.Calls.{Event}
 use Rattle.zb_volume.specs.declared.areas.Area.TheVariants.{Main}
 use Rattle.zb_volume.specs.Moments.{Leaves, LeavesOnly, here}
 use Rattle.zb_volume.specs.Runs.{joined, weaker}
 use Rattle.zb_model.specs.declared.data.Transaction.{Transaction}
+use Rattle.pack_reach.specs.Packed as packs
 use Rattle.zodb_core.specs.declared.request.Request.{Request}
 use Rattle.zodb_core.specs.declared.request.Request.TheVariants as request
 use Rattle.zodb_core.specs.HubState.{IsBeforeOrBehind, is_store_failed}
 use Rattle.zodb_core.specs.Machine.{Machine, MachineVote, Rules}
 use Rattle.zodb_core.specs.Outcomes.{is_pack, outcome_of}
+use Rattle.zodb_core.specs.Seen.{PackGoal, goal_of_open}
 use Rattle.zodb_core.specs.Steps.{step_of}
 use Rattle.zodb_core.specs.declared.reply.Reply.{Reply}
 use Rattle.zodb_core.specs.declared.reply.Reply.TheVariants as reply
@@ -19,7 +22,7 @@ use Rattle.zb_script.specs.declared.line.Line.TheVariants as line
 use Rattle.client_turns.specs.Clients.{Changes}
 use Rattle.client_turns.specs.Lines.{is_committed, pending_in, request_of}
 use Rattle.client_turns.specs.TurnLaws.{IsListBehind, IsListLeft, KeepsOrPacked, KeepsOrVoted, kept, packed, same_request, step_left, unpacked, voted}
-use Rattle.client_turns.specs.Standing.{IsListAround, IsListFor, IsListIn, IsListPacked, IsVotedBehind, packs_list}
+use Rattle.client_turns.specs.Standing.{IsListAround, IsListFor, IsListIn, IsListPacked, IsVotedBehind, goal_named, packs_list}
 
 -- ---- what a crash leaves around a list
 
@@ -44,22 +47,29 @@ around_of stands m l bytes (voted v t is writes grown) left = inr (behind_voted 
 
 -- ---- what a crash leaves where a list is packed
 
-packed_list : (stands : List ℕ → List Transaction → Type 0) (rules : Rules) (m : Machine) (tid : ℕ) (l : List Transaction) (bytes : List ℕ) → KeepsOrPacked rules m tid l → stands bytes l → IsListPacked stands rules m tid bytes
-packed_list stands rules m tid l bytes (unpacked is) left = inl (subst (stands bytes) is left)
-packed_list stands rules m tid l bytes (packed is) left = inr (subst (stands bytes) is left)
+some_goal : (P : PackGoal → Type 0) (g : PackGoal) (o : Option PackGoal) → o ≡ Some g → P g → IsSomeAnd o P
+some_goal P g None e left = absurd cc
+some_goal P g (Some x) e left = subst P (sym (same_Some x g e)) left
+
+packed_list : (stands : List ℕ → List Transaction → Type 0) (rules : Rules) (m : Machine) (goal : Option PackGoal) (l : List Transaction) (bytes : List ℕ) → KeepsOrPacked rules m goal l → stands bytes l → IsListPacked stands rules m goal bytes
+packed_list stands rules m goal l bytes (unpacked is) left = inl (subst (stands bytes) is left)
+packed_list stands rules m goal l bytes (packed to) left =
+    inr (some_goal (λ g. stands bytes (packs.packed g.collects rules.named g.tid m.list)) to.to goal to.asked (subst (stands bytes) to.is left))
 
 -- ---- by the request
 
 -- what stands for the list that a step leaves may be seen in it
 for_of : (stands : List ℕ → List Transaction → Type 0) (rules : Rules) (m : Machine) (q : Request) (l : List Transaction) (bytes : List ℕ) → IsListLeft rules m q l → stands bytes l → IsListFor stands rules m q bytes
 for_of stands rules m request.Finish l bytes keeps left = around_of stands m l bytes keeps left
-for_of stands rules m (request.Pack tid) l bytes keeps left = packed_list stands rules m tid l bytes keeps left
+for_of stands rules m (request.Pack tid collects) l bytes keeps left = packed_list stands rules m (goal_named tid collects m) l bytes keeps left
+for_of stands rules m request.PackTurn l bytes keeps left = packed_list stands rules m (goal_of_open m.pack) l bytes keeps left
 for_of stands rules m _ l bytes keeps left = subst (stands bytes) keeps left
 
 -- and so what stands for the list that it found
 for_kept : (stands : List ℕ → List Transaction → Type 0) (rules : Rules) (m : Machine) (q : Request) (bytes : List ℕ) → stands bytes m.list → IsListFor stands rules m q bytes
 for_kept stands rules m request.Finish bytes left = inl left
-for_kept stands rules m (request.Pack tid) bytes left = inl left
+for_kept stands rules m (request.Pack tid collects) bytes left = inl left
+for_kept stands rules m request.PackTurn bytes left = inl left
 for_kept stands rules m _ bytes left = left
 
 step_for : (stands : List ℕ → List Transaction → Type 0) (rules : Rules) (m : Machine) (n : ℕ) (q : Request) (bytes : List ℕ) → IsBeforeOrBehind stands rules m n q bytes → IsListFor stands rules m q bytes
@@ -101,6 +111,13 @@ committed_whole reply.Aborted is = absurd cc
 committed_whole (reply.History list) is = absurd cc
 committed_whole (reply.UndoLog list) is = absurd cc
 committed_whole (reply.Packed stay gone) is = absurd cc
+committed_whole (reply.Packing tid) is = absurd cc
+committed_whole (reply.Marking count) is = absurd cc
+committed_whole (reply.Marked count) is = absurd cc
+committed_whole (reply.Copying count) is = absurd cc
+committed_whole (reply.Copied count) is = absurd cc
+committed_whole (reply.Last tid changes) is = absurd cc
+committed_whole (reply.Since keep commits) is = absurd cc
 committed_whole reply.Closed is = absurd cc
 committed_whole (reply.Refused why) is = absurd cc
 
@@ -137,7 +154,7 @@ line_of_step stands rules m ch line.Finish q bytes asks left = subst (λ (x : Re
 line_of_step stands rules m ch line.Abort q bytes asks left = subst (λ (x : Request). IsListFor stands rules m x bytes) (same_request q request.Abort asks) left
 line_of_step stands rules m ch (line.History oid) q bytes asks left = subst (λ (x : Request). IsListFor stands rules m x bytes) (same_request q (request.History oid) asks) left
 line_of_step stands rules m ch line.UndoLog q bytes asks left = subst (λ (x : Request). IsListFor stands rules m x bytes) (same_request q request.UndoLog asks) left
-line_of_step stands rules m ch (line.Pack tid) q bytes asks left = subst (λ (x : Request). IsListFor stands rules m x bytes) (same_request q (request.Pack tid) asks) left
+line_of_step stands rules m ch (line.Pack tid) q bytes asks left = subst (λ (x : Request). IsListFor stands rules m x bytes) (same_request q (request.Pack tid true) asks) left
 line_of_step stands rules m ch line.Close q bytes asks left = subst (λ (x : Request). IsListFor stands rules m x bytes) (same_request q request.Close asks) left
 
 pub in_step : (stands : List ℕ → List Transaction → Type 0) (rules : Rules) (m : Machine) (ch : Option Changes) (l : Line) (q : Request) (old new : List Event) → Some q ≡ request_of ch l → LeavesOnly Main (IsListFor stands rules m q) old new
@@ -147,7 +164,7 @@ in_step stands rules m ch l q old new asks only = leaves_weaker (IsListFor stand
 -- what stands for the list that a line leaves may be seen in it
 in_of : (stands : List ℕ → List Transaction → Type 0) (rules : Rules) (m : Machine) (l : Line) (list : List Transaction) (bytes : List ℕ) → IsListBehind rules m l list → stands bytes list → IsListIn stands rules m l bytes
 in_of stands rules m line.Finish list bytes keeps left = around_of stands m list bytes keeps left
-in_of stands rules m (line.Pack tid) list bytes keeps left = packed_list stands rules m tid list bytes keeps left
+in_of stands rules m (line.Pack tid) list bytes keeps left = packed_list stands rules m (goal_named tid true m) list bytes keeps left
 in_of stands rules m _ list bytes keeps left = subst (stands bytes) keeps left
 
 -- a line, and the closing behind it

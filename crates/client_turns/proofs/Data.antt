@@ -1,9 +1,9 @@
 -- A read answers the revision below its view's front.
-use Rattle.std.proofs.Common.{◌≡◌, ℕ, ◌+◌, ◌-◌, ◌^◌, ◌<◌, Bool, true, false, List, [], ◌∷◌, ◌++◌, filter, length, Option, Some, None, Result, Ok, Err, cond, ltb, refl, sym, ap, subst, ◌∙◌, arith, nat_lt, if◌then◌else◌}
+use Rattle.std.proofs.Common.{◌≡◌, ℕ, ◌+◌, ◌-◌, ◌^◌, ◌<◌, Bool, true, false, List, [], ◌∷◌, ◌++◌, filter, length, Option, Some, None, Result, Ok, Err, cond, ltb, refl, sym, ap, subst, ◌∙◌, arith, nat_lt, if◌then◌else◌, ⊎_elim}
 use Rattle.std.specs.List.{last_or}
 use Rattle.std.specs.Option.{option_and_then}
 use Rattle.std.specs.Prelude.{IfSome, slice_get}
-use Rattle.std.proofs.lemmas.Bool.{ltb-true}
+use Rattle.std.proofs.lemmas.Bool.{cases_Bool, ltb-true}
 use Rattle.std.proofs.lemmas.Option.{same_Some}
 use Rattle.zb_ids.specs.Tids.{tid_after}
 use Rattle.zb_model.specs.declared.data.Change.{Change}
@@ -29,9 +29,9 @@ use Rattle.zodb_core.specs.declared.request.Request.{Request}
 use Rattle.zodb_core.specs.declared.request.Request.TheVariants as request
 use Rattle.zodb_core.specs.declared.texts.Texts.{Texts}
 use Rattle.zodb_core.specs.Machine.{Machine, MachineVote, Rules, with_session}
-use Rattle.zodb_core.specs.Outcomes.{EndsFor, FaultCounts, outcome_of}
-use Rattle.pack_reach.specs.Reached.{unreadable}
-use Rattle.zodb_core.specs.Steps.{Stepped, changes_in_journal, early_refusal, finish_gives, finish_step, journal_limit, pack_tid, replied_refusal, request_step, step_of, switch_unless, transaction_with, unless_early, vote_at, vote_counted, vote_step, with_vote}
+use Rattle.zodb_core.specs.Outcomes.{EndsFor, FaultCounts, is_pack, outcome_of}
+use Rattle.zodb_core.specs.StepCases.{PackCases, by_pack_step}
+use Rattle.zodb_core.specs.Steps.{Stepped, changes_in_journal, early_refusal, finish_gives, finish_step, journal_limit, replied_refusal, request_step, step_of, transaction_with, unless_early, vote_at, vote_counted, vote_step, with_vote}
 use Rattle.client_turns.specs.Clients.{Changes, Client, Moment, OpenTransaction, changes_of, place_of_client}
 use Rattle.client_turns.specs.Laws.{IsReadBelow, ReadsStayBelowTheFront}
 use Rattle.client_turns.specs.Lines.{answer_of, data_of, object_of, pending_in, put, request_of, rolled_to, store_unless}
@@ -81,35 +81,50 @@ finish_unread m n (Some v) = by_writes v.writes
     by_writes None = refl
     by_writes (Some t) = refl
 
-pack_unread : (named : List ℕ → Option (List ℕ)) (m : Machine) (t : ℕ) (w : Option (ℕ × ℕ)) → Unread (switch_unless named m t w)
-pack_unread named m t None = refl
-pack_unread named m t (Some w) = refl
+pack_unread : (named : List ℕ → Option (List ℕ)) (m : Machine) (n : ℕ) (q : Request) → PackCases Unread named m n q
+pack_unread named m n q = record {
+  refused = λ r answers. refl;
+  begun = λ t collects none below. refl;
+  marking = λ p count there. refl;
+  marked = λ p there none. refl;
+  copying = λ p k copied count there copying. refl;
+  copied = λ p k copied count there copying. refl;
+  lost = λ r answers. refl;
+  packed = λ g goal free below. refl;
+}
 
 abbrev pub AsksNoLoad : Request → Type 0
 AsksNoLoad (request.LoadBefore oid front) = ⊥
 AsksNoLoad _ = Unit {0}
 
-request_unread : (rules : Rules) (m : Machine) (n : ℕ) (q : Request) (stamp : ℕ) → AsksNoLoad q → Unread (request_step rules m n q stamp)
-request_unread rules m n request.Front stamp not = refl
-request_unread rules m n (request.LoadBefore oid front) stamp not = absurd not
-request_unread rules m n (request.NewOids count) stamp not = refl
-request_unread rules m n (request.Vote user description extension pending) stamp not =
+request_unread : (rules : Rules) (m : Machine) (n : ℕ) (q : Request) (stamp : ℕ) → AsksNoLoad q → is_pack q ≡ false → Unread (request_step rules m n q stamp)
+request_unread rules m n request.Front stamp not unpacked = refl
+request_unread rules m n (request.LoadBefore oid front) stamp not unpacked = absurd not
+request_unread rules m n (request.NewOids count) stamp not unpacked = refl
+request_unread rules m n (request.Vote user description extension pending) stamp not unpacked =
     vote_unread m n (record { user = user; description = description; extension = extension }) stamp (vote_decision rules.merging m.list pending)
-request_unread rules m n (request.Undo user description tids) stamp not =
+request_unread rules m n (request.Undo user description tids) stamp not unpacked =
     vote_unread m n (record { user = user; description = description; extension = [] }) stamp _
-request_unread rules m n request.Finish stamp not = finish_unread m n m.vote
-request_unread rules m n request.Abort stamp not = refl
-request_unread rules m n (request.History oid) stamp not = refl
-request_unread rules m n request.UndoLog stamp not = refl
-request_unread rules m n (request.Pack tid) stamp not = pack_unread rules.named m (pack_tid tid m.list) (unreadable rules.named (pack_tid tid m.list) m.list)
-request_unread rules m n request.Close stamp not = refl
+request_unread rules m n request.Finish stamp not unpacked = finish_unread m n m.vote
+request_unread rules m n request.Abort stamp not unpacked = refl
+request_unread rules m n (request.History oid) stamp not unpacked = refl
+request_unread rules m n request.UndoLog stamp not unpacked = refl
+request_unread rules m n (request.Pack tid collects) stamp not unpacked = absurd cc
+request_unread rules m n (request.PackBegin tid collects) stamp not unpacked = absurd cc
+request_unread rules m n request.PackTurn stamp not unpacked = absurd cc
+request_unread rules m n request.Last stamp not unpacked = refl
+request_unread rules m n (request.Since tid changes) stamp not unpacked = refl
+request_unread rules m n request.Close stamp not unpacked = refl
 
 unless_unread : (early : Option Refusal) (m : Machine) (made : Stepped) → Unread made → Unread (unless_early early m made)
 unless_unread None m made unread = unread
 unless_unread (Some r) m made unread = refl
 
 pub step_unread : (rules : Rules) (m : Machine) (n : ℕ) (q : Request) (stamp : ℕ) → AsksNoLoad q → Unread (step_of rules m n q stamp)
-step_unread rules m n q stamp not = unless_unread (early_refusal m n q) m (request_step rules m n q stamp) (request_unread rules m n q stamp not)
+step_unread rules m n q stamp not =
+    ⊎_elim (λ (pack : is_pack q ≡ true). by_pack_step Unread rules m n q stamp pack (pack_unread rules.named m n q))
+    (λ (unpacked : is_pack q ≡ false). unless_unread (early_refusal m n q) m (request_step rules m n q stamp) (request_unread rules m n q stamp not unpacked))
+    (cases_Bool (is_pack q))
 
 -- ---- data
 
@@ -131,6 +146,13 @@ reply_data rules m n q stamp reply.Aborted left ticks a b not made = refl
 reply_data rules m n q stamp (reply.History list) left ticks a b not made = refl
 reply_data rules m n q stamp (reply.UndoLog list) left ticks a b not made = refl
 reply_data rules m n q stamp (reply.Packed kept dropped) left ticks a b not made = refl
+reply_data rules m n q stamp (reply.Packing tid) left ticks a b not made = refl
+reply_data rules m n q stamp (reply.Marking count) left ticks a b not made = refl
+reply_data rules m n q stamp (reply.Marked count) left ticks a b not made = refl
+reply_data rules m n q stamp (reply.Copying count) left ticks a b not made = refl
+reply_data rules m n q stamp (reply.Copied count) left ticks a b not made = refl
+reply_data rules m n q stamp (reply.Last tid changes) left ticks a b not made = refl
+reply_data rules m n q stamp (reply.Since keep commits) left ticks a b not made = refl
 reply_data rules m n q stamp reply.Closed left ticks a b not made = refl
 reply_data rules m n q stamp (reply.Refused why) left ticks a b not made = refl
 
@@ -152,7 +174,7 @@ asks_no_load ch line.Finish q is = subst AsksNoLoad (same_Some request.Finish q 
 asks_no_load ch line.Abort q is = subst AsksNoLoad (same_Some request.Abort q is) tt
 asks_no_load ch (line.History oid) q is = subst AsksNoLoad (same_Some (request.History oid) q is) tt
 asks_no_load ch line.UndoLog q is = subst AsksNoLoad (same_Some request.UndoLog q is) tt
-asks_no_load ch (line.Pack tid) q is = subst AsksNoLoad (same_Some (request.Pack tid) q is) tt
+asks_no_load ch (line.Pack tid) q is = subst AsksNoLoad (same_Some (request.Pack tid true) q is) tt
 asks_no_load ch line.Close q is = subst AsksNoLoad (same_Some request.Close q is) tt
 
 store_data : (t : Changes) (p : PendingStore) (o : Option ℕ) → is_data (store_unless t p o).answer ≡ false

@@ -51,7 +51,7 @@ use Rattle.client_turns.specs.Turns.{IsTold, IsStepLine}
 use Rattle.client_turns.specs.Views.{server_of}
 use Rattle.client_turns.proofs.Hubs.{open_whole}
 use Rattle.client_turns.proofs.Asked.{IsOpened, MayStand, end_of_client, none_of, opened_of}
-use Rattle.client_turns.proofs.One.{BehindIt, StepsTo, client_kept, front_behind, refused_open, starved_open, stays, step_alone, step_one, step_open, steps_to, writes_on}
+use Rattle.client_turns.proofs.One.{BehindIt, StepsTo, client_kept, front_behind, refused_open, starved_open, stays, step_alone, step_one, step_open, steps_to, within_on, writes_on}
 use Rattle.client_turns.proofs.Served.{Fits, fits_at}
 
 -- ---- answers, by the replies
@@ -429,7 +429,8 @@ module _ {R F S : Type 0} (told lasts : Type 0) (stands : List ℕ → List Tran
           by_reply (reply.Committed tid) step front s fits is =
               let behind : BehindIt (rules_of rules_in named_in h) true s.now x.session one.behind g after =
               front_behind told lasts stands rules_in named_in tells (rules_of rules_in named_in h) s.now x.session front.0 one.behind g one.left after front.1 (sym (rules_same rules_in named_in h one.behind step.safe.resolver step.safe.refs))
-              s.hub (writes_on _ m x.session request.Finish (reply.Committed tid) s.now s.holds takes.stands.vote) s.counts s.stamps in
+              s.hub (writes_on _ m x.session request.Finish (reply.Committed tid) s.now s.holds takes.stands.vote)
+              (within_on _ m x.session request.Finish (reply.Committed tid) s.now s.holds takes.stands.vote takes.stands.within) s.counts s.stamps in
               let over = subst (λ (z : Result (Option ℕ) Refusal). OnOk z (work_of y.connection ≡ Err refusal.NoTransaction)) is ended in
               let still = subst (λ (z : Result (Option ℕ) Refusal). IfOk z (λ tid. MatchOption tid ((u : View) (v : views.Client) → MayStand told h x v → InView x.connection u v → (MayStand told g y (unvoted v)) × (Between y.connection (unvoted v)))
               (λ tid. (u : View) (v : views.Client) → MayStand told h x v → InView x.connection u v → (MayStand told g y (committed (view_of (local.server_of g)) v)) × (Between y.connection (committed (view_of (local.server_of g)) v))))) is left o.transaction.view mine.told may o.is.view in

@@ -56,7 +56,7 @@ follows_twice m b now one two = record {
 step_follows : (rules : Rules) (m : Moment) (n : ℕ) (q : Request) (r : Reply) (now : Moment) → IsSoundMachine m.machine → IsDistinctRequest q → IsStepAt rules m n q r now → Follows m.machine now.machine
 step_follows rules m n q r now sound once step =
     let left : Machine = machine_left rules m.machine n q step.stamp (outcome_of r) in
-    let goes : GoesOnTo m.machine left = left_goes_on rules m.machine n q step.stamp (outcome_of r) (sound_later m.machine sound) in
+    let goes : GoesOnTo m.machine left = left_goes_on rules m.machine n q step.stamp (outcome_of r) (sound_later m.machine sound) sound.within in
     subst (Follows m.machine) (sym step.made.left) (record {
       sound = left_sound rules m.machine n q step.stamp (outcome_of r) sound once;
       comes = moved m.machine.list left.list unmoved sound.database goes.becomes;
@@ -95,6 +95,13 @@ left_once m t (reply.Oids first count) once = once
 left_once m t (reply.History list) once = once
 left_once m t (reply.UndoLog list) once = once
 left_once m t (reply.Packed kept dropped) once = once
+left_once m t (reply.Packing tid) once = once
+left_once m t (reply.Marking count) once = once
+left_once m t (reply.Marked count) once = once
+left_once m t (reply.Copying count) once = once
+left_once m t (reply.Copied count) once = once
+left_once m t (reply.Last tid changes) once = once
+left_once m t (reply.Since keep commits) once = once
 left_once m t (reply.Refused why) once = once
 
 stored_once : (t : Changes) (p : PendingStore) (o : Option ℕ) → AreOnce t → AreOnce (store_unless t p o).changes
@@ -225,7 +232,7 @@ asked_once ch line.Finish q once is = subst IsDistinctRequest (same_request requ
 asked_once ch line.Abort q once is = subst IsDistinctRequest (same_request request.Abort q is) tt
 asked_once ch (line.History oid) q once is = subst IsDistinctRequest (same_request (request.History oid) q is) tt
 asked_once ch line.UndoLog q once is = subst IsDistinctRequest (same_request request.UndoLog q is) tt
-asked_once ch (line.Pack tid) q once is = subst IsDistinctRequest (same_request (request.Pack tid) q is) tt
+asked_once ch (line.Pack tid) q once is = subst IsDistinctRequest (same_request (request.Pack tid true) q is) tt
 asked_once ch line.Close q once is = subst IsDistinctRequest (same_request request.Close q is) tt
 asked_once None (line.Vote user description) q once is = subst IsDistinctRequest (same_request (request.Vote user description [] (record { stores = []; checks = [] })) q is) none_once
 asked_once (Some t) (line.Vote user description) q once is = subst IsDistinctRequest (same_request (request.Vote user description [] t.pending) q is) once.0
@@ -247,7 +254,7 @@ same_clients m now follows once = record { machine = follows; once = once }
 -- a machine with a greatest number that isn't lower
 raised_follows : (m now : Machine) → IsSoundMachine m → IsRaised m now → Follows m now
 raised_follows m now sound raised = subst (Follows m) (sym raised.is) (record {
-  sound = record { database = sound.database; next = sound.next; numbered = omega (arith, sound.numbered, raised.up); told = sound.told };
+  sound = record { database = sound.database; next = sound.next; numbered = omega (arith, sound.numbered, raised.up); told = sound.told; within = sound.within };
   comes = unmoved;
   switches = omega arith;
   grows = λ _. grows_not m.list;

@@ -1,6 +1,7 @@
 -- What answers give: fronts of the list, and numbers behind the greatest.
-use Rattle.std.proofs.Common.{◌≡◌, ℕ, ◌+◌, ◌-◌, ◌^◌, ◌≤◌, Bool, true, false, List, [], ◌∷◌, ◌++◌, length, Option, Some, None, Result, Ok, Err, cond, refl, sym, ap, subst, ◌∙◌, arith, nat_lt, if◌then◌else◌}
+use Rattle.std.proofs.Common.{◌≡◌, ℕ, ◌+◌, ◌-◌, ◌^◌, ◌≤◌, Bool, true, false, List, [], ◌∷◌, ◌++◌, length, Option, Some, None, Result, Ok, Err, cond, refl, sym, ap, subst, ◌∙◌, arith, nat_lt, if◌then◌else◌, ⊎_elim}
 use Rattle.std.specs.Prelude.{slice_get}
+use Rattle.std.proofs.lemmas.Bool.{cases_Bool}
 use Rattle.std.proofs.lemmas.Option.{same_Some}
 use Rattle.zb_ids.specs.Tids.{tid_after}
 use Rattle.zb_model.specs.declared.data.Change.{Change}
@@ -28,9 +29,9 @@ use Rattle.zodb_core.specs.declared.texts.Texts.{Texts}
 use Rattle.zodb_core.specs.Handed.{NumberRange, front_in, numbers_in}
 use Rattle.zodb_core.specs.HistoryLaws.{left_greatest, step_front, step_numbers}
 use Rattle.zodb_core.specs.Machine.{Machine, MachineVote, Rules, front_of, with_session}
-use Rattle.zodb_core.specs.Outcomes.{EndsFor, FaultCounts, outcome_of}
-use Rattle.pack_reach.specs.Reached.{unreadable}
-use Rattle.zodb_core.specs.Steps.{Stepped, changes_in_journal, early_refusal, finish_gives, finish_step, journal_limit, loaded, pack_tid, replied_refusal, request_step, step_of, switch_unless, transaction_with, unless_early, vote_at, vote_counted, vote_step, with_vote}
+use Rattle.zodb_core.specs.Outcomes.{EndsFor, FaultCounts, is_pack, outcome_of}
+use Rattle.zodb_core.specs.StepCases.{PackCases, by_pack_step}
+use Rattle.zodb_core.specs.Steps.{Stepped, changes_in_journal, early_refusal, finish_gives, finish_step, journal_limit, loaded, replied_refusal, request_step, step_of, transaction_with, unless_early, vote_at, vote_counted, vote_step, with_vote}
 use Rattle.client_turns.specs.Clients.{Changes, Client, Moment, OpenTransaction, changes_of, place_of_client}
 use Rattle.client_turns.specs.Laws.{front_given, number_given}
 use Rattle.client_turns.specs.Lines.{answer_of, data_of, is_committed, object_of, pending_in, put, request_of, rolled_back, rolled_to, saved, store_unless, stored}
@@ -90,31 +91,46 @@ new_single m count range one e =
     let is : given ≡ range = same_Some given range e in
     sym (ap (λ (r : NumberRange). r.count) is) ∙ one
 
-pack_single : (named : List ℕ → Option (List ℕ)) (m : Machine) (t : ℕ) (w : Option (ℕ × ℕ)) → Single (switch_unless named m t w)
-pack_single named m t None = λ range e. absurd cc
-pack_single named m t (Some w) = λ range e. absurd cc
+pack_single : (named : List ℕ → Option (List ℕ)) (m : Machine) (n : ℕ) (q : Request) → PackCases Single named m n q
+pack_single named m n q = record {
+  refused = λ r answers range e. absurd cc;
+  begun = λ t collects none below range e. absurd cc;
+  marking = λ p count there range e. absurd cc;
+  marked = λ p there none range e. absurd cc;
+  copying = λ p k copied count there copying range e. absurd cc;
+  copied = λ p k copied count there copying range e. absurd cc;
+  lost = λ r answers range e. absurd cc;
+  packed = λ g goal free below range e. absurd cc;
+}
 
-request_single : (rules : Rules) (m : Machine) (n : ℕ) (q : Request) (stamp : ℕ) → AsksOne q → Single (request_step rules m n q stamp)
-request_single rules m n request.Front stamp one = λ range e. absurd cc
-request_single rules m n (request.LoadBefore oid front) stamp one = found_single m oid (found_below oid front m.list)
-request_single rules m n (request.NewOids count) stamp one = λ range e. new_single m count range one e
-request_single rules m n (request.Vote user description extension pending) stamp one =
+request_single : (rules : Rules) (m : Machine) (n : ℕ) (q : Request) (stamp : ℕ) → AsksOne q → is_pack q ≡ false → Single (request_step rules m n q stamp)
+request_single rules m n request.Front stamp one not = λ range e. absurd cc
+request_single rules m n (request.LoadBefore oid front) stamp one not = found_single m oid (found_below oid front m.list)
+request_single rules m n (request.NewOids count) stamp one not = λ range e. new_single m count range one e
+request_single rules m n (request.Vote user description extension pending) stamp one not =
     vote_single m n (record { user = user; description = description; extension = extension }) stamp (vote_decision rules.merging m.list pending)
-request_single rules m n (request.Undo user description tids) stamp one =
+request_single rules m n (request.Undo user description tids) stamp one not =
     vote_single m n (record { user = user; description = description; extension = [] }) stamp _
-request_single rules m n request.Finish stamp one = finish_single m n m.vote
-request_single rules m n request.Abort stamp one = λ range e. absurd cc
-request_single rules m n (request.History oid) stamp one = λ range e. absurd cc
-request_single rules m n request.UndoLog stamp one = λ range e. absurd cc
-request_single rules m n (request.Pack tid) stamp one = pack_single rules.named m (pack_tid tid m.list) (unreadable rules.named (pack_tid tid m.list) m.list)
-request_single rules m n request.Close stamp one = λ range e. absurd cc
+request_single rules m n request.Finish stamp one not = finish_single m n m.vote
+request_single rules m n request.Abort stamp one not = λ range e. absurd cc
+request_single rules m n (request.History oid) stamp one not = λ range e. absurd cc
+request_single rules m n request.UndoLog stamp one not = λ range e. absurd cc
+request_single rules m n (request.Pack tid collects) stamp one not = absurd cc
+request_single rules m n (request.PackBegin tid collects) stamp one not = absurd cc
+request_single rules m n request.PackTurn stamp one not = absurd cc
+request_single rules m n request.Last stamp one not = λ range e. absurd cc
+request_single rules m n (request.Since tid changes) stamp one not = λ range e. absurd cc
+request_single rules m n request.Close stamp one not = λ range e. absurd cc
 
 unless_single : (early : Option Refusal) (m : Machine) (made : Stepped) → Single made → Single (unless_early early m made)
 unless_single None m made single = single
 unless_single (Some r) m made single = λ range e. absurd cc
 
 step_single : (rules : Rules) (m : Machine) (n : ℕ) (q : Request) (stamp : ℕ) → AsksOne q → Single (step_of rules m n q stamp)
-step_single rules m n q stamp one = unless_single (early_refusal m n q) m (request_step rules m n q stamp) (request_single rules m n q stamp one)
+step_single rules m n q stamp one =
+    ⊎_elim (λ (pack : is_pack q ≡ true). by_pack_step Single rules m n q stamp pack (pack_single rules.named m n q))
+    (λ (not : is_pack q ≡ false). unless_single (early_refusal m n q) m (request_step rules m n q stamp) (request_single rules m n q stamp one not))
+    (cases_Bool (is_pack q))
 
 -- ---- steps
 
@@ -142,6 +158,13 @@ reply_front rules m n q stamp reply.Aborted left ticks a b f made is = absurd cc
 reply_front rules m n q stamp (reply.History list) left ticks a b f made is = absurd cc
 reply_front rules m n q stamp (reply.UndoLog list) left ticks a b f made is = absurd cc
 reply_front rules m n q stamp (reply.Packed kept dropped) left ticks a b f made is = absurd cc
+reply_front rules m n q stamp (reply.Packing tid) left ticks a b f made is = absurd cc
+reply_front rules m n q stamp (reply.Marking count) left ticks a b f made is = absurd cc
+reply_front rules m n q stamp (reply.Marked count) left ticks a b f made is = absurd cc
+reply_front rules m n q stamp (reply.Copying count) left ticks a b f made is = absurd cc
+reply_front rules m n q stamp (reply.Copied count) left ticks a b f made is = absurd cc
+reply_front rules m n q stamp (reply.Last tid changes) left ticks a b f made is = absurd cc
+reply_front rules m n q stamp (reply.Since keep commits) left ticks a b f made is = absurd cc
 reply_front rules m n q stamp reply.Closed left ticks a b f made is = absurd cc
 reply_front rules m n q stamp (reply.Refused why) left ticks a b f made is = absurd cc
 
@@ -168,6 +191,13 @@ reply_number rules m n q stamp reply.Aborted left ticks a b x one made is = absu
 reply_number rules m n q stamp (reply.History list) left ticks a b x one made is = absurd cc
 reply_number rules m n q stamp (reply.UndoLog list) left ticks a b x one made is = absurd cc
 reply_number rules m n q stamp (reply.Packed kept dropped) left ticks a b x one made is = absurd cc
+reply_number rules m n q stamp (reply.Packing tid) left ticks a b x one made is = absurd cc
+reply_number rules m n q stamp (reply.Marking count) left ticks a b x one made is = absurd cc
+reply_number rules m n q stamp (reply.Marked count) left ticks a b x one made is = absurd cc
+reply_number rules m n q stamp (reply.Copying count) left ticks a b x one made is = absurd cc
+reply_number rules m n q stamp (reply.Copied count) left ticks a b x one made is = absurd cc
+reply_number rules m n q stamp (reply.Last tid changes) left ticks a b x one made is = absurd cc
+reply_number rules m n q stamp (reply.Since keep commits) left ticks a b x one made is = absurd cc
 reply_number rules m n q stamp reply.Closed left ticks a b x one made is = absurd cc
 reply_number rules m n q stamp (reply.Refused why) left ticks a b x one made is = absurd cc
 
@@ -313,7 +343,7 @@ asks_one ch line.Finish q is = subst AsksOne (same_Some request.Finish q is) tt
 asks_one ch line.Abort q is = subst AsksOne (same_Some request.Abort q is) tt
 asks_one ch (line.History oid) q is = subst AsksOne (same_Some (request.History oid) q is) tt
 asks_one ch line.UndoLog q is = subst AsksOne (same_Some request.UndoLog q is) tt
-asks_one ch (line.Pack tid) q is = subst AsksOne (same_Some (request.Pack tid) q is) tt
+asks_one ch (line.Pack tid) q is = subst AsksOne (same_Some (request.Pack tid true) q is) tt
 asks_one ch line.Close q is = subst AsksOne (same_Some request.Close q is) tt
 
 told_up : (rules : Rules) (b t : Moment) (n : ℕ) (committed : Bool) → IsTold rules committed b n t → b.machine.greatest ≤ t.machine.greatest

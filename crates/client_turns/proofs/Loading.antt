@@ -165,6 +165,13 @@ module _ (rules : Rules) (m : Moment) (n oid stamp : ℕ) (v : View) (made : Ste
   reply_so (reply.History list) result is counts ends so = absurd (other_reply _ (λ serial bytes end upto e. absurd cc) (λ o packed e. absurd cc) is ends)
   reply_so (reply.UndoLog list) result is counts ends so = absurd (other_reply _ (λ serial bytes end upto e. absurd cc) (λ o packed e. absurd cc) is ends)
   reply_so (reply.Packed kept dropped) result is counts ends so = absurd (other_reply _ (λ serial bytes end upto e. absurd cc) (λ o packed e. absurd cc) is ends)
+  reply_so (reply.Packing tid) result is counts ends so = absurd (other_reply _ (λ serial bytes end upto e. absurd cc) (λ o packed e. absurd cc) is ends)
+  reply_so (reply.Marking count) result is counts ends so = absurd (other_reply _ (λ serial bytes end upto e. absurd cc) (λ o packed e. absurd cc) is ends)
+  reply_so (reply.Marked count) result is counts ends so = absurd (other_reply _ (λ serial bytes end upto e. absurd cc) (λ o packed e. absurd cc) is ends)
+  reply_so (reply.Copying count) result is counts ends so = absurd (other_reply _ (λ serial bytes end upto e. absurd cc) (λ o packed e. absurd cc) is ends)
+  reply_so (reply.Copied count) result is counts ends so = absurd (other_reply _ (λ serial bytes end upto e. absurd cc) (λ o packed e. absurd cc) is ends)
+  reply_so (reply.Last tid changes) result is counts ends so = absurd (other_reply _ (λ serial bytes end upto e. absurd cc) (λ o packed e. absurd cc) is ends)
+  reply_so (reply.Since keep commits) result is counts ends so = absurd (other_reply _ (λ serial bytes end upto e. absurd cc) (λ o packed e. absurd cc) is ends)
   reply_so reply.Closed result is counts ends so = absurd (other_reply _ (λ serial bytes end upto e. absurd cc) (λ o packed e. absurd cc) is ends)
 
 -- the machine is as it was

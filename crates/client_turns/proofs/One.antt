@@ -15,6 +15,8 @@ use Rattle.zodb_core.specs.declared.request.Request.TheVariants as request
 use Rattle.zodb_core.specs.HubState.{HasTicked, HubState, StandsForMachine, counts_of, rules_of}
 use Rattle.zodb_core.specs.Machine.{Machine, Rules}
 use Rattle.zodb_core.specs.Outcomes.{FaultCounts, IsStepMade, outcome_of}
+use Rattle.zodb_core.specs.Sound.{IsPackWithin}
+use Rattle.zodb_core.specs.SoundLaws.{left_within}
 use Rattle.zodb_core.specs.Steps.{Stepped}
 use Rattle.connection_view.specs.declared.connection.Connection.{Connection}
 use Rattle.connection_view.specs.declared.work.Work.{Work}
@@ -23,7 +25,7 @@ use Rattle.connection_view.specs.Views.{View}
 use Rattle.connection_view.specs.Views as views
 use Rattle.local_loads.specs.declared.told.Told.{Told}
 use Rattle.local_loads.specs.Local.{MayBeTold, WritesLater}
-use Rattle.local_loads.specs.LocalLaws.{kept_behind, left_writes}
+use Rattle.local_loads.specs.LocalLaws.{kept_behind, left_writes, votes_later}
 use Rattle.local_loads.specs.Making.{IsHubStep}
 use Rattle.client_turns.specs.declared.client.Client.{Client}
 use Rattle.client_turns.specs.Asking.{IsSameBut}
@@ -72,6 +74,12 @@ pub writes_on : (rules : Rules) (m : Moment) (n : ℕ) (q : Request) (r : Reply)
 writes_on rules m n q r now step writes =
     subst (λ (x : Machine). WritesLater x.list x.vote) (sym step.made.left) (left_writes rules m.machine n q step.stamp (outcome_of r) writes)
 
+-- and the open pack leaves the newest transaction whole
+pub within_on : (rules : Rules) (m : Moment) (n : ℕ) (q : Request) (r : Reply) (now : Moment) → IsStepAt rules m n q r now → WritesLater m.machine.list m.machine.vote → IsPackWithin m.machine.list m.machine.pack
+    → IsPackWithin now.machine.list now.machine.pack
+within_on rules m n q r now step writes within =
+    subst (λ (x : Machine). IsPackWithin x.list x.pack) (sym step.made.left) (left_within rules m.machine n q step.stamp (outcome_of r) (votes_later m.machine.list m.machine.vote writes) within)
+
 -- ---- the others
 
 pub clients_later : {R F : Type 0} (old new : HubState R F) → ((last : Option Told) (told known : View) → MayBeTold last old told known → MayBeTold last new told known) → (xs : List Client) (cs : List seen.Client)
@@ -99,6 +107,7 @@ lift Q m at old new y before after stands leads is = record {
   stands = record {
     hub = leads.stands.hub;
     vote = leads.stands.vote;
+    within = leads.stands.within;
     clients = subst (λ (xs : List Client). AreClientsOf new.hub xs leads.now.clients) (sym is) (subst (λ (cs : List seen.Client). AreClientsOf new.hub (slice_set old.clients at y) cs) (sym leads.placed)
         (set_at new.hub old.clients m.clients at y leads.client (clients_later old.hub new.hub leads.others old.clients m.clients stands.clients) leads.stands.client));
     counts = leads.stands.counts;
@@ -139,7 +148,7 @@ stays {R} {F} Q m at old new x y c before after takes same ticks client holds =
       holds = holds;
       client = c;
       placed = set_there m.clients at c takes.there;
-      stands = record { hub = takes.stands.hub; vote = takes.stands.vote; counts = takes.stands.counts; stamps = takes.stands.stamps; client = client };
+      stands = record { hub = takes.stands.hub; vote = takes.stands.vote; within = takes.stands.within; counts = takes.stands.counts; stamps = takes.stands.stamps; client = client };
       others = λ last told known may. may;
     }))
 
@@ -152,7 +161,7 @@ changes_to {R} {F} Q m at old new x y c d before after takes same ticks client h
       holds = holds;
       client = d;
       placed = refl;
-      stands = record { hub = takes.stands.hub; vote = takes.stands.vote; counts = takes.stands.counts; stamps = takes.stands.stamps; client = client };
+      stands = record { hub = takes.stands.hub; vote = takes.stands.vote; within = takes.stands.within; counts = takes.stands.counts; stamps = takes.stands.stamps; client = client };
       others = λ last told known may. may;
     }))
 
@@ -188,26 +197,29 @@ pub record BehindIt {R F : Type 0} (rules : Rules) (b : Bool) (m : Moment) (n : 
   pub told : IsTold rules b m n now
   pub hub : StandsForMachine new now.machine
   pub vote : WritesLater now.machine.list now.machine.vote
+  pub within : IsPackWithin now.machine.list now.machine.pack
   pub counts : now.counts ≡ counts_of new.store
   pub stamps : now.stamps ≡ after
   pub clients : now.clients ≡ m.clients
   pub others : (last : Option Told) (told known : View) → MayBeTold last old told known → MayBeTold last new told known
 
-pub none_behind : {R F : Type 0} (rules : Rules) (m : Moment) (n : ℕ) (old : HubState R F) (after : Option (List Stamp)) → StandsForMachine old m.machine → WritesLater m.machine.list m.machine.vote → m.counts ≡ counts_of old.store → m.stamps ≡ after
+pub none_behind : {R F : Type 0} (rules : Rules) (m : Moment) (n : ℕ) (old : HubState R F) (after : Option (List Stamp)) → StandsForMachine old m.machine → WritesLater m.machine.list m.machine.vote → IsPackWithin m.machine.list m.machine.pack
+    → m.counts ≡ counts_of old.store → m.stamps ≡ after
     → BehindIt rules false m n old old after
-none_behind rules m n old after hub vote counts stamps =
-    record { now = m; told = refl; hub = hub; vote = vote; counts = counts; stamps = stamps; clients = refl; others = λ last told known may. may }
+none_behind rules m n old after hub vote within counts stamps =
+    record { now = m; told = refl; hub = hub; vote = vote; within = within; counts = counts; stamps = stamps; clients = refl; others = λ last told known may. may }
 
 module _ {R F : Type 0} (told lasts : Type 0) (stands : List ℕ → List Transaction → Type 0) (rules_in : R → MergeRules) (named_in : F → List ℕ → Option (List ℕ)) (tells : told) where
   pub front_behind : (rules : Rules) (m : Moment) (n : ℕ) (r : Reply) (old new : HubState R F) (before after : Option (List Stamp)) → IsHubStep told lasts stands rules_in named_in n request.Front r old new before after → rules ≡ rules_of rules_in named_in old
-      → StandsForMachine old m.machine → WritesLater m.machine.list m.machine.vote → m.counts ≡ counts_of old.store → m.stamps ≡ before → BehindIt rules true m n old new after
-  front_behind rules m n r old new before after step same hub vote counts stamps =
+      → StandsForMachine old m.machine → WritesLater m.machine.list m.machine.vote → IsPackWithin m.machine.list m.machine.pack → m.counts ≡ counts_of old.store → m.stamps ≡ before → BehindIt rules true m n old new after
+  front_behind rules m n r old new before after step same hub vote within counts stamps =
       let s : StepsTo (rules_of rules_in named_in old) m n request.Front r new after = steps_to told lasts stands rules_in named_in tells m n request.Front r old new before after step hub counts stamps in
       record {
         now = s.now;
         told = (r, subst (λ (x : Rules). IsStepAt x m n request.Front r s.now) (sym same) s.holds);
         hub = s.hub;
         vote = writes_on _ m n request.Front r s.now s.holds vote;
+        within = within_on _ m n request.Front r s.now s.holds vote within;
         counts = s.counts;
         stamps = s.stamps;
         clients = s.holds.clients;
@@ -237,7 +249,7 @@ module _ {R F : Type 0} (told lasts : Type 0) (stands : List ℕ → List Transa
         });
         client = d;
         placed = ap (λ (cs : List seen.Client). slice_set cs at d) (b.clients ∙ s.holds.clients);
-        stands = record { hub = b.hub; vote = b.vote; counts = b.counts; stamps = b.stamps; client = client };
+        stands = record { hub = b.hub; vote = b.vote; within = b.within; counts = b.counts; stamps = b.stamps; client = client };
         others = λ last v known may. b.others last v known (kept_behind told lasts stands rules_in named_in x.session q r old mid before between tells step last v known may);
       }
 
@@ -262,6 +274,6 @@ module _ {R F : Type 0} (told lasts : Type 0) (stands : List ℕ → List Transa
         });
         client = client_left s.now.machine c r;
         placed = ap (λ (cs : List seen.Client). slice_set cs at (client_left s.now.machine c r)) s.holds.clients;
-        stands = record { hub = s.hub; vote = writes_on _ m x.session q r s.now s.holds takes.stands.vote; counts = s.counts; stamps = s.stamps; client = client };
+        stands = record { hub = s.hub; vote = writes_on _ m x.session q r s.now s.holds takes.stands.vote; within = within_on _ m x.session q r s.now s.holds takes.stands.vote takes.stands.within; counts = s.counts; stamps = s.stamps; client = client };
         others = λ last v known may. kept_behind told lasts stands rules_in named_in x.session q r old new before after tells step last v known may;
       }

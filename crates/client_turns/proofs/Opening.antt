@@ -12,9 +12,10 @@ use Rattle.zodb_core.specs.declared.reply.Reply.{Reply}
 use Rattle.zodb_core.specs.declared.request.Request.TheVariants as request
 use Rattle.zodb_core.specs.declared.session.Session.{Session}
 use Rattle.zb_model.specs.Stores.{StoreState}
-use Rattle.zodb_core.specs.HubState.{HubState, StandsForMachine, counts_of, sessions_with, vote_of_hub}
+use Rattle.zodb_core.specs.HubState.{HubState, StandsForMachine, counts_of, pack_with, sessions_with, vote_of_hub}
 use Rattle.zodb_core.specs.Machine.{Machine, Rules, with_session}
 use Rattle.zodb_core.specs.Outcomes.{closed_session}
+use Rattle.zodb_core.specs.Sound.{IsPackWithin}
 use Rattle.zb_model.specs.declared.data.Transaction.{Transaction}
 use Rattle.zb_model.specs.declared.refusal.Refusal.{Refusal}
 use Rattle.connection_view.specs.declared.work.Work.{Work}
@@ -68,8 +69,10 @@ open_leads {R} {F} m name n x old new left stands number room hub store pushed n
     let stood : StandsForMachine new.hub (with_session m.machine) = hub stands.hub in
     let votes : new.hub.store.broken ≡ false → WritesLater new.hub.store.list (option_map (vote_of_hub new.hub.store.voted) new.hub.vote) =
     λ whole. subst (WritesLater new.hub.store.list) (stood.vote whole) (subst (λ (l : List Transaction). WritesLater l m.machine.vote) (stood.list whole) stands.vote) in
+    let within : new.hub.store.broken ≡ false → IsPackWithin new.hub.store.list (pack_with new.hub.store (length new.hub.journal) new.hub.pack) =
+    λ whole. subst (IsPackWithin new.hub.store.list) stood.pack (subst (λ (l : List Transaction). IsPackWithin l m.machine.pack) (stood.list whole) stands.within) in
     let others : (last : Option Told) (told known : View) → MayBeTold last old.hub told known → MayBeTold last new.hub told known =
-    λ last told known may. may_stay last old.hub new.hub told known (ap (λ (s : StoreState). s.broken) store) (server_stays old.hub new.hub m.machine store (sym stands.hub.journal ∙ stood.journal) (sym stands.hub.greatest ∙ stood.greatest)) votes may in
+    λ last told known may. may_stay last old.hub new.hub told known (ap (λ (s : StoreState). s.broken) store) (server_stays old.hub new.hub m.machine store (sym stands.hub.journal ∙ stood.journal) (sym stands.hub.greatest ∙ stood.greatest)) votes within may in
     let told : views.Client = record { told = first_view; own = no_object; voted = no_object; known = view_of (local.server_of new.hub) } in
     record {
       now = record { machine = with_session m.machine; clients = m.clients ++ record { name = name; session = n; transaction = None } ∷ []; stamps = m.stamps; counts = m.counts };
@@ -77,6 +80,7 @@ open_leads {R} {F} m name n x old new left stands number room hub store pushed n
       stands = record {
         hub = stood;
         vote = stands.vote;
+        within = stands.within;
         clients = subst (λ (xs : List Client). AreClientsOf new.hub xs (m.clients ++ record { name = name; session = n; transaction = None } ∷ [])) (sym pushed)
             (push_at new.hub old.clients m.clients x (record { name = name; session = n; transaction = None })
             (clients_later old.hub new.hub others old.clients m.clients stands.clients)
@@ -84,7 +88,7 @@ open_leads {R} {F} m name n x old new left stands number room hub store pushed n
               name = sym named;
               session = sym numbered;
               told = told;
-              may = subst (λ (l : Option Told). MayBeTold l new.hub first_view (view_of (local.server_of new.hub))) (sym untold) (opened_may new.hub votes);
+              may = subst (λ (l : Option Told). MayBeTold l new.hub first_view (view_of (local.server_of new.hub))) (sym untold) (opened_may new.hub votes within);
               transaction = subst (λ (w : Result Work Refusal). IsOpenAs x.connection told w None) (sym none) (refl, between told (λ oid. refl));
             }));
         counts = stands.counts ∙ ap counts_of (sym store);
@@ -99,14 +103,16 @@ open_leads {R} {F} m name n x old new left stands number room hub store pushed n
         ∙ ap (λ (g : ℕ). local.server_unless old.store.broken old.store.list old.journal g) (sym greatest)
 
     may_stay : (last : Option Told) (old new : HubState R F) (told known : View) → new.store.broken ≡ old.store.broken → local.server_of new ≡ local.server_of old
-        → (new.store.broken ≡ false → WritesLater new.store.list (option_map (vote_of_hub new.store.voted) new.vote)) → MayBeTold last old told known → MayBeTold last new told known
-    may_stay last old new told known broken server votes may = record {
+        → (new.store.broken ≡ false → WritesLater new.store.list (option_map (vote_of_hub new.store.voted) new.vote))
+        → (new.store.broken ≡ false → IsPackWithin new.store.list (pack_with new.store (length new.journal) new.pack)) → MayBeTold last old told known → MayBeTold last new told known
+    may_stay last old new told known broken server votes within may = record {
       last = may.last;
       front = may.front;
       switches = may.switches;
       later = subst (λ (s : Server). Later told (view_of s)) (sym server) may.later;
       known = λ whole. subst (λ (s : Server). Later known (view_of s)) (sym server) (may.known (sym broken ∙ whole));
       votes = votes;
+      within = within;
     }
 
 -- ---- closing

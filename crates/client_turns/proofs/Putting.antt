@@ -84,6 +84,7 @@ module _ {R F S : Type 0} (told lasts : Type 0) (stands : List ℕ → List Tran
         stands = record {
           hub = rd.hub;
           vote = rd.vote;
+          within = rd.within;
           counts = rd.counts;
           stamps = rd.stamps;
           client = client_kept h g x x c mine (record { name = refl; session = refl; told = refl }) (rd.others x.told mine.told.told mine.told.known mine.may) refl (λ u z. z) (λ z. z);

@@ -1,6 +1,6 @@
 -- Which replies a request may get, and that no refusal of the machine is one of a connection's own.
 use Rattle.std.proofs.Common.{◌≡◌, ◌==◌, ℕ, Bool, true, false, not, cond, eqb, List, [], ◌∷◌, length, map, nat_lt, nat_le, Option, Some, None, Result, Ok, Err, ◌+◌, ◌^◌, ◌-◌, refl, sym, subst, ◌∙◌}
-use Rattle.std.specs.Prelude.{ok_or, option_map, ◌||◌}
+use Rattle.std.specs.Prelude.{ok_or, if◌then◌else◌, option_map, ◌||◌}
 use Rattle.std.specs.Option.{option_or}
 use Rattle.zb_ids.specs.Tids.{tid_after}
 use Rattle.zb_model.specs.declared.data.Change.{Change}
@@ -20,7 +20,7 @@ use Rattle.zb_model.specs.Rules.{MergeRules}
 use Rattle.commit_phases.specs.Decision.{ahead_of_changes, change_of_store, change_or_conflict, changes_of_stores, excess_of, failed_check, goes_in, length_of_content, too_long, unless_checks_fail, unless_refused, vote_decision}
 use Rattle.commit_phases.specs.Pending.{PendingChanges}
 use Rattle.undo_records.specs.Undone.{content_before, content_now, is_same, is_untouched, merged_content, taken_over, then_with, undone_changes, undone_content, undone_from, undone_of, undone_transaction, with_change}
-use Rattle.pack_reach.specs.Reached.{unreadable}
+use Rattle.pack_reach.specs.Packed.{packed, unread}
 use Rattle.zodb_core.specs.declared.reply.Reply.{Reply}
 use Rattle.zodb_core.specs.declared.reply.Reply.TheVariants as reply
 use Rattle.zodb_core.specs.declared.request.Request.{Request}
@@ -28,8 +28,9 @@ use Rattle.zodb_core.specs.declared.request.Request.TheVariants as request
 use Rattle.zodb_core.specs.declared.texts.Texts.{Texts}
 use Rattle.zodb_core.specs.Machine.{Machine, MachineVote, OpenPack, Rules, holds_vote, is_open_in}
 use Rattle.zodb_core.specs.Outcomes.{Answered, EndsFor, FaultCounts, NoMemory, ReadingFailed, StepOutcome, StoreFailed, outcome_of, outcome_of_refusal}
-use Rattle.zodb_core.specs.Steps.{Stepped, busy_for, busy_for_all, changes_in_journal, changes_undone, early_refusal, finish_gives, finish_step, journal_limit, loaded, pack_refusal, pack_running, pack_tid, packed_already, refuse_if, replied_refusal, request_refusal, request_step, step_of, switch_unless, transaction_with, unless_early, vote_at, vote_counted, vote_refusal, vote_step, with_vote}
+use Rattle.zodb_core.specs.Steps.{Stepped, busy_for, busy_for_all, changes_in_journal, begin_refusal, changes_undone, early_refusal, finish_gives, finish_step, journal_limit, loaded, pack_refusal, pack_running, pack_tid, packed_already, refuse_if, replied_refusal, request_refusal, request_step, step_of, switched, switches_next, transaction_with, turn_refusal, unless_early, vote_at, vote_counted, vote_refusal, vote_step, with_vote}
 use Rattle.local_loads.specs.Answers.{server_refusal}
+use Rattle.local_loads.specs.RefusalLaws.{TurnReplies, by_turn, by_unread}
 use Rattle.client_turns.specs.Clients.{Moment}
 use Rattle.client_turns.specs.Steps.{IsStepAt}
 
@@ -76,6 +77,21 @@ pack_on m tid =
     (on_or (busy_for_all m.vote) (packed_already (pack_tid tid m.list) (pack_point m.list)) (held_on m.vote)
     (on_if (nat_le (pack_tid tid m.list) (pack_point m.list)) (refusal.PackedAlready (pack_point m.list)) refl))
 
+begin_on : (m : Machine) (tid : ℕ) → OnIfSome (begin_refusal m tid)
+begin_on m tid =
+    on_or (pack_running m.pack) (packed_already (pack_tid tid m.list) (pack_point m.list)) (running_on m.pack)
+    (on_if (nat_le (pack_tid tid m.list) (pack_point m.list)) (refusal.PackedAlready (pack_point m.list)) refl)
+
+next_on : (b : Bool) (vote : Option MachineVote) → OnIfSome (if b then busy_for_all vote else None)
+next_on true vote = held_on vote
+next_on false vote = tt
+
+turn_on : (m : Machine) (n : ℕ) (pack : Option OpenPack) → OnIfSome (turn_refusal m n pack)
+turn_on m n None = refl
+turn_on m n (Some p) =
+    on_or (refuse_if (not (p.session == n)) (refusal.PackRunning p.session)) (if switches_next p then busy_for_all m.vote else None)
+    (on_if (not (p.session == n)) (refusal.PackRunning p.session) refl) (next_on (switches_next p) m.vote)
+
 request_on : (m : Machine) (n : ℕ) (q : Request) → OnIfSome (request_refusal m n q)
 request_on m n request.Front = tt
 request_on m n (request.LoadBefore oid front) = tt
@@ -86,7 +102,11 @@ request_on m n request.Finish = on_if (not (holds_vote n m.vote)) refusal.NotVot
 request_on m n request.Abort = tt
 request_on m n (request.History oid) = tt
 request_on m n request.UndoLog = tt
-request_on m n (request.Pack tid) = pack_on m tid
+request_on m n (request.Pack tid collects) = pack_on m tid
+request_on m n (request.PackBegin tid collects) = begin_on m tid
+request_on m n request.PackTurn = turn_on m n m.pack
+request_on m n request.Last = tt
+request_on m n (request.Since tid changes) = tt
 request_on m n request.Close = tt
 
 early_on : (m : Machine) (n : ℕ) (q : Request) → OnIfSome (early_refusal m n q)
@@ -197,7 +217,15 @@ Fits reply.Empty request.Finish = Unit {0}
 Fits reply.Aborted request.Abort = Unit {0}
 Fits (reply.History list) (request.History oid) = Unit {0}
 Fits (reply.UndoLog list) request.UndoLog = Unit {0}
-Fits (reply.Packed kept dropped) (request.Pack tid) = Unit {0}
+Fits (reply.Packed kept dropped) (request.Pack tid collects) = Unit {0}
+Fits (reply.Packing t) (request.PackBegin tid collects) = Unit {0}
+Fits (reply.Marking count) request.PackTurn = Unit {0}
+Fits (reply.Marked count) request.PackTurn = Unit {0}
+Fits (reply.Copying count) request.PackTurn = Unit {0}
+Fits (reply.Copied count) request.PackTurn = Unit {0}
+Fits (reply.Packed kept dropped) request.PackTurn = Unit {0}
+Fits (reply.Last newest count) request.Last = Unit {0}
+Fits (reply.Since keep commits) (request.Since tid changes) = Unit {0}
 Fits reply.Closed request.Close = Unit {0}
 Fits _ _ = ⊥
 
@@ -238,9 +266,17 @@ finish_fits : (m : Machine) (n : ℕ) (vote : Option MachineVote) → Fits (fini
 finish_fits m n None = refl
 finish_fits m n (Some v) = gives_fits m n v.writes
 
-pack_fits : (named : List ℕ → Option (List ℕ)) (m : Machine) (tid t : ℕ) (w : Option (ℕ × ℕ)) → Fits (switch_unless named m t w).reply (request.Pack tid)
-pack_fits named m tid t None = tt
-pack_fits named m tid t (Some w) = refl
+turns_fit : TurnReplies (λ r. Fits r request.PackTurn)
+turns_fit = record {
+  none = refl;
+  unread = λ oid tid. refl;
+  late = λ oid tid. refl;
+  marking = λ count. tt;
+  marked = λ count. tt;
+  copying = λ count. tt;
+  copied = λ count. tt;
+  switched = λ kept dropped. tt;
+}
 
 request_fits : (rules : Rules) (m : Machine) (n : ℕ) (q : Request) (stamp : ℕ) → Fits (request_step rules m n q stamp).reply q
 request_fits rules m n request.Front stamp = tt
@@ -256,7 +292,13 @@ request_fits rules m n request.Finish stamp = finish_fits m n m.vote
 request_fits rules m n request.Abort stamp = tt
 request_fits rules m n (request.History oid) stamp = tt
 request_fits rules m n request.UndoLog stamp = tt
-request_fits rules m n (request.Pack tid) stamp = pack_fits rules.named m tid (pack_tid tid m.list) (unreadable rules.named (pack_tid tid m.list) m.list)
+request_fits rules m n (request.Pack tid collects) stamp =
+    let t = pack_tid tid m.list in
+    by_unread (λ r. Fits r (request.Pack tid collects)) m (unread collects rules.named t m.list) (switched m t (packed collects rules.named t m.list)) (λ oid at. refl) tt
+request_fits rules m n (request.PackBegin tid collects) stamp = tt
+request_fits rules m n request.PackTurn stamp = by_turn (λ r. Fits r request.PackTurn) rules.named m m.pack turns_fit
+request_fits rules m n request.Last stamp = tt
+request_fits rules m n (request.Since tid changes) stamp = tt
 request_fits rules m n request.Close stamp = tt
 
 unless_fits : (early : Option Refusal) (m : Machine) (made : Stepped) (q : Request) → OnIfSome early → Fits made.reply q → Fits (unless_early early m made).reply q

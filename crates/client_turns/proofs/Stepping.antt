@@ -29,7 +29,7 @@ use Rattle.client_turns.specs.Lines.{answer_of, client_left, is_committed}
 use Rattle.client_turns.specs.Standing.{AreClientsOf, ClientsState, IsClientOf, IsOpenAs, IsStepOf, LeadsTo, MayAskAt, MayTakeAt, OneLeadsTo, StandsForMoment}
 use Rattle.client_turns.specs.Steps.{IsStepAt}
 use Rattle.client_turns.specs.Turns.{IsTold}
-use Rattle.client_turns.proofs.One.{StepsTo, client_with, clients_later, lift, steps_to, writes_on}
+use Rattle.client_turns.proofs.One.{StepsTo, client_with, clients_later, lift, steps_to, within_on, writes_on}
 use Rattle.client_turns.proofs.Placing.{IsClientAt, IsKeptAt, client_at, kept_at, set_at, there_at}
 use Rattle.client_turns.proofs.Served.{Fits, fits_at}
 
@@ -40,6 +40,7 @@ pub first_stands : {R F : Type 0} (seen : ClientsState R F) (list : List _) (lef
 first_stands seen list left none stands = record {
   hub = stands;
   vote = tt;
+  within = tt;
   clients = subst (λ (xs : List Client). AreClientsOf seen.hub xs []) (sym none) tt;
   counts = refl;
   stamps = refl;
@@ -57,6 +58,7 @@ step_leads told lasts stands rules_in named_in tells m n q r old new before afte
       stands = record {
         hub = s.hub;
         vote = writes_on _ m n q r s.now s.holds stood.vote;
+        within = within_on _ m n q r s.now s.holds stood.vote stood.within;
         clients = subst (λ cs. AreClientsOf new.hub new.clients cs) (sym s.holds.clients) (subst (λ (xs : List Client). AreClientsOf new.hub xs m.clients) (sym same)
             (clients_later old.hub new.hub (λ last v known may. kept_behind told lasts stands rules_in named_in n q r old.hub new.hub before after tells step last v known may) old.clients m.clients stood.clients));
         counts = s.counts;
@@ -69,7 +71,7 @@ step_leads told lasts stands rules_in named_in tells m n q r old new before afte
 -- the client at a place, whose session is open, may take its turn
 pub may_take : {R F : Type 0} (m : Moment) (at : ℕ) (old : ClientsState R F) (before : Option (List Stamp)) → (stood : StandsForMoment old before m) → (may : MayAskAt m at) → (k : IsKeptAt old.hub old.clients at may.0) → MayTakeAt old.hub before m at k.kept may.0
 may_take m at old before stood may k = record {
-  stands = record { hub = stood.hub; vote = stood.vote; counts = stood.counts; stamps = stood.stamps; client = k.is };
+  stands = record { hub = stood.hub; vote = stood.vote; within = stood.within; counts = stood.counts; stamps = stood.stamps; client = k.is };
   there = may.1;
   may = may.2;
 }
@@ -111,10 +113,10 @@ log_reply (reply.UndoLog list) fits = tt
 log_reply (reply.Refused why) fits = tt
 log_reply _ fits = absurd fits
 
-pack_reply : (r : Reply) (tid : ℕ) → Fits r (request.Pack tid) → IsPlainReply r
-pack_reply (reply.Packed kept dropped) tid fits = tt
-pack_reply (reply.Refused why) tid fits = tt
-pack_reply _ tid fits = absurd fits
+pack_reply : (r : Reply) (tid : ℕ) (collects : Bool) → Fits r (request.Pack tid collects) → IsPlainReply r
+pack_reply (reply.Packed kept dropped) tid collects fits = tt
+pack_reply (reply.Refused why) tid collects fits = tt
+pack_reply _ tid collects fits = absurd fits
 
 close_reply : (r : Reply) → Fits r request.Close → IsPlainReply r
 close_reply reply.Closed fits = tt
@@ -125,7 +127,7 @@ plain_reply : (q : Request) (r : Reply) → IsPlain q → Fits r q → IsPlainRe
 plain_reply (request.NewOids count) r plain fits = oids_reply r count fits
 plain_reply (request.History oid) r plain fits = history_reply r oid fits
 plain_reply request.UndoLog r plain fits = log_reply r fits
-plain_reply (request.Pack tid) r plain fits = pack_reply r tid fits
+plain_reply (request.Pack tid collects) r plain fits = pack_reply r tid collects fits
 plain_reply request.Close r plain fits = close_reply r fits
 plain_reply _ r plain fits = absurd plain
 
@@ -187,6 +189,7 @@ plain_leads {R} {F} rules m at n q r a old mid new after within plain session le
       stands = record {
         hub = subst (λ (h : HubState R F). StandsForMachine h leads.now.machine) (sym hub) leads.stands.hub;
         vote = leads.stands.vote;
+        within = leads.stands.within;
         clients = subst (λ (h : HubState R F). AreClientsOf h new.clients (slice_set leads.now.clients at d)) (sym hub) (subst (λ (xs : List Client). AreClientsOf mid.hub xs (slice_set leads.now.clients at d)) (sym placed) set);
         counts = leads.stands.counts ∙ ap (λ (h : HubState R F). counts_of h.store) (sym hub);
         stamps = leads.stands.stamps;

@@ -44,7 +44,7 @@ abbrev pub plain_request : Line → Option Request
 plain_request line.New = Some (request.NewOids 1)
 plain_request (line.History oid) = Some (request.History oid)
 plain_request line.UndoLog = Some request.UndoLog
-plain_request (line.Pack tid) = Some (request.Pack tid)
+plain_request (line.Pack tid) = Some (request.Pack tid true)
 plain_request line.Close = Some request.Close
 plain_request _ = None
 
@@ -53,7 +53,7 @@ abbrev pub IsPlain : Request → Type 0
 IsPlain (request.NewOids count) = count ≡ 1
 IsPlain (request.History oid) = Unit {0}
 IsPlain request.UndoLog = Unit {0}
-IsPlain (request.Pack tid) = Unit {0}
+IsPlain (request.Pack tid collect) = Unit {0}
 IsPlain request.Close = Unit {0}
 IsPlain _ = ⊥
 

@@ -138,6 +138,13 @@ answer_outcome reply.Aborted = refl
 answer_outcome (reply.History list) = refl
 answer_outcome (reply.UndoLog list) = refl
 answer_outcome (reply.Packed kept dropped) = refl
+answer_outcome (reply.Packing tid) = refl
+answer_outcome (reply.Marking count) = refl
+answer_outcome (reply.Marked count) = refl
+answer_outcome (reply.Copying count) = refl
+answer_outcome (reply.Copied count) = refl
+answer_outcome (reply.Last tid changes) = refl
+answer_outcome (reply.Since keep commits) = refl
 answer_outcome reply.Closed = refl
 answer_outcome (reply.Refused why) = refl
 

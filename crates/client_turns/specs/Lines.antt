@@ -39,11 +39,11 @@ request_of changes line.Finish = Some request.Finish
 request_of changes line.Abort = Some request.Abort
 request_of changes (line.History oid) = Some (request.History oid)
 request_of changes line.UndoLog = Some request.UndoLog
-request_of changes (line.Pack tid) = Some (request.Pack tid)
+request_of changes (line.Pack tid) = Some (request.Pack tid true)
 request_of changes line.Close = Some request.Close
 request_of changes _ = None
 
--- what the line is answered; none of them asks for a load
+-- what the line is answered; none of them asks for a load, for a pack in turns, or for what was committed
 abbrev pub answer_of : Reply → Answer
 answer_of (reply.Front front news switches) = answer.Begun front
 answer_of (reply.Loaded serial bytes end upto) = answer.Data serial bytes
@@ -56,6 +56,13 @@ answer_of reply.Aborted = answer.Aborted
 answer_of (reply.History list) = answer.History list
 answer_of (reply.UndoLog list) = answer.UndoLog list
 answer_of (reply.Packed kept dropped) = answer.Packed kept dropped
+answer_of (reply.Packing tid) = answer.Empty
+answer_of (reply.Marking count) = answer.Empty
+answer_of (reply.Marked count) = answer.Empty
+answer_of (reply.Copying count) = answer.Empty
+answer_of (reply.Copied count) = answer.Empty
+answer_of (reply.Last tid changes) = answer.Empty
+answer_of (reply.Since keep commits) = answer.Empty
 answer_of reply.Closed = answer.Closed
 answer_of (reply.Refused why) = answer.Refused why
 

@@ -14,8 +14,10 @@ use Rattle.zodb_core.specs.declared.reply.Reply.TheVariants as reply
 use Rattle.zodb_core.specs.declared.request.Request.{Request}
 use Rattle.zodb_core.specs.declared.request.Request.TheVariants as request
 use Rattle.zodb_core.specs.declared.session.Session.{Session}
-use Rattle.pack_reach.specs.Packed.{packed_of}
-use Rattle.zodb_core.specs.Steps.{pack_tid, refuse_if}
+use Rattle.pack_reach.specs.Packed.{packed}
+use Rattle.zodb_core.specs.Seen.{PackGoal, goal_of_open, pack_goal}
+use Rattle.zodb_core.specs.Sound.{IsPackWithin}
+use Rattle.zodb_core.specs.Steps.{refuse_if}
 use Rattle.zodb_core.specs.HubState.{HubState, StandsForMachine, counts_of, is_store_failed}
 use Rattle.zodb_core.specs.Machine.{Machine, MachineVote, Rules, is_open_in}
 use Rattle.zodb_core.specs.Outcomes.{Answered, AreLaterCounts, FaultCounts, StepOutcome, outcome_of, outcome_of_refusal}
@@ -80,6 +82,7 @@ AreClientsOf hub _ _ = ⊥
 pub record StandsForMoment {R F : Type 0} (seen : ClientsState R F) (left : Option (List Stamp)) (m : Moment) : Type 0 where
   pub hub : StandsForMachine seen.hub m.machine
   pub vote : WritesLater m.machine.list m.machine.vote
+  pub within : IsPackWithin m.machine.list m.machine.pack
   pub clients : AreClientsOf seen.hub seen.clients m.clients
   pub counts : m.counts ≡ counts_of seen.hub.store
   pub stamps : m.stamps ≡ left
@@ -126,6 +129,7 @@ ClosesIf rules m name true ended now = ClosesAs rules m (place_of_client name m.
 pub record StandsForOne {R F : Type 0} (h : HubState R F) (left : Option (List Stamp)) (m : Moment) (x : Client) (c : clients.Client) : Type 0 where
   pub hub : StandsForMachine h m.machine
   pub vote : WritesLater m.machine.list m.machine.vote
+  pub within : IsPackWithin m.machine.list m.machine.pack
   pub counts : m.counts ≡ counts_of h.store
   pub stamps : m.stamps ≡ left
   pub client : IsClientOf h x c
@@ -199,20 +203,26 @@ IsVotedBehind stands list (Some v) bytes = IsSomeAnd v.writes (λ t. stands byte
 abbrev pub IsListAround : (List ℕ → List Transaction → Type 0) → Machine → List ℕ → Type 0
 IsListAround stands m bytes = stands bytes m.list ⊎ IsVotedBehind stands m.list m.vote bytes
 
--- bytes stand for the machine's list, or for that as a pack up to a tid leaves it
-abbrev pub IsListPacked : (List ℕ → List Transaction → Type 0) → Rules → Machine → ℕ → List ℕ → Type 0
-IsListPacked stands rules m tid bytes = stands bytes m.list ⊎ stands bytes (packed_of rules.named (pack_tid tid m.list) m.list)
+-- what a request packs that names its tid
+abbrev pub goal_named : ℕ → Bool → Machine → Option PackGoal
+goal_named tid collects m = pack_goal (request.Pack tid collects) m.list None
 
--- In a step bytes stand for the machine's list; where it is a finish, they may stand for that with what is voted behind it, and where it is a pack, for that packed.
+-- bytes stand for the machine's list, or for that as a pack leaves it
+abbrev pub IsListPacked : (List ℕ → List Transaction → Type 0) → Rules → Machine → Option PackGoal → List ℕ → Type 0
+IsListPacked stands rules m goal bytes = stands bytes m.list ⊎ IsSomeAnd goal (λ g. stands bytes (packed g.collects rules.named g.tid m.list))
+
+-- In a step bytes stand for the machine's list; where it is a finish, they may stand for that with what is voted behind it, and where it is a pack, or a turn of one,
+-- for that packed.
 abbrev pub IsListFor : (List ℕ → List Transaction → Type 0) → Rules → Machine → Request → List ℕ → Type 0
 IsListFor stands rules m request.Finish = IsListAround stands m
-IsListFor stands rules m (request.Pack tid) = IsListPacked stands rules m tid
+IsListFor stands rules m (request.Pack tid collects) = IsListPacked stands rules m (goal_named tid collects m)
+IsListFor stands rules m request.PackTurn = IsListPacked stands rules m (goal_of_open m.pack)
 IsListFor stands rules m _ = λ bytes. stands bytes m.list
 
 -- And so in a line: where it is `finish`, they may stand for that with what is voted behind it, and where it is `pack`, for that packed.
 abbrev pub IsListIn : (List ℕ → List Transaction → Type 0) → Rules → Machine → Line → List ℕ → Type 0
 IsListIn stands rules m line.Finish = IsListAround stands m
-IsListIn stands rules m (line.Pack tid) = IsListPacked stands rules m tid
+IsListIn stands rules m (line.Pack tid) = IsListPacked stands rules m (goal_named tid true m)
 IsListIn stands rules m _ = λ bytes. stands bytes m.list
 
 -- a line that packs

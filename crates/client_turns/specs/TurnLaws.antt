@@ -12,8 +12,6 @@ use Rattle.zb_script.specs.declared.line.Line.{Line}
 use Rattle.zb_script.specs.declared.line.Line.TheVariants as line
 use Rattle.zb_script.specs.declared.line.Turn.{Turn}
 use Rattle.commit_phases.specs.Pending.{pending_of}
-use Rattle.pack_reach.specs.Packed.{packed_of}
-use Rattle.pack_reach.specs.Reached.{unreadable}
 use Rattle.zodb_core.specs.declared.reply.Reply.{Reply}
 use Rattle.zodb_core.specs.declared.reply.Reply.TheVariants as reply
 use Rattle.zb_model.specs.declared.refusal.Refusal.TheVariants as refusal
@@ -21,13 +19,17 @@ use Rattle.zodb_core.specs.declared.request.Request.{Request}
 use Rattle.zodb_core.specs.declared.texts.Texts.{Texts}
 use Rattle.zodb_core.specs.declared.request.Request.TheVariants as request
 use Rattle.zodb_core.specs.Machine.{Machine, MachineVote, Rules, with_session}
-use Rattle.zodb_core.specs.Outcomes.{Answered, EndsFor, FaultCounts, NoMemory, ReadingFailed, StepOutcome, StoreFailed, machine_left, outcome_of, outcome_of_refusal}
-use Rattle.zodb_core.specs.StepCases.{StepCases, by_step}
-use Rattle.zodb_core.specs.Steps.{Stepped, changes_in_journal, early_refusal, journal_limit, pack_step, pack_tid, replied_refusal, request_step, step_of, switch_unless, transaction_with, unless_early, vote_at, vote_step, with_vote}
+use Rattle.zodb_core.specs.Outcomes.{Answered, EndsFor, FaultCounts, NoMemory, ReadingFailed, StepOutcome, StoreFailed, is_pack, is_packed, machine_left, outcome_of, outcome_of_refusal}
+use Rattle.zodb_core.specs.Laws.{IsPackedTo}
+use Rattle.zodb_core.specs.Seen.{PackGoal, goal_of_open, pack_goal}
+use Rattle.zodb_core.specs.StepCases.{StepCases, by_step, by_unanswered}
+use Rattle.zodb_core.specs.Steps.{Stepped, changes_in_journal, early_refusal, journal_limit, replied_refusal, request_step, step_of, transaction_with, unless_early, vote_at, vote_step, with_vote}
+use Rattle.zodb_core.specs.SwitchLaws.{packed_as_asked, turn_keeps_list}
 use Rattle.client_turns.specs.Clients.{Changes, Client, Moment, OpenTransaction, changes_of, place_of_client}
 use Rattle.client_turns.specs.declared.errors.TurnError.TheVariants as error
 use Rattle.client_turns.specs.Lines.{answer_of, end_in, end_of, is_committed, pending_in, request_of}
 use Rattle.client_turns.specs.Refusing.{connection_refusal}
+use Rattle.client_turns.specs.Standing.{goal_named}
 use Rattle.client_turns.specs.Steps.{IsStepAt}
 use Rattle.client_turns.specs.DrawLaws.{raised_same, tree_raised}
 use Rattle.client_turns.specs.Trees.{IsRaised}
@@ -41,21 +43,22 @@ pub data KeepsOrVoted (m : Machine) (l : List Transaction) : Type 0 where
   kept : l ≡ m.list → KeepsOrVoted m l
   voted : (v : MachineVote) (t : Transaction) → m.vote ≡ Some v → v.writes ≡ Some t → l ≡ m.list ++ t ∷ [] → KeepsOrVoted m l
 
--- a list as it was, or packed up to a tid
-pub data KeepsOrPacked (rules : Rules) (m : Machine) (tid : ℕ) (l : List Transaction) : Type 0 where
-  unpacked : l ≡ m.list → KeepsOrPacked rules m tid l
-  packed : l ≡ packed_of rules.named (pack_tid tid m.list) m.list → KeepsOrPacked rules m tid l
+-- a list as it was, or packed
+pub data KeepsOrPacked (rules : Rules) (m : Machine) (goal : Option PackGoal) (l : List Transaction) : Type 0 where
+  unpacked : l ≡ m.list → KeepsOrPacked rules m goal l
+  packed : IsPackedTo rules.named goal m.list l → KeepsOrPacked rules m goal l
 
--- the list behind a step: as it was; where it is a finish, maybe with what was voted behind it, and where it is a pack, maybe packed
+-- the list behind a step: as it was; where it is a finish, maybe with what was voted behind it, and where it is a pack, or a turn of one, maybe packed
 abbrev pub IsListLeft : Rules → Machine → Request → List Transaction → Type 0
 IsListLeft rules m request.Finish l = KeepsOrVoted m l
-IsListLeft rules m (request.Pack tid) l = KeepsOrPacked rules m tid l
+IsListLeft rules m (request.Pack tid collects) l = KeepsOrPacked rules m (goal_named tid collects m) l
+IsListLeft rules m request.PackTurn l = KeepsOrPacked rules m (goal_of_open m.pack) l
 IsListLeft rules m _ l = l ≡ m.list
 
 -- and so behind a line
 abbrev pub IsListBehind : Rules → Machine → Line → List Transaction → Type 0
 IsListBehind rules m line.Finish l = KeepsOrVoted m l
-IsListBehind rules m (line.Pack tid) l = KeepsOrPacked rules m tid l
+IsListBehind rules m (line.Pack tid) l = KeepsOrPacked rules m (goal_named tid true m) l
 IsListBehind rules m _ l = l ≡ m.list
 
 finish_cases : (m : Machine) (n : ℕ) → StepCases (λ s. KeepsOrVoted m s.machine.list) m n request.Finish
@@ -73,17 +76,24 @@ finish_cases m n = record {
   dropped = kept refl;
   listed = λ revisions. kept refl;
   logged = λ lines. kept refl;
+  begun = λ is t collects none below. absurd cc;
+  marking = λ is p count there. absurd cc;
+  marked = λ is p keep there. absurd cc;
+  copying = λ is p k copied count there copying. absurd cc;
+  copied = λ is p k copied count there copying. absurd cc;
+  lost = λ is r answers. absurd cc;
   packed = λ is t keep free below. absurd cc;
+  last = kept refl;
+  since = λ tid changes. kept refl;
   closed = kept refl;
 }
 
-switch_left : (rules : Rules) (m : Machine) (tid : ℕ) (w : Option (ℕ × ℕ)) → KeepsOrPacked rules m tid (switch_unless rules.named m (pack_tid tid m.list) w).machine.list
-switch_left rules m tid (Some w) = unpacked refl
-switch_left rules m tid None = packed refl
-
-pack_left : (rules : Rules) (m : Machine) (tid : ℕ) (o : Option Refusal) → KeepsOrPacked rules m tid (unless_early o m (pack_step rules.named m (pack_tid tid m.list))).machine.list
-pack_left rules m tid (Some r) = unpacked refl
-pack_left rules m tid None = switch_left rules m tid (unreadable rules.named (pack_tid tid m.list) m.list)
+pack_left : (rules : Rules) (m : Machine) (n : ℕ) (q : Request) (stamp : ℕ) → is_pack q ≡ true → KeepsOrPacked rules m (pack_goal q m.list (goal_of_open m.pack)) (step_of rules m n q stamp).machine.list
+pack_left rules m n q stamp is = by_cases (is_packed (step_of rules m n q stamp).reply) refl
+  where
+    by_cases : (b : Bool) → is_packed (step_of rules m n q stamp).reply ≡ b → KeepsOrPacked rules m (pack_goal q m.list (goal_of_open m.pack)) (step_of rules m n q stamp).machine.list
+    by_cases true done = packed (packed_as_asked rules m n q stamp done)
+    by_cases false not = unpacked (turn_keeps_list rules m n q stamp is not)
 
 early_same : (o : Option Refusal) (m : Machine) (made : Stepped) → made.machine.list ≡ m.list → (unless_early o m made).machine.list ≡ m.list
 early_same None m made is = is
@@ -118,7 +128,11 @@ step_left rules m n request.Finish stamp = by_step (λ s. KeepsOrVoted m s.machi
 step_left rules m n request.Abort stamp = early_same (early_refusal m n request.Abort) m (request_step rules m n request.Abort stamp) refl
 step_left rules m n (request.History oid) stamp = early_same (early_refusal m n (request.History oid)) m (request_step rules m n (request.History oid) stamp) refl
 step_left rules m n request.UndoLog stamp = early_same (early_refusal m n request.UndoLog) m (request_step rules m n request.UndoLog stamp) refl
-step_left rules m n (request.Pack tid) stamp = pack_left rules m tid (early_refusal m n (request.Pack tid))
+step_left rules m n (request.Pack tid collects) stamp = pack_left rules m n (request.Pack tid collects) stamp refl
+step_left rules m n (request.PackBegin tid collects) stamp = early_same (early_refusal m n (request.PackBegin tid collects)) m (request_step rules m n (request.PackBegin tid collects) stamp) refl
+step_left rules m n request.PackTurn stamp = pack_left rules m n request.PackTurn stamp refl
+step_left rules m n request.Last stamp = early_same (early_refusal m n request.Last) m (request_step rules m n request.Last stamp) refl
+step_left rules m n (request.Since tid changes) stamp = early_same (early_refusal m n (request.Since tid changes)) m (request_step rules m n (request.Since tid changes) stamp) refl
 step_left rules m n request.Close stamp = early_same (early_refusal m n request.Close) m (request_step rules m n request.Close stamp) refl
 
 same_left : (rules : Rules) (m : Machine) (q : Request) (l : List Transaction) → l ≡ m.list → IsListLeft rules m q l
@@ -131,13 +145,17 @@ same_left rules m request.Finish l is = kept is
 same_left rules m request.Abort l is = is
 same_left rules m (request.History oid) l is = is
 same_left rules m request.UndoLog l is = is
-same_left rules m (request.Pack tid) l is = unpacked is
+same_left rules m (request.Pack tid collects) l is = unpacked is
+same_left rules m (request.PackBegin tid collects) l is = is
+same_left rules m request.PackTurn l is = unpacked is
+same_left rules m request.Last l is = is
+same_left rules m (request.Since tid changes) l is = is
 same_left rules m request.Close l is = is
 
 left_left : (rules : Rules) (m : Machine) (n : ℕ) (q : Request) (stamp : ℕ) (o : StepOutcome) → IsListLeft rules m q (machine_left rules m n q stamp o).list
 left_left rules m n q stamp Answered = step_left rules m n q stamp
-left_left rules m n q stamp ReadingFailed = same_left rules m q m.list refl
-left_left rules m n q stamp NoMemory = same_left rules m q m.list refl
+left_left rules m n q stamp ReadingFailed = by_unanswered (λ x. IsListLeft rules m q x.list) q m (same_left rules m q m.list refl) (same_left rules m q m.list refl)
+left_left rules m n q stamp NoMemory = by_unanswered (λ x. IsListLeft rules m q x.list) q m (same_left rules m q m.list refl) (same_left rules m q m.list refl)
 left_left rules m n q stamp StoreFailed = same_left rules m q m.list refl
 
 -- the list at a moment behind a step
@@ -161,14 +179,22 @@ whole_cases m n q = record {
   dropped = refl;
   listed = λ revisions. refl;
   logged = λ lines. refl;
+  begun = λ is t collects none below. refl;
+  marking = λ is p count there. refl;
+  marked = λ is p keep there. refl;
+  copying = λ is p k copied count there copying. refl;
+  copied = λ is p k copied count there copying. refl;
+  lost = λ is r answers. refl;
   packed = λ is t keep free below. refl;
+  last = refl;
+  since = λ tid changes. refl;
   closed = refl;
 }
 
 left_whole : (rules : Rules) (m : Machine) (n : ℕ) (q : Request) (stamp : ℕ) (o : StepOutcome) → (o ≡ StoreFailed → ⊥) → (machine_left rules m n q stamp o).failed ≡ m.failed
 left_whole rules m n q stamp Answered fine = by_step (λ s. s.machine.failed ≡ m.failed) rules m n q stamp (whole_cases m n q)
-left_whole rules m n q stamp ReadingFailed fine = refl
-left_whole rules m n q stamp NoMemory fine = refl
+left_whole rules m n q stamp ReadingFailed fine = by_unanswered (λ x. x.failed ≡ m.failed) q m refl refl
+left_whole rules m n q stamp NoMemory fine = by_unanswered (λ x. x.failed ≡ m.failed) q m refl refl
 left_whole rules m n q stamp StoreFailed fine = absurd (fine refl)
 
 step_at_whole : (rules : Rules) (m : Moment) (n : ℕ) (q : Request) (r : Reply) (now : Moment) → IsStepAt rules m n q r now → (outcome_of r ≡ StoreFailed → ⊥) → now.machine.failed ≡ m.machine.failed
@@ -244,6 +270,13 @@ reply_fine reply.Aborted ends is = absurd cc
 reply_fine (reply.History list) ends is = absurd cc
 reply_fine (reply.UndoLog list) ends is = absurd cc
 reply_fine (reply.Packed stay gone) ends is = absurd cc
+reply_fine (reply.Packing tid) ends is = absurd cc
+reply_fine (reply.Marking count) ends is = absurd cc
+reply_fine (reply.Marked count) ends is = absurd cc
+reply_fine (reply.Copying count) ends is = absurd cc
+reply_fine (reply.Copied count) ends is = absurd cc
+reply_fine (reply.Last tid changes) ends is = absurd cc
+reply_fine (reply.Since keep commits) ends is = absurd cc
 reply_fine reply.Closed ends is = absurd cc
 
 starved_in : (why : Refusal) → end_in why ≡ Some error.Memory → outcome_of_refusal why ≡ NoMemory
@@ -302,7 +335,7 @@ asked_behind rules m ch line.Finish q list asks left = subst (λ (x : Request). 
 asked_behind rules m ch line.Abort q list asks left = subst (λ (x : Request). IsListLeft rules m x list) (sym (same_request request.Abort q asks)) left
 asked_behind rules m ch (line.History oid) q list asks left = subst (λ (x : Request). IsListLeft rules m x list) (sym (same_request (request.History oid) q asks)) left
 asked_behind rules m ch line.UndoLog q list asks left = subst (λ (x : Request). IsListLeft rules m x list) (sym (same_request request.UndoLog q asks)) left
-asked_behind rules m ch (line.Pack tid) q list asks left = subst (λ (x : Request). IsListLeft rules m x list) (sym (same_request (request.Pack tid) q asks)) left
+asked_behind rules m ch (line.Pack tid) q list asks left = subst (λ (x : Request). IsListLeft rules m x list) (sym (same_request (request.Pack tid true) q asks)) left
 asked_behind rules m ch line.Close q list asks left = subst (λ (x : Request). IsListLeft rules m x list) (sym (same_request request.Close q asks)) left
 
 -- what a line leaves: the list that it may leave, and a store that has not failed, where the run goes on

@@ -31,9 +31,14 @@ pub struct Clients<St: Store, R: Resolver, F: Refs> {
 }
 
 impl<St: Store, R: Resolver, F: Refs> Model for Clients<St, R, F> {
+    ghost use Rattle.std.specs.Coded.{codes, coded_ℕ};
+    ghost use Rattle.std.specs.FinSet as set;
+    ghost use Rattle.std.specs.Ordering.{nat_cmp};
     ghost use Rattle.client_turns.specs.Standing.{ClientsState};
 
     ghost Value = { ClientsState R F };
+
+    ghost coded = { Prim.hlevel (codes, set.code {R = nat_cmp} coded_ℕ) };
 
     ghost view = { λ clients. record { hub = clients.hub; clients = clients.clients.items } };
 }

@@ -36,7 +36,10 @@ pub(crate) fn plain_request(line: &Line) -> Option<Request>
         Line::New => Some(Request::NewOids { count: 1 }),
         Line::History { oid } => Some(Request::History { oid: *oid }),
         Line::UndoLog => Some(Request::UndoLog),
-        Line::Pack { tid } => Some(Request::Pack { tid: *tid }),
+        Line::Pack { tid } => Some(Request::Pack {
+            tid: *tid,
+            collect: true,
+        }),
         Line::Close => Some(Request::Close),
         _ => None,
     }
@@ -69,6 +72,10 @@ pub(crate) fn answer_of(reply: Reply) -> Answer
         Reply::History { list } => Answer::History { list },
         Reply::UndoLog { list } => Answer::UndoLog { list },
         Reply::Packed { kept, dropped } => Answer::Packed { kept, dropped },
+        Reply::Packing { .. } => Answer::Empty,
+        Reply::Marking { .. } | Reply::Marked { .. } => Answer::Empty,
+        Reply::Copying { .. } | Reply::Copied { .. } => Answer::Empty,
+        Reply::Last { .. } | Reply::Since { .. } => Answer::Empty,
         Reply::Closed => Answer::Closed,
         Reply::Refused(why) => Answer::Refused(why),
     }

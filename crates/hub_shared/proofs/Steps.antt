@@ -10,7 +10,7 @@ use Rattle.zodb_core.specs.declared.reply.Reply.{Reply}
 use Rattle.zodb_core.specs.declared.request.Request.{Request}
 use Rattle.zodb_core.specs.Entries.{counts_more, legal_more, machine_more, openings_in, openings_more, session_of, steps_are_entries}
 use Rattle.zodb_core.specs.History.{Entry, IsEntryFor, IsNextEntry, Opened, counts_after, entry_made}
-use Rattle.zodb_core.specs.HubState.{HasTicked, HubState, MakesStepAt, StandsForMachine, StepsByClock, StepsSafely, counts_of, rules_of, sessions_with, vote_of_hub}
+use Rattle.zodb_core.specs.HubState.{HasTicked, HubState, MakesStepAt, StandsForMachine, StepsByClock, StepsSafely, counts_of, pack_with, rules_of, sessions_with, vote_of_hub}
 use Rattle.zodb_core.specs.declared.session.Session.{Session}
 use Rattle.std.specs.Option.{option_map}
 use Rattle.zodb_core.specs.Machine.{Machine, Rules, machine_over, new_session, with_session}
@@ -58,7 +58,7 @@ machine_now hub = record {
   greatest = hub.greatest;
   sessions = sessions_with hub.store.broken hub.sessions;
   vote = option_map (vote_of_hub hub.store.voted) hub.vote;
-  pack = None;
+  pack = pack_with hub.store (length hub.journal) hub.pack;
   failed = hub.store.broken;
 }
 

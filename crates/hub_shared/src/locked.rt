@@ -35,10 +35,15 @@ pub(crate) struct LockedHub<St: Store, R: Resolver, F: Refs, C: Clock, J: Origin
 }
 
 impl<St: Store, R: Resolver, F: Refs, C: Clock, J: Origin> Model for LockedHub<St, R, F, C, J> {
+    ghost use Rattle.std.specs.Coded.{codes, coded_ℕ};
+    ghost use Rattle.std.specs.FinSet as set;
+    ghost use Rattle.std.specs.Ordering.{nat_cmp};
     ghost use Rattle.zodb_core.specs.HubState.{rules_of};
     ghost use Rattle.hub_shared.specs.Seats.{LockKeeps, LockedState};
 
     ghost Value = { LockedState R F };
+
+    ghost coded = { Prim.hlevel (codes, set.code {R = nat_cmp} coded_ℕ) };
 
     ghost view = { λ d. record { hub = d.hub; seen = d.seat.seen } };
 

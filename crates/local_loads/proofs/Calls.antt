@@ -189,7 +189,7 @@ module _ {R F : Type 0} (told lasts : Type 0) (stands : List ℕ → List Transa
 
   -- the known view is then that of the list
   pub known_now : (t : Option Told) (v w : View) → MayBeTold t new v w → MayBeTold t new v (view_of (server_of new))
-  known_now t v w may = record { last = may.last; front = may.front; switches = may.switches; later = may.later; known = λ _. later_self (view_of (server_of new)); votes = may.votes }
+  known_now t v w may = record { last = may.last; front = may.front; switches = may.switches; later = may.later; known = λ _. later_self (view_of (server_of new)); votes = may.votes; within = may.within }
 
   abbrev FinishSays : Option Told → Option Told → Result (Option ℕ) Refusal → Type 0
   FinishSays t now result = IfOk result (λ tid. MatchOption tid

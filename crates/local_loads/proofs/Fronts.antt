@@ -133,4 +133,5 @@ front_renews last old new v known f s within kept is = record {
   later = subst (λ (w : View). Later (view_of (server_of old)) w) (sym is.view) (later_self (view_of (server_of old)));
   known = λ _. subst (λ (w : View). Later (view_of (server_of old)) w) (sym is.view) (later_self (view_of (server_of old)));
   votes = kept.votes;
+  within = kept.within;
 }

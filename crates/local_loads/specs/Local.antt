@@ -1,12 +1,13 @@
 -- The server that a hub is to its local clients, and the views of a client that may be at a session of it. Own.
-use Rattle.std.specs.Prelude.{◌≡◌, ℕ, ◌<◌, ◌^◌, List, [], ◌∷◌, Option, Some, None, Bool, true, false, IfSome}
+use Rattle.std.specs.Prelude.{◌≡◌, ℕ, ◌<◌, ◌^◌, List, [], ◌∷◌, Option, Some, None, Bool, true, false, IfSome, length}
 use Rattle.std.specs.Option.{option_map}
 use Rattle.zb_ids.specs.declared.stamp.Stamp.{Stamp}
 use Rattle.zb_model.specs.declared.data.Transaction.{Transaction}
 use Rattle.zb_model.specs.Database.{newest_tid}
 use Rattle.zodb_core.specs.declared.journal.JournalEntry.{JournalEntry}
-use Rattle.zodb_core.specs.HubState.{HubState, vote_of_hub}
+use Rattle.zodb_core.specs.HubState.{HubState, pack_with, vote_of_hub}
 use Rattle.zodb_core.specs.Machine.{MachineVote, switches_of}
+use Rattle.zodb_core.specs.Sound.{IsPackWithin}
 use Rattle.connection_view.specs.Views.{Later, Server, View, view_of}
 use Rattle.local_loads.specs.declared.told.Told.{Told}
 
@@ -45,8 +46,8 @@ abbrev pub WritesLater : List Transaction → Option MachineVote → Type 0
 WritesLater list None = Unit {0}
 WritesLater list (Some v) = IfSome v.writes (λ t. newest_tid list < t.tid)
 
--- A client of a session of this hub may have been told of this view last, and have this known one: what stands in the hub is later than both, and what
--- is voted there is later still. Of a store that failed only the view that was told counts.
+-- A client of a session of this hub may have been told of this view last, and have this known one: what stands in the hub is later than both, what
+-- is voted there is later still, and the open pack leaves the newest transaction whole. Of a store that failed only the view that was told counts.
 pub record MayBeTold {R F : Type 0} (t : Option Told) (hub : HubState R F) (v w : View) : Type 0 where
   pub last : IsToldOf t v
   pub front : v.front < 2 ^ 64
@@ -54,6 +55,7 @@ pub record MayBeTold {R F : Type 0} (t : Option Told) (hub : HubState R F) (v w 
   pub later : Later v (view_of (server_of hub))
   pub known : hub.store.broken ≡ false → Later w (view_of (server_of hub))
   pub votes : hub.store.broken ≡ false → WritesLater hub.store.list (option_map (vote_of_hub hub.store.voted) hub.vote)
+  pub within : hub.store.broken ≡ false → IsPackWithin hub.store.list (pack_with hub.store (length hub.journal) hub.pack)
 
 -- ---- what calls change
 

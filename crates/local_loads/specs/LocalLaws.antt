@@ -1,6 +1,6 @@
 -- What steps of a hub keep of a client that may be at a session of it, whichever session makes them. For the proofs of those who let clients take their turns.
 use Rattle.std.proofs.Common.{◌≡◌, ℕ, ◌<◌, ◌≤◌, ◌^◌, ◌+◌, Bool, true, false, cond, filter, List, [], ◌∷◌, Option, Some, None, refl, sym, ap, subst, ◌∙◌, arith}
-use Rattle.std.specs.Prelude.{IfSome}
+use Rattle.std.specs.Prelude.{IfSome, length}
 use Rattle.std.specs.List.{last_or}
 use Rattle.std.specs.Option.{option_and_then, option_map}
 use Rattle.std.proofs.lemmas.Bool.{le-ltb, true≢false}
@@ -15,11 +15,11 @@ use Rattle.zb_model.specs.Rules.{MergeRules}
 use Rattle.zodb_core.specs.declared.journal.JournalEntry.{JournalEntry}
 use Rattle.zodb_core.specs.declared.reply.Reply.{Reply}
 use Rattle.zodb_core.specs.declared.request.Request.{Request}
-use Rattle.zodb_core.specs.HubState.{HubState, StandsForMachine, rules_of, sessions_with, vote_of_hub}
-use Rattle.zodb_core.specs.Machine.{Machine, MachineVote, Rules, front_of, holds_vote, switches_of}
+use Rattle.zodb_core.specs.HubState.{HubState, StandsForMachine, pack_with, rules_of, sessions_with, vote_of_hub}
+use Rattle.zodb_core.specs.Machine.{Machine, MachineVote, OpenPack, Rules, front_of, holds_vote, switches_of}
 use Rattle.zodb_core.specs.Outcomes.{StepOutcome, machine_left, outcome_of}
-use Rattle.zodb_core.specs.Sound.{GoesOnTo, GrowsByOne, VotesLater}
-use Rattle.zodb_core.specs.SoundLaws.{front_later, grows_to, left_goes_on, revision_grown}
+use Rattle.zodb_core.specs.Sound.{GoesOnTo, GrowsByOne, IsPackWithin, VotesLater}
+use Rattle.zodb_core.specs.SoundLaws.{front_later, grows_to, left_goes_on, left_within, revision_grown}
 use Rattle.zodb_core.specs.StepCases.{StepCases, by_ending}
 use Rattle.zodb_core.specs.SwitchLaws.{record_becomes}
 use Rattle.connection_view.specs.Views.{Later, Server, View, read_as, read_below, read_from, view_of}
@@ -100,13 +100,21 @@ writes_cases m n q writes = record {
   dropped = vote_dropped m.list m.vote (holds_vote n m.vote) writes;
   listed = λ revisions. writes;
   logged = λ lines. writes;
+  begun = λ is t collects none below. writes;
+  marking = λ is p count there. writes;
+  marked = λ is p keep there. writes;
+  copying = λ is p k copied count there copying. writes;
+  copied = λ is p k copied count there copying. writes;
+  lost = λ is r answers. writes;
   packed = λ is t keep free below. subst (WritesLater (packed_by t keep m.list)) (sym free) tt;
+  last = writes;
+  since = λ tid changes. writes;
   closed = vote_dropped m.list m.vote (holds_vote n m.vote) writes;
 }
 
 -- what is voted behind a step is later than the list there
 pub left_writes : (rules : Rules) (m : Machine) (n : ℕ) (q : Request) (stamp : ℕ) (o : StepOutcome) → WritesLater m.list m.vote → WritesLater (machine_left rules m n q stamp o).list (machine_left rules m n q stamp o).vote
-left_writes rules m n q stamp o writes = by_ending (λ x. WritesLater x.list x.vote) rules m n q stamp o writes tt (writes_cases m n q writes)
+left_writes rules m n q stamp o writes = by_ending (λ x. WritesLater x.list x.vote) rules m n q stamp o writes writes tt (writes_cases m n q writes)
 
 -- ---- hubs
 
@@ -118,7 +126,7 @@ machine_of hub = record {
   greatest = hub.greatest;
   sessions = sessions_with hub.store.broken hub.sessions;
   vote = option_map (vote_of_hub hub.store.voted) hub.vote;
-  pack = None;
+  pack = pack_with hub.store (length hub.journal) hub.pack;
   failed = hub.store.broken;
 }
 
@@ -148,7 +156,7 @@ module _ {R F : Type 0} (told lasts : Type 0) (stands : List ℕ → List Transa
           let made = step.step tells (machine_of old) (stands_for old) in
           let writes : WritesLater old.store.list (machine_of old).vote = may.votes whole in
           let goes : GoesOnTo (machine_of old) made.left =
-          subst (GoesOnTo (machine_of old)) (sym made.made.left) (left_goes_on (rules_of rules named old) (machine_of old) n q made.stamp (outcome_of r) (votes_later old.store.list (machine_of old).vote writes)) in
+          subst (GoesOnTo (machine_of old)) (sym made.made.left) (left_goes_on (rules_of rules named old) (machine_of old) n q made.stamp (outcome_of r) (votes_later old.store.list (machine_of old).vote writes) (may.within whole)) in
           subst (Later w) (sym (view_whole new made.left made.stands still))
           (later_on w (machine_of old) made.left (step.database tells whole) goes (subst (Later w) (view_whole old (machine_of old) (stands_for old) whole) later))
 
@@ -160,6 +168,15 @@ module _ {R F : Type 0} (told lasts : Type 0) (stands : List ℕ → List Transa
           subst (λ (l : List Transaction). WritesLater l (machine_of new).vote) (made.stands.list still)
           (subst (WritesLater made.left.list) (made.stands.vote still) left)
 
+      within : old.store.broken ≡ false → new.store.broken ≡ false → IsPackWithin new.store.list (machine_of new).pack
+      within whole still =
+          let made = step.step tells (machine_of old) (stands_for old) in
+          let later : VotesLater (machine_of old).list (machine_of old).vote = votes_later old.store.list (machine_of old).vote (may.votes whole) in
+          let left : IsPackWithin made.left.list made.left.pack =
+          subst (λ (x : Machine). IsPackWithin x.list x.pack) (sym made.made.left) (left_within (rules_of rules named old) (machine_of old) n q made.stamp (outcome_of r) later (may.within whole)) in
+          subst (λ (l : List Transaction). IsPackWithin l (machine_of new).pack) (made.stands.list still)
+          (subst (IsPackWithin made.left.list) made.stands.pack left)
+
       by_new : (b : Bool) → new.store.broken ≡ b → old.store.broken ≡ false → MayBeTold last new v known
       by_new true broke whole = record {
         last = may.last;
@@ -168,6 +185,7 @@ module _ {R F : Type 0} (told lasts : Type 0) (stands : List ℕ → List Transa
         later = subst (λ (b : Bool). Later v (view_of (server_unless b new.store.list new.journal new.greatest))) (sym broke) (later_lost v may.front may.switches);
         known = λ still. absurd (true≢false (sym broke ∙ still));
         votes = λ still. absurd (true≢false (sym broke ∙ still));
+        within = λ still. absurd (true≢false (sym broke ∙ still));
       }
       by_new false still whole = record {
         last = may.last;
@@ -176,6 +194,7 @@ module _ {R F : Type 0} (told lasts : Type 0) (stands : List ℕ → List Transa
         later = behind whole still v may.later;
         known = λ _. behind whole still known (may.known whole);
         votes = λ _. votes whole still;
+        within = λ _. within whole still;
       }
 
       by_old : (b : Bool) → old.store.broken ≡ b → MayBeTold last new v known
@@ -205,13 +224,16 @@ later_first w = record {
   same = λ still oid front low. read_at_zero oid front w.list low ∙ sym (read_at_zero oid front [] low);
 }
 
--- a client that was told nothing yet may be at a session, where a client may be at another one, or nothing is voted that isn't later than the list
-pub opened_may : {R F : Type 0} (hub : HubState R F) → (hub.store.broken ≡ false → WritesLater hub.store.list (option_map (vote_of_hub hub.store.voted) hub.vote)) → MayBeTold None hub first_view (view_of (server_of hub))
-opened_may hub votes = record {
+-- a client that was told nothing yet may be at a session, where a client may be at another one, or nothing is voted that isn't later than the list and no
+-- pack is open that goes over its newest transaction
+pub opened_may : {R F : Type 0} (hub : HubState R F) → (hub.store.broken ≡ false → WritesLater hub.store.list (option_map (vote_of_hub hub.store.voted) hub.vote))
+    → (hub.store.broken ≡ false → IsPackWithin hub.store.list (pack_with hub.store (length hub.journal) hub.pack)) → MayBeTold None hub first_view (view_of (server_of hub))
+opened_may hub votes within = record {
   last = tt;
   front = omega arith;
   switches = omega arith;
   later = later_first (view_of (server_of hub));
   known = λ _. later_self (view_of (server_of hub));
   votes = votes;
+  within = within;
 }

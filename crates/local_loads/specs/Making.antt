@@ -1,5 +1,5 @@
 -- What the calls of a local client are made of: steps of the hub. Own.
-use Rattle.std.specs.Prelude.{◌≡◌, ◌⊎◌, ℕ, List, [], Option, None, Result, Err, Bool, true, false}
+use Rattle.std.specs.Prelude.{◌≡◌, ◌⊎◌, ℕ, List, [], Option, Result, Err, Bool, true, false}
 use Rattle.zb_ids.specs.declared.stamp.Stamp.{Stamp}
 use Rattle.zb_volume.specs.declared.areas.Area.TheVariants.{Main, Side}
 use Rattle.zb_volume.specs.Moments.{LeavesOnly, StaysAs}
@@ -15,6 +15,7 @@ use Rattle.zodb_core.specs.declared.request.Request.TheVariants as request
 use Rattle.zodb_core.specs.HubState.{HubState, IsBeforeOrBehind, MakesStep, StandsForMachine, StepsSafely, may_write, rules_of}
 use Rattle.zodb_core.specs.Machine.{Machine, is_open_in}
 use Rattle.zodb_core.specs.Outcomes.{NoMemory, ReadingFailed, StoreFailed, is_pack, keeps_store, outcome_of, reads_store, takes_memory}
+use Rattle.zodb_core.specs.Packing.{goal_of}
 use Rattle.zodb_core.specs.Seen.{KeepsSeen}
 use Rattle.connection_view.specs.declared.loads.FrontView.{FrontView}
 use Rattle.connection_view.specs.Loading.{Abort, Finish, Front, Load, LoadsCall, NewOid, Undo, Vote}
@@ -30,9 +31,8 @@ pub record IsHubStep {R F : Type 0} (told lasts : Type 0) (stands : List ℕ →
   pub safe : StepsSafely (is_pack q) r old new
   pub side : lasts → is_pack q ≡ false → StaysAs Side old.store.log new.store.log
   pub main : lasts → is_pack q ≡ true → may_write false r ≡ false → StaysAs Main old.store.log new.store.log
-  pub views : told → KeepsSeen (named old.refs) q r old.store.list new.store.list
+  pub views : told → KeepsSeen (named old.refs) (goal_of old.pack) q r old.store.list new.store.list
   pub database : told → old.store.broken ≡ false → IsDatabase old.store.list
-  pub begun : old.store.begun ≡ None → new.store.begun ≡ None
   pub failed : old.store.broken ≡ true → (r ≡ reply.Refused refusal.NotOpen) × (new ≡ old)
   pub closed : is_open_in old.sessions session ≡ false → (r ≡ reply.Refused refusal.NotOpen) × (new ≡ old)
   pub memory : takes_memory q ≡ false → outcome_of r ≡ NoMemory → ⊥

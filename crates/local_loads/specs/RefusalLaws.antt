@@ -1,6 +1,7 @@
 -- A hub never answers a refusal that a connection has of its own. For the proofs of those who let clients take their turns.
 use Rattle.std.proofs.Common.{◌≡◌, ℕ, ◌+◌, ◌-◌, ◌^◌, Bool, true, false, not, cond, eqb, ◌||◌, List, [], ◌∷◌, length, map, Option, Some, None, Result, Ok, Err, refl, sym, ap, subst}
-use Rattle.std.specs.Prelude.{nat_le, nat_lt, ok_or, ◌==◌}
+use Rattle.std.specs.Prelude.{drop, if◌then◌else◌, nat_le, nat_lt, ok_or, take, ◌==◌}
+use Rattle.std.specs.FinSet.{len}
 use Rattle.std.specs.Option.{option_map, option_or}
 use Rattle.zb_ids.specs.Tids.{tid_after}
 use Rattle.zb_ids.specs.declared.stamp.Stamp.{Stamp}
@@ -16,21 +17,24 @@ use Rattle.zb_model.specs.declared.refusal.Refusal.{Refusal}
 use Rattle.zb_model.specs.declared.refusal.Refusal.TheVariants as refusal
 use Rattle.zb_model.specs.declared.refusal.Why.{Why}
 use Rattle.zb_model.specs.Database.{newest_tid, revision_below, serial_of}
+use Rattle.zb_model.specs.Packing.{packed_by}
+use Rattle.zb_model.specs.Packs.{change_count, turn_from}
 use Rattle.zb_model.specs.Queries.{found_below, pack_point, transaction_at}
 use Rattle.zb_model.specs.Rules.{MergeRules}
 use Rattle.commit_phases.specs.Decision.{ahead_of_changes, change_of_store, change_or_conflict, changes_of_stores, excess_of, failed_check, goes_in, length_of_content, too_long, unless_checks_fail, unless_refused, vote_decision}
 use Rattle.commit_phases.specs.Pending.{PendingChanges}
 use Rattle.undo_records.specs.Undone.{content_before, content_now, is_same, is_untouched, merged_content, taken_over, then_with, undone_changes, undone_content, undone_from, undone_of, undone_transaction, with_change}
-use Rattle.pack_reach.specs.Reached.{unreadable}
+use Rattle.pack_reach.specs.Late.{overtaken}
+use Rattle.pack_reach.specs.Packed.{kept, marks_a_turn, packed, unread}
 use Rattle.zodb_core.specs.declared.reply.Reply.{Reply}
 use Rattle.zodb_core.specs.declared.reply.Reply.TheVariants as reply
 use Rattle.zodb_core.specs.declared.request.Request.{Request}
 use Rattle.zodb_core.specs.declared.request.Request.TheVariants as request
 use Rattle.zodb_core.specs.declared.texts.Texts.{Texts}
 use Rattle.zodb_core.specs.HubState.{HubState, rules_of}
-use Rattle.zodb_core.specs.Machine.{Machine, MachineVote, OpenPack, Rules, holds_vote, is_open_in}
+use Rattle.zodb_core.specs.Machine.{Machine, MachineVote, OpenPack, PackCopying, Rules, holds_vote, is_open_in}
 use Rattle.zodb_core.specs.Outcomes.{Answered, EndsFor, FaultCounts, NoMemory, ReadingFailed, StepOutcome, StoreFailed, outcome_of_refusal}
-use Rattle.zodb_core.specs.Steps.{Stepped, busy_for, busy_for_all, changes_in_journal, changes_undone, early_refusal, finish_gives, finish_step, journal_limit, loaded, pack_refusal, pack_running, pack_tid, packed_already, refuse_if, replied_refusal, request_refusal, request_step, step_of, switch_unless, transaction_with, unless_early, vote_at, vote_counted, vote_refusal, vote_step, with_vote}
+use Rattle.zodb_core.specs.Steps.{Stepped, begin_refusal, busy_for, busy_for_all, changes_in_journal, changes_undone, copied_step, copy_step, copying_reply, early_refusal, finish_gives, finish_step, journal_limit, loaded, mark_step, marked_step, marks_on, pack_refusal, pack_running, pack_step, pack_tid, packed_already, refuse_if, replied, replied_refusal, request_refusal, request_step, step_of, switch_step, switched, switches_next, transaction_with, turn_of_copying, turn_refusal, turn_step, unless_early, unless_overtaken, unless_unread, vote_at, vote_counted, vote_refusal, vote_step, with_pack, with_vote}
 use Rattle.connection_view.specs.Loading.{IsServerRefusal}
 use Rattle.local_loads.specs.Answers.{server_refusal}
 use Rattle.local_loads.specs.LocalLaws.{machine_of, stands_for}
@@ -79,6 +83,21 @@ pack_served m tid =
     (either (busy_for_all m.vote) (packed_already (pack_tid tid m.list) (pack_point m.list)) (held_served m.vote)
     (if_so (nat_le (pack_tid tid m.list) (pack_point m.list)) (refusal.PackedAlready (pack_point m.list)) tt))
 
+begin_served : (m : Machine) (tid : ℕ) → ServersIfSome (begin_refusal m tid)
+begin_served m tid =
+    either (pack_running m.pack) (packed_already (pack_tid tid m.list) (pack_point m.list)) (running_served m.pack)
+    (if_so (nat_le (pack_tid tid m.list) (pack_point m.list)) (refusal.PackedAlready (pack_point m.list)) tt)
+
+next_served : (b : Bool) (vote : Option MachineVote) → ServersIfSome (if b then busy_for_all vote else None)
+next_served true vote = held_served vote
+next_served false vote = tt
+
+turn_served : (m : Machine) (n : ℕ) (pack : Option OpenPack) → ServersIfSome (turn_refusal m n pack)
+turn_served m n None = tt
+turn_served m n (Some p) =
+    either (refuse_if (not (p.session == n)) (refusal.PackRunning p.session)) (if switches_next p then busy_for_all m.vote else None)
+    (if_so (not (p.session == n)) (refusal.PackRunning p.session) tt) (next_served (switches_next p) m.vote)
+
 request_served : (m : Machine) (n : ℕ) (q : Request) → ServersIfSome (request_refusal m n q)
 request_served m n request.Front = tt
 request_served m n (request.LoadBefore oid front) = tt
@@ -89,7 +108,11 @@ request_served m n request.Finish = if_so (not (holds_vote n m.vote)) refusal.No
 request_served m n request.Abort = tt
 request_served m n (request.History oid) = tt
 request_served m n request.UndoLog = tt
-request_served m n (request.Pack tid) = pack_served m tid
+request_served m n (request.Pack tid collect) = pack_served m tid
+request_served m n (request.PackBegin tid collect) = begin_served m tid
+request_served m n request.PackTurn = turn_served m n m.pack
+request_served m n request.Last = tt
+request_served m n (request.Since tid changes) = tt
 request_served m n request.Close = tt
 
 early_served : (m : Machine) (n : ℕ) (q : Request) → ServersIfSome (early_refusal m n q)
@@ -219,9 +242,74 @@ finish_served : (m : Machine) (n : ℕ) (vote : Option MachineVote) → IsServer
 finish_served m n None = tt
 finish_served m n (Some v) = writes_served m n v.writes
 
-switch_served : (named : List ℕ → Option (List ℕ)) (m : Machine) (t : ℕ) (w : Option (ℕ × ℕ)) → IsServerReply (switch_unless named m t w).reply
-switch_served named m t (Some w) = tt
-switch_served named m t None = tt
+-- a pack is refused for a record that can't be read, else it goes on
+pub by_unread : (P : Reply → Type 0) (m : Machine) (w : Option (ℕ × ℕ)) (next : Stepped) → ((oid tid : ℕ) → P (reply.Refused (refusal.Unreadable oid tid))) → P next.reply → P (unless_unread m w next).reply
+by_unread P m (Some w) next unread rest = unread w.0 w.1
+by_unread P m None next unread rest = rest
+
+by_overtaken : (P : Reply → Type 0) (m : Machine) (w : Option (ℕ × ℕ)) (next : Stepped) → ((oid tid : ℕ) → P (reply.Refused (refusal.Overtaken oid tid))) → P next.reply → P (unless_overtaken m w next).reply
+by_overtaken P m (Some w) next late rest = late w.0 w.1
+by_overtaken P m None next late rest = rest
+
+-- each reply that a turn of a pack may get where nothing refuses it at once
+pub record TurnReplies (P : Reply → Type 0) : Type 0 where
+  pub none : P (reply.Refused refusal.NoPack)
+  pub unread : (oid tid : ℕ) → P (reply.Refused (refusal.Unreadable oid tid))
+  pub late : (oid tid : ℕ) → P (reply.Refused (refusal.Overtaken oid tid))
+  pub marking : (count : ℕ) → P (reply.Marking count)
+  pub marked : (count : ℕ) → P (reply.Marked count)
+  pub copying : (count : ℕ) → P (reply.Copying count)
+  pub copied : (count : ℕ) → P (reply.Copied count)
+  pub switched : (kept dropped : ℕ) → P (reply.Packed kept dropped)
+
+mark_replies : (P : Reply → Type 0) (named : List ℕ → Option (List ℕ)) (m : Machine) (p : OpenPack) → TurnReplies P → P (mark_step named m p).reply
+mark_replies P named m p replies =
+    by_cases (marks_on p.collects named p.tid m.list p.marked) (by_unread P m (unread p.collects named p.tid m.list) (marked_step named m p) replies.unread (replies.marked (len (kept p.collects named p.tid m.list))))
+  where
+    by_cases : (b : Bool) → P (unless_unread m (unread p.collects named p.tid m.list) (marked_step named m p)).reply
+        → P (cond b (replied (with_pack m (record p { marked = p.marked + marks_a_turn })) (reply.Marking (p.marked + marks_a_turn))) (unless_unread m (unread p.collects named p.tid m.list) (marked_step named m p))).reply
+    by_cases true rest = replies.marking (p.marked + marks_a_turn)
+    by_cases false rest = rest
+
+copy_replies : (P : Reply → Type 0) (whole : Bool) (count : ℕ) → TurnReplies P → P (copying_reply whole count)
+copy_replies P true count replies = replies.copied count
+copy_replies P false count replies = replies.copying count
+
+switch_replies : (P : Reply → Type 0) (named : List ℕ → Option (List ℕ)) (m : Machine) (p : OpenPack) (k : PackCopying) → TurnReplies P → P (switch_step named m p k).reply
+switch_replies P named m p k replies =
+    let late = overtaken p.collects named k.kept p.tid (take k.began m.list) (drop k.began m.list) in
+    let list = packed p.collects named p.tid m.list in
+    let done = switched m p.tid list in
+    by_unread P m (unread p.collects named p.tid m.list) (unless_overtaken m late done) replies.unread
+    (by_overtaken P m late done replies.late (replies.switched (change_count list) (change_count m.list - change_count list)))
+
+copying_replies : (P : Reply → Type 0) (named : List ℕ → Option (List ℕ)) (m : Machine) (p : OpenPack) (copying : Option PackCopying) → TurnReplies P → P (turn_of_copying named m p copying).reply
+copying_replies P named m p None replies = mark_replies P named m p replies
+copying_replies P named m p (Some k) replies = by_cases k.is_whole
+  where
+    list : List Transaction
+    list = packed_by p.tid k.kept m.list
+
+    by_cases : (b : Bool) → P (cond b (switch_step named m p k) (copy_step m p k list)).reply
+    by_cases true = switch_replies P named m p k replies
+    by_cases false = let copied = k.copied + length (turn_from 0 (drop k.copied list)) in copy_replies P (nat_le (length list) copied) (change_count (take copied list)) replies
+
+-- what holds of each of them holds of the reply
+pub by_turn : (P : Reply → Type 0) (named : List ℕ → Option (List ℕ)) (m : Machine) (pack : Option OpenPack) → TurnReplies P → P (turn_step named m pack).reply
+by_turn P named m None replies = replies.none
+by_turn P named m (Some p) replies = copying_replies P named m p p.copying replies
+
+turns_served : TurnReplies IsServerReply
+turns_served = record {
+  none = tt;
+  unread = λ oid tid. tt;
+  late = λ oid tid. tt;
+  marking = λ count. tt;
+  marked = λ count. tt;
+  copying = λ count. tt;
+  copied = λ count. tt;
+  switched = λ kept dropped. tt;
+}
 
 answer_served : (rules : Rules) (m : Machine) (n : ℕ) (q : Request) (stamp : ℕ) → IsServerReply (request_step rules m n q stamp).reply
 answer_served rules m n request.Front stamp = tt
@@ -236,7 +324,13 @@ answer_served rules m n request.Finish stamp = finish_served m n m.vote
 answer_served rules m n request.Abort stamp = tt
 answer_served rules m n (request.History oid) stamp = tt
 answer_served rules m n request.UndoLog stamp = tt
-answer_served rules m n (request.Pack tid) stamp = switch_served rules.named m (pack_tid tid m.list) (unreadable rules.named (pack_tid tid m.list) m.list)
+answer_served rules m n (request.Pack tid collect) stamp =
+    let t = pack_tid tid m.list in
+    by_unread IsServerReply m (unread collect rules.named t m.list) (switched m t (packed collect rules.named t m.list)) (λ oid tid. tt) tt
+answer_served rules m n (request.PackBegin tid collect) stamp = tt
+answer_served rules m n request.PackTurn stamp = by_turn IsServerReply rules.named m m.pack turns_served
+answer_served rules m n request.Last stamp = tt
+answer_served rules m n (request.Since tid changes) stamp = tt
 answer_served rules m n request.Close stamp = tt
 
 unless_served : (early : Option Refusal) (m : Machine) (made : Stepped) → ServersIfSome early → IsServerReply made.reply → IsServerReply (unless_early early m made).reply

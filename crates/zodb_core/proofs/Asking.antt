@@ -142,6 +142,7 @@ votes_for rules m n texts pending changes hub stands whole is_open free decided 
       early = early;
       reads = refl;
       memory = refl;
+      packs = refl;
       step = λ stamp. ap (λ (o : Option Refusal). unless_early o m (vote_step m n texts stamp (vote_decision rules.merging m.list pending))) early
           ∙ ap (vote_step m n texts stamp) (subst (λ (l : List Transaction). vote_decision rules.merging l pending ≡ Ok (map (voted_change l) changes)) (sym (stands.list whole)) decided);
       changes = λ made. refl;
@@ -157,6 +158,7 @@ undo_votes_for rules m n texts tids changes hub stands whole is_open free bare u
       early = early;
       reads = refl;
       memory = refl;
+      packs = refl;
       step = λ stamp. ap (λ (o : Option Refusal). unless_early o m (vote_step m n (record { user = texts.user; description = texts.description; extension = [] }) stamp (changes_undone m.list (undone_of rules.merging m.list tids)))) early
           ∙ ap (λ (e : List ℕ). vote_step m n (record { user = texts.user; description = texts.description; extension = e }) stamp (changes_undone m.list (undone_of rules.merging m.list tids))) (sym bare)
           ∙ ap (λ (d : Result (List NewChange) Refusal). vote_step m n texts stamp (changes_undone m.list d)) (subst (λ (l : List Transaction). undone_of rules.merging l tids ≡ Ok changes) (sym (stands.list whole)) undone);

@@ -1,7 +1,7 @@
 -- When the journal is full.
-use Rattle.std.proofs.Common.{◌≡◌, ℕ, ◌+◌, ◌-◌, ◌^◌, ◌<◌, Bool, true, false, cond, ltb, List, [], ◌∷◌, length, Option, Some, None, Result, Ok, Err, refl, sym, ap, subst, ◌∙◌, arith}
+use Rattle.std.proofs.Common.{◌≡◌, ℕ, ◌+◌, ◌-◌, ◌^◌, ◌<◌, ⊎_elim, Bool, true, false, cond, ltb, List, [], ◌∷◌, length, Option, Some, None, Result, Ok, Err, refl, sym, ap, subst, ◌∙◌, arith}
 use Rattle.std.specs.Result.{result_ok}
-use Rattle.std.proofs.lemmas.Bool.{lt-ltb, ltb-true}
+use Rattle.std.proofs.lemmas.Bool.{cases_Bool, lt-ltb, ltb-true}
 use Rattle.std.proofs.lemmas.Option.{same_Some}
 use Rattle.zb_ids.specs.Tids.{tid_after}
 use Rattle.zb_model.specs.declared.data.Change.{Change}
@@ -14,7 +14,6 @@ use Rattle.zb_model.specs.Database.{newest_tid}
 use Rattle.zb_model.specs.Queries.{found_below}
 use Rattle.commit_phases.specs.Decision.{vote_decision}
 use Rattle.undo_records.specs.Undone.{undone_of}
-use Rattle.pack_reach.specs.Reached.{unreadable}
 use Rattle.zodb_core.specs.declared.reply.Reply.TheVariants as reply
 use Rattle.zodb_core.specs.declared.request.Request.{Request}
 use Rattle.zodb_core.specs.declared.request.Request.TheVariants as request
@@ -22,9 +21,10 @@ use Rattle.zodb_core.specs.declared.texts.Texts.{Texts}
 use Rattle.zodb_core.specs.DecisionLaws.{AnswersIfSome, IsDecidedOnce, IsOrdinary, is_full, ordinary_decision, undo_decided, vote_decided}
 use Rattle.zodb_core.specs.Laws.{JournalIsFull, OverfillsJournal, changes_asked}
 use Rattle.zodb_core.specs.Machine.{Machine, MachineVote, Rules}
+use Rattle.zodb_core.specs.Outcomes.{is_pack}
 use Rattle.zodb_core.specs.Sound.{IsDistinctRequest}
-use Rattle.zodb_core.specs.StepCases.{early_answers}
-use Rattle.zodb_core.specs.Steps.{Stepped, changes_in_journal, changes_undone, early_refusal, finish_gives, finish_step, journal_limit, loaded, pack_tid, replied_refusal, request_step, step_of, switch_unless, unless_early, vote_at, vote_counted, vote_step, with_vote, transaction_with}
+use Rattle.zodb_core.specs.StepCases.{PackCases, by_pack_step, early_answers}
+use Rattle.zodb_core.specs.Steps.{Stepped, changes_in_journal, changes_undone, early_refusal, finish_gives, finish_step, journal_limit, loaded, replied_refusal, request_step, step_of, unless_early, vote_at, vote_counted, vote_step, with_vote, transaction_with}
 
 -- the reply says that the journal is full, with this count
 abbrev IsFullReply : ℕ → Stepped → Type 0
@@ -84,26 +84,39 @@ finish_full : (m : Machine) (n count : ℕ) (vote : Option MachineVote) → IsFu
 finish_full m n count None is = cc
 finish_full m n count (Some v) is = writes_full m n count v.writes is
 
-pack_full : (named : List ℕ → Option (List ℕ)) (m : Machine) (t count : ℕ) (w : Option (ℕ × ℕ)) → IsFullReply count (switch_unless named m t w) → ⊥
-pack_full named m t count (Some w) is = cc
-pack_full named m t count None is = cc
+-- no request on a pack is answered so
+pack_cases : (named : List ℕ → Option (List ℕ)) (m : Machine) (n : ℕ) (q : Request) (count : ℕ) → PackCases (λ s. IsFullReply count s → ⊥) named m n q
+pack_cases named m n q count = record {
+  refused = λ r answers is. not_full r count answers is;
+  begun = λ t collects none below is. cc;
+  marking = λ p done there is. cc;
+  marked = λ p there none is. cc;
+  copying = λ p k copied done there copying is. cc;
+  copied = λ p k copied done there copying is. cc;
+  lost = λ r answers is. not_full r count answers is;
+  packed = λ g goal free below is. cc;
+}
 
-request_full : (rules : Rules) (m : Machine) (n : ℕ) (q : Request) (stamp count : ℕ) → IsFullReply count (request_step rules m n q stamp) → OverfillsJournal m (changes_asked rules m q) count
-request_full rules m n request.Front stamp count is = absurd cc
-request_full rules m n (request.LoadBefore oid front) stamp count is = absurd (loaded_full m oid count (found_below oid front m.list) is)
-request_full rules m n (request.NewOids k) stamp count is = absurd cc
-request_full rules m n (request.Vote user description extension pending) stamp count is =
+request_full : (rules : Rules) (m : Machine) (n : ℕ) (q : Request) (stamp count : ℕ) → is_pack q ≡ false → IsFullReply count (request_step rules m n q stamp) → OverfillsJournal m (changes_asked rules m q) count
+request_full rules m n request.Front stamp count not is = absurd cc
+request_full rules m n (request.LoadBefore oid front) stamp count not is = absurd (loaded_full m oid count (found_below oid front m.list) is)
+request_full rules m n (request.NewOids k) stamp count not is = absurd cc
+request_full rules m n (request.Vote user description extension pending) stamp count not is =
     vote_full m n (record { user = user; description = description; extension = extension }) stamp count (IsDistinctRequest (request.Vote user description extension pending))
     (vote_decision rules.merging m.list pending) (vote_decided rules.merging m.list pending) is
-request_full rules m n (request.Undo user description tids) stamp count is =
+request_full rules m n (request.Undo user description tids) stamp count not is =
     vote_full m n (record { user = user; description = description; extension = [] }) stamp count (IsDistinctRequest (request.Undo user description tids))
     (changes_undone m.list (undone_of rules.merging m.list tids)) (undo_decided rules.merging m.list tids) is
-request_full rules m n request.Finish stamp count is = absurd (finish_full m n count m.vote is)
-request_full rules m n request.Abort stamp count is = absurd cc
-request_full rules m n (request.History oid) stamp count is = absurd cc
-request_full rules m n request.UndoLog stamp count is = absurd cc
-request_full rules m n (request.Pack tid) stamp count is = absurd (pack_full rules.named m (pack_tid tid m.list) count (unreadable rules.named (pack_tid tid m.list) m.list) is)
-request_full rules m n request.Close stamp count is = absurd cc
+request_full rules m n request.Finish stamp count not is = absurd (finish_full m n count m.vote is)
+request_full rules m n request.Abort stamp count not is = absurd cc
+request_full rules m n (request.History oid) stamp count not is = absurd cc
+request_full rules m n request.UndoLog stamp count not is = absurd cc
+request_full rules m n (request.Pack tid collect) stamp count not is = absurd cc
+request_full rules m n (request.PackBegin tid collect) stamp count not is = absurd cc
+request_full rules m n request.PackTurn stamp count not is = absurd cc
+request_full rules m n request.Last stamp count not is = absurd cc
+request_full rules m n (request.Since tid changes) stamp count not is = absurd cc
+request_full rules m n request.Close stamp count not is = absurd cc
 
 early_full : (m : Machine) (count : ℕ) (early : Option Refusal) (made : Stepped) → AnswersIfSome early → IsFullReply count (unless_early early m made) → (early ≡ None) × IsFullReply count made
 early_full m count None made answers is = (refl, is)
@@ -145,7 +158,11 @@ request_says rules m n request.Finish stamp count much = none_says m count (requ
 request_says rules m n request.Abort stamp count much = none_says m count (request_step rules m n request.Abort stamp) much
 request_says rules m n (request.History oid) stamp count much = none_says m count (request_step rules m n (request.History oid) stamp) much
 request_says rules m n request.UndoLog stamp count much = none_says m count (request_step rules m n request.UndoLog stamp) much
-request_says rules m n (request.Pack tid) stamp count much = none_says m count (request_step rules m n (request.Pack tid) stamp) much
+request_says rules m n (request.Pack tid collect) stamp count much = none_says m count (request_step rules m n (request.Pack tid collect) stamp) much
+request_says rules m n (request.PackBegin tid collect) stamp count much = none_says m count (request_step rules m n (request.PackBegin tid collect) stamp) much
+request_says rules m n request.PackTurn stamp count much = none_says m count (request_step rules m n request.PackTurn stamp) much
+request_says rules m n request.Last stamp count much = none_says m count (request_step rules m n request.Last stamp) much
+request_says rules m n (request.Since tid changes) stamp count much = none_says m count (request_step rules m n (request.Since tid changes) stamp) much
 request_says rules m n request.Close stamp count much = none_says m count (request_step rules m n request.Close stamp) much
 
 says_full : (rules : Rules) (m : Machine) (n : ℕ) (q : Request) (stamp count : ℕ) → (early_refusal m n q ≡ None) × OverfillsJournal m (changes_asked rules m q) count → IsFullReply count (step_of rules m n q stamp)
@@ -153,8 +170,11 @@ says_full rules m n q stamp count both = ap (λ (o : Option Refusal). (unless_ea
 
 full_where : (rules : Rules) (m : Machine) (n : ℕ) (q : Request) (stamp count : ℕ) → IsFullReply count (step_of rules m n q stamp) → (early_refusal m n q ≡ None) × OverfillsJournal m (changes_asked rules m q) count
 full_where rules m n q stamp count is =
+    ⊎_elim (λ (pack : is_pack q ≡ true). absurd (by_pack_step (λ s. IsFullReply count s → ⊥) rules m n q stamp pack (pack_cases rules.named m n q count) is))
+    (λ (not : is_pack q ≡ false).
     let both : (early_refusal m n q ≡ None) × IsFullReply count (request_step rules m n q stamp) = early_full m count (early_refusal m n q) (request_step rules m n q stamp) (early_answers m n q) is in
-    (both.0, request_full rules m n q stamp count both.1)
+    (both.0, request_full rules m n q stamp count not both.1))
+    (cases_Bool (is_pack q))
 
 pub journal_full : JournalIsFull
 journal_full rules m n q stamp count = (full_where rules m n q stamp count, says_full rules m n q stamp count)

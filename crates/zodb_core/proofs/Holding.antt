@@ -1,7 +1,7 @@
 -- What was decided is voted.
 use Rattle.std.proofs.Common.{◌≡◌, ℕ, ◌+◌, ◌-◌, ◌^◌, ◌<◌, ◌≤◌, List, [], ◌∷◌, Option, Some, None, Ok, Bool, true, false, if◌then◌else◌, length, map, refl, sym, ap, subst, ◌∙◌, arith, IsTrue}
 use Rattle.std.specs.Prelude.{IfSome, nat_lt, slice_get}
-use Rattle.std.specs.Option.{is_some, option_map}
+use Rattle.std.specs.Option.{ForSome, is_some, option_map}
 use Rattle.std.proofs.lemmas.Bool.{lt-ltb, le-ltb, eq-eqb}
 use Rattle.std.proofs.lemmas.List.{length-map}
 use Rattle.std.proofs.lemmas.Option.{same_Some}
@@ -16,10 +16,11 @@ use Rattle.zb_model.specs.declared.refusal.Refusal.TheVariants as refusal
 use Rattle.zb_model.specs.declared.store_error.StoreError.{StoreError}
 use Rattle.zb_model.specs.declared.store_error.StoreError.TheVariants as store_error
 use Rattle.zb_model.specs.Database.{newest_tid}
-use Rattle.zb_model.specs.Stores.{MayRefuse, RefusalKeepsRest, StoreState}
+use Rattle.zb_model.specs.Stores.{CountsStand, KeepsBegun, MayRefuse, RefusalKeepsRest, StoreState}
 use Rattle.zb_model.specs.Queries.{oids_of}
 use Rattle.zb_model.specs.Voting.{voted_change, voted_of}
 use Rattle.zodb_core.specs.declared.journal.JournalEntry.{JournalEntry}
+use Rattle.zodb_core.specs.declared.open_pack.HubPack.{HubPack}
 use Rattle.zodb_core.specs.declared.reply.Reply.{Reply}
 use Rattle.zodb_core.specs.declared.reply.Reply.TheVariants as reply
 use Rattle.zodb_core.specs.declared.request.Request.{Request}
@@ -28,12 +29,13 @@ use Rattle.zodb_core.specs.declared.texts.Texts.{Texts}
 use Rattle.zodb_core.specs.declared.vote.HubVote.{HubVote}
 use Rattle.zodb_core.specs.declared.vote.VotedEntry.{VotedEntry}
 use Rattle.zodb_core.specs.Holding.{IsNextTid, VotesFor, tid_if_left}
-use Rattle.zodb_core.specs.HubState.{HubState, IsEntryOf, HubKeeps, IsClockRead, MakesStep, MakesStepAt, StandsForMachine, counts_of, vote_of_hub, sessions_with}
+use Rattle.zodb_core.specs.HubState.{HubState, IsEntryOf, HubKeeps, IsClockRead, MakesStep, MakesStepAt, StandsForMachine, StepsSafely, counts_of, vote_of_hub, sessions_with}
 use Rattle.zodb_core.specs.Machine.{Machine, MachineVote, Rules, switches_of}
-use Rattle.zodb_core.specs.Outcomes.{Answered, AreLaterCounts, failed, holds_writes, machine_left, outcome_of}
+use Rattle.zodb_core.specs.Outcomes.{Answered, AreLaterCounts, FaultCounts, failed, holds_writes, machine_left, outcome_of, unanswered}
 use Rattle.zodb_core.specs.Replies.{fault_reply}
 use Rattle.zodb_core.specs.Steps.{Stepped, changes_in_journal, journal_limit, replied_refusal, replied, step_of, transaction_with, vote_at, vote_counted, vote_step, with_vote}
-use Rattle.zodb_core.proofs.Stepping.{answered, ends_answered, sessions_whole, stands_read}
+use Rattle.zodb_core.proofs.Stepping.{answered, ends_answered, pack_of_store, pack_same, sessions_whole, stands_read, stands_unanswered}
+use Rattle.zodb_core.proofs.Keeping.{keeps_same, within_same}
 use Rattle.zodb_core.proofs.Votes.{dropped_failed}
 
 -- ---- steps with and without the clock
@@ -91,9 +93,9 @@ nothing_decided m n texts stamp changes none = ap (λ (cs : List Change). vote_s
 
 pub hold_empty : {R F : Type 0} (rules : Rules) (m : Machine) (n : ℕ) (q : Request) (texts : Texts) (changes : List NewChange) (old new : HubState R F) (before after : Option (List Stamp))
     → StandsForMachine old m → old.store.broken ≡ false → VotesFor rules m n q texts (Ok (map (voted_change m.list) changes)) → changes ≡ [] → old.store.voted ≡ None
-    → new.store ≡ old.store → new.journal ≡ old.journal → new.greatest ≡ old.greatest → new.sessions ≡ old.sessions → new.vote ≡ Some (record { session = n; writes = None }) → after ≡ before
+    → new.store ≡ old.store → new.journal ≡ old.journal → new.greatest ≡ old.greatest → new.sessions ≡ old.sessions → new.vote ≡ Some (record { session = n; writes = None }) → new.pack ≡ old.pack → after ≡ before
     → MakesStep rules m n q reply.Voted old new before after
-hold_empty rules m n q texts changes old new before after stands whole votes none voted store entries greatest sessions vote same =
+hold_empty rules m n q texts changes old new before after stands whole votes none voted store entries greatest sessions vote pack same =
     answered_still rules m n q reply.Voted (with_vote m n None) old new before after
     (record { reads = subst (λ (s : StoreState). old.store.read_faults ≤ s.read_faults) (sym store) (omega arith); others = subst (λ (s : StoreState). old.store.faults ≤ s.faults) (sym store) (omega arith) })
     refl
@@ -103,7 +105,7 @@ hold_empty rules m n q texts changes old new before after stands whole votes non
       journal = stands.journal ∙ sym entries;
       greatest = stands.greatest ∙ sym greatest;
       sessions = sessions_whole m old stands whole ∙ sym (ap (λ (s : StoreState). sessions_with s.broken new.sessions) store ∙ ap (λ (b : Bool). sessions_with b new.sessions) whole ∙ sessions);
-      pack = stands.pack;
+      pack = stands.pack ∙ pack_of_store old.store new.store (length old.journal) (length new.journal) old.pack new.pack store (ap length entries) pack;
       failed = stands.failed ∙ sym (ap (λ (s : StoreState). s.broken) store);
       list = λ _. stands.list whole ∙ sym (ap (λ (s : StoreState). s.list) store);
       vote = λ _. sym (ap (option_map (vote_of_hub new.store.voted)) vote
@@ -146,10 +148,10 @@ pub hold_starved : {R F : Type 0} (rules : Rules) (m : Machine) (n : ℕ) (q : R
     → MakesStep rules m n q (reply.Refused refusal.Memory) old new before after
 hold_starved rules m n q texts changes old new before after votes later left same = record {
   stamp = 0;
-  left = m;
+  left = unanswered q m;
   ticks = false;
   clock = same;
-  stands = left;
+  stands = stands_unanswered m q new votes.packs left;
   made = record { later = later; cause = record { allowed = votes.early; one = votes.memory }; left = refl; ticks = λ never. absurd cc; failed_ticks = λ never. absurd cc };
 }
 
@@ -204,15 +206,16 @@ pub hold_voted : {R F : Type 0} (rules : Rules) (m : Machine) (n : ℕ) (q : Req
     → AreLaterCounts (counts_of old.store) (counts_of new.store) → new.store.broken ≡ false → new.store.list ≡ old.store.list
     → new.store.voted ≡ Some (voted_of old.store.list (record { tid = tid; user = texts.user; description = texts.description; extension = texts.extension; changes = changes }))
     → new.journal ≡ old.journal → new.greatest ≡ old.greatest → new.sessions ≡ old.sessions → new.vote ≡ Some (record { session = n; writes = Some entry })
+    → new.store.begun ≡ old.store.begun → new.pack ≡ old.pack
     → MakesStepAt next.stamp true rules m n q reply.Voted old new
-hold_voted rules m n q texts changes kept newest tid entry old new before after stands whole votes some is within front next later still list voted entries greatest sessions vote =
+hold_voted rules m n q texts changes kept newest tid entry old new before after stands whole votes some is within front next later still list voted entries greatest sessions vote begun pack =
     ticked rules m n q reply.Voted (with_vote m n (Some (transaction_with tid texts (map (voted_change m.list) changes)))) next.stamp old new later refl
     (holds rules m n q texts changes kept newest tid old before after stands votes some is within front next)
     (record {
       journal = stands.journal ∙ sym entries;
       greatest = stands.greatest ∙ sym greatest;
       sessions = sessions_whole m old stands whole ∙ sym (ap (λ (b : Bool). sessions_with b new.sessions) still ∙ sessions);
-      pack = stands.pack;
+      pack = stands.pack ∙ pack_same old.store new.store (length old.journal) (length new.journal) old.pack new.pack (still ∙ sym whole) list begun (ap length entries) pack;
       failed = stands.failed ∙ whole ∙ sym still;
       list = λ _. stands.list whole ∙ sym list;
       vote = λ _. sym (ap (option_map (vote_of_hub new.store.voted)) vote
@@ -225,9 +228,9 @@ pub hold_failed : {R F : Type 0} (rules : Rules) (m : Machine) (n : ℕ) (q : Re
     → StandsForMachine old m → old.store.broken ≡ false → VotesFor rules m n q texts (Ok (map (voted_change m.list) changes)) → (changes ≡ [] → ⊥) → kept ≡ changes_in_journal old.journal
     → kept + length changes ≤ journal_limit → newest ≡ newest_tid m.list → (next : IsNextTid newest before after (Some tid))
     → AreLaterCounts (counts_of old.store) (counts_of new.store) → MayRefuse old.store new.store e → (e ≡ store_error.StoreFault → new.store.broken ≡ true) → RefusalKeepsRest old.store new.store e
-    → new.journal ≡ old.journal → new.greatest ≡ old.greatest → new.sessions ≡ old.sessions → new.vote ≡ old.vote
+    → new.journal ≡ old.journal → new.greatest ≡ old.greatest → new.sessions ≡ old.sessions → new.vote ≡ old.vote → new.pack ≡ old.pack
     → MakesStepAt next.stamp true rules m n q (fault_reply e) old new
-hold_failed rules m n q texts changes kept newest tid store_error.StoreFault old new before after stands whole votes some is within front next later may broke keeps entries greatest sessions vote =
+hold_failed rules m n q texts changes kept newest tid store_error.StoreFault old new before after stands whole votes some is within front next later may broke keeps entries greatest sessions vote pack =
     let gives = holds rules m n q texts changes kept newest tid old before after stands votes some is within front next in
     record {
       left = failed m;
@@ -247,11 +250,11 @@ hold_failed rules m n q texts changes kept newest tid store_error.StoreFault old
         failed_ticks = λ fault. sym (ap (λ (s : Stepped). s.ticks) gives);
       };
     }
-hold_failed rules m n q texts changes kept newest tid store_error.ReadFault old new before after stands whole votes some is within front next later may broke keeps entries greatest sessions vote =
+hold_failed rules m n q texts changes kept newest tid store_error.ReadFault old new before after stands whole votes some is within front next later may broke keeps entries greatest sessions vote pack =
     let gives = holds rules m n q texts changes kept newest tid old before after stands votes some is within front next in
     record {
-      left = m;
-      stands = stands_read m old new stands keeps entries greatest sessions vote;
+      left = unanswered q m;
+      stands = stands_unanswered m q new votes.packs (stands_read m old new stands keeps entries greatest sessions vote pack);
       made = record {
         later = later;
         cause = (record { allowed = votes.early; one = votes.reads }, may);
@@ -260,11 +263,11 @@ hold_failed rules m n q texts changes kept newest tid store_error.ReadFault old 
         failed_ticks = λ never. absurd cc;
       };
     }
-hold_failed rules m n q texts changes kept newest tid store_error.Memory old new before after stands whole votes some is within front next later may broke keeps entries greatest sessions vote =
+hold_failed rules m n q texts changes kept newest tid store_error.Memory old new before after stands whole votes some is within front next later may broke keeps entries greatest sessions vote pack =
     let gives = holds rules m n q texts changes kept newest tid old before after stands votes some is within front next in
     record {
-      left = m;
-      stands = stands_read m old new stands keeps entries greatest sessions vote;
+      left = unanswered q m;
+      stands = stands_unanswered m q new votes.packs (stands_read m old new stands keeps entries greatest sessions vote pack);
       made = record {
         later = later;
         cause = record { allowed = votes.early; one = votes.memory };
@@ -273,6 +276,47 @@ hold_failed rules m n q texts changes kept newest tid store_error.Memory old new
         failed_ticks = λ never. absurd cc;
       };
     }
+
+-- where neither count has moved
+pub counts_same : (old new : StoreState) → CountsStand old new → counts_of new ≡ counts_of old
+counts_same old new same =
+    ap (λ (k : ℕ). let c : FaultCounts = record { reads = k; others = new.faults } in c) same.reads
+    ∙ ap (λ (k : ℕ). let c : FaultCounts = record { reads = old.read_faults; others = k } in c) same.faults
+
+-- the same, whatever the store tells
+pub hold_fails_safely : {R F : Type 0} (e : StoreError) (old new : HubState R F) → AreLaterCounts (counts_of old.store) (counts_of new.store) → MayRefuse old.store new.store e
+    → (e ≡ store_error.StoreFault → new.store.broken ≡ true) → RefusalKeepsRest old.store new.store e → new.resolver ≡ old.resolver → new.refs ≡ old.refs → new.sessions ≡ old.sessions
+    → StepsSafely false (fault_reply e) old new
+hold_fails_safely store_error.StoreFault old new later may broke keeps resolver refs sessions = record {
+  resolver = resolver;
+  refs = refs;
+  sessions = ap length sessions;
+  later = later;
+  cause = may;
+  others = λ never. absurd cc;
+  broken = λ _. broke refl;
+  log = λ never. absurd cc;
+}
+hold_fails_safely store_error.ReadFault old new later may broke keeps resolver refs sessions = record {
+  resolver = resolver;
+  refs = refs;
+  sessions = ap length sessions;
+  later = later;
+  cause = may;
+  others = λ _. ap (λ (s : StoreState). s.faults) keeps;
+  broken = λ whole. ap (λ (s : StoreState). s.broken) keeps ∙ whole;
+  log = λ _. ap (λ (s : StoreState). s.log) keeps;
+}
+hold_fails_safely store_error.Memory old new later may broke keeps resolver refs sessions = record {
+  resolver = resolver;
+  refs = refs;
+  sessions = ap length sessions;
+  later = later;
+  cause = counts_same old.store new.store may;
+  others = λ _. may.faults;
+  broken = λ whole. ap (λ (s : StoreState). s.broken) keeps ∙ whole;
+  log = λ _. ap (λ (s : StoreState). s.log) keeps;
+}
 
 -- ---- what is kept of it
 
@@ -288,11 +332,12 @@ entry_same : (e : VotedEntry) (list : List Transaction) (new : NewTransaction) (
 entry_same e list new voted is tid oids = subst (IsEntryOf (Some e)) (sym is) (tid, oids ∙ voted_oids list new)
 
 -- what a hub keeps, once a transaction is voted
-pub kept_voted : (told : Type 0) (s t : StoreState) (one entries : List JournalEntry) (before capacity changes switches : ℕ) (sessions : List Session) (vote : Option HubVote) (has_failed : Bool) (n : ℕ) (e : VotedEntry) (new : NewTransaction)
-    → HubKeeps told s one before changes switches sessions vote has_failed → entries ≡ one → s.broken ≡ false → t.broken ≡ false → length entries < capacity → changes + length new.changes ≤ journal_limit
+pub kept_voted : (told : Type 0) (s t : StoreState) (one entries : List JournalEntry) (before capacity changes switches : ℕ) (sessions : List Session) (vote : Option HubVote) (pack : Option HubPack) (has_failed : Bool) (named : List ℕ → Option (List ℕ)) (n : ℕ) (e : VotedEntry) (new : NewTransaction)
+    → HubKeeps told s one before changes switches sessions vote pack has_failed named → entries ≡ one → s.broken ≡ false → t.broken ≡ false → length entries < capacity → changes + length new.changes ≤ journal_limit
     → is_some t.voted ≡ true → e.tid ≡ new.tid → e.oids ≡ map (λ c. c.oid) new.changes → (told → t.voted ≡ Some (voted_of s.list new))
-    → HubKeeps told t entries capacity changes switches sessions (Some (record { session = n; writes = Some e })) has_failed
-kept_voted told s t one entries before capacity changes switches sessions vote has_failed n e new kept same whole still room within some tid oids voted = record {
+    → KeepsBegun told s t → (told → t.list ≡ s.list) → t.newest ≡ s.newest → ForSome t.voted (λ x. x.tid ≡ new.tid) → s.newest < new.tid
+    → HubKeeps told t entries capacity changes switches sessions (Some (record { session = n; writes = Some e })) pack has_failed named
+kept_voted told s t one entries before capacity changes switches sessions vote pack has_failed named n e new kept same whole still room within some tid oids voted begun list newest numbered above = record {
   failed = kept.failed ∙ whole ∙ sym still;
   few = kept.few;
   counted = kept.counted ∙ sym (ap changes_in_journal same);
@@ -301,4 +346,7 @@ kept_voted told s t one entries before capacity changes switches sessions vote h
   room = (room, subst (λ (k : ℕ). changes + k ≤ journal_limit) (sym (ap length oids ∙ length-map new.changes (λ c. c.oid))) within);
   voted = λ _. some;
   entry = λ tells _. entry_same e s.list new t.voted (voted tells) tid oids;
+  later = λ _ x there. omega (arith, newest, numbered x there, above);
+  within = within_same pack (length one) (length entries) (ap length same) kept.within;
+  open_pack = λ _. keeps_same told named s t (length one) (length entries) pack (kept.open_pack whole) list begun newest (ap length same);
 }

@@ -1,9 +1,9 @@
 -- Laws of the machine, each as it is stated.
 use Rattle.zodb_core.specs.HistoryLaws.{entry_numbers, fronts_rise, history_counts, left_greatest, numbers_new, step_answered}
-use Rattle.zodb_core.specs.Laws.{CountsNeverFall, EndingsKeepSound, FrontsNeverFall, GreatestNeverFalls, HistoriesKeepSound, HistoriesOnlyGrow, HistoriesComeTo, ListsOnlyGrow, ListsStayDatabases, MachineStartsSound, NewNumbersAreNew, NewestNeverFalls, NumbersComeBehindGreatest, OpeningsKeepSound, PacksKeepFronts, PacksKeepViews, RecordsBelowFrontsStood, StatesBelowFrontsStay, StepsAreAnswered, StepsGrowOrPack, StepsKeepSound}
+use Rattle.zodb_core.specs.Laws.{CountsNeverFall, EndingsKeepSound, FrontsNeverFall, GreatestNeverFalls, HistoriesKeepSound, HistoriesOnlyGrow, HistoriesComeTo, ListsArePackedAsAsked, ListsOnlyGrow, ListsStayDatabases, MachineStartsSound, NewNumbersAreNew, NewestNeverFalls, NumbersComeBehindGreatest, OpeningsKeepSound, PacksKeepFronts, PacksKeepViews, RecordsBelowFrontsStood, StatesBelowFrontsStay, StepsAreAnswered, StepsGrowOrPack, StepsKeepSound, TurnsKeepLists}
 use Rattle.zodb_core.specs.Machine.{machine_over}
 use Rattle.zodb_core.specs.SoundLaws.{content_grown, front_come, history_grows, history_comes, history_sound, left_becomes, left_grows, left_sound, newest_come, opened_sound, over_sound, revision_grown, step_sound}
-use Rattle.zodb_core.specs.SwitchLaws.{front_packed, pack_keeps, record_come}
+use Rattle.zodb_core.specs.SwitchLaws.{front_packed, pack_keeps, packed_as_asked, record_come, turn_keeps_list}
 
 pub starts_sound : MachineStartsSound
 starts_sound list is = over_sound list is
@@ -44,11 +44,17 @@ states_stay oid front list grown grows up = (revision_grown oid front list grown
 pub records_stood : RecordsBelowFrontsStood
 records_stood oid front serial bytes list now leads up is = record_come oid front serial bytes list now leads up is
 
+pub packed_as_was_asked : ListsArePackedAsAsked
+packed_as_was_asked rules m n q stamp is = packed_as_asked rules m n q stamp is
+
+pub turns_keep : TurnsKeepLists
+turns_keep rules m n q stamp is not = turn_keeps_list rules m n q stamp is not
+
 pub views_kept : PacksKeepViews
-views_kept rules m n tid stamp is = pack_keeps rules m n tid stamp is
+views_kept rules m n q stamp is = pack_keeps rules m n q stamp is
 
 pub fronts_kept : PacksKeepFronts
-fronts_kept rules m n tid stamp = front_packed rules m n tid stamp
+fronts_kept rules m n q stamp is within = front_packed rules m n q stamp is within
 
 pub fronts_never : FrontsNeverFall
 fronts_never rules m counts entries sound distinct legal = fronts_rise rules m counts entries sound distinct legal

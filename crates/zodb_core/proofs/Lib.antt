@@ -1,9 +1,15 @@
 pub mod Asking
+pub mod Behind
+pub mod Copies
 pub mod Full
 pub mod Holding
+pub mod Keeping
 pub mod Late
 pub mod Lawful
 pub mod Legal
+pub mod Marks
 pub mod Stepping
+pub mod Switches
 pub mod Switching
+pub mod Turns
 pub mod Votes

@@ -1,6 +1,8 @@
 -- How a hub's step is a step of each machine that it stands for.
-use Rattle.std.proofs.Common.{◌≡◌, ℕ, List, [], Option, Some, None, Bool, true, false, not, refl, sym, ap, subst, ◌∙◌}
-use Rattle.std.specs.Option.{option_map, option_or}
+use Rattle.std.proofs.Common.{◌≡◌, ℕ, ◌+◌, ◌≤◌, if◌then◌else◌, List, [], ◌∷◌, ◌++◌, length, Option, Some, None, Bool, true, false, not, refl, sym, ap, subst, ◌∙◌, arith}
+use Rattle.std.specs.Prelude.{IfSome}
+use Rattle.std.specs.Option.{option_map, option_map_or, option_or}
+use Rattle.std.proofs.lemmas.List.{length-append}
 use Rattle.zb_base.specs.Counts.{Rose}
 use Rattle.zb_ids.specs.declared.stamp.Stamp.{Stamp}
 use Rattle.zb_model.specs.declared.found.Found.{Found}
@@ -9,28 +11,83 @@ use Rattle.zb_model.specs.declared.refusal.Refusal.TheVariants as refusal
 use Rattle.zb_model.specs.declared.store_error.StoreError.{StoreError}
 use Rattle.zb_model.specs.declared.store_error.StoreError.TheVariants as store_error
 use Rattle.zb_model.specs.Queries.{found_below}
-use Rattle.zb_model.specs.Stores.{MayRefuseReading, ReadKeepsRest, StoreState}
+use Rattle.zb_model.specs.declared.data.Transaction.{Transaction}
+use Rattle.zb_model.specs.Stores.{BegunPack, MayRefuseReading, ReadKeepsRest, StoreState}
+use Rattle.pack_reach.specs.Marking.{MarkerState}
 use Rattle.zodb_core.specs.declared.reply.Reply.{Reply}
 use Rattle.zodb_core.specs.declared.reply.Reply.TheVariants as reply
 use Rattle.zodb_core.specs.declared.request.Request.{Request}
 use Rattle.zodb_core.specs.declared.request.Request.TheVariants as request
 use Rattle.zodb_core.specs.declared.session.Session.{Session}
-use Rattle.zodb_core.specs.HubState.{HasTicked, HubState, MakesStep, MakesStepAt, StandsForMachine, StepsByClock, counts_of, vote_of_hub, sessions_with}
+use Rattle.zodb_core.specs.declared.open_pack.HubCopying.{HubCopying}
+use Rattle.zodb_core.specs.declared.open_pack.HubPack.{HubPack}
+use Rattle.zodb_core.specs.HubState.{HasTicked, HubState, IsWithin, MakesStep, MakesStepAt, StandsForMachine, StepsByClock, copying_of_hub, counts_of, pack_of_hub, pack_with, unless_broken, vote_of_hub, sessions_with}
 use Rattle.zodb_core.specs.Entries.{made_unread}
-use Rattle.zodb_core.specs.Machine.{Machine, Rules, front_of, is_open_in, switches_of}
-use Rattle.zodb_core.specs.Outcomes.{Answered, AreLaterCounts, EndsFor, FaultCounts, IsStepMade, MayGoWrong, NoMemory, StepOutcome, ReadingFailed, StoreFailed, machine_left, outcome_of, reads_store, takes_memory}
+use Rattle.zodb_core.specs.Machine.{Machine, OpenPack, PackCopying, Rules, front_of, is_open_in, switches_of}
+use Rattle.zodb_core.specs.Outcomes.{Answered, AreLaterCounts, EndsFor, FaultCounts, IsStepMade, MayGoWrong, NoMemory, StepOutcome, ReadingFailed, StoreFailed, is_pack, machine_left, outcome_of, reads_store, takes_memory, unanswered}
 use Rattle.zodb_core.specs.Replies.{fault_reply, loaded_reply}
-use Rattle.zodb_core.specs.Steps.{Stepped, early_refusal, loaded, refuse_if, replied, request_refusal, step_of}
+use Rattle.zodb_core.specs.Steps.{Stepped, early_refusal, loaded, refuse_if, replied, request_refusal, step_of, without_pack}
+
+-- ---- the open pack that a hub has
+
+-- it is the machine's still where the list, what is copied and the journal's length are as they were
+pub pack_same : (old new : StoreState) (before now : ℕ) (p q : Option HubPack) → new.broken ≡ old.broken → new.list ≡ old.list → new.begun ≡ old.begun → now ≡ before → q ≡ p
+    → pack_with old before p ≡ pack_with new now q
+pack_same old new before now p q broken list begun entries pack =
+    ap (λ (b : Bool). unless_broken b (option_map (pack_of_hub old.list old.begun before) p)) (sym broken)
+    ∙ ap (λ (l : List Transaction). unless_broken new.broken (option_map (pack_of_hub l old.begun before) p)) (sym list)
+    ∙ ap (λ (b : Option BegunPack). unless_broken new.broken (option_map (pack_of_hub new.list b before) p)) (sym begun)
+    ∙ ap (λ (k : ℕ). unless_broken new.broken (option_map (pack_of_hub new.list new.begun k) p)) (sym entries)
+    ∙ ap (λ (o : Option HubPack). unless_broken new.broken (option_map (pack_of_hub new.list new.begun now) o)) (sym pack)
+
+-- and where the store is
+pub pack_of_store : (old new : StoreState) (before now : ℕ) (p q : Option HubPack) → new ≡ old → now ≡ before → q ≡ p → pack_with old before p ≡ pack_with new now q
+pack_of_store old new before now p q same entries pack =
+    pack_same old new before now p q (ap (λ (s : StoreState). s.broken) same) (ap (λ (s : StoreState). s.list) same) (ap (λ (s : StoreState). s.begun) same) entries pack
+
+-- while the store is whole
+pub pack_whole : (s : StoreState) (entries : ℕ) (p : Option HubPack) → s.broken ≡ false → pack_with s entries p ≡ option_map (pack_of_hub s.list s.begun entries) p
+pack_whole s entries p whole = ap (λ (b : Bool). unless_broken b (option_map (pack_of_hub s.list s.begun entries) p)) whole
+
+-- none is open once it failed
+pub pack_lost : (s : StoreState) (entries : ℕ) (p : Option HubPack) → s.broken ≡ true → pack_with s entries p ≡ None
+pack_lost s entries p broke = ap (λ (b : Bool). unless_broken b (option_map (pack_of_hub s.list s.begun entries) p)) broke
+
+-- a commit puts one transaction behind the list, and one entry behind the journal
+pub pack_more : (old new : StoreState) (before now : ℕ) (t : Transaction) (p q : Option HubPack) → old.broken ≡ false → new.broken ≡ false → new.list ≡ old.list ++ t ∷ [] → new.begun ≡ old.begun
+    → now ≡ before + 1 → q ≡ p → IsWithin p before → pack_with old before p ≡ pack_with new now q
+pack_more old new before now t p q whole still list begun entries pack within =
+    pack_whole old before p whole
+    ∙ grown p within
+    ∙ ap (λ (l : List Transaction). option_map (pack_of_hub l old.begun (before + 1)) p) (sym list)
+    ∙ ap (λ (b : Option BegunPack). option_map (pack_of_hub new.list b (before + 1)) p) (sym begun)
+    ∙ ap (λ (k : ℕ). option_map (pack_of_hub new.list new.begun k) p) (sym entries)
+    ∙ ap (option_map (pack_of_hub new.list new.begun now)) (sym pack)
+    ∙ sym (pack_whole new now q still)
+  where
+    one : (marks : MarkerState) (k : Option HubCopying) → IfSome k (λ (k : HubCopying). k.entries ≤ before)
+        → option_map (copying_of_hub old.list old.begun before marks) k ≡ option_map (copying_of_hub (old.list ++ t ∷ []) old.begun (before + 1) marks) k
+    one marks None up = refl
+    one marks (Some k) up =
+        ap (λ (n : ℕ). let c : PackCopying = record { kept = marks.set; began = n; copied = option_map_or (λ (b : BegunPack). length b.copied) old.begun 0; is_whole = k.is_whole } in Some c)
+        (omega (arith, up, length-append old.list (t ∷ [])))
+
+    grown : (p : Option HubPack) → IsWithin p before
+        → option_map (pack_of_hub old.list old.begun before) p ≡ option_map (pack_of_hub (old.list ++ t ∷ []) old.begun (before + 1)) p
+    grown None up = refl
+    grown (Some p) up = ap (λ (c : Option PackCopying). let o : OpenPack = record { session = p.session; tid = p.tid; collects = p.collects; marked = p.marker.counted; copying = c } in Some o) (one p.marker p.copying up)
 
 -- ---- what a hub that was only read stands for
 
 pub stands_read : {R F : Type 0} (m : Machine) (old new : HubState R F) → StandsForMachine old m → ReadKeepsRest old.store new.store
-    → new.journal ≡ old.journal → new.greatest ≡ old.greatest → new.sessions ≡ old.sessions → new.vote ≡ old.vote → StandsForMachine new m
-stands_read m old new stands same journal greatest sessions vote = record {
+    → new.journal ≡ old.journal → new.greatest ≡ old.greatest → new.sessions ≡ old.sessions → new.vote ≡ old.vote → new.pack ≡ old.pack → StandsForMachine new m
+stands_read m old new stands same journal greatest sessions vote pack = record {
   journal = stands.journal ∙ sym journal;
   greatest = stands.greatest ∙ sym greatest;
   sessions = stands.sessions ∙ sym (ap (λ (s : StoreState). sessions_with s.broken new.sessions) same ∙ ap (sessions_with old.store.broken) sessions);
-  pack = stands.pack;
+  pack = stands.pack
+      ∙ pack_same old.store new.store (length old.journal) (length new.journal) old.pack new.pack (ap (λ (s : StoreState). s.broken) same) (ap (λ (s : StoreState). s.list) same)
+      (ap (λ (s : StoreState). s.begun) same) (ap length journal) pack;
   failed = stands.failed ∙ sym (ap (λ (s : StoreState). s.broken) same);
   list = λ whole. stands.list (sym (ap (λ (s : StoreState). s.broken) same) ∙ whole) ∙ sym (ap (λ (s : StoreState). s.list) same);
   vote = λ whole. stands.vote (sym (ap (λ (s : StoreState). s.broken) same) ∙ whole)
@@ -72,13 +129,17 @@ answered rules m n q r left old new stamps later is gives stands = record {
   stands = stands;
 }
 
+-- a request on no pack leaves the pack where it isn't answered
+pub stands_unanswered : {R F : Type 0} (m : Machine) (q : Request) (hub : HubState R F) → is_pack q ≡ false → StandsForMachine hub m → StandsForMachine hub (unanswered q m)
+stands_unanswered m q hub not stands = subst (StandsForMachine hub) (sym (ap (λ (b : Bool). if b then without_pack m else m) not)) stands
+
 -- reading failed
 pub reading_failed : {R F : Type 0} (rules : Rules) (m : Machine) (n : ℕ) (q : Request) (old new : HubState R F) (stamps : Option (List Stamp))
-    → AreLaterCounts (counts_of old.store) (counts_of new.store) → MayGoWrong m n q (reads_store q) → Rose old.store.read_faults new.store.read_faults → StandsForMachine new m
+    → AreLaterCounts (counts_of old.store) (counts_of new.store) → MayGoWrong m n q (reads_store q) → Rose old.store.read_faults new.store.read_faults → StandsForMachine new (unanswered q m)
     → MakesStep rules m n q (reply.Refused refusal.ReadFault) old new stamps stamps
 reading_failed rules m n q old new stamps later may rose stands = record {
   stamp = 0;
-  left = m;
+  left = unanswered q m;
   ticks = false;
   clock = refl;
   stands = stands;
@@ -87,11 +148,11 @@ reading_failed rules m n q old new stamps later may rose stands = record {
 
 -- there was no memory
 pub starved : {R F : Type 0} (rules : Rules) (m : Machine) (n : ℕ) (q : Request) (old new : HubState R F) (stamps : Option (List Stamp))
-    → AreLaterCounts (counts_of old.store) (counts_of new.store) → MayGoWrong m n q (takes_memory q) → StandsForMachine new m
+    → AreLaterCounts (counts_of old.store) (counts_of new.store) → MayGoWrong m n q (takes_memory q) → StandsForMachine new (unanswered q m)
     → MakesStep rules m n q (reply.Refused refusal.Memory) old new stamps stamps
 starved rules m n q old new stamps later may stands = record {
   stamp = 0;
-  left = m;
+  left = unanswered q m;
   ticks = false;
   clock = refl;
   stands = stands;
@@ -101,7 +162,7 @@ starved rules m n q old new stamps later may stands = record {
 -- an error of a read
 pub read_refused : {R F : Type 0} (rules : Rules) (m : Machine) (n : ℕ) (q : Request) (e : StoreError) (old new : HubState R F) (stamps : Option (List Stamp))
     → AreLaterCounts (counts_of old.store) (counts_of new.store) → early_refusal m n q ≡ None → reads_store q ≡ true → takes_memory q ≡ true
-    → MayRefuseReading old.store new.store e → StandsForMachine new m
+    → MayRefuseReading old.store new.store e → StandsForMachine new (unanswered q m)
     → MakesStep rules m n q (fault_reply e) old new stamps stamps
 read_refused rules m n q store_error.StoreFault old new stamps later early reads takes may stands = absurd may
 read_refused rules m n q store_error.ReadFault old new stamps later early reads takes may stands = reading_failed rules m n q old new stamps later (record { allowed = early; one = reads }) may stands

@@ -1,6 +1,7 @@
 -- How a vote or a session ends.
 use Rattle.std.proofs.Common.{◌≡◌, ℕ, zero, suc, ◌≤◌, inl, inr, ⊎_elim, List, [], ◌∷◌, ◌++◌, Option, Some, None, Bool, true, false, not, if◌then◌else◌, length, map, max, refl, sym, ap, subst, ◌∙◌, arith}
 use Rattle.std.specs.Prelude.{slice_set}
+use Rattle.std.proofs.lemmas.List.{length-append}
 use Rattle.std.specs.Option.{ForSome, option_map, option_or, is_some}
 use Rattle.std.proofs.lemmas.Bool.{eq-eqb, eqb-true, true≢false}
 use Rattle.zb_base.specs.Counts.{Rose}
@@ -9,7 +10,7 @@ use Rattle.zb_model.specs.declared.data.Transaction.{Transaction}
 use Rattle.zb_model.specs.declared.refusal.Refusal.{Refusal}
 use Rattle.zb_model.specs.declared.refusal.Refusal.TheVariants as refusal
 use Rattle.zb_model.specs.Queries.{greatest_of, oids_of}
-use Rattle.zb_model.specs.Stores.{StandsForOneOf, StoreState}
+use Rattle.zb_model.specs.Stores.{BegunPack, DropKeepsRest, KeepsBegun, StandsForOneOf, StoreState}
 use Rattle.zb_volume.specs.declared.areas.Area.TheVariants.{Main}
 use Rattle.zb_volume.specs.Calls.{Event}
 use Rattle.zb_volume.specs.Moments.{here, Leaves, LeavesOnly}
@@ -22,11 +23,13 @@ use Rattle.zodb_core.specs.declared.request.Request.TheVariants as request
 use Rattle.zodb_core.specs.declared.session.Session.{Session}
 use Rattle.zodb_core.specs.declared.vote.HubVote.{HubVote}
 use Rattle.zodb_core.specs.declared.vote.VotedEntry.{VotedEntry}
-use Rattle.zodb_core.specs.HubState.{HubState, IsBeforeOrBehind, IsEntryOf, MakesStep, StandsForMachine, counts_of, has_vote, vote_of_hub, sessions_with}
+use Rattle.zodb_core.specs.declared.open_pack.HubPack.{HubPack}
+use Rattle.zodb_core.specs.HubState.{HubState, IsBeforeOrBehind, IsEntryOf, IsWithin, MakesStep, StandsForMachine, counts_of, has_vote, owns_pack, pack_of_hub, vote_of_hub, sessions_with}
 use Rattle.zodb_core.specs.Machine.{Machine, MachineVote, OpenPack, Rules, has_pack, holds_vote, is_open_in}
 use Rattle.zodb_core.specs.Outcomes.{AreLaterCounts, changes_store, closed_session, failed, holds_writes}
+use Rattle.zodb_core.specs.Packing.{without_pack_of}
 use Rattle.zodb_core.specs.Steps.{Stepped, early_refusal, finish_gives, finish_step, refuse_if, replied, request_refusal, request_step, step_of, unless_early, with_commit, without_session, without_vote}
-use Rattle.zodb_core.proofs.Stepping.{answered, not_early, sessions_whole}
+use Rattle.zodb_core.proofs.Stepping.{answered, not_early, pack_lost, pack_more, pack_of_store, pack_same, pack_whole, sessions_whole}
 
 -- ---- the vote that a session holds
 
@@ -53,9 +56,9 @@ finish_of rules m n stamp writes is_open vote =
 
 pub finish_empty : {R F : Type 0} (rules : Rules) (m : Machine) (n : ℕ) (old new : HubState R F) (stamps : Option (List Stamp))
     → StandsForMachine old m → is_open_in old.sessions n ≡ true → old.store.broken ≡ false → has_vote n old.vote ≡ true → old.store.voted ≡ None
-    → new.store ≡ old.store → new.journal ≡ old.journal → new.greatest ≡ old.greatest → new.sessions ≡ old.sessions → new.vote ≡ None
+    → new.store ≡ old.store → new.journal ≡ old.journal → new.greatest ≡ old.greatest → new.sessions ≡ old.sessions → new.vote ≡ None → new.pack ≡ old.pack
     → MakesStep rules m n request.Finish reply.Empty old new stamps stamps
-finish_empty rules m n old new stamps stands is_open whole held voted store entries greatest sessions vote =
+finish_empty rules m n old new stamps stands is_open whole held voted store entries greatest sessions vote pack =
     answered rules m n request.Finish reply.Empty (record m { vote = None }) old new stamps
     (record { reads = subst (λ (s : StoreState). old.store.read_faults ≤ s.read_faults) (sym store) (omega arith); others = subst (λ (s : StoreState). old.store.faults ≤ s.faults) (sym store) (omega arith) })
     refl
@@ -65,7 +68,7 @@ finish_empty rules m n old new stamps stands is_open whole held voted store entr
       journal = stands.journal ∙ sym entries;
       greatest = stands.greatest ∙ sym greatest;
       sessions = sessions_whole m old stands whole ∙ sym (ap (λ (s : StoreState). sessions_with s.broken new.sessions) store ∙ ap (λ (b : Bool). sessions_with b new.sessions) whole ∙ sessions);
-      pack = stands.pack;
+      pack = stands.pack ∙ pack_of_store old.store new.store (length old.journal) (length new.journal) old.pack new.pack store (ap length entries) pack;
       failed = stands.failed ∙ sym (ap (λ (s : StoreState). s.broken) store);
       list = λ _. stands.list whole ∙ sym (ap (λ (s : StoreState). s.list) store);
       vote = λ _. sym (ap (option_map (vote_of_hub new.store.voted)) vote);
@@ -76,8 +79,9 @@ committed_with : {R F : Type 0} (rules : Rules) (m : Machine) (n : ℕ) (t : Tra
     → e.tid ≡ t.tid → e.oids ≡ oids_of t → AreLaterCounts (counts_of old.store) (counts_of new.store)
     → new.store.broken ≡ false → new.store.list ≡ old.store.list ++ t ∷ []
     → new.journal ≡ old.journal ++ journal.Commit n e.tid e.oids ∷ [] → new.greatest ≡ max old.greatest (greatest_of e.oids) → new.sessions ≡ old.sessions → new.vote ≡ None
+    → new.store.begun ≡ old.store.begun → new.pack ≡ old.pack → IsWithin old.pack (length old.journal)
     → MakesStep rules m n request.Finish (reply.Committed e.tid) old new stamps stamps
-committed_with rules m n t e old new stamps stands is_open whole held voted tid oids later still list entries greatest sessions vote =
+committed_with rules m n t e old new stamps stands is_open whole held voted tid oids later still list entries greatest sessions vote begun pack within =
     answered rules m n request.Finish (reply.Committed e.tid) (with_commit m n t) old new stamps later refl
     (finish_of rules m n 0 (Some t) (ap (λ (xs : List Session). is_open_in xs n) (sessions_whole m old stands whole) ∙ is_open)
     (vote_held m n old stands whole held ∙ ap (λ (w : Option Transaction). let x : MachineVote = record { session = n; writes = w } in Some x) voted)
@@ -87,7 +91,7 @@ committed_with rules m n t e old new stamps stands is_open whole held voted tid 
           ∙ sym (entries ∙ ap (λ (k : ℕ). old.journal ++ journal.Commit n k e.oids ∷ []) tid ∙ ap (λ (os : List ℕ). old.journal ++ journal.Commit n t.tid os ∷ []) oids);
       greatest = ap (λ (k : ℕ). max k (greatest_of (oids_of t))) stands.greatest ∙ sym (greatest ∙ ap (λ (os : List ℕ). max old.greatest (greatest_of os)) oids);
       sessions = sessions_whole m old stands whole ∙ sym (ap (λ (b : Bool). sessions_with b new.sessions) still ∙ sessions);
-      pack = stands.pack;
+      pack = stands.pack ∙ pack_more old.store new.store (length old.journal) (length new.journal) t old.pack new.pack whole still list begun (ap length entries ∙ length-append old.journal (journal.Commit n e.tid e.oids ∷ [])) pack within;
       failed = stands.failed ∙ whole ∙ sym still;
       list = λ _. ap (λ (ts : List Transaction). ts ++ t ∷ []) (stands.list whole) ∙ sym list;
       vote = λ _. sym (ap (option_map (vote_of_hub new.store.voted)) vote);
@@ -98,10 +102,11 @@ pub finish_committed : {R F : Type 0} (rules : Rules) (m : Machine) (n : ℕ) (v
     → is_some voted ≡ true → IsEntryOf (Some e) voted → AreLaterCounts (counts_of old.store) (counts_of new.store)
     → new.store.broken ≡ false → ForSome voted (λ t. new.store.list ≡ old.store.list ++ t ∷ [])
     → new.journal ≡ old.journal ++ journal.Commit n e.tid e.oids ∷ [] → new.greatest ≡ max old.greatest (greatest_of e.oids) → new.sessions ≡ old.sessions → new.vote ≡ None
+    → (told : Type 0) → told → KeepsBegun told old.store new.store → new.pack ≡ old.pack → IsWithin old.pack (length old.journal)
     → MakesStep rules m n request.Finish (reply.Committed e.tid) old new stamps stamps
-finish_committed rules m n None e old new stamps stands is_open whole held voted some entry later still list entries greatest sessions vote = absurd cc
-finish_committed rules m n (Some t) e old new stamps stands is_open whole held voted some entry later still list entries greatest sessions vote =
-    committed_with rules m n t e old new stamps stands is_open whole held voted entry.0 entry.1 later still (list t refl) entries greatest sessions vote
+finish_committed rules m n None e old new stamps stands is_open whole held voted some entry later still list entries greatest sessions vote told tells begun pack within = absurd cc
+finish_committed rules m n (Some t) e old new stamps stands is_open whole held voted some entry later still list entries greatest sessions vote told tells begun pack within =
+    committed_with rules m n t e old new stamps stands is_open whole held voted entry.0 entry.1 later still (list t refl) entries greatest sessions vote (begun.all tells) pack within
 
 -- ---- what a crash in a step leaves
 
@@ -171,13 +176,13 @@ lost_vote false vote e = absurd cc
 
 -- the session holds no vote
 pub dropped_none : {R F : Type 0} (m : Machine) (n : ℕ) (old new : HubState R F) → StandsForMachine old m → old.store.broken ≡ false → has_vote n old.vote ≡ false
-    → new.store ≡ old.store → new.journal ≡ old.journal → new.greatest ≡ old.greatest → new.sessions ≡ old.sessions → new.vote ≡ old.vote
+    → new.store ≡ old.store → new.journal ≡ old.journal → new.greatest ≡ old.greatest → new.sessions ≡ old.sessions → new.vote ≡ old.vote → new.pack ≡ old.pack
     → StandsForMachine new (without_vote m n)
-dropped_none m n old new stands whole not store entries greatest sessions vote = record {
+dropped_none m n old new stands whole not store entries greatest sessions vote pack = record {
   journal = stands.journal ∙ sym entries;
   greatest = stands.greatest ∙ sym greatest;
   sessions = sessions_whole m old stands whole ∙ sym (ap (λ (s : StoreState). sessions_with s.broken new.sessions) store ∙ ap (λ (b : Bool). sessions_with b new.sessions) whole ∙ sessions);
-  pack = stands.pack;
+  pack = stands.pack ∙ pack_of_store old.store new.store (length old.journal) (length new.journal) old.pack new.pack store (ap length entries) pack;
   failed = stands.failed ∙ sym (ap (λ (s : StoreState). s.broken) store);
   list = λ _. stands.list whole ∙ sym (ap (λ (s : StoreState). s.list) store);
   vote = λ _. kept_vote (holds_vote n m.vote) m.vote (ap (holds_vote n) (stands.vote whole) ∙ not_held n old.vote old.store.voted not)
@@ -187,12 +192,13 @@ dropped_none m n old new stands whole not store entries greatest sessions vote =
 -- it held it, and the store has voted nothing any more
 pub dropped_writes : {R F : Type 0} (m : Machine) (n : ℕ) (old new : HubState R F) → StandsForMachine old m → old.store.broken ≡ false → has_vote n old.vote ≡ true
     → new.store.broken ≡ false → new.store.list ≡ old.store.list → new.journal ≡ old.journal → new.greatest ≡ old.greatest → new.sessions ≡ old.sessions → new.vote ≡ None
+    → (told : Type 0) → told → KeepsBegun told old.store new.store → new.pack ≡ old.pack
     → StandsForMachine new (without_vote m n)
-dropped_writes m n old new stands whole held still list entries greatest sessions vote = record {
+dropped_writes m n old new stands whole held still list entries greatest sessions vote told tells begun pack = record {
   journal = stands.journal ∙ sym entries;
   greatest = stands.greatest ∙ sym greatest;
   sessions = sessions_whole m old stands whole ∙ sym (ap (λ (b : Bool). sessions_with b new.sessions) still ∙ sessions);
-  pack = stands.pack;
+  pack = stands.pack ∙ pack_same old.store new.store (length old.journal) (length new.journal) old.pack new.pack (still ∙ sym whole) list (begun.all tells) (ap length entries) pack;
   failed = stands.failed ∙ whole ∙ sym still;
   list = λ _. stands.list whole ∙ sym list;
   vote = λ _. lost_vote (holds_vote n m.vote) m.vote (holds_own n old.store.voted m.vote (vote_held m n old stands whole held)) ∙ sym (ap (option_map (vote_of_hub new.store.voted)) vote);
@@ -206,7 +212,7 @@ dropped_failed m old new stands whole broke entries greatest sessions = record {
   journal = stands.journal ∙ sym entries;
   greatest = stands.greatest ∙ sym greatest;
   sessions = ap (map closed_session) (sessions_whole m old stands whole ∙ sym sessions) ∙ sym (ap (λ (b : Bool). sessions_with b new.sessions) broke);
-  pack = refl;
+  pack = sym (pack_lost new.store (length new.journal) new.pack broke);
   failed = sym broke;
   list = λ still. absurd (true≢false (sym broke ∙ still));
   vote = λ still. absurd (true≢false (sym broke ∙ still));
@@ -267,26 +273,68 @@ abort_failed rules m n old new stamps stands whole is_open later writes rose lef
 
 -- ---- close
 
-no_pack : (n : ℕ) (pack : Option OpenPack) → pack ≡ None → (if has_pack n pack then None else pack) ≡ None
-no_pack n None is = refl
-no_pack n (Some p) is = absurd cc
+-- the hub has no pack of the session
+owns_shown : (n : ℕ) (p : Option HubPack) (list : List Transaction) (begun : Option BegunPack) (entries : ℕ) → has_pack n (option_map (pack_of_hub list begun entries) p) ≡ owns_pack n p
+owns_shown n None list begun entries = refl
+owns_shown n (Some p) list begun entries = refl
+
+pack_owned : {R F : Type 0} (m : Machine) (n : ℕ) (hub : HubState R F) → StandsForMachine hub m → hub.store.broken ≡ false → has_pack n m.pack ≡ owns_pack n hub.pack
+pack_owned m n hub stands whole =
+    ap (has_pack n) (stands.pack ∙ pack_whole hub.store (length hub.journal) hub.pack whole) ∙ owns_shown n hub.pack hub.store.list hub.store.begun (length hub.journal)
+
+kept_pack : (b : Bool) (pack : Option OpenPack) → b ≡ false → (if b then None else pack) ≡ pack
+kept_pack false pack e = refl
+kept_pack true pack e = absurd cc
+
+lost_pack : (b : Bool) (pack : Option OpenPack) → b ≡ true → (if b then None else pack) ≡ None
+lost_pack true pack e = refl
+lost_pack false pack e = absurd cc
+
+pub pack_unowned : {R F : Type 0} (m : Machine) (n : ℕ) (hub : HubState R F) → StandsForMachine hub m → hub.store.broken ≡ false → owns_pack n hub.pack ≡ false → StandsForMachine hub (without_pack_of m n)
+pack_unowned m n hub stands whole not = record {
+  journal = stands.journal;
+  greatest = stands.greatest;
+  sessions = stands.sessions;
+  pack = kept_pack (has_pack n m.pack) m.pack (pack_owned m n hub stands whole ∙ not) ∙ stands.pack;
+  failed = stands.failed;
+  list = stands.list;
+  vote = stands.vote;
+}
+
+-- it had one, and has none any more
+pub pack_disowned : {R F : Type 0} (m : Machine) (n : ℕ) (old new : HubState R F) → StandsForMachine old m → old.store.broken ≡ false → owns_pack n old.pack ≡ true → DropKeepsRest old.store new.store
+    → new.journal ≡ old.journal → new.greatest ≡ old.greatest → new.sessions ≡ old.sessions → new.vote ≡ old.vote → new.pack ≡ None → StandsForMachine new (without_pack_of m n)
+pack_disowned m n old new stands whole owns same entries greatest sessions vote pack = record {
+  journal = stands.journal ∙ sym entries;
+  greatest = stands.greatest ∙ sym greatest;
+  sessions = stands.sessions ∙ sym (ap (λ (s : StoreState). sessions_with s.broken new.sessions) same ∙ ap (sessions_with old.store.broken) sessions);
+  pack = lost_pack (has_pack n m.pack) m.pack (pack_owned m n old stands whole ∙ owns)
+      ∙ sym (pack_whole new.store (length new.journal) new.pack (ap (λ (s : StoreState). s.broken) same ∙ whole) ∙ ap (option_map (pack_of_hub new.store.list new.store.begun (length new.journal))) pack);
+  failed = stands.failed ∙ sym (ap (λ (s : StoreState). s.broken) same);
+  list = λ _. stands.list whole ∙ sym (ap (λ (s : StoreState). s.list) same);
+  vote = λ _. stands.vote whole ∙ sym (ap (λ (s : StoreState). option_map (vote_of_hub s.voted) new.vote) same ∙ ap (option_map (vote_of_hub old.store.voted)) vote);
+}
+
+-- where neither count has moved
+pub counts_stand : (a b c : StoreState) → b.read_faults ≡ a.read_faults → b.faults ≡ a.faults → c.read_faults ≡ b.read_faults → c.faults ≡ b.faults → AreLaterCounts (counts_of a) (counts_of c)
+counts_stand a b c reads faults reads' faults' = record { reads = omega (arith, reads, reads'); others = omega (arith, faults, faults') }
 
 pub close_dropped : {R F : Type 0} (rules : Rules) (m : Machine) (n : ℕ) (old mid new : HubState R F) (stamps : Option (List Stamp))
     → StandsForMachine old m → old.store.broken ≡ false → is_open_in old.sessions n ≡ true → AreLaterCounts (counts_of old.store) (counts_of new.store)
-    → StandsForMachine mid (without_vote m n) → mid.store.broken ≡ false
-    → new.store ≡ mid.store → new.journal ≡ mid.journal → new.greatest ≡ mid.greatest → new.vote ≡ mid.vote
+    → StandsForMachine mid (without_pack_of (without_vote m n) n) → mid.store.broken ≡ false
+    → new.store ≡ mid.store → new.journal ≡ mid.journal → new.greatest ≡ mid.greatest → new.vote ≡ mid.vote → new.pack ≡ mid.pack
     → new.sessions ≡ slice_set mid.sessions n (record { is_open = false; told = length mid.journal })
     → MakesStep rules m n request.Close reply.Closed old new stamps stamps
-close_dropped rules m n old mid new stamps stands whole is_open later left still store entries greatest vote sessions =
+close_dropped rules m n old mid new stamps stands whole is_open later left still store entries greatest vote pack sessions =
     answered rules m n request.Close reply.Closed (without_session m n) old new stamps later refl
     (ap (λ (o : Option Refusal). unless_early o m (replied (without_session m n) reply.Closed)) (not_early m n request.Close old.sessions (sessions_whole m old stands whole) is_open))
     (record {
       journal = left.journal ∙ sym entries;
       greatest = left.greatest ∙ sym greatest;
-      sessions = ap (λ (xs : List Session). slice_set xs n (record { is_open = false; told = length m.journal })) (sessions_whole (without_vote m n) mid left still)
+      sessions = ap (λ (xs : List Session). slice_set xs n (record { is_open = false; told = length m.journal })) (sessions_whole (without_pack_of (without_vote m n) n) mid left still)
           ∙ ap (λ (es : List JournalEntry). slice_set mid.sessions n (record { is_open = false; told = length es })) left.journal
           ∙ sym (ap (λ (s : StoreState). sessions_with s.broken new.sessions) store ∙ ap (λ (b : Bool). sessions_with b new.sessions) still ∙ sessions);
-      pack = no_pack n m.pack stands.pack;
+      pack = left.pack ∙ pack_of_store mid.store new.store (length mid.journal) (length new.journal) mid.pack new.pack store (ap length entries) pack;
       failed = left.failed ∙ sym (ap (λ (s : StoreState). s.broken) store);
       list = λ _. left.list still ∙ sym (ap (λ (s : StoreState). s.list) store);
       vote = λ _. left.vote still ∙ sym (ap (λ (s : StoreState). option_map (vote_of_hub s.voted) new.vote) store ∙ ap (option_map (vote_of_hub mid.store.voted)) vote);

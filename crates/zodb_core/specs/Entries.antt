@@ -1,6 +1,6 @@
 -- Histories one entry longer, whose entry a session made, and how many sessions were opened. For the proofs of those who keep a history. Own.
 use Rattle.std.proofs.Common.{◌≡◌, ◌≢◌, ℕ, ◌+◌, Bool, not, true, false, cond, List, [], ◌∷◌, ◌++◌, Option, Some, None, Result, Ok, Err, length, refl, sym, ap, ◌∙◌, subst, arith, true≢false}
-use Rattle.std.specs.Prelude.{IsTrue, is_some, nat_lt, ◌^◌, ◌-◌}
+use Rattle.std.specs.Prelude.{IsTrue, nat_lt, ◌^◌, ◌-◌}
 use Rattle.zb_ids.specs.Tids.{tid_after}
 use Rattle.zb_model.specs.declared.data.Change.{Change}
 use Rattle.std.specs.Option.{option_or}
@@ -17,7 +17,7 @@ use Rattle.zodb_core.specs.declared.reply.Reply.TheVariants as reply
 use Rattle.zodb_core.specs.declared.request.Request.{Request}
 use Rattle.zodb_core.specs.declared.request.Request.TheVariants as request
 use Rattle.zodb_core.specs.declared.texts.Texts.{Texts}
-use Rattle.zodb_core.specs.History.{CountsGoOn, Entry, HistoriesGoOn, HistoryStep, IsLegal, IsNextEntry, MachinesGoOn, Made, Opened, PrefixesAreLegal, StepsAreEntries, entry_made, UnreadStepsAreOne, counts_after, counts_behind, machine_after, machine_behind}
+use Rattle.zodb_core.specs.History.{CountsGoOn, Entry, HistoriesGoOn, MachinesGoOn, Made, Opened, PrefixesAreLegal, StepsAreEntries, UnreadStepsAreOne, counts_behind, machine_behind}
 use Rattle.zodb_core.specs.Laws.{FreeVotesAreServed, StepsHaveRoom}
 use Rattle.zodb_core.specs.Machine.{Machine, Rules, holds_vote, is_open_in}
 use Rattle.zodb_core.specs.Outcomes.{Answered, EndsFor, FaultCounts, IsStepMade, MayGoWrong, NoMemory, ReadingFailed, StepOutcome, StoreFailed, changes_store, machine_left, outcome_of}
@@ -101,7 +101,11 @@ request_unread rules m n request.Finish a b quiet = refl
 request_unread rules m n request.Abort a b quiet = refl
 request_unread rules m n (request.History oid) a b quiet = refl
 request_unread rules m n request.UndoLog a b quiet = refl
-request_unread rules m n (request.Pack tid) a b quiet = refl
+request_unread rules m n (request.Pack tid collect) a b quiet = refl
+request_unread rules m n (request.PackBegin tid collect) a b quiet = refl
+request_unread rules m n request.PackTurn a b quiet = refl
+request_unread rules m n request.Last a b quiet = refl
+request_unread rules m n (request.Since tid changes) a b quiet = refl
 request_unread rules m n request.Close a b quiet = refl
 
 pub step_unread : UnreadStepsAreOne
@@ -192,7 +196,15 @@ room_cases m n q = record {
   dropped = λ is. cc;
   listed = λ revisions is. cc;
   logged = λ lines is. cc;
+  begun = λ is t collects none below e. cc;
+  marking = λ is p count there e. cc;
+  marked = λ is p keep there e. cc;
+  copying = λ is p k copied count there copying e. cc;
+  copied = λ is p k copied count there copying e. cc;
+  lost = λ is. ordinary_room;
   packed = λ is t keep free below e. cc;
+  last = λ is. cc;
+  since = λ tid changes is. cc;
   closed = λ is. cc;
 }
 
@@ -249,7 +261,11 @@ step_free rules m n request.Finish stamp holder needs free is = cc
 step_free rules m n request.Abort stamp holder needs free is = cc
 step_free rules m n (request.History oid) stamp holder needs free is = cc
 step_free rules m n request.UndoLog stamp holder needs free is = cc
-step_free rules m n (request.Pack tid) stamp holder needs free is = cc
+step_free rules m n (request.Pack tid collect) stamp holder needs free is = cc
+step_free rules m n (request.PackBegin tid collect) stamp holder needs free is = cc
+step_free rules m n request.PackTurn stamp holder needs free is = cc
+step_free rules m n request.Last stamp holder needs free is = cc
+step_free rules m n (request.Since tid changes) stamp holder needs free is = cc
 step_free rules m n request.Close stamp holder needs free is = cc
 
 pub free_votes_are_served : FreeVotesAreServed

@@ -42,7 +42,15 @@ answered_cases m n q = record {
   dropped = refl;
   listed = λ revisions. refl;
   logged = λ lines. refl;
+  begun = λ is t collects none below. refl;
+  marking = λ is p count there. refl;
+  marked = λ is p keep there. refl;
+  copying = λ is p k copied count there copying. refl;
+  copied = λ is p k copied count there copying. refl;
+  lost = λ is r answers. answers.0;
   packed = λ is t keep free below. refl;
+  last = refl;
+  since = λ tid changes. refl;
   closed = refl;
 }
 
@@ -85,7 +93,15 @@ front_cases m n q = record {
   dropped = λ f e. absurd cc;
   listed = λ revisions f e. absurd cc;
   logged = λ lines f e. absurd cc;
+  begun = λ is t collects none below f e. absurd cc;
+  marking = λ is p count there f e. absurd cc;
+  marked = λ is p keep there f e. absurd cc;
+  copying = λ is p k copied count there copying f e. absurd cc;
+  copied = λ is p k copied count there copying f e. absurd cc;
+  lost = λ is r answers f e. absurd cc;
   packed = λ is t keep free below f e. absurd cc;
+  last = λ f e. absurd cc;
+  since = λ tid changes f e. absurd cc;
   closed = λ f e. absurd cc;
 }
 
@@ -105,6 +121,13 @@ front_answered reply.Aborted f e = absurd cc
 front_answered (reply.History list) f e = absurd cc
 front_answered (reply.UndoLog list) f e = absurd cc
 front_answered (reply.Packed kept dropped) f e = absurd cc
+front_answered (reply.Packing tid) f e = absurd cc
+front_answered (reply.Marking count) f e = absurd cc
+front_answered (reply.Marked count) f e = absurd cc
+front_answered (reply.Copying count) f e = absurd cc
+front_answered (reply.Copied count) f e = absurd cc
+front_answered (reply.Last tid changes) f e = absurd cc
+front_answered (reply.Since keep commits) f e = absurd cc
 front_answered reply.Closed f e = absurd cc
 front_answered (reply.Refused r) f e = absurd cc
 
@@ -163,12 +186,20 @@ greatest_cases m n q = record {
   dropped = omega arith;
   listed = λ revisions. omega arith;
   logged = λ lines. omega arith;
+  begun = λ is t collects none below. omega arith;
+  marking = λ is p count there. omega arith;
+  marked = λ is p keep there. omega arith;
+  copying = λ is p k copied count there copying. omega arith;
+  copied = λ is p k copied count there copying. omega arith;
+  lost = λ is r answers. omega arith;
   packed = λ is t keep free below. omega arith;
+  last = omega arith;
+  since = λ tid changes. omega arith;
   closed = omega arith;
 }
 
 pub left_greatest : (rules : Rules) (m : Machine) (n : ℕ) (q : Request) (stamp : ℕ) (outcome : StepOutcome) → m.greatest ≤ (machine_left rules m n q stamp outcome).greatest
-left_greatest rules m n q stamp outcome = by_ending (λ x. m.greatest ≤ x.greatest) rules m n q stamp outcome (omega arith) (omega arith) (greatest_cases m n q)
+left_greatest rules m n q stamp outcome = by_ending (λ x. m.greatest ≤ x.greatest) rules m n q stamp outcome (omega arith) (omega arith) (omega arith) (greatest_cases m n q)
 
 pub behind_greatest : (rules : Rules) (m : Machine) (e : Entry) → m.greatest ≤ (machine_behind rules m e).greatest
 behind_greatest rules m (Opened n) = omega arith
@@ -207,7 +238,15 @@ numbers_cases m n q = record {
   dropped = λ range e. absurd cc;
   listed = λ revisions range e. absurd cc;
   logged = λ lines range e. absurd cc;
+  begun = λ is t collects none below range e. absurd cc;
+  marking = λ is p count there range e. absurd cc;
+  marked = λ is p keep there range e. absurd cc;
+  copying = λ is p k copied count there copying range e. absurd cc;
+  copied = λ is p k copied count there copying range e. absurd cc;
+  lost = λ is r answers range e. absurd cc;
   packed = λ is t keep free below range e. absurd cc;
+  last = λ range e. absurd cc;
+  since = λ tid changes range e. absurd cc;
   closed = λ range e. absurd cc;
 }
 
@@ -227,6 +266,13 @@ numbers_answered reply.Aborted range e = refl
 numbers_answered (reply.History list) range e = refl
 numbers_answered (reply.UndoLog list) range e = refl
 numbers_answered (reply.Packed kept dropped) range e = refl
+numbers_answered (reply.Packing tid) range e = refl
+numbers_answered (reply.Marking count) range e = refl
+numbers_answered (reply.Marked count) range e = refl
+numbers_answered (reply.Copying count) range e = refl
+numbers_answered (reply.Copied count) range e = refl
+numbers_answered (reply.Last tid changes) range e = refl
+numbers_answered (reply.Since keep commits) range e = refl
 numbers_answered reply.Closed range e = refl
 numbers_answered (reply.Refused r) range e = absurd cc
 

@@ -15,7 +15,7 @@ use Rattle.zodb_core.specs.declared.texts.Texts.{Texts}
 use Rattle.zodb_core.specs.declared.vote.HubVote.{HubVote}
 use Rattle.zodb_core.specs.HubState.{HasTicked, HubState, IsClockRead, MakesStepAt, StandsForMachine}
 use Rattle.zodb_core.specs.Machine.{Machine, Rules}
-use Rattle.zodb_core.specs.Outcomes.{changes_store, holds_writes, reads_store, takes_memory}
+use Rattle.zodb_core.specs.Outcomes.{changes_store, holds_writes, is_pack, reads_store, takes_memory}
 use Rattle.zodb_core.specs.Steps.{Stepped, early_refusal, step_of, vote_step}
 
 -- each text has a length of 16 bits
@@ -51,6 +51,7 @@ pub record VotesFor (rules : Rules) (m : Machine) (n : ℕ) (q : Request) (texts
   pub early : early_refusal m n q ≡ None
   pub reads : reads_store q ≡ true
   pub memory : takes_memory q ≡ true
+  pub packs : is_pack q ≡ false
   pub step : (stamp : ℕ) → step_of rules m n q stamp ≡ vote_step m n texts stamp decided
   pub changes : (made : Stepped) → changes_store m n q made ≡ holds_writes n made.machine.vote
 

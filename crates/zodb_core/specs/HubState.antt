@@ -1,12 +1,14 @@
 -- What contracts see of a hub, and the machines that it stands for. Own.
-use Rattle.std.specs.Prelude.{◌≡◌, ℕ, ◌<◌, ◌≤◌, ◌+◌, ◌⊎◌, ◌==◌, List, [], ◌∷◌, Option, Some, None, Bool, true, false, IfSome, length, map, is_some}
-use Rattle.std.specs.Option.{option_map, option_map_or}
+use Rattle.std.specs.Prelude.{◌≡◌, ℕ, ◌<◌, ◌≤◌, ◌+◌, ◌-◌, ◌⊎◌, ◌==◌, List, [], ◌∷◌, ◌++◌, Option, Some, None, Bool, true, false, IfSome, length, map, is_some}
+use Rattle.std.specs.List.{AllByRecursion}
+use Rattle.std.specs.Option.{ForSome, option_map, option_map_or}
 use Rattle.zb_ids.specs.declared.stamp.Stamp.{Stamp}
 use Rattle.zb_ids.specs.Tids.{stamp_number}
 use Rattle.zb_model.specs.declared.data.Transaction.{Transaction}
 use Rattle.zb_model.specs.Queries.{oids_of}
 use Rattle.zb_model.specs.Rules.{MergeRules}
-use Rattle.zb_model.specs.Stores.{StoreState}
+use Rattle.zb_model.specs.Packs.{IsCopyOf, new_pack}
+use Rattle.zb_model.specs.Stores.{BegunPack, StoreState}
 use Rattle.zb_outside.specs.Stamps.{stamps_after}
 use Rattle.zodb_core.specs.declared.errors.SessionRefusal.{SessionRefusal}
 use Rattle.zodb_core.specs.declared.errors.SessionRefusal.TheVariants as session_refusal
@@ -14,12 +16,16 @@ use Rattle.zodb_core.specs.declared.journal.JournalEntry.{JournalEntry}
 use Rattle.zodb_core.specs.declared.reply.Reply.{Reply}
 use Rattle.zodb_core.specs.declared.reply.Reply.TheVariants as reply
 use Rattle.zb_model.specs.declared.refusal.Refusal.TheVariants as refusal
+use Rattle.pack_reach.specs.Marking.{IsMarkedWhole, MarkerState, MayMark}
+use Rattle.pack_reach.specs.Packed.{kept}
+use Rattle.zodb_core.specs.declared.open_pack.HubCopying.{HubCopying}
+use Rattle.zodb_core.specs.declared.open_pack.HubPack.{HubPack}
 use Rattle.zodb_core.specs.declared.request.Request.{Request}
 use Rattle.zodb_core.specs.declared.request.Request.TheVariants as request
 use Rattle.zodb_core.specs.declared.session.Session.{Session}
 use Rattle.zodb_core.specs.declared.vote.HubVote.{HubVote}
 use Rattle.zodb_core.specs.declared.vote.VotedEntry.{VotedEntry}
-use Rattle.zodb_core.specs.Machine.{Machine, MachineVote, Rules, session_limit, switches_of}
+use Rattle.zodb_core.specs.Machine.{Machine, MachineVote, OpenPack, PackCopying, Rules, session_limit, switches_of}
 use Rattle.zodb_core.specs.Outcomes.{AreLaterCounts, FaultCounts, IsStepMade, StepOutcome, Answered, ReadingFailed, NoMemory, StoreFailed, closed_session, outcome_of}
 use Rattle.zodb_core.specs.Stamps.{IsStampNumber}
 use Rattle.zb_base.specs.Counts.{Rose}
@@ -34,6 +40,37 @@ pub record HubState (R F : Type 0) : Type 0 where
   pub greatest : ℕ
   pub sessions : List Session
   pub vote : Option HubVote
+  pub pack : Option HubPack
+
+-- how many commits there were since copying began: a pack is open, so the journal got no other entries
+abbrev pub commits_since_marked : ℕ → HubCopying → ℕ
+commits_since_marked entries k = entries - k.entries
+
+-- the copying of the open pack, with what the store has copied
+abbrev pub copying_of_hub : List Transaction → Option BegunPack → ℕ → MarkerState → HubCopying → PackCopying
+copying_of_hub list begun entries marks k = record {
+  kept = marks.set;
+  began = length list - commits_since_marked entries k;
+  copied = option_map_or (λ b. length b.copied) begun 0;
+  is_whole = k.is_whole;
+}
+
+abbrev pub pack_of_hub : List Transaction → Option BegunPack → ℕ → HubPack → OpenPack
+pack_of_hub list begun entries p = record {
+  session = p.session;
+  tid = p.tid;
+  collects = p.collects;
+  marked = p.marker.counted;
+  copying = option_map (copying_of_hub list begun entries p.marker) p.copying;
+}
+
+-- no pack is open once the store has failed
+abbrev pub unless_broken : Bool → Option OpenPack → Option OpenPack
+unless_broken false pack = pack
+unless_broken true pack = None
+
+abbrev pub pack_with : StoreState → ℕ → Option HubPack → Option OpenPack
+pack_with store entries pack = unless_broken store.broken (option_map (pack_of_hub store.list store.begun entries) pack)
 
 -- the vote writes what the store has voted
 abbrev pub vote_of_hub : Option Transaction → HubVote → MachineVote
@@ -49,7 +86,7 @@ pub record StandsForMachine {R F : Type 0} (hub : HubState R F) (m : Machine) : 
   pub journal : m.journal ≡ hub.journal
   pub greatest : m.greatest ≡ hub.greatest
   pub sessions : m.sessions ≡ sessions_with hub.store.broken hub.sessions
-  pub pack : m.pack ≡ None
+  pub pack : m.pack ≡ pack_with hub.store (length hub.journal) hub.pack
   pub failed : m.failed ≡ hub.store.broken
   pub list : hub.store.broken ≡ false → m.list ≡ hub.store.list
   pub vote : hub.store.broken ≡ false → m.vote ≡ option_map (vote_of_hub hub.store.voted) hub.vote
@@ -126,6 +163,9 @@ may_write packs reply.Voted = true
 may_write packs (reply.Committed tid) = true
 may_write packs reply.Aborted = true
 may_write packs (reply.Packed kept dropped) = true
+may_write packs (reply.Packing tid) = packs
+may_write packs (reply.Copying count) = packs
+may_write packs (reply.Copied count) = packs
 may_write packs reply.Closed = true
 may_write packs (reply.Refused refusal.StoreFault) = true
 may_write packs (reply.Refused refusal.ReadFault) = packs
@@ -156,6 +196,10 @@ IsBeforeOrBehind stands rules m n q bytes = stands bytes m.list ⊎ ((stamp : �
 
 -- ---- what holds of a hub between two calls
 
+-- a session has the open pack
+abbrev pub owns_pack : ℕ → Option HubPack → Bool
+owns_pack n pack = option_map_or (λ p. p.session == n) pack false
+
 -- a session holds the vote
 abbrev pub has_vote : ℕ → Option HubVote → Bool
 has_vote n vote = option_map_or (λ v. v.session == n) vote false
@@ -174,9 +218,43 @@ abbrev pub IsEntryOf : Option VotedEntry → Option Transaction → Type 0
 IsEntryOf (Some e) (Some t) = (e.tid ≡ t.tid) × (e.oids ≡ oids_of t)
 IsEntryOf _ _ = Unit {0}
 
+-- A pack that is copied: all was marked over a front of the list, behind which commits stand that the journal has too, and what the store has copied is of these marks.
+pub record IsCopied (named : List ℕ → Option (List ℕ)) (list : List Transaction) (begun : Option BegunPack) (entries : ℕ) (p : HubPack) (k : HubCopying) : Type 0 where
+  pub front : List Transaction
+  pub commits : List Transaction
+  pub split : list ≡ front ++ commits
+  pub counted : length commits ≡ commits_since_marked entries k
+  pub later : AllByRecursion (λ x. p.tid < x.tid) commits
+  pub set : p.marker.set ≡ kept p.collects named p.tid front
+  pub whole : p.collects ≡ true → IsMarkedWhole named front p.marker
+  pub copied : ForSome begun (IsCopyOf p.marker.set list)
+
+-- one whose objects are being marked
+pub record IsBeingMarked (named : List ℕ → Option (List ℕ)) (list : List Transaction) (begun : Option BegunPack) (p : HubPack) : Type 0 where
+  pub marks : MayMark named list p.marker
+  pub fresh : begun ≡ Some (new_pack p.tid)
+
+abbrev pub IsPackAt : (List ℕ → Option (List ℕ)) → List Transaction → Option BegunPack → ℕ → HubPack → Option HubCopying → Type 0
+IsPackAt named list begun entries p None = IsBeingMarked named list begun p
+IsPackAt named list begun entries p (Some k) = IsCopied named list begun entries p k
+
+abbrev pub tid_begun : Option BegunPack → Option ℕ
+tid_begun begun = option_map (λ (b : BegunPack). b.tid) begun
+
+-- copying began within the journal
+abbrev pub IsWithin : Option HubPack → ℕ → Type 0
+IsWithin pack entries = IfSome pack (λ p. IfSome p.copying (λ k. k.entries ≤ entries))
+
+-- What a hub keeps of the pack that is open: the store has begun it, and it goes less far than the newest transaction.
+pub record KeepsPack (told : Type 0) (named : List ℕ → Option (List ℕ)) (list : List Transaction) (begun : Option BegunPack) (newest entries : ℕ) (p : HubPack) : Type 0 where
+  pub tid : p.marker.tid ≡ p.tid
+  pub started : tid_begun begun ≡ Some p.tid
+  pub early : p.tid < newest
+  pub at : told → IsPackAt named list begun entries p p.copying
+
 -- What a hub keeps beside its store: sessions, the journal with the numbers of its changes and of its packs and with room for what is voted, and the vote. `told` says
 -- whether the store tells its list.
-pub record HubKeeps (told : Type 0) (store : StoreState) (journal : List JournalEntry) (capacity changes switches : ℕ) (sessions : List Session) (vote : Option HubVote) (has_failed : Bool) : Type 0 where
+pub record HubKeeps (told : Type 0) (store : StoreState) (journal : List JournalEntry) (capacity changes switches : ℕ) (sessions : List Session) (vote : Option HubVote) (pack : Option HubPack) (has_failed : Bool) (named : List ℕ → Option (List ℕ)) : Type 0 where
   pub failed : has_failed ≡ store.broken
   pub few : length sessions ≤ session_limit
   pub counted : changes ≡ changes_in_journal journal
@@ -185,3 +263,6 @@ pub record HubKeeps (told : Type 0) (store : StoreState) (journal : List Journal
   pub room : IfSome (writes_of vote) (λ e. (length journal < capacity) × (changes + length e.oids ≤ journal_limit))
   pub voted : store.broken ≡ false → HasVotedWrites vote store.voted
   pub entry : told → store.broken ≡ false → IsEntryOf (writes_of vote) store.voted
+  pub later : store.broken ≡ false → ForSome store.voted (λ t. store.newest < t.tid)
+  pub within : IsWithin pack (length journal)
+  pub open_pack : store.broken ≡ false → IfSome pack (KeepsPack told named store.list store.begun store.newest (length journal))

@@ -10,15 +10,16 @@ use Rattle.zb_model.specs.Database.{IsDatabase, content_below, newest_tid, revis
 use Rattle.zb_model.specs.Queries.{greatest_oid}
 use Rattle.commit_phases.specs.Decision.{vote_decision}
 use Rattle.undo_records.specs.Undone.{undone_of}
+use Rattle.pack_reach.specs.Packed.{packed}
 use Rattle.zodb_core.specs.declared.reply.Reply.TheVariants as reply
 use Rattle.zodb_core.specs.declared.request.Request.{Request}
 use Rattle.zodb_core.specs.declared.request.Request.TheVariants as request
 use Rattle.zodb_core.specs.Handed.{NumberRange, all_numbers, end_of_range, fronts_told, numbers_handed}
 use Rattle.zodb_core.specs.History.{Entry, IsLegal, IsLegalOver, counts_after, machine_after, machine_behind}
 use Rattle.zodb_core.specs.Machine.{Machine, Rules, front_of, is_open_in, machine_over, with_session}
-use Rattle.zodb_core.specs.Outcomes.{Answered, AreLaterCounts, FaultCounts, IsStepMade, StepOutcome, is_pack, machine_left, outcome_of}
-use Rattle.zodb_core.specs.Seen.{KeepsSeen}
-use Rattle.zodb_core.specs.Sound.{AreDistinctRequests, Becomes, GrowsByOne, GrowsTo, HasNoPack, IsDistinctRequest, IsSoundMachine, ComesTo}
+use Rattle.zodb_core.specs.Outcomes.{Answered, AreLaterCounts, FaultCounts, IsStepMade, StepOutcome, is_pack, is_packed, machine_left, outcome_of}
+use Rattle.zodb_core.specs.Seen.{KeepsSeen, PackGoal, goal_of_open, pack_goal}
+use Rattle.zodb_core.specs.Sound.{AreDistinctRequests, Becomes, GrowsByOne, GrowsTo, HasNoPack, IsDistinctRequest, IsPackWithin, IsSoundMachine, ComesTo}
 use Rattle.zodb_core.specs.Steps.{Stepped, busy_for, changes_in_journal, changes_undone, early_refusal, journal_limit, step_of}
 use Rattle.zodb_core.specs.Waiting.{needs_vote}
 
@@ -84,14 +85,29 @@ RecordsBelowFrontsStood = (oid front serial : ℕ) (bytes : List ℕ) (list now 
 
 -- ---- packs keep what views see
 
--- a pack keeps what views above its tid see
-abbrev pub PacksKeepViews : Type 0
-PacksKeepViews = (rules : Rules) (m : Machine) (n tid stamp : ℕ) → IsDatabase m.list
-    → KeepsSeen rules.named (request.Pack tid) (step_of rules m n (request.Pack tid) stamp).reply m.list (step_of rules m n (request.Pack tid) stamp).machine.list
+-- A step that packs the list has a goal, that of its request or of the open pack, and the list is packed just so.
+pub record IsPackedTo (named : List ℕ → Option (List ℕ)) (goal : Option PackGoal) (list now : List Transaction) : Type 0 where
+  pub to : PackGoal
+  pub asked : goal ≡ Some to
+  pub is : now ≡ packed to.collects named to.tid list
 
--- and it leaves the front
+abbrev pub ListsArePackedAsAsked : Type 0
+ListsArePackedAsAsked = (rules : Rules) (m : Machine) (n : ℕ) (q : Request) (stamp : ℕ) → is_packed (step_of rules m n q stamp).reply ≡ true
+    → IsPackedTo rules.named (pack_goal q m.list (goal_of_open m.pack)) m.list (step_of rules m n q stamp).machine.list
+
+-- no other step of a pack changes the list
+abbrev pub TurnsKeepLists : Type 0
+TurnsKeepLists = (rules : Rules) (m : Machine) (n : ℕ) (q : Request) (stamp : ℕ) → is_pack q ≡ true → is_packed (step_of rules m n q stamp).reply ≡ false → (step_of rules m n q stamp).machine.list ≡ m.list
+
+-- a pack, in one step or in turns, keeps what views above its tid see
+abbrev pub PacksKeepViews : Type 0
+PacksKeepViews = (rules : Rules) (m : Machine) (n : ℕ) (q : Request) (stamp : ℕ) → IsDatabase m.list
+    → KeepsSeen rules.named (goal_of_open m.pack) q (step_of rules m n q stamp).reply m.list (step_of rules m n q stamp).machine.list
+
+-- and it leaves the front; a turn does so where the open pack goes less far than the newest transaction
 abbrev pub PacksKeepFronts : Type 0
-PacksKeepFronts = (rules : Rules) (m : Machine) (n tid stamp : ℕ) → front_of (step_of rules m n (request.Pack tid) stamp).machine.list ≡ front_of m.list
+PacksKeepFronts = (rules : Rules) (m : Machine) (n : ℕ) (q : Request) (stamp : ℕ) → is_pack q ≡ true → (q ≡ request.PackTurn → IsPackWithin m.list m.pack)
+    → front_of (step_of rules m n q stamp).machine.list ≡ front_of m.list
 
 -- ---- fronts never fall
 

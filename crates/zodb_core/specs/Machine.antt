@@ -2,6 +2,8 @@
 use Rattle.std.specs.Prelude.{ℕ, ◌+◌, List, [], ◌∷◌, ◌++◌, Option, Some, None, Bool, true, false, not, ◌==◌, nat_lt, if◌then◌else◌, length, drop, filter, count_by, slice_get}
 use Rattle.std.specs.List.{filter_map, list_any}
 use Rattle.std.specs.Option.{option_map_or}
+use Rattle.std.specs.Ordering.{nat_cmp}
+use Rattle.std.specs.FinSet.{FinSet}
 use Rattle.zb_model.specs.declared.data.Transaction.{Transaction}
 use Rattle.zb_model.specs.declared.news.News.{News}
 use Rattle.zb_model.specs.declared.news.NewsCommit.{NewsCommit}
@@ -27,15 +29,17 @@ pub record MachineVote : Type 0 where
 -- the copying of an open pack: the objects that are kept, how long the list was when it began, how many transactions of the packed list are
 -- copied, and whether it was answered that all are
 pub record PackCopying : Type 0 where
-  pub kept : List ℕ
+  pub kept : FinSet nat_cmp
   pub began : ℕ
   pub copied : ℕ
   pub is_whole : Bool
 
--- an open pack: its session, how far it goes, how many objects are marked, and its copying, once that has begun
+-- an open pack: its session, how far it goes, whether objects that nothing leads to go too, how many objects are marked, and its copying, once
+-- that has begun
 pub record OpenPack : Type 0 where
   pub session : ℕ
   pub tid : ℕ
+  pub collects : Bool
   pub marked : ℕ
   pub copying : Option PackCopying
 

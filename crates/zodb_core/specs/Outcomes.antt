@@ -1,5 +1,5 @@
 -- How a step ends: answered, or not made because reading failed, memory ran out or the store failed. Own.
-use Rattle.std.specs.Prelude.{◌≡◌, ℕ, ◌≤◌, Option, None, Bool, true, false, IsTrue, if◌then◌else◌, ◌==◌, is_some, map}
+use Rattle.std.specs.Prelude.{◌≡◌, ℕ, ◌≤◌, Option, None, Bool, true, false, not, IsTrue, if◌then◌else◌, ◌==◌, is_some, map}
 use Rattle.std.specs.Option.{option_map_or}
 use Rattle.zb_base.specs.Counts.{Rose}
 use Rattle.zb_model.specs.declared.refusal.Refusal.{Refusal}
@@ -10,7 +10,7 @@ use Rattle.zodb_core.specs.declared.request.Request.{Request}
 use Rattle.zodb_core.specs.declared.request.Request.TheVariants as request
 use Rattle.zodb_core.specs.declared.session.Session.{Session}
 use Rattle.zodb_core.specs.Machine.{Machine, MachineVote, Rules}
-use Rattle.zodb_core.specs.Steps.{Stepped, early_refusal, step_of}
+use Rattle.zodb_core.specs.Steps.{Stepped, early_refusal, step_of, without_pack}
 
 pub data StepOutcome : Type 0 where
   Answered : StepOutcome
@@ -31,52 +31,74 @@ outcome_of _ = Answered
 
 -- ---- what a step may meet
 
+-- What a request may do: read the store, take memory, change the store, and work on a pack. A pack is begun without reading what the store holds, but the begin may
+-- fail as a read does.
+pub record Demands : Type 0 where
+  pub reads : Bool
+  pub memory : Bool
+  pub writes : Bool
+  pub packs : Bool
+
+abbrev pub demands : Request → Demands
+demands request.Front = record { reads = false; memory = true; writes = false; packs = false }
+demands (request.LoadBefore oid front) = record { reads = true; memory = true; writes = false; packs = false }
+demands (request.NewOids count) = record { reads = false; memory = false; writes = false; packs = false }
+demands (request.Vote user description extension pending) = record { reads = true; memory = true; writes = true; packs = false }
+demands (request.Undo user description tids) = record { reads = true; memory = true; writes = true; packs = false }
+demands request.Finish = record { reads = false; memory = false; writes = true; packs = false }
+demands request.Abort = record { reads = false; memory = false; writes = true; packs = false }
+demands (request.History oid) = record { reads = true; memory = true; writes = false; packs = false }
+demands request.UndoLog = record { reads = true; memory = true; writes = false; packs = false }
+demands (request.Pack tid collect) = record { reads = true; memory = true; writes = true; packs = true }
+demands (request.PackBegin tid collect) = record { reads = true; memory = true; writes = true; packs = true }
+demands request.PackTurn = record { reads = true; memory = true; writes = true; packs = true }
+demands request.Last = record { reads = false; memory = false; writes = false; packs = false }
+demands (request.Since tid changes) = record { reads = true; memory = true; writes = false; packs = false }
+demands request.Close = record { reads = false; memory = false; writes = true; packs = false }
+
 -- a request for which the store is read
 abbrev pub reads_store : Request → Bool
-reads_store (request.LoadBefore oid front) = true
-reads_store (request.Vote user description extension pending) = true
-reads_store (request.Undo user description tids) = true
-reads_store (request.History oid) = true
-reads_store request.UndoLog = true
-reads_store (request.Pack tid) = true
-reads_store _ = false
+reads_store q = (demands q).reads
 
--- a request that takes memory: one for which the store is read, and the news of a front
+-- a request that takes memory
 abbrev pub takes_memory : Request → Bool
-takes_memory request.Front = true
-takes_memory q = reads_store q
+takes_memory q = (demands q).memory
 
 -- a request by which no store is changed, whatever it holds
 abbrev pub keeps_store : Request → Bool
-keeps_store request.Front = true
-keeps_store (request.LoadBefore oid front) = true
-keeps_store (request.NewOids count) = true
-keeps_store (request.History oid) = true
-keeps_store request.UndoLog = true
-keeps_store _ = false
+keeps_store q = not (demands q).writes
 
--- a request to pack
+-- a request on a pack
 abbrev pub is_pack : Request → Bool
-is_pack (request.Pack tid) = true
-is_pack _ = false
+is_pack q = (demands q).packs
 
 -- the list was packed
 abbrev pub is_packed : Reply → Bool
 is_packed (reply.Packed kept dropped) = true
 is_packed _ = false
 
+-- a pack goes on, or the list was packed: the store was written
+abbrev pub is_pack_going : Reply → Bool
+is_pack_going (reply.Packing tid) = true
+is_pack_going (reply.Copying count) = true
+is_pack_going (reply.Copied count) = true
+is_pack_going r = is_packed r
+
 -- a session holds the vote, and something is to be written
 abbrev pub holds_writes : ℕ → Option MachineVote → Bool
 holds_writes n vote = option_map_or (λ v. if v.session == n then is_some v.writes else false) vote false
 
--- a step that changes the store: one by which something is voted, or by which what was voted is appended or dropped, or by which the list is packed
+-- a step that changes the store: one by which something is voted, or by which what was voted is appended or dropped, or by which a copy of the list is begun, goes
+-- on, or takes its place
 abbrev pub changes_store : Machine → ℕ → Request → Stepped → Bool
 changes_store m n (request.Vote user description extension pending) made = holds_writes n made.machine.vote
 changes_store m n (request.Undo user description tids) made = holds_writes n made.machine.vote
 changes_store m n request.Finish made = holds_writes n m.vote
 changes_store m n request.Abort made = holds_writes n m.vote
 changes_store m n request.Close made = holds_writes n m.vote
-changes_store m n (request.Pack tid) made = is_packed made.reply
+changes_store m n (request.Pack tid collect) made = is_packed made.reply
+changes_store m n (request.PackBegin tid collect) made = is_pack_going made.reply
+changes_store m n request.PackTurn made = is_pack_going made.reply
 changes_store m n _ made = false
 
 -- ---- what is left
@@ -89,10 +111,14 @@ closed_session x = record x { is_open = false }
 abbrev pub failed : Machine → Machine
 failed m = record m { sessions = map closed_session m.sessions; vote = None; pack = None; failed = true }
 
+-- where reading failed or memory ran out, it is as it was, but a request on a pack drops the pack
+abbrev pub unanswered : Request → Machine → Machine
+unanswered q m = if is_pack q then without_pack m else m
+
 abbrev pub machine_left : Rules → Machine → ℕ → Request → ℕ → StepOutcome → Machine
 machine_left rules m n q stamp Answered = (step_of rules m n q stamp).machine
-machine_left rules m n q stamp ReadingFailed = m
-machine_left rules m n q stamp NoMemory = m
+machine_left rules m n q stamp ReadingFailed = unanswered q m
+machine_left rules m n q stamp NoMemory = unanswered q m
 machine_left rules m n q stamp StoreFailed = failed m
 
 -- ---- a step that was made

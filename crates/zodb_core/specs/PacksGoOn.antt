@@ -133,7 +133,7 @@ packed_more t keep list x later =
     ∙ ap (λ (ys : List Transaction). ys ++ filter_map f (x ∷ [])) (map_same f (packed_one t keep list) list (λ y. one_more t keep list x y later))
     ∙ ap (λ (ys : List Transaction). packed_by t keep list ++ ys) (put_is f x [] (Some x) (late_one t keep (list ++ x ∷ []) x later))
 
-copy_more : (keep : FinSet nat_cmp) (list : List Transaction) (x : Transaction) (pack : BegunPack) → pack.tid < x.tid → IsCopyOf keep list pack → IsCopyOf keep (list ++ x ∷ []) pack
+pub copy_more : (keep : FinSet nat_cmp) (list : List Transaction) (x : Transaction) (pack : BegunPack) → pack.tid < x.tid → IsCopyOf keep list pack → IsCopyOf keep (list ++ x ∷ []) pack
 copy_more keep list x pack later copy =
     (copy.0 ++ x ∷ [], packed_more pack.tid keep list x later ∙ ap (λ (ys : List Transaction). ys ++ x ∷ []) copy.1 ∙ append_assoc pack.copied copy.0 (x ∷ []))
 

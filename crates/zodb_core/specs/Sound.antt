@@ -11,7 +11,7 @@ use Rattle.zodb_core.specs.declared.request.Request.{Request}
 use Rattle.zodb_core.specs.declared.request.Request.TheVariants as request
 use Rattle.zodb_core.specs.declared.session.Session.{Session}
 use Rattle.zodb_core.specs.History.{Entry, Made, Opened}
-use Rattle.zodb_core.specs.Machine.{Machine, MachineVote, switches_of}
+use Rattle.zodb_core.specs.Machine.{Machine, MachineVote, OpenPack, switches_of}
 use Rattle.zodb_core.specs.Outcomes.{is_pack}
 
 -- a transaction may be the next of a list: it is later, its number has one after it, it names each object once, and no pack went over it
@@ -35,13 +35,19 @@ IsSoundVote list (Some v) = IsNextIfSome list v.writes
 abbrev pub IsToldWithin : ℕ → Session → Type 0
 IsToldWithin happened x = x.told ≤ happened
 
--- The list is a database, and stays one with what is voted behind it; each object that it changes has a number up to the greatest; and no session was told
--- more than happened.
+-- the open pack, if there is one, goes less far than the newest transaction
+abbrev pub IsPackWithin : List Transaction → Option OpenPack → Type 0
+IsPackWithin list None = Unit {0}
+IsPackWithin list (Some p) = p.tid < newest_tid list
+
+-- The list is a database, and stays one with what is voted behind it; each object that it changes has a number up to the greatest; no session was told more
+-- than happened; and the open pack leaves the newest transaction whole.
 pub record IsSoundMachine (m : Machine) : Type 0 where
   pub database : IsDatabase m.list
   pub next : IsSoundVote m.list m.vote
   pub numbered : greatest_oid m.list ≤ m.greatest
   pub told : AllByRecursion (IsToldWithin (length m.journal)) m.sessions
+  pub within : IsPackWithin m.list m.pack
 
 -- a request as its type has it: the stores that wait for a vote name each object once
 abbrev pub IsDistinctRequest : Request → Type 0

@@ -4,7 +4,7 @@ use Rattle.std.specs.Prelude.{slice_set}
 use Rattle.std.specs.List.{AllByRecursion, flat_map, last_or}
 use Rattle.std.specs.Option.{option_map_or}
 use Rattle.std.specs.Ordering.{nat_cmp}
-use Rattle.std.specs.FinSet.{FinSet}
+use Rattle.std.specs.FinSet.{FinSet, len}
 use Rattle.std.proofs.lemmas.Bool.{true≢false}
 use Rattle.std.proofs.lemmas.Grind.{flat_map-append}
 use Rattle.std.proofs.lemmas.List.{append-nil, append_assoc, length-append}
@@ -24,17 +24,17 @@ use Rattle.zodb_core.specs.declared.request.Request.{Request}
 use Rattle.zodb_core.specs.declared.session.Session.{Session}
 use Rattle.zodb_core.specs.GrowthLaws.{content_kept, revision_kept}
 use Rattle.zodb_core.specs.History.{Entry, Made, Opened, machine_after, machine_behind, stamp_of_step}
-use Rattle.zodb_core.specs.Machine.{Machine, MachineVote, Rules, front_of, holds_vote, is_switch, machine_over, new_session, switches_of, with_session}
+use Rattle.zodb_core.specs.Machine.{Machine, MachineVote, OpenPack, Rules, front_of, has_pack, holds_vote, is_switch, machine_over, new_session, switches_of, with_session}
 use Rattle.zodb_core.specs.Outcomes.{StepOutcome, closed_session, failed, is_pack, machine_left, outcome_of, FaultCounts, IsStepMade}
 use Rattle.zodb_core.specs.PackLaws.{greatest_packed, newest_packed}
-use Rattle.zodb_core.specs.Sound.{AreDistinctRequests, Becomes, GoesOnTo, GrowsByOne, GrowsTo, HasNoPack, HasOneMore, IsDistinctEntry, IsDistinctRequest, IsNextIfSome, IsNextTransaction, IsNoPack, IsPackOf, IsSoundMachine, IsSoundVote, IsToldWithin, ComesTo, VotesLater, moved, unmoved}
-use Rattle.zodb_core.specs.StepCases.{StepCases, by_ending, by_step}
-use Rattle.zodb_core.specs.Steps.{Stepped, entry_of, step_of, with_commit, with_switch, without_vote}
+use Rattle.zodb_core.specs.Sound.{AreDistinctRequests, Becomes, GoesOnTo, GrowsByOne, GrowsTo, HasNoPack, HasOneMore, IsDistinctEntry, IsDistinctRequest, IsNextIfSome, IsNextTransaction, IsNoPack, IsPackOf, IsPackWithin, IsSoundMachine, IsSoundVote, IsToldWithin, ComesTo, VotesLater, moved, unmoved}
+use Rattle.zodb_core.specs.StepCases.{StepCases, by_ending, by_step, within_of}
+use Rattle.zodb_core.specs.Steps.{Stepped, entry_of, step_of, with_commit, with_pack, with_switch, without_pack, without_vote}
 
 -- ---- a machine that is sound
 
 pub over_sound : (list : List Transaction) → IsDatabase list → IsSoundMachine (machine_over list)
-over_sound list is = record { database = is; next = tt; numbered = omega arith; told = tt }
+over_sound list is = record { database = is; next = tt; numbered = omega arith; told = tt; within = tt }
 
 -- a session told all, in the place of another
 told_set : (happened : ℕ) (sessions : List Session) (n : ℕ) (x : Session) → x.told ≤ happened → AllByRecursion (IsToldWithin happened) sessions → AllByRecursion (IsToldWithin happened) (slice_set sessions n x)
@@ -53,19 +53,37 @@ next_dropped : (list : List Transaction) (vote : Option MachineVote) (b : Bool) 
 next_dropped list vote true next = tt
 next_dropped list vote false next = next
 
+pack_dropped_within : (list : List Transaction) (pack : Option OpenPack) (b : Bool) → IsPackWithin list pack → IsPackWithin list (cond b None pack)
+pack_dropped_within list pack true within = tt
+pack_dropped_within list pack false within = within
+
+-- a list whose newest transaction is no earlier
+pub within_later : (list now : List Transaction) (pack : Option OpenPack) → newest_tid list ≤ newest_tid now → IsPackWithin list pack → IsPackWithin now pack
+within_later list now None later within = tt
+within_later list now (Some p) later within = omega (arith, later, within)
+
 pub opened_sound : (m : Machine) → IsSoundMachine m → IsSoundMachine (with_session m)
 opened_sound m sound = record {
   database = sound.database;
   next = sound.next;
   numbered = sound.numbered;
   told = each_more (IsToldWithin (length m.journal)) m.sessions (new_session m) sound.told (omega arith);
+  within = sound.within;
 }
 
 pub failed_sound : (m : Machine) → IsSoundMachine m → IsSoundMachine (failed m)
-failed_sound m sound = record { database = sound.database; next = tt; numbered = sound.numbered; told = told_closed (length m.journal) m.sessions sound.told }
+failed_sound m sound = record { database = sound.database; next = tt; numbered = sound.numbered; told = told_closed (length m.journal) m.sessions sound.told; within = tt }
+
+-- the pack is dropped, whatever was open
+pub unpacked_sound : (m : Machine) → IsSoundMachine m → IsSoundMachine (without_pack m)
+unpacked_sound m sound = record { database = sound.database; next = sound.next; numbered = sound.numbered; told = sound.told; within = tt }
+
+-- a pack is open that leaves the newest transaction whole
+packing_sound : (m : Machine) (p : OpenPack) → IsSoundMachine m → p.tid < newest_tid m.list → IsSoundMachine (with_pack m p)
+packing_sound m p sound within = record { database = sound.database; next = sound.next; numbered = sound.numbered; told = sound.told; within = within }
 
 dropped_sound : (m : Machine) (n : ℕ) → IsSoundMachine m → IsSoundMachine (without_vote m n)
-dropped_sound m n sound = record { database = sound.database; next = next_dropped m.list m.vote (holds_vote n m.vote) sound.next; numbered = sound.numbered; told = sound.told }
+dropped_sound m n sound = record { database = sound.database; next = next_dropped m.list m.vote (holds_vote n m.vote) sound.next; numbered = sound.numbered; told = sound.told; within = sound.within }
 
 -- what a vote will write may be the next
 pub next_of : (list : List Transaction) (vote : Option MachineVote) (v : MachineVote) (t : Transaction) → IsSoundVote list vote → vote ≡ Some v → v.writes ≡ Some t → IsNextTransaction list t
@@ -85,6 +103,7 @@ committed_sound m n v t sound is writes =
       next = tt;
       numbered = omega (arith, greatest_push m.list t, sound.numbered);
       told = told_more (length m.journal) (length (m.journal ++ entry_of n t ∷ [])) m.sessions (omega (arith, length-append m.journal (entry_of n t ∷ []))) sound.told;
+      within = within_later m.list (m.list ++ t ∷ []) m.pack (omega (arith, newest-push m.list t, next.later)) sound.within;
     }
 
 -- a packed list, where no vote is held
@@ -94,6 +113,7 @@ packed_sound m t keep sound free below = record {
   next = subst (IsSoundVote (packed_by t keep m.list)) (sym free) tt;
   numbered = omega (arith, greatest_packed t keep m.list, sound.numbered);
   told = told_more (length m.journal) (length (m.journal ++ journal.Packed t ∷ [])) m.sessions (omega (arith, length-append m.journal (journal.Packed t ∷ []))) sound.told;
+  within = tt;
 }
 
 sound_cases : (m : Machine) (n : ℕ) (q : Request) → IsSoundMachine m → IsDistinctRequest q → StepCases (λ s. IsSoundMachine s.machine) m n q
@@ -101,23 +121,35 @@ sound_cases m n q sound once = record {
   refused = λ r is. sound;
   full = λ count. sound;
   spent = sound;
-  told = record { database = sound.database; next = sound.next; numbered = sound.numbered; told = told_set (length m.journal) m.sessions n (record { is_open = true; told = length m.journal }) (omega arith) sound.told };
+  told = record { database = sound.database; next = sound.next; numbered = sound.numbered; told = told_set (length m.journal) m.sessions n (record { is_open = true; told = length m.journal }) (omega arith) sound.told; within = sound.within };
   found = λ oid f. sound;
-  numbers = λ count. record { database = sound.database; next = sound.next; numbered = omega (arith, sound.numbered); told = sound.told };
-  nothing = record { database = sound.database; next = tt; numbered = sound.numbered; told = sound.told };
+  numbers = λ count. record { database = sound.database; next = sound.next; numbered = omega (arith, sound.numbered); told = sound.told; within = sound.within };
+  nothing = record { database = sound.database; next = tt; numbered = sound.numbered; told = sound.told; within = sound.within };
   written = λ texts changes tid each later bounded.
-      record { database = sound.database; next = record { later = later; bounded = bounded; distinct = each once; unpacked = refl }; numbered = sound.numbered; told = sound.told };
-  emptied = record { database = sound.database; next = tt; numbered = sound.numbered; told = sound.told };
+      record { database = sound.database; next = record { later = later; bounded = bounded; distinct = each once; unpacked = refl }; numbered = sound.numbered; told = sound.told; within = sound.within };
+  emptied = record { database = sound.database; next = tt; numbered = sound.numbered; told = sound.told; within = sound.within };
   committed = λ v t is writes. committed_sound m n v t sound is writes;
   dropped = dropped_sound m n sound;
   listed = λ revisions. sound;
   logged = λ lines. sound;
-  packed = λ is t keep free below. packed_sound m t keep sound free below;
+  begun = λ is t collects none below. packing_sound m (record { session = n; tid = t; collects = collects; marked = 0; copying = None }) sound below;
+  marking = λ is p count there. packing_sound m (record p { marked = count }) sound (within_of m.list m.pack p there sound.within);
+  marked = λ is p keep there.
+      packing_sound m (record p { marked = len keep; copying = Some (record { kept = keep; began = length m.list; copied = 0; is_whole = false }) }) sound (within_of m.list m.pack p there sound.within);
+  copying = λ is p k copied count there copying.
+      packing_sound m (record p { copying = Some (record k { copied = copied; is_whole = false }) }) sound (within_of m.list m.pack p there sound.within);
+  copied = λ is p k copied count there copying.
+      packing_sound m (record p { copying = Some (record k { copied = copied; is_whole = true }) }) sound (within_of m.list m.pack p there sound.within);
+  lost = λ is r answers. unpacked_sound m sound;
+  packed = λ is t keep free below. packed_sound m t keep sound free (below sound.within);
+  last = sound;
+  since = λ tid changes. sound;
   closed = record {
     database = sound.database;
     next = next_dropped m.list m.vote (holds_vote n m.vote) sound.next;
     numbered = sound.numbered;
     told = told_set (length m.journal) m.sessions n (record { is_open = false; told = length m.journal }) (omega arith) sound.told;
+    within = pack_dropped_within m.list m.pack (has_pack n m.pack) sound.within;
   };
 }
 
@@ -126,7 +158,7 @@ step_sound rules m n q stamp sound distinct = by_step (λ s. IsSoundMachine s.ma
 
 pub left_sound : (rules : Rules) (m : Machine) (n : ℕ) (q : Request) (stamp : ℕ) (outcome : StepOutcome) → IsSoundMachine m → IsDistinctRequest q → IsSoundMachine (machine_left rules m n q stamp outcome)
 left_sound rules m n q stamp outcome sound distinct =
-    by_ending IsSoundMachine rules m n q stamp outcome sound (failed_sound m sound) (sound_cases m n q sound distinct)
+    by_ending IsSoundMachine rules m n q stamp outcome sound (unpacked_sound m sound) (failed_sound m sound) (sound_cases m n q sound distinct)
 
 -- and so a step that was made
 pub made_sound : (rules : Rules) (m : Machine) (n : ℕ) (q : Request) (stamp : ℕ) (made : Stepped) (before now : FaultCounts)
@@ -165,7 +197,15 @@ become_cases m n q sound = record {
   dropped = inl (inl refl);
   listed = λ revisions. inl (inl refl);
   logged = λ lines. inl (inl refl);
-  packed = λ is t keep free below. inr (is, record { tid = t; keep = keep; below = below; is = refl });
+  begun = λ is t collects none below. inl (inl refl);
+  marking = λ is p count there. inl (inl refl);
+  marked = λ is p keep there. inl (inl refl);
+  copying = λ is p k copied count there copying. inl (inl refl);
+  copied = λ is p k copied count there copying. inl (inl refl);
+  lost = λ is r answers. inl (inl refl);
+  packed = λ is t keep free below. inr (is, record { tid = t; keep = keep; below = below sound.within; is = refl });
+  last = inl (inl refl);
+  since = λ tid changes. inl (inl refl);
   closed = inl (inl refl);
 }
 
@@ -178,7 +218,7 @@ grows_of packs list now not (inl grows) = grows
 grows_of packs list now not (inr pack) = absurd (true≢false (sym pack.0 ∙ not))
 
 left_becomes_for : (rules : Rules) (m : Machine) (n : ℕ) (q : Request) (stamp : ℕ) (outcome : StepOutcome) → IsSoundMachine m → BecomesFor (is_pack q) m.list (machine_left rules m n q stamp outcome).list
-left_becomes_for rules m n q stamp outcome sound = by_ending (λ x. BecomesFor (is_pack q) m.list x.list) rules m n q stamp outcome (inl (inl refl)) (inl (inl refl)) (become_cases m n q sound)
+left_becomes_for rules m n q stamp outcome sound = by_ending (λ x. BecomesFor (is_pack q) m.list x.list) rules m n q stamp outcome (inl (inl refl)) (inl (inl refl)) (inl (inl refl)) (become_cases m n q sound)
 
 -- a step leaves the list, puts one transaction behind it, or packs it, however it ends
 pub left_becomes : (rules : Rules) (m : Machine) (n : ℕ) (q : Request) (stamp : ℕ) (outcome : StepOutcome) → IsSoundMachine m → Becomes m.list (machine_left rules m n q stamp outcome).list
@@ -213,8 +253,8 @@ one_switch entries t = omega (arith, sum_by-append (λ (e : JournalEntry). cond 
 pub goes_same : (m now : Machine) → now.list ≡ m.list → now.journal ≡ m.journal → GoesOnTo m now
 goes_same m now list entries = record { becomes = inl (inl list); switches = omega (arith, ap switches_of entries); grows = λ _. inl list }
 
-goes_cases : (m : Machine) (n : ℕ) (q : Request) → VotesLater m.list m.vote → StepCases (λ s. GoesOnTo m s.machine) m n q
-goes_cases m n q later = record {
+goes_cases : (m : Machine) (n : ℕ) (q : Request) → VotesLater m.list m.vote → IsPackWithin m.list m.pack → StepCases (λ s. GoesOnTo m s.machine) m n q
+goes_cases m n q later within = record {
   refused = λ r is. goes_same m m refl refl;
   full = λ count. goes_same m m refl refl;
   spent = goes_same m m refl refl;
@@ -232,17 +272,58 @@ goes_cases m n q later = record {
   dropped = goes_same m _ refl refl;
   listed = λ revisions. goes_same m m refl refl;
   logged = λ lines. goes_same m m refl refl;
+  begun = λ is t collects none below. goes_same m _ refl refl;
+  marking = λ is p count there. goes_same m _ refl refl;
+  marked = λ is p keep there. goes_same m _ refl refl;
+  copying = λ is p k copied count there copying. goes_same m _ refl refl;
+  copied = λ is p k copied count there copying. goes_same m _ refl refl;
+  lost = λ is r answers. goes_same m _ refl refl;
   packed = λ is t keep free below. record {
-    becomes = inr (record { tid = t; keep = keep; below = below; is = refl });
+    becomes = inr (record { tid = t; keep = keep; below = below within; is = refl });
     switches = omega (arith, one_switch m.journal t);
     grows = λ unpacked. absurd (omega (arith, unpacked, one_switch m.journal t));
   };
+  last = goes_same m m refl refl;
+  since = λ tid changes. goes_same m m refl refl;
   closed = goes_same m _ refl refl;
 }
 
 -- a step counts a pack, and else its list only grows, however it ends
-pub left_goes_on : (rules : Rules) (m : Machine) (n : ℕ) (q : Request) (stamp : ℕ) (outcome : StepOutcome) → VotesLater m.list m.vote → GoesOnTo m (machine_left rules m n q stamp outcome)
-left_goes_on rules m n q stamp outcome later = by_ending (GoesOnTo m) rules m n q stamp outcome (goes_same m m refl refl) (goes_same m _ refl refl) (goes_cases m n q later)
+pub left_goes_on : (rules : Rules) (m : Machine) (n : ℕ) (q : Request) (stamp : ℕ) (outcome : StepOutcome) → VotesLater m.list m.vote → IsPackWithin m.list m.pack → GoesOnTo m (machine_left rules m n q stamp outcome)
+left_goes_on rules m n q stamp outcome later within =
+    by_ending (GoesOnTo m) rules m n q stamp outcome (goes_same m m refl refl) (goes_same m _ refl refl) (goes_same m _ refl refl) (goes_cases m n q later within)
+
+-- and the open pack still leaves the newest transaction whole
+within_cases : (m : Machine) (n : ℕ) (q : Request) → VotesLater m.list m.vote → IsPackWithin m.list m.pack → StepCases (λ s. IsPackWithin s.machine.list s.machine.pack) m n q
+within_cases m n q later within = record {
+  refused = λ r is. within;
+  full = λ count. within;
+  spent = within;
+  told = within;
+  found = λ oid f. within;
+  numbers = λ count. within;
+  nothing = within;
+  written = λ texts changes tid each above bounded. within;
+  emptied = within;
+  committed = λ v t is writes. within_later m.list (m.list ++ t ∷ []) m.pack (omega (arith, newest-push m.list t, later v t is writes)) within;
+  dropped = within;
+  listed = λ revisions. within;
+  logged = λ lines. within;
+  begun = λ is t collects none below. below;
+  marking = λ is p count there. within_of m.list m.pack p there within;
+  marked = λ is p keep there. within_of m.list m.pack p there within;
+  copying = λ is p k copied count there copying. within_of m.list m.pack p there within;
+  copied = λ is p k copied count there copying. within_of m.list m.pack p there within;
+  lost = λ is r answers. tt;
+  packed = λ is t keep free below. tt;
+  last = within;
+  since = λ tid changes. within;
+  closed = pack_dropped_within m.list m.pack (has_pack n m.pack) within;
+}
+
+pub left_within : (rules : Rules) (m : Machine) (n : ℕ) (q : Request) (stamp : ℕ) (outcome : StepOutcome) → VotesLater m.list m.vote → IsPackWithin m.list m.pack
+    → IsPackWithin (machine_left rules m n q stamp outcome).list (machine_left rules m n q stamp outcome).pack
+left_within rules m n q stamp outcome later within = by_ending (λ x. IsPackWithin x.list x.pack) rules m n q stamp outcome within tt tt (within_cases m n q later within)
 
 -- what a sound machine has voted is later
 pub sound_later : (m : Machine) → IsSoundMachine m → VotesLater m.list m.vote

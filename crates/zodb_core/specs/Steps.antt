@@ -1,24 +1,28 @@
 -- A step of the machine: what a session is answered, and what is left. Source: the storage interfaces of ZODB and ZEO; the order of the refusals is own, and so is the mark of a pack.
-use Rattle.std.specs.Prelude.{ℕ, ◌+◌, ◌-◌, ◌^◌, List, [], ◌∷◌, ◌++◌, Option, Some, None, Result, Ok, Err, Bool, true, false, not, ◌==◌, nat_le, nat_lt, if◌then◌else◌, length, map, max, min, slice_set}
+use Rattle.std.specs.Prelude.{ℕ, ◌+◌, ◌-◌, ◌^◌, List, [], ◌∷◌, ◌++◌, Option, Some, None, Result, Ok, Err, Bool, true, false, not, ◌==◌, nat_le, nat_lt, if◌then◌else◌, length, map, max, min, drop, take, filter, slice_set, ◌&&◌}
 use Rattle.std.specs.List.{sum_by}
-use Rattle.std.specs.Option.{option_or}
+use Rattle.std.specs.Option.{option_map_or, option_or}
+use Rattle.std.specs.Ordering.{nat_cmp}
+use Rattle.std.specs.FinSet.{FinSet, len}
 use Rattle.zb_ids.specs.Tids.{tid_after}
 use Rattle.zb_model.specs.declared.data.Change.{Change}
 use Rattle.zb_model.specs.declared.data.Transaction.{Transaction}
 use Rattle.zb_model.specs.declared.found.Found.{Found}
+use Rattle.zb_model.specs.declared.news.NewsCommit.{NewsCommit}
 use Rattle.zb_model.specs.declared.new_transaction.NewChange.{NewChange}
 use Rattle.zb_model.specs.declared.found.Found.TheVariants as found
 use Rattle.zb_model.specs.declared.refusal.Refusal.{Refusal}
 use Rattle.zb_model.specs.declared.refusal.Refusal.TheVariants as refusal
 use Rattle.zb_model.specs.Database.{newest_tid}
 use Rattle.zb_model.specs.Lists.{history_of, undo_log_of}
-use Rattle.zb_model.specs.Packs.{change_count}
-use Rattle.zb_model.specs.Queries.{found_below, greatest_of, oids_of, pack_point}
+use Rattle.zb_model.specs.Packing.{packed_by}
+use Rattle.zb_model.specs.Packs.{change_count, turn_from}
+use Rattle.zb_model.specs.Queries.{changes_up_to, found_below, greatest_of, is_above, oids_of, pack_point}
 use Rattle.zb_model.specs.Voting.{voted_change}
 use Rattle.commit_phases.specs.Decision.{vote_decision}
 use Rattle.undo_records.specs.Undone.{undone_of}
-use Rattle.pack_reach.specs.Packed.{packed_of}
-use Rattle.pack_reach.specs.Reached.{unreadable}
+use Rattle.pack_reach.specs.Late.{overtaken}
+use Rattle.pack_reach.specs.Packed.{kept, marks_a_turn, packed, unread}
 use Rattle.zodb_core.specs.declared.journal.JournalEntry.{JournalEntry}
 use Rattle.zodb_core.specs.declared.journal.JournalEntry.TheVariants as journal
 use Rattle.zodb_core.specs.declared.reply.Reply.{Reply}
@@ -26,7 +30,7 @@ use Rattle.zodb_core.specs.declared.reply.Reply.TheVariants as reply
 use Rattle.zodb_core.specs.declared.request.Request.{Request}
 use Rattle.zodb_core.specs.declared.request.Request.TheVariants as request
 use Rattle.zodb_core.specs.declared.texts.Texts.{Texts}
-use Rattle.zodb_core.specs.Machine.{Machine, MachineVote, OpenPack, Rules, front_of, has_pack, holds_vote, is_open_in, news_of, switches_of, untold}
+use Rattle.zodb_core.specs.Machine.{Machine, MachineVote, OpenPack, PackCopying, Rules, front_of, has_pack, holds_vote, is_open_in, news_limit, news_of, switches_of, untold}
 
 -- what a step gives: the reply, the machine that it leaves, and whether it read the clock
 pub record Stepped : Type 0 where
@@ -78,13 +82,29 @@ packed_already t point = refuse_if (nat_le t point) (refusal.PackedAlready point
 abbrev pub pack_refusal : Machine → ℕ → Option Refusal
 pack_refusal m tid = option_or (pack_running m.pack) (option_or (busy_for_all m.vote) (packed_already (pack_tid tid m.list) (pack_point m.list)))
 
+-- one that is begun, to go on in turns: the vote isn't in its way
+abbrev pub begin_refusal : Machine → ℕ → Option Refusal
+begin_refusal m tid = option_or (pack_running m.pack) (packed_already (pack_tid tid m.list) (pack_point m.list))
+
+-- the next turn of a pack is its switch: it was answered that all is copied
+abbrev pub switches_next : OpenPack → Bool
+switches_next p = option_map_or (λ k. k.is_whole) p.copying false
+
+-- a turn of a pack: none is open, or another session has it, or the switch is next and a vote is held
+abbrev pub turn_refusal : Machine → ℕ → Option OpenPack → Option Refusal
+turn_refusal m n None = Some refusal.NoPack
+turn_refusal m n (Some p) =
+    option_or (refuse_if (not (p.session == n)) (refusal.PackRunning p.session)) (if switches_next p then busy_for_all m.vote else None)
+
 -- what an open session is refused before anything is read
 abbrev pub request_refusal : Machine → ℕ → Request → Option Refusal
 request_refusal m n (request.NewOids count) = refuse_if (nat_lt (2 ^ 64 - 1) (m.greatest + count)) refusal.OidsSpent
 request_refusal m n (request.Vote user description extension pending) = vote_refusal n m.vote
 request_refusal m n (request.Undo user description tids) = vote_refusal n m.vote
 request_refusal m n request.Finish = refuse_if (not (holds_vote n m.vote)) refusal.NotVoted
-request_refusal m n (request.Pack tid) = pack_refusal m tid
+request_refusal m n (request.Pack tid collect) = pack_refusal m tid
+request_refusal m n (request.PackBegin tid collect) = begin_refusal m tid
+request_refusal m n request.PackTurn = turn_refusal m n m.pack
 request_refusal m n _ = None
 
 abbrev pub early_refusal : Machine → ℕ → Request → Option Refusal
@@ -177,6 +197,29 @@ without_session m n = record (without_vote m n) {
   sessions = slice_set m.sessions n (record { is_open = false; told = length m.journal });
 }
 
+-- ---- packs
+
+-- the open pack, in the place of another
+abbrev pub with_pack : Machine → OpenPack → Machine
+with_pack m p = record m { pack = Some p }
+
+-- a refusal behind the beginning of a pack drops it
+abbrev pub without_pack : Machine → Machine
+without_pack m = record m { pack = None }
+
+abbrev pub pack_dropped : Machine → Refusal → Stepped
+pack_dropped m r = replied_refusal (without_pack m) r
+
+-- unless a record that the pack must follow can't be read, it goes on
+abbrev pub unless_unread : Machine → Option (ℕ × ℕ) → Stepped → Stepped
+unless_unread m (Some w) next = pack_dropped m (refusal.Unreadable w.0 w.1)
+unless_unread m None next = next
+
+-- unless commits led to an object whose records it is about to drop
+abbrev pub unless_overtaken : Machine → Option (ℕ × ℕ) → Stepped → Stepped
+unless_overtaken m (Some w) next = pack_dropped m (refusal.Overtaken w.0 w.1)
+unless_overtaken m None next = next
+
 -- the packed list is the list from then on
 abbrev pub with_switch : Machine → ℕ → List Transaction → Machine
 with_switch m t list = record m { list = list; journal = m.journal ++ journal.Packed t ∷ []; pack = None }
@@ -185,14 +228,86 @@ with_switch m t list = record m { list = list; journal = m.journal ++ journal.Pa
 abbrev pub switched : Machine → ℕ → List Transaction → Stepped
 switched m t list = replied (with_switch m t list) (reply.Packed (change_count list) (change_count m.list - change_count list))
 
--- unless a record that the reach follows can't be read
-abbrev pub switch_unless : (List ℕ → Option (List ℕ)) → Machine → ℕ → Option (ℕ × ℕ) → Stepped
-switch_unless named m t (Some w) = replied_refusal m (refusal.Unreadable w.0 w.1)
-switch_unless named m t None = switched m t (packed_of named t m.list)
+-- Pack: the objects that are kept are marked, what stays is copied, and the copy is put in the place of the list, all in one step
+abbrev pub pack_step : (List ℕ → Option (List ℕ)) → Machine → ℕ → Bool → Stepped
+pack_step named m t collects = unless_unread m (unread collects named t m.list) (switched m t (packed collects named t m.list))
 
--- Pack: the reached objects are marked, what stays is copied, and the copy is put in the place of the list, all in one step
-abbrev pub pack_step : (List ℕ → Option (List ℕ)) → Machine → ℕ → Stepped
-pack_step named m t = switch_unless named m t (unreadable named t m.list)
+-- PackBegin: nothing is marked yet
+abbrev pub begin_step : Machine → ℕ → ℕ → Bool → Stepped
+begin_step m n t collects = replied (with_pack m (record { session = n; tid = t; collects = collects; marked = 0; copying = None })) (reply.Packing t)
+
+-- all is marked, and copying begins over the list as it stands
+abbrev pub marked_step : (List ℕ → Option (List ℕ)) → Machine → OpenPack → Stepped
+marked_step named m p =
+    let keep : FinSet nat_cmp = kept p.collects named p.tid m.list in
+    replied
+    (with_pack m (record p { marked = len keep; copying = Some (record { kept = keep; began = length m.list; copied = 0; is_whole = false }) }))
+    (reply.Marked (len keep))
+
+-- behind so many marks more are left than a turn makes; a pack that collects nothing marks all at once
+abbrev pub marks_on : Bool → (List ℕ → Option (List ℕ)) → ℕ → List Transaction → ℕ → Bool
+marks_on collects named t list marked = collects && nat_lt (marked + marks_a_turn) (len (kept collects named t list))
+
+-- so many objects more are marked, or all that are left, unless a record can't be read
+abbrev pub mark_step : (List ℕ → Option (List ℕ)) → Machine → OpenPack → Stepped
+mark_step named m p =
+    if marks_on p.collects named p.tid m.list p.marked
+    then replied (with_pack m (record p { marked = p.marked + marks_a_turn })) (reply.Marking (p.marked + marks_a_turn))
+    else unless_unread m (unread p.collects named p.tid m.list) (marked_step named m p)
+
+-- how far the copying has come is told with the changes that are copied
+abbrev pub copying_reply : Bool → ℕ → Reply
+copying_reply true count = reply.Copied count
+copying_reply false count = reply.Copying count
+
+-- so many transactions of the packed list are copied
+abbrev pub copied_step : Machine → OpenPack → PackCopying → List Transaction → ℕ → Stepped
+copied_step m p k list copied =
+    let whole : Bool = nat_le (length list) copied in
+    replied (with_pack m (record p { copying = Some (record k { copied = copied; is_whole = whole }) })) (copying_reply whole (change_count (take copied list)))
+
+-- the next transactions are copied, those of one turn
+abbrev pub copy_step : Machine → OpenPack → PackCopying → List Transaction → Stepped
+copy_step m p k list = copied_step m p k list (k.copied + length (turn_from 0 (drop k.copied list)))
+
+-- the switch: the reach is tested again, over the list as it stands
+abbrev pub switch_step : (List ℕ → Option (List ℕ)) → Machine → OpenPack → PackCopying → Stepped
+switch_step named m p k =
+    unless_unread m (unread p.collects named p.tid m.list)
+    (unless_overtaken m (overtaken p.collects named k.kept p.tid (take k.began m.list) (drop k.began m.list))
+    (switched m p.tid (packed p.collects named p.tid m.list)))
+
+-- PackTurn: marking, copying, or the switch
+abbrev pub turn_of_copying : (List ℕ → Option (List ℕ)) → Machine → OpenPack → Option PackCopying → Stepped
+turn_of_copying named m p None = mark_step named m p
+turn_of_copying named m p (Some k) = if k.is_whole then switch_step named m p k else copy_step m p k (packed_by p.tid k.kept m.list)
+
+abbrev pub turn_step : (List ℕ → Option (List ℕ)) → Machine → Option OpenPack → Stepped
+turn_step named m None = replied_refusal m refusal.NoPack
+turn_step named m (Some p) = turn_of_copying named m p p.copying
+
+-- ---- what changed since
+
+-- Last: the newest tid, and how many changes the list has
+abbrev pub last_step : Machine → Stepped
+last_step m = replied m (reply.Last (newest_tid m.list) (change_count m.list))
+
+-- nothing up to the tid was dropped since so many changes were counted there, and not too much is behind it
+abbrev pub keeps_since : List Transaction → ℕ → ℕ → Bool
+keeps_since list tid changes = (changes_up_to tid list == changes) && nat_le (length (filter (is_above tid) list)) news_limit
+
+abbrev pub commit_of : Transaction → NewsCommit
+commit_of x = record { tid = x.tid; oids = oids_of x }
+
+abbrev pub commits_since : Bool → List Transaction → ℕ → List NewsCommit
+commits_since true list tid = map commit_of (filter (is_above tid) list)
+commits_since false list tid = []
+
+-- Since: the commits behind a tid, where what was read up to it still holds
+abbrev pub since_step : Machine → ℕ → ℕ → Stepped
+since_step m tid changes =
+    let keep : Bool = keeps_since m.list tid changes in
+    replied m (reply.Since keep (commits_since keep m.list tid))
 
 -- ---- a step
 
@@ -214,7 +329,11 @@ request_step rules m n request.Finish stamp = finish_step m n m.vote
 request_step rules m n request.Abort stamp = replied (without_vote m n) reply.Aborted
 request_step rules m n (request.History oid) stamp = replied m (reply.History (history_of oid m.list))
 request_step rules m n request.UndoLog stamp = replied m (reply.UndoLog (undo_log_of m.list))
-request_step rules m n (request.Pack tid) stamp = pack_step rules.named m (pack_tid tid m.list)
+request_step rules m n (request.Pack tid collect) stamp = pack_step rules.named m (pack_tid tid m.list) collect
+request_step rules m n (request.PackBegin tid collect) stamp = begin_step m n (pack_tid tid m.list) collect
+request_step rules m n request.PackTurn stamp = turn_step rules.named m m.pack
+request_step rules m n request.Last stamp = last_step m
+request_step rules m n (request.Since tid changes) stamp = since_step m tid changes
 request_step rules m n request.Close stamp = replied (without_session m n) reply.Closed
 
 abbrev pub unless_early : Option Refusal → Machine → Stepped → Stepped

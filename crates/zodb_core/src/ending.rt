@@ -1,11 +1,13 @@
 //! The requests that end a vote or a session.
 
-ghost use Rattle.std.specs.Prelude.{◌≡◌, ◌<◌, ◌++◌, ◌∷◌, [], None, Option, Some, List, OnErr, OnOk, false, true, length, map, vec_capacity};
+ghost use Rattle.std.specs.Prelude.{◌≡◌, ◌<◌, ◌⊎◌, ◌++◌, ◌∷◌, [], None, Option, Some, List, OnErr, OnOk, false, true, length, map, vec_capacity};
 ghost use Rattle.zb_base.specs.Counts.{HasCause};
 ghost use Rattle.zb_ids.specs.declared.stamp.Stamp.{Stamp};
 ghost use Rattle.zb_volume.specs.declared.areas.Area.TheVariants.{Main, Side};
 ghost use Rattle.zb_volume.specs.Moments.{LeavesOnly, StaysAs};
-ghost use Rattle.zodb_core.specs.HubState.{IsBeforeOrBehind, MakesStep, StandsForMachine, StepsSafely, has_vote, rules_of, writes_of};
+ghost use Rattle.zodb_core.specs.HubState.{IsBeforeOrBehind, MakesStep, StandsForMachine, StepsSafely, has_vote, owns_pack, rules_of, writes_of};
+ghost use Rattle.zodb_core.specs.Packing.{without_pack_of};
+ghost use Rattle.zb_model.specs.Stores.{DropKeepsRest};
 ghost use Rattle.zodb_core.specs.Machine.{Machine, is_open_in};
 ghost use Rattle.zodb_core.specs.Outcomes.{NoMemory, ReadingFailed, failed, holds_writes, outcome_of};
 ghost use Rattle.zodb_core.specs.Steps.{without_vote};
@@ -13,6 +15,7 @@ ghost use Rattle.zodb_core.specs.Steps.{without_vote};
 use crate::hub::Hub;
 use crate::journal::JournalEntry;
 use crate::oids::greatest_with;
+use crate::open_pack::HubPack;
 use crate::reply::Reply;
 use crate::request::Request;
 use crate::session::{Session, set_session};
@@ -26,6 +29,16 @@ pub(crate) fn has_vote(vote: &Option<HubVote>, session: u32) -> bool
 {
     match vote {
         Some(held) => held.session == session,
+        None => false,
+    }
+}
+
+/// Whether a session has the open pack.
+fn owns_pack(pack: &Option<HubPack>, session: u32) -> bool
+    ensures { result ≡ owns_pack session pack.now }
+{
+    match pack {
+        Some(open) => open.session == session,
         None => false,
     }
 }
@@ -51,7 +64,7 @@ pub(crate) fn push_entry(journal: &mut Vec<JournalEntry>, entry: JournalEntry)
 
 impl<St: Store, R: Resolver, F: Refs> Hub<St, R, F> {
     /// What the session has voted is appended to the list. It takes no memory.
-    #[tactic(auto, using(crate::proofs::Votes::finish_empty, crate::proofs::Votes::finish_committed, crate::proofs::Votes::moments_kept, crate::proofs::Votes::moments_finish, crate::proofs::Switching::begun_none, zb_model::specs::StayLaws::stays_same))]
+    #[tactic(auto, using(crate::proofs::Votes::finish_empty, crate::proofs::Votes::finish_committed, crate::proofs::Votes::moments_kept, crate::proofs::Votes::moments_finish, zb_model::specs::StayLaws::stays_same))]
     pub(crate) fn finish(&mut self, session: u32) -> Reply
         requires whole { self.old.store.broken ≡ false }
         requires is_open { is_open_in self.old.sessions session ≡ true }
@@ -59,7 +72,6 @@ impl<St: Store, R: Resolver, F: Refs> Hub<St, R, F> {
             MakesStep (rules_of R.rules F.named self.old) m session Request.Finish
             result self.old self.new stamps stamps }
         ensures safe { StepsSafely false result self.old self.new }
-        ensures begun { self.old.store.begun ≡ None → self.new.store.begun ≡ None }
         ensures side { St.lasts → StaysAs Side self.old.store.log self.new.store.log }
         ensures memory { ¬ (outcome_of result ≡ NoMemory) }
         ensures unread { ¬ (outcome_of result ≡ ReadingFailed) }
@@ -92,7 +104,7 @@ impl<St: Store, R: Resolver, F: Refs> Hub<St, R, F> {
     }
 
     /// What the session has voted is dropped, if it holds the vote.
-    #[tactic(auto, using(crate::proofs::Votes::dropped_none, crate::proofs::Votes::dropped_writes, crate::proofs::Votes::dropped_failed, crate::proofs::Votes::held_writes, crate::proofs::Switching::begun_none, zb_model::specs::StayLaws::stays_same))]
+    #[tactic(auto, using(crate::proofs::Votes::dropped_none, crate::proofs::Votes::dropped_writes, crate::proofs::Votes::dropped_failed, crate::proofs::Votes::held_writes, zb_model::specs::StayLaws::stays_same))]
     fn drop_vote(&mut self, session: u32) -> Result<(), StoreFault>
         requires whole { self.old.store.broken ≡ false }
         ensures dropped { St.told → (m : Machine) → StandsForMachine self.old m →
@@ -107,7 +119,6 @@ impl<St: Store, R: Resolver, F: Refs> Hub<St, R, F> {
         ensures refs { self.new.refs ≡ self.old.refs }
         ensures sessions { self.new.sessions ≡ self.old.sessions }
         ensures reads { self.new.store.read_faults ≡ self.old.store.read_faults }
-        ensures begun { self.old.store.begun ≡ None → self.new.store.begun ≡ None }
         ensures cause { HasCause self.old.store.faults self.new.store.faults result }
         ensures uncounted { OnOk result (self.new.store.faults ≡ self.old.store.faults) }
         ensures side { St.lasts → StaysAs Side self.old.store.log self.new.store.log }
@@ -136,7 +147,6 @@ impl<St: Store, R: Resolver, F: Refs> Hub<St, R, F> {
             MakesStep (rules_of R.rules F.named self.old) m session Request.Abort
             result self.old self.new stamps stamps }
         ensures safe { StepsSafely false result self.old self.new }
-        ensures begun { self.old.store.begun ≡ None → self.new.store.begun ≡ None }
         ensures side { St.lasts → StaysAs Side self.old.store.log self.new.store.log }
         ensures memory { ¬ (outcome_of result ≡ NoMemory) }
         ensures unread { ¬ (outcome_of result ≡ ReadingFailed) }
@@ -150,7 +160,29 @@ impl<St: Store, R: Resolver, F: Refs> Hub<St, R, F> {
         }
     }
 
-    /// The end of the session: what it has voted is dropped. It takes no memory.
+    /// The pack of a session is dropped, if it has the one that is open.
+    #[tactic(auto, using(crate::proofs::Votes::pack_disowned, crate::proofs::Votes::pack_unowned))]
+    fn drop_pack(&mut self, session: u32)
+        requires whole { self.old.store.broken ≡ false }
+        ensures dropped { (m : Machine) → StandsForMachine self.old m →
+            StandsForMachine self.new (without_pack_of m session) }
+        ensures store { (self.new.store ≡ self.old.store) ⊎ DropKeepsRest self.old.store self.new.store }
+        ensures whole { self.new.store.broken ≡ false }
+        ensures log { self.new.store.log ≡ self.old.store.log }
+        ensures reads { self.new.store.read_faults ≡ self.old.store.read_faults }
+        ensures faults { self.new.store.faults ≡ self.old.store.faults }
+        ensures resolver { self.new.resolver ≡ self.old.resolver }
+        ensures refs { self.new.refs ≡ self.old.refs }
+        ensures sessions { self.new.sessions ≡ self.old.sessions }
+        ensures journal { self.new.journal ≡ self.old.journal }
+    {
+        if owns_pack(&self.pack, session) {
+            self.pack = None;
+            self.store.pack_drop();
+        }
+    }
+
+    /// The end of the session: what it has voted is dropped, and so is its pack. It takes no memory.
     #[tactic(auto, using(crate::proofs::Votes::close_failed, crate::proofs::Votes::close_dropped, crate::proofs::Votes::moments_same))]
     pub(crate) fn close(&mut self, session: u32) -> Reply
         requires whole { self.old.store.broken ≡ false }
@@ -159,7 +191,6 @@ impl<St: Store, R: Resolver, F: Refs> Hub<St, R, F> {
             MakesStep (rules_of R.rules F.named self.old) m session Request.Close
             result self.old self.new stamps stamps }
         ensures safe { StepsSafely false result self.old self.new }
-        ensures begun { self.old.store.begun ≡ None → self.new.store.begun ≡ None }
         ensures side { St.lasts → StaysAs Side self.old.store.log self.new.store.log }
         ensures memory { ¬ (outcome_of result ≡ NoMemory) }
         ensures unread { ¬ (outcome_of result ≡ ReadingFailed) }
@@ -170,6 +201,7 @@ impl<St: Store, R: Resolver, F: Refs> Hub<St, R, F> {
         let Ok(()) = self.drop_vote(session) else {
             return Reply::Refused(Refusal::StoreFault);
         };
+        self.drop_pack(session);
         let closed = Session {
             is_open: false,
             told: self.journal.len() as u64,

@@ -8,6 +8,7 @@ ghost use Rattle.zodb_core.specs.Machine.{Machine, is_open_in, machine_over, ses
 
 use crate::errors::SessionRefusal;
 use crate::journal::JournalEntry;
+use crate::open_pack::HubPack;
 use crate::session::{Session, is_open, push_session};
 use crate::vote::HubVote;
 use std::alloc::Global;
@@ -40,15 +41,22 @@ pub struct Hub<St: Store, R: Resolver, F: Refs> {
     pub(crate) sessions: Vec<Session>,
     /// The vote, where one is held.
     pub(crate) vote: Option<HubVote>,
+    /// The pack, where one is open.
+    pub(crate) pack: Option<HubPack>,
     /// Whether the store failed.
     pub(crate) failed: bool,
 }
 
 impl<St: Store, R: Resolver, F: Refs> Model for Hub<St, R, F> {
     ghost use Rattle.std.specs.Prelude.{vec_capacity};
+    ghost use Rattle.std.specs.Coded.{codes, coded_ℕ};
+    ghost use Rattle.std.specs.FinSet as set;
+    ghost use Rattle.std.specs.Ordering.{nat_cmp};
     ghost use Rattle.zodb_core.specs.HubState.{HubState, HubKeeps};
 
     ghost Value = { HubState R F };
+
+    ghost coded = { Prim.hlevel (codes, set.code {R = nat_cmp} coded_ℕ) };
 
     ghost view = { λ hub. record {
       store = St.state hub.store;
@@ -58,10 +66,11 @@ impl<St: Store, R: Resolver, F: Refs> Model for Hub<St, R, F> {
       greatest = hub.greatest;
       sessions = hub.sessions.items;
       vote = hub.vote;
+      pack = hub.pack;
     } };
 
     ghost invariant = { λ hub. HubKeeps St.told (St.state hub.store) hub.journal.items (vec_capacity hub.journal)
-        hub.changes hub.switches hub.sessions.items hub.vote hub.failed };
+        hub.changes hub.switches hub.sessions.items hub.vote hub.pack hub.failed (F.named hub.refs) };
 }
 
 impl<St: Store, R: Resolver, F: Refs> Hub<St, R, F> {
@@ -86,6 +95,7 @@ impl<St: Store, R: Resolver, F: Refs> Hub<St, R, F> {
             greatest,
             sessions: Vec::new(alloc),
             vote: None,
+            pack: None,
             failed: false,
         }
     }
@@ -160,6 +170,7 @@ impl<St: Store, R: Resolver + Drop, F: Refs + Drop> Hub<St, R, F> {
             greatest: _,
             sessions: _,
             vote: _,
+            pack: _,
             failed: _,
         } = self;
         store

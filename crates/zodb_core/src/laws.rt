@@ -4,7 +4,8 @@ ghost use Rattle.zodb_core.specs.History.{CountsGoOn, HistoriesGoOn, MachinesGoO
 ghost use Rattle.zodb_core.specs.History.{PrefixesAreLegal, RepliesAreOne, StepsAreEntries, UnreadStepsAreOne};
 ghost use Rattle.zodb_core.specs.Laws.{CountsNeverFall, EndingsKeepSound, FreeVotesAreServed, FrontsNeverFall};
 ghost use Rattle.zodb_core.specs.Laws.{GreatestNeverFalls, HistoriesKeepSound, HistoriesComeTo, HistoriesOnlyGrow};
-ghost use Rattle.zodb_core.specs.Laws.{JournalIsFull, ListsOnlyGrow, ListsStayDatabases, MachineStartsSound};
+ghost use Rattle.zodb_core.specs.Laws.{JournalIsFull, ListsArePackedAsAsked, ListsOnlyGrow, ListsStayDatabases};
+ghost use Rattle.zodb_core.specs.Laws.{MachineStartsSound, TurnsKeepLists};
 ghost use Rattle.zodb_core.specs.Laws.{NewNumbersAreNew, NewestNeverFalls, NumbersComeBehindGreatest};
 ghost use Rattle.zodb_core.specs.Laws.{OpeningsKeepSound, PacksKeepFronts, PacksKeepViews, RecordsBelowFrontsStood};
 ghost use Rattle.zodb_core.specs.Laws.{StatesBelowFrontsStay, StepsAreAnswered, StepsGrowOrPack, StepsHaveRoom, StepsKeepSound};
@@ -68,9 +69,13 @@ pub fn lists_only_grow()
     ensures records { RecordsBelowFrontsStood }
 {}
 
-/// A pack keeps what views above its tid see: every object that references lead to from the root has the
-/// content that it had. And it leaves the front.
+/// A pack, in one step or in turns, packs the list just as it was asked or begun to, and its other turns
+/// leave the list. It keeps what views above its tid see: each object that it keeps has the content that it
+/// had, and where it collects, every object that references lead to from the root is kept. And it leaves
+/// the front.
 pub fn packs_keep_views()
+    ensures packed { ListsArePackedAsAsked }
+    ensures unpacked { TurnsKeepLists }
     ensures views { PacksKeepViews }
     ensures fronts { PacksKeepFronts }
 {}

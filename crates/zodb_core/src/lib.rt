@@ -9,11 +9,14 @@ mod journal;
 mod laws;
 mod news;
 mod oids;
+mod open_pack;
+mod pack_turns;
 mod packing;
 mod reading;
 mod reply;
 mod request;
 mod session;
+mod since;
 mod step;
 mod texts;
 mod vote;
@@ -28,6 +31,7 @@ pub use laws::{
     journal_is_full, lists_only_grow, machines_stay_sound, new_numbers_are_new, packs_keep_views,
     replies_are_one, steps_are_answered, unread_steps_are_one,
 };
+pub use open_pack::{HubCopying, HubPack};
 pub use reply::Reply;
 pub use request::Request;
 pub use session::Session;

@@ -1,23 +1,26 @@
-//! The request that packs.
+//! The request that packs in one step.
 
-ghost use Rattle.std.specs.Prelude.{◌≡◌, ◌-◌, Option, List, None, IfErr, IfOk, IsErrOf, OnErr, OnOk, true, false, min};
+ghost use Rattle.std.specs.Prelude.{◌≡◌, ◌-◌, Option, List, None, Some, IfErr, IfOk, IsErrOf, OnErr, OnOk, true, false, min};
 ghost use Rattle.zb_ids.specs.declared.stamp.Stamp.{Stamp};
 ghost use Rattle.zb_volume.specs.declared.areas.Area.TheVariants.{Main};
 ghost use Rattle.zb_volume.specs.Moments.{LeavesOnly, StaysAs};
 ghost use Rattle.zb_model.specs.Packing.{packed_by};
-ghost use Rattle.zb_model.specs.Packs.{IsPackCount, StandsForOneOfTwo};
+ghost use Rattle.std.specs.Option.{ForSome};
+ghost use Rattle.zb_model.specs.Packs.{IsCopyOf, IsPackCount, StandsForOneOfTwo};
 ghost use Rattle.zb_model.specs.Stores.{HasStoreCause, UnlessFault};
 ghost use Rattle.pack_reach.specs.Outcomes.{ReadsToMark};
-ghost use Rattle.zodb_core.specs.HubState.{IsBeforeOrBehind, MakesStep, StandsForMachine, StepsSafely, may_write, rules_of};
+ghost use Rattle.zodb_core.specs.HubState.{IsBeforeOrBehind, MakesStep, StandsForMachine, StepsSafely, may_write, rules_of, tid_begun};
+ghost use Rattle.zodb_core.specs.Steps.{without_pack};
 ghost use Rattle.zodb_core.specs.Machine.{Machine, is_open_in};
 ghost use Rattle.zodb_core.specs.Outcomes.{is_packed};
-ghost use Rattle.zodb_core.specs.Packing.{IsReachMarked, PacksTo, RefusesPack, busy_with};
+ghost use Rattle.zodb_core.specs.Packing.{AreAllMarked, PacksTo, RefusesPack, busy_with, goal_of, running};
 ghost use Rattle.zodb_core.specs.Replies.{pack_reply};
 ghost use Rattle.zodb_core.specs.Seen.{KeepsSeen};
 
 use crate::ending::push_entry;
 use crate::hub::Hub;
 use crate::journal::JournalEntry;
+use crate::open_pack::HubPack;
 use crate::reading::fault_reply;
 use crate::reply::Reply;
 use crate::request::Request;
@@ -28,8 +31,20 @@ use std::alloc::Global;
 use zb_ids::Tid;
 use zb_model::{OidSet, Packed, Refs, Refusal, Resolver, Store, StoreError};
 
+/// Why no pack is begun while one is open.
+pub(crate) fn running(pack: &Option<HubPack>) -> Option<Refusal>
+    ensures { result ≡ running pack.now }
+{
+    match pack {
+        Some(open) => Some(Refusal::PackRunning {
+            session: open.session,
+        }),
+        None => None,
+    }
+}
+
 /// Why nothing is packed while the vote is held.
-fn busy_with(vote: &Option<HubVote>) -> Option<Refusal>
+pub(crate) fn busy_with(vote: &Option<HubVote>) -> Option<Refusal>
     ensures { result ≡ busy_with vote.now }
 {
     match vote {
@@ -41,7 +56,7 @@ fn busy_with(vote: &Option<HubVote>) -> Option<Refusal>
 }
 
 /// How far a pack goes that is asked to go up to a tid: never over the newest transaction.
-fn tid_below(tid: Tid, newest: Tid) -> Tid
+pub(crate) fn tid_below(tid: Tid, newest: Tid) -> Tid
     ensures { result ≡ min tid (newest - 1) }
 {
     let before = Tid(newest.0.saturating_sub(1));
@@ -49,7 +64,7 @@ fn tid_below(tid: Tid, newest: Tid) -> Tid
 }
 
 /// What a pack is answered where its marks were refused.
-fn pack_reply(refusal: PackRefusal) -> Reply
+pub(crate) fn pack_reply(refusal: PackRefusal) -> Reply
     ensures { result ≡ pack_reply refusal }
 {
     match refusal {
@@ -59,18 +74,24 @@ fn pack_reply(refusal: PackRefusal) -> Reply
     }
 }
 
-/// The marks of all that a pack up to a tid reaches. It only reads the store.
+/// The marks of all that a pack up to a tid keeps. It only reads the store.
 fn mark_all<St: Store, F: Refs>(
     alloc: Global,
     store: &mut St,
     refs: &F,
     tid: Tid,
+    collect: bool,
 ) -> Result<Marker, PackRefusal>
     requires whole { (St.state store.old).broken ≡ false }
-    ensures marked { St.told → IfOk result (IsReachMarked (F.named refs.now) tid (St.state store.old).list) }
-    ensures refused { St.told → IfErr result (RefusesPack (F.named refs.now) tid (St.state store.old).list) }
+    ensures marked { St.told →
+        IfOk result (AreAllMarked collect (F.named refs.now) tid (St.state store.old).list) }
+    ensures refused { St.told →
+        IfErr result (RefusesPack collect (F.named refs.now) tid (St.state store.old).list) }
     ensures read { ReadsToMark (St.state store.old) (St.state store.new) result }
 {
+    if !collect {
+        return Marker::without_collection(alloc, tid, store);
+    }
     let mut marker = Marker::new(alloc, tid)?;
     marker.mark_all(alloc, store, refs)?;
     Ok(marker)
@@ -111,24 +132,73 @@ fn replace_list<St: Store>(
     store.pack_switch(alloc, keep)
 }
 
+/// What is left of a copy is copied, and the copy is put in the place of the list; or all of it is copied
+/// first, where none is begun (`fresh`).
+fn replace<St: Store>(
+    alloc: Global,
+    store: &mut St,
+    tid: Tid,
+    keep: &OidSet,
+    fresh: bool,
+) -> Result<Packed, StoreError>
+    requires whole { (St.state store.old).broken ≡ false }
+    requires free { (St.state store.old).voted ≡ None }
+    requires begun { fresh ≡ false → tid_begun (St.state store.old).begun ≡ Some tid }
+    requires copy { fresh ≡ false → St.told →
+        ForSome (St.state store.old).begun (IsCopyOf keep.now (St.state store.old).list) }
+    ensures whole { UnlessFault result ((St.state store.new).broken ≡ false) }
+    ensures breaks { IsErrOf result StoreError.StoreFault → (St.state store.new).broken ≡ true }
+    ensures list { St.told → OnOk result
+        ((St.state store.new).list ≡ packed_by tid keep.now (St.state store.old).list) }
+    ensures counts { St.told → IfOk result (λ counts.
+        IsPackCount (St.state store.old).list (St.state store.new).list counts) }
+    ensures unchanged { St.told → OnErr result
+        (UnlessFault result ((St.state store.new).list ≡ (St.state store.old).list)) }
+    ensures begun { (St.state store.new).begun ≡ None }
+    ensures voted { (St.state store.new).voted ≡ None }
+    ensures main { St.lasts → OnErr result
+        (UnlessFault result (StaysAs Main (St.state store.old).log (St.state store.new).log)) }
+    ensures any_moment { St.lasts → St.told → LeavesOnly Main
+        (StandsForOneOfTwo St.stands (St.state store.old).list (packed_by tid keep.now (St.state store.old).list))
+        (St.state store.old).log (St.state store.new).log }
+    ensures cause { HasStoreCause (St.state store.old) (St.state store.new) result }
+{
+    if fresh {
+        return replace_list(alloc, store, tid, keep);
+    }
+    store.pack_switch(alloc, keep)
+}
+
 impl<St: Store, R: Resolver, F: Refs> Hub<St, R, F> {
-    /// The list is packed up to a tid, with just the objects of a set kept.
+    /// The list is packed up to a tid, with just the objects of a set kept, from the copy that the store has
+    /// begun, or from a fresh one.
     #[tactic(auto, using(crate::proofs::Votes::moments_kept, zb_model::specs::StayLaws::stays_same))]
-    fn switch(&mut self, alloc: Global, session: u32, tid: Tid, keep: &OidSet) -> Reply
+    pub(crate) fn switch(
+        &mut self,
+        alloc: Global,
+        session: u32,
+        tid: Tid,
+        keep: &OidSet,
+        fresh: bool,
+    ) -> Reply
         requires whole { self.old.store.broken ≡ false }
         requires is_open { is_open_in self.old.sessions session ≡ true }
         requires free { self.old.vote ≡ None }
-        ensures step { St.told → (m : Machine) → StandsForMachine self.old m → (q : Request) →
+        requires none { self.old.pack ≡ None }
+        requires begun { fresh ≡ false → tid_begun self.old.store.begun ≡ Some tid }
+        requires copy { fresh ≡ false → St.told →
+            ForSome self.old.store.begun (IsCopyOf keep.now self.old.store.list) }
+        ensures step { St.told → (m : Machine) → StandsForMachine self.old (without_pack m) → (q : Request) →
             PacksTo (rules_of R.rules F.named self.old) m session q tid keep.now → (stamps : Option (List Stamp)) →
             MakesStep (rules_of R.rules F.named self.old) m session q
             result self.old self.new stamps stamps }
         ensures safe { StepsSafely true result self.old self.new }
         ensures list { St.told → is_packed result ≡ true →
             self.new.store.list ≡ packed_by tid keep.now self.old.store.list }
-        ensures begun { self.old.store.begun ≡ None → self.new.store.begun ≡ None }
         ensures main { St.lasts → may_write false result ≡ false →
             StaysAs Main self.old.store.log self.new.store.log }
-        ensures any_moment { St.lasts → St.told → (m : Machine) → StandsForMachine self.old m → (q : Request) →
+        ensures any_moment { St.lasts → St.told →
+            (m : Machine) → StandsForMachine self.old (without_pack m) → (q : Request) →
             PacksTo (rules_of R.rules F.named self.old) m session q tid keep.now →
             LeavesOnly Main (IsBeforeOrBehind St.stands (rules_of R.rules F.named self.old) m session q)
             self.old.store.log self.new.store.log }
@@ -136,7 +206,7 @@ impl<St: Store, R: Resolver, F: Refs> Hub<St, R, F> {
         let Ok(()) = self.journal.reserve(1) else {
             return Reply::Refused(Refusal::Memory);
         };
-        let packed = match replace_list(alloc, &mut self.store, tid, keep) {
+        let packed = match replace(alloc, &mut self.store, tid, keep, fresh) {
             Ok(packed) => packed,
             Err(error) => {
                 self.failed = is_fault(error);
@@ -151,25 +221,29 @@ impl<St: Store, R: Resolver, F: Refs> Hub<St, R, F> {
         }
     }
 
-    /// The list is packed up to a tid, but never over the newest transaction: what the pack reaches is
-    /// marked, what stays is copied, and the copy is put in the place of the list.
-    #[tactic(auto, using(crate::proofs::Switching::pack_busy, crate::proofs::Switching::pack_already, crate::proofs::Switching::marks_refused, crate::proofs::Switching::none_busy, crate::proofs::Votes::moments_kept, zb_model::specs::StayLaws::stays_same, zb_model::specs::StayLaws::stays_from))]
-    pub(crate) fn pack(&mut self, alloc: Global, session: u32, tid: Tid) -> Reply
+    /// The list is packed up to a tid, but never over the newest transaction: what the pack keeps is marked,
+    /// what stays is copied, and the copy is put in the place of the list.
+    #[tactic(auto, using(crate::proofs::Switching::pack_runs, crate::proofs::Switching::pack_busy, crate::proofs::Switching::pack_already, crate::proofs::Switching::none_busy, crate::proofs::Turns::none_running, crate::specs::SwitchLaws::unpacked_keeps, crate::proofs::Votes::moments_kept, zb_model::specs::StayLaws::stays_same, zb_model::specs::StayLaws::stays_from))]
+    pub(crate) fn pack(&mut self, alloc: Global, session: u32, tid: Tid, collect: bool) -> Reply
         requires whole { self.old.store.broken ≡ false }
         requires is_open { is_open_in self.old.sessions session ≡ true }
         ensures step { St.told → (m : Machine) → StandsForMachine self.old m → (stamps : Option (List Stamp)) →
-            MakesStep (rules_of R.rules F.named self.old) m session (Request.Pack tid)
+            MakesStep (rules_of R.rules F.named self.old) m session (Request.Pack tid collect)
             result self.old self.new stamps stamps }
         ensures safe { StepsSafely true result self.old self.new }
-        ensures views { St.told → KeepsSeen (F.named self.old.refs) (Request.Pack tid) result
+        ensures views { St.told →
+            KeepsSeen (F.named self.old.refs) (goal_of self.old.pack) (Request.Pack tid collect) result
             self.old.store.list self.new.store.list }
-        ensures begun { self.old.store.begun ≡ None → self.new.store.begun ≡ None }
         ensures main { St.lasts → may_write false result ≡ false →
             StaysAs Main self.old.store.log self.new.store.log }
         ensures any_moment { St.lasts → St.told → (m : Machine) → StandsForMachine self.old m →
-            LeavesOnly Main (IsBeforeOrBehind St.stands (rules_of R.rules F.named self.old) m session (Request.Pack tid))
+            LeavesOnly Main
+            (IsBeforeOrBehind St.stands (rules_of R.rules F.named self.old) m session (Request.Pack tid collect))
             self.old.store.log self.new.store.log }
     {
+        if let Some(refusal) = running(&self.pack) {
+            return Reply::Refused(refusal);
+        }
         if let Some(refusal) = busy_with(&self.vote) {
             return Reply::Refused(refusal);
         }
@@ -178,10 +252,10 @@ impl<St: Store, R: Resolver, F: Refs> Hub<St, R, F> {
         if up_to <= packed {
             return Reply::Refused(Refusal::PackedAlready { packed });
         }
-        let marker = match mark_all(alloc, &mut self.store, &self.refs, up_to) {
+        let marker = match mark_all(alloc, &mut self.store, &self.refs, up_to, collect) {
             Ok(marker) => marker,
             Err(refusal) => return pack_reply(refusal),
         };
-        self.switch(alloc, session, up_to, marker.set())
+        self.switch(alloc, session, up_to, marker.set(), true)
     }
 }

@@ -60,7 +60,6 @@ impl<St: Store, R: Resolver, F: Refs> Hub<St, R, F> {
             MakesStep (rules_of R.rules F.named self.old) m session Request.Front
             result self.old self.new stamps stamps }
         ensures safe { StepsSafely false result self.old self.new }
-        ensures begun { self.old.store.begun ≡ None → self.new.store.begun ≡ None }
         ensures unread { ¬ (outcome_of result ≡ ReadingFailed) }
         ensures unwritten { ¬ (outcome_of result ≡ StoreFailed) }
         ensures log { self.new.store.log ≡ self.old.store.log }
@@ -95,7 +94,6 @@ impl<St: Store, R: Resolver, F: Refs> Hub<St, R, F> {
             MakesStep (rules_of R.rules F.named self.old) m session (Request.LoadBefore oid front)
             result self.old self.new stamps stamps }
         ensures safe { StepsSafely false result self.old self.new }
-        ensures begun { self.old.store.begun ≡ None → self.new.store.begun ≡ None }
         ensures unwritten { ¬ (outcome_of result ≡ StoreFailed) }
         ensures log { self.new.store.log ≡ self.old.store.log }
     {
@@ -114,7 +112,6 @@ impl<St: Store, R: Resolver, F: Refs> Hub<St, R, F> {
             MakesStep (rules_of R.rules F.named self.old) m session (Request.History oid)
             result self.old self.new stamps stamps }
         ensures safe { StepsSafely false result self.old self.new }
-        ensures begun { self.old.store.begun ≡ None → self.new.store.begun ≡ None }
         ensures unwritten { ¬ (outcome_of result ≡ StoreFailed) }
         ensures log { self.new.store.log ≡ self.old.store.log }
     {
@@ -132,7 +129,6 @@ impl<St: Store, R: Resolver, F: Refs> Hub<St, R, F> {
             MakesStep (rules_of R.rules F.named self.old) m session Request.UndoLog
             result self.old self.new stamps stamps }
         ensures safe { StepsSafely false result self.old self.new }
-        ensures begun { self.old.store.begun ≡ None → self.new.store.begun ≡ None }
         ensures unwritten { ¬ (outcome_of result ≡ StoreFailed) }
         ensures log { self.new.store.log ≡ self.old.store.log }
     {
@@ -151,7 +147,6 @@ impl<St: Store, R: Resolver, F: Refs> Hub<St, R, F> {
             MakesStep (rules_of R.rules F.named self.old) m session (Request.NewOids count)
             result self.old self.new stamps stamps }
         ensures safe { StepsSafely false result self.old self.new }
-        ensures begun { self.old.store.begun ≡ None → self.new.store.begun ≡ None }
         ensures unread { ¬ (outcome_of result ≡ ReadingFailed) }
         ensures unwritten { ¬ (outcome_of result ≡ StoreFailed) }
         ensures memory { ¬ (outcome_of result ≡ NoMemory) }

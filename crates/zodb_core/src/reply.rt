@@ -1,7 +1,7 @@
 //! What a session is answered.
 
 use zb_ids::{ListOf, Oid, Text8, Tid};
-use zb_model::{LogLine, News, Refusal, Revision};
+use zb_model::{LogLine, News, NewsCommit, Refusal, Revision};
 
 /// What a step is answered.
 #[derive(Debug, Drop)]
@@ -67,6 +67,45 @@ pub enum Reply {
         kept: u64,
         /// How many changes went.
         dropped: u64,
+    },
+    /// A pack is begun.
+    Packing {
+        /// It goes up to this tid.
+        tid: Tid,
+    },
+    /// More objects are marked, and others are left.
+    Marking {
+        /// How many are marked.
+        count: u64,
+    },
+    /// All objects are marked that the pack keeps.
+    Marked {
+        /// How many they are.
+        count: u64,
+    },
+    /// More of the packed list is copied, and transactions are left.
+    Copying {
+        /// How many changes are copied.
+        count: u64,
+    },
+    /// The packed list is copied as far as it goes now.
+    Copied {
+        /// How many changes it has.
+        count: u64,
+    },
+    /// The newest transaction, and how much the list has.
+    Last {
+        /// The newest tid, or 0.
+        tid: Tid,
+        /// How many changes the list has.
+        changes: u64,
+    },
+    /// What was committed behind a tid.
+    Since {
+        /// Whether no change up to the tid was dropped, and at most 1,000 transactions are behind it.
+        keep: bool,
+        /// These transactions, in order; none where that isn't so.
+        commits: ListOf<NewsCommit>,
     },
     /// The session is closed.
     Closed,

@@ -51,10 +51,30 @@ pub enum Request {
     },
     /// Every transaction that may be undone, the newest first.
     UndoLog,
-    /// The list is packed: what no view above a tid needs is dropped.
+    /// The list is packed, in one step: what no view above a tid needs is dropped.
     Pack {
         /// Up to this tid, but never over the newest transaction.
         tid: Tid,
+        /// Whether objects that nothing leads to go too.
+        collect: bool,
+    },
+    /// The beginning of the same in turns, between which others commit.
+    PackBegin {
+        /// Up to this tid, but never over the newest transaction.
+        tid: Tid,
+        /// Whether objects that nothing leads to go too.
+        collect: bool,
+    },
+    /// The next turn of the session's pack.
+    PackTurn,
+    /// The newest tid, and how many changes the list has.
+    Last,
+    /// What was committed behind a tid up to which a client had counted the changes.
+    Since {
+        /// The tid.
+        tid: Tid,
+        /// How many changes the list had up to it.
+        changes: u64,
     },
     /// The end of the session; what it has voted is dropped.
     Close,

@@ -7,6 +7,7 @@ ghost use Rattle.zb_model.specs.Database.{IsDatabase};
 ghost use Rattle.zodb_core.specs.HubState.{IsBeforeOrBehind, IsFitting, MakesStep, StandsForMachine, StepsByClock, StepsSafely, may_write, rules_of};
 ghost use Rattle.zodb_core.specs.Machine.{Machine, is_open_in};
 ghost use Rattle.zodb_core.specs.Outcomes.{NoMemory, ReadingFailed, StoreFailed, is_pack, keeps_store, outcome_of, reads_store, takes_memory};
+ghost use Rattle.zodb_core.specs.Packing.{goal_of};
 ghost use Rattle.zodb_core.specs.Seen.{KeepsSeen};
 
 use crate::hub::Hub;
@@ -30,11 +31,12 @@ impl<St: Store, R: Resolver, F: Refs> Hub<St, R, F> {
     /// Where the store's list lies on a disk, each crash in a step leaves the list before it or the one
     /// behind it.
     ///
-    /// A pack is made whole in this one step: what is reached is marked, what stays is copied, and the copy
-    /// is put in the place of the list. Every object that references lead to from the root, in a view above
-    /// the pack's tid, has the content that it had. One that isn't made for a failed read or for want of
-    /// memory leaves Main as it was, but may have written Side.
-    #[tactic(auto, using(crate::proofs::Votes::closed_failed, crate::proofs::Votes::closed_now, crate::proofs::Votes::moments_kept, crate::proofs::Votes::moments_same, zb_model::specs::StayLaws::stays_same, zb_model::specs::StayLaws::stays_from, crate::specs::SwitchLaws::unpacked_keeps))]
+    /// A pack is made whole in one step, or in turns between which others commit: what it keeps is marked,
+    /// what stays is copied, and the copy is put in the place of the list. Each object that it keeps has, in
+    /// a view above the pack's tid, the content that it had; where it collects, every object that references
+    /// lead to from the root is kept. A request on a pack that isn't answered for a failed read or for want
+    /// of memory leaves Main as it was, but may have written Side, and drops the pack.
+    #[tactic(auto, using(crate::proofs::Votes::closed_failed, crate::proofs::Votes::closed_now, crate::proofs::Votes::moments_kept, crate::proofs::Votes::moments_same, zb_model::specs::StayLaws::stays_same, zb_model::specs::StayLaws::stays_from, crate::specs::SwitchLaws::unpacked_keeps, crate::proofs::Switches::unasked_keeps))]
     pub fn step<C: Clock>(
         &mut self,
         alloc: Global,
@@ -52,10 +54,9 @@ impl<St: Store, R: Resolver, F: Refs> Hub<St, R, F> {
         ensures side { St.lasts → is_pack request ≡ false → StaysAs Side self.old.store.log self.new.store.log }
         ensures main { St.lasts → is_pack request ≡ true → may_write false result ≡ false →
             StaysAs Main self.old.store.log self.new.store.log }
-        ensures views { St.told → KeepsSeen (F.named self.old.refs) request result
+        ensures views { St.told → KeepsSeen (F.named self.old.refs) (goal_of self.old.pack) request result
             self.old.store.list self.new.store.list }
         ensures database { St.told → self.old.store.broken ≡ false → IsDatabase self.old.store.list }
-        ensures begun { self.old.store.begun ≡ None → self.new.store.begun ≡ None }
         ensures failed { self.old.store.broken ≡ true →
             (result ≡ Reply.Refused Refusal.NotOpen) × (self.new ≡ self.old) }
         ensures closed { is_open_in self.old.sessions session ≡ false →
@@ -107,7 +108,11 @@ impl<St: Store, R: Resolver, F: Refs> Hub<St, R, F> {
             Request::Abort => self.abort(session),
             Request::History { oid } => self.history(alloc, session, oid),
             Request::UndoLog => self.undo_log(alloc, session),
-            Request::Pack { tid } => self.pack(alloc, session, tid),
+            Request::Pack { tid, collect } => self.pack(alloc, session, tid, collect),
+            Request::PackBegin { tid, collect } => self.pack_begin(alloc, session, tid, collect),
+            Request::PackTurn => self.pack_turn(alloc, session),
+            Request::Last => self.last(session),
+            Request::Since { tid, changes } => self.since(alloc, session, tid, changes),
             Request::Close => self.close(session),
         }
     }

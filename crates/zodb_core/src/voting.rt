@@ -116,7 +116,7 @@ fn vote_reply(refusal: VoteRefusal) -> Reply
 
 impl<St: Store, R: Resolver, F: Refs> Hub<St, R, F> {
     /// What was decided is voted, and the session holds the vote.
-    #[tactic(auto, using(crate::proofs::Holding::hold_empty, crate::proofs::Holding::hold_full, crate::proofs::Holding::hold_starved, crate::proofs::Holding::hold_spent, crate::proofs::Holding::hold_voted, crate::proofs::Holding::hold_failed, crate::proofs::Holding::voted_oids, crate::proofs::Switching::begun_none, zb_model::specs::StayLaws::stays_same))]
+    #[tactic(auto, using(crate::proofs::Holding::hold_empty, crate::proofs::Holding::hold_full, crate::proofs::Holding::hold_starved, crate::proofs::Holding::hold_spent, crate::proofs::Holding::hold_voted, crate::proofs::Holding::hold_failed, crate::proofs::Holding::voted_oids, zb_model::specs::StayLaws::stays_same))]
     fn hold<C: Clock>(
         &mut self,
         alloc: Global,
@@ -135,7 +135,6 @@ impl<St: Store, R: Resolver, F: Refs> Hub<St, R, F> {
         ensures step { HoldsByClock St.told (rules_of R.rules F.named self.old) session texts changes
             result self.old self.new (C.stamps clock.old) (C.stamps clock.new) }
         ensures safe { StepsSafely false result self.old self.new }
-        ensures begun { self.old.store.begun ≡ None → self.new.store.begun ≡ None }
         ensures side { St.lasts → StaysAs Side self.old.store.log self.new.store.log }
         ensures any_moment { St.lasts → St.told →
             LeavesOnly Main (λ bytes. St.stands bytes self.old.store.list) self.old.store.log self.new.store.log }
@@ -182,7 +181,7 @@ impl<St: Store, R: Resolver, F: Refs> Hub<St, R, F> {
     }
 
     /// The pending changes are voted on.
-    #[tactic(auto, using(crate::proofs::Asking::vote_early, crate::proofs::Asking::vote_refused, crate::proofs::Asking::votes_for, crate::proofs::Asking::made_later, crate::proofs::Switching::begun_none, zb_model::specs::StayLaws::stays_same, zb_model::specs::StayLaws::stays_from))]
+    #[tactic(auto, using(crate::proofs::Asking::vote_early, crate::proofs::Asking::vote_refused, crate::proofs::Asking::votes_for, crate::proofs::Asking::made_later, zb_model::specs::StayLaws::stays_same, zb_model::specs::StayLaws::stays_from))]
     pub(crate) fn vote<C: Clock>(
         &mut self,
         alloc: Global,
@@ -198,7 +197,6 @@ impl<St: Store, R: Resolver, F: Refs> Hub<St, R, F> {
             (Request.Vote texts.user texts.description texts.extension pending)
             result self.old self.new (C.stamps clock.old) (C.stamps clock.new) }
         ensures safe { StepsSafely false result self.old self.new }
-        ensures begun { self.old.store.begun ≡ None → self.new.store.begun ≡ None }
         ensures side { St.lasts → StaysAs Side self.old.store.log self.new.store.log }
         ensures any_moment { St.lasts → St.told →
             LeavesOnly Main (λ bytes. St.stands bytes self.old.store.list) self.old.store.log self.new.store.log }
@@ -214,7 +212,7 @@ impl<St: Store, R: Resolver, F: Refs> Hub<St, R, F> {
     }
 
     /// The taking back of transactions is voted on.
-    #[tactic(auto, using(crate::proofs::Asking::undo_early, crate::proofs::Asking::undo_refused, crate::proofs::Asking::undo_votes_for, crate::proofs::Asking::made_later, crate::proofs::Switching::begun_none, zb_model::specs::StayLaws::stays_same, zb_model::specs::StayLaws::stays_from))]
+    #[tactic(auto, using(crate::proofs::Asking::undo_early, crate::proofs::Asking::undo_refused, crate::proofs::Asking::undo_votes_for, crate::proofs::Asking::made_later, zb_model::specs::StayLaws::stays_same, zb_model::specs::StayLaws::stays_from))]
     pub(crate) fn undo<C: Clock>(
         &mut self,
         alloc: Global,
@@ -231,7 +229,6 @@ impl<St: Store, R: Resolver, F: Refs> Hub<St, R, F> {
             (Request.Undo texts.user texts.description tids)
             result self.old self.new (C.stamps clock.old) (C.stamps clock.new) }
         ensures safe { StepsSafely false result self.old self.new }
-        ensures begun { self.old.store.begun ≡ None → self.new.store.begun ≡ None }
         ensures side { St.lasts → StaysAs Side self.old.store.log self.new.store.log }
         ensures any_moment { St.lasts → St.told →
             LeavesOnly Main (λ bytes. St.stands bytes self.old.store.list) self.old.store.log self.new.store.log }

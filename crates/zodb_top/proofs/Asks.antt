@@ -24,7 +24,7 @@ use Rattle.zodb_core.specs.DecisionLaws.{AnswersIfSome, IsOrdinary}
 use Rattle.zodb_core.specs.HubState.{HasTicked, HubState, IsCauseOf, MakesStep, StandsForMachine, StepsSafely, counts_of, is_store_failed, may_write}
 use Rattle.zodb_core.specs.Machine.{Machine, Rules, front_of, machine_over, with_session}
 use Rattle.zodb_core.specs.Outcomes.{Answered, EndsFor, FaultCounts, IsStepMade, NoMemory, ReadingFailed, StepOutcome, StoreFailed, changes_store, is_pack, keeps_store, machine_left, outcome_of, outcome_of_refusal}
-use Rattle.zodb_core.specs.StepCases.{early_answers}
+use Rattle.zodb_core.specs.StepCases.{by_unanswered, early_answers}
 use Rattle.zodb_core.specs.Steps.{Stepped, early_refusal, front_step, loaded, replied, request_step, step_of, unless_early}
 use Rattle.zodb_top.specs.Asked.{digested, last_of, shown}
 use Rattle.zodb_top.specs.Asking.{IsLast, IsStepped, KeepsList, KeepsStore, ask_refusal, digested_reply, only_reads, shown_reply}
@@ -88,9 +88,9 @@ ends_reads m n q stamp r left ticks before now Answered reads is cause same =
     let all = subst (StepReads m) (sym cause) (step_reads m n q stamp reads) in
     record { list = all.list; writes = all.writes; whole = ap is_store_failed is }
 ends_reads m n q stamp r left ticks before now ReadingFailed reads is cause same =
-    record { list = ap (λ (x : Machine). x.list) same; writes = wrong_writes r (λ e. absurd cc) (λ e. absurd cc); whole = ap is_store_failed is }
+    record { list = ap (λ (x : Machine). x.list) same ∙ by_unanswered (λ x. x.list ≡ m.list) q m refl refl; writes = wrong_writes r (λ e. absurd cc) (λ e. absurd cc); whole = ap is_store_failed is }
 ends_reads m n q stamp r left ticks before now NoMemory reads is cause same =
-    record { list = ap (λ (x : Machine). x.list) same; writes = wrong_writes r (λ e. absurd cc) (λ e. absurd cc); whole = ap is_store_failed is }
+    record { list = ap (λ (x : Machine). x.list) same ∙ by_unanswered (λ x. x.list ≡ m.list) q m refl refl; writes = wrong_writes r (λ e. absurd cc) (λ e. absurd cc); whole = ap is_store_failed is }
 ends_reads m n q stamp r left ticks before now StoreFailed reads is cause same =
     absurd (never_changes m n q (step_of stock m n q stamp) reads cause.0.one)
 
@@ -100,7 +100,7 @@ clock_kept true stamp before after false only none ticked = let never : IsTrue f
 clock_kept true stamp before after true only none ticked = absurd cc
 
 no_pack : (q : Request) → only_reads q ≡ true → is_pack q ≡ false
-no_pack (request.Pack tid) reads = absurd cc
+no_pack (request.Pack tid collects) reads = absurd cc
 no_pack request.Front reads = refl
 no_pack (request.LoadBefore oid front) reads = refl
 no_pack (request.History oid) reads = refl

@@ -1,6 +1,7 @@
 -- What a step keeps: the list, which may grow, and, unless the store fails, that it hasn't failed.
-use Rattle.std.proofs.Common.{◌≡◌, ℕ, Bool, true, false, List, [], ◌∷◌, ◌++◌, Option, Some, None, append-nil, append_assoc, refl, sym, ap, subst, ◌∙◌}
+use Rattle.std.proofs.Common.{◌≡◌, ℕ, Bool, true, false, not, List, [], ◌∷◌, ◌++◌, Option, Some, None, append-nil, append_assoc, refl, sym, ap, subst, ◌∙◌}
 use Rattle.std.specs.Prelude.{◌||◌}
+use Rattle.std.specs.Option.{option_or}
 use Rattle.zb_model.specs.declared.data.Transaction.{Transaction}
 use Rattle.zb_model.specs.declared.found.Found.{Found}
 use Rattle.zb_model.specs.declared.found.Found.TheVariants as found
@@ -13,10 +14,11 @@ use Rattle.zodb_core.specs.declared.reply.Reply.{Reply}
 use Rattle.zodb_core.specs.declared.reply.Reply.TheVariants as reply
 use Rattle.zodb_core.specs.declared.request.Request.{Request}
 use Rattle.zodb_core.specs.declared.request.Request.TheVariants as request
-use Rattle.zodb_core.specs.Machine.{Machine, Rules}
+use Rattle.zodb_core.specs.Machine.{Machine, OpenPack, Rules, is_open_in}
 use Rattle.zodb_core.specs.Outcomes.{Answered, EndsFor, FaultCounts, IsStepMade, NoMemory, ReadingFailed, StepOutcome, StoreFailed, changes_store, is_pack, is_packed, machine_left, outcome_of, outcome_of_refusal, takes_memory}
-use Rattle.zodb_core.specs.StepCases.{StepCases, by_step}
-use Rattle.zodb_core.specs.Steps.{Stepped, loaded, step_of}
+use Rattle.zodb_core.specs.Sound.{IsPackWithin}
+use Rattle.zodb_core.specs.StepCases.{StepCases, allowed_request, by_step, by_unanswered}
+use Rattle.zodb_core.specs.Steps.{Stepped, begin_refusal, early_refusal, loaded, pack_refusal, pack_running, replied_refusal, request_step, step_of, unless_early}
 use Rattle.client_turns.specs.declared.errors.TurnError.{TurnError}
 use Rattle.client_turns.specs.declared.errors.TurnError.TheVariants as turn_error
 use Rattle.client_turns.specs.Lines.{answer_of, end_in, end_of}
@@ -107,8 +109,8 @@ found_unpacked m oid (found.Held serial bytes end) = refl
 found_unpacked m oid (found.Absent serial) = refl
 found_unpacked m oid found.Nothing = refl
 
-keeps_cases : (m : Machine) (n : ℕ) (q : Request) → StepCases (StepKeeps q m) m n q
-keeps_cases m n q = record {
+keeps_cases : (m : Machine) (n : ℕ) (q : Request) → (is_pack q ≡ true → IsPackWithin m.list m.pack) → StepCases (StepKeeps q m) m n q
+keeps_cases m n q within = record {
   refused = λ r is. plain_keeps q m _ refl refl tt refl;
   full = λ count. plain_keeps q m _ refl refl tt refl;
   spent = plain_keeps q m _ refl refl tt refl;
@@ -130,20 +132,45 @@ keeps_cases m n q = record {
   dropped = plain_keeps q m _ refl refl tt refl;
   listed = λ revisions. plain_keeps q m _ refl refl tt refl;
   logged = λ lines. plain_keeps q m _ refl refl tt refl;
+  begun = λ is t collects none below. plain_keeps q m _ refl refl tt refl;
+  marking = λ is p count there. plain_keeps q m _ refl refl tt refl;
+  marked = λ is p keep there. plain_keeps q m _ refl refl tt refl;
+  copying = λ is p k copied count there copying. plain_keeps q m _ refl refl tt refl;
+  copied = λ is p k copied count there copying. plain_keeps q m _ refl refl tt refl;
+  lost = λ is r answers. plain_keeps q m _ refl refl tt refl;
   packed = λ is t keep free below. record {
     failed = refl;
     goes = record {
-      left = left_packed m.list (packed_by t keep m.list) left_same (record { tid = t; keep = keep; below = below; is = refl });
+      left = left_packed m.list (packed_by t keep m.list) left_same (record { tid = t; keep = keep; below = below (within is); is = refl });
       begins = λ none. absurd cc;
     };
     committed = tt;
     plain = λ none. let both : true ≡ false = sym is ∙ none in absurd cc;
   };
+  last = plain_keeps q m _ refl refl tt refl;
+  since = λ tid changes. plain_keeps q m _ refl refl tt refl;
   closed = plain_keeps q m _ refl refl tt refl;
 }
 
-pub step_keeps : (rules : Rules) (m : Machine) (n : ℕ) (q : Request) (stamp : ℕ) → StepKeeps q m (step_of rules m n q stamp)
-step_keeps rules m n q stamp = by_step (StepKeeps q m) rules m n q stamp (keeps_cases m n q)
+-- no pack is begun, or made in one step, while one is open
+none_within : (list : List Transaction) (pack : Option OpenPack) (rest : Option Refusal) → option_or (pack_running pack) rest ≡ None → IsPackWithin list pack
+none_within list None rest free = tt
+none_within list (Some p) rest free = absurd cc
+
+-- so but for a turn of the open pack nothing is to be known of it
+request_within : (m : Machine) (n : ℕ) (q : Request) → (q ≡ request.PackTurn → IsPackWithin m.list m.pack) → early_refusal m n q ≡ None → is_pack q ≡ true → IsPackWithin m.list m.pack
+request_within m n (request.Pack tid collects) turn early is = none_within m.list m.pack _ (allowed_request (not (is_open_in m.sessions n)) (pack_refusal m tid) early)
+request_within m n (request.PackBegin tid collects) turn early is = none_within m.list m.pack _ (allowed_request (not (is_open_in m.sessions n)) (begin_refusal m tid) early)
+request_within m n request.PackTurn turn early is = turn refl
+request_within m n _ turn early is = absurd cc
+
+pub step_keeps : (rules : Rules) (m : Machine) (n : ℕ) (q : Request) (stamp : ℕ) → (q ≡ request.PackTurn → IsPackWithin m.list m.pack) → StepKeeps q m (step_of rules m n q stamp)
+step_keeps rules m n q stamp turn = by_early (early_refusal m n q) refl
+  where
+    by_early : (o : Option Refusal) → early_refusal m n q ≡ o → StepKeeps q m (step_of rules m n q stamp)
+    by_early (Some why) early =
+        subst (λ (o : Option Refusal). StepKeeps q m (unless_early o m (request_step rules m n q stamp))) (sym early) (plain_keeps q m (replied_refusal m why) refl refl tt refl)
+    by_early None early = by_step (StepKeeps q m) rules m n q stamp (keeps_cases m n q (request_within m n q turn early))
 
 -- ---- a step that was made
 
@@ -152,11 +179,18 @@ pub record MadeKeeps (q : Request) (m : Machine) (r : Reply) (left : Machine) : 
   pub committed : HasIfCommitted r left.list
   pub plain : is_pack q ≡ false → is_packed r ≡ false
   pub failed : ¬ (outcome_of r ≡ StoreFailed) → left.failed ≡ m.failed
-  pub memory : outcome_of r ≡ NoMemory → left ≡ m
+  pub memory : outcome_of r ≡ NoMemory → left.list ≡ m.list
 
 -- a reply that something went wrong isn't that of a pack
 unpacked_by : (r : Reply) (o : StepOutcome) → outcome_of r ≡ o → ¬ (o ≡ Answered) → is_packed r ≡ false
 unpacked_by (reply.Packed kept dropped) o is other = absurd (other (sym is))
+unpacked_by (reply.Packing tid) o is other = refl
+unpacked_by (reply.Marking count) o is other = refl
+unpacked_by (reply.Marked count) o is other = refl
+unpacked_by (reply.Copying count) o is other = refl
+unpacked_by (reply.Copied count) o is other = refl
+unpacked_by (reply.Last tid changes) o is other = refl
+unpacked_by (reply.Since keep commits) o is other = refl
 unpacked_by (reply.Committed tid) o is other = refl
 unpacked_by (reply.Front front news switches) o is other = refl
 unpacked_by (reply.Loaded serial bytes end upto) o is other = refl
@@ -183,29 +217,36 @@ by_outcome reply.Aborted list answered = tt
 by_outcome (reply.History lines) list answered = tt
 by_outcome (reply.UndoLog lines) list answered = tt
 by_outcome (reply.Packed kept dropped) list answered = tt
+by_outcome (reply.Packing tid) list answered = tt
+by_outcome (reply.Marking count) list answered = tt
+by_outcome (reply.Marked count) list answered = tt
+by_outcome (reply.Copying count) list answered = tt
+by_outcome (reply.Copied count) list answered = tt
+by_outcome (reply.Last tid changes) list answered = tt
+by_outcome (reply.Since keep commits) list answered = tt
 by_outcome reply.Closed list answered = tt
 by_outcome (reply.Refused why) list answered = tt
 
 ends_keeps : (rules : Rules) (m : Machine) (n : ℕ) (q : Request) (stamp : ℕ) (r : Reply) (left : Machine) (ticks : Bool) (before now : FaultCounts) (o : StepOutcome) → outcome_of r ≡ o
-    → EndsFor rules m n q stamp (record { reply = r; machine = left; ticks = ticks }) before now o → left ≡ machine_left rules m n q stamp o → MadeKeeps q m r left
-ends_keeps rules m n q stamp r left ticks before now Answered is cause same =
-    let keeps = subst (StepKeeps q m) (sym cause) (step_keeps rules m n q stamp) in
+    → EndsFor rules m n q stamp (record { reply = r; machine = left; ticks = ticks }) before now o → left ≡ machine_left rules m n q stamp o → (q ≡ request.PackTurn → IsPackWithin m.list m.pack) → MadeKeeps q m r left
+ends_keeps rules m n q stamp r left ticks before now Answered is cause same turn =
+    let keeps = subst (StepKeeps q m) (sym cause) (step_keeps rules m n q stamp turn) in
     record { goes = keeps.goes; committed = keeps.committed; plain = keeps.plain; failed = λ other. keeps.failed; memory = λ none. absurd cc }
-ends_keeps rules m n q stamp r left ticks before now ReadingFailed is cause same = record {
-  goes = goes_is (is_packed r) m.list left.list (ap (λ (x : Machine). x.list) same);
+ends_keeps rules m n q stamp r left ticks before now ReadingFailed is cause same turn = record {
+  goes = goes_is (is_packed r) m.list left.list (ap (λ (x : Machine). x.list) same ∙ by_unanswered (λ x. x.list ≡ m.list) q m refl refl);
   committed = by_outcome r left.list (λ answered. absurd cc);
   plain = λ none. unpacked_by r ReadingFailed is (λ other. absurd cc);
-  failed = λ other. ap (λ (x : Machine). x.failed) same;
-  memory = λ none. same;
+  failed = λ other. ap (λ (x : Machine). x.failed) same ∙ by_unanswered (λ x. x.failed ≡ m.failed) q m refl refl;
+  memory = λ none. ap (λ (x : Machine). x.list) same ∙ by_unanswered (λ x. x.list ≡ m.list) q m refl refl;
 }
-ends_keeps rules m n q stamp r left ticks before now NoMemory is cause same = record {
-  goes = goes_is (is_packed r) m.list left.list (ap (λ (x : Machine). x.list) same);
+ends_keeps rules m n q stamp r left ticks before now NoMemory is cause same turn = record {
+  goes = goes_is (is_packed r) m.list left.list (ap (λ (x : Machine). x.list) same ∙ by_unanswered (λ x. x.list ≡ m.list) q m refl refl);
   committed = by_outcome r left.list (λ answered. absurd cc);
   plain = λ none. unpacked_by r NoMemory is (λ other. absurd cc);
-  failed = λ other. ap (λ (x : Machine). x.failed) same;
-  memory = λ none. same;
+  failed = λ other. ap (λ (x : Machine). x.failed) same ∙ by_unanswered (λ x. x.failed ≡ m.failed) q m refl refl;
+  memory = λ none. ap (λ (x : Machine). x.list) same ∙ by_unanswered (λ x. x.list ≡ m.list) q m refl refl;
 }
-ends_keeps rules m n q stamp r left ticks before now StoreFailed is cause same = record {
+ends_keeps rules m n q stamp r left ticks before now StoreFailed is cause same turn = record {
   goes = goes_is (is_packed r) m.list left.list (ap (λ (x : Machine). x.list) same);
   committed = by_outcome r left.list (λ answered. absurd cc);
   plain = λ none. unpacked_by r StoreFailed is (λ other. absurd cc);
@@ -214,8 +255,8 @@ ends_keeps rules m n q stamp r left ticks before now StoreFailed is cause same =
 }
 
 pub made_keeps : (rules : Rules) (m : Machine) (n : ℕ) (q : Request) (stamp : ℕ) (r : Reply) (left : Machine) (ticks : Bool) (before now : FaultCounts)
-    → IsStepMade rules m n q stamp (record { reply = r; machine = left; ticks = ticks }) before now → MadeKeeps q m r left
-made_keeps rules m n q stamp r left ticks before now made = ends_keeps rules m n q stamp r left ticks before now (outcome_of r) refl made.cause made.left
+    → IsStepMade rules m n q stamp (record { reply = r; machine = left; ticks = ticks }) before now → (q ≡ request.PackTurn → IsPackWithin m.list m.pack) → MadeKeeps q m r left
+made_keeps rules m n q stamp r left ticks before now made turn = ends_keeps rules m n q stamp r left ticks before now (outcome_of r) refl made.cause made.left turn
 
 -- ---- replies and how they end the run
 

@@ -28,7 +28,7 @@ use Rattle.zodb_core.specs.declared.request.Request.TheVariants as request
 use Rattle.zodb_core.specs.HubState.{HasTicked, HubState, IsBeforeOrBehind, IsCauseOf, MakesStep, StepsSafely, counts_of, is_store_failed}
 use Rattle.zodb_core.specs.Machine.{Machine, machine_over, with_session}
 use Rattle.zodb_core.specs.Outcomes.{Answered, EndsFor, FaultCounts, NoMemory, ReadingFailed, StepOutcome, StoreFailed, machine_left, outcome_of, outcome_of_refusal}
-use Rattle.zodb_core.specs.Steps.{Stepped, early_refusal, pack_step, step_of, switch_unless, unless_early}
+use Rattle.zodb_core.specs.Steps.{Stepped, early_refusal, step_of, unless_early, unless_unread}
 use Rattle.zodb_top.specs.declared.packing.Told.{Told}
 use Rattle.zodb_top.specs.declared.packing.Told.TheVariants as told
 use Rattle.zodb_top.specs.declared.status.Status.{Status}
@@ -48,16 +48,16 @@ use Rattle.zodb_top.proofs.Volumes.{IsOpen, unfailed}
 
 -- ---- one step
 
-unless_ticks : (named : List ℕ → Option (List ℕ)) (m : Machine) (t : ℕ) (w : Option (ℕ × ℕ)) → (switch_unless named m t w).ticks ≡ false
-unless_ticks named m t None = refl
-unless_ticks named m t (Some w) = refl
+unless_ticks : (m : Machine) (w : Option (ℕ × ℕ)) (made : Stepped) → made.ticks ≡ false → (unless_unread m w made).ticks ≡ false
+unless_ticks m None made is = is
+unless_ticks m (Some w) made is = refl
 
 early_ticks : (early : Option Refusal) (m : Machine) (made : Stepped) → made.ticks ≡ false → (unless_early early m made).ticks ≡ false
 early_ticks None m made is = is
 early_ticks (Some why) m made is = refl
 
-pack_ticks : (tid stamp : ℕ) (m : Machine) → (step_of stock m 0 (request.Pack tid) stamp).ticks ≡ false
-pack_ticks tid stamp m = early_ticks (early_refusal m 0 (request.Pack tid)) m _ (unless_ticks stock.named m _ _)
+pack_ticks : (tid stamp : ℕ) (m : Machine) → (step_of stock m 0 (request.Pack tid true) stamp).ticks ≡ false
+pack_ticks tid stamp m = early_ticks (early_refusal m 0 (request.Pack tid true)) m _ (unless_ticks m _ _ refl)
 
 unticked : (ticks : Bool) (stamp : ℕ) (before after : Option (List Stamp)) (step : Bool) → (IsTrue ticks → IsTrue step) → step ≡ false → HasTicked ticks stamp before after → after ≡ before
 unticked false stamp before after step only none ticked = ticked
@@ -65,52 +65,52 @@ unticked true stamp before after false only none ticked = let never : IsTrue fal
 unticked true stamp before after true only none ticked = absurd cc
 
 module _ {R F : Type 0} (tid : ℕ) (r : Reply) (old new : HubState R F) (before after : Option (List Stamp)) where
-  ends_so : (made : MakesStep stock (with_session (machine_over old.store.list)) 0 (request.Pack tid) r old new before after) → (o : StepOutcome) → outcome_of r ≡ o → is_store_failed o ≡ new.store.broken
+  ends_so : (made : MakesStep stock (with_session (machine_over old.store.list)) 0 (request.Pack tid true) r old new before after) → (o : StepOutcome) → outcome_of r ≡ o → is_store_failed o ≡ new.store.broken
       → IsReplyTo tid old.store.list r o × IsListBehind tid old.store.list new.store.list o
   ends_so made Answered is whole =
       let s : Stepped = record { reply = r; machine = made.left; ticks = made.ticks } in
       let m = with_session (machine_over old.store.list) in
-      let cause : s ≡ step_of stock m 0 (request.Pack tid) made.stamp = subst (EndsFor stock m 0 (request.Pack tid) made.stamp s (counts_of old.store) (counts_of new.store)) is made.made.cause in
+      let cause : s ≡ step_of stock m 0 (request.Pack tid true) made.stamp = subst (EndsFor stock m 0 (request.Pack tid true) made.stamp s (counts_of old.store) (counts_of new.store)) is made.made.cause in
       (ap (λ (x : Stepped). x.reply) cause, sym (made.stands.list (sym whole)) ∙ ap (λ (x : Stepped). x.machine.list) cause)
   ends_so made ReadingFailed is whole =
       let m = with_session (machine_over old.store.list) in
-      let left : made.left ≡ m = made.made.left ∙ ap (machine_left stock m 0 (request.Pack tid) made.stamp) is in
+      let left : made.left ≡ m = made.made.left ∙ ap (machine_left stock m 0 (request.Pack tid true) made.stamp) is in
       (tt, sym (made.stands.list (sym whole)) ∙ ap (λ (x : Machine). x.list) left)
   ends_so made NoMemory is whole =
       let m = with_session (machine_over old.store.list) in
-      let left : made.left ≡ m = made.made.left ∙ ap (machine_left stock m 0 (request.Pack tid) made.stamp) is in
+      let left : made.left ≡ m = made.made.left ∙ ap (machine_left stock m 0 (request.Pack tid true) made.stamp) is in
       (tt, sym (made.stands.list (sym whole)) ∙ ap (λ (x : Machine). x.list) left)
   ends_so made StoreFailed is whole = (tt, tt)
 
-  step_packs : MakesStep stock (with_session (machine_over old.store.list)) 0 (request.Pack tid) r old new before after → StepsSafely true r old new → old.store.broken ≡ false → IsStorePacked tid r old.store new.store before after
+  step_packs : MakesStep stock (with_session (machine_over old.store.list)) 0 (request.Pack tid true) r old new before after → StepsSafely true r old new → old.store.broken ≡ false → IsStorePacked tid r old.store new.store before after
   step_packs made safe whole =
       let both = ends_so made (outcome_of r) refl (sym (safe.broken whole)) in record {
         made = both.0;
         list = both.1;
         whole = safe.broken whole;
-        clock = unticked made.ticks made.stamp before after (step_of stock (with_session (machine_over old.store.list)) 0 (request.Pack tid) made.stamp).ticks made.made.ticks (pack_ticks tid made.stamp (with_session (machine_over old.store.list))) made.clock;
+        clock = unticked made.ticks made.stamp before after (step_of stock (with_session (machine_over old.store.list)) 0 (request.Pack tid true) made.stamp).ticks made.made.ticks (pack_ticks tid made.stamp (with_session (machine_over old.store.list))) made.clock;
       }
 
 -- over a store that a hub is made of and gives back
 pub store_packs : {R F : Type 0} (tid : ℕ) (r : Reply) (state state' : StoreState) (first old new : HubState R F) (n : ℕ) (before after : Option (List Stamp)) → first.store ≡ state → old.store ≡ first.store → state' ≡ new.store → n ≡ 0
-    → (MakesStep stock (with_session (machine_over state.list)) n (request.Pack tid) r old new before after) → StepsSafely true r old new → state.broken ≡ false → IsStorePacked tid r state state' before after
+    → (MakesStep stock (with_session (machine_over state.list)) n (request.Pack tid true) r old new before after) → StepsSafely true r old new → state.broken ≡ false → IsStorePacked tid r state state' before after
 store_packs tid r state state' first old new n before after is opened last zero made safe whole =
     let same : old.store ≡ state = opened ∙ is in
-    let step : MakesStep stock (with_session (machine_over old.store.list)) 0 (request.Pack tid) r old new before after =
-    subst (λ (k : ℕ). MakesStep stock (with_session (machine_over old.store.list)) k (request.Pack tid) r old new before after) zero
-    (subst (λ (s : StoreState). MakesStep stock (with_session (machine_over s.list)) n (request.Pack tid) r old new before after) (sym same) made) in
+    let step : MakesStep stock (with_session (machine_over old.store.list)) 0 (request.Pack tid true) r old new before after =
+    subst (λ (k : ℕ). MakesStep stock (with_session (machine_over old.store.list)) k (request.Pack tid true) r old new before after) zero
+    (subst (λ (s : StoreState). MakesStep stock (with_session (machine_over s.list)) n (request.Pack tid true) r old new before after) (sym same) made) in
     let packs = step_packs tid r old new before after step safe (ap (λ (s : StoreState). s.broken) same ∙ whole) in
     subst (λ (s : StoreState). IsStorePacked tid r s state' before after) same (subst (λ (s : StoreState). IsStorePacked tid r old.store s before after) (sym last) packs)
 
 -- what a crash in it leaves
 pub moments_packs : (stands : List ℕ → List Transaction → Type 0) (tid n : ℕ) (list : List Transaction) (first old new : List Event) → n ≡ 0 → old ≡ first
-    → LeavesOnly Main (IsBeforeOrBehind stands stock (with_session (machine_over list)) n (request.Pack tid)) old new → LeavesOnly Main (IsListOrPacked stands tid list) first new
+    → LeavesOnly Main (IsBeforeOrBehind stands stock (with_session (machine_over list)) n (request.Pack tid true)) old new → LeavesOnly Main (IsListOrPacked stands tid list) first new
 moments_packs stands tid n list first old new zero same moments =
     subst (λ (l : List Event). LeavesOnly Main (IsListOrPacked stands tid list) l new) same
-    (leaves_less Main (IsBeforeOrBehind stands stock (with_session (machine_over list)) n (request.Pack tid)) (IsListOrPacked stands tid list) old new
+    (leaves_less Main (IsBeforeOrBehind stands stock (with_session (machine_over list)) n (request.Pack tid true)) (IsListOrPacked stands tid list) old new
     (λ bytes either. elim either [
       | inl is ↦ inl is
-      | inr is ↦ inr (subst (λ (k : ℕ). stands bytes (step_of stock (with_session (machine_over list)) k (request.Pack tid) 0).machine.list) zero (is 0))
+      | inr is ↦ inr (subst (λ (k : ℕ). stands bytes (step_of stock (with_session (machine_over list)) k (request.Pack tid true) 0).machine.list) zero (is 0))
     ])
     moments)
 

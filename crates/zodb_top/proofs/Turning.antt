@@ -1,5 +1,5 @@
 -- What a turn keeps, and a run.
-use Rattle.std.proofs.Common.{◌≡◌, ℕ, Bool, true, false, cond, List, [], ◌∷◌, ◌++◌, Option, Some, None, length, ltb, refl, sym, ap, subst, ◌∙◌}
+use Rattle.std.proofs.Common.{◌≡◌, ℕ, Bool, true, false, cond, List, [], ◌∷◌, ◌++◌, Option, Some, None, length, ltb, refl, sym, ap, subst, ◌∙◌, true≢false}
 use Rattle.std.specs.Prelude.{Result, Ok, Err, slice_get, ◌||◌}
 use Rattle.std.specs.List.{AllByRecursion}
 use Rattle.zb_model.specs.declared.data.Transaction.{Transaction}
@@ -20,8 +20,9 @@ use Rattle.zodb_core.specs.declared.reply.Reply.TheVariants as reply
 use Rattle.zodb_core.specs.declared.request.Request.{Request}
 use Rattle.zodb_core.specs.declared.request.Request.TheVariants as request
 use Rattle.zodb_core.specs.Machine.{Machine, Rules, session_limit, with_session}
-use Rattle.zodb_core.specs.Outcomes.{NoMemory, StoreFailed, outcome_of}
+use Rattle.zodb_core.specs.Outcomes.{NoMemory, StoreFailed, is_pack, outcome_of}
 use Rattle.zodb_core.specs.Outcomes as core
+use Rattle.zodb_core.specs.Sound.{IsPackWithin}
 use Rattle.client_turns.specs.declared.errors.TurnError.{TurnError}
 use Rattle.client_turns.specs.declared.errors.TurnError.TheVariants as turn_error
 use Rattle.client_turns.specs.Clients.{Changes, Client, Moment, OpenTransaction, changes_of, place_of_client}
@@ -38,8 +39,11 @@ use Rattle.zodb_top.proofs.Keeping.{GoesTo, HasIfCommitted, IsHeld, MadeKeeps, a
 
 -- ---- steps at a moment
 
-step_at : (rules : Rules) (m : Moment) (n : ℕ) (q : Request) (r : Reply) (now : Moment) → IsStepAt rules m n q r now → MadeKeeps q m.machine r now.machine
-step_at rules m n q r now step = made_keeps rules m.machine n q step.stamp r now.machine step.ticks m.counts now.counts step.made
+step_at : (rules : Rules) (m : Moment) (n : ℕ) (q : Request) (r : Reply) (now : Moment) → IsStepAt rules m n q r now → (q ≡ request.PackTurn → IsPackWithin m.machine.list m.machine.pack) → MadeKeeps q m.machine r now.machine
+step_at rules m n q r now step turn = made_keeps rules m.machine n q step.stamp r now.machine step.ticks m.counts now.counts step.made turn
+
+no_turn : (q : Request) (X : Type 0) → is_pack q ≡ false → q ≡ request.PackTurn → X
+no_turn q X not is = absurd (true≢false (sym (ap is_pack is) ∙ not))
 
 -- what a list and a machine that hasn't failed become
 pub record Keeps (m now : Moment) : Type 0 where
@@ -55,7 +59,7 @@ keeps_on a b c first second = record { goes = goes_then false a.machine.list b.m
 told_keeps : (rules : Rules) (b : Bool) (m : Moment) (n : ℕ) (now : Moment) → IsTold rules b m n now → Keeps m now
 told_keeps rules false m n now told = keeps_same m now told
 told_keeps rules true m n now (r, step) =
-    let keeps = step_at rules m n request.Front r now step in
+    let keeps = step_at rules m n request.Front r now step (no_turn request.Front (IsPackWithin m.machine.list m.machine.pack) refl) in
     record { goes = subst (λ (b : Bool). GoesTo b m.machine.list now.machine.list) (keeps.plain refl) keeps.goes; failed = keeps.failed (front_whole rules m.machine n step.stamp r now.machine step.ticks m.counts now.counts step.made) }
 
 -- ---- lines
@@ -104,9 +108,9 @@ open_keeps m name a now is =
     let b = ltb (length m.machine.sessions) session_limit in
     subst (λ (o : Opening). LineKeeps m o.answer o.moment) (sym (is ∙ opened_so m name b)) (opening_keeps m name b)
 
-step_line : (rules : Rules) (m : Moment) (at : ℕ) (c : Client) (q : Request) (a : Answer) (now : Moment) → IsStepLine rules m at c q a now → LineKeeps m a now
-step_line rules m at c q a now l =
-    let keeps = step_at rules m c.session q l.reply l.behind l.step in
+step_line : (rules : Rules) (m : Moment) (at : ℕ) (c : Client) (q : Request) (a : Answer) (now : Moment) → (q ≡ request.PackTurn → IsPackWithin m.machine.list m.machine.pack) → IsStepLine rules m at c q a now → LineKeeps m a now
+step_line rules m at c q a now turn l =
+    let keeps = step_at rules m c.session q l.reply l.behind l.step turn in
     let told = told_keeps rules (is_committed l.reply) l.behind c.session l.told l.front in
     let machine : now.machine ≡ l.told.machine = ap (λ (x : Moment). x.machine) l.left in
     let last = goes_is false l.told.machine.list now.machine.list (ap (λ (x : Machine). x.list) machine) in
@@ -126,7 +130,7 @@ step_line rules m at c q a now l =
         → now.machine.list ≡ m.machine.list
     starved rules m at c q a now l machine none keeps =
         let told : l.told ≡ l.behind = subst (λ (b : Bool). IsTold rules b l.behind c.session l.told) (not_told l.reply none) l.front in
-        ap (λ (x : Machine). x.list) machine ∙ ap (λ (x : Moment). x.machine.list) told ∙ ap (λ (x : Machine). x.list) (keeps.memory none)
+        ap (λ (x : Machine). x.list) machine ∙ ap (λ (x : Moment). x.machine.list) told ∙ keeps.memory none
 
 -- ---- lines that are no step
 
@@ -209,13 +213,18 @@ own_line : (m : Moment) (at : ℕ) (c : Client) (t : Option OpenTransaction) (l 
 own_line m at c None l a now own = refused_line m refusal.NoTransaction a now own
 own_line m at c (Some t) l a now own = within_line m at c t l a now own
 
-taken_line : (rules : Rules) (m : Moment) (at : ℕ) (c : Client) (l : Line) (q : Option Request) (a : Answer) (now : Moment) → IsLineTaken rules m at c l q a now → LineKeeps m a now
-taken_line rules m at c l (Some q) a now taken = step_line rules m at c q a now taken
-taken_line rules m at c l None a now taken = own_line m at c c.transaction l a now taken
+-- no line asks for a turn of a pack
+asked_no_turn : (ch : Option Changes) (l : Line) (q : Request) (X : Type 0) → request_of ch l ≡ Some q → q ≡ request.PackTurn → X
+asked_no_turn ch (line.Pack tid) q X asks is = absurd cc
+asked_no_turn ch _ q X asks is = absurd cc
+
+taken_line : (rules : Rules) (m : Moment) (at : ℕ) (c : Client) (l : Line) (q : Option Request) (a : Answer) (now : Moment) → request_of (changes_of c) l ≡ q → IsLineTaken rules m at c l q a now → LineKeeps m a now
+taken_line rules m at c l (Some q) a now asks taken = step_line rules m at c q a now (asked_no_turn (changes_of c) l q (IsPackWithin m.machine.list m.machine.pack) asks) taken
+taken_line rules m at c l None a now asks taken = own_line m at c c.transaction l a now taken
 
 unless_line : (rules : Rules) (m : Moment) (at : ℕ) (c : Client) (l : Line) (why : Option Refusal) (a : Answer) (now : Moment) → IsLineUnless rules m at c l why a now → LineKeeps m a now
 unless_line rules m at c l (Some why) a now unless = refused_line m why a now unless
-unless_line rules m at c l None a now unless = taken_line rules m at c l (request_of (changes_of c) l) a now unless
+unless_line rules m at c l None a now unless = taken_line rules m at c l (request_of (changes_of c) l) a now refl unless
 
 line_of : (rules : Rules) (m : Moment) (at : Option ℕ) (l : Line) (a : Answer) (now : Moment) → IsLineOf rules m at l a now → LineKeeps m a now
 line_of rules m None l a now is = refused_line m refusal.NotOpen a now is
@@ -246,7 +255,7 @@ line_keeps rules m name line.Close a now is = line_of rules m (place_of_client n
 
 closed_at : (rules : Rules) (m : Moment) (at : ℕ) (r : Reply) (now : Moment) → IsClosingAt rules m at r now → ¬ (end_of (answer_of r) ≡ Some turn_error.StoreFault) → Keeps m now
 closed_at rules m at r now (c, there, step) other =
-    let keeps = step_at rules m c.session request.Close r now step in
+    let keeps = step_at rules m c.session request.Close r now step (no_turn request.Close (IsPackWithin m.machine.list m.machine.pack) refl) in
     record { goes = subst (λ (b : Bool). GoesTo b m.machine.list now.machine.list) (keeps.plain refl) keeps.goes; failed = keeps.failed (λ lost. other (fails_so r lost)) }
 
 closed_keeps : (rules : Rules) (m : Moment) (at : Option ℕ) (now : Moment) → IsClosed rules m at now → Keeps m now

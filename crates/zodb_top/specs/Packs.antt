@@ -27,7 +27,7 @@ use Rattle.zodb_top.specs.Written.{IsWritten}
 
 -- what the machine makes of a pack of a list up to a tid, which reads no clock
 abbrev pub pack_made : ℕ → List Transaction → Stepped
-pack_made tid list = step_of stock (with_session (machine_over list)) 0 (request.Pack tid) 0
+pack_made tid list = step_of stock (with_session (machine_over list)) 0 (request.Pack tid true) 0
 
 -- the list packed so, or as it is where that is refused
 abbrev pub packed_list : ℕ → List Transaction → List Transaction

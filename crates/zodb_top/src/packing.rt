@@ -49,7 +49,7 @@ fn pack_hub<St: Store, C: Clock>(
     ensures later { AreLaterCounts (counts_of hub.old.store) (counts_of hub.new.store) }
 {
     match hub.open_session() {
-        Ok(session) => hub.step(alloc, session, Request::Pack { tid }, clock),
+        Ok(session) => hub.step(alloc, session, Request::Pack { tid, collect: true }, clock),
         Err(_) => Reply::Refused(Refusal::Memory),
     }
 }

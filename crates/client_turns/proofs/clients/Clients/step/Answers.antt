@@ -14,7 +14,6 @@ returns-clause-made g c =
       main = c.step.ensures.main;
       views = c.step.ensures.views;
       database = c.step.ensures.database;
-      begun = c.step.ensures.begun;
       failed = c.step.ensures.failed;
       closed = c.step.ensures.closed;
       memory = c.step.ensures.memory;

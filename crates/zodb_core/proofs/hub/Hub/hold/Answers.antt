@@ -4,7 +4,7 @@ use Rattle.zodb_core.specs.declared.reply.Reply.TheVariants as reply
 use Rattle.zodb_core.specs.Holding.{IsNextTid}
 use Rattle.zodb_core.proofs.Stepping.{still}
 use Rattle.zodb_core.specs.HubState.{rules_of}
-use Rattle.zodb_core.proofs.Holding.{hold_empty, hold_full, hold_failed, hold_spent, hold_starved, hold_voted, kept_voted}
+use Rattle.zodb_core.proofs.Holding.{hold_empty, hold_fails_safely, hold_full, hold_failed, hold_spent, hold_starved, hold_voted, kept_voted}
 use Rattle.std.specs.Vec.{vec_capacity}
 use Rattle.zodb_core.proofs.Votes.{leaves_now, leaves_same}
 use Rattle.zodb_core.proofs.hub.Hub.hold.Goals as goal
@@ -57,7 +57,7 @@ returns-then-is_empty-clause-step g c = record {
       let rules_now = rules_of g.R.Resolver.rules g.F.Refs.named c.args.self.now in
       still rules_now m c.args.session q reply.Voted c.args.self.now _ (λ stamps.
       hold_empty rules_now m c.args.session q c.args.texts c.args.changes c.args.self.now _ stamps stamps
-      stands (search rules) votes (search rules) (search rules) (search rules) (search rules) (search rules) (search rules) (search rules) refl);
+      stands (search rules) votes (search rules) (search rules) (search rules) (search rules) (search rules) (search rules) (search rules) (search rules) refl);
 }
 
 pub returns-then-count-gt-JOURNAL_LIMIT-clause-step : goal.returns-then-count-gt-JOURNAL_LIMIT-clause-step
@@ -123,7 +123,7 @@ returns-in-Err-clause-step g c =
           rw c.fault_reply.ensures
           (hold_failed rules_now m c.args.session q c.args.texts c.args.changes kept c.newest.result c.in-Some.tid c.in-Err.error c.args.self.now _ _ _
           stands (search rules) votes (λ none. search rules) (search rules) (search rules) (search rules) next (search rules) (search rules) (λ fault. search (fault, rules)) (search rules)
-          (search rules) (search rules) (search rules) (search rules));
+          (search rules) (search rules) (search rules) (search rules) (search rules));
     }
 
 pub returns-clause-step : goal.returns-clause-step
@@ -138,14 +138,22 @@ returns-clause-step g c =
           let kept = c.self.inside.changes in
           hold_voted rules_now m c.args.session q c.args.texts c.args.changes kept c.newest.result c.in-Some.tid _ c.args.self.now _ _ _
           stands (search rules) votes (λ none. search rules) (search rules) (search rules) (search rules) next (search rules) (search rules) (search rules) (search rules)
-          (search rules) (search rules) (search rules) refl;
+          (search rules) (search rules) (search rules) refl (search (told, rules)) (search rules);
     }
+
+-- ---- whatever the store tells
+
+pub returns-in-Err-clause-safe : goal.returns-in-Err-clause-safe
+returns-in-Err-clause-safe g c =
+    rw c.fault_reply.ensures
+    (hold_fails_safely c.in-Err.error c.args.self.now _ (search rules) (search rules) (λ fault. search (fault, rules)) (search rules) (search rules) (search rules) (search rules))
 
 -- ---- what is kept
 
 pub invariant_of-self-2 : goal.invariant_of-self-2
 invariant_of-self-2 g c =
     kept_voted g.St.Store.told (g.St.Store.state c.self.inside.store) (g.St.Store.state c.vote.new.self) c.self.inside.journal.items c.reserve.new.self.items (vec_capacity c.self.inside.journal) (vec_capacity c.reserve.new.self)
-    c.self.inside.changes c.self.inside.switches c.self.inside.sessions.items c.self.inside.vote c.self.inside.failed c.args.session (record { tid = c.in-Some.tid; oids = c.in-Ok.oids })
+    c.self.inside.changes c.self.inside.switches c.self.inside.sessions.items c.self.inside.vote c.self.inside.pack c.self.inside.failed (g.F.Refs.named c.self.inside.refs) c.args.session (record { tid = c.in-Some.tid; oids = c.in-Ok.oids })
     (record { tid = c.in-Some.tid; user = c.args.texts.user; description = c.args.texts.description; extension = c.args.texts.extension; changes = c.args.changes })
     c.self.invariant (search rules) (search rules) (search rules) (search rules) (search rules) (search rules) refl (search rules) (λ tells. search (tells, rules))
+    (search rules) (λ tells. search (tells, rules)) (search rules) (search rules) (search rules)

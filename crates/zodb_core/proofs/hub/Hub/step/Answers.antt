@@ -1,5 +1,7 @@
 use Rattle.std.proofs.Common.{rules, refl}
+use Rattle.zodb_core.specs.HubState.{rules_of}
 use Rattle.zodb_core.proofs.Stepping.{by_clock_as, still_as, still_clock}
+use Rattle.zodb_core.proofs.Switching.{moments_stay}
 use Rattle.zodb_core.proofs.Votes.{closed_failed}
 use Rattle.zodb_core.proofs.hub.Hub.step.Goals as goal
 
@@ -31,6 +33,18 @@ returns-in-UndoLog-clause-clock g c = still_as _ _ _ _ _ _ _ _ _ _ c.in-UndoLog.
 pub returns-in-Pack-clause-clock : goal.returns-in-Pack-clause-clock
 returns-in-Pack-clause-clock g c = still_as _ _ _ _ _ _ _ _ _ _ c.in-Pack.is c.pack.ensures.step refl
 
+pub returns-in-PackBegin-clause-clock : goal.returns-in-PackBegin-clause-clock
+returns-in-PackBegin-clause-clock g c = still_as _ _ _ _ _ _ _ _ _ _ c.in-PackBegin.is c.pack_begin.ensures.step refl
+
+pub returns-in-PackTurn-clause-clock : goal.returns-in-PackTurn-clause-clock
+returns-in-PackTurn-clause-clock g c = still_as _ _ _ _ _ _ _ _ _ _ c.in-PackTurn.is c.pack_turn.ensures.step refl
+
+pub returns-in-Last-clause-clock : goal.returns-in-Last-clause-clock
+returns-in-Last-clause-clock g c = still_as _ _ _ _ _ _ _ _ _ _ c.in-Last.is c.last.ensures.step refl
+
+pub returns-in-Since-clause-clock : goal.returns-in-Since-clause-clock
+returns-in-Since-clause-clock g c = still_as _ _ _ _ _ _ _ _ _ _ c.in-Since.is c.since.ensures.step refl
+
 pub returns-in-Close-clause-clock : goal.returns-in-Close-clause-clock
 returns-in-Close-clause-clock g c = still_as _ _ _ _ _ _ _ _ _ _ c.in-Close.is c.close.ensures.step refl
 
@@ -39,3 +53,9 @@ returns-in-Vote-clause-step g c = by_clock_as _ _ _ _ _ _ _ _ _ _ c.in-Vote.is c
 
 pub returns-in-Undo-clause-step : goal.returns-in-Undo-clause-step
 returns-in-Undo-clause-step g c = by_clock_as _ _ _ _ _ _ _ _ _ _ c.in-Undo.is c.undo.ensures.step
+
+pub returns-in-PackBegin-clause-any_moment : goal.returns-in-PackBegin-clause-any_moment
+returns-in-PackBegin-clause-any_moment g c = λ lasts told whole m stands.
+    let s = g.St.Store.state c.self.inside.store in
+    moments_stay g.St.Store.stands (rules_of g.R.Resolver.rules g.F.Refs.named c.args.self.now) m c.args.session c.args.request c.args.self.now s c.pack_begin.new.self.store.log
+    (stands.list whole) (search rules) (g.met.St.Store.lasting c.self.inside.store lasts (search rules)) (c.pack_begin.ensures.main lasts)

@@ -32,7 +32,7 @@ returns-in-Err-clause-step g c =
     still_clock _ rules_now c.args.session (request.Undo c.args.texts.user c.args.texts.description c.args.tids) _ c.args.self.now _ _ _ (λ told m stands stamps.
     rw c.undo_reply.ensures
     (undo_refused rules_now m c.args.session c.args.texts.user c.args.texts.description c.args.tids c.in-Err.refusal c.args.self.now _ stamps stands (search rules) (search rules) (search rules) (search rules) (search rules) (search rules)
-    (stands_read m c.args.self.now _ stands (search rules) (search rules) (search rules) (search rules) (search rules)))) refl
+    (stands_read m c.args.self.now _ stands (search rules) (search rules) (search rules) (search rules) (search rules) (search rules)))) refl
 
 pub returns-clause-step : goal.returns-clause-step
 returns-clause-step g c =
@@ -45,7 +45,7 @@ returns-clause-step g c =
           let rules_now = rules_of g.R.Resolver.rules g.F.Refs.named c.args.self.now in
           let q = request.Undo c.args.texts.user c.args.texts.description c.args.tids in
           through_hold rules_now _ m c.args.session q c.args.texts (Ok (map (voted_change m.list) c.in-Ok.changes)) c.hold.result c.args.self.now _ c.hold.new.self held.stamp held.ticks
-          (held.step told m (stands_read m c.args.self.now _ stands (search rules) (search rules) (search rules) (search rules) (search rules)) q)
+          (held.step told m (stands_read m c.args.self.now _ stands (search rules) (search rules) (search rules) (search rules) (search rules) (search rules)) q)
           (undo_votes_for rules_now m c.args.session c.args.texts c.args.tids c.in-Ok.changes c.args.self.now stands (search rules) (search rules) (search rules) (search rules) (search rules))
           (search rules) (search rules);
     }

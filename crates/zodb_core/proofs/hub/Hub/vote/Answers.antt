@@ -32,7 +32,7 @@ returns-in-Err-clause-step g c =
     still_clock _ rules_now c.args.session (request.Vote c.args.texts.user c.args.texts.description c.args.texts.extension c.args.pending) _ c.args.self.now _ _ _ (λ told m stands stamps.
     rw c.vote_reply.ensures
     (vote_refused rules_now m c.args.session c.args.texts.user c.args.texts.description c.args.texts.extension c.args.pending c.in-Err.refusal c.args.self.now _ stamps stands (search rules) (search rules) (search rules) (search rules) (search rules) (search rules)
-    (stands_read m c.args.self.now _ stands (search rules) (search rules) (search rules) (search rules) (search rules)))) refl
+    (stands_read m c.args.self.now _ stands (search rules) (search rules) (search rules) (search rules) (search rules) (search rules)))) refl
 
 pub returns-clause-step : goal.returns-clause-step
 returns-clause-step g c =
@@ -45,7 +45,7 @@ returns-clause-step g c =
           let rules_now = rules_of g.R.Resolver.rules g.F.Refs.named c.args.self.now in
           let q = request.Vote c.args.texts.user c.args.texts.description c.args.texts.extension c.args.pending in
           through_hold rules_now _ m c.args.session q c.args.texts (Ok (map (voted_change m.list) c.in-Ok.changes)) c.hold.result c.args.self.now _ c.hold.new.self held.stamp held.ticks
-          (held.step told m (stands_read m c.args.self.now _ stands (search rules) (search rules) (search rules) (search rules) (search rules)) q)
+          (held.step told m (stands_read m c.args.self.now _ stands (search rules) (search rules) (search rules) (search rules) (search rules) (search rules)) q)
           (votes_for rules_now m c.args.session c.args.texts c.args.pending c.in-Ok.changes c.args.self.now stands (search rules) (search rules) (search rules) (search rules))
           (search rules) (search rules);
     }

@@ -1,0 +1,2 @@
+pub mod NoticeLaws
+pub mod Notices
