@@ -6,7 +6,7 @@
 #     bench/run.sh crates/zodb/out/zodb /tmp
 #
 # It needs bash, awk, head and cc; sqlite3, strace and Python's BTrees package where they are there. What isn't there is skipped, and it says so. Sizes
-# can be set: TRANSACTIONS (1300000), COMMITS (300), LOADS (20000), LINES (100000), RECORDS (1000000), TIMES (3, of which the least is taken).
+# can be set: TRANSACTIONS (1300000), COMMITS (300), LOADS (20000), LINES (100000), RECORDS (1000000), KEYS (1000000), TIMES (3, of which the least is taken).
 #
 # A row has the seconds that each of the two took, the seconds that each had a processor, and both ratios. Where the machine
 # has other work, the second ratio is the one to read, but for commits, which wait for the disk.
@@ -15,8 +15,8 @@ program=$(realpath "${1:?the built program}")
 folder=$(mktemp -d "${2:-/tmp}/zodb-bench.XXXXXX")
 trap 'rm -rf "$folder"' EXIT
 here=$(dirname "$(realpath "$0")")
-transactions=${TRANSACTIONS:-1300000} commits=${COMMITS:-300} loads=${LOADS:-20000} lines=${LINES:-100000} records=${RECORDS:-1000000} times=${TIMES:-3}
-for name in measure make_file make_tree walk pairs loads; do
+transactions=${TRANSACTIONS:-1300000} commits=${COMMITS:-300} loads=${LOADS:-20000} lines=${LINES:-100000} records=${RECORDS:-1000000} keys=${KEYS:-1000000} times=${TIMES:-3}
+for name in measure make_file make_tree make_keys walk pairs loads; do
     cc -O2 -o "$folder/$name" "$here/$name.c" || { echo "cc doesn't compile $name.c"; exit 1; }
 done
 cd "$folder" || exit 1
@@ -107,6 +107,15 @@ row "10000 keys set, a tenth of it" "$(cost_anew more.fs more.txt | awk '{ print
 printf 'a open local\na begin\na items 0000000000000001\n' >items.txt
 row "items of 10000 keys, a tenth of it" "$(cost items.txt "$program" more.fs run | awk '{ print $1 / 10, $2, $3 / 10 }')" \
     "ours, items of 1000 keys" "$(cost items.txt "$program" few.fs run)"
+
+# a tree is checked, and all its items are listed
+./make_keys keys.fs "$keys"
+if "$program" keys.fs check 0000000000000001 <empty 2>/dev/null | grep -q "^sound $keys "; then
+    row "a check of a tree of $keys keys" "$(cost empty "$program" keys.fs check 0000000000000001)" "ours, its items" "$(cost items.txt "$program" keys.fs run)"
+else
+    skipped "a check of a tree of $keys keys" "the program has no command for it"
+fi
+rm -f keys.fs
 
 # two writers of one bucket, who both commit: merges of three buckets of so many items, with the script read and the
 # commits. The script of the row below has the same puts and commits, one behind the other, so that nothing is merged.

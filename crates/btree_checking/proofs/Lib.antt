@@ -12,3 +12,4 @@ pub mod Going
 pub mod Once
 pub mod Visited
 pub mod Rooting
+pub mod Telling

@@ -3,3 +3,5 @@ pub mod Walks
 pub mod Steps
 pub mod Verdicts
 pub mod Laws
+pub mod Names
+pub mod Fed

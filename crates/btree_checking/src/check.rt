@@ -11,25 +11,13 @@ ghost use Rattle.btree_checking.specs.Verdicts.{verdict_after, verdict_of};
 ghost use Rattle.btree_checking.specs.Walks;
 
 use crate::laws::checked_is_sound;
-use crate::place::Place;
+use crate::place::root_place;
 use crate::survey::Survey;
 use crate::verdict::{Rule, Verdict};
 use crate::walk::{Step, Todo, Walk, enter, visit_next};
 use btree_shapes::{Rooted, Space, SpaceError, TreeError, read_root};
 use std::alloc::Global;
 use zb_ids::Oid;
-
-/// The place of a root.
-fn root_place(root: Oid) -> Place
-    ensures { result ≡ Walks.root_place root }
-{
-    Place {
-        oid: root,
-        low: None,
-        high: None,
-        level: 0,
-    }
-}
 
 /// Goes on with a walk to its end.
 #[tactic(auto, using(crate::proofs::Going::rest_next, crate::proofs::Going::rest_end, crate::proofs::Going::since_same, crate::proofs::Going::since_more, btree_shapes::specs::Logs::only_none, btree_shapes::specs::Logs::only_more))]

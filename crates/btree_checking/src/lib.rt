@@ -3,6 +3,9 @@
 #![tactic(auto)]
 
 mod check;
+mod checking;
+mod content;
+mod fed;
 mod laws;
 mod links;
 mod place;
@@ -12,5 +15,6 @@ mod verdict;
 mod walk;
 
 pub use check::check_tree;
+pub use checking::{Checking, Progress};
 pub use laws::{checked_is_sound, each_is_read_once, height_is_bounded, sound_is_checked};
 pub use verdict::{Rule, Verdict};

@@ -2,6 +2,7 @@
 
 ghost use Rattle.std.specs.Prelude.{◌≡◌, IfOk};
 ghost use Rattle.btree_checking.specs.Rules.{places_from};
+ghost use Rattle.btree_checking.specs.Walks;
 
 use btree_family::Key;
 use bucket_state::Inner;
@@ -19,6 +20,18 @@ pub(crate) struct Place {
     pub high: Option<Key>,
     /// How many objects stand above it.
     pub level: u64,
+}
+
+/// The place of a root.
+pub(crate) fn root_place(root: Oid) -> Place
+    ensures { result ≡ Walks.root_place root }
+{
+    Place {
+        oid: root,
+        low: None,
+        high: None,
+        level: 0,
+    }
 }
 
 /// A copy of a bound.

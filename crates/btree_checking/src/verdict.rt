@@ -1,5 +1,8 @@
 //! What a check of a tree says.
 
+ghost use Rattle.std.specs.Prelude.{◌≡◌};
+ghost use Rattle.btree_checking.specs.Names.{name_of};
+
 use zb_ids::Oid;
 
 /// How an object of a tree breaks a rule. The rules are tested at each object in this order,
@@ -22,6 +25,23 @@ pub enum Rule {
     /// An object with others below it does not name the first leaf below it; or, where all do, a
     /// leaf does not name the next leaf, or the last one names one.
     Links,
+}
+
+impl Rule {
+    /// The rule's name, which is that of its variant.
+    pub fn name(self) -> &'static str
+        ensures { result.now ≡ name_of self }
+    {
+        match self {
+            Rule::NodeMissing => "NodeMissing",
+            Rule::Shared => "Shared",
+            Rule::NotATree => "NotATree",
+            Rule::Keys => "Keys",
+            Rule::Bounds => "Bounds",
+            Rule::Depth => "Depth",
+            Rule::Links => "Links",
+        }
+    }
 }
 
 /// What a check of a tree says.

@@ -26,8 +26,8 @@ use Rattle.zodb_core.specs.Machine.{Machine, Rules, front_of, machine_over, with
 use Rattle.zodb_core.specs.Outcomes.{Answered, EndsFor, FaultCounts, IsStepMade, NoMemory, ReadingFailed, StepOutcome, StoreFailed, changes_store, is_pack, keeps_store, machine_left, outcome_of, outcome_of_refusal}
 use Rattle.zodb_core.specs.StepCases.{by_unanswered, early_answers}
 use Rattle.zodb_core.specs.Steps.{Stepped, early_refusal, front_step, loaded, replied, request_step, step_of, unless_early}
-use Rattle.zodb_top.specs.Asked.{digested, last_of, shown}
-use Rattle.zodb_top.specs.Asking.{IsLast, IsStepped, KeepsList, KeepsStore, ask_refusal, digested_reply, only_reads, shown_reply}
+use Rattle.zodb_top.specs.Asked.{content_of, digested, last_of, shown}
+use Rattle.zodb_top.specs.Asking.{IsLast, IsStepped, KeepsList, KeepsStore, ask_refusal, digested_reply, only_reads, reply_content, shown_reply}
 use Rattle.zodb_top.specs.Came.{stock}
 
 -- ---- a step that only reads
@@ -163,6 +163,11 @@ digested_loaded m oid (found.Held serial bytes end) = refl
 digested_loaded m oid (found.Absent serial) = refl
 digested_loaded m oid found.Nothing = refl
 
+content_loaded : (m : Machine) (oid : ℕ) (f : Found) → reply_content (loaded m oid f) ≡ content_of f
+content_loaded m oid (found.Held serial bytes end) = refl
+content_loaded m oid (found.Absent serial) = refl
+content_loaded m oid found.Nothing = refl
+
 pub last_is : (list : List Transaction) (m : Machine) (n oid front : ℕ) (r : Reply) → m.list ≡ list → front ≡ front_of list → IsStepped m n (request.LoadBefore oid front) r → IsLast oid list r
 last_is list m n oid front r same at s =
     let is : r ≡ loaded m oid (found_below oid front m.list) = reply_of m n (request.LoadBefore oid front) r s in
@@ -170,6 +175,7 @@ last_is list m n oid front r same at s =
     record {
       shown = ap shown_reply is ∙ shown_loaded m oid (found_below oid front m.list) ∙ ap shown found;
       digested = ap digested_reply is ∙ digested_loaded m oid (found_below oid front m.list) ∙ ap digested found;
+      content = ap reply_content is ∙ content_loaded m oid (found_below oid front m.list) ∙ ap content_of found;
     }
 
 pub keeps_on : {R F : Type 0} (m : Machine) (old mid new : HubState R F) (a b c : Option (List Stamp)) → (first : KeepsList m old mid a b) → KeepsList first.left mid new b c → KeepsList m old new a c

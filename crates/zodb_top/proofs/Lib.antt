@@ -19,3 +19,4 @@ pub mod Matched
 pub mod Packs
 pub mod Walks
 pub mod Untouched
+pub mod Checks

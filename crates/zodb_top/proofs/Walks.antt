@@ -227,18 +227,44 @@ pack_reads [] h = refused pack_short refl
 pack_reads (word ∷ []) h = taken (codes "pack") (Some word) (pack_taken word h.0) refl
 pack_reads (word ∷ other ∷ more) h = refused (pack_longer word other more h.0 h.1.0) refl
 
+check_short : IsRefused (codes "check" ∷ [])
+unfolding clap_on_literals
+check_short = record { kind = _; kinds = _; fault = refl }
+
+check_taken : (word : Text) → Plain word → IsTaken (codes "check" ∷ word ∷ []) (codes "check") (Some word)
+unfolding clap_on_literals
+check_taken word h =
+    let d = no_dashes word h in let l = no_long word h in let s = no_short word h in
+    record { fault = rw (d, l, s) refl; entered = rw (d, l, s) refl }
+
+check_longer : (word other : Text) (more : List Text) → Plain word → Plain other → IsRefused (codes "check" ∷ word ∷ other ∷ more)
+unfolding clap_on_literals
+check_longer word other more h k =
+    let d = no_dashes word h in let l = no_long word h in let s = no_short word h in
+    let d' = no_dashes other k in let l' = no_long other k in let s' = no_short other k in
+    let w : Walk = behind (codes "check") (word ∷ other ∷ []) in
+    let f = no_fault_on top names w (codes "check", word ∷ other ∷ []) more refl in
+    let o = walk_on top.rules names w (codes "check", word ∷ other ∷ []) more refl in
+    record { kind = kinds.UnknownArgument; kinds = []; fault = rw (f, o, d, l, s, d', l', s') refl }
+
+check_reads : (rest : List Text) → AllByRecursion Plain rest → Reads (codes "check" ∷ rest)
+check_reads [] h = refused check_short refl
+check_reads (word ∷ []) h = taken (codes "check") (Some word) (check_taken word h.0) refl
+check_reads (word ∷ other ∷ more) h = refused (check_longer word other more h.0 h.1.0) refl
+
 -- a word that is none of the names
 module _ (word : Text) (h : Plain word) (not_run : bytes_eq (codes "run") word ≡ false) (not_undolog : bytes_eq (codes "undolog") word ≡ false) (not_history : bytes_eq (codes "history") word ≡ false)
-    (not_show : bytes_eq (codes "show") word ≡ false) (not_digest : bytes_eq (codes "digest") word ≡ false) (not_pack : bytes_eq (codes "pack") word ≡ false) where
+    (not_show : bytes_eq (codes "show") word ≡ false) (not_digest : bytes_eq (codes "digest") word ≡ false) (not_pack : bytes_eq (codes "pack") word ≡ false)
+    (not_check : bytes_eq (codes "check") word ≡ false) where
   unknown : (rest : List Text) → IsRefused (word ∷ rest)
   unfolding clap_on_literals
   unknown rest =
       let d = no_dashes word h in let l = no_long word h in let s = no_short word h in
-      record { kind = kinds.UnknownArgument; kinds = kinds.InvalidSubcommand ∷ []; fault = rw (not_run, not_undolog, not_history, not_show, not_digest, not_pack, d, l, s) refl }
+      record { kind = kinds.UnknownArgument; kinds = kinds.InvalidSubcommand ∷ []; fault = rw (not_run, not_undolog, not_history, not_show, not_digest, not_pack, not_check, d, l, s) refl }
 
   unknown_reads : (rest : List Text) → Reads (word ∷ rest)
   unknown_reads [] = refused (unknown []) (rw (not_run, not_undolog) refl)
-  unknown_reads (argument ∷ []) = refused (unknown (argument ∷ [])) (rw (not_history, not_show, not_digest, not_pack) refl)
+  unknown_reads (argument ∷ []) = refused (unknown (argument ∷ [])) (rw (not_history, not_show, not_digest, not_pack, not_check) refl)
   unknown_reads (argument ∷ other ∷ more) = refused (unknown (argument ∷ other ∷ more)) refl
 
 -- the word is a name, or it isn't
@@ -258,4 +284,5 @@ reads (word ∷ rest) h =
     by_name (codes "show") word rest (show_reads rest h.1) (λ not_show.
     by_name (codes "digest") word rest (digest_reads rest h.1) (λ not_digest.
     by_name (codes "pack") word rest (pack_reads rest h.1) (λ not_pack.
-    unknown_reads word h.0 not_run not_undolog not_history not_show not_digest not_pack rest))))))
+    by_name (codes "check") word rest (check_reads rest h.1) (λ not_check.
+    unknown_reads word h.0 not_run not_undolog not_history not_show not_digest not_pack not_check rest)))))))

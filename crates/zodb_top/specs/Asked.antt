@@ -1,6 +1,9 @@
 -- What the commands that take no script are answered. Own; the lists are those of the storage interfaces of ZODB.
-use Rattle.std.specs.Prelude.{◌≡◌, ◌≢◌, ◌⊎◌, ℕ, List, [], ◌∷◌, ◌++◌, Option, map}
+use Rattle.std.specs.Prelude.{◌≡◌, ◌≢◌, ◌⊎◌, ℕ, List, [], ◌∷◌, ◌++◌, Option, Some, None, map}
 use Rattle.std.specs.Io.KnownBytes.{Appends}
+use Rattle.btree_checking.specs.declared.verdict.Verdict.{Verdict}
+use Rattle.btree_checking.specs.Verdicts.{verdict_of}
+use Rattle.btree_shapes.specs.Nodes.{objects_of}
 use Rattle.file_store.specs.Kept.{StandsForList}
 use Rattle.file_store.specs.Opening.{IsNewFile, without_tail}
 use Rattle.zb_base.specs.Counts.{Rose}
@@ -16,12 +19,12 @@ use Rattle.zb_volume.specs.declared.areas.Area.TheVariants.{Main}
 use Rattle.zb_volume.specs.Moments.{Leaves}
 use Rattle.zodb_core.specs.Machine.{front_of}
 use Rattle.zodb_top.specs.declared.command.Asked.{Asked}
-use Rattle.zodb_top.specs.declared.command.Asked.TheVariants.{UndoLog, History, Show, Digest}
+use Rattle.zodb_top.specs.declared.command.Asked.TheVariants.{UndoLog, History, Show, Digest, Check}
 use Rattle.zodb_top.specs.declared.status.Status.{Status}
 use Rattle.zodb_top.specs.declared.status.Status.TheVariants as status
 use Rattle.zodb_top.specs.Opened.{FailedToOpen, IsRefused, IsUnfailed, OpensAs}
 use Rattle.zodb_top.specs.Outside.{Outside, main_of}
-use Rattle.zodb_top.specs.Texts.{cut_lines, digest_line, joined, missing_line, refused_line}
+use Rattle.zodb_top.specs.Texts.{cut_lines, digest_line, joined, missing_line, refused_line, verdict_line}
 
 -- a revision is shown by its serial and its record, or by its serial and its record's digest
 abbrev pub shown : Found → List ℕ
@@ -38,12 +41,27 @@ digested found.Nothing = missing_line
 abbrev pub last_of : ℕ → List Transaction → Found
 last_of oid list = found_below oid (front_of list) list
 
+-- what a revision has: bytes, where it has some
+abbrev pub content_of : Found → Option (List ℕ)
+content_of (found.Held serial bytes end) = Some bytes
+content_of (found.Absent serial) = None
+content_of found.Nothing = None
+
+-- what each object has in its last revision
+abbrev pub last_contents : List Transaction → ℕ → Option (List ℕ)
+last_contents list oid = content_of (last_of oid list)
+
+-- what a check says of the tree with this root
+abbrev pub last_verdict : ℕ → List Transaction → Verdict
+last_verdict root list = verdict_of (objects_of (last_contents list) root) root
+
 -- the lines of an answer
 abbrev pub lines_of : Asked → List Transaction → List (List ℕ)
 lines_of UndoLog list = map log_text (undo_log_of list)
 lines_of (History oid) list = map revision_text (history_of oid list)
 lines_of (Show oid) list = shown (last_of oid list) ∷ []
 lines_of (Digest oid) list = digested (last_of oid list) ∷ []
+lines_of (Check oid) list = verdict_line (last_verdict oid list) ∷ []
 
 -- The lines are that of the tail that was cut off, if there was one, and those of the answer; or that a read failed, where `unread` says that one did.
 abbrev pub IsSaid : List Transaction → Option ℕ → Asked → Type 0 → List (List ℕ) → Type 0

@@ -21,7 +21,7 @@ use Rattle.zodb_top.specs.declared.asking.AskError.TheVariants as error
 use Rattle.zodb_top.specs.declared.status.Status.{Status}
 use Rattle.zodb_top.specs.declared.status.Status.TheVariants as status
 use Rattle.zodb_top.specs.declared.command.Asked.{Asked}
-use Rattle.zodb_top.specs.Asked.{IsSaid, digested, last_of, shown}
+use Rattle.zodb_top.specs.Asked.{IsSaid, content_of, digested, last_of, shown}
 use Rattle.zodb_top.specs.Came.{stock}
 use Rattle.zodb_top.specs.Texts.{digest_line, joined, missing_line, refused_line}
 
@@ -47,6 +47,11 @@ shown_reply _ = missing_line
 abbrev pub digested_reply : Reply → List ℕ
 digested_reply (reply.Loaded serial bytes end upto) = digest_line serial bytes
 digested_reply _ = missing_line
+
+-- what the reply to a load says that an object has
+abbrev pub reply_content : Reply → Option (List ℕ)
+reply_content (reply.Loaded serial bytes end upto) = Some bytes
+reply_content _ = None
 
 -- A hub that was asked stands for a machine with the same list; its volume and the clock are as they were, and its store hasn't failed.
 pub record KeepsList {R F : Type 0} (m : Machine) (old new : HubState R F) (before after : Option (List Stamp)) : Type 0 where
@@ -74,6 +79,7 @@ pub record IsStepped (m : Machine) (n : ℕ) (q : Request) (r : Reply) : Type 0 
 pub record IsLast (oid : ℕ) (list : List Transaction) (r : Reply) : Type 0 where
   pub shown : shown_reply r ≡ shown (last_of oid list)
   pub digested : digested_reply r ≡ digested (last_of oid list)
+  pub content : reply_content r ≡ content_of (last_of oid list)
 
 -- some lines and those of an answer, or the one that says that reading failed, have this to do with what was written
 abbrev pub WritesAnswer : (List ℕ → Type 0) → List (List ℕ) → Result (List (List ℕ)) AskError → Type 0

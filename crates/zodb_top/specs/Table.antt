@@ -25,8 +25,8 @@ program_top = let a = new_app (codes "zodb") in
 
 abbrev pub program_app : App
 program_app =
-    with_subcommand (with_subcommand (with_subcommand (with_subcommand (with_subcommand (with_subcommand program_top (alone (codes "run")).top) (alone (codes "undolog")).top)
-    (placed (codes "history")).top) (placed (codes "show")).top) (placed (codes "digest")).top) (placed (codes "pack")).top
+    with_subcommand (with_subcommand (with_subcommand (with_subcommand (with_subcommand (with_subcommand (with_subcommand program_top (alone (codes "run")).top) (alone (codes "undolog")).top)
+    (placed (codes "history")).top) (placed (codes "show")).top) (placed (codes "digest")).top) (placed (codes "pack")).top) (placed (codes "check")).top
 
 -- the name of a subcommand, and the value of its position
 abbrev pub named_in : Option (Text × List Row) → Option (Text × Option Text)

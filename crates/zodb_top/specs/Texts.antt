@@ -2,6 +2,9 @@
 use Rattle.std.specs.Prelude.{ℕ, List, [], ◌∷◌, ◌++◌, Option, Some, None, codes, decimal}
 use Rattle.std.specs.List.{flat_map}
 use Rattle.sha2.specs.Sha256.{sha256}
+use Rattle.btree_checking.specs.declared.verdict.Verdict.{Verdict}
+use Rattle.btree_checking.specs.declared.verdict.Verdict.TheVariants as verdict
+use Rattle.btree_checking.specs.Names.{name_of as rule_name}
 use Rattle.fs_records.specs.Names.{name_of}
 use Rattle.fs_records.specs.declared.field.Field.{Field}
 use Rattle.zb_ids.specs.Hex.{hex_number, hex_text}
@@ -51,3 +54,8 @@ refused_line = line (codes "refused ReadFault")
 -- a serial, and the digest of bytes, in hexadecimal digits
 abbrev pub digest_line : ℕ → List ℕ → List ℕ
 digest_line serial bytes = line (hex_number serial ++ 32 ∷ hex_text (sha256 bytes))
+
+-- a tree is sound, with so many items and objects; or an object breaks a rule, which is named
+abbrev pub verdict_line : Verdict → List ℕ
+verdict_line (verdict.Sound items nodes) = line (codes "sound " ++ (decimal items ++ 32 ∷ decimal nodes))
+verdict_line (verdict.Broken oid rule) = line (codes "broken " ++ (hex_number oid ++ 32 ∷ rule_name rule))

@@ -7,7 +7,7 @@ use Rattle.zb_ids.specs.Hex.{number_at}
 use Rattle.zb_ids.specs.Spelling.{time_at, time_number}
 use Rattle.zodb_top.specs.declared.command.Command.{Command}
 use Rattle.zodb_top.specs.declared.command.Command.TheVariants as command
-use Rattle.zodb_top.specs.declared.command.Asked.TheVariants.{UndoLog, History, Show, Digest}
+use Rattle.zodb_top.specs.declared.command.Asked.TheVariants.{UndoLog, History, Show, Digest, Check}
 
 -- a word that begins with a dash
 abbrev pub is_dashed : List ℕ → Bool
@@ -26,7 +26,7 @@ abbrev pub stands_alone : List ℕ → Bool
 stands_alone word = bytes_eq (codes "run") word || bytes_eq (codes "undolog") word
 
 abbrev pub has_position : List ℕ → Bool
-has_position word = bytes_eq (codes "history") word || (bytes_eq (codes "show") word || (bytes_eq (codes "digest") word || bytes_eq (codes "pack") word))
+has_position word = bytes_eq (codes "history") word || (bytes_eq (codes "show") word || (bytes_eq (codes "digest") word || (bytes_eq (codes "pack") word || bytes_eq (codes "check") word)))
 
 -- a name of the table, with as many words behind it as it has positions
 abbrev pub named_of : List (List ℕ) → Option (List ℕ × Option (List ℕ))
@@ -49,6 +49,7 @@ object_command word oid =
     if bytes_eq word (codes "history") then Some (command.Ask (History oid))
     else if bytes_eq word (codes "show") then Some (command.Ask (Show oid))
     else if bytes_eq word (codes "digest") then Some (command.Ask (Digest oid))
+    else if bytes_eq word (codes "check") then Some (command.Ask (Check oid))
     else None
 
 -- what a name asks with the word at its position: a stamp, or the sixteen digits of an object

@@ -13,6 +13,7 @@ ghost use Rattle.zodb_top.specs.Asked.{digested, last_of, lines_of, shown};
 ghost use Rattle.zodb_top.specs.Asking.{IsLast, IsStepped, KeepsList, KeepsStore, ask_refusal, digested_reply, only_reads, shown_reply};
 ghost use Rattle.zodb_top.specs.Texts.{digest_line};
 
+use crate::checking::check;
 use crate::command::Asked;
 use sha2::{Digest, Sha256};
 use std::alloc::{AllocError, Global};
@@ -55,7 +56,7 @@ fn refusal_in(reply: &Reply) -> Option<AskError>
 }
 
 /// A step of a session that only reads.
-fn ask<St: Store, C: Clock>(
+pub(crate) fn ask<St: Store, C: Clock>(
     alloc: Global,
     hub: &mut Hub<St, StockResolver, StockRefs>,
     session: u32,
@@ -99,7 +100,7 @@ fn revision_lines(alloc: Global, list: &[Revision]) -> Result<ListOf<Text8>, All
 }
 
 /// One line.
-fn only_line(alloc: Global, line: Text8) -> Result<ListOf<Text8>, AllocError>
+pub(crate) fn only_line(alloc: Global, line: Text8) -> Result<ListOf<Text8>, AllocError>
     ensures { IfOk result (λ lines. lines ≡ line ∷ []) }
 {
     let mut lines = ListOf::new(alloc);
@@ -142,7 +143,7 @@ fn digested_line(alloc: Global, reply: &Reply) -> Result<Text8, AllocError>
 }
 
 /// The tid after the newest.
-fn front<St: Store, C: Clock>(
+pub(crate) fn front<St: Store, C: Clock>(
     alloc: Global,
     hub: &mut Hub<St, StockResolver, StockRefs>,
     session: u32,
@@ -281,6 +282,7 @@ fn session_lines<St: Store, C: Clock>(
         Asked::History { oid } => history(alloc, hub, session, oid, clock),
         Asked::Show { oid } => show(alloc, hub, session, oid, clock),
         Asked::Digest { oid } => digest(alloc, hub, session, oid, clock),
+        Asked::Check { oid } => check(alloc, hub, session, oid, clock),
     }
 }
 

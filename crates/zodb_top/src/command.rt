@@ -32,6 +32,11 @@ pub enum Asked {
         /// The object.
         oid: Oid,
     },
+    /// Whether the tree with this root is sound.
+    Check {
+        /// The root.
+        oid: Oid,
+    },
 }
 
 /// What the words ask.
@@ -100,6 +105,9 @@ fn object_command(word: &str, oid: Oid) -> Option<Command>
     }
     if word == "digest" {
         return Some(Command::Ask(Asked::Digest { oid }));
+    }
+    if word == "check" {
+        return Some(Command::Ask(Asked::Check { oid }));
     }
     None
 }

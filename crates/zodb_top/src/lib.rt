@@ -5,6 +5,7 @@
 
 mod answering;
 mod asking;
+mod checking;
 mod command;
 mod entering;
 mod laws;

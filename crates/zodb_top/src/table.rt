@@ -43,5 +43,6 @@ pub(crate) fn program<'a>(alloc: Global) -> Result<Command<'a>, AllocError>
         .subcommand(placed(alloc, "history")?)?
         .subcommand(placed(alloc, "show")?)?
         .subcommand(placed(alloc, "digest")?)?
-        .subcommand(placed(alloc, "pack")?)
+        .subcommand(placed(alloc, "pack")?)?
+        .subcommand(placed(alloc, "check")?)
 }

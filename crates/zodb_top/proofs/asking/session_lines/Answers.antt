@@ -5,3 +5,6 @@ returns-in-Show-clause-lines g c = λ told m stands whole. rw c.in-Show.is (c.sh
 
 pub returns-in-Digest-clause-lines : goal.returns-in-Digest-clause-lines
 returns-in-Digest-clause-lines g c = λ told m stands whole. rw c.in-Digest.is (c.digest.ensures.lines told m stands whole)
+
+pub returns-in-Check-clause-lines : goal.returns-in-Check-clause-lines
+returns-in-Check-clause-lines g c = λ told m stands whole. rw c.in-Check.is (c.check.ensures.lines told m stands whole)
