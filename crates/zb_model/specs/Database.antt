@@ -1,9 +1,10 @@
 -- A database is a list of transactions, the oldest first. Source: the storage interfaces of ZODB.
-use Rattle.std.specs.Prelude.{ℕ, ◌<◌, ◌-◌, ◌^◌, List, ◌∷◌, Option, None, Bool, ◌==◌, nat_lt, nat_eq, filter, map, All}
+use Rattle.std.specs.Prelude.{ℕ, ◌<◌, ◌-◌, ◌^◌, List, ◌∷◌, Option, None, Bool, ◌==◌, nat_lt, nat_eq, filter, length, map, All}
 use Rattle.std.specs.List.{filter_map, last_or, IsDistinct}
 use Rattle.std.specs.List.Sorted.{IsStrictlyIncreasing}
 use Rattle.std.specs.Option.{option_map, option_map_or}
 use Rattle.zb_model.specs.declared.data.Content.{Content}
+use Rattle.zb_model.specs.declared.data.Content.TheVariants.{Held, Absent}
 use Rattle.zb_model.specs.declared.data.Change.{Change}
 use Rattle.zb_model.specs.declared.data.Transaction.{Transaction}
 
@@ -11,11 +12,17 @@ use Rattle.zb_model.specs.declared.data.Transaction.{Transaction}
 abbrev pub newest_tid : List Transaction → ℕ
 newest_tid list = option_map_or (λ t. t.tid) (last_or None list) 0
 
--- tids rise strictly from above 0 to below 2^64-1, and no transaction changes an object twice
+-- a record that an object has isn't empty
+abbrev pub IsRecord : Content → Type 0
+IsRecord (Held bytes) = 0 < length bytes
+IsRecord Absent = Unit {0}
+
+-- tids rise strictly from above 0 to below 2^64-1, no transaction changes an object twice, and no record is empty
 pub record IsDatabase (list : List Transaction) : Type 0 where
   pub rising : IsStrictlyIncreasing (0 ∷ map (λ t. t.tid) list)
   pub bounded : newest_tid list < 2 ^ 64 - 1
   pub distinct : All (λ t. IsDistinct nat_eq (map (λ c. c.oid) t.changes)) list
+  pub filled : All (λ t. All (λ c. IsRecord c.content) t.changes) list
 
 abbrev pub is_change_of : ℕ → Change → Bool
 is_change_of oid change = change.oid == oid

@@ -9,6 +9,7 @@ pub mod PackingLaws
 pub mod Packs
 pub mod Queries
 pub mod QueryLaws
+pub mod RecordLaws
 pub mod Rules
 pub mod Seen
 pub mod SerialLaws

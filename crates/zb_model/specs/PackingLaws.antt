@@ -12,6 +12,7 @@ use Rattle.std.proofs.lemmas.List.Sums.{sum_by-cons}
 use Rattle.zb_model.specs.declared.data.Change.{Change}
 use Rattle.zb_model.specs.declared.data.Transaction.{Transaction}
 use Rattle.zb_model.specs.Database.{IsDatabase, newest_tid}
+use Rattle.zb_model.specs.RecordLaws.{ChangesToRecord, HasRecords}
 use Rattle.zb_model.specs.SerialLaws.{RisesTo, database_rises, newest_within}
 use Rattle.zb_model.specs.Packing.{packed_by, packed_form, packed_one, stays}
 use Rattle.zb_model.specs.Packs.{change_count}
@@ -78,6 +79,29 @@ packed_once t keep all (x ∷ list) once =
     (λ (early : x.tid ≤ t). rw (le-leb x.tid t early) (form_once x (filter (stays t keep all x.tid) x.changes) (filter_map (packed_one t keep all) list) (filter_distinct (stays t keep all x.tid) x.changes once.0) rest))
     (cases_lt t x.tid)
 
+-- ---- no record is empty
+
+filter_records : (p : Change → Bool) (changes : List Change) → AllByRecursion ChangesToRecord changes → AllByRecursion ChangesToRecord (filter p changes)
+filter_records p [] all = tt
+filter_records p (c ∷ changes) all =
+    let rest = filter_records p changes all.1 in
+    ⊎_elim (λ (e : p c ≡ true). rw e (all.0, rest)) (λ (e : p c ≡ false). rw e rest) (cases_Bool (p c))
+
+kept_records : (p : Change → Bool) (changes : List Change) → All ChangesToRecord changes → All ChangesToRecord (filter p changes)
+kept_records p changes all = All-from_recursion ChangesToRecord (filter p changes) (filter_records p changes (recursion_from_All ChangesToRecord changes all))
+
+form_records : (x : Transaction) (changes : List Change) (rest : List Transaction) → All ChangesToRecord changes → AllByRecursion HasRecords rest → AllByRecursion HasRecords (cons_option (packed_form x changes) rest)
+form_records x [] rest here all = all
+form_records x (c ∷ changes) rest here all = (here, all)
+
+packed_records : (t : ℕ) (keep : FinSet nat_cmp) (all list : List Transaction) → AllByRecursion HasRecords list → AllByRecursion HasRecords (filter_map (packed_one t keep all) list)
+packed_records t keep all [] filled = tt
+packed_records t keep all (x ∷ list) filled =
+    let rest = packed_records t keep all list filled.1 in
+    ⊎_elim (λ (late : t < x.tid). rw (lt-leb x.tid t late) (filled.0, rest))
+    (λ (early : x.tid ≤ t). rw (le-leb x.tid t early) (form_records x (filter (stays t keep all x.tid) x.changes) (filter_map (packed_one t keep all) list) (kept_records (stays t keep all x.tid) x.changes filled.0) rest))
+    (cases_lt t x.tid)
+
 -- a packed list is a database again
 pub packed_database : (t : ℕ) (keep : FinSet nat_cmp) (list : List Transaction) → IsDatabase list → IsDatabase (packed_by t keep list)
 packed_database t keep list is =
@@ -87,6 +111,7 @@ packed_database t keep list is =
       rising = increasing 0 (newest_tid list) (packed_by t keep list) rises;
       bounded = omega (arith, within, is.bounded);
       distinct = All-from_recursion NamesOnce (packed_by t keep list) (packed_once t keep list list (recursion_from_All NamesOnce list is.distinct));
+      filled = All-from_recursion HasRecords (packed_by t keep list) (packed_records t keep list list (recursion_from_All HasRecords list is.filled));
     }
 
 -- ---- how many changes are left

@@ -1,21 +1,21 @@
 -- What a database is told of the bytes that it keeps. Source: conflict resolution and `referencesf` of ZODB.
-use Rattle.std.specs.Prelude.{◌≡◌, ◌<◌, ℕ, List, [], Bool, false, Option, Some, Result, Ok, Err, length, is_none}
+use Rattle.std.specs.Prelude.{◌≡◌, refl, ◌<◌, ℕ, List, [], Bool, false, Option, Some, Result, Ok, Err, length, is_none}
 use Rattle.std.specs.Option.{unwrap_or}
 use Rattle.zb_model.specs.declared.refusal.Why.{Why}
 use Rattle.zb_model.specs.declared.refusal.Why.TheVariants as why
 
--- whether stored bytes are of a class with a rule of merging; and what its rule makes of old, committed and stored bytes, or why it makes nothing
+-- whether stored bytes are of a class with a rule of merging; and what its rule makes of old, committed and stored bytes, which is never empty, or why it makes nothing
 pub record MergeRules : Type 0 where
   pub has_rule : List ℕ → Bool
   pub merged : List ℕ → List ℕ → List ℕ → Result (List ℕ) Why
+  pub filled : (old committed stored bytes : List ℕ) → merged old committed stored ≡ Ok bytes → 0 < length bytes
+
+pub none_made : (made : Result (List ℕ) Why) (bytes : List ℕ) → made ≡ Err why.NoRule → made ≡ Ok bytes → 0 < length bytes
+none_made made bytes refused is = absurd cc
 
 -- no class has a rule
 abbrev pub no_rules : MergeRules
-no_rules = record { has_rule = λ stored. false; merged = λ old committed stored. Err why.NoRule }
-
--- what merging makes is a record, which is never empty
-abbrev pub NeverEmpty : MergeRules → Type 0
-NeverEmpty rules = (old committed stored bytes : List ℕ) → rules.merged old committed stored ≡ Ok bytes → 0 < length bytes
+no_rules = record { has_rule = λ stored. false; merged = λ old committed stored. Err why.NoRule; filled = λ old committed stored bytes is. none_made (Err why.NoRule) bytes refl is }
 
 -- the objects that bytes name, by what is said of each record: none where it can't be read
 abbrev pub names_in : (List ℕ → Option (List ℕ)) → List ℕ → List ℕ

@@ -12,6 +12,7 @@ use Rattle.zb_model.specs.declared.data.Transaction.{Transaction}
 use Rattle.zb_model.specs.declared.new_transaction.NewChange.{NewChange}
 use Rattle.zb_model.specs.declared.new_transaction.NewTransaction.{NewTransaction}
 use Rattle.zb_model.specs.Database.{IsDatabase, newest_tid}
+use Rattle.zb_model.specs.RecordLaws.{HasRecords, voted_are_records}
 use Rattle.zb_model.specs.Voting.{IsWellFormed, IsVotable, voted_change, voted_of}
 
 -- a transaction's number
@@ -44,14 +45,15 @@ pub oids_kept : (list : List Transaction) (changes : List NewChange) → map (λ
 oids_kept list [] = refl
 oids_kept list (c ∷ changes) = ap (λ (oids : List ℕ). c.oid ∷ oids) (oids_kept list changes)
 
--- a database with a transaction behind it that is later, bounded and names each object once
-pub database-push : (list : List Transaction) (t : Transaction) → IsDatabase list → newest_tid list < t.tid → t.tid < 2 ^ 64 - 1 → IsDistinct nat_eq (map (λ c. c.oid) t.changes) → IsDatabase (list ++ t ∷ [])
-database-push list t is later bound distinct = record {
+-- a database with a transaction behind it that is later, bounded, names each object once and has no empty record
+pub database-push : (list : List Transaction) (t : Transaction) → IsDatabase list → newest_tid list < t.tid → t.tid < 2 ^ 64 - 1 → IsDistinct nat_eq (map (λ c. c.oid) t.changes) → HasRecords t → IsDatabase (list ++ t ∷ [])
+database-push list t is later bound distinct filled = record {
   rising = rising-push list t is.rising later;
   bounded = rw (newest-push list t) bound;
   distinct = All-push (λ (t : Transaction). IsDistinct nat_eq (map (λ c. c.oid) t.changes)) list t is.distinct distinct;
+  filled = All-push HasRecords list t is.filled filled;
 }
 
 -- and so with what a new transaction becomes, where it may be voted
 pub voted_database : (list : List Transaction) (new : NewTransaction) → IsDatabase list → IsWellFormed new → IsVotable list new → IsDatabase (list ++ voted_of list new ∷ [])
-voted_database list new is formed votable = database-push list (voted_of list new) is votable.later formed.tid (rw (oids_kept list new.changes) formed.distinct)
+voted_database list new is formed votable = database-push list (voted_of list new) is votable.later formed.tid (rw (oids_kept list new.changes) formed.distinct) (voted_are_records list new.changes is formed.filled)

@@ -1,16 +1,18 @@
 //! Changes that wait for a vote.
 
-use zb_ids::{Oid, Text8, Tid};
+use crate::data::Content;
+use zb_ids::{Oid, Tid};
 
-/// An object's new bytes, and the revision that they were made from.
+/// What an object is to become, and the revision that this was made from: a store of its new record,
+/// or a delete.
 #[derive(Debug, Drop)]
 pub struct PendingStore {
     /// The object.
     pub oid: Oid,
-    /// The serial of the revision that the bytes were made from, or 0.
+    /// The serial of the revision that it was made from, or 0.
     pub base: Tid,
-    /// The bytes.
-    pub bytes: Text8,
+    /// The new record, which isn't empty, or `Absent` where the object is deleted.
+    pub content: Content,
 }
 
 /// An object that must not have changed since it was read.

@@ -3,7 +3,7 @@
 
 ghost use Rattle.std.specs.Prelude.{◌≡◌, ℕ, List, [], Some, None, Ok, Err, true, IfOk, OnErr};
 ghost use Rattle.zb_model.specs.declared.refusal.Why.{Why};
-ghost use Rattle.zb_model.specs.Rules.{MergeRules, NeverEmpty, no_rules};
+ghost use Rattle.zb_model.specs.Rules.{MergeRules, no_rules};
 ghost use Rattle.zb_model.specs.Merged.{IsMerged, IsNamed};
 
 use crate::refusal::Why;
@@ -31,7 +31,7 @@ impl From<AllocError> for ResolveError {
 
 /// Rules of merging: they say which stored bytes have one, and what two changes of one object become.
 pub trait Resolver {
-    ghost use Rattle.zb_model.specs.Rules.{MergeRules, NeverEmpty};
+    ghost use Rattle.zb_model.specs.Rules.{MergeRules};
 
     /// The rules, as functions on bytes.
     ghost rules: { Self → MergeRules };
@@ -51,9 +51,6 @@ pub trait Resolver {
         stored: &[u8],
     ) -> Result<Text8, ResolveError>
         ensures { IsMerged ((rules self.now).merged old.now committed.now stored.now) result };
-
-    /// What is made is never empty.
-    ghost never_empty: { (resolver : Self) → NeverEmpty (rules resolver) };
 }
 
 /// Why the references of a record aren't told.
@@ -95,8 +92,6 @@ impl Resolver for NoRules {
     ghost use Rattle.zb_model.specs.Rules.{no_rules};
 
     ghost rules = { λ _. no_rules };
-
-    ghost never_empty = { λ _ old committed stored bytes e. absurd cc };
 
     fn has_rule(&self, _alloc: Global, _stored: &[u8]) -> Result<bool, AllocError> {
         Ok(false)

@@ -3,5 +3,5 @@ pub mod States
 pub mod Answers
 pub mod Resolution
 pub mod References
-pub mod NeverEmpty
+pub mod Stock
 pub mod Depths

@@ -14,7 +14,6 @@ use Rattle.zb_record.specs.declared.error.RecordError.{RecordError}
 use Rattle.zb_record.specs.Records.{record_of}
 use Rattle.zb_model.specs.declared.refusal.Why.{Why}
 use Rattle.zb_model.specs.declared.refusal.Why.TheVariants.{NoRule, Unreadable, NotEmbedded, Link, EmptySide, Key, FirstKey, Overflow}
-use Rattle.zb_model.specs.Rules.{MergeRules}
 use Rattle.zb_resolve.specs.declared.state.State.{State}
 use Rattle.zb_resolve.specs.Classes.{ClassRule, Family, Counter, rule_of}
 use Rattle.zb_resolve.specs.States.{is_tree, readable, are_alike, leaf_in, count_in}
@@ -140,6 +139,3 @@ has_stock_rule stored = is_some (record_rule (record_of stored))
 -- what the rule of the stored record's class makes of old, committed and stored bytes
 abbrev pub stock_merged : List ℕ → List ℕ → List ℕ → Result (List ℕ) Why
 stock_merged old committed stored = merged_records (record_of stored) old committed stored
-
-abbrev pub stock_rules : MergeRules
-stock_rules = record { has_rule = has_stock_rule; merged = stock_merged }

@@ -34,12 +34,9 @@ fn has_rule(alloc: Global, bytes: &[u8]) -> Result<bool, AllocError>
 pub struct StockResolver;
 
 impl Resolver for StockResolver {
-    ghost use Rattle.zb_resolve.specs.Resolution.{stock_rules};
-    ghost use Rattle.zb_resolve.specs.NeverEmpty.{stock_never_empty};
+    ghost use Rattle.zb_resolve.specs.Stock.{stock_rules};
 
     ghost rules = { λ _. stock_rules };
-
-    ghost never_empty = { λ _. stock_never_empty };
 
     fn has_rule(&self, alloc: Global, stored: &[u8]) -> Result<bool, AllocError> {
         has_rule(alloc, stored)

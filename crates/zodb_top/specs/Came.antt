@@ -7,7 +7,7 @@ use Rattle.zb_ids.specs.declared.stamp.Stamp.{Stamp}
 use Rattle.zb_model.specs.declared.data.Transaction.{Transaction}
 use Rattle.zb_outside.specs.Written.{AppendsPrefix}
 use Rattle.zb_resolve.specs.References.{stock_references}
-use Rattle.zb_resolve.specs.Resolution.{stock_rules}
+use Rattle.zb_resolve.specs.Stock.{stock_rules}
 use Rattle.zb_script.specs.declared.line.Turn.{Turn}
 use Rattle.zb_answers.specs.Answers.{reply_lines}
 use Rattle.zb_volume.specs.declared.areas.Area.TheVariants.{Main}

@@ -1,15 +1,15 @@
--- What merging makes is never empty: it is a record.
+-- The rules of merging of the BTrees package. What they make is never empty: it is a record.
 use Rattle.std.proofs.Common.{◌≡◌, ℕ, ◌<◌, List, length, Option, Some, None, Result, Ok, Err, subst, arith}
 use Rattle.pickle_graph.specs.Graph.{Graph}
 use Rattle.zb_record.specs.declared.error.RecordError.{RecordError}
 use Rattle.zb_record.specs.Records.{record_of}
 use Rattle.zb_model.specs.declared.refusal.Why.{Why}
-use Rattle.zb_model.specs.Rules.{NeverEmpty}
+use Rattle.zb_model.specs.Rules.{MergeRules}
 use Rattle.zb_resolve.specs.declared.state.State.{State}
 use Rattle.zb_resolve.specs.Classes.{ClassRule, rule_of}
 use Rattle.zb_resolve.specs.States.{readable, are_alike}
 use Rattle.zb_resolve.specs.Answers.{◌>>=◌}
-use Rattle.zb_resolve.specs.Resolution.{merged_states, found_state, unless_mixed, object_bytes, written_object, merged_if, merged_records, stock_rules}
+use Rattle.zb_resolve.specs.Resolution.{merged_states, found_state, unless_mixed, object_bytes, written_object, merged_if, merged_records, has_stock_rule, stock_merged}
 
 ok_is : {A : Type 0} (a b : A) → ◌≡◌ {A = Result A Why} (Ok a) (Ok b) → a ≡ b
 ok_is a b e = cc
@@ -33,5 +33,8 @@ by_record : (r : Result (Graph × Graph) RecordError) (old committed stored byte
 by_record (Err e) old committed stored bytes h = cc
 by_record (Ok object) old committed stored bytes h = by_rule (rule_of object.0) object.0 old committed stored bytes h
 
-pub stock_never_empty : NeverEmpty stock_rules
-stock_never_empty old committed stored bytes h = by_record (record_of stored) old committed stored bytes h
+pub stock_filled : (old committed stored bytes : List ℕ) → stock_merged old committed stored ≡ Ok bytes → 0 < length bytes
+stock_filled old committed stored bytes h = by_record (record_of stored) old committed stored bytes h
+
+abbrev pub stock_rules : MergeRules
+stock_rules = record { has_rule = has_stock_rule; merged = stock_merged; filled = stock_filled }
