@@ -3,26 +3,13 @@
 //! each case. It ends with status 0 where each is reported as it is to be.
 #![tactic(auto)]
 
-mod case;
-mod case_error;
-mod draft;
-mod fields;
 mod folder;
-mod memory;
-mod outcome;
 mod over_list;
-mod piece;
-mod reading;
-mod report;
-mod run_draft;
 mod running;
-mod telling;
 
-use case::Case;
 use folder::{case_files, folder_of, text_of};
 use over_list::{list_difference, list_run};
-use reading::read_cases;
-use report::{Tally, report_of};
+use run_cases::{Case, Tally, read_cases, report_of};
 use running::run_case;
 use std::alloc::{AllocError, Global};
 use std::io;

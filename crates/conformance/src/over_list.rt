@@ -1,9 +1,7 @@
 //! The first run of a case over a list in memory, in place of the file in Main.
 
-use crate::case::{Case, Run};
-use crate::outcome::are_replies;
-use crate::telling::tell_replies;
 use mapping_store::MappingStore;
+use run_cases::{Case, Run, are_replies, tell_replies};
 use std::alloc::{AllocError, Global};
 use zb_model::first_transaction;
 use zb_outside::{Clock, ListClock, MemorySink};

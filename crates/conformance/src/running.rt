@@ -1,9 +1,8 @@
 //! A case is run through the program.
 
-use crate::case::{Case, Each, Left, Outside, Run};
-use crate::memory::{main_of, spend, volume_with};
-use crate::outcome::{Outcome, difference_of};
-use crate::telling::tell;
+use run_cases::{
+    Case, Each, Left, Outcome, Outside, Run, difference_of, main_of, spend, tell, volume_with,
+};
 use std::alloc::{AllocError, Global};
 use zb_outside::{Clock, ListClock, MemorySink, MemorySource};
 use zb_volume::MemoryVolume;

@@ -1,7 +1,7 @@
 //! What came of a run, and where that first differs from what is expected.
 
 ghost use Rattle.std.specs.Prelude.{◌≡◌, ◌↔◌, IfSome, IsTrue, None};
-ghost use Rattle.conformance.specs.Agreement.{IsAfter, IsAsExpected, IsLeftAs};
+ghost use Rattle.run_cases.specs.Agreement.{IsAfter, IsAsExpected, IsLeftAs};
 
 use crate::case::{After, Expectation, Left};
 use sha2::{Digest, Sha256};
@@ -10,7 +10,9 @@ use zb_ids::Stamp;
 /// What came of a run.
 #[derive(Drop)]
 pub struct Outcome {
+    /// All that was written.
     pub written: Vec<u8>,
+    /// The exit status.
     pub status: u8,
     /// Main before the run.
     pub before: Vec<u8>,
@@ -20,20 +22,28 @@ pub struct Outcome {
     pub unread: u64,
     /// What the clock gives next.
     pub next: Stamp,
-    /// What a stop leaves, where the case asks for it.
+    /// What a stop leaves with all that waits for a sync, where the case asks for it.
     pub greatest: Option<Left>,
+    /// What it leaves with none of that, where the case asks for it.
     pub least: Option<Left>,
 }
 
 /// In what an outcome differs from what is expected.
 #[derive(Clone, Copy)]
 pub enum Difference {
+    /// In what was written.
     Written,
+    /// In the exit status.
     Status,
+    /// In Main.
     Main,
+    /// In how many bytes of the source are left.
     Unread,
+    /// In what the clock gives next.
     Next,
+    /// In the image with all that waits for a sync.
     Greatest,
+    /// In the image with none of it.
     Least,
 }
 

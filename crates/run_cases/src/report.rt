@@ -1,7 +1,7 @@
 //! What is said of a case, and the count of what was said.
 
 ghost use Rattle.std.specs.Prelude.{◌≡◌, ◌≢◌, ◌↔◌, ◌<◌, ◌≤◌, None, IsSome, IsTrue};
-ghost use Rattle.conformance.specs.declared.report.Report.TheVariants.{Ok as AsExpected};
+ghost use Rattle.run_cases.specs.declared.report.Report.TheVariants.{Ok as AsExpected};
 
 use crate::case::Case;
 use std::alloc::{AllocError, Global};

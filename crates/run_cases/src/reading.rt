@@ -11,8 +11,11 @@ use std::alloc::{AllocError, Global};
 /// Where a file of cases is none: the line, the case that it stands in, and why.
 #[derive(Drop)]
 pub struct Unread {
+    /// The number of the line, counted from 1.
     pub line: u64,
+    /// The name of the case, or none where no case has begun.
     pub case: String,
+    /// Why.
     pub error: CaseError,
 }
 

@@ -1,12 +1,12 @@
 -- When a run is as a case expects. Own.
 use Rattle.std.specs.Prelude.{◌≡◌, ℕ, List, length, Option, Some, None, IfSome}
 use Rattle.sha2.specs.Sha256.{sha256}
-use Rattle.conformance.specs.declared.case.After.{After}
-use Rattle.conformance.specs.declared.case.After.TheVariants as after
-use Rattle.conformance.specs.declared.case.Expectation.{Expectation}
-use Rattle.conformance.specs.declared.case.Left.{Left}
-use Rattle.conformance.specs.declared.case.Left.TheVariants.{Empty, Listed}
-use Rattle.conformance.specs.declared.outcome.Outcome.{Outcome}
+use Rattle.run_cases.specs.declared.case.After.{After}
+use Rattle.run_cases.specs.declared.case.After.TheVariants as after
+use Rattle.run_cases.specs.declared.case.Expectation.{Expectation}
+use Rattle.run_cases.specs.declared.case.Left.{Left}
+use Rattle.run_cases.specs.declared.case.Left.TheVariants.{Empty, Listed}
+use Rattle.run_cases.specs.declared.outcome.Outcome.{Outcome}
 
 -- Main is what is expected, where it was `before` ahead of the run and is `main` behind it
 abbrev pub IsAfter : After → List ℕ → List ℕ → Type 0
