@@ -1,3 +1,4 @@
+pub mod Completing
 pub mod Restoring
 pub mod Serials
 pub mod Settling

@@ -1,5 +1,5 @@
--- What a vote decides. Source: `tryToResolveConflict` and `checkCurrentSerialInTransaction` of ZODB; the order is own.
-use Rattle.std.specs.Prelude.{ℕ, List, [], ◌∷◌, Option, Some, None, Result, Ok, Err, ◌==◌, if◌then◌else◌, nat_lt, length, map, option_map, sum}
+-- What a vote decides. Source: `tryToResolveConflict`, `checkCurrentSerialInTransaction` and `deleteObject` of ZODB; the order is own.
+use Rattle.std.specs.Prelude.{ℕ, List, [], ◌∷◌, Option, Some, None, Result, Ok, Err, ◌==◌, if◌then◌else◌, nat_lt, map, option_map, sum}
 use Rattle.std.specs.List.{find, last_or}
 use Rattle.std.specs.Option.{option_or}
 use Rattle.zb_model.specs.declared.data.Change.{Change}
@@ -15,9 +15,9 @@ use Rattle.zb_model.specs.declared.refusal.Why.TheVariants as why
 use Rattle.zb_model.specs.Database.{ObjectRevision, revisions, serial_of}
 use Rattle.zb_model.specs.Rules.{MergeRules}
 use Rattle.zb_model.specs.Voting.{revision_at}
-use Rattle.commit_phases.specs.Pending.{PendingChanges, object_limit, transaction_limit}
+use Rattle.commit_phases.specs.Pending.{PendingChanges, length_of_content, object_limit, transaction_limit}
 
--- ---- one store
+-- ---- one store or delete
 
 -- the object's record, where it is there
 abbrev pub held_record : Content → Option (List ℕ)
@@ -42,26 +42,38 @@ merge_held rules None old stored = Err why.Gone
 merge_held rules (Some committed) None stored = Err why.NoOld
 merge_held rules (Some committed) (Some old) stored = rules.merged old committed stored
 
--- what goes in for a store whose base isn't the object's serial, or why nothing does
-abbrev pub resolution_of : MergeRules → List Transaction → PendingStore → Result (List ℕ) Why
-resolution_of rules list p =
-    if rules.has_rule p.bytes then merge_held rules (current_record p.oid list) (record_with_serial p.oid p.base list) p.bytes
+-- what goes in for these bytes of an object where their base isn't its serial, or why nothing does
+abbrev pub resolution_of : MergeRules → List Transaction → ℕ → ℕ → List ℕ → Result (List ℕ) Why
+resolution_of rules list oid base stored =
+    if rules.has_rule stored then merge_held rules (current_record oid list) (record_with_serial oid base list) stored
     else Err why.NoRule
 
--- a store whose base is the object's serial goes in with its bytes
-abbrev pub goes_in : MergeRules → List Transaction → PendingStore → Result (List ℕ) Why
-goes_in rules list p = if p.base == serial_of p.oid list then Ok p.bytes else resolution_of rules list p
+-- bytes whose base is the object's serial go in
+abbrev pub goes_in : MergeRules → List Transaction → ℕ → ℕ → List ℕ → Result (List ℕ) Why
+goes_in rules list oid base stored = if base == serial_of oid list then Ok stored else resolution_of rules list oid base stored
 
--- the change that writes these bytes, or the conflict that names the object, its base, its serial now and the reason
-abbrev pub change_or_conflict : List Transaction → PendingStore → Result (List ℕ) Why → Result Change Refusal
-change_or_conflict list p (Ok bytes) = Ok (record { oid = p.oid; content = Held bytes })
-change_or_conflict list p (Err reason) = Err (refusal.Conflict p.oid p.base (serial_of p.oid list) reason)
+-- the change that writes these bytes, or the conflict that names the object, the base, its serial now and the reason
+abbrev pub change_or_conflict : List Transaction → ℕ → ℕ → Result (List ℕ) Why → Result Change Refusal
+change_or_conflict list oid base (Ok bytes) = Ok (record { oid = oid; content = Held bytes })
+change_or_conflict list oid base (Err reason) = Err (refusal.Conflict oid base (serial_of oid list) reason)
 
--- what a store becomes
+-- what a delete becomes, by the record that the object has now: where it has none there is nothing to delete, and a base that isn't the object's
+-- serial is a conflict, since a delete is never merged
+abbrev pub change_of_delete : List Transaction → ℕ → ℕ → Option (List ℕ) → Result Change Refusal
+change_of_delete list oid base None = Err (refusal.NothingToDelete oid (serial_of oid list))
+change_of_delete list oid base (Some held) =
+    if base == serial_of oid list then Ok (record { oid = oid; content = Absent })
+    else Err (refusal.Conflict oid base (serial_of oid list) why.NoRule)
+
+-- what a store of these bytes becomes, or a delete
+abbrev pub change_of_content : MergeRules → List Transaction → ℕ → ℕ → Content → Result Change Refusal
+change_of_content rules list oid base (Held bytes) = change_or_conflict list oid base (goes_in rules list oid base bytes)
+change_of_content rules list oid base Absent = change_of_delete list oid base (current_record oid list)
+
 abbrev pub change_of_store : MergeRules → List Transaction → PendingStore → Result Change Refusal
-change_of_store rules list p = change_or_conflict list p (goes_in rules list p)
+change_of_store rules list p = change_of_content rules list p.oid p.base p.content
 
--- ---- all stores
+-- ---- all stores and deletes
 
 -- a change ahead of others; the first conflict refuses them all
 abbrev pub ahead_of_changes : Result Change Refusal → Result (List Change) Refusal → Result (List Change) Refusal
@@ -69,7 +81,7 @@ ahead_of_changes (Err r) rest = Err r
 ahead_of_changes (Ok change) (Err r) = Err r
 ahead_of_changes (Ok change) (Ok changes) = Ok (change ∷ changes)
 
--- what stores become, in their order
+-- what stores and deletes become, in their order
 abbrev pub changes_of_stores : MergeRules → List Transaction → List PendingStore → Result (List Change) Refusal
 changes_of_stores rules list [] = Ok []
 changes_of_stores rules list (p ∷ stores) = ahead_of_changes (change_of_store rules list p) (changes_of_stores rules list stores)
@@ -87,10 +99,6 @@ failed_check list (c ∷ checks) =
 abbrev pub excess_of : List ℕ → Option ℕ
 excess_of lengths = option_or (find (nat_lt object_limit) lengths) (if nat_lt transaction_limit (sum lengths) then Some (sum lengths) else None)
 
-abbrev pub length_of_content : Content → ℕ
-length_of_content (Held bytes) = length bytes
-length_of_content Absent = 0
-
 abbrev pub too_long : List Change → Option Refusal
 too_long changes = option_map (λ n. refusal.TooLong n) (excess_of (map (λ c. length_of_content c.content) changes))
 
@@ -100,11 +108,11 @@ abbrev pub unless_refused : List Change → Option Refusal → Result (List Chan
 unless_refused changes None = Ok changes
 unless_refused changes (Some r) = Err r
 
--- the changes that stores become go in unless a check fails, and after that unless they are too long
+-- the changes that stores and deletes become go in unless a check fails, and after that unless they are too long
 abbrev pub unless_checks_fail : List Transaction → List PendingCheck → Result (List Change) Refusal → Result (List Change) Refusal
 unless_checks_fail list checks (Err r) = Err r
 unless_checks_fail list checks (Ok changes) = unless_refused changes (option_or (failed_check list checks) (too_long changes))
 
--- what a vote writes, or why it is refused: for the first store that can't go in, else for the first check that fails, else for the lengths of what would go in
+-- what a vote writes, or why it is refused: for the first store or delete that can't go in, else for the first check that fails, else for the lengths of what would go in
 unfoldable pub vote_decision : MergeRules → List Transaction → PendingChanges → Result (List Change) Refusal
 vote_decision rules list pending = unless_checks_fail list pending.checks (changes_of_stores rules list pending.stores)

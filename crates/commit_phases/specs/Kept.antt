@@ -3,9 +3,10 @@ use Rattle.std.specs.Prelude.{ℕ, ◌-◌, List, [], ◌∷◌, Option, Some, N
 use Rattle.zb_model.specs.declared.pending.PendingStore.{PendingStore}
 use Rattle.commit_phases.specs.declared.pending.Stored.{Stored}
 use Rattle.commit_phases.specs.declared.several.Replaced.{Replaced}
+use Rattle.commit_phases.specs.Pending.{length_of_content}
 
 abbrev pub store_of : ℕ × Stored → PendingStore
-store_of e = record { oid = e.0; base = e.1.base; bytes = e.1.bytes }
+store_of e = record { oid = e.0; base = e.1.base; content = e.1.content }
 
 -- the stores that a table has, in its order
 abbrev pub stores_of : List (ℕ × Stored) → List PendingStore
@@ -19,7 +20,7 @@ base_or (Some stored) base = stored.base
 -- how many bytes an earlier store has, or 0
 abbrev pub length_or_none : Option Stored → ℕ
 length_or_none None = 0
-length_or_none (Some stored) = length stored.bytes
+length_or_none (Some stored) = length_of_content stored.content
 
 -- the entries with this store of an object, if it has one
 abbrev pub stored_again : List (ℕ × Stored) → ℕ → Stored → List (ℕ × Stored)

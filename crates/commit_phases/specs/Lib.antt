@@ -1,5 +1,6 @@
 pub mod Decision
 pub mod Kept
 pub mod Pending
+pub mod ReadyLaws
 pub mod Resolving
 pub mod Voted

@@ -2,6 +2,8 @@
 use Rattle.std.specs.Prelude.{◌≡◌, ℕ, ◌≤◌, List, ◌++◌, length, Option, Some, None, Result, Ok, Err, IfErr, OnOk, ◌==◌, if◌then◌else◌}
 use Rattle.zb_base.specs.Counts.{Rose}
 use Rattle.zb_model.specs.declared.data.Change.{Change}
+use Rattle.zb_model.specs.declared.data.Content.{Content}
+use Rattle.zb_model.specs.declared.data.Content.TheVariants.{Held, Absent}
 use Rattle.zb_model.specs.declared.data.Transaction.{Transaction}
 use Rattle.zb_model.specs.declared.found.Found.{Found}
 use Rattle.zb_model.specs.declared.found.Found.TheVariants as found
@@ -66,6 +68,12 @@ refusal_as list oid base (unresolved.Refused why) = vote_refusal.Conflict oid ba
 refusal_as list oid base unresolved.ReadFault = vote_refusal.ReadFault
 refusal_as list oid base unresolved.Memory = vote_refusal.Memory
 
+-- the refusal that a failed read becomes
+abbrev pub unread_vote : StoreError → VoteRefusal
+unread_vote store_error.StoreFault = vote_refusal.ReadFault
+unread_vote store_error.ReadFault = vote_refusal.ReadFault
+unread_vote store_error.Memory = vote_refusal.Memory
+
 -- changes that are known already, ahead of those of the stores that are left
 abbrev pub behind_changes : List Change → Result (List Change) Refusal → Result (List Change) Refusal
 behind_changes done (Err r) = Err r
@@ -76,3 +84,14 @@ abbrev pub length_of_new : NewContent → ℕ
 length_of_new (new_content.Bytes bytes) = length bytes
 length_of_new new_content.Absent = 0
 length_of_new (new_content.AsOf serial) = 0
+
+-- one for a record, and none where there is none
+abbrev pub held_count : Content → ℕ
+held_count (Held bytes) = 1
+held_count Absent = 0
+
+-- the same of a new content that has its own bytes
+abbrev pub record_count : NewContent → ℕ
+record_count (new_content.Bytes bytes) = 1
+record_count new_content.Absent = 0
+record_count (new_content.AsOf serial) = 0

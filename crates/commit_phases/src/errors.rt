@@ -33,16 +33,24 @@ impl From<AllocError> for PendingError {
 /// Why a vote is refused. Nothing is changed but the store's count of failed reads.
 #[derive(Debug, Drop)]
 pub enum VoteRefusal {
-    /// A store's base isn't the object's current serial, and the changes can't be merged.
+    /// The base of a store or delete isn't the object's current serial, and the changes can't be merged; a
+    /// delete never is.
     Conflict {
         /// The object.
         oid: Oid,
-        /// The serial that the store was made from.
+        /// The serial that the store or delete was made from.
         base: Tid,
         /// The object's serial now, or 0 where it has none.
         current: Tid,
         /// Why they can't be merged.
         why: Why,
+    },
+    /// An object that is to be deleted isn't there.
+    NothingToDelete {
+        /// The object.
+        oid: Oid,
+        /// The serial of its last revision, or 0 where it has none.
+        current: Tid,
     },
     /// A checked serial isn't the object's current one.
     ReadConflict {

@@ -4,7 +4,9 @@ ghost use Rattle.std.specs.Prelude.{◌≡◌, ◌+◌, ◌++◌, ◌∷◌, [],
 ghost use Rattle.indexmap.specs.IndexMap.{get, insert_entry, keys};
 ghost use Rattle.std.specs.List.{IsDistinct};
 ghost use Rattle.std.specs.Option.{option_map};
-ghost use Rattle.commit_phases.specs.Pending.{excess_with, pending_of, size_of_stores, stores_after, with_pending, AreStores, AreStoredUnlessTooLong, IsOkUnlessTooLong};
+ghost use Rattle.zb_model.specs.declared.data.Content.TheVariants.{Held, Absent};
+ghost use Rattle.zb_model.specs.Database.{IsRecord};
+ghost use Rattle.commit_phases.specs.Pending.{excess_with, length_of_content, pending_of, size_of_stores, stores_after, with_pending, AreStores, AreStoredUnlessTooLong, IsOkUnlessTooLong};
 ghost use Rattle.commit_phases.specs.Kept.{base_or, length_or_none, put_back, store_of, stores_of};
 
 use crate::errors::PendingError;
@@ -13,7 +15,7 @@ use indexmap::IndexMap;
 use std::alloc::{AllocError, Global};
 use std::marker::Model;
 use zb_ids::{ListOf, Oid, Text8, Tid};
-use zb_model::{PendingCheck, PendingStore};
+use zb_model::{Content, PendingCheck, PendingStore};
 
 /// How many bytes one object may have.
 pub const OBJECT_LIMIT: u64 = 16_777_216;
@@ -21,11 +23,11 @@ pub const OBJECT_LIMIT: u64 = 16_777_216;
 /// How many bytes the stores of one transaction may have together.
 pub const TRANSACTION_LIMIT: u64 = 67_108_864;
 
-/// The base and the bytes of an object's store.
+/// The base and the content of an object's store or delete.
 #[derive(Debug, Drop)]
 pub(crate) struct Stored {
     pub(crate) base: Tid,
-    pub(crate) bytes: Text8,
+    pub(crate) content: Content,
 }
 
 impl Clone for Stored {
@@ -36,14 +38,15 @@ impl Clone for Stored {
     fn clone(&self) -> Result<Stored, AllocError> {
         Ok(Stored {
             base: self.base,
-            bytes: self.bytes.clone()?,
+            content: self.content.clone()?,
         })
     }
 }
 
-/// Stores and checks that wait for a vote. Contracts see the stores in the order in which their objects
-/// were first stored, and the checks in their order. No two stores are of one object, none is empty,
-/// and their bytes are within the limits of an object and of a transaction.
+/// Stores, deletes and checks that wait for a vote. Contracts see the stores and deletes together, in the
+/// order in which their objects were first stored or deleted, and the checks in their order. No two
+/// stores or deletes are of one object, no store is empty, and their bytes are within the limits of an
+/// object and of a transaction.
 #[derive(Drop)]
 pub struct Pending {
     alloc: Global,
@@ -89,8 +92,18 @@ pub(crate) struct Placed {
     pub(crate) earlier: Option<Stored>,
 }
 
-/// Puts an object's store into a table whose stores have `size` bytes together, in the place of an
-/// earlier one or behind all, and answers how many bytes they have then, and the earlier one.
+/// How many bytes a content has: none where the object isn't there.
+fn length_of(content: &Content) -> u64
+    ensures { result ≡ length_of_content content.now }
+{
+    match content {
+        Content::Held(bytes) => bytes.len() as u64,
+        Content::Absent => 0,
+    }
+}
+
+/// Puts an object's store or delete into a table whose stores have `size` bytes together, in the place
+/// of an earlier one or behind all, and answers how many bytes they have then, and the earlier one.
 pub(crate) fn put(
     stores: &mut IndexMap<Oid, Stored>,
     size: u64,
@@ -98,7 +111,7 @@ pub(crate) fn put(
 ) -> Result<Placed, PendingError>
     requires stores { AreStores (stores_of stores.old.entries) }
     requires size { size ≡ size_of_stores (stores_of stores.old.entries) }
-    requires filled { 0 < length store.bytes }
+    requires filled { IsRecord store.content }
     ensures answer { IsOkUnlessTooLong (excess_with (stores_of stores.old.entries) store) result }
     ensures ok { OnOk result
         (stores_of stores.new.entries ≡ with_pending (stores_of stores.old.entries) store) }
@@ -108,8 +121,8 @@ pub(crate) fn put(
         (record { oid = store.oid; earlier = placed.earlier }) ≡ stores.old.entries) }
     ensures err { OnErr result (stores.new.entries ≡ stores.old.entries) }
 {
-    let PendingStore { oid, base, bytes } = store;
-    let length = bytes.len() as u64;
+    let PendingStore { oid, base, content } = store;
+    let length = length_of(&content);
     if length > OBJECT_LIMIT {
         return Err(PendingError::TooLong { length });
     }
@@ -118,8 +131,31 @@ pub(crate) fn put(
     if size > TRANSACTION_LIMIT {
         return Err(PendingError::TooLong { length: size });
     }
-    let earlier = keep(stores, oid, Stored { base, bytes })?;
+    let earlier = keep(stores, oid, Stored { base, content })?;
     Ok(Placed { size, earlier })
+}
+
+/// Puts an object's delete into a table whose stores have `size` bytes together, in the place of a store
+/// or delete that it has or behind all, and answers how many bytes they have then. The one error is want
+/// of memory.
+fn put_delete(
+    stores: &mut IndexMap<Oid, Stored>,
+    size: u64,
+    oid: Oid,
+    base: Tid,
+) -> Result<u64, AllocError>
+    requires stores { AreStores (stores_of stores.old.entries) }
+    requires size { size ≡ size_of_stores (stores_of stores.old.entries) }
+    ensures ok { OnOk result (stores_of stores.new.entries
+        ≡ with_pending (stores_of stores.old.entries) (record { oid = oid; base = base; content = Absent })) }
+    ensures size { IfOk result (λ size. size ≡ size_of_stores (stores_of stores.new.entries)) }
+    ensures stores { AreStores (stores_of stores.new.entries) }
+    ensures err { OnErr result (stores.new.entries ≡ stores.old.entries) }
+{
+    let (base, earlier) = earlier_or(stores, oid, base);
+    let content = Content::Absent;
+    keep(stores, oid, Stored { base, content })?;
+    Ok(size - earlier)
 }
 
 impl Pending {
@@ -137,31 +173,45 @@ impl Pending {
     }
 
     /// Puts an object's bytes, made from its revision with the serial `base`, behind the other stores. A
-    /// second store of an object replaces the bytes of the first, and keeps its place and base. With an
-    /// error the pending changes are as before.
+    /// second store of an object, also of one that was deleted, has its own bytes and keeps the place and
+    /// the base of the first. With an error the pending changes are as before.
     pub fn store(&mut self, oid: Oid, base: Tid, bytes: Text8) -> Result<(), PendingError>
         requires filled { 0 < length bytes }
         ensures answer { IsOkUnlessTooLong
-            (excess_with self.old.stores (record { oid = oid; base = base; bytes = bytes })) result }
-        ensures ok { OnOk result
-            (self.new.stores ≡ with_pending self.old.stores (record { oid = oid; base = base; bytes = bytes })) }
+            (excess_with self.old.stores (record { oid = oid; base = base; content = Held bytes })) result }
+        ensures ok { OnOk result (self.new.stores
+            ≡ with_pending self.old.stores (record { oid = oid; base = base; content = Held bytes })) }
         ensures err { OnErr result (self.new ≡ self.old) }
         ensures checks { self.new.checks ≡ self.old.checks }
     {
+        let content = Content::Held(bytes);
         let placed = put(
             &mut self.stores,
             self.size,
-            PendingStore { oid, base, bytes },
+            PendingStore { oid, base, content },
         )?;
         self.size = placed.size;
         Ok(())
     }
 
-    /// Puts the bytes of several objects behind the other stores, one after another as `store` does: all of
-    /// them, or none. `TooLong` comes exactly where the bytes of one, or those of all that wait by then, pass
+    /// Puts a delete of an object, made from its revision with the serial `base`, behind the stores. A
+    /// delete of an object that has a store or delete already keeps the place and the base of that one. It
+    /// has no bytes. The one error is want of memory, and then the pending changes are as before.
+    pub fn delete(&mut self, oid: Oid, base: Tid) -> Result<(), AllocError>
+        ensures ok { OnOk result (self.new.stores
+            ≡ with_pending self.old.stores (record { oid = oid; base = base; content = Absent })) }
+        ensures err { OnErr result (self.new ≡ self.old) }
+        ensures checks { self.new.checks ≡ self.old.checks }
+    {
+        self.size = put_delete(&mut self.stores, self.size, oid, base)?;
+        Ok(())
+    }
+
+    /// Puts several stores and deletes behind the others, one after another as `store` and `delete` do: all
+    /// of them, or none. `TooLong` comes exactly where the bytes of one, or those of all that wait by then, pass
     /// a limit. With an error the pending changes are as before.
     pub fn store_all(&mut self, stores: ListOf<PendingStore>) -> Result<(), PendingError>
-        requires filled { All (λ p. 0 < length p.bytes) stores }
+        requires filled { All (λ p. IsRecord p.content) stores }
         ensures answer { AreStoredUnlessTooLong (stores_after self.old.stores stores) self.new.stores result }
         ensures err { OnErr result (self.new ≡ self.old) }
         ensures checks { self.new.checks ≡ self.old.checks }
@@ -196,7 +246,6 @@ impl Pending {
     }
 
     /// How many stores and checks there are together.
-    #[tactic(auto, using(crate::proofs::Storing::few_stores))]
     pub fn count(&self) -> u64
         ensures { result ≡ length self.now.stores + length self.now.checks }
     {
@@ -247,7 +296,7 @@ fn earlier_or(stores: &IndexMap<Oid, Stored>, oid: Oid, base: Tid) -> (Tid, u64)
     ensures length { result.1 ≡ length_or_none (get nat_eq stores.now oid) }
 {
     match stores.get(&oid) {
-        Some(stored) => (stored.base, stored.bytes.len() as u64),
+        Some(stored) => (stored.base, length_of(&stored.content)),
         None => (base, 0),
     }
 }
@@ -276,6 +325,6 @@ fn stored_copy(stores: &IndexMap<Oid, Stored>, oid: Oid) -> Result<Option<Pendin
 fn pending_store(oid: Oid, stored: Stored) -> PendingStore
     ensures { result ≡ store_of (oid, stored) }
 {
-    let Stored { base, bytes } = stored;
-    PendingStore { oid, base, bytes }
+    let Stored { base, content } = stored;
+    PendingStore { oid, base, content }
 }

@@ -1,6 +1,6 @@
 //! What goes in for a store whose base isn't the object's serial.
 
-ghost use Rattle.std.specs.Prelude.{◌≡◌, ◌<◌, false, length, IfOk};
+ghost use Rattle.std.specs.Prelude.{◌≡◌, ◌<◌, false, is_some, length, IfOk};
 ghost use Rattle.zb_model.specs.Queries.{found_below};
 ghost use Rattle.zb_model.specs.Stores.{IsOnlyRead};
 ghost use Rattle.commit_phases.specs.Decision.{record_with_serial, current_record, resolution_of};
@@ -100,6 +100,23 @@ fn load_current<St: Store>(
     }
 }
 
+/// Whether an object is there now, by one read of it.
+pub(crate) fn is_there<St: Store>(
+    alloc: Global,
+    store: &mut St,
+    oid: Oid,
+) -> Result<bool, StoreError>
+    requires whole { (St.state store.old).broken ≡ false }
+    ensures there { St.told
+        → IfOk result (λ there. there ≡ is_some (current_record oid (St.state store.old).list)) }
+    ensures read { IsOnlyRead (St.state store.old) (St.state store.new) result }
+{
+    match load_current(alloc, store, oid)? {
+        Some(_) => Ok(true),
+        None => Ok(false),
+    }
+}
+
 /// The record, where its revision has this serial.
 fn with_serial(held: Option<HeldRecord>, serial: Tid) -> Option<Text8>
     ensures { result ≡ bytes_with serial held }
@@ -144,7 +161,7 @@ pub(crate) fn resolve<St: Store, R: Resolver>(
 ) -> Result<Text8, Unresolved>
     requires whole { (St.state store.old).broken ≡ false }
     ensures resolved { St.told → IsResolved (resolution_of (R.rules resolver.now)
-        (St.state store.old).list (record { oid = oid; base = base; bytes = stored.now })) result }
+        (St.state store.old).list oid base stored.now) result }
     ensures some { IfOk result (λ bytes. 0 < length bytes) }
     ensures read { ResolvingOnlyReads (St.state store.old) (St.state store.new) result }
 {

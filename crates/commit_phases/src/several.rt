@@ -2,6 +2,7 @@
 
 ghost use Rattle.std.specs.Prelude.{◌≡◌, ◌++◌, ◌∷◌, [], ◌<◌, All, IfOk, OnErr, is_some, length, nat_eq, true, vec_capacity};
 ghost use Rattle.indexmap.specs.IndexMap.{get, insert_entry};
+ghost use Rattle.zb_model.specs.Database.{IsRecord};
 ghost use Rattle.commit_phases.specs.Pending.{excess_with, size_of_stores, stores_after, with_pending, AreStores, AreStoredUnlessTooLong, IsOkUnlessTooLong};
 ghost use Rattle.commit_phases.specs.Kept.{put_back, restored, stores_of};
 
@@ -37,7 +38,7 @@ fn put_noting(
 ) -> Result<u64, PendingError>
     requires stores { AreStores (stores_of stores.old.entries) }
     requires size { size ≡ size_of_stores (stores_of stores.old.entries) }
-    requires filled { 0 < length store.bytes }
+    requires filled { IsRecord store.content }
     ensures answer { IsOkUnlessTooLong (excess_with (stores_of stores.old.entries) store) result }
     ensures ok { IfOk result
         (λ _. stores_of stores.new.entries ≡ with_pending (stores_of stores.old.entries) store) }
@@ -63,7 +64,7 @@ fn put_each(
 ) -> Result<u64, PendingError>
     requires stores { AreStores (stores_of stores.old.entries) }
     requires size { size ≡ size_of_stores (stores_of stores.old.entries) }
-    requires filled { All (λ p. 0 < length p.bytes) list }
+    requires filled { All (λ p. IsRecord p.content) list }
     ensures answer { AreStoredUnlessTooLong (stores_after (stores_of stores.old.entries) list)
         (stores_of stores.new.entries) result }
     ensures size { IfOk result (λ size. size ≡ size_of_stores (stores_of stores.new.entries)) }
@@ -124,7 +125,7 @@ pub(crate) fn put_all(
 ) -> Result<u64, PendingError>
     requires stores { AreStores (stores_of stores.old.entries) }
     requires size { size ≡ size_of_stores (stores_of stores.old.entries) }
-    requires filled { All (λ p. 0 < length p.bytes) list }
+    requires filled { All (λ p. IsRecord p.content) list }
     ensures answer { AreStoredUnlessTooLong (stores_after (stores_of stores.old.entries) list)
         (stores_of stores.new.entries) result }
     ensures size { IfOk result (λ size. size ≡ size_of_stores (stores_of stores.new.entries)) }

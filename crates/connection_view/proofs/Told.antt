@@ -2,14 +2,15 @@
 use Rattle.std.proofs.Common.{◌≡◌, ℕ, ◌≤◌, Bool, true, false, ◌||◌, List, [], Option, Some, None, Ok, refl, ◌∙◌, arith}
 use Rattle.object_cache.specs.declared.cache.CachedRevision.{CachedRevision}
 use Rattle.object_cache.specs.CachedLaws.{each_of_none}
+use Rattle.connection_view.specs.declared.connection.Connection.{Connection}
 use Rattle.connection_view.specs.declared.loads.FrontView.{FrontView}
 use Rattle.connection_view.specs.declared.named.Named.{Named}
-use Rattle.connection_view.specs.Views.{View, Client, Later, committed, current, is_news_of, renewed, unvoted, voting}
+use Rattle.connection_view.specs.Views.{View, Client, committed, current, is_news_of, renewed, unvoted, voting}
 use Rattle.connection_view.specs.Loading.{IsFront}
 use Rattle.connection_view.specs.ViewLaws.{later_later, later_same}
 use Rattle.connection_view.specs.Named.{CoversNamed, KeepsUnnamed, names}
 use Rattle.connection_view.specs.declared.work.Work.{Work}
-use Rattle.connection_view.specs.Connections.{CachesTold, CachesView, IsNewWork, IsInView, KeepsSight, SeesView, open_work}
+use Rattle.connection_view.specs.Connections.{Between, CachesTold, CachesView, IsNewWork, IsInView, KeepsSight, SeesView, open_work}
 
 or_both : (a b : Bool) → a ≡ false → b ≡ false → (a || b) ≡ false
 or_both a b h k = rw (h, k) refl
@@ -22,6 +23,10 @@ never_older c w r f = let k = f.known.front in omega (arith, f.front)
 
 pub told_none : (c : Client) (stale : Named) → CachesTold c stale []
 told_none c stale = each_of_none (λ oid serial bytes. names stale oid ≡ false → (c.own oid ≡ false) × (current c.told oid ≡ Some (serial, bytes)))
+
+-- what is cached is as before once the connection is closed
+pub told_closed : (k : Connection) (c : Client) → Between k c → Between (record k { is_open = false }) c
+told_closed k c between = record { none = between.none; unvoted = between.unvoted; cached = between.cached }
 
 -- ---- a front while no transaction is open, which applies the news
 

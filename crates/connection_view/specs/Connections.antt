@@ -1,5 +1,7 @@
 -- What a connection has of its client, and what its calls answer and leave. Source: `Connection` of ZODB; the order of the refusals is own.
 use Rattle.std.specs.Prelude.{◌≡◌, ◌⊎◌, ℕ, ◌+◌, List, [], ◌∷◌, ◌++◌, Option, Some, None, Result, Ok, Err, Bool, true, false, IsOk, length, if◌then◌else◌, not, ◌==◌, take, slice_get}
+use Rattle.zb_model.specs.declared.data.Content.{Content}
+use Rattle.zb_model.specs.declared.data.Content.TheVariants.{Held, Absent}
 use Rattle.zb_model.specs.declared.refusal.Refusal.{Refusal}
 use Rattle.zb_model.specs.declared.refusal.Refusal.TheVariants as refusal
 use Rattle.object_cache.specs.declared.cache.CachedRevision.{CachedRevision}
@@ -57,15 +59,19 @@ abbrev pub stored_unless : Work → PendingStore → Option ℕ → Result Work 
 stored_unless w p None = Ok (with_stores w (with_pending w.pending.stores p))
 stored_unless w p (Some length) = Err (refusal.TooLong length)
 
--- an object's bytes wait for the vote, unless a length passes a limit
+-- an object's store waits for the vote, unless a length passes a limit
 abbrev pub stored_in_work : PendingStore → Work → Result Work Refusal
 stored_in_work p w = stored_unless w p (excess_with w.pending.stores p)
+
+-- an object's delete waits for the vote
+abbrev pub deleted_in_work : ℕ → ℕ → Work → Result Work Refusal
+deleted_in_work oid base w = Ok (with_stores w (with_pending w.pending.stores (record { oid = oid; base = base; content = Absent })))
 
 abbrev pub stored_all_as : Work → Result (List PendingStore) ℕ → Result Work Refusal
 stored_all_as w (Ok stores) = Ok (with_stores w stores)
 stored_all_as w (Err length) = Err (refusal.TooLong length)
 
--- the bytes of several objects wait for the vote, unless a length passes a limit
+-- several stores and deletes wait for the vote, unless a length passes a limit
 abbrev pub stored_all : List PendingStore → Work → Result Work Refusal
 stored_all stores w = stored_all_as w (stores_after w.pending.stores stores)
 
@@ -85,7 +91,7 @@ rolled_back_to w number (Some pending) = Ok (record w { pending = pending; savep
 abbrev pub rolled_back : ℕ → Work → Result Work Refusal
 rolled_back number w = rolled_back_to w number (slice_get w.savepoints number)
 
--- how many stores and checks wait
+-- how many stores, deletes and checks wait
 abbrev pub waiting_count : PendingChanges → ℕ
 waiting_count pending = length pending.stores + length pending.checks
 
@@ -188,6 +194,16 @@ IsFrontBy makes old new result = (answer : Result FrontView Refusal) × makes ol
 abbrev pub IsCallMade : {S T : Type 0} → (S → LoadsCall → S → Type 0) → S → S → LoadsCall → Result T Refusal → Type 0
 IsCallMade makes old new call result = makes old call new ⊎ ((new ≡ old) × (result ≡ Err refusal.Memory))
 
+-- ---- what waits under an object
+
+-- what is answered of it: its base and its bytes, or that the object is missing, where it is deleted
+abbrev pub waiting_as : ℕ → ℕ → Content → Result (ℕ × List ℕ) Refusal
+waiting_as oid base (Held bytes) = Ok (base, bytes)
+waiting_as oid base Absent = Err (refusal.Missing oid false)
+
+abbrev pub waiting_read : ℕ → PendingStore → Result (ℕ × List ℕ) Refusal
+waiting_read oid p = waiting_as oid p.base p.content
+
 -- ---- what is put
 
 -- the base of what is put, by what is read: the serial, or 0 where the object is missing and never was there
@@ -201,5 +217,5 @@ pub record IsPutAsRead {S : Type 0} (makes : S → LoadsCall → S → Type 0) (
   pub read : Result (ℕ × List ℕ) Refusal
   pub reads : (u : View) (c : Client) → stands c → InView old u c → Reads u state oid read
   pub made : IsReadBy makes before after oid w.front w.switches read
-  pub leaves : LeavesWork (followed_by (base_read read) (λ base. stored_in_work (record { oid = oid; base = base; bytes = bytes }) w)) (work_of old) (work_of new) result
+  pub leaves : LeavesWork (followed_by (base_read read) (λ base. stored_in_work (record { oid = oid; base = base; content = Held bytes }) w)) (work_of old) (work_of new) result
   pub refused : (r : Refusal) → base_read read ≡ Err r → result ≡ Err r

@@ -5,6 +5,8 @@ use Rattle.zb_model.specs.declared.pending.PendingStore.{PendingStore}
 use Rattle.zb_model.specs.declared.pending.PendingCheck.{PendingCheck}
 use Rattle.zb_model.specs.declared.refusal.Refusal.{Refusal}
 use Rattle.zb_model.specs.declared.refusal.Refusal.TheVariants as refusal
+use Rattle.zb_model.specs.Database.{IsRecord}
+use Rattle.commit_phases.specs.Pending.{length_of_content}
 use Rattle.connection_view.specs.declared.loads.FrontView.{FrontView}
 use Rattle.connection_view.specs.declared.loads.Loaded.{Loaded}
 use Rattle.connection_view.specs.declared.loads.Loaded.TheVariants as loaded
@@ -83,12 +85,13 @@ Reads v s oid (Err r) = IsReadRefused v s oid r
 
 -- ---- votes
 
--- stores that a vote may be asked of: each object once, no empty bytes, none past the limit of an object, and all within that of a transaction
+-- stores and deletes that a vote may be asked of: each object once, no empty record, none past the limit of an object, and all within that of a
+-- transaction
 pub record AreVotable (stores : List PendingStore) : Type 0 where
   pub distinct : IsDistinct nat_eq (map (λ p. p.oid) stores)
-  pub filled : All (λ p. 0 < length p.bytes) stores
-  pub short : All (λ p. length p.bytes ≤ 2 ^ 24) stores
-  pub within : sum_by (λ p. length p.bytes) stores ≤ 2 ^ 26
+  pub filled : All (λ p. IsRecord p.content) stores
+  pub short : All (λ p. length_of_content p.content ≤ 2 ^ 24) stores
+  pub within : sum_by (λ p. length_of_content p.content) stores ≤ 2 ^ 26
 
 -- a text that a transaction may have
 abbrev pub IsShortText : List ℕ → Type 0

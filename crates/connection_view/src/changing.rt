@@ -3,9 +3,11 @@
 ghost use Rattle.std.specs.Prelude.{◌≡◌, ◌<◌, ◌⊎◌, All, Err, IfErr, IfOk, IsOk, Ok, OnOk, length};
 ghost use Rattle.std.specs.Option.{option_map};
 ghost use Rattle.commit_phases.specs.Pending.{pending_of};
+ghost use Rattle.zb_model.specs.declared.data.Content.TheVariants.{Held};
+ghost use Rattle.zb_model.specs.Database.{IsRecord};
 ghost use Rattle.zb_model.specs.declared.refusal.Refusal.TheVariants as refusal;
 ghost use Rattle.connection_view.specs.declared.work.Work.{Work};
-ghost use Rattle.connection_view.specs.Connections.{KeepsSight, LeavesWork, followed_by, base_read, changeable, checked_in_work, open_work, rolled_back, saved, stored_in_work, stored_all, unmixed, unvoted_work};
+ghost use Rattle.connection_view.specs.Connections.{KeepsSight, LeavesWork, followed_by, base_read, changeable, checked_in_work, deleted_in_work, open_work, rolled_back, saved, stored_in_work, stored_all, unmixed, unvoted_work};
 ghost use Rattle.connection_view.specs.Loading.{AreVotable};
 
 use crate::work::Work;
@@ -18,7 +20,7 @@ use zb_model::{PendingCheck, PendingStore, Refusal};
 fn store(work: &mut Work, oid: Oid, base: Tid, bytes: Text8) -> Result<(), Refusal>
     requires filled { 0 < length bytes }
     ensures leaves { LeavesWork (followed_by (changeable (Ok work.old)) (stored_in_work
-        (record { oid = oid; base = base; bytes = bytes })))
+        (record { oid = oid; base = base; content = Held bytes })))
         (Ok work.old) (Ok work.new) result }
 {
     if work.is_voted {
@@ -31,9 +33,23 @@ fn store(work: &mut Work, oid: Oid, base: Tid, bytes: Text8) -> Result<(), Refus
     }
 }
 
-/// The bytes of several objects wait for the vote of this transaction: all of them, or none.
+/// An object's delete waits for the vote of this transaction.
+fn delete(work: &mut Work, oid: Oid, base: Tid) -> Result<(), Refusal>
+    ensures leaves { LeavesWork (followed_by (changeable (Ok work.old)) (deleted_in_work oid base))
+        (Ok work.old) (Ok work.new) result }
+{
+    if work.is_voted {
+        return Err(Refusal::Voted);
+    }
+    match work.pending.delete(oid, base) {
+        Ok(()) => Ok(()),
+        Err(_) => Err(Refusal::Memory),
+    }
+}
+
+/// Several stores and deletes wait for the vote of this transaction: all of them, or none.
 fn store_all(work: &mut Work, stores: ListOf<PendingStore>) -> Result<(), Refusal>
-    requires filled { All (λ p. 0 < length p.bytes) stores }
+    requires filled { All (λ p. IsRecord p.content) stores }
     ensures leaves { LeavesWork (followed_by (changeable (Ok work.old)) (stored_all stores)) (Ok work.old)
         (Ok work.new) result }
 {
@@ -104,7 +120,7 @@ pub(crate) fn store_in(
 ) -> Result<(), Refusal>
     requires filled { 0 < length bytes }
     ensures leaves { LeavesWork (followed_by (changeable (open_work is_open work.old)) (stored_in_work
-        (record { oid = oid; base = base; bytes = bytes })))
+        (record { oid = oid; base = base; content = Held bytes })))
         (open_work is_open work.old) (open_work is_open work.new) result }
     ensures sight { KeepsSight work.old work.new }
 {
@@ -117,13 +133,33 @@ pub(crate) fn store_in(
     }
 }
 
-/// The bytes of several objects wait for the vote of an open transaction: all of them, or none.
+/// An object's delete waits for the vote of an open transaction.
+pub(crate) fn delete_in(
+    is_open: bool,
+    work: &mut Option<Work>,
+    oid: Oid,
+    base: Tid,
+) -> Result<(), Refusal>
+    ensures leaves { LeavesWork (followed_by (changeable (open_work is_open work.old)) (deleted_in_work oid base))
+        (open_work is_open work.old) (open_work is_open work.new) result }
+    ensures sight { KeepsSight work.old work.new }
+{
+    if !is_open {
+        return Err(Refusal::NotOpen);
+    }
+    match work {
+        Some(work) => delete(work, oid, base),
+        None => Err(Refusal::NoTransaction),
+    }
+}
+
+/// Several stores and deletes wait for the vote of an open transaction: all of them, or none.
 pub(crate) fn store_all_in(
     is_open: bool,
     work: &mut Option<Work>,
     stores: ListOf<PendingStore>,
 ) -> Result<(), Refusal>
-    requires filled { All (λ p. 0 < length p.bytes) stores }
+    requires filled { All (λ p. IsRecord p.content) stores }
     ensures leaves { LeavesWork (followed_by (changeable (open_work is_open work.old)) (stored_all stores))
         (open_work is_open work.old) (open_work is_open work.new) result }
     ensures sight { KeepsSight work.old work.new }
@@ -194,7 +230,7 @@ pub(crate) fn roll_back_in(
     }
 }
 
-/// What waits for the vote in an open transaction that isn't voted: the stores and the checks.
+/// What waits for the vote in an open transaction that isn't voted: the stores and deletes, and the checks.
 pub(crate) fn parts_in(
     is_open: bool,
     work: &Option<Work>,

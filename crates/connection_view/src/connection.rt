@@ -52,19 +52,22 @@ impl Connection {
         })
     }
 
-    /// Closes the connection: each later call is refused `NotOpen`. Its session is closed by a step of its own.
+    /// Closes the connection: each later call is refused `NotOpen`. Its transaction and all that is cached are dropped.
+    /// Its session is closed by a step of its own.
     pub fn close(&mut self)
-        ensures { work_of self.new ≡ Err refusal.NotOpen }
+        ensures closed { work_of self.new ≡ Err refusal.NotOpen }
+        ensures between { (c : Client) → ((oid : ℕ) → c.voted oid ≡ false) → Between self.new c }
     {
+        self.clear();
         self.is_open = false;
-        self.work = None;
     }
 
-    /// Drops the open transaction, if there is one, and all that is cached. No call is made: this is for a client
-    /// whose session is closed by a step of its own.
+    /// Drops the open transaction, if there is one, and all that is cached; a closed connection stays closed. No call
+    /// is made: this is for a client whose session is closed by a step of its own.
     #[tactic(auto, using(crate::proofs::Told::told_none))]
     pub fn clear(&mut self)
         ensures none { (work_of self.old ≢ Err refusal.NotOpen) → work_of self.new ≡ Err refusal.NoTransaction }
+        ensures closed { work_of self.old ≡ Err refusal.NotOpen → work_of self.new ≡ Err refusal.NotOpen }
         ensures between { (c : Client) → ((oid : ℕ) → c.voted oid ≡ false) → Between self.new c }
     {
         self.work = None;

@@ -92,7 +92,7 @@ pub trait Loads {
         ensures makes { makes self.old (NewOid result) self.new }
         ensures place { place self.new ≡ place self.old };
 
-    /// Votes on stores and checks. Where it is refused, the session may hold a vote on them all the same, if the
+    /// Votes on stores, deletes and checks. Where it is refused, the session may hold a vote on them all the same, if the
     /// way to the server failed.
     fn vote(
         &mut self,

@@ -1,6 +1,8 @@
 //! Calls that read and change what waits in the open transaction.
 
 ghost use Rattle.std.specs.Prelude.{◌≡◌, ◌<◌, ◌⊎◌, All, Err, IfOk, None, Ok, Some, false, length};
+ghost use Rattle.zb_model.specs.declared.data.Content.TheVariants.{Held};
+ghost use Rattle.zb_model.specs.Database.{IsRecord};
 ghost use Rattle.zb_model.specs.declared.pending.PendingStore.{PendingStore};
 ghost use Rattle.zb_model.specs.declared.refusal.Refusal.{Refusal};
 ghost use Rattle.zb_model.specs.declared.refusal.Refusal.TheVariants as refusal;
@@ -8,23 +10,39 @@ ghost use Rattle.commit_phases.specs.Pending.{pending_of};
 ghost use Rattle.connection_view.specs.Loading.{Reads};
 ghost use Rattle.connection_view.specs.declared.work.Work.{Work};
 ghost use Rattle.connection_view.specs.Views.{Client, View};
-ghost use Rattle.connection_view.specs.Connections.{Between, InView, IsPutAsRead, IsReadBy, LeavesWork, followed_by, changeable, checked_in_work, rolled_back, saved, stored_in_work, stored_all, work_of};
+ghost use Rattle.connection_view.specs.Connections.{Between, InView, IsPutAsRead, IsReadBy, LeavesWork, followed_by, changeable, checked_in_work, deleted_in_work, rolled_back, saved, stored_in_work, stored_all, waiting_read, work_of};
 
 use crate::changing::{
-    base_in, base_read, check_in, roll_back_in, save_in, store_all_in, store_in, waiting_in,
+    base_in, base_read, check_in, delete_in, roll_back_in, save_in, store_all_in, store_in,
+    waiting_in,
 };
 use crate::connection::Connection;
 use crate::loads::Loads;
 use zb_ids::{ListOf, Oid, Text8, Tid};
-use zb_model::{PendingStore, Refusal};
+use zb_model::{Content, PendingStore, Refusal};
+
+/// What is answered of what waits under an object.
+fn waiting_read(oid: Oid, store: PendingStore) -> Result<(Tid, Text8), Refusal>
+    ensures { result ≡ waiting_read oid store }
+{
+    let PendingStore {
+        oid: _,
+        base,
+        content,
+    } = store;
+    match content {
+        Content::Held(bytes) => Ok((base, bytes)),
+        Content::Absent => Err(Refusal::Missing { oid, packed: false }),
+    }
+}
 
 impl Connection {
-    /// What waits under an object in the open transaction, with its base as its serial, or else what the object has in
-    /// the view, as `load` answers it.
+    /// What waits under an object in the open transaction: its bytes with its base as their serial, or `Missing` with
+    /// `false` where a delete waits there; or else what the object has in the view, as `load` answers it.
     pub fn get<L: Loads>(&mut self, loads: &mut L, oid: Oid) -> Result<(Tid, Text8), Refusal>
         ensures waiting { (w : Work) (p : PendingStore) → work_of self.old ≡ Ok w
             → pending_of w.pending.stores oid ≡ Some p
-            → ((result ≡ Ok (p.base, p.bytes)) ⊎ (result ≡ Err refusal.Memory)) × (loads.new ≡ loads.old) }
+            → ((result ≡ waiting_read oid p) ⊎ (result ≡ Err refusal.Memory)) × (loads.new ≡ loads.old) }
         ensures reads { (w : Work) → work_of self.old ≡ Ok w → pending_of w.pending.stores oid ≡ None
             → (u : View) (c : Client) → L.stands loads.old c → InView self.old u c
             → Reads u (L.state loads.old) oid result }
@@ -32,7 +50,7 @@ impl Connection {
         ensures between { (c : Client) → Between self.old c → Between self.new c }
         ensures stands { (c : Client) → L.stands loads.old c → L.stands loads.new c }
         ensures refused { (r : Refusal) → work_of self.old ≡ Err r → (result ≡ Err r) × (loads.new ≡ loads.old) }
-        ensures makes { (w : Work) → work_of self.old ≡ Ok w
+        ensures makes { (w : Work) → work_of self.old ≡ Ok w → pending_of w.pending.stores oid ≡ None
             → IsReadBy L.makes loads.old loads.new oid w.front w.switches result }
         ensures work { work_of self.new ≡ work_of self.old }
         ensures state { L.told → L.state loads.new ≡ L.state loads.old }
@@ -43,13 +61,7 @@ impl Connection {
             Ok(store) => store,
         };
         match store {
-            Some(
-                PendingStore {
-                    oid: _,
-                    base,
-                    bytes,
-                },
-            ) => Ok((base, bytes)),
+            Some(store) => waiting_read(oid, store),
             None => self.load(loads, oid),
         }
     }
@@ -63,7 +75,7 @@ impl Connection {
         requires filled { 0 < length bytes }
         ensures waiting { (w : Work) (p : PendingStore) → changeable (work_of self.old) ≡ Ok w
             → pending_of w.pending.stores oid ≡ Some p
-            → LeavesWork (stored_in_work (record { oid = oid; base = p.base; bytes = bytes }) w) (work_of self.old)
+            → LeavesWork (stored_in_work (record { oid = oid; base = p.base; content = Held bytes }) w) (work_of self.old)
             (work_of self.new) result × (loads.new ≡ loads.old) }
         ensures reads { (w : Work) → changeable (work_of self.old) ≡ Ok w → pending_of w.pending.stores oid ≡ None
             → IsPutAsRead L.makes (L.stands loads.old)
@@ -95,7 +107,7 @@ impl Connection {
     fn set(&mut self, oid: Oid, base: Tid, bytes: Text8) -> Result<(), Refusal>
         requires filled { 0 < length bytes }
         ensures leaves { LeavesWork (followed_by (changeable (work_of self.old)) (stored_in_work
-            (record { oid = oid; base = base; bytes = bytes })))
+            (record { oid = oid; base = base; content = Held bytes })))
             (work_of self.old) (work_of self.new) result }
         ensures view { (u : View) (c : Client) → InView self.old u c → InView self.new u c }
         ensures between { (c : Client) → Between self.old c → Between self.new c }
@@ -115,7 +127,7 @@ impl Connection {
     ) -> Result<(), Refusal>
         requires filled { 0 < length bytes }
         ensures leaves { LeavesWork (followed_by (changeable (work_of self.old)) (stored_in_work
-            (record { oid = oid; base = base; bytes = bytes })))
+            (record { oid = oid; base = base; content = Held bytes })))
             (work_of self.old) (work_of self.new) result }
         ensures view { (u : View) (c : Client) → InView self.old u c → InView self.new u c }
         ensures between { (c : Client) → Between self.old c → Between self.new c }
@@ -124,10 +136,26 @@ impl Connection {
         self.set(oid, base, bytes)
     }
 
-    /// The bytes of several objects wait for the vote, one after another as `store` takes them: all of them, or none.
+    /// An object's delete waits for the vote, as made from its revision with the serial `base`; where something waits
+    /// under the object already, the delete takes its place, and its base stays. `NotOpen`, `NoTransaction` and `Voted`
+    /// come first; it is never `TooLong`. What is refused leaves the transaction as it was. Whether the object is there
+    /// to be deleted shows at the vote.
+    #[tactic(auto, using(crate::proofs::Told::sight_kept, crate::proofs::Told::none_kept))]
+    pub fn delete<L: Loads>(&mut self, _loads: &mut L, oid: Oid, base: Tid) -> Result<(), Refusal>
+        ensures leaves { LeavesWork (followed_by (changeable (work_of self.old)) (deleted_in_work oid base))
+            (work_of self.old) (work_of self.new) result }
+        ensures view { (u : View) (c : Client) → InView self.old u c → InView self.new u c }
+        ensures between { (c : Client) → Between self.old c → Between self.new c }
+        ensures loads { _loads.new ≡ _loads.old }
+    {
+        delete_in(self.is_open, &mut self.work, oid, base)
+    }
+
+    /// Several stores and deletes wait for the vote, one after another as `store` and `delete` take them: all of them, or
+    /// none.
     #[tactic(auto, using(crate::proofs::Told::sight_kept, crate::proofs::Told::none_kept))]
     pub fn store_all(&mut self, stores: ListOf<PendingStore>) -> Result<(), Refusal>
-        requires filled { All (λ p. 0 < length p.bytes) stores }
+        requires filled { All (λ p. IsRecord p.content) stores }
         ensures leaves { LeavesWork (followed_by (changeable (work_of self.old)) (stored_all stores))
             (work_of self.old) (work_of self.new) result }
         ensures view { (u : View) (c : Client) → InView self.old u c → InView self.new u c }

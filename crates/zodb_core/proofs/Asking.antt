@@ -184,6 +184,9 @@ vote_refused_with : {R F : Type 0} (rules : Rules) (m : Machine) (n : ℕ) (user
 vote_refused_with rules m n user description extension pending (vote_refusal.Conflict oid base current reason) old new stamps early is cause later left =
     decided_refused rules m n (request.Vote user description extension pending) (record { user = user; description = description; extension = extension }) (refusal.Conflict oid base current reason) old new stamps early
     (vote_gives rules m n user description extension pending (refusal.Conflict oid base current reason) is) refl later left
+vote_refused_with rules m n user description extension pending (vote_refusal.NothingToDelete oid current) old new stamps early is cause later left =
+    decided_refused rules m n (request.Vote user description extension pending) (record { user = user; description = description; extension = extension }) (refusal.NothingToDelete oid current) old new stamps early
+    (vote_gives rules m n user description extension pending (refusal.NothingToDelete oid current) is) refl later left
 vote_refused_with rules m n user description extension pending (vote_refusal.ReadConflict oid base current) old new stamps early is cause later left =
     decided_refused rules m n (request.Vote user description extension pending) (record { user = user; description = description; extension = extension }) (refusal.ReadConflict oid base current) old new stamps early
     (vote_gives rules m n user description extension pending (refusal.ReadConflict oid base current) is) refl later left

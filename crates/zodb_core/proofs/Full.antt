@@ -10,7 +10,7 @@ use Rattle.zb_model.specs.declared.found.Found.{Found}
 use Rattle.zb_model.specs.declared.found.Found.TheVariants as found
 use Rattle.zb_model.specs.declared.refusal.Refusal.{Refusal}
 use Rattle.zb_model.specs.declared.refusal.Refusal.TheVariants as refusal
-use Rattle.zb_model.specs.Database.{newest_tid}
+use Rattle.zb_model.specs.Database.{IsDatabase, newest_tid}
 use Rattle.zb_model.specs.Queries.{found_below}
 use Rattle.commit_phases.specs.Decision.{vote_decision}
 use Rattle.undo_records.specs.Undone.{undone_of}
@@ -18,11 +18,11 @@ use Rattle.zodb_core.specs.declared.reply.Reply.TheVariants as reply
 use Rattle.zodb_core.specs.declared.request.Request.{Request}
 use Rattle.zodb_core.specs.declared.request.Request.TheVariants as request
 use Rattle.zodb_core.specs.declared.texts.Texts.{Texts}
-use Rattle.zodb_core.specs.DecisionLaws.{AnswersIfSome, IsDecidedOnce, IsOrdinary, is_full, ordinary_decision, undo_decided, vote_decided}
+use Rattle.zodb_core.specs.DecisionLaws.{AnswersIfSome, IsDecidedSound, is_full, undo_decided, vote_decided}
 use Rattle.zodb_core.specs.Laws.{JournalIsFull, OverfillsJournal, changes_asked}
 use Rattle.zodb_core.specs.Machine.{Machine, MachineVote, Rules}
 use Rattle.zodb_core.specs.Outcomes.{is_pack}
-use Rattle.zodb_core.specs.Sound.{IsDistinctRequest}
+use Rattle.zodb_core.specs.Sound.{IsWellFormedRequest}
 use Rattle.zodb_core.specs.StepCases.{PackCases, by_pack_step, early_answers}
 use Rattle.zodb_core.specs.Steps.{Stepped, changes_in_journal, changes_undone, early_refusal, finish_gives, finish_step, journal_limit, loaded, replied_refusal, request_step, step_of, unless_early, vote_at, vote_counted, vote_step, with_vote, transaction_with}
 
@@ -30,12 +30,11 @@ use Rattle.zodb_core.specs.Steps.{Stepped, changes_in_journal, changes_undone, e
 abbrev IsFullReply : ℕ → Stepped → Type 0
 IsFullReply count s = s.reply ≡ reply.Refused (refusal.JournalFull count)
 
--- no ordinary refusal says so
-not_full : (r : Refusal) (count : ℕ) → IsOrdinary r → reply.Refused r ≡ reply.Refused (refusal.JournalFull count) → ⊥
-not_full r count ordinary is =
+-- no other refusal says so
+not_full : (r : Refusal) (count : ℕ) → is_full r ≡ false → reply.Refused r ≡ reply.Refused (refusal.JournalFull count) → ⊥
+not_full r count other is =
     let same : r ≡ refusal.JournalFull count = cc in
     let full : is_full r ≡ true = ap is_full same in
-    let other : is_full r ≡ false = ordinary.1 in
     cc
 
 -- ---- where a step says so
@@ -65,11 +64,11 @@ counted_full m n texts c changes stamp count = by_cases (ltb journal_limit (chan
     by_cases true e is = overfills m c changes count is (ltb-true journal_limit (changes_in_journal m.journal + length (c ∷ changes)) e)
     by_cases false e is = absurd (at_full m n texts (c ∷ changes) (tid_after (newest_tid m.list) stamp) count is)
 
-vote_full : (m : Machine) (n : ℕ) (texts : Texts) (stamp count : ℕ) (distinct : Type 0) (decided : Result (List Change) Refusal) → IsDecidedOnce distinct decided
+vote_full : (m : Machine) (n : ℕ) (texts : Texts) (stamp count : ℕ) (premise : Type 0) (decided : Result (List Change) Refusal) → IsDecidedSound premise decided
     → IsFullReply count (vote_step m n texts stamp decided) → OverfillsJournal m (result_ok decided) count
-vote_full m n texts stamp count distinct (Err r) once is = absurd (not_full r count (ordinary_decision r once) is)
-vote_full m n texts stamp count distinct (Ok []) once is = absurd cc
-vote_full m n texts stamp count distinct (Ok (c ∷ changes)) once is = counted_full m n texts c changes stamp count is
+vote_full m n texts stamp count premise (Err r) once is = absurd (not_full r count once.1 is)
+vote_full m n texts stamp count premise (Ok []) once is = absurd cc
+vote_full m n texts stamp count premise (Ok (c ∷ changes)) once is = counted_full m n texts c changes stamp count is
 
 loaded_full : (m : Machine) (oid count : ℕ) (f : Found) → loaded m oid f ≡ reply.Refused (refusal.JournalFull count) → ⊥
 loaded_full m oid count (found.Held serial bytes end) is = cc
@@ -87,13 +86,13 @@ finish_full m n count (Some v) is = writes_full m n count v.writes is
 -- no request on a pack is answered so
 pack_cases : (named : List ℕ → Option (List ℕ)) (m : Machine) (n : ℕ) (q : Request) (count : ℕ) → PackCases (λ s. IsFullReply count s → ⊥) named m n q
 pack_cases named m n q count = record {
-  refused = λ r answers is. not_full r count answers is;
+  refused = λ r answers is. not_full r count answers.1 is;
   begun = λ t collects none below is. cc;
   marking = λ p done there is. cc;
   marked = λ p there none is. cc;
   copying = λ p k copied done there copying is. cc;
   copied = λ p k copied done there copying is. cc;
-  lost = λ r answers is. not_full r count answers is;
+  lost = λ r answers is. not_full r count answers.1 is;
   packed = λ g goal free below is. cc;
 }
 
@@ -102,10 +101,10 @@ request_full rules m n request.Front stamp count not is = absurd cc
 request_full rules m n (request.LoadBefore oid front) stamp count not is = absurd (loaded_full m oid count (found_below oid front m.list) is)
 request_full rules m n (request.NewOids k) stamp count not is = absurd cc
 request_full rules m n (request.Vote user description extension pending) stamp count not is =
-    vote_full m n (record { user = user; description = description; extension = extension }) stamp count (IsDistinctRequest (request.Vote user description extension pending))
+    vote_full m n (record { user = user; description = description; extension = extension }) stamp count (IsDatabase m.list × IsWellFormedRequest (request.Vote user description extension pending))
     (vote_decision rules.merging m.list pending) (vote_decided rules.merging m.list pending) is
 request_full rules m n (request.Undo user description tids) stamp count not is =
-    vote_full m n (record { user = user; description = description; extension = [] }) stamp count (IsDistinctRequest (request.Undo user description tids))
+    vote_full m n (record { user = user; description = description; extension = [] }) stamp count (IsDatabase m.list × IsWellFormedRequest (request.Undo user description tids))
     (changes_undone m.list (undone_of rules.merging m.list tids)) (undo_decided rules.merging m.list tids) is
 request_full rules m n request.Finish stamp count not is = absurd (finish_full m n count m.vote is)
 request_full rules m n request.Abort stamp count not is = absurd cc
@@ -120,7 +119,7 @@ request_full rules m n request.Close stamp count not is = absurd cc
 
 early_full : (m : Machine) (count : ℕ) (early : Option Refusal) (made : Stepped) → AnswersIfSome early → IsFullReply count (unless_early early m made) → (early ≡ None) × IsFullReply count made
 early_full m count None made answers is = (refl, is)
-early_full m count (Some r) made answers is = absurd (not_full r count answers is)
+early_full m count (Some r) made answers is = absurd (not_full r count answers.1 is)
 
 -- ---- and that it says so there
 

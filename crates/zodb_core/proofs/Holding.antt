@@ -24,13 +24,12 @@ use Rattle.zodb_core.specs.declared.open_pack.HubPack.{HubPack}
 use Rattle.zodb_core.specs.declared.reply.Reply.{Reply}
 use Rattle.zodb_core.specs.declared.reply.Reply.TheVariants as reply
 use Rattle.zodb_core.specs.declared.request.Request.{Request}
-use Rattle.zodb_core.specs.declared.session.Session.{Session}
 use Rattle.zodb_core.specs.declared.texts.Texts.{Texts}
 use Rattle.zodb_core.specs.declared.vote.HubVote.{HubVote}
 use Rattle.zodb_core.specs.declared.vote.VotedEntry.{VotedEntry}
 use Rattle.zodb_core.specs.Holding.{IsNextTid, VotesFor, tid_if_left}
 use Rattle.zodb_core.specs.HubState.{HubState, IsEntryOf, HubKeeps, IsClockRead, MakesStep, MakesStepAt, StandsForMachine, StepsSafely, counts_of, vote_of_hub, sessions_with}
-use Rattle.zodb_core.specs.Machine.{Machine, MachineVote, Rules, switches_of}
+use Rattle.zodb_core.specs.Machine.{Machine, MachineSession, MachineVote, Rules, switches_of}
 use Rattle.zodb_core.specs.Outcomes.{Answered, AreLaterCounts, FaultCounts, failed, holds_writes, machine_left, outcome_of, unanswered}
 use Rattle.zodb_core.specs.Replies.{fault_reply}
 use Rattle.zodb_core.specs.Steps.{Stepped, changes_in_journal, journal_limit, replied_refusal, replied, step_of, transaction_with, vote_at, vote_counted, vote_step, with_vote}
@@ -332,7 +331,7 @@ entry_same : (e : VotedEntry) (list : List Transaction) (new : NewTransaction) (
 entry_same e list new voted is tid oids = subst (IsEntryOf (Some e)) (sym is) (tid, oids ∙ voted_oids list new)
 
 -- what a hub keeps, once a transaction is voted
-pub kept_voted : (told : Type 0) (s t : StoreState) (one entries : List JournalEntry) (before capacity changes switches : ℕ) (sessions : List Session) (vote : Option HubVote) (pack : Option HubPack) (has_failed : Bool) (named : List ℕ → Option (List ℕ)) (n : ℕ) (e : VotedEntry) (new : NewTransaction)
+pub kept_voted : (told : Type 0) (s t : StoreState) (one entries : List JournalEntry) (before capacity changes switches : ℕ) (sessions : List MachineSession) (vote : Option HubVote) (pack : Option HubPack) (has_failed : Bool) (named : List ℕ → Option (List ℕ)) (n : ℕ) (e : VotedEntry) (new : NewTransaction)
     → HubKeeps told s one before changes switches sessions vote pack has_failed named → entries ≡ one → s.broken ≡ false → t.broken ≡ false → length entries < capacity → changes + length new.changes ≤ journal_limit
     → is_some t.voted ≡ true → e.tid ≡ new.tid → e.oids ≡ map (λ c. c.oid) new.changes → (told → t.voted ≡ Some (voted_of s.list new))
     → KeepsBegun told s t → (told → t.list ≡ s.list) → t.newest ≡ s.newest → ForSome t.voted (λ x. x.tid ≡ new.tid) → s.newest < new.tid

@@ -1,13 +1,14 @@
 pub mod Asking
 pub mod Behind
 pub mod Copies
+pub mod Current
 pub mod Full
 pub mod Holding
 pub mod Keeping
-pub mod Late
 pub mod Lawful
 pub mod Legal
 pub mod Marks
+pub mod Refused
 pub mod Stepping
 pub mod Switches
 pub mod Switching

@@ -18,12 +18,11 @@ use Rattle.zodb_core.specs.declared.reply.Reply.{Reply}
 use Rattle.zodb_core.specs.declared.reply.Reply.TheVariants as reply
 use Rattle.zodb_core.specs.declared.request.Request.{Request}
 use Rattle.zodb_core.specs.declared.request.Request.TheVariants as request
-use Rattle.zodb_core.specs.declared.session.Session.{Session}
 use Rattle.zodb_core.specs.declared.open_pack.HubCopying.{HubCopying}
 use Rattle.zodb_core.specs.declared.open_pack.HubPack.{HubPack}
 use Rattle.zodb_core.specs.HubState.{HasTicked, HubState, IsWithin, MakesStep, MakesStepAt, StandsForMachine, StepsByClock, copying_of_hub, counts_of, pack_of_hub, pack_with, unless_broken, vote_of_hub, sessions_with}
 use Rattle.zodb_core.specs.Entries.{made_unread}
-use Rattle.zodb_core.specs.Machine.{Machine, OpenPack, PackCopying, Rules, front_of, is_open_in, switches_of}
+use Rattle.zodb_core.specs.Machine.{Machine, MachineSession, OpenPack, PackCopying, Rules, front_of, is_open_in, switches_of}
 use Rattle.zodb_core.specs.Outcomes.{Answered, AreLaterCounts, EndsFor, FaultCounts, IsStepMade, MayGoWrong, NoMemory, StepOutcome, ReadingFailed, StoreFailed, is_pack, machine_left, outcome_of, reads_store, takes_memory, unanswered}
 use Rattle.zodb_core.specs.Replies.{fault_reply, loaded_reply}
 use Rattle.zodb_core.specs.Steps.{Stepped, early_refusal, loaded, refuse_if, replied, request_refusal, step_of, without_pack}
@@ -101,8 +100,8 @@ sessions_whole m hub stands whole = stands.sessions ∙ ap (λ (b : Bool). sessi
 -- ---- how a step ends
 
 -- a session that is open is refused what its request is
-pub not_early : (m : Machine) (n : ℕ) (q : Request) (sessions : List Session) → m.sessions ≡ sessions → is_open_in sessions n ≡ true → early_refusal m n q ≡ request_refusal m n q
-not_early m n q sessions same is_open = ap (λ (b : Bool). option_or (refuse_if (not b) refusal.NotOpen) (request_refusal m n q)) (ap (λ (xs : List Session). is_open_in xs n) same ∙ is_open)
+pub not_early : (m : Machine) (n : ℕ) (q : Request) (sessions : List MachineSession) → m.sessions ≡ sessions → is_open_in sessions n ≡ true → early_refusal m n q ≡ request_refusal m n q
+not_early m n q sessions same is_open = ap (λ (b : Bool). option_or (refuse_if (not b) refusal.NotOpen) (request_refusal m n q)) (ap (λ (xs : List MachineSession). is_open_in xs n) same ∙ is_open)
 
 pub ends_answered : (rules : Rules) (m : Machine) (n : ℕ) (q : Request) (stamp : ℕ) (made : Stepped) (before now : FaultCounts) (o : StepOutcome) → o ≡ Answered → made ≡ step_of rules m n q stamp → EndsFor rules m n q stamp made before now o
 ends_answered rules m n q stamp made before now Answered is same = same

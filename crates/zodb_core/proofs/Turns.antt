@@ -17,11 +17,10 @@ use Rattle.zodb_core.specs.declared.journal.JournalEntry.{JournalEntry}
 use Rattle.zodb_core.specs.declared.open_pack.HubPack.{HubPack}
 use Rattle.zodb_core.specs.declared.reply.Reply.TheVariants as reply
 use Rattle.zodb_core.specs.declared.request.Request.TheVariants as request
-use Rattle.zodb_core.specs.declared.session.Session.{Session}
 use Rattle.zodb_core.specs.declared.vote.HubVote.{HubVote}
 use Rattle.zodb_core.specs.Holding.{is_fault}
 use Rattle.zodb_core.specs.HubState.{HasVotedWrites, HubKeeps, HubState, IsEntryOf, IsWithin, KeepsPack, MakesStep, StandsForMachine, StepsSafely, copying_of_hub, counts_of, pack_of_hub, pack_with, sessions_with, unless_broken, vote_of_hub, writes_of}
-use Rattle.zodb_core.specs.Machine.{Machine, OpenPack, Rules, is_open_in}
+use Rattle.zodb_core.specs.Machine.{Machine, MachineSession, OpenPack, Rules, is_open_in}
 use Rattle.zodb_core.specs.Outcomes.{AreLaterCounts, is_pack_going}
 use Rattle.zodb_core.specs.Packing.{TakesTurnOf, running}
 use Rattle.zodb_core.specs.PacksGoOn.{none_voted}
@@ -104,7 +103,7 @@ later_kept (Some a) (Some b) before now same newest later = λ t there.
     subst (λ (x : Transaction). now < x.tid) is (omega (arith, first, tids, newest))
 
 -- all but the pack, where a call leaves what is voted and the number of the newest
-pub hub_keeps : (told : Type 0) (s t : StoreState) (journal : List JournalEntry) (capacity changes switches : ℕ) (sessions : List Session) (vote : Option HubVote) (was pack : Option HubPack) (had has_failed : Bool)
+pub hub_keeps : (told : Type 0) (s t : StoreState) (journal : List JournalEntry) (capacity changes switches : ℕ) (sessions : List MachineSession) (vote : Option HubVote) (was pack : Option HubPack) (had has_failed : Bool)
     (named : List ℕ → Option (List ℕ)) → HubKeeps told s journal capacity changes switches sessions vote was had named → s.broken ≡ false → KeepsVoted told s t → t.newest ≡ s.newest → has_failed ≡ t.broken
     → IsWithin pack (length journal) → (t.broken ≡ false → IfSome pack (KeepsPack told named t.list t.begun t.newest (length journal)))
     → HubKeeps told t journal capacity changes switches sessions vote pack has_failed named

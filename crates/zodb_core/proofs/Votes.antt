@@ -20,12 +20,11 @@ use Rattle.zodb_core.specs.declared.journal.JournalEntry.TheVariants as journal
 use Rattle.zodb_core.specs.declared.reply.Reply.TheVariants as reply
 use Rattle.zodb_core.specs.declared.request.Request.{Request}
 use Rattle.zodb_core.specs.declared.request.Request.TheVariants as request
-use Rattle.zodb_core.specs.declared.session.Session.{Session}
 use Rattle.zodb_core.specs.declared.vote.HubVote.{HubVote}
 use Rattle.zodb_core.specs.declared.vote.VotedEntry.{VotedEntry}
 use Rattle.zodb_core.specs.declared.open_pack.HubPack.{HubPack}
 use Rattle.zodb_core.specs.HubState.{HubState, IsBeforeOrBehind, IsEntryOf, IsWithin, MakesStep, StandsForMachine, counts_of, has_vote, owns_pack, pack_of_hub, vote_of_hub, sessions_with}
-use Rattle.zodb_core.specs.Machine.{Machine, MachineVote, OpenPack, Rules, has_pack, holds_vote, is_open_in}
+use Rattle.zodb_core.specs.Machine.{Machine, MachineSession, MachineVote, OpenPack, Rules, has_pack, holds_vote, is_open_in}
 use Rattle.zodb_core.specs.Outcomes.{AreLaterCounts, changes_store, closed_session, failed, holds_writes}
 use Rattle.zodb_core.specs.Packing.{without_pack_of}
 use Rattle.zodb_core.specs.Steps.{Stepped, early_refusal, finish_gives, finish_step, refuse_if, replied, request_refusal, request_step, step_of, unless_early, with_commit, without_session, without_vote}
@@ -62,7 +61,7 @@ finish_empty rules m n old new stamps stands is_open whole held voted store entr
     answered rules m n request.Finish reply.Empty (record m { vote = None }) old new stamps
     (record { reads = subst (λ (s : StoreState). old.store.read_faults ≤ s.read_faults) (sym store) (omega arith); others = subst (λ (s : StoreState). old.store.faults ≤ s.faults) (sym store) (omega arith) })
     refl
-    (finish_of rules m n 0 None (ap (λ (xs : List Session). is_open_in xs n) (sessions_whole m old stands whole) ∙ is_open)
+    (finish_of rules m n 0 None (ap (λ (xs : List MachineSession). is_open_in xs n) (sessions_whole m old stands whole) ∙ is_open)
     (vote_held m n old stands whole held ∙ ap (λ (w : Option Transaction). let x : MachineVote = record { session = n; writes = w } in Some x) voted))
     (record {
       journal = stands.journal ∙ sym entries;
@@ -83,7 +82,7 @@ committed_with : {R F : Type 0} (rules : Rules) (m : Machine) (n : ℕ) (t : Tra
     → MakesStep rules m n request.Finish (reply.Committed e.tid) old new stamps stamps
 committed_with rules m n t e old new stamps stands is_open whole held voted tid oids later still list entries greatest sessions vote begun pack within =
     answered rules m n request.Finish (reply.Committed e.tid) (with_commit m n t) old new stamps later refl
-    (finish_of rules m n 0 (Some t) (ap (λ (xs : List Session). is_open_in xs n) (sessions_whole m old stands whole) ∙ is_open)
+    (finish_of rules m n 0 (Some t) (ap (λ (xs : List MachineSession). is_open_in xs n) (sessions_whole m old stands whole) ∙ is_open)
     (vote_held m n old stands whole held ∙ ap (λ (w : Option Transaction). let x : MachineVote = record { session = n; writes = w } in Some x) voted)
     ∙ ap (λ (k : ℕ). replied (with_commit m n t) (reply.Committed k)) (sym tid))
     (record {
@@ -135,7 +134,7 @@ finish_moments stands_for rules m n t hub log stands whole is_open held voted on
     (λ before. inl (subst (stands_for bytes) (sym (stands.list whole)) before))
     (λ behind. inr (λ stamp. subst (stands_for bytes)
     (sym (ap (λ (s : Stepped). s.machine.list)
-    (finish_of rules m n stamp (Some t) (ap (λ (xs : List Session). is_open_in xs n) (sessions_whole m hub stands whole) ∙ is_open)
+    (finish_of rules m n stamp (Some t) (ap (λ (xs : List MachineSession). is_open_in xs n) (sessions_whole m hub stands whole) ∙ is_open)
     (vote_held m n hub stands whole held ∙ ap (λ (w : Option Transaction). let x : MachineVote = record { session = n; writes = w } in Some x) voted))
     ∙ ap (λ (ts : List Transaction). ts ++ t ∷ []) (stands.list whole)))
     behind))
@@ -252,7 +251,7 @@ store_failed rules m n q old new stamps later early changes still rose stands = 
 }
 
 open_in : {R F : Type 0} (m : Machine) (n : ℕ) (hub : HubState R F) → StandsForMachine hub m → hub.store.broken ≡ false → is_open_in hub.sessions n ≡ true → is_open_in m.sessions n ≡ true
-open_in m n hub stands whole is_open = ap (λ (xs : List Session). is_open_in xs n) (sessions_whole m hub stands whole) ∙ is_open
+open_in m n hub stands whole is_open = ap (λ (xs : List MachineSession). is_open_in xs n) (sessions_whole m hub stands whole) ∙ is_open
 
 -- ---- abort
 
@@ -331,7 +330,7 @@ close_dropped rules m n old mid new stamps stands whole is_open later left still
     (record {
       journal = left.journal ∙ sym entries;
       greatest = left.greatest ∙ sym greatest;
-      sessions = ap (λ (xs : List Session). slice_set xs n (record { is_open = false; told = length m.journal })) (sessions_whole (without_pack_of (without_vote m n) n) mid left still)
+      sessions = ap (λ (xs : List MachineSession). slice_set xs n (record { is_open = false; told = length m.journal })) (sessions_whole (without_pack_of (without_vote m n) n) mid left still)
           ∙ ap (λ (es : List JournalEntry). slice_set mid.sessions n (record { is_open = false; told = length es })) left.journal
           ∙ sym (ap (λ (s : StoreState). sessions_with s.broken new.sessions) store ∙ ap (λ (b : Bool). sessions_with b new.sessions) still ∙ sessions);
       pack = left.pack ∙ pack_of_store mid.store new.store (length mid.journal) (length new.journal) mid.pack new.pack store (ap length entries) pack;
@@ -356,7 +355,7 @@ moments_same_as stands_for rules m n q hub mid log stands whole only same =
 
 -- ---- sessions that are closed
 
-pub no_session : (sessions : List Session) (n : ℕ) → is_open_in (map closed_session sessions) n ≡ false
+pub no_session : (sessions : List MachineSession) (n : ℕ) → is_open_in (map closed_session sessions) n ≡ false
 no_session [] zero = refl
 no_session [] (suc n) = refl
 no_session (x ∷ xs) zero = refl
@@ -372,21 +371,21 @@ closed_to rules m n q hub stamps stands closed =
 pub closed_failed : {R F : Type 0} (rules : Rules) (m : Machine) (n : ℕ) (q : Request) (hub : HubState R F) (stamps : Option (List Stamp)) → StandsForMachine hub m → hub.store.broken ≡ true
     → MakesStep rules m n q (reply.Refused refusal.NotOpen) hub hub stamps stamps
 closed_failed rules m n q hub stamps stands broke =
-    closed_to rules m n q hub stamps stands (ap (λ (xs : List Session). is_open_in xs n) (stands.sessions ∙ ap (λ (b : Bool). sessions_with b hub.sessions) broke) ∙ no_session hub.sessions n)
+    closed_to rules m n q hub stamps stands (ap (λ (xs : List MachineSession). is_open_in xs n) (stands.sessions ∙ ap (λ (b : Bool). sessions_with b hub.sessions) broke) ∙ no_session hub.sessions n)
 
 pub closed_now : {R F : Type 0} (rules : Rules) (m : Machine) (n : ℕ) (q : Request) (hub : HubState R F) (stamps : Option (List Stamp)) → StandsForMachine hub m → hub.store.broken ≡ false → is_open_in hub.sessions n ≡ false
     → MakesStep rules m n q (reply.Refused refusal.NotOpen) hub hub stamps stamps
-closed_now rules m n q hub stamps stands whole closed = closed_to rules m n q hub stamps stands (ap (λ (xs : List Session). is_open_in xs n) (sessions_whole m hub stands whole) ∙ closed)
+closed_now rules m n q hub stamps stands whole closed = closed_to rules m n q hub stamps stands (ap (λ (xs : List MachineSession). is_open_in xs n) (sessions_whole m hub stands whole) ∙ closed)
 
 -- what a store leaves, as contracts see it
 pub leaves_shown : (stands_for : List ℕ → List Transaction → Type 0) (shown s : StoreState) → shown ≡ s → Leaves Main (λ bytes. stands_for bytes s.list) s.log → Leaves Main (λ bytes. stands_for bytes shown.list) shown.log
 leaves_shown stands_for shown s is leaves = subst (λ (x : StoreState). Leaves Main (λ bytes. stands_for bytes x.list) x.log) (sym is) leaves
 
 -- whether a session is open, as the hub knows it
-pub open_known : (b : Bool) (sessions : List Session) (n : ℕ) → b ≡ true → false ≡ is_open_in (sessions_with b sessions) n
+pub open_known : (b : Bool) (sessions : List MachineSession) (n : ℕ) → b ≡ true → false ≡ is_open_in (sessions_with b sessions) n
 open_known true sessions n is = sym (no_session sessions n)
 open_known false sessions n is = absurd cc
 
-pub open_there : (b : Bool) (sessions : List Session) (n : ℕ) → b ≡ false → is_open_in sessions n ≡ is_open_in (sessions_with b sessions) n
+pub open_there : (b : Bool) (sessions : List MachineSession) (n : ℕ) → b ≡ false → is_open_in sessions n ≡ is_open_in (sessions_with b sessions) n
 open_there false sessions n is = refl
 open_there true sessions n is = absurd cc

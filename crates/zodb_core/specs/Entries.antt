@@ -21,7 +21,7 @@ use Rattle.zodb_core.specs.History.{CountsGoOn, Entry, HistoriesGoOn, MachinesGo
 use Rattle.zodb_core.specs.Laws.{FreeVotesAreServed, StepsHaveRoom}
 use Rattle.zodb_core.specs.Machine.{Machine, Rules, holds_vote, is_open_in}
 use Rattle.zodb_core.specs.Outcomes.{Answered, EndsFor, FaultCounts, IsStepMade, MayGoWrong, NoMemory, ReadingFailed, StepOutcome, StoreFailed, changes_store, machine_left, outcome_of}
-use Rattle.zodb_core.specs.DecisionLaws.{IsDecidedOnce, IsOfDecision, IsOrdinary, is_busy, is_spent, undo_decided, vote_decided}
+use Rattle.zodb_core.specs.DecisionLaws.{IsDecidedSound, IsOfDecision, is_busy, is_spent, undo_decided, vote_decided}
 use Rattle.zodb_core.specs.StepCases.{StepCases, by_step}
 use Rattle.zodb_core.specs.Waiting.{needs_vote}
 use Rattle.zodb_core.specs.Steps.{Stepped, busy_for, changes_in_journal, changes_undone, early_refusal, journal_limit, loaded, refuse_if, replied_refusal, request_step, step_of, transaction_with, unless_early, vote_at, vote_counted, vote_step, with_vote}
@@ -162,7 +162,7 @@ steps_are_entries rules m left n q true stamp r before now made read =
 -- ---- what no step is answered
 
 -- a step that was made and is answered is the machine's
-answered_as : (rules : Rules) (m : Machine) (n : ℕ) (q : Request) (stamp : ℕ) (made : Stepped) (a b : FaultCounts) (o : StepOutcome) → o ≡ Answered → EndsFor rules m n q stamp made a b o → made ≡ step_of rules m n q stamp
+pub answered_as : (rules : Rules) (m : Machine) (n : ℕ) (q : Request) (stamp : ℕ) (made : Stepped) (a b : FaultCounts) (o : StepOutcome) → o ≡ Answered → EndsFor rules m n q stamp made a b o → made ≡ step_of rules m n q stamp
 answered_as rules m n q stamp made a b Answered is ends = ends
 answered_as rules m n q stamp made a b ReadingFailed is ends = absurd cc
 answered_as rules m n q stamp made a b NoMemory is ends = absurd cc
@@ -171,10 +171,10 @@ answered_as rules m n q stamp made a b StoreFailed is ends = absurd cc
 abbrev IsNotSpent : Stepped → Type 0
 IsNotSpent s = s.reply ≢ reply.Refused refusal.StepsSpent
 
-ordinary_room : (r : Refusal) → IsOrdinary r → reply.Refused r ≡ reply.Refused refusal.StepsSpent → ⊥
-ordinary_room r ordinary is =
+ordinary_room : (r : Refusal) → is_spent r ≡ false → reply.Refused r ≡ reply.Refused refusal.StepsSpent → ⊥
+ordinary_room r other is =
     let same : r ≡ refusal.StepsSpent = cc in
-    true≢false (sym (ap is_spent same) ∙ ordinary.2)
+    true≢false (sym (ap is_spent same) ∙ other)
 
 found_room : (m : Machine) (oid : ℕ) (f : Found) → loaded m oid f ≡ reply.Refused refusal.StepsSpent → ⊥
 found_room m oid (found.Held serial bytes end) is = cc
@@ -183,7 +183,7 @@ found_room m oid found.Nothing is = cc
 
 room_cases : (m : Machine) (n : ℕ) (q : Request) → StepCases IsNotSpent m n q
 room_cases m n q = record {
-  refused = ordinary_room;
+  refused = λ r ordinary. ordinary_room r ordinary.2;
   full = λ count is. cc;
   spent = λ is. cc;
   told = λ is. cc;
@@ -201,7 +201,7 @@ room_cases m n q = record {
   marked = λ is p keep there e. cc;
   copying = λ is p k copied count there copying e. cc;
   copied = λ is p k copied count there copying e. cc;
-  lost = λ is. ordinary_room;
+  lost = λ is r loses. ordinary_room r loses.2;
   packed = λ is t keep free below e. cc;
   last = λ is. cc;
   since = λ tid changes is. cc;
@@ -235,7 +235,7 @@ decision_free r holder decided is =
     let same : r ≡ refusal.Busy holder = cc in
     true≢false (sym (ap is_busy same) ∙ decided.3)
 
-vote_free : (m : Machine) (n : ℕ) (texts : Texts) (stamp holder : ℕ) (premise : Type 0) (decided : Result (List Change) Refusal) → IsDecidedOnce premise decided → IsBusyReply holder (vote_step m n texts stamp decided) → ⊥
+vote_free : (m : Machine) (n : ℕ) (texts : Texts) (stamp holder : ℕ) (premise : Type 0) (decided : Result (List Change) Refusal) → IsDecidedSound premise decided → IsBusyReply holder (vote_step m n texts stamp decided) → ⊥
 vote_free m n texts stamp holder premise (Err r) once is = decision_free r holder once is
 vote_free m n texts stamp holder premise (Ok []) once is = cc
 vote_free m n texts stamp holder premise (Ok (c ∷ changes)) once is = counted_free m n texts (c ∷ changes) stamp (changes_in_journal m.journal + length (c ∷ changes)) holder is

@@ -15,7 +15,7 @@ use Rattle.zodb_core.specs.History.{Entry, HistoryStep, IsLegal, IsNextEntry, Ma
 use Rattle.zodb_core.specs.Laws.{AreNewNumbers, ComeBehindGreatest}
 use Rattle.zodb_core.specs.Machine.{Machine, Rules, front_of}
 use Rattle.zodb_core.specs.Outcomes.{Answered, AreLaterCounts, EndsFor, FaultCounts, NoMemory, ReadingFailed, StepOutcome, StoreFailed, machine_left, outcome_of}
-use Rattle.zodb_core.specs.Sound.{AreDistinctRequests, IsSoundMachine}
+use Rattle.zodb_core.specs.Sound.{AreWellFormedRequests, IsSoundMachine}
 use Rattle.zodb_core.specs.SoundLaws.{behind_becomes, behind_sound, front_later, history_sound}
 use Rattle.zodb_core.specs.StepCases.{StepCases, by_ending, by_step}
 use Rattle.zodb_core.specs.Steps.{Stepped, loaded, step_of}
@@ -138,12 +138,12 @@ entry_front rules m counts (Made e) f next is =
     (sym (ap (λ (s : Stepped). front_in s.reply) (made_is rules m counts e next (front_answered e.reply f is))) ∙ is)
 
 -- the fronts of a history are no lower than a bound that the list's front has reached
-fronts_from : (rules : Rules) (m : Machine) (counts : FaultCounts) (entries : List Entry) (low : ℕ) → IsSoundMachine m → AreDistinctRequests entries → IsLegal rules m counts entries → low ≤ front_of m.list
+fronts_from : (rules : Rules) (m : Machine) (counts : FaultCounts) (entries : List Entry) (low : ℕ) → IsSoundMachine m → AreWellFormedRequests entries → IsLegal rules m counts entries → low ≤ front_of m.list
     → AllByRecursion (λ f. low ≤ f) (fronts_told entries)
-fronts_from rules m counts [] low sound distinct legal up = tt
-fronts_from rules m counts (e ∷ entries) low sound distinct legal up =
+fronts_from rules m counts [] low sound formed legal up = tt
+fronts_from rules m counts (e ∷ entries) low sound formed legal up =
     by_cases (front_told e) refl
-    (fronts_from rules (machine_behind rules m e) (counts_behind counts e) entries low (behind_sound rules m e sound distinct.0) distinct.1 legal.1
+    (fronts_from rules (machine_behind rules m e) (counts_behind counts e) entries low (behind_sound rules m e sound formed.0) formed.1 legal.1
     (omega (arith, up, front_later m.list (machine_behind rules m e).list (behind_becomes rules m e sound))))
   where
     by_cases : (o : Option ℕ) → front_told e ≡ o → AllByRecursion (λ f. low ≤ f) (fronts_told entries) → AllByRecursion (λ f. low ≤ f) (filter_map front_told (e ∷ entries))
@@ -153,15 +153,15 @@ fronts_from rules m counts (e ∷ entries) low sound distinct legal up =
 none_paired : AllPairs (λ (x y : ℕ). x ≤ y) []
 none_paired = λ i j d before within. absurd (omega arith)
 
-pub fronts_rise : (rules : Rules) (m : Machine) (counts : FaultCounts) (entries : List Entry) → IsSoundMachine m → AreDistinctRequests entries → IsLegal rules m counts entries
+pub fronts_rise : (rules : Rules) (m : Machine) (counts : FaultCounts) (entries : List Entry) → IsSoundMachine m → AreWellFormedRequests entries → IsLegal rules m counts entries
     → AllPairs (λ earlier later. earlier ≤ later) (fronts_told entries)
-fronts_rise rules m counts [] sound distinct legal = none_paired
-fronts_rise rules m counts (e ∷ entries) sound distinct legal =
-    by_cases (front_told e) refl (fronts_rise rules (machine_behind rules m e) (counts_behind counts e) entries (behind_sound rules m e sound distinct.0) distinct.1 legal.1)
+fronts_rise rules m counts [] sound formed legal = none_paired
+fronts_rise rules m counts (e ∷ entries) sound formed legal =
+    by_cases (front_told e) refl (fronts_rise rules (machine_behind rules m e) (counts_behind counts e) entries (behind_sound rules m e sound formed.0) formed.1 legal.1)
   where
     rest_from : (f : ℕ) → front_told e ≡ Some f → AllByRecursion (λ g. f ≤ g) (fronts_told entries)
     rest_from f is =
-        fronts_from rules (machine_behind rules m e) (counts_behind counts e) entries f (behind_sound rules m e sound distinct.0) distinct.1 legal.1
+        fronts_from rules (machine_behind rules m e) (counts_behind counts e) entries f (behind_sound rules m e sound formed.0) formed.1 legal.1
         (omega (arith, entry_front rules m counts e f legal.0 is, front_later m.list (machine_behind rules m e).list (behind_becomes rules m e sound)))
 
     by_cases : (o : Option ℕ) → front_told e ≡ o → AllPairs (λ earlier later. earlier ≤ later) (fronts_told entries) → AllPairs (λ earlier later. earlier ≤ later) (filter_map front_told (e ∷ entries))
@@ -310,13 +310,13 @@ pub legal_rest : (rules : Rules) (m : Machine) (counts : FaultCounts) (front res
 legal_rest rules m counts [] rest legal = legal
 legal_rest rules m counts (e ∷ front) rest legal = legal_rest rules (machine_behind rules m e) (counts_behind counts e) front rest legal.1
 
-distinct_front : (front rest : List Entry) → AreDistinctRequests (front ++ rest) → AreDistinctRequests front
-distinct_front [] rest all = tt
-distinct_front (e ∷ front) rest all = (all.0, distinct_front front rest all.1)
+formed_front : (front rest : List Entry) → AreWellFormedRequests (front ++ rest) → AreWellFormedRequests front
+formed_front [] rest all = tt
+formed_front (e ∷ front) rest all = (all.0, formed_front front rest all.1)
 
-listed_below : (rules : Rules) (m : Machine) (front rest : List Entry) → IsSoundMachine m → AreDistinctRequests (front ++ rest) → greatest_oid (machine_after rules m front).list ≤ (machine_after rules m (front ++ rest)).greatest
-listed_below rules m front rest sound distinct =
-    let kept : IsSoundMachine (machine_after rules m front) = history_sound rules m front sound (distinct_front front rest distinct) in
+listed_below : (rules : Rules) (m : Machine) (front rest : List Entry) → IsSoundMachine m → AreWellFormedRequests (front ++ rest) → greatest_oid (machine_after rules m front).list ≤ (machine_after rules m (front ++ rest)).greatest
+listed_below rules m front rest sound formed =
+    let kept : IsSoundMachine (machine_after rules m front) = history_sound rules m front sound (formed_front front rest formed) in
     omega (arith, kept.numbered, history_greatest rules (machine_after rules m front) rest, ap (λ (x : Machine). x.greatest) (after_append rules m front rest))
 
 below_more : (high more : ℕ) (ranges : List NumberRange) → high ≤ more → AllByRecursion (λ range. end_of_range range ≤ high) ranges → AllByRecursion (λ range. end_of_range range ≤ more) ranges
@@ -324,15 +324,15 @@ below_more high more [] up all = tt
 below_more high more (r ∷ ranges) up all = (omega (arith, up, all.0), below_more high more ranges up all.1)
 
 pub numbers_new : (rules : Rules) (m : Machine) (counts : FaultCounts) (entries : List Entry) (e : Entry) (range : NumberRange)
-    → IsSoundMachine m → AreDistinctRequests entries → IsLegal rules m counts (entries ++ e ∷ []) → numbers_handed e ≡ Some range → AreNewNumbers rules m entries range
-numbers_new rules m counts entries e range sound distinct legal is =
+    → IsSoundMachine m → AreWellFormedRequests entries → IsLegal rules m counts (entries ++ e ∷ []) → numbers_handed e ≡ Some range → AreNewNumbers rules m entries range
+numbers_new rules m counts entries e range sound formed legal is =
     let next : ComeBehindGreatest rules (machine_after rules m entries) e range =
     entry_numbers rules (machine_after rules m entries) (counts_after counts entries) e range (legal_rest rules m counts entries (e ∷ []) legal).0 is in
     record {
       above = omega (arith, next.above, history_greatest rules m entries);
       unlisted = λ front rest parts.
           let below : greatest_oid (machine_after rules m front).list ≤ (machine_after rules m (front ++ rest)).greatest =
-          listed_below rules m front rest sound (subst AreDistinctRequests parts distinct) in
+          listed_below rules m front rest sound (subst AreWellFormedRequests parts formed) in
           omega (arith, below, ap (λ (es : List Entry). (machine_after rules m es).greatest) parts, next.above);
       unhanded =
           All-from_recursion (λ (earlier : NumberRange). end_of_range earlier ≤ range.first) (all_numbers entries)

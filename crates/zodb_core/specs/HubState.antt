@@ -22,10 +22,9 @@ use Rattle.zodb_core.specs.declared.open_pack.HubCopying.{HubCopying}
 use Rattle.zodb_core.specs.declared.open_pack.HubPack.{HubPack}
 use Rattle.zodb_core.specs.declared.request.Request.{Request}
 use Rattle.zodb_core.specs.declared.request.Request.TheVariants as request
-use Rattle.zodb_core.specs.declared.session.Session.{Session}
 use Rattle.zodb_core.specs.declared.vote.HubVote.{HubVote}
 use Rattle.zodb_core.specs.declared.vote.VotedEntry.{VotedEntry}
-use Rattle.zodb_core.specs.Machine.{Machine, MachineVote, OpenPack, PackCopying, Rules, session_limit, switches_of}
+use Rattle.zodb_core.specs.Machine.{Machine, MachineSession, MachineVote, OpenPack, PackCopying, Rules, session_limit, switches_of}
 use Rattle.zodb_core.specs.Outcomes.{AreLaterCounts, FaultCounts, IsStepMade, StepOutcome, Answered, ReadingFailed, NoMemory, StoreFailed, closed_session, outcome_of}
 use Rattle.zodb_core.specs.Stamps.{IsStampNumber}
 use Rattle.zb_base.specs.Counts.{Rose}
@@ -38,7 +37,7 @@ pub record HubState (R F : Type 0) : Type 0 where
   pub refs : F
   pub journal : List JournalEntry
   pub greatest : ℕ
-  pub sessions : List Session
+  pub sessions : List MachineSession
   pub vote : Option HubVote
   pub pack : Option HubPack
 
@@ -77,7 +76,7 @@ abbrev pub vote_of_hub : Option Transaction → HubVote → MachineVote
 vote_of_hub voted v = record { session = v.session; writes = voted }
 
 -- no session is open once the store has failed
-abbrev pub sessions_with : Bool → List Session → List Session
+abbrev pub sessions_with : Bool → List MachineSession → List MachineSession
 sessions_with false sessions = sessions
 sessions_with true sessions = map closed_session sessions
 
@@ -254,7 +253,7 @@ pub record KeepsPack (told : Type 0) (named : List ℕ → Option (List ℕ)) (l
 
 -- What a hub keeps beside its store: sessions, the journal with the numbers of its changes and of its packs and with room for what is voted, and the vote. `told` says
 -- whether the store tells its list.
-pub record HubKeeps (told : Type 0) (store : StoreState) (journal : List JournalEntry) (capacity changes switches : ℕ) (sessions : List Session) (vote : Option HubVote) (pack : Option HubPack) (has_failed : Bool) (named : List ℕ → Option (List ℕ)) : Type 0 where
+pub record HubKeeps (told : Type 0) (store : StoreState) (journal : List JournalEntry) (capacity changes switches : ℕ) (sessions : List MachineSession) (vote : Option HubVote) (pack : Option HubPack) (has_failed : Bool) (named : List ℕ → Option (List ℕ)) : Type 0 where
   pub failed : has_failed ≡ store.broken
   pub few : length sessions ≤ session_limit
   pub counted : changes ≡ changes_in_journal journal

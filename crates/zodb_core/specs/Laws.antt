@@ -1,26 +1,32 @@
 -- Laws of the machine: what holds of every step and of every history, over whatever rules. Own.
-use Rattle.std.specs.Prelude.{◌↔◌, ◌≡◌, ℕ, ◌<◌, ◌≤◌, ◌+◌, List, [], ◌∷◌, ◌++◌, Some, All, None, length, Option, false, true, ◌≢◌}
+use Rattle.std.specs.Prelude.{◌↔◌, ◌≡◌, ℕ, ◌<◌, ◌≤◌, ◌+◌, ◌-◌, ◌^◌, List, [], ◌∷◌, ◌++◌, Some, All, None, length, Option, false, true, ◌≢◌}
 use Rattle.std.specs.List.{AllPairs}
 use Rattle.std.specs.Result.{result_ok}
+use Rattle.zb_base.specs.Counts.{Rose}
+use Rattle.zb_ids.specs.Tids.{tid_after}
 use Rattle.zb_model.specs.declared.data.Change.{Change}
 use Rattle.zb_model.specs.declared.data.Content.TheVariants.{Held}
 use Rattle.zb_model.specs.declared.data.Transaction.{Transaction}
+use Rattle.zb_model.specs.declared.refusal.Refusal.{Refusal}
 use Rattle.zb_model.specs.declared.refusal.Refusal.TheVariants as refusal
 use Rattle.zb_model.specs.Database.{IsDatabase, content_below, newest_tid, revision_below}
 use Rattle.zb_model.specs.Queries.{greatest_oid}
 use Rattle.commit_phases.specs.Decision.{vote_decision}
+use Rattle.commit_phases.specs.Pending.{AreStores, PendingChanges}
+use Rattle.commit_phases.specs.Voted.{MayGoIn}
 use Rattle.undo_records.specs.Undone.{undone_of}
 use Rattle.pack_reach.specs.Packed.{packed}
+use Rattle.zodb_core.specs.declared.reply.Reply.{Reply}
 use Rattle.zodb_core.specs.declared.reply.Reply.TheVariants as reply
 use Rattle.zodb_core.specs.declared.request.Request.{Request}
 use Rattle.zodb_core.specs.declared.request.Request.TheVariants as request
 use Rattle.zodb_core.specs.Handed.{NumberRange, all_numbers, end_of_range, fronts_told, numbers_handed}
 use Rattle.zodb_core.specs.History.{Entry, IsLegal, IsLegalOver, counts_after, machine_after, machine_behind}
 use Rattle.zodb_core.specs.Machine.{Machine, Rules, front_of, is_open_in, machine_over, with_session}
-use Rattle.zodb_core.specs.Outcomes.{Answered, AreLaterCounts, FaultCounts, IsStepMade, StepOutcome, is_pack, is_packed, machine_left, outcome_of}
+use Rattle.zodb_core.specs.Outcomes.{Answered, AreLaterCounts, FaultCounts, IsStepMade, NoMemory, ReadingFailed, StepOutcome, StoreFailed, failed, is_pack, is_packed, machine_left, outcome_of, unanswered}
 use Rattle.zodb_core.specs.Seen.{KeepsSeen, PackGoal, goal_of_open, pack_goal}
-use Rattle.zodb_core.specs.Sound.{AreDistinctRequests, Becomes, GrowsByOne, GrowsTo, HasNoPack, IsDistinctRequest, IsPackWithin, IsSoundMachine, ComesTo}
-use Rattle.zodb_core.specs.Steps.{Stepped, busy_for, changes_in_journal, changes_undone, early_refusal, journal_limit, step_of}
+use Rattle.zodb_core.specs.Sound.{AreWellFormedRequests, Becomes, BecomesAsMarked, GrowsByOne, GrowsTo, HasNoPack, IsWellFormedRequest, IsPackWithin, IsSoundMachine, ComesTo}
+use Rattle.zodb_core.specs.Steps.{Stepped, busy_for, changes_in_journal, changes_undone, early_refusal, journal_limit, step_of, without_pack}
 use Rattle.zodb_core.specs.Waiting.{needs_vote}
 
 -- ---- the machine stays sound
@@ -31,12 +37,12 @@ MachineStartsSound = (list : List Transaction) → IsDatabase list → IsSoundMa
 
 -- a step leaves it sound
 abbrev pub StepsKeepSound : Type 0
-StepsKeepSound = (rules : Rules) (m : Machine) (n : ℕ) (q : Request) (stamp : ℕ) → IsSoundMachine m → IsDistinctRequest q → IsSoundMachine (step_of rules m n q stamp).machine
+StepsKeepSound = (rules : Rules) (m : Machine) (n : ℕ) (q : Request) (stamp : ℕ) → IsSoundMachine m → IsWellFormedRequest q → IsSoundMachine (step_of rules m n q stamp).machine
 
 -- however it ends
 abbrev pub EndingsKeepSound : Type 0
 EndingsKeepSound = (rules : Rules) (m : Machine) (n : ℕ) (q : Request) (stamp : ℕ) (outcome : StepOutcome)
-    → IsSoundMachine m → IsDistinctRequest q → IsSoundMachine (machine_left rules m n q stamp outcome)
+    → IsSoundMachine m → IsWellFormedRequest q → IsSoundMachine (machine_left rules m n q stamp outcome)
 
 -- and so does the opening of a session
 abbrev pub OpeningsKeepSound : Type 0
@@ -44,12 +50,12 @@ OpeningsKeepSound = (m : Machine) → IsSoundMachine m → IsSoundMachine (with_
 
 -- and every history, legal or not
 abbrev pub HistoriesKeepSound : Type 0
-HistoriesKeepSound = (rules : Rules) (m : Machine) (entries : List Entry) → IsSoundMachine m → AreDistinctRequests entries → IsSoundMachine (machine_after rules m entries)
+HistoriesKeepSound = (rules : Rules) (m : Machine) (entries : List Entry) → IsSoundMachine m → AreWellFormedRequests entries → IsSoundMachine (machine_after rules m entries)
 
 -- so a database stays one over every legal history
 abbrev pub ListsStayDatabases : Type 0
 ListsStayDatabases = (rules : Rules) (list : List Transaction) (counts : FaultCounts) (entries : List Entry)
-    → IsDatabase list → AreDistinctRequests entries → IsLegalOver rules list counts entries → IsDatabase (machine_after rules (machine_over list) entries).list
+    → IsDatabase list → AreWellFormedRequests entries → IsLegalOver rules list counts entries → IsDatabase (machine_after rules (machine_over list) entries).list
 
 -- ---- its list only grows, but for packs
 
@@ -57,17 +63,22 @@ ListsStayDatabases = (rules : Rules) (list : List Transaction) (counts : FaultCo
 abbrev pub StepsGrowOrPack : Type 0
 StepsGrowOrPack = (rules : Rules) (m : Machine) (n : ℕ) (q : Request) (stamp : ℕ) (outcome : StepOutcome) → IsSoundMachine m → Becomes m.list (machine_left rules m n q stamp outcome).list
 
+-- and where it packs it, the objects are kept that the machine marks
+abbrev pub StepsPackAsMarked : Type 0
+StepsPackAsMarked = (rules : Rules) (m : Machine) (n : ℕ) (q : Request) (stamp : ℕ) (outcome : StepOutcome) → IsSoundMachine m
+    → BecomesAsMarked rules.named m.list (machine_left rules m n q stamp outcome).list
+
 -- only a request to pack packs it
 abbrev pub ListsOnlyGrow : Type 0
 ListsOnlyGrow = (rules : Rules) (m : Machine) (n : ℕ) (q : Request) (stamp : ℕ) (outcome : StepOutcome) → is_pack q ≡ false → IsSoundMachine m → GrowsByOne m.list (machine_left rules m n q stamp outcome).list
 
 -- a history makes of it what such steps make
 abbrev pub HistoriesComeTo : Type 0
-HistoriesComeTo = (rules : Rules) (m : Machine) (entries : List Entry) → IsSoundMachine m → AreDistinctRequests entries → ComesTo m.list (machine_after rules m entries).list
+HistoriesComeTo = (rules : Rules) (m : Machine) (entries : List Entry) → IsSoundMachine m → AreWellFormedRequests entries → ComesTo m.list (machine_after rules m entries).list
 
 -- and where none of it is a request to pack, it puts later transactions behind the list
 abbrev pub HistoriesOnlyGrow : Type 0
-HistoriesOnlyGrow = (rules : Rules) (m : Machine) (entries : List Entry) → IsSoundMachine m → AreDistinctRequests entries → HasNoPack entries → GrowsTo m.list (machine_after rules m entries).list
+HistoriesOnlyGrow = (rules : Rules) (m : Machine) (entries : List Entry) → IsSoundMachine m → AreWellFormedRequests entries → HasNoPack entries → GrowsTo m.list (machine_after rules m entries).list
 
 -- no list that steps made of another has an older newest transaction, nor a lower front
 abbrev pub NewestNeverFalls : Type 0
@@ -114,7 +125,7 @@ PacksKeepFronts = (rules : Rules) (m : Machine) (n : ℕ) (q : Request) (stamp :
 -- no front that a session was told is below one that any session was told before it
 abbrev pub FrontsNeverFall : Type 0
 FrontsNeverFall = (rules : Rules) (m : Machine) (counts : FaultCounts) (entries : List Entry)
-    → IsSoundMachine m → AreDistinctRequests entries → IsLegal rules m counts entries → AllPairs (λ earlier later. earlier ≤ later) (fronts_told entries)
+    → IsSoundMachine m → AreWellFormedRequests entries → IsLegal rules m counts entries → AllPairs (λ earlier later. earlier ≤ later) (fronts_told entries)
 
 -- ---- new numbers are new
 
@@ -140,7 +151,7 @@ pub record AreNewNumbers (rules : Rules) (m : Machine) (entries : List Entry) (r
 
 abbrev pub NewNumbersAreNew : Type 0
 NewNumbersAreNew = (rules : Rules) (m : Machine) (counts : FaultCounts) (entries : List Entry) (e : Entry) (range : NumberRange)
-    → IsSoundMachine m → AreDistinctRequests entries → IsLegal rules m counts (entries ++ e ∷ []) → numbers_handed e ≡ Some range → AreNewNumbers rules m entries range
+    → IsSoundMachine m → AreWellFormedRequests entries → IsLegal rules m counts (entries ++ e ∷ []) → numbers_handed e ≡ Some range → AreNewNumbers rules m entries range
 
 -- ---- answers and counts
 
@@ -151,6 +162,45 @@ StepsAreAnswered = (rules : Rules) (m : Machine) (n : ℕ) (q : Request) (stamp 
 -- along a legal history neither count of faults falls
 abbrev pub CountsNeverFall : Type 0
 CountsNeverFall = (rules : Rules) (m : Machine) (counts : FaultCounts) (entries : List Entry) → IsLegal rules m counts entries → AreLaterCounts counts (counts_after counts entries)
+
+-- ---- what a refusal leaves
+
+-- It leaves the machine, but for this: an unreadable record and an object that commits led to end the pack, and so does a request on a pack for which reading failed
+-- or memory ran out; a store that failed closes every session.
+abbrev pub left_by_refusal : Request → Refusal → Machine → Machine
+left_by_refusal q (refusal.Unreadable oid tid) m = without_pack m
+left_by_refusal q (refusal.Overtaken oid tid) m = without_pack m
+left_by_refusal q refusal.ReadFault m = unanswered q m
+left_by_refusal q refusal.Memory m = unanswered q m
+left_by_refusal q refusal.StoreFault m = failed m
+left_by_refusal q _ m = m
+
+abbrev pub RefusalsLeave : Type 0
+RefusalsLeave = (rules : Rules) (m : Machine) (n : ℕ) (q : Request) (stamp : ℕ) (made : Stepped) (before now : FaultCounts) (r : Refusal) → IsStepMade rules m n q stamp made before now
+    → made.reply ≡ reply.Refused r → made.machine ≡ left_by_refusal q r m
+
+-- ---- votes that nothing stands against
+
+-- The session is open and no vote is held; stores and deletes are as their type has them, all of them may go in, the journal has room for them, and a tid is left.
+pub record IsCurrentVote (m : Machine) (n : ℕ) (pending : PendingChanges) (stamp : ℕ) : Type 0 where
+  pub is_open : is_open_in m.sessions n ≡ true
+  pub free : m.vote ≡ None
+  pub stores : AreStores pending.stores
+  pub current : MayGoIn m.list pending
+  pub room : changes_in_journal m.journal + length pending.stores ≤ journal_limit
+  pub left : tid_after (newest_tid m.list) stamp < 2 ^ 64 - 1
+
+-- what was answered is Voted, and else a count of faults rose or memory ran out
+abbrev pub IsVotedUnlessFailed : FaultCounts → FaultCounts → Reply → StepOutcome → Type 0
+IsVotedUnlessFailed before now r Answered = r ≡ reply.Voted
+IsVotedUnlessFailed before now r ReadingFailed = Rose before.reads now.reads
+IsVotedUnlessFailed before now r NoMemory = Unit {0}
+IsVotedUnlessFailed before now r StoreFailed = Rose before.others now.others
+
+abbrev pub CurrentVotesAreVoted : Type 0
+CurrentVotesAreVoted = (rules : Rules) (m : Machine) (n : ℕ) (user description extension : List ℕ) (pending : PendingChanges) (stamp : ℕ) (made : Stepped) (before now : FaultCounts)
+    → IsStepMade rules m n (request.Vote user description extension pending) stamp made before now → IsCurrentVote m n pending stamp
+    → IsVotedUnlessFailed before now made.reply (outcome_of made.reply)
 
 -- ---- a full journal
 

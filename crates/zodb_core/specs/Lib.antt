@@ -1,5 +1,6 @@
 pub mod DecisionLaws
 pub mod Entries
+pub mod FilledLaws
 pub mod GrowthLaws
 pub mod Handed
 pub mod History

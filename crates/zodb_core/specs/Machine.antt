@@ -12,7 +12,6 @@ use Rattle.zb_model.specs.Queries.{greatest_oid}
 use Rattle.zb_model.specs.Rules.{MergeRules}
 use Rattle.zodb_core.specs.declared.journal.JournalEntry.{JournalEntry}
 use Rattle.zodb_core.specs.declared.journal.JournalEntry.TheVariants.{Commit, Packed}
-use Rattle.zodb_core.specs.declared.session.Session.{Session}
 
 -- What a database is told of the bytes that it keeps: how changes are merged, and which objects a record names, or None where it can't be read.
 pub record Rules : Type 0 where
@@ -20,6 +19,11 @@ pub record Rules : Type 0 where
   pub named : List ℕ → Option (List ℕ)
 
 -- ---- the state
+
+-- a session: whether its requests are served, and how many entries of the journal it was told, or had been made when it was opened
+pub record MachineSession : Type 0 where
+  pub is_open : Bool
+  pub told : ℕ
 
 -- the vote that is held: the session that holds it, and what its finish will append, if anything
 pub record MachineVote : Type 0 where
@@ -49,7 +53,7 @@ pub record Machine : Type 0 where
   pub list : List Transaction
   pub journal : List JournalEntry
   pub greatest : ℕ
-  pub sessions : List Session
+  pub sessions : List MachineSession
   pub vote : Option MachineVote
   pub pack : Option OpenPack
   pub failed : Bool
@@ -64,7 +68,7 @@ machine_over list = record { list = list; journal = []; greatest = greatest_oid 
 abbrev pub session_limit : ℕ
 session_limit = 64
 
-abbrev pub is_open_in : List Session → ℕ → Bool
+abbrev pub is_open_in : List MachineSession → ℕ → Bool
 is_open_in sessions n = option_map_or (λ x. x.is_open) (slice_get sessions n) false
 
 -- a session holds the vote
@@ -76,7 +80,7 @@ abbrev pub has_pack : ℕ → Option OpenPack → Bool
 has_pack n pack = option_map_or (λ p. p.session == n) pack false
 
 -- the next session: it was told nothing that happened before it, and it is closed from the start where the store failed
-abbrev pub new_session : Machine → Session
+abbrev pub new_session : Machine → MachineSession
 new_session m = record { is_open = not m.failed; told = length m.journal }
 
 abbrev pub with_session : Machine → Machine
@@ -101,7 +105,7 @@ abbrev pub is_news_for : ℕ → JournalEntry → Bool
 is_news_for n (Commit session tid oids) = not (session == n)
 is_news_for n (Packed tid) = true
 
-abbrev pub told_of : ℕ → List Session → ℕ
+abbrev pub told_of : ℕ → List MachineSession → ℕ
 told_of n sessions = option_map_or (λ x. x.told) (slice_get sessions n) 0
 
 -- what a session wasn't told yet

@@ -8,8 +8,7 @@ use Rattle.zodb_core.specs.declared.reply.Reply.{Reply}
 use Rattle.zodb_core.specs.declared.reply.Reply.TheVariants as reply
 use Rattle.zodb_core.specs.declared.request.Request.{Request}
 use Rattle.zodb_core.specs.declared.request.Request.TheVariants as request
-use Rattle.zodb_core.specs.declared.session.Session.{Session}
-use Rattle.zodb_core.specs.Machine.{Machine, MachineVote, Rules}
+use Rattle.zodb_core.specs.Machine.{Machine, MachineSession, MachineVote, Rules}
 use Rattle.zodb_core.specs.Steps.{Stepped, early_refusal, step_of, without_pack}
 
 pub data StepOutcome : Type 0 where
@@ -104,7 +103,7 @@ changes_store m n _ made = false
 -- ---- what is left
 
 -- no session is open
-abbrev pub closed_session : Session → Session
+abbrev pub closed_session : MachineSession → MachineSession
 closed_session x = record x { is_open = false }
 
 -- the store failed: every session is closed, and nothing is voted or being packed

@@ -29,6 +29,7 @@ loaded_reply oid found.Nothing upto switches = reply.Nothing oid switches
 -- where a vote is refused
 abbrev pub vote_reply : VoteRefusal → Reply
 vote_reply (vote_refusal.Conflict oid base current why) = reply.Refused (refusal.Conflict oid base current why)
+vote_reply (vote_refusal.NothingToDelete oid current) = reply.Refused (refusal.NothingToDelete oid current)
 vote_reply (vote_refusal.ReadConflict oid base current) = reply.Refused (refusal.ReadConflict oid base current)
 vote_reply (vote_refusal.TooLong n) = reply.Refused (refusal.TooLong n)
 vote_reply vote_refusal.ReadFault = reply.Refused refusal.ReadFault

@@ -1,24 +1,31 @@
 -- What holds of every machine that sessions lead to, and how its list grows and is packed. Own.
-use Rattle.std.specs.Prelude.{◌≡◌, ℕ, ◌<◌, ◌≤◌, ◌-◌, ◌^◌, ◌⊎◌, List, [], ◌∷◌, ◌++◌, Option, Some, None, false, length, map, nat_eq}
+use Rattle.std.specs.Prelude.{◌≡◌, ℕ, ◌<◌, ◌≤◌, ◌-◌, ◌^◌, ◌⊎◌, Bool, List, [], ◌∷◌, ◌++◌, Option, Some, None, All, false, length, map, nat_eq}
 use Rattle.std.specs.List.{AllByRecursion, IsDistinct}
 use Rattle.std.specs.Ordering.{nat_cmp}
 use Rattle.std.specs.FinSet.{FinSet}
+use Rattle.zb_model.specs.declared.data.Change.{Change}
 use Rattle.zb_model.specs.declared.data.Transaction.{Transaction}
-use Rattle.zb_model.specs.Database.{IsDatabase, newest_tid}
+use Rattle.zb_model.specs.declared.pending.PendingStore.{PendingStore}
+use Rattle.zb_model.specs.Database.{IsDatabase, IsRecord, newest_tid}
 use Rattle.zb_model.specs.Packing.{packed_by}
-use Rattle.zb_model.specs.Queries.{greatest_oid, oids_of}
+use Rattle.zb_model.specs.Queries.{greatest_oid}
+use Rattle.pack_reach.specs.Packed.{packed}
 use Rattle.zodb_core.specs.declared.request.Request.{Request}
 use Rattle.zodb_core.specs.declared.request.Request.TheVariants as request
-use Rattle.zodb_core.specs.declared.session.Session.{Session}
 use Rattle.zodb_core.specs.History.{Entry, Made, Opened}
-use Rattle.zodb_core.specs.Machine.{Machine, MachineVote, OpenPack, switches_of}
+use Rattle.zodb_core.specs.Machine.{Machine, MachineSession, MachineVote, OpenPack, switches_of}
 use Rattle.zodb_core.specs.Outcomes.{is_pack}
 
--- a transaction may be the next of a list: it is later, its number has one after it, it names each object once, and no pack went over it
+-- changes that a transaction may make: of each object once, and none to an empty record
+pub record AreSoundChanges (changes : List Change) : Type 0 where
+  pub distinct : IsDistinct nat_eq (map (λ c. c.oid) changes)
+  pub filled : All (λ c. IsRecord c.content) changes
+
+-- a transaction may be the next of a list: it is later, its number has one after it, it may make its changes, and no pack went over it
 pub record IsNextTransaction (list : List Transaction) (t : Transaction) : Type 0 where
   pub later : newest_tid list < t.tid
   pub bounded : t.tid < 2 ^ 64 - 1
-  pub distinct : IsDistinct nat_eq (oids_of t)
+  pub sound : AreSoundChanges t.changes
   pub unpacked : t.packed ≡ false
 
 -- the same of what is to be written, if anything is
@@ -32,7 +39,7 @@ IsSoundVote list None = Unit {0}
 IsSoundVote list (Some v) = IsNextIfSome list v.writes
 
 -- a session was told no more than happened
-abbrev pub IsToldWithin : ℕ → Session → Type 0
+abbrev pub IsToldWithin : ℕ → MachineSession → Type 0
 IsToldWithin happened x = x.told ≤ happened
 
 -- the open pack, if there is one, goes less far than the newest transaction
@@ -49,18 +56,23 @@ pub record IsSoundMachine (m : Machine) : Type 0 where
   pub told : AllByRecursion (IsToldWithin (length m.journal)) m.sessions
   pub within : IsPackWithin m.list m.pack
 
--- a request as its type has it: the stores that wait for a vote name each object once
-abbrev pub IsDistinctRequest : Request → Type 0
-IsDistinctRequest (request.Vote user description extension pending) = IsDistinct nat_eq (map (λ p. p.oid) pending.stores)
-IsDistinctRequest _ = Unit {0}
+-- stores that wait for a vote, as their type has them: of each object once, and none of an empty record
+pub record AreWellFormedStores (stores : List PendingStore) : Type 0 where
+  pub distinct : IsDistinct nat_eq (map (λ p. p.oid) stores)
+  pub filled : All (λ p. IsRecord p.content) stores
+
+-- a request as its type has it
+abbrev pub IsWellFormedRequest : Request → Type 0
+IsWellFormedRequest (request.Vote user description extension pending) = AreWellFormedStores pending.stores
+IsWellFormedRequest _ = Unit {0}
 
 -- and so each request of a history
-abbrev pub IsDistinctEntry : Entry → Type 0
-IsDistinctEntry (Opened n) = Unit {0}
-IsDistinctEntry (Made e) = IsDistinctRequest e.request
+abbrev pub IsWellFormedEntry : Entry → Type 0
+IsWellFormedEntry (Opened n) = Unit {0}
+IsWellFormedEntry (Made e) = IsWellFormedRequest e.request
 
-abbrev pub AreDistinctRequests : List Entry → Type 0
-AreDistinctRequests entries = AllByRecursion IsDistinctEntry entries
+abbrev pub AreWellFormedRequests : List Entry → Type 0
+AreWellFormedRequests entries = AllByRecursion IsWellFormedEntry entries
 
 -- an entry that is no request to pack
 abbrev pub IsNoPack : Entry → Type 0
@@ -92,6 +104,17 @@ pub record IsPackOf (list packed : List Transaction) : Type 0 where
 -- what a step makes of a list: it is as it was, or has one transaction more, or is packed
 abbrev pub Becomes : List Transaction → List Transaction → Type 0
 Becomes list now = GrowsByOne list now ⊎ IsPackOf list now
+
+-- a list that is packed as the machine packs it, by what the records name: just the objects that it marks keep theirs
+pub record IsPackedAsMarked (named : List ℕ → Option (List ℕ)) (list now : List Transaction) : Type 0 where
+  pub tid : ℕ
+  pub collects : Bool
+  pub below : tid < newest_tid list
+  pub is : now ≡ packed collects named tid list
+
+-- what a step makes of a list, and which objects a pack keeps
+abbrev pub BecomesAsMarked : (List ℕ → Option (List ℕ)) → List Transaction → List Transaction → Type 0
+BecomesAsMarked named list now = GrowsByOne list now ⊎ IsPackedAsMarked named list now
 
 -- a list that steps made of another, which was a database at each of them
 pub data ComesTo (list : List Transaction) : List Transaction → Type 0 where

@@ -21,13 +21,12 @@ use Rattle.zb_model.specs.VotingLaws.{database-push, newest-push}
 use Rattle.zodb_core.specs.declared.journal.JournalEntry.{JournalEntry}
 use Rattle.zodb_core.specs.declared.journal.JournalEntry.TheVariants as journal
 use Rattle.zodb_core.specs.declared.request.Request.{Request}
-use Rattle.zodb_core.specs.declared.session.Session.{Session}
 use Rattle.zodb_core.specs.GrowthLaws.{content_kept, revision_kept}
 use Rattle.zodb_core.specs.History.{Entry, Made, Opened, machine_after, machine_behind, stamp_of_step}
-use Rattle.zodb_core.specs.Machine.{Machine, MachineVote, OpenPack, Rules, front_of, has_pack, holds_vote, is_switch, machine_over, new_session, switches_of, with_session}
+use Rattle.zodb_core.specs.Machine.{Machine, MachineSession, MachineVote, OpenPack, Rules, front_of, has_pack, holds_vote, is_switch, machine_over, new_session, switches_of, with_session}
 use Rattle.zodb_core.specs.Outcomes.{StepOutcome, closed_session, failed, is_pack, machine_left, outcome_of, FaultCounts, IsStepMade}
 use Rattle.zodb_core.specs.PackLaws.{greatest_packed, newest_packed}
-use Rattle.zodb_core.specs.Sound.{AreDistinctRequests, Becomes, GoesOnTo, GrowsByOne, GrowsTo, HasNoPack, HasOneMore, IsDistinctEntry, IsDistinctRequest, IsNextIfSome, IsNextTransaction, IsNoPack, IsPackOf, IsPackWithin, IsSoundMachine, IsSoundVote, IsToldWithin, ComesTo, VotesLater, moved, unmoved}
+use Rattle.zodb_core.specs.Sound.{AreWellFormedRequests, Becomes, GoesOnTo, GrowsByOne, GrowsTo, HasNoPack, HasOneMore, IsWellFormedEntry, IsWellFormedRequest, IsNextIfSome, IsNextTransaction, IsNoPack, IsPackOf, IsPackWithin, IsSoundMachine, IsSoundVote, IsToldWithin, ComesTo, VotesLater, moved, unmoved}
 use Rattle.zodb_core.specs.StepCases.{StepCases, by_ending, by_step, within_of}
 use Rattle.zodb_core.specs.Steps.{Stepped, entry_of, step_of, with_commit, with_pack, with_switch, without_pack, without_vote}
 
@@ -37,15 +36,15 @@ pub over_sound : (list : List Transaction) → IsDatabase list → IsSoundMachin
 over_sound list is = record { database = is; next = tt; numbered = omega arith; told = tt; within = tt }
 
 -- a session told all, in the place of another
-told_set : (happened : ℕ) (sessions : List Session) (n : ℕ) (x : Session) → x.told ≤ happened → AllByRecursion (IsToldWithin happened) sessions → AllByRecursion (IsToldWithin happened) (slice_set sessions n x)
+told_set : (happened : ℕ) (sessions : List MachineSession) (n : ℕ) (x : MachineSession) → x.told ≤ happened → AllByRecursion (IsToldWithin happened) sessions → AllByRecursion (IsToldWithin happened) (slice_set sessions n x)
 told_set happened sessions n x one all =
     recursion_from_All (IsToldWithin happened) (slice_set sessions n x) (All-set (IsToldWithin happened) sessions n x one (All-from_recursion (IsToldWithin happened) sessions all))
 
-told_more : (happened more : ℕ) (sessions : List Session) → happened ≤ more → AllByRecursion (IsToldWithin happened) sessions → AllByRecursion (IsToldWithin more) sessions
+told_more : (happened more : ℕ) (sessions : List MachineSession) → happened ≤ more → AllByRecursion (IsToldWithin happened) sessions → AllByRecursion (IsToldWithin more) sessions
 told_more happened more [] up all = tt
 told_more happened more (x ∷ sessions) up all = (omega (arith, up, all.0), told_more happened more sessions up all.1)
 
-told_closed : (happened : ℕ) (sessions : List Session) → AllByRecursion (IsToldWithin happened) sessions → AllByRecursion (IsToldWithin happened) (map closed_session sessions)
+told_closed : (happened : ℕ) (sessions : List MachineSession) → AllByRecursion (IsToldWithin happened) sessions → AllByRecursion (IsToldWithin happened) (map closed_session sessions)
 told_closed happened [] all = tt
 told_closed happened (x ∷ sessions) all = (all.0, told_closed happened sessions all.1)
 
@@ -99,7 +98,7 @@ committed_sound : (m : Machine) (n : ℕ) (v : MachineVote) (t : Transaction) �
 committed_sound m n v t sound is writes =
     let next : IsNextTransaction m.list t = next_of m.list m.vote v t sound.next is writes in
     record {
-      database = database-push m.list t sound.database next.later next.bounded next.distinct;
+      database = database-push m.list t sound.database next.later next.bounded next.sound.distinct next.sound.filled;
       next = tt;
       numbered = omega (arith, greatest_push m.list t, sound.numbered);
       told = told_more (length m.journal) (length (m.journal ++ entry_of n t ∷ [])) m.sessions (omega (arith, length-append m.journal (entry_of n t ∷ []))) sound.told;
@@ -116,8 +115,8 @@ packed_sound m t keep sound free below = record {
   within = tt;
 }
 
-sound_cases : (m : Machine) (n : ℕ) (q : Request) → IsSoundMachine m → IsDistinctRequest q → StepCases (λ s. IsSoundMachine s.machine) m n q
-sound_cases m n q sound once = record {
+sound_cases : (m : Machine) (n : ℕ) (q : Request) → IsSoundMachine m → IsWellFormedRequest q → StepCases (λ s. IsSoundMachine s.machine) m n q
+sound_cases m n q sound formed = record {
   refused = λ r is. sound;
   full = λ count. sound;
   spent = sound;
@@ -126,7 +125,7 @@ sound_cases m n q sound once = record {
   numbers = λ count. record { database = sound.database; next = sound.next; numbered = omega (arith, sound.numbered); told = sound.told; within = sound.within };
   nothing = record { database = sound.database; next = tt; numbered = sound.numbered; told = sound.told; within = sound.within };
   written = λ texts changes tid each later bounded.
-      record { database = sound.database; next = record { later = later; bounded = bounded; distinct = each once; unpacked = refl }; numbered = sound.numbered; told = sound.told; within = sound.within };
+      record { database = sound.database; next = record { later = later; bounded = bounded; sound = each (sound.database, formed); unpacked = refl }; numbered = sound.numbered; told = sound.told; within = sound.within };
   emptied = record { database = sound.database; next = tt; numbered = sound.numbered; told = sound.told; within = sound.within };
   committed = λ v t is writes. committed_sound m n v t sound is writes;
   dropped = dropped_sound m n sound;
@@ -153,25 +152,25 @@ sound_cases m n q sound once = record {
   };
 }
 
-pub step_sound : (rules : Rules) (m : Machine) (n : ℕ) (q : Request) (stamp : ℕ) → IsSoundMachine m → IsDistinctRequest q → IsSoundMachine (step_of rules m n q stamp).machine
-step_sound rules m n q stamp sound distinct = by_step (λ s. IsSoundMachine s.machine) rules m n q stamp (sound_cases m n q sound distinct)
+pub step_sound : (rules : Rules) (m : Machine) (n : ℕ) (q : Request) (stamp : ℕ) → IsSoundMachine m → IsWellFormedRequest q → IsSoundMachine (step_of rules m n q stamp).machine
+step_sound rules m n q stamp sound formed = by_step (λ s. IsSoundMachine s.machine) rules m n q stamp (sound_cases m n q sound formed)
 
-pub left_sound : (rules : Rules) (m : Machine) (n : ℕ) (q : Request) (stamp : ℕ) (outcome : StepOutcome) → IsSoundMachine m → IsDistinctRequest q → IsSoundMachine (machine_left rules m n q stamp outcome)
-left_sound rules m n q stamp outcome sound distinct =
-    by_ending IsSoundMachine rules m n q stamp outcome sound (unpacked_sound m sound) (failed_sound m sound) (sound_cases m n q sound distinct)
+pub left_sound : (rules : Rules) (m : Machine) (n : ℕ) (q : Request) (stamp : ℕ) (outcome : StepOutcome) → IsSoundMachine m → IsWellFormedRequest q → IsSoundMachine (machine_left rules m n q stamp outcome)
+left_sound rules m n q stamp outcome sound formed =
+    by_ending IsSoundMachine rules m n q stamp outcome sound (unpacked_sound m sound) (failed_sound m sound) (sound_cases m n q sound formed)
 
 -- and so a step that was made
 pub made_sound : (rules : Rules) (m : Machine) (n : ℕ) (q : Request) (stamp : ℕ) (made : Stepped) (before now : FaultCounts)
-    → IsStepMade rules m n q stamp made before now → IsSoundMachine m → IsDistinctRequest q → IsSoundMachine made.machine
-made_sound rules m n q stamp made before now step sound distinct = subst IsSoundMachine (sym step.left) (left_sound rules m n q stamp (outcome_of made.reply) sound distinct)
+    → IsStepMade rules m n q stamp made before now → IsSoundMachine m → IsWellFormedRequest q → IsSoundMachine made.machine
+made_sound rules m n q stamp made before now step sound formed = subst IsSoundMachine (sym step.left) (left_sound rules m n q stamp (outcome_of made.reply) sound formed)
 
-pub behind_sound : (rules : Rules) (m : Machine) (e : Entry) → IsSoundMachine m → IsDistinctEntry e → IsSoundMachine (machine_behind rules m e)
-behind_sound rules m (Opened n) sound distinct = opened_sound m sound
-behind_sound rules m (Made e) sound distinct = left_sound rules m e.session e.request (stamp_of_step e) (outcome_of e.reply) sound distinct
+pub behind_sound : (rules : Rules) (m : Machine) (e : Entry) → IsSoundMachine m → IsWellFormedEntry e → IsSoundMachine (machine_behind rules m e)
+behind_sound rules m (Opened n) sound formed = opened_sound m sound
+behind_sound rules m (Made e) sound formed = left_sound rules m e.session e.request (stamp_of_step e) (outcome_of e.reply) sound formed
 
-pub history_sound : (rules : Rules) (m : Machine) (entries : List Entry) → IsSoundMachine m → AreDistinctRequests entries → IsSoundMachine (machine_after rules m entries)
-history_sound rules m [] sound distinct = sound
-history_sound rules m (e ∷ entries) sound distinct = history_sound rules (machine_behind rules m e) entries (behind_sound rules m e sound distinct.0) distinct.1
+pub history_sound : (rules : Rules) (m : Machine) (entries : List Entry) → IsSoundMachine m → AreWellFormedRequests entries → IsSoundMachine (machine_after rules m entries)
+history_sound rules m [] sound formed = sound
+history_sound rules m (e ∷ entries) sound formed = history_sound rules (machine_behind rules m e) entries (behind_sound rules m e sound formed.0) formed.1
 
 -- ---- a list that grows or is packed
 
@@ -354,11 +353,11 @@ comes_from list mid now is becomes on = comes_on list mid now (moved list mid un
 pub comes_twice : (list mid now : List Transaction) → ComesTo list mid → ComesTo mid now → ComesTo list now
 comes_twice list mid now first on = comes_on list mid now first on
 
-pub history_comes : (rules : Rules) (m : Machine) (entries : List Entry) → IsSoundMachine m → AreDistinctRequests entries → ComesTo m.list (machine_after rules m entries).list
-history_comes rules m [] sound distinct = unmoved
-history_comes rules m (e ∷ entries) sound distinct =
+pub history_comes : (rules : Rules) (m : Machine) (entries : List Entry) → IsSoundMachine m → AreWellFormedRequests entries → ComesTo m.list (machine_after rules m entries).list
+history_comes rules m [] sound formed = unmoved
+history_comes rules m (e ∷ entries) sound formed =
     comes_from m.list (machine_behind rules m e).list (machine_after rules m (e ∷ entries)).list sound.database (behind_becomes rules m e sound)
-    (history_comes rules (machine_behind rules m e) entries (behind_sound rules m e sound distinct.0) distinct.1)
+    (history_comes rules (machine_behind rules m e) entries (behind_sound rules m e sound formed.0) formed.1)
 
 -- the newest is no older, and the front no lower
 pub newest_come : (list now : List Transaction) → ComesTo list now → newest_tid list ≤ newest_tid now
@@ -368,8 +367,8 @@ newest_come list _ (moved mid now before is becomes) = omega (arith, newest_come
 pub front_come : (list now : List Transaction) → ComesTo list now → front_of list ≤ front_of now
 front_come list now leads = omega (arith, newest_come list now leads)
 
-pub history_newest : (rules : Rules) (m : Machine) (entries : List Entry) → IsSoundMachine m → AreDistinctRequests entries → newest_tid m.list ≤ newest_tid (machine_after rules m entries).list
-history_newest rules m entries sound distinct = newest_come m.list (machine_after rules m entries).list (history_comes rules m entries sound distinct)
+pub history_newest : (rules : Rules) (m : Machine) (entries : List Entry) → IsSoundMachine m → AreWellFormedRequests entries → newest_tid m.list ≤ newest_tid (machine_after rules m entries).list
+history_newest rules m entries sound formed = newest_come m.list (machine_after rules m entries).list (history_comes rules m entries sound formed)
 
 -- ---- a list that grew over a history
 
@@ -397,11 +396,11 @@ behind_grows : (rules : Rules) (m : Machine) (e : Entry) → IsNoPack e → IsSo
 behind_grows rules m (Opened n) not sound = inl refl
 behind_grows rules m (Made e) not sound = left_grows rules m e.session e.request (stamp_of_step e) (outcome_of e.reply) not sound
 
-pub history_grows : (rules : Rules) (m : Machine) (entries : List Entry) → IsSoundMachine m → AreDistinctRequests entries → HasNoPack entries → GrowsTo m.list (machine_after rules m entries).list
-history_grows rules m [] sound distinct none = grows_not m.list
-history_grows rules m (e ∷ entries) sound distinct none =
+pub history_grows : (rules : Rules) (m : Machine) (entries : List Entry) → IsSoundMachine m → AreWellFormedRequests entries → HasNoPack entries → GrowsTo m.list (machine_after rules m entries).list
+history_grows rules m [] sound formed none = grows_not m.list
+history_grows rules m (e ∷ entries) sound formed none =
     grows_on m.list (machine_behind rules m e).list (machine_after rules m (e ∷ entries)).list (behind_grows rules m e none.0 sound)
-    (history_grows rules (machine_behind rules m e) entries (behind_sound rules m e sound distinct.0) distinct.1 none.1)
+    (history_grows rules (machine_behind rules m e) entries (behind_sound rules m e sound formed.0) formed.1 none.1)
 
 -- one transaction more is one of several
 pub grows_to : (list grown : List Transaction) → GrowsByOne list grown → GrowsTo list grown

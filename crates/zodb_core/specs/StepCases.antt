@@ -1,7 +1,6 @@
 -- What a step may do: what holds of each of these holds of every step. For the proofs of those who follow the machine.
-use Rattle.std.proofs.Common.{◌≡◌, ℕ, ◌+◌, ◌-◌, ◌^◌, ◌<◌, Bool, true, false, not, cond, ltb, List, [], ◌∷◌, length, map, Option, Some, None, Result, Ok, Err, refl, ap, subst, ◌∙◌, arith}
-use Rattle.std.specs.Prelude.{nat_eq, nat_le, nat_lt, ◌==◌, if◌then◌else◌, drop, take}
-use Rattle.std.specs.List.{IsDistinct}
+use Rattle.std.proofs.Common.{◌≡◌, ℕ, ◌+◌, ◌-◌, ◌^◌, ◌<◌, Bool, true, false, not, cond, ltb, List, [], ◌∷◌, length, Option, Some, None, Result, Ok, Err, refl, ap, subst, ◌∙◌, arith}
+use Rattle.std.specs.Prelude.{nat_le, nat_lt, ◌==◌, if◌then◌else◌, drop, take}
 use Rattle.std.specs.Option.{option_map_or, option_or}
 use Rattle.std.specs.Ordering.{nat_cmp}
 use Rattle.std.specs.FinSet.{FinSet, len}
@@ -14,7 +13,7 @@ use Rattle.zb_model.specs.declared.lists.LogLine.{LogLine}
 use Rattle.zb_model.specs.declared.lists.Revision.{Revision}
 use Rattle.zb_model.specs.declared.refusal.Refusal.{Refusal}
 use Rattle.zb_model.specs.declared.refusal.Refusal.TheVariants as refusal
-use Rattle.zb_model.specs.Database.{newest_tid}
+use Rattle.zb_model.specs.Database.{IsDatabase, newest_tid}
 use Rattle.zb_model.specs.Lists.{history_of, undo_log_of}
 use Rattle.zb_model.specs.Packing.{packed_by}
 use Rattle.zb_model.specs.Packs.{change_count, turn_from}
@@ -27,14 +26,14 @@ use Rattle.zodb_core.specs.declared.reply.Reply.TheVariants as reply
 use Rattle.zodb_core.specs.declared.request.Request.{Request}
 use Rattle.zodb_core.specs.declared.request.Request.TheVariants as request
 use Rattle.zodb_core.specs.declared.texts.Texts.{Texts}
-use Rattle.zodb_core.specs.DecisionLaws.{AnswersIfSome, IsDecidedOnce, IsOrdinary, answers_or, ordinary_decision, undo_decided, vote_decided}
+use Rattle.zodb_core.specs.DecisionLaws.{AnswersIfSome, IsDecidedSound, IsOrdinary, LosesPack, answers_or, ordinary_decision, undo_decided, vote_decided}
 use Rattle.zodb_core.specs.Machine.{Machine, MachineVote, OpenPack, PackCopying, Rules, holds_vote, is_open_in}
 use Rattle.zodb_core.specs.Outcomes.{Answered, NoMemory, ReadingFailed, StepOutcome, StoreFailed, failed, is_pack, machine_left, unanswered}
 use Rattle.zodb_core.specs.Seen.{PackGoal, goal_of_open, goal_of_pack, pack_goal}
-use Rattle.zodb_core.specs.Sound.{IsDistinctRequest, IsPackWithin}
+use Rattle.zodb_core.specs.Sound.{AreSoundChanges, IsWellFormedRequest, IsPackWithin}
 use Rattle.zodb_core.specs.Steps.{Stepped, begin_refusal, begin_step, busy_for, busy_for_all, changes_in_journal, changes_undone, copied_step, copy_step, copying_reply, early_refusal, finish_gives, finish_step, front_step, journal_limit, last_step, loaded, mark_step, marked_step, marks_on, oids_step, pack_dropped, pack_refusal, pack_running, pack_step, pack_tid, packed_already, refuse_if, replied, replied_refusal, request_refusal, request_step, since_step, step_of, switch_step, switched, switches_next, transaction_with, turn_of_copying, turn_refusal, turn_step, unless_early, unless_overtaken, unless_unread, vote_at, vote_counted, vote_refusal, vote_step, with_commit, with_pack, with_vote, without_pack, without_session, without_vote}
 
--- each thing that a step of this session may do for a request, with its reply; what is written names each object once where the request does
+-- each thing that a step of this session may do for a request, with its reply; what is written may be written where the list is a database and the request is as its type has it
 pub record StepCases (P : Stepped → Type 0) (m : Machine) (n : ℕ) (q : Request) : Type 0 where
   pub refused : (r : Refusal) → IsOrdinary r → P (replied_refusal m r)
   pub full : (count : ℕ) → P (replied_refusal m (refusal.JournalFull count))
@@ -43,7 +42,7 @@ pub record StepCases (P : Stepped → Type 0) (m : Machine) (n : ℕ) (q : Reque
   pub found : (oid : ℕ) (f : Found) → P (replied m (loaded m oid f))
   pub numbers : (count : ℕ) → P (oids_step m count)
   pub nothing : P (replied (with_vote m n None) reply.Voted)
-  pub written : (texts : Texts) (changes : List Change) (tid : ℕ) → (IsDistinctRequest q → IsDistinct nat_eq (map (λ c. c.oid) changes)) → newest_tid m.list < tid → tid < 2 ^ 64 - 1
+  pub written : (texts : Texts) (changes : List Change) (tid : ℕ) → (IsDatabase m.list × IsWellFormedRequest q → AreSoundChanges changes) → newest_tid m.list < tid → tid < 2 ^ 64 - 1
       → P (record { reply = reply.Voted; machine = with_vote m n (Some (transaction_with tid texts changes)); ticks = true })
   pub emptied : P (replied (record m { vote = None }) reply.Empty)
   pub committed : (v : MachineVote) (t : Transaction) → m.vote ≡ Some v → v.writes ≡ Some t → P (replied (with_commit m n t) (reply.Committed t.tid))
@@ -58,7 +57,7 @@ pub record StepCases (P : Stepped → Type 0) (m : Machine) (n : ℕ) (q : Reque
       → P (replied (with_pack m (record p { copying = Some (record k { copied = copied; is_whole = false }) })) (reply.Copying count))
   pub copied : is_pack q ≡ true → (p : OpenPack) (k : PackCopying) (copied count : ℕ) → m.pack ≡ Some p → p.copying ≡ Some k
       → P (replied (with_pack m (record p { copying = Some (record k { copied = copied; is_whole = true }) })) (reply.Copied count))
-  pub lost : is_pack q ≡ true → (r : Refusal) → IsOrdinary r → P (pack_dropped m r)
+  pub lost : is_pack q ≡ true → (r : Refusal) → LosesPack r → P (pack_dropped m r)
   pub packed : is_pack q ≡ true → (t : ℕ) (keep : FinSet nat_cmp) → m.vote ≡ None → (IsPackWithin m.list m.pack → t < newest_tid m.list) → P (switched m t (packed_by t keep m.list))
   pub last : P (last_step m)
   pub since : (tid changes : ℕ) → P (since_step m tid changes)
@@ -74,7 +73,7 @@ pub record PackCases (P : Stepped → Type 0) (named : List ℕ → Option (List
       → P (replied (with_pack m (record p { copying = Some (record k { copied = copied; is_whole = false }) })) (reply.Copying count))
   pub copied : (p : OpenPack) (k : PackCopying) (copied count : ℕ) → m.pack ≡ Some p → p.copying ≡ Some k
       → P (replied (with_pack m (record p { copying = Some (record k { copied = copied; is_whole = true }) })) (reply.Copied count))
-  pub lost : (r : Refusal) → IsOrdinary r → P (pack_dropped m r)
+  pub lost : (r : Refusal) → LosesPack r → P (pack_dropped m r)
   pub packed : (g : PackGoal) → pack_goal q m.list (goal_of_open m.pack) ≡ Some g → m.vote ≡ None → (IsPackWithin m.list m.pack → g.tid < newest_tid m.list)
       → P (switched m g.tid (packed g.collects named g.tid m.list))
 
@@ -98,47 +97,47 @@ answers_if false r is = tt
 
 busy_answers : (n : ℕ) (vote : Option MachineVote) → AnswersIfSome (busy_for n vote)
 busy_answers n None = tt
-busy_answers n (Some v) = answers_if (not (v.session == n)) (refusal.Busy v.session) (refl, refl, refl)
+busy_answers n (Some v) = answers_if (not (v.session == n)) (refusal.Busy v.session) (refl, refl, refl, refl)
 
 vote_answers : (n : ℕ) (vote : Option MachineVote) → AnswersIfSome (vote_refusal n vote)
-vote_answers n vote = answers_or (refuse_if (holds_vote n vote) refusal.Voted) (busy_for n vote) (answers_if (holds_vote n vote) refusal.Voted (refl, refl, refl)) (busy_answers n vote)
+vote_answers n vote = answers_or (refuse_if (holds_vote n vote) refusal.Voted) (busy_for n vote) (answers_if (holds_vote n vote) refusal.Voted (refl, refl, refl, refl)) (busy_answers n vote)
 
 running_answers : (pack : Option OpenPack) → AnswersIfSome (pack_running pack)
 running_answers None = tt
-running_answers (Some p) = (refl, refl, refl)
+running_answers (Some p) = (refl, refl, refl, refl)
 
 held_answers : (vote : Option MachineVote) → AnswersIfSome (busy_for_all vote)
 held_answers None = tt
-held_answers (Some v) = (refl, refl, refl)
+held_answers (Some v) = (refl, refl, refl, refl)
 
 pack_answers : (m : Machine) (tid : ℕ) → AnswersIfSome (pack_refusal m tid)
 pack_answers m tid =
     answers_or (pack_running m.pack) (option_or (busy_for_all m.vote) (packed_already (pack_tid tid m.list) (pack_point m.list))) (running_answers m.pack)
     (answers_or (busy_for_all m.vote) (packed_already (pack_tid tid m.list) (pack_point m.list)) (held_answers m.vote)
-    (answers_if (nat_le (pack_tid tid m.list) (pack_point m.list)) (refusal.PackedAlready (pack_point m.list)) (refl, refl, refl)))
+    (answers_if (nat_le (pack_tid tid m.list) (pack_point m.list)) (refusal.PackedAlready (pack_point m.list)) (refl, refl, refl, refl)))
 
 begin_answers : (m : Machine) (tid : ℕ) → AnswersIfSome (begin_refusal m tid)
 begin_answers m tid =
     answers_or (pack_running m.pack) (packed_already (pack_tid tid m.list) (pack_point m.list)) (running_answers m.pack)
-    (answers_if (nat_le (pack_tid tid m.list) (pack_point m.list)) (refusal.PackedAlready (pack_point m.list)) (refl, refl, refl))
+    (answers_if (nat_le (pack_tid tid m.list) (pack_point m.list)) (refusal.PackedAlready (pack_point m.list)) (refl, refl, refl, refl))
 
 switch_answers : (b : Bool) (vote : Option MachineVote) → AnswersIfSome (if b then busy_for_all vote else None)
 switch_answers true vote = held_answers vote
 switch_answers false vote = tt
 
 turn_answers : (m : Machine) (n : ℕ) (pack : Option OpenPack) → AnswersIfSome (turn_refusal m n pack)
-turn_answers m n None = (refl, refl, refl)
+turn_answers m n None = (refl, refl, refl, refl)
 turn_answers m n (Some p) =
     answers_or (refuse_if (not (p.session == n)) (refusal.PackRunning p.session)) (if switches_next p then busy_for_all m.vote else None)
-    (answers_if (not (p.session == n)) (refusal.PackRunning p.session) (refl, refl, refl)) (switch_answers (switches_next p) m.vote)
+    (answers_if (not (p.session == n)) (refusal.PackRunning p.session) (refl, refl, refl, refl)) (switch_answers (switches_next p) m.vote)
 
 request_answers : (m : Machine) (n : ℕ) (q : Request) → AnswersIfSome (request_refusal m n q)
 request_answers m n request.Front = tt
 request_answers m n (request.LoadBefore oid front) = tt
-request_answers m n (request.NewOids count) = answers_if (nat_lt (2 ^ 64 - 1) (m.greatest + count)) refusal.OidsSpent (refl, refl, refl)
+request_answers m n (request.NewOids count) = answers_if (nat_lt (2 ^ 64 - 1) (m.greatest + count)) refusal.OidsSpent (refl, refl, refl, refl)
 request_answers m n (request.Vote user description extension pending) = vote_answers n m.vote
 request_answers m n (request.Undo user description tids) = vote_answers n m.vote
-request_answers m n request.Finish = answers_if (not (holds_vote n m.vote)) refusal.NotVoted (refl, refl, refl)
+request_answers m n request.Finish = answers_if (not (holds_vote n m.vote)) refusal.NotVoted (refl, refl, refl, refl)
 request_answers m n request.Abort = tt
 request_answers m n (request.History oid) = tt
 request_answers m n request.UndoLog = tt
@@ -152,7 +151,7 @@ request_answers m n request.Close = tt
 pub early_answers : (m : Machine) (n : ℕ) (q : Request) → AnswersIfSome (early_refusal m n q)
 early_answers m n q =
     answers_or (refuse_if (not (is_open_in m.sessions n)) refusal.NotOpen) (request_refusal m n q)
-    (answers_if (not (is_open_in m.sessions n)) refusal.NotOpen (refl, refl, refl)) (request_answers m n q)
+    (answers_if (not (is_open_in m.sessions n)) refusal.NotOpen (refl, refl, refl, refl)) (request_answers m n q)
 
 -- ---- the cases are all
 
@@ -164,7 +163,7 @@ above_newest newest stamp = by_cases (ltb newest stamp) refl
     by_cases false e = omega arith
 
 at_cases : (P : Stepped → Type 0) (m : Machine) (n : ℕ) (q : Request) (texts : Texts) (changes : List Change) (tid : ℕ) → StepCases P m n q
-    → (IsDistinctRequest q → IsDistinct nat_eq (map (λ c. c.oid) changes)) → newest_tid m.list < tid → P (vote_at m n texts changes tid)
+    → (IsDatabase m.list × IsWellFormedRequest q → AreSoundChanges changes) → newest_tid m.list < tid → P (vote_at m n texts changes tid)
 at_cases P m n q texts changes tid cases once later = by_cases (ltb tid (2 ^ 64 - 1)) refl
   where
     by_cases : (b : Bool) → ltb tid (2 ^ 64 - 1) ≡ b
@@ -173,7 +172,7 @@ at_cases P m n q texts changes tid cases once later = by_cases (ltb tid (2 ^ 64 
     by_cases false e = cases.spent
 
 counted_cases : (P : Stepped → Type 0) (m : Machine) (n : ℕ) (q : Request) (texts : Texts) (changes : List Change) (stamp count : ℕ) → StepCases P m n q
-    → (IsDistinctRequest q → IsDistinct nat_eq (map (λ c. c.oid) changes)) → P (vote_counted m n texts changes stamp count)
+    → (IsDatabase m.list × IsWellFormedRequest q → AreSoundChanges changes) → P (vote_counted m n texts changes stamp count)
 counted_cases P m n q texts changes stamp count cases once =
     by_cases (nat_lt journal_limit count) (at_cases P m n q texts changes (tid_after (newest_tid m.list) stamp) cases once (above_newest (newest_tid m.list) stamp))
   where
@@ -183,7 +182,7 @@ counted_cases P m n q texts changes stamp count cases once =
     by_cases false rest = rest
 
 vote_cases : (P : Stepped → Type 0) (m : Machine) (n : ℕ) (q : Request) (texts : Texts) (stamp : ℕ) (decided : Result (List Change) Refusal) → StepCases P m n q
-    → IsDecidedOnce (IsDistinctRequest q) decided → P (vote_step m n texts stamp decided)
+    → IsDecidedSound (IsDatabase m.list × IsWellFormedRequest q) decided → P (vote_step m n texts stamp decided)
 vote_cases P m n q texts stamp (Err r) cases once = cases.refused r (ordinary_decision r once)
 vote_cases P m n q texts stamp (Ok []) cases once = cases.nothing
 vote_cases P m n q texts stamp (Ok (c ∷ changes)) cases once =
@@ -195,7 +194,7 @@ writes_cases P m n q v None cases is writes = cases.emptied
 writes_cases P m n q v (Some t) cases is writes = cases.committed v t is writes
 
 finish_cases : (P : Stepped → Type 0) (m : Machine) (n : ℕ) (q : Request) (vote : Option MachineVote) → StepCases P m n q → m.vote ≡ vote → P (finish_step m n vote)
-finish_cases P m n q None cases is = cases.refused refusal.NotVoted (refl, refl, refl)
+finish_cases P m n q None cases is = cases.refused refusal.NotVoted (refl, refl, refl, refl)
 finish_cases P m n q (Some v) cases is = writes_cases P m n q v v.writes cases is refl
 
 -- a pack that nothing refuses at once: no vote is held, and it goes further than an earlier one
@@ -243,11 +242,11 @@ pub within_of : (list : List Transaction) (pack : Option OpenPack) (p : OpenPack
 within_of list pack p is within = subst (IsPackWithin list) is within
 
 unread_cases : (P : Stepped → Type 0) (named : List ℕ → Option (List ℕ)) (m : Machine) (n : ℕ) (q : Request) (w : Option (ℕ × ℕ)) (next : Stepped) → PackCases P named m n q → P next → P (unless_unread m w next)
-unread_cases P named m n q (Some w) next cases one = cases.lost (refusal.Unreadable w.0 w.1) (refl, refl, refl)
+unread_cases P named m n q (Some w) next cases one = cases.lost (refusal.Unreadable w.0 w.1) (refl, refl, refl, refl)
 unread_cases P named m n q None next cases one = one
 
 overtaken_cases : (P : Stepped → Type 0) (named : List ℕ → Option (List ℕ)) (m : Machine) (n : ℕ) (q : Request) (w : Option (ℕ × ℕ)) (next : Stepped) → PackCases P named m n q → P next → P (unless_overtaken m w next)
-overtaken_cases P named m n q (Some w) next cases one = cases.lost (refusal.Overtaken w.0 w.1) (refl, refl, refl)
+overtaken_cases P named m n q (Some w) next cases one = cases.lost (refusal.Overtaken w.0 w.1) (refl, refl, refl, refl)
 overtaken_cases P named m n q None next cases one = one
 
 pack_cases : (P : Stepped → Type 0) (named : List ℕ → Option (List ℕ)) (m : Machine) (n tid : ℕ) (collect : Bool) → PackCases P named m n (request.Pack tid collect) → pack_refusal m tid ≡ None

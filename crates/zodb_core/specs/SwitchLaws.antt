@@ -23,12 +23,12 @@ use Rattle.zodb_core.specs.declared.request.Request.{Request}
 use Rattle.zodb_core.specs.declared.request.Request.TheVariants as request
 use Rattle.zodb_core.specs.Laws.{IsPackedTo}
 use Rattle.zodb_core.specs.Machine.{Machine, Rules, front_of, is_open_in}
-use Rattle.zodb_core.specs.Outcomes.{is_pack, is_packed}
+use Rattle.zodb_core.specs.Outcomes.{Answered, NoMemory, ReadingFailed, StepOutcome, StoreFailed, is_pack, is_packed, machine_left}
 use Rattle.zodb_core.specs.PackLaws.{newest_packed}
 use Rattle.zodb_core.specs.Seen.{KeepsSeen, KeepsViews, PackGoal, goal_of_open, pack_goal}
-use Rattle.zodb_core.specs.Sound.{Becomes, GrowsByOne, IsPackOf, IsPackWithin, ComesTo, moved, unmoved}
-use Rattle.zodb_core.specs.SoundLaws.{front_come, grows_to, revision_grown}
-use Rattle.zodb_core.specs.StepCases.{PackCases, StepCases, allowed_request, by_pack_step, by_step, pack_free}
+use Rattle.zodb_core.specs.Sound.{Becomes, BecomesAsMarked, GrowsByOne, IsPackOf, IsPackWithin, IsSoundMachine, ComesTo, moved, unmoved}
+use Rattle.zodb_core.specs.SoundLaws.{front_come, grows_to, left_grows, revision_grown}
+use Rattle.zodb_core.specs.StepCases.{PackCases, StepCases, allowed_request, by_pack_step, by_step, by_unanswered, pack_free}
 use Rattle.zodb_core.specs.Steps.{Stepped, begin_step, early_refusal, loaded, pack_refusal, pack_step, pack_tid, step_of, switched, unless_early, unless_unread}
 
 -- ---- what views see
@@ -120,6 +120,35 @@ unpacked_cases m n q not = record {
 
 pub step_unpacked : (rules : Rules) (m : Machine) (n : ℕ) (q : Request) (stamp : ℕ) → is_pack q ≡ false → is_packed (step_of rules m n q stamp).reply ≡ false
 step_unpacked rules m n q stamp not = by_step IsUnpacked rules m n q stamp (unpacked_cases m n q not)
+
+-- ---- and what they keep
+
+-- a list that only grew, or was packed as the machine packs it
+marked_cases : (named : List ℕ → Option (List ℕ)) (m : Machine) (n : ℕ) (q : Request) → IsSoundMachine m → PackCases (λ s. BecomesAsMarked named m.list s.machine.list) named m n q
+marked_cases named m n q sound = record {
+  refused = λ r answers. inl (inl refl);
+  begun = λ t collects none below. inl (inl refl);
+  marking = λ p count there. inl (inl refl);
+  marked = λ p there none. inl (inl refl);
+  copying = λ p k copied count there copying. inl (inl refl);
+  copied = λ p k copied count there copying. inl (inl refl);
+  lost = λ r answers. inl (inl refl);
+  packed = λ g goal free below. inr (record { tid = g.tid; collects = g.collects; below = below sound.within; is = refl });
+}
+
+step_as_marked : (rules : Rules) (m : Machine) (n : ℕ) (q : Request) (stamp : ℕ) → IsSoundMachine m → BecomesAsMarked rules.named m.list (step_of rules m n q stamp).machine.list
+step_as_marked rules m n q stamp sound =
+    ⊎_elim (λ (pack : is_pack q ≡ true). by_pack_step (λ s. BecomesAsMarked rules.named m.list s.machine.list) rules m n q stamp pack (marked_cases rules.named m n q sound))
+    (λ (not : is_pack q ≡ false). inl (left_grows rules m n q stamp Answered not sound))
+    (cases_Bool (is_pack q))
+
+-- however it ends
+pub left_as_marked : (rules : Rules) (m : Machine) (n : ℕ) (q : Request) (stamp : ℕ) (outcome : StepOutcome) → IsSoundMachine m
+    → BecomesAsMarked rules.named m.list (machine_left rules m n q stamp outcome).list
+left_as_marked rules m n q stamp Answered sound = step_as_marked rules m n q stamp sound
+left_as_marked rules m n q stamp ReadingFailed sound = by_unanswered (λ x. BecomesAsMarked rules.named m.list x.list) q m (inl (inl refl)) (inl (inl refl))
+left_as_marked rules m n q stamp NoMemory sound = by_unanswered (λ x. BecomesAsMarked rules.named m.list x.list) q m (inl (inl refl)) (inl (inl refl))
+left_as_marked rules m n q stamp StoreFailed sound = inl (inl refl)
 
 pub packed_as_asked : (rules : Rules) (m : Machine) (n : ℕ) (q : Request) (stamp : ℕ) → is_packed (step_of rules m n q stamp).reply ≡ true
     → IsPackedTo rules.named (pack_goal q m.list (goal_of_open m.pack)) m.list (step_of rules m n q stamp).machine.list

@@ -18,7 +18,7 @@ use crate::oids::greatest_with;
 use crate::open_pack::HubPack;
 use crate::reply::Reply;
 use crate::request::Request;
-use crate::session::{Session, set_session};
+use crate::session::{HubSession, set_session};
 use crate::vote::{HubVote, VotedEntry};
 use zb_model::{Refs, Refusal, Resolver, Store};
 use zb_volume::StoreFault;
@@ -202,7 +202,7 @@ impl<St: Store, R: Resolver, F: Refs> Hub<St, R, F> {
             return Reply::Refused(Refusal::StoreFault);
         };
         self.drop_pack(session);
-        let closed = Session {
+        let closed = HubSession {
             is_open: false,
             told: self.journal.len() as u64,
         };

@@ -9,7 +9,7 @@ ghost use Rattle.zodb_core.specs.Machine.{Machine, is_open_in, machine_over, ses
 use crate::errors::SessionRefusal;
 use crate::journal::JournalEntry;
 use crate::open_pack::HubPack;
-use crate::session::{Session, is_open, push_session};
+use crate::session::{HubSession, is_open, push_session};
 use crate::vote::HubVote;
 use std::alloc::Global;
 use std::marker::Model;
@@ -38,7 +38,7 @@ pub struct Hub<St: Store, R: Resolver, F: Refs> {
     /// The greatest number of an object that stood in the list at any moment or was handed out.
     pub(crate) greatest: Oid,
     /// The sessions, by their numbers.
-    pub(crate) sessions: Vec<Session>,
+    pub(crate) sessions: Vec<HubSession>,
     /// The vote, where one is held.
     pub(crate) vote: Option<HubVote>,
     /// The pack, where one is open.
@@ -146,7 +146,7 @@ impl<St: Store, R: Resolver, F: Refs> Hub<St, R, F> {
         if count >= SESSION_LIMIT {
             return Err(SessionRefusal::TooManySessions { count });
         }
-        let session = Session {
+        let session = HubSession {
             is_open: !self.failed,
             told: self.journal.len() as u64,
         };

@@ -2,13 +2,16 @@
 
 ghost use Rattle.zodb_core.specs.History.{CountsGoOn, HistoriesGoOn, MachinesGoOn};
 ghost use Rattle.zodb_core.specs.History.{PrefixesAreLegal, RepliesAreOne, StepsAreEntries, UnreadStepsAreOne};
-ghost use Rattle.zodb_core.specs.Laws.{CountsNeverFall, EndingsKeepSound, FreeVotesAreServed, FrontsNeverFall};
+ghost use Rattle.zodb_core.specs.Laws.{CountsNeverFall, CurrentVotesAreVoted, EndingsKeepSound};
+ghost use Rattle.zodb_core.specs.Laws.{FreeVotesAreServed, FrontsNeverFall};
 ghost use Rattle.zodb_core.specs.Laws.{GreatestNeverFalls, HistoriesKeepSound, HistoriesComeTo, HistoriesOnlyGrow};
 ghost use Rattle.zodb_core.specs.Laws.{JournalIsFull, ListsArePackedAsAsked, ListsOnlyGrow, ListsStayDatabases};
 ghost use Rattle.zodb_core.specs.Laws.{MachineStartsSound, TurnsKeepLists};
 ghost use Rattle.zodb_core.specs.Laws.{NewNumbersAreNew, NewestNeverFalls, NumbersComeBehindGreatest};
-ghost use Rattle.zodb_core.specs.Laws.{OpeningsKeepSound, PacksKeepFronts, PacksKeepViews, RecordsBelowFrontsStood};
-ghost use Rattle.zodb_core.specs.Laws.{StatesBelowFrontsStay, StepsAreAnswered, StepsGrowOrPack, StepsHaveRoom, StepsKeepSound};
+ghost use Rattle.zodb_core.specs.Laws.{OpeningsKeepSound, PacksKeepFronts, PacksKeepViews};
+ghost use Rattle.zodb_core.specs.Laws.{RecordsBelowFrontsStood, RefusalsLeave};
+ghost use Rattle.zodb_core.specs.Laws.{StatesBelowFrontsStay, StepsAreAnswered, StepsGrowOrPack};
+ghost use Rattle.zodb_core.specs.Laws.{StepsHaveRoom, StepsKeepSound, StepsPackAsMarked};
 
 /// What a legal history begins with is legal.
 #[tactic(auto, using(crate::proofs::Legal::prefixes))]
@@ -57,10 +60,12 @@ pub fn machines_stay_sound()
 {}
 
 /// A step leaves the list as it was, puts one later transaction behind it, or, where it was asked to pack,
-/// packs it. So the newest is never older and the front never lower. Without a pack what stood below a
-/// front that the list had reached stays as it was; with packs no record stands there that didn't before.
+/// packs it: just the objects that it marks keep records up to the pack's tid. So the newest is never
+/// older and the front never lower. Without a pack what stood below a front that the list had reached
+/// stays as it was; with packs no record stands there that didn't before.
 pub fn lists_only_grow()
     ensures step { StepsGrowOrPack }
+    ensures marked { StepsPackAsMarked }
     ensures unpacked { ListsOnlyGrow }
     ensures histories { HistoriesComeTo }
     ensures growing { HistoriesOnlyGrow }
@@ -101,6 +106,20 @@ pub fn steps_are_answered()
 /// Along a legal history neither count of faults falls.
 pub fn counts_never_fall()
     ensures { CountsNeverFall }
+{}
+
+/// A refused step leaves the machine as it was, but for this: `Unreadable` and `Overtaken` end the pack, and
+/// so does a request on a pack for which reading failed or memory ran out; a store that failed closes
+/// every session.
+pub fn refusals_leave()
+    ensures { RefusalsLeave }
+{}
+
+/// A vote of an open session, while none is held, that was made from what stands and whose deleted objects
+/// are there, whose checks hold, which passes no limit and for which a tid is left, is voted; or memory ran
+/// out, or a count of faults rose.
+pub fn current_votes_are_voted()
+    ensures { CurrentVotesAreVoted }
 {}
 
 /// A step is refused for a full journal exactly where nothing refuses it at once, something is to be

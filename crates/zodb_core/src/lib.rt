@@ -27,12 +27,12 @@ pub use errors::SessionRefusal;
 pub use hub::{Hub, SESSION_LIMIT};
 pub use journal::JournalEntry;
 pub use laws::{
-    counts_never_fall, free_steps_are_served, fronts_never_fall, histories_begin, histories_go_on,
-    journal_is_full, lists_only_grow, machines_stay_sound, new_numbers_are_new, packs_keep_views,
-    replies_are_one, steps_are_answered, unread_steps_are_one,
+    counts_never_fall, current_votes_are_voted, free_steps_are_served, fronts_never_fall,
+    histories_begin, histories_go_on, journal_is_full, lists_only_grow, machines_stay_sound,
+    new_numbers_are_new, packs_keep_views, refusals_leave, replies_are_one, steps_are_answered,
+    unread_steps_are_one,
 };
 pub use open_pack::{HubCopying, HubPack};
 pub use reply::Reply;
 pub use request::Request;
-pub use session::Session;
 pub use vote::{HubVote, VotedEntry};

@@ -11,7 +11,7 @@ use crate::hub::Hub;
 use crate::news::gather_news;
 use crate::reply::Reply;
 use crate::request::Request;
-use crate::session::{Session, set_session, told_of};
+use crate::session::{HubSession, set_session, told_of};
 use std::alloc::Global;
 use zb_ids::{Oid, Tid};
 use zb_model::{Found, Refs, Refusal, Resolver, Store, StoreError};
@@ -73,7 +73,7 @@ impl<St: Store, R: Resolver, F: Refs> Hub<St, R, F> {
         set_session(
             &mut self.sessions,
             session,
-            Session {
+            HubSession {
                 is_open: true,
                 told,
             },

@@ -28,7 +28,7 @@ pub enum Request {
         description: Text8,
         /// Further notes of the program that makes it, at most 65,535 bytes.
         extension: Text8,
-        /// The stores and the checks.
+        /// The stores, the deletes and the checks.
         pending: Pending,
     },
     /// A vote on taking transactions back.

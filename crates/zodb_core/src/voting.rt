@@ -105,6 +105,9 @@ fn vote_reply(refusal: VoteRefusal) -> Reply
             current,
             why,
         }),
+        VoteRefusal::NothingToDelete { oid, current } => {
+            Reply::Refused(Refusal::NothingToDelete { oid, current })
+        }
         VoteRefusal::ReadConflict { oid, base, current } => {
             Reply::Refused(Refusal::ReadConflict { oid, base, current })
         }

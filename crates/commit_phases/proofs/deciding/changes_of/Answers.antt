@@ -1,16 +1,17 @@
-use Rattle.std.proofs.Common.{◌≡◌, ◌+◌, ◌<◌, ◌∷◌, ◌++◌, List, length, map, sym, ap, subst, ◌∙◌, arith}
+use Rattle.std.proofs.Common.{◌≡◌, ◌+◌, ◌≤◌, ◌∷◌, ◌++◌, List, length, map, sym, ap, subst, ◌∙◌, arith}
 use Rattle.std.specs.Prelude.{All}
+use Rattle.std.specs.List.{sum_by}
 use Rattle.std.specs.Vec.Iter.{into_iter_items, into_iter_len}
 use Rattle.std.proofs.lemmas.List.Elements.{All-head, All-push, All-rest}
 use Rattle.zb_model.specs.declared.new_transaction.NewChange.{NewChange}
 use Rattle.zb_model.specs.declared.pending.PendingStore.{PendingStore}
-use Rattle.zb_model.specs.Database.{serial_of}
+use Rattle.zb_model.specs.Database.{serial_of, IsRecord}
 use Rattle.zb_model.specs.Stores.{StoreState}
 use Rattle.commit_phases.specs.Decision.{changes_of_stores}
-use Rattle.zb_model.specs.Voting.{voted_change}
-use Rattle.commit_phases.specs.Resolving.{behind_changes}
-use Rattle.commit_phases.specs.Voted.{AreCurrent, IsNewBytes}
-use Rattle.commit_phases.proofs.Settling.{kept_twice, oids_more, rest_more}
+use Rattle.zb_model.specs.Voting.{IsHeld, voted_change}
+use Rattle.commit_phases.specs.Resolving.{behind_changes, held_count, record_count}
+use Rattle.commit_phases.specs.Voted.{AreCurrentRecords, IsNewRecord}
+use Rattle.commit_phases.proofs.Settling.{few_more, kept_twice, oids_more, rest_more}
 use Rattle.commit_phases.proofs.deciding.changes_of.Goals as goal
 
 pub loop-pending-preserved : goal.loop-pending-preserved
@@ -34,14 +35,16 @@ loop-pending-preserved g c =
       ends = omega (arith, fewer, ends, lengths);
       oids = subst (λ (cs : List NewChange). map (λ c. c.oid) cs ++ map (λ p. p.oid) left ≡ map (λ p. p.oid) c.args.stores) (sym c.in_ok-keep.ensures)
           (oids_more done change p left items c.args.stores is c.in_ok-change.ensures.oid inv.oids);
-      left_filled = All-rest (λ (p : PendingStore). 0 < length p.bytes) p left items is inv.left_filled;
-      filled = subst (λ (cs : List NewChange). All (λ c. IsNewBytes c.content) cs) (sym c.in_ok-keep.ensures)
-          (All-push (λ (c : NewChange). IsNewBytes c.content) done change inv.filled c.in_ok-change.ensures.filled);
+      left_filled = All-rest (λ (p : PendingStore). IsRecord p.content) p left items is inv.left_filled;
+      filled = subst (λ (cs : List NewChange). All (λ c. IsNewRecord c.content) cs) (sym c.in_ok-keep.ensures)
+          (All-push (λ (c : NewChange). IsNewRecord c.content) done change inv.filled c.in_ok-change.ensures.filled);
+      few = subst (λ (cs : List NewChange). sum_by (λ c. record_count c.content) cs + sum_by (λ p. held_count p.content) left ≤ sum_by (λ p. held_count p.content) c.args.stores) (sym c.in_ok-keep.ensures)
+          (few_more done change p left items _ is c.in_ok-change.ensures.few inv.few);
       rest = λ told. subst (λ (cs : List NewChange). changes_of_stores (g.R.Resolver.rules c.args.resolver.now) old.list c.args.stores ≡ behind_changes (map (voted_change old.list) cs) (changes_of_stores (g.R.Resolver.rules c.args.resolver.now) old.list left)) (sym c.in_ok-keep.ensures)
           (rest_more (g.R.Resolver.rules c.args.resolver.now) old.list mid.list p left items done change _ (ap (λ (s : StoreState). s.list) inv.same) is (c.in_ok-change.ensures.decided told) (inv.rest told));
-      left_current = λ told current. All-rest (λ (p : PendingStore). p.base ≡ serial_of p.oid old.list) p left items is (inv.left_current told current);
+      left_current = λ told current. All-rest (λ (p : PendingStore). IsHeld p.content × (p.base ≡ serial_of p.oid old.list)) p left items is (inv.left_current told current);
       unread = λ told current.
           let same : mid ≡ old = inv.unread told current in
-          let here : p.base ≡ serial_of p.oid old.list = All-head (λ (p : PendingStore). p.base ≡ serial_of p.oid old.list) p left (subst (λ (ps : List PendingStore). AreCurrent old.list ps) is (inv.left_current told current)) in
-          c.in_ok-change.ensures.unread told (here ∙ ap (λ (s : StoreState). serial_of p.oid s.list) (sym same)) ∙ same;
+          let here : IsHeld p.content × (p.base ≡ serial_of p.oid old.list) = All-head (λ (p : PendingStore). IsHeld p.content × (p.base ≡ serial_of p.oid old.list)) p left (subst (λ (ps : List PendingStore). AreCurrentRecords old.list ps) is (inv.left_current told current)) in
+          c.in_ok-change.ensures.unread told here.0 (here.1 ∙ ap (λ (s : StoreState). serial_of p.oid s.list) (sym same)) ∙ same;
     }

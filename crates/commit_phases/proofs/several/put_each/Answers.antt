@@ -1,7 +1,8 @@
-use Rattle.std.proofs.Common.{◌≡◌, ◌+◌, ◌<◌, ◌∷◌, List, length, ap, ◌∙◌, arith}
+use Rattle.std.proofs.Common.{◌≡◌, ◌+◌, ◌∷◌, List, length, ap, ◌∙◌, arith}
 use Rattle.std.specs.Vec.Iter.{into_iter_items, into_iter_len}
 use Rattle.std.proofs.lemmas.List.Elements.{All-rest}
 use Rattle.zb_model.specs.declared.pending.PendingStore.{PendingStore}
+use Rattle.zb_model.specs.Database.{IsRecord}
 use Rattle.commit_phases.specs.Kept.{stores_of}
 use Rattle.commit_phases.proofs.Restoring.{rest_stored}
 use Rattle.commit_phases.proofs.several.put_each.Goals as goal
@@ -18,7 +19,7 @@ loop-store-preserved c =
     let lengths : length items ≡ length (p ∷ left) = ap (λ (ps : List PendingStore). length ps) is in
     record {
       ends = omega (arith, fewer, ends, lengths);
-      left_filled = All-rest (λ (q : PendingStore). 0 < length q.bytes) p left items is inv.left_filled;
+      left_filled = All-rest (λ (q : PendingStore). IsRecord q.content) p left items is inv.left_filled;
       are = c.put_noting.ensures.stores;
       size = c.in_ok-size.ensures.size;
       restored = c.put_noting.ensures.restored ∙ inv.restored;

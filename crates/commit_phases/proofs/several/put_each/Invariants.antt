@@ -1,6 +1,7 @@
-use Rattle.std.proofs.Common.{◌≡◌, ◌<◌, length}
+use Rattle.std.proofs.Common.{◌≡◌, length}
 use Rattle.std.specs.Prelude.{All}
 use Rattle.std.specs.Vec.Iter.{into_iter_items, into_iter_len}
+use Rattle.zb_model.specs.Database.{IsRecord}
 use Rattle.commit_phases.specs.Kept.{restored, stores_of}
 use Rattle.commit_phases.specs.Pending.{size_of_stores, stores_after, AreStores}
 use Rattle.commit_phases.proofs.several.put_each.Given as goal
@@ -11,7 +12,7 @@ invariant-loop-store l =
     let left = into_iter_items l.store-iterator in
     record {
       ends : into_iter_len l.store-iterator ≡ length left;
-      left_filled : All (λ p. 0 < length p.bytes) left;
+      left_filled : All (λ p. IsRecord p.content) left;
       are : AreStores (stores_of l.stores.entries);
       size : l.size ≡ size_of_stores (stores_of l.stores.entries);
       restored : restored l.stores.entries l.done.items ≡ restored l.fn.stores.entries l.fn.done.items;

@@ -1,8 +1,11 @@
-use Rattle.zodb_core.proofs.Lawful.{histories_grow, histories_come, lists_grow, newest_rises, records_stood, states_stay, steps_become}
+use Rattle.zodb_core.proofs.Lawful.{histories_grow, histories_come, lists_grow, newest_rises, records_stood, states_stay, steps_become, steps_mark}
 use Rattle.zodb_core.proofs.laws.lists_only_grow.Goals as goal
 
 pub returns-clause-step : goal.returns-clause-step
 returns-clause-step c = steps_become
+
+pub returns-clause-marked : goal.returns-clause-marked
+returns-clause-marked c = steps_mark
 
 pub returns-clause-unpacked : goal.returns-clause-unpacked
 returns-clause-unpacked c = lists_grow

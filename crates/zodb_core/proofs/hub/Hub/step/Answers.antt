@@ -1,4 +1,6 @@
-use Rattle.std.proofs.Common.{rules, refl}
+use Rattle.std.proofs.Common.{◌≡◌, rules, refl, subst, sym}
+use Rattle.zb_model.specs.Database.{IsDatabase}
+use Rattle.zb_model.specs.Stores.{StoreState}
 use Rattle.zodb_core.specs.HubState.{rules_of}
 use Rattle.zodb_core.proofs.Stepping.{by_clock_as, still_as, still_clock}
 use Rattle.zodb_core.proofs.Switching.{moments_stay}
@@ -59,3 +61,9 @@ returns-in-PackBegin-clause-any_moment g c = λ lasts told whole m stands.
     let s = g.St.Store.state c.self.inside.store in
     moments_stay g.St.Store.stands (rules_of g.R.Resolver.rules g.F.Refs.named c.args.self.now) m c.args.session c.args.request c.args.self.now s c.pack_begin.new.self.store.log
     (stands.list whole) (search rules) (g.met.St.Store.lasting c.self.inside.store lasts (search rules)) (c.pack_begin.ensures.main lasts)
+
+pub returns-in-Vote-clause-database : goal.returns-in-Vote-clause-database
+returns-in-Vote-clause-database g c = λ told whole.
+    let s : StoreState = g.St.Store.state c.self.inside.store in
+    let same : c.args.self.now.store ≡ s = search rules in
+    subst (λ (x : StoreState). IsDatabase x.list) (sym same) (g.met.St.Store.database c.self.inside.store told (search rules))

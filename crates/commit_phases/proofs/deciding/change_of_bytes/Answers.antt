@@ -1,4 +1,4 @@
-use Rattle.commit_phases.proofs.deciding.change_of.Goals as goal
+use Rattle.commit_phases.proofs.deciding.change_of_bytes.Goals as goal
 
 pub returns-in-Err-clause-read : goal.returns-in-Err-clause-read
 returns-in-Err-clause-read g c = record {
