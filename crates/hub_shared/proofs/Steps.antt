@@ -11,9 +11,8 @@ use Rattle.zodb_core.specs.declared.request.Request.{Request}
 use Rattle.zodb_core.specs.Entries.{counts_more, legal_more, machine_more, openings_in, openings_more, session_of, steps_are_entries}
 use Rattle.zodb_core.specs.History.{Entry, IsEntryFor, IsNextEntry, Opened, counts_after, entry_made}
 use Rattle.zodb_core.specs.HubState.{HasTicked, HubState, MakesStepAt, StandsForMachine, StepsByClock, StepsSafely, counts_of, pack_with, rules_of, sessions_with, vote_of_hub}
-use Rattle.zodb_core.specs.declared.session.Session.{Session}
 use Rattle.std.specs.Option.{option_map}
-use Rattle.zodb_core.specs.Machine.{Machine, Rules, machine_over, new_session, with_session}
+use Rattle.zodb_core.specs.Machine.{Machine, MachineSession, Rules, machine_over, new_session, with_session}
 use Rattle.zodb_core.specs.Outcomes.{FaultCounts}
 use Rattle.zodb_core.specs.Stamps.{IsStampNumber}
 use Rattle.hub_shared.specs.Seats.{LockKeeps, keeper, machine_of}
@@ -65,7 +64,7 @@ machine_now hub = record {
 stands_now : {R F : Type 0} (hub : HubState R F) → StandsForMachine hub (machine_now hub)
 stands_now hub = record { journal = refl; greatest = refl; sessions = refl; pack = refl; failed = refl; list = λ whole. refl; vote = λ whole. refl }
 
-many_with : (b : Bool) (sessions : List Session) → length (sessions_with b sessions) ≡ length sessions
+many_with : (b : Bool) (sessions : List MachineSession) → length (sessions_with b sessions) ≡ length sessions
 many_with false sessions = refl
 many_with true [] = refl
 many_with true (x ∷ sessions) = let again = many_with true sessions in omega arith
