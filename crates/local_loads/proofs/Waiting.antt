@@ -27,7 +27,7 @@ apart_at oid (q ∷ stores) p more apart = apart_at oid stores p more apart.1
 behind_all : (stores : List PendingStore) (p : PendingStore) (more : List PendingStore) → IsDistinct nat_eq (oids_of (stores ++ p ∷ more)) → with_pending stores p ≡ stores ++ p ∷ []
 behind_all [] p more once = refl
 behind_all (q ∷ stores) p more once =
-    ap (λ (b : Bool). cond b ((record { oid = q.oid; base = q.base; bytes = p.bytes }) ∷ stores) (q ∷ with_pending stores p))
+    ap (λ (b : Bool). cond b ((record { oid = q.oid; base = q.base; content = p.content }) ∷ stores) (q ∷ with_pending stores p))
     (flipped q.oid p.oid (apart_at q.oid stores p more (IsDistinct-head nat_eq q.oid (oids_of (stores ++ p ∷ more)) once)))
     ∙ ap (λ (ps : List PendingStore). q ∷ ps) (behind_all stores p more (IsDistinct-tail nat_eq q.oid (oids_of (stores ++ p ∷ more)) once))
 

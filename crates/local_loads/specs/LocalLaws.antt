@@ -16,7 +16,7 @@ use Rattle.zodb_core.specs.declared.journal.JournalEntry.{JournalEntry}
 use Rattle.zodb_core.specs.declared.reply.Reply.{Reply}
 use Rattle.zodb_core.specs.declared.request.Request.{Request}
 use Rattle.zodb_core.specs.HubState.{HubState, StandsForMachine, pack_with, rules_of, sessions_with, vote_of_hub}
-use Rattle.zodb_core.specs.Machine.{Machine, MachineVote, OpenPack, Rules, front_of, holds_vote, switches_of}
+use Rattle.zodb_core.specs.Machine.{Machine, MachineVote, Rules, front_of, holds_vote, switches_of}
 use Rattle.zodb_core.specs.Outcomes.{StepOutcome, machine_left, outcome_of}
 use Rattle.zodb_core.specs.Sound.{GoesOnTo, GrowsByOne, IsPackWithin, VotesLater}
 use Rattle.zodb_core.specs.SoundLaws.{front_later, grows_to, left_goes_on, left_within, revision_grown}

@@ -6,6 +6,8 @@ use Rattle.std.specs.Option.{option_map, option_or}
 use Rattle.zb_ids.specs.Tids.{tid_after}
 use Rattle.zb_ids.specs.declared.stamp.Stamp.{Stamp}
 use Rattle.zb_model.specs.declared.data.Change.{Change}
+use Rattle.zb_model.specs.declared.data.Content.{Content}
+use Rattle.zb_model.specs.declared.data.Content.TheVariants.{Held, Absent}
 use Rattle.zb_model.specs.declared.data.Transaction.{Transaction}
 use Rattle.zb_model.specs.declared.found.Found.{Found}
 use Rattle.zb_model.specs.declared.found.Found.TheVariants as found
@@ -16,13 +18,14 @@ use Rattle.zb_model.specs.declared.pending.PendingStore.{PendingStore}
 use Rattle.zb_model.specs.declared.refusal.Refusal.{Refusal}
 use Rattle.zb_model.specs.declared.refusal.Refusal.TheVariants as refusal
 use Rattle.zb_model.specs.declared.refusal.Why.{Why}
+use Rattle.zb_model.specs.declared.refusal.Why.TheVariants as why
 use Rattle.zb_model.specs.Database.{newest_tid, revision_below, serial_of}
 use Rattle.zb_model.specs.Packing.{packed_by}
 use Rattle.zb_model.specs.Packs.{change_count, turn_from}
 use Rattle.zb_model.specs.Queries.{found_below, pack_point, transaction_at}
 use Rattle.zb_model.specs.Rules.{MergeRules}
-use Rattle.commit_phases.specs.Decision.{ahead_of_changes, change_of_store, change_or_conflict, changes_of_stores, excess_of, failed_check, goes_in, length_of_content, too_long, unless_checks_fail, unless_refused, vote_decision}
-use Rattle.commit_phases.specs.Pending.{PendingChanges}
+use Rattle.commit_phases.specs.Decision.{ahead_of_changes, change_of_content, change_of_delete, change_of_store, change_or_conflict, changes_of_stores, current_record, excess_of, failed_check, goes_in, too_long, unless_checks_fail, unless_refused, vote_decision}
+use Rattle.commit_phases.specs.Pending.{PendingChanges, length_of_content}
 use Rattle.undo_records.specs.Undone.{content_before, content_now, is_same, is_untouched, merged_content, taken_over, then_with, undone_changes, undone_content, undone_from, undone_of, undone_transaction, with_change}
 use Rattle.pack_reach.specs.Late.{overtaken}
 use Rattle.pack_reach.specs.Packed.{kept, marks_a_turn, packed, unread}
@@ -34,7 +37,7 @@ use Rattle.zodb_core.specs.declared.texts.Texts.{Texts}
 use Rattle.zodb_core.specs.HubState.{HubState, rules_of}
 use Rattle.zodb_core.specs.Machine.{Machine, MachineVote, OpenPack, PackCopying, Rules, holds_vote, is_open_in}
 use Rattle.zodb_core.specs.Outcomes.{Answered, EndsFor, FaultCounts, NoMemory, ReadingFailed, StepOutcome, StoreFailed, outcome_of_refusal}
-use Rattle.zodb_core.specs.Steps.{Stepped, begin_refusal, busy_for, busy_for_all, changes_in_journal, changes_undone, copied_step, copy_step, copying_reply, early_refusal, finish_gives, finish_step, journal_limit, loaded, mark_step, marked_step, marks_on, pack_refusal, pack_running, pack_step, pack_tid, packed_already, refuse_if, replied, replied_refusal, request_refusal, request_step, step_of, switch_step, switched, switches_next, transaction_with, turn_of_copying, turn_refusal, turn_step, unless_early, unless_overtaken, unless_unread, vote_at, vote_counted, vote_refusal, vote_step, with_pack, with_vote}
+use Rattle.zodb_core.specs.Steps.{Stepped, begin_refusal, busy_for, busy_for_all, changes_in_journal, changes_undone, copy_step, copying_reply, early_refusal, finish_gives, finish_step, journal_limit, loaded, mark_step, marked_step, marks_on, pack_refusal, pack_running, pack_tid, packed_already, refuse_if, replied, replied_refusal, request_refusal, request_step, step_of, switch_step, switched, switches_next, transaction_with, turn_of_copying, turn_refusal, turn_step, unless_early, unless_overtaken, unless_unread, vote_at, vote_counted, vote_refusal, vote_step, with_pack, with_vote}
 use Rattle.connection_view.specs.Loading.{IsServerRefusal}
 use Rattle.local_loads.specs.Answers.{server_refusal}
 use Rattle.local_loads.specs.LocalLaws.{machine_of, stands_for}
@@ -122,9 +125,21 @@ early_served m n q =
 
 -- ---- votes
 
-conflict_served : (list : List Transaction) (p : PendingStore) (r : Result (List ℕ) Why) → ServersIfErr (change_or_conflict list p r)
-conflict_served list p (Ok bytes) = tt
-conflict_served list p (Err why) = tt
+conflict_served : (list : List Transaction) (oid base : ℕ) (r : Result (List ℕ) Why) → ServersIfErr (change_or_conflict list oid base r)
+conflict_served list oid base (Ok bytes) = tt
+conflict_served list oid base (Err reason) = tt
+
+delete_served : (list : List Transaction) (oid base : ℕ) (o : Option (List ℕ)) → ServersIfErr (change_of_delete list oid base o)
+delete_served list oid base None = tt
+delete_served list oid base (Some held) = by_cases (eqb base (serial_of oid list))
+  where
+    by_cases : (b : Bool) → ServersIfErr {T = Change} (cond b (Ok (record { oid = oid; content = Absent })) (Err (refusal.Conflict oid base (serial_of oid list) why.NoRule)))
+    by_cases true = tt
+    by_cases false = tt
+
+vote_content_served : (rules : MergeRules) (list : List Transaction) (oid base : ℕ) (content : Content) → ServersIfErr (change_of_content rules list oid base content)
+vote_content_served rules list oid base (Held bytes) = conflict_served list oid base (goes_in rules list oid base bytes)
+vote_content_served rules list oid base Absent = delete_served list oid base (current_record oid list)
 
 ahead_served : (one : Result Change Refusal) (rest : Result (List Change) Refusal) → ServersIfErr one → ServersIfErr rest → ServersIfErr (ahead_of_changes one rest)
 ahead_served (Err r) rest one all = one
@@ -134,7 +149,7 @@ ahead_served (Ok c) (Ok changes) one all = tt
 stores_served : (rules : MergeRules) (list : List Transaction) (stores : List PendingStore) → ServersIfErr (changes_of_stores rules list stores)
 stores_served rules list [] = tt
 stores_served rules list (p ∷ stores) =
-    ahead_served (change_of_store rules list p) (changes_of_stores rules list stores) (conflict_served list p (goes_in rules list p)) (stores_served rules list stores)
+    ahead_served (change_of_store rules list p) (changes_of_stores rules list stores) (vote_content_served rules list p.oid p.base p.content) (stores_served rules list stores)
 
 check_served : (list : List Transaction) (checks : List PendingCheck) → ServersIfSome (failed_check list checks)
 check_served list [] = tt

@@ -1,14 +1,34 @@
 //! The requests of votes and undos, which take memory.
 
-ghost use Rattle.std.specs.Prelude.{◌≡◌, [], IfOk};
+ghost use Rattle.std.specs.Prelude.{◌≡◌, [], IfOk, OnOk};
+ghost use Rattle.zb_model.specs.Database.{IsRecord};
+ghost use Rattle.commit_phases.specs.Pending.{with_pending};
 ghost use Rattle.connection_view.specs.Loading.{AreVotable, IsShortText};
 ghost use Rattle.zodb_core.specs.HubState.{IsFitting};
 
 use commit_phases::Pending;
 use std::alloc::{AllocError, Global};
 use zb_ids::{ListOf, Text8, Tid};
-use zb_model::{PendingCheck, PendingStore};
+use zb_model::{Content, PendingCheck, PendingStore};
 use zodb_core::Request;
+
+/// Puts a store or a delete behind the others. The one error is want of memory: no length passes a limit.
+fn put(pending: &mut Pending, store: &PendingStore) -> Result<(), AllocError>
+    requires record { IsRecord store.now.content }
+    ensures stores { OnOk result (pending.new.stores ≡ with_pending pending.old.stores store.now) }
+    ensures checks { pending.new.checks ≡ pending.old.checks }
+{
+    match &store.content {
+        Content::Held(bytes) => {
+            let bytes = bytes.clone()?;
+            if pending.store(store.oid, store.base, bytes).is_err() {
+                return Err(AllocError);
+            }
+            Ok(())
+        }
+        Content::Absent => pending.delete(store.oid, store.base),
+    }
+}
 
 /// Pending changes of these stores, without checks. The one error is want of memory: no length passes a limit.
 fn stores_of(alloc: Global, stores: &[PendingStore]) -> Result<Pending, AllocError>
@@ -18,10 +38,7 @@ fn stores_of(alloc: Global, stores: &[PendingStore]) -> Result<Pending, AllocErr
 {
     let mut pending = Pending::new(alloc);
     for store in stores {
-        let bytes = store.bytes.clone()?;
-        if pending.store(store.oid, store.base, bytes).is_err() {
-            return Err(AllocError);
-        }
+        put(&mut pending, store)?;
     }
     Ok(pending)
 }
