@@ -46,6 +46,8 @@ pub enum Answer {
     Stored,
     /// The check waits for the vote.
     Checked,
+    /// The delete waits for the vote.
+    Deleted,
     /// The transaction can be committed.
     Voted,
     /// The transaction is committed.
@@ -78,6 +80,31 @@ pub enum Answer {
         kept: u64,
         /// How many changes went.
         dropped: u64,
+    },
+    /// A pack in turns is begun.
+    Packing {
+        /// It goes up to this tid.
+        tid: Tid,
+    },
+    /// More objects are marked for the pack, and others are left.
+    Marking {
+        /// How many are marked.
+        count: u64,
+    },
+    /// All objects are marked that the pack keeps.
+    Marked {
+        /// How many they are.
+        count: u64,
+    },
+    /// More of the packed list is copied, and transactions are left.
+    Copying {
+        /// How many changes are copied.
+        count: u64,
+    },
+    /// The packed list is copied.
+    Copied {
+        /// How many changes are copied.
+        count: u64,
     },
     /// The tree is as the line says.
     Done,
@@ -129,6 +156,7 @@ fn push_answer(out: &mut Vec<u8>, answer: &Answer) -> Result<(), AllocError>
         Answer::Object { serial, bytes } => push_object(out, *serial, bytes.as_slice()),
         Answer::Stored => out.extend_from_slice(b"stored"),
         Answer::Checked => out.extend_from_slice(b"checked"),
+        Answer::Deleted => out.extend_from_slice(b"deleted"),
         Answer::Voted => out.extend_from_slice(b"voted"),
         Answer::Committed { tid } => push_numbered(out, b"committed ", tid.0),
         Answer::Empty => out.extend_from_slice(b"empty"),
@@ -140,6 +168,11 @@ fn push_answer(out: &mut Vec<u8>, answer: &Answer) -> Result<(), AllocError>
             push_counted(out, b"packed ", *kept)?;
             push_counted(out, b" ", *dropped)
         }
+        Answer::Packing { tid } => push_numbered(out, b"packing ", tid.0),
+        Answer::Marking { count } => push_counted(out, b"marking ", *count),
+        Answer::Marked { count } => push_counted(out, b"marked ", *count),
+        Answer::Copying { count } => push_counted(out, b"copying ", *count),
+        Answer::Copied { count } => push_counted(out, b"copied ", *count),
         Answer::Done => out.extend_from_slice(b"done"),
         Answer::Absent => out.extend_from_slice(b"absent"),
         Answer::Found { value } => {

@@ -91,7 +91,7 @@ sixteen_long : (n : ℕ) → n < 2 ^ 64 → length (hex_number n) ≡ 16
 unfolding number_at
 sixteen_long n h = let p = cond_else_none (eqb (length (hex_number n)) 16) _ n (number_again n h) in eqb-true (length (hex_number n)) 16 p.0
 
-sixteen_takes : (bytes : List ℕ) (x : ℕ × List ℕ) → sixteen_at bytes ≡ Some x → TakesNumber bytes (λ rest. rest) x
+pub sixteen_takes : (bytes : List ℕ) (x : ℕ × List ℕ) → sixteen_at bytes ≡ Some x → TakesNumber bytes (λ rest. rest) x
 unfolding sixteen_at
 sixteen_takes bytes x e =
     from_bind (number_at (take 16 bytes)) _ x e (λ number at is.
@@ -99,7 +99,7 @@ sixteen_takes bytes x e =
     subst (TakesNumber bytes (λ rest. rest)) (same_Some (number, drop 16 bytes) x is)
     (record { small = t.0; is = sym (take-append-drop 16 bytes) ∙ ap (λ (y : List ℕ). y ++ drop 16 bytes) t.1 }))
 
-sixteen_again : (n : ℕ) (rest : List ℕ) → n < 2 ^ 64 → sixteen_at (hex_number n ++ rest) ≡ Some (n, rest)
+pub sixteen_again : (n : ℕ) (rest : List ℕ) → n < 2 ^ 64 → sixteen_at (hex_number n ++ rest) ≡ Some (n, rest)
 unfolding sixteen_at
 sixteen_again n rest h =
     let long = sixteen_long n h in

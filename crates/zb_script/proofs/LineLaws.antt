@@ -1,5 +1,5 @@
 -- The two laws of a line: what is read is spelled so, and what is spelled so is read.
-use Rattle.std.proofs.Common.{◌≡◌, ℕ, ◌+◌, ◌^◌, ◌<◌, cond, List, [], ◌∷◌, ◌++◌, length, Option, Some, refl, sym, ap, subst, ◌∙◌, arith, inl, inr}
+use Rattle.std.proofs.Common.{◌≡◌, ℕ, ◌+◌, ◌^◌, ◌<◌, Bool, true, false, cond, List, [], ◌∷◌, ◌++◌, length, Option, Some, refl, sym, ap, subst, ◌∙◌, arith, inl, inr}
 use Rattle.std.specs.Prelude.{codes, decimal}
 use Rattle.std.specs.List.{AllByRecursion}
 use Rattle.std.specs.Str.{bytes_eq}
@@ -17,15 +17,15 @@ use Rattle.zb_script.specs.declared.line.Line.TheVariants as lines
 use Rattle.zb_script.specs.declared.line.Turn.{Turn}
 use Rattle.zb_script.specs.Names.{is_name, IsName}
 use Rattle.zb_script.specs.Lines.{Lacks}
-use Rattle.zb_script.specs.Spelling.{IsNumbered, IsStore, IsPut, IsCheck, IsVote, IsUndo, IsRollback, IsLineText, IsTurnText, AreTurnTexts, IsLine, IsTurn, tids_text}
-use Rattle.zb_script.specs.Reading.{cut_at, behind_word, literal_cut, field_at, payload_at, short_at, short_field_at, tids_at, record_at, small_at, numbered_at, store_at, put_at, check_at, vote_at, undo_at, rollback_at, words_at, short_line_at, line_at, name_at, turn_at}
+use Rattle.zb_script.specs.Spelling.{IsNumbered, IsStore, IsPut, IsPaired, IsPackText, collecting_text, IsVote, IsUndo, IsRollback, IsLineText, IsTurnText, AreTurnTexts, IsLine, IsTurn, tids_text}
+use Rattle.zb_script.specs.Reading.{cut_at, behind_word, literal_cut, field_at, payload_at, short_at, short_field_at, sixteen_at, tids_at, record_at, small_at, numbered_at, store_at, put_at, collecting_at, packed_at, paired_at, vote_at, undo_at, rollback_at, words_at, short_line_at, line_at, name_at, turn_at}
 use Rattle.zb_script.proofs.Froms.{From, From-append, From-weaker, from_test, hex_from, number_from, name_from, Lacks-from, chosen}
 use Rattle.zb_script.proofs.GapLaws.{IsWord, quoted_word, literal_word, word_cut, cut_is, all_digits_high}
 use Rattle.zb_script.proofs.PayloadLaws.{payload_takes, payload_again}
 use Rattle.zb_script.proofs.KeyLaws.{small_takes, small_again}
-use Rattle.zb_script.proofs.Begun.{begun_takes, word_again, numbered_from, field_from}
+use Rattle.zb_script.proofs.Begun.{begun_takes, word_again, numbered_from, paired_from, pack_from, field_from}
 use Rattle.zb_script.proofs.TreeLaws.{tree_takes, tree_again, tree_from, tree_is}
-use Rattle.zb_script.proofs.FieldLaws.{Exact, cut_takes, cut_again, field_takes, field_again, tids_take, tids_again, short_takes, short_again, short_field_takes, short_field_again, record_takes, record_again, record_some}
+use Rattle.zb_script.proofs.FieldLaws.{Exact, cut_takes, cut_again, field_takes, field_again, sixteen_takes, sixteen_again, tids_take, tids_again, short_takes, short_again, short_field_takes, short_field_again, record_takes, record_again, record_some}
 
 -- ---- what is read is spelled so
 
@@ -60,16 +60,41 @@ put_takes exact bytes l e =
     let spelled : IsPut (codes "put " ++ bytes) oid.0 stored = record { oid_small = p.small; class_text = texts.0; state_text = texts.1; stored = record_takes exact texts.0 texts.1 stored at_stored; is = ap (λ (x : List ℕ). codes "put " ++ x) whole } in
     subst (IsLineText (codes "put " ++ bytes)) (same_Some (lines.Put oid.0 stored) l is) spelled)))
 
-check_takes : (bytes : List ℕ) (l : Line) → check_at bytes ≡ Some l → IsLineText (codes "check " ++ bytes) l
-unfolding check_at
-check_takes bytes l e =
-    from_bind (field_at bytes) _ l e (λ oid at_oid e1.
-    from_bind (number_at oid.1) _ l e1 (λ serial at_serial is.
-    let p = field_takes bytes oid at_oid in
-    let q = number_takes oid.1 serial at_serial in
-    let whole : bytes ≡ hex_number oid.0 ++ 32 ∷ hex_number serial = cc (p.is, q.1) in
-    let spelled : IsCheck (codes "check " ++ bytes) oid.0 serial = record { oid_small = p.small; serial_small = q.0; is = ap (λ (x : List ℕ). codes "check " ++ x) whole } in
-    subst (IsLineText (codes "check " ++ bytes)) (same_Some (lines.Check oid.0 serial) l is) spelled))
+paired_takes : (word bytes : List ℕ) (line : ℕ → ℕ → Line) → ((m n : ℕ) (text : List ℕ) → IsPaired text word m n → IsLineText text (line m n)) → (l : Line) → paired_at line bytes ≡ Some l → IsLineText (word ++ bytes) l
+unfolding paired_at
+paired_takes word bytes line spells l e =
+    from_bind (field_at bytes) _ l e (λ first at_first e1.
+    from_bind (number_at first.1) _ l e1 (λ second at_second is.
+    let p = field_takes bytes first at_first in
+    let q = number_takes first.1 second at_second in
+    let whole : bytes ≡ hex_number first.0 ++ 32 ∷ hex_number second = cc (p.is, q.1) in
+    subst (IsLineText (word ++ bytes)) (same_Some (line first.0 second) l is)
+    (spells first.0 second (word ++ bytes) (record { first_small = p.small; second_small = q.0; is = ap (λ (x : List ℕ). word ++ x) whole }))))
+
+collecting_takes : (rest : List ℕ) (collect : Bool) → collecting_at rest ≡ Some collect → rest ≡ collecting_text collect
+collecting_takes rest collect e =
+    elim (chosen (bytes_eq rest []) (Some true) _ (Some collect) e) [
+      | inl it ↦ (bytes_eq-Decides rest []).0 it.0 ∙ ap collecting_text (same_Some true collect it.1)
+      | inr other ↦
+          elim (chosen (bytes_eq rest (codes " nogc")) (Some false) _ (Some collect) other.1) [
+            | inl it ↦ (bytes_eq-Decides rest (codes " nogc")).0 it.0 ∙ ap collecting_text (same_Some false collect it.1)
+            | inr none ↦ absurd cc
+          ]
+    ]
+
+collecting_again : (collect : Bool) → collecting_at (collecting_text collect) ≡ Some collect
+collecting_again true = refl
+collecting_again false = refl
+
+packed_takes : (word bytes : List ℕ) (line : ℕ → Bool → Line) → ((n : ℕ) (b : Bool) (text : List ℕ) → IsPackText text word n b → IsLineText text (line n b)) → (l : Line) → packed_at line bytes ≡ Some l → IsLineText (word ++ bytes) l
+unfolding packed_at
+packed_takes word bytes line spells l e =
+    from_bind (sixteen_at bytes) _ l e (λ tid at_tid e1.
+    from_bind (collecting_at tid.1) _ l e1 (λ collect at_collect is.
+    let p = sixteen_takes bytes tid at_tid in
+    let whole : bytes ≡ hex_number tid.0 ++ collecting_text collect = p.is ∙ ap (λ (x : List ℕ). hex_number tid.0 ++ x) (collecting_takes tid.1 collect at_collect) in
+    subst (IsLineText (word ++ bytes)) (same_Some (line tid.0 collect) l is)
+    (spells tid.0 collect (word ++ bytes) (record { small = p.small; is = ap (λ (x : List ℕ). word ++ x) whole }))))
 
 vote_takes : Exact → (bytes : List ℕ) (l : Line) → vote_at bytes ≡ Some l → IsLineText (codes "vote " ++ bytes) l
 unfolding vote_at
@@ -121,7 +146,8 @@ words_take exact bytes l e =
     word_takes bytes (codes "abort") lines.Abort l _ e (λ is. is) (λ e.
     word_takes bytes (codes "undolog") lines.UndoLog l _ e (λ is. is) (λ e.
     word_takes bytes (codes "close") lines.Close l _ e (λ is. is) (λ e.
-    word_takes bytes (codes "savepoint") lines.Savepoint l _ e (λ is. is) (λ e. tree_takes exact bytes l e))))))))
+    word_takes bytes (codes "savepoint") lines.Savepoint l _ e (λ is. is) (λ e.
+    word_takes bytes (codes "packturn") lines.PackTurn l _ e (λ is. is) (λ e. tree_takes exact bytes l e)))))))))
 
 short_line_takes : Exact → (bytes : List ℕ) (l : Line) → short_line_at bytes ≡ Some l → IsLineText bytes l
 unfolding short_line_at
@@ -129,19 +155,21 @@ short_line_takes exact bytes l e =
     begun_takes (codes "load ") bytes (numbered_at lines.Load) _ l e (λ rest. numbered_takes (codes "load ") rest lines.Load (λ n text is. is) l) (λ e.
     begun_takes (codes "get ") bytes (numbered_at lines.Get) _ l e (λ rest. numbered_takes (codes "get ") rest lines.Get (λ n text is. is) l) (λ e.
     begun_takes (codes "history ") bytes (numbered_at lines.History) _ l e (λ rest. numbered_takes (codes "history ") rest lines.History (λ n text is. is) l) (λ e.
-    begun_takes (codes "pack ") bytes (numbered_at lines.Pack) _ l e (λ rest. numbered_takes (codes "pack ") rest lines.Pack (λ n text is. is) l) (λ e.
+    begun_takes (codes "pack ") bytes (packed_at lines.Pack) _ l e (λ rest. packed_takes (codes "pack ") rest lines.Pack (λ n b text is. is) l) (λ e.
+    begun_takes (codes "packbegin ") bytes (packed_at lines.PackBegin) _ l e (λ rest. packed_takes (codes "packbegin ") rest lines.PackBegin (λ n b text is. is) l) (λ e.
     begun_takes (codes "rollback ") bytes rollback_at _ l e (λ rest. rollback_takes exact rest l) (λ e.
-    words_take exact bytes l e)))))
+    words_take exact bytes l e))))))
 
 line_takes : Exact → (bytes : List ℕ) (l : Line) → line_at bytes ≡ Some l → IsLineText bytes l
 unfolding line_at
 line_takes exact bytes l e =
     begun_takes (codes "store ") bytes store_at _ l e (λ rest. store_takes rest l) (λ e.
     begun_takes (codes "put ") bytes put_at _ l e (λ rest. put_takes exact rest l) (λ e.
-    begun_takes (codes "check ") bytes check_at _ l e (λ rest. check_takes rest l) (λ e.
+    begun_takes (codes "check ") bytes (paired_at lines.Check) _ l e (λ rest. paired_takes (codes "check ") rest lines.Check (λ m n text is. is) l) (λ e.
+    begun_takes (codes "delete ") bytes (paired_at lines.Delete) _ l e (λ rest. paired_takes (codes "delete ") rest lines.Delete (λ m n text is. is) l) (λ e.
     begun_takes (codes "vote ") bytes vote_at _ l e (λ rest. vote_takes exact rest l) (λ e.
     begun_takes (codes "undo ") bytes undo_at _ l e (λ rest. undo_takes exact rest l) (λ e.
-    short_line_takes exact bytes l e)))))
+    short_line_takes exact bytes l e))))))
 
 -- ---- what is spelled so is read
 
@@ -160,9 +188,13 @@ history_again : (oid : ℕ) → oid < 2 ^ 64 → IsRead (codes "history " ++ hex
 unfolding line_at behind_word short_line_at numbered_at
 history_again oid h = rw (number_again oid h) refl
 
-pack_again : (tid : ℕ) → tid < 2 ^ 64 → IsRead (codes "pack " ++ hex_number tid) (lines.Pack tid)
-unfolding line_at behind_word short_line_at numbered_at
-pack_again tid h = rw (number_again tid h) refl
+pack_again : (tid : ℕ) (collect : Bool) → tid < 2 ^ 64 → IsRead (codes "pack " ++ (hex_number tid ++ collecting_text collect)) (lines.Pack tid collect)
+unfolding line_at behind_word short_line_at packed_at
+pack_again tid collect h = rw (sixteen_again tid (collecting_text collect) h, collecting_again collect) refl
+
+pack_begin_again : (tid : ℕ) (collect : Bool) → tid < 2 ^ 64 → IsRead (codes "packbegin " ++ (hex_number tid ++ collecting_text collect)) (lines.PackBegin tid collect)
+unfolding line_at behind_word short_line_at packed_at
+pack_begin_again tid collect h = rw (sixteen_again tid (collecting_text collect) h, collecting_again collect) refl
 
 store_again : (text : List ℕ) (oid base : ℕ) (bytes : List ℕ) (h : IsStore text oid base bytes) → IsRead (codes "store " ++ (hex_number oid ++ 32 ∷ (hex_number base ++ 32 ∷ hex_text bytes))) (lines.Store oid base bytes)
 unfolding line_at behind_word store_at
@@ -178,8 +210,12 @@ put_again exact text oid bytes h =
     rw (field_again oid (h.class_text ++ 32 ∷ h.state_text) h.oid_small, word_cut h.class_text h.state_text (class_word h.class_text h.stored.class h.stored.class_spelled), record_again exact h.class_text h.state_text bytes h.stored) refl
 
 check_again : (oid serial : ℕ) → oid < 2 ^ 64 → serial < 2 ^ 64 → IsRead (codes "check " ++ (hex_number oid ++ 32 ∷ hex_number serial)) (lines.Check oid serial)
-unfolding line_at behind_word check_at
+unfolding line_at behind_word paired_at
 check_again oid serial h k = rw (field_again oid (hex_number serial) h, number_again serial k) refl
+
+delete_again : (oid base : ℕ) → oid < 2 ^ 64 → base < 2 ^ 64 → IsRead (codes "delete " ++ (hex_number oid ++ 32 ∷ hex_number base)) (lines.Delete oid base)
+unfolding line_at behind_word paired_at
+delete_again oid base h k = rw (field_again oid (hex_number base) h, number_again base k) refl
 
 vote_again : Exact → (text user description : List ℕ) → IsVote text user description → IsRead (codes "vote " ++ (quoted_text user ++ 32 ∷ quoted_text description)) (lines.Vote user description)
 unfolding line_at behind_word vote_at
@@ -223,6 +259,10 @@ savepoint_again : IsRead (codes "savepoint") lines.Savepoint
 unfolding line_at behind_word short_line_at words_at
 savepoint_again = refl
 
+pack_turn_again : IsRead (codes "packturn") lines.PackTurn
+unfolding line_at behind_word short_line_at words_at
+pack_turn_again = refl
+
 rollback_again : Exact → (number : ℕ) → number < 2 ^ 32 → IsRead (codes "rollback " ++ decimal number) (lines.Rollback number)
 unfolding line_at behind_word short_line_at rollback_at
 rollback_again exact number h = rw (small_again exact number h) refl
@@ -234,7 +274,8 @@ line_again exact text (lines.Load oid) h = word_again (lines.Load oid) text _ h.
 line_again exact text (lines.Get oid) h = word_again (lines.Get oid) text _ h.is (get_again oid h.small)
 line_again exact text (lines.Store oid base bytes) h = word_again (lines.Store oid base bytes) text _ h.is (store_again text oid base bytes h)
 line_again exact text (lines.Put oid bytes) h = word_again (lines.Put oid bytes) text _ h.is (put_again exact text oid bytes h)
-line_again exact text (lines.Check oid serial) h = word_again (lines.Check oid serial) text _ h.is (check_again oid serial h.oid_small h.serial_small)
+line_again exact text (lines.Check oid serial) h = word_again (lines.Check oid serial) text _ h.is (check_again oid serial h.first_small h.second_small)
+line_again exact text (lines.Delete oid base) h = word_again (lines.Delete oid base) text _ h.is (delete_again oid base h.first_small h.second_small)
 line_again exact text (lines.Tree root call) h = tree_again exact text root call h
 line_again exact text lines.Savepoint h = word_again lines.Savepoint text _ h savepoint_again
 line_again exact text (lines.Rollback number) h = word_again (lines.Rollback number) text _ h.is (rollback_again exact number h.small)
@@ -245,7 +286,9 @@ line_again exact text lines.Finish h = word_again lines.Finish text _ h finish_a
 line_again exact text lines.Abort h = word_again lines.Abort text _ h abort_again
 line_again exact text (lines.History oid) h = word_again (lines.History oid) text _ h.is (history_again oid h.small)
 line_again exact text lines.UndoLog h = word_again lines.UndoLog text _ h undolog_again
-line_again exact text (lines.Pack tid) h = word_again (lines.Pack tid) text _ h.is (pack_again tid h.small)
+line_again exact text (lines.Pack tid collect) h = word_again (lines.Pack tid collect) text _ h.is (pack_again tid collect h.small)
+line_again exact text (lines.PackBegin tid collect) h = word_again (lines.PackBegin tid collect) text _ h.is (pack_begin_again tid collect h.small)
+line_again exact text lines.PackTurn h = word_again lines.PackTurn text _ h pack_turn_again
 line_again exact text lines.Close h = word_again lines.Close text _ h close_again
 
 -- ---- whole lines
@@ -300,8 +343,8 @@ line_from (lines.Put oid bytes) text h =
     let class = class_word h.class_text h.stored.class h.stored.class_spelled in
     let state = class_word h.state_text h.stored.state h.stored.state_spelled in
     subst (From 32) (sym h.is) (From-append 32 (codes "put ") _ (from_test 32 (codes "put ") refl) (field_from oid _ (From-append 32 h.class_text (32 ∷ h.state_text) class.high (omega arith, state.high))))
-line_from (lines.Check oid serial) text h =
-    subst (From 32) (sym h.is) (From-append 32 (codes "check ") _ (from_test 32 (codes "check ") refl) (field_from oid _ (From-weaker 48 32 _ (omega arith) (number_from serial))))
+line_from (lines.Check oid serial) text h = paired_from (codes "check ") oid serial text (from_test 32 (codes "check ") refl) h
+line_from (lines.Delete oid base) text h = paired_from (codes "delete ") oid base text (from_test 32 (codes "delete ") refl) h
 line_from (lines.Tree root call) text h = tree_from text root call h
 line_from lines.Savepoint text h = subst (From 32) (sym h) (from_test 32 (codes "savepoint") refl)
 line_from (lines.Rollback number) text h = subst (From 32) (sym h.is) (From-append 32 (codes "rollback ") (decimal number) (from_test 32 (codes "rollback ") refl) (decimal_from number h.small))
@@ -314,7 +357,9 @@ line_from lines.Finish text h = subst (From 32) (sym h) (from_test 32 (codes "fi
 line_from lines.Abort text h = subst (From 32) (sym h) (from_test 32 (codes "abort") refl)
 line_from (lines.History oid) text h = numbered_from (codes "history ") oid text (from_test 32 (codes "history ") refl) h
 line_from lines.UndoLog text h = subst (From 32) (sym h) (from_test 32 (codes "undolog") refl)
-line_from (lines.Pack tid) text h = numbered_from (codes "pack ") tid text (from_test 32 (codes "pack ") refl) h
+line_from (lines.Pack tid collect) text h = pack_from (codes "pack ") tid collect text (from_test 32 (codes "pack ") refl) h
+line_from (lines.PackBegin tid collect) text h = pack_from (codes "packbegin ") tid collect text (from_test 32 (codes "packbegin ") refl) h
+line_from lines.PackTurn text h = subst (From 32) (sym h) (from_test 32 (codes "packturn") refl)
 line_from lines.Close text h = subst (From 32) (sym h) (from_test 32 (codes "close") refl)
 
 pub turn_lacks : (text : List ℕ) (t : Turn) → IsTurnText text t → Lacks 10 text
@@ -339,7 +384,8 @@ line_is (lines.Load oid) text h = h.small
 line_is (lines.Get oid) text h = h.small
 line_is (lines.Store oid base bytes) text h = (h.oid_small, h.base_small, h.payload)
 line_is (lines.Put oid bytes) text h = (h.oid_small, record_some h.class_text h.state_text bytes h.stored)
-line_is (lines.Check oid serial) text h = (h.oid_small, h.serial_small)
+line_is (lines.Check oid serial) text h = (h.first_small, h.second_small)
+line_is (lines.Delete oid base) text h = (h.first_small, h.second_small)
 line_is (lines.Tree root call) text h = tree_is text root call h
 line_is lines.Savepoint text h = tt
 line_is (lines.Rollback number) text h = h.small
@@ -350,7 +396,9 @@ line_is lines.Finish text h = tt
 line_is lines.Abort text h = tt
 line_is (lines.History oid) text h = h.small
 line_is lines.UndoLog text h = tt
-line_is (lines.Pack tid) text h = h.small
+line_is (lines.Pack tid collect) text h = h.small
+line_is (lines.PackBegin tid collect) text h = h.small
+line_is lines.PackTurn text h = tt
 line_is lines.Close text h = tt
 
 pub turns_are : (texts : List (List ℕ)) (turns : List Turn) → AreTurnTexts texts turns → AllByRecursion IsTurn turns

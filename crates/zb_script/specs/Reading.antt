@@ -1,5 +1,5 @@
 -- Reading lines, as functions on lists.
-use Rattle.std.specs.Prelude.{◌≡◌, ℕ, pos, zero, suc, ◌+◌, ◌/◌, ◌^◌, List, [], ◌∷◌, ◌++◌, length, take, drop, Option, Some, None, Bool, false, Result, Ok, Err, codes, nat_lt, nat_le, slice_get, ◌==◌, if◌then◌else◌}
+use Rattle.std.specs.Prelude.{◌≡◌, ℕ, pos, zero, suc, ◌+◌, ◌/◌, ◌^◌, List, [], ◌∷◌, ◌++◌, length, take, drop, Option, Some, None, Bool, true, false, Result, Ok, Err, codes, nat_lt, nat_le, slice_get, ◌==◌, if◌then◌else◌}
 use Rattle.std.specs.List.{position}
 use Rattle.std.specs.Str.{bytes_eq}
 use Rattle.zb_ids.specs.Hex.{◌>>=◌, number_at, bytes_at}
@@ -103,6 +103,10 @@ sixteen_at bytes = do
   number ← number_at (take 16 bytes)
   Some (number, drop 16 bytes)
 
+-- whether a pack collects: nothing stands behind its tid, or `nogc`
+abbrev pub collecting_at : List ℕ → Option Bool
+collecting_at rest = if bytes_eq rest [] then Some true else if bytes_eq rest (codes " nogc") then Some false else None
+
 -- a blank and a lower number
 unfoldable pub lower_at : ℕ → List ℕ → Option (ℕ × List ℕ)
 lower_at bound bytes = do
@@ -194,11 +198,19 @@ put_at bytes = do
   stored ← record_at texts.0 texts.1
   Some (lines.Put oid.0 stored)
 
-unfoldable pub check_at : List ℕ → Option Line
-check_at bytes = do
-  oid ← field_at bytes
-  serial ← number_at oid.1
-  Some (lines.Check oid.0 serial)
+-- two numbers
+unfoldable pub paired_at : (ℕ → ℕ → Line) → List ℕ → Option Line
+paired_at line bytes = do
+  first ← field_at bytes
+  second ← number_at first.1
+  Some (line first.0 second)
+
+-- a number, and `nogc` where the pack doesn't collect
+unfoldable pub packed_at : (ℕ → Bool → Line) → List ℕ → Option Line
+packed_at line bytes = do
+  tid ← sixteen_at bytes
+  collect ← collecting_at tid.1
+  Some (line tid.0 collect)
 
 unfoldable pub vote_at : List ℕ → Option Line
 vote_at bytes = do
@@ -264,6 +276,7 @@ words_at bytes =
     else if bytes_eq bytes (codes "undolog") then Some lines.UndoLog
     else if bytes_eq bytes (codes "close") then Some lines.Close
     else if bytes_eq bytes (codes "savepoint") then Some lines.Savepoint
+    else if bytes_eq bytes (codes "packturn") then Some lines.PackTurn
     else tree_line_at bytes
 
 -- a line with one number, without a field, or of a tree
@@ -272,16 +285,18 @@ short_line_at bytes =
     if_some (behind_word (codes "load ") bytes) (numbered_at lines.Load)
     (if_some (behind_word (codes "get ") bytes) (numbered_at lines.Get)
     (if_some (behind_word (codes "history ") bytes) (numbered_at lines.History)
-    (if_some (behind_word (codes "pack ") bytes) (numbered_at lines.Pack)
-    (if_some (behind_word (codes "rollback ") bytes) rollback_at (words_at bytes)))))
+    (if_some (behind_word (codes "pack ") bytes) (packed_at lines.Pack)
+    (if_some (behind_word (codes "packbegin ") bytes) (packed_at lines.PackBegin)
+    (if_some (behind_word (codes "rollback ") bytes) rollback_at (words_at bytes))))))
 
 unfoldable pub line_at : List ℕ → Option Line
 line_at bytes =
     if_some (behind_word (codes "store ") bytes) store_at
     (if_some (behind_word (codes "put ") bytes) put_at
-    (if_some (behind_word (codes "check ") bytes) check_at
+    (if_some (behind_word (codes "check ") bytes) (paired_at lines.Check)
+    (if_some (behind_word (codes "delete ") bytes) (paired_at lines.Delete)
     (if_some (behind_word (codes "vote ") bytes) vote_at
-    (if_some (behind_word (codes "undo ") bytes) undo_at (short_line_at bytes)))))
+    (if_some (behind_word (codes "undo ") bytes) undo_at (short_line_at bytes))))))
 
 unfoldable pub name_at : List ℕ → Option (List ℕ)
 name_at bytes = if is_name bytes then Some bytes else None

@@ -1,5 +1,5 @@
 -- The one spelling of each line. Own.
-use Rattle.std.specs.Prelude.{◌≡◌, ℕ, ◌<◌, ◌≤◌, ◌^◌, List, [], ◌∷◌, ◌++◌, true, Ok, length, codes, decimal}
+use Rattle.std.specs.Prelude.{◌≡◌, ℕ, ◌<◌, ◌≤◌, ◌^◌, List, [], ◌∷◌, ◌++◌, Bool, true, false, Ok, length, codes, decimal}
 use Rattle.std.specs.List.{flat_map}
 use Rattle.std.specs.Str.{is_utf8}
 use Rattle.zb_ids.specs.Hex.{hex_text, hex_number}
@@ -76,10 +76,21 @@ pub record IsPut (text : List ℕ) (oid : ℕ) (bytes : List ℕ) : Type 0 where
   pub stored : IsRecordOf class_text state_text bytes
   pub is : text ≡ codes "put " ++ (hex_number oid ++ 32 ∷ (class_text ++ 32 ∷ state_text))
 
-pub record IsCheck (text : List ℕ) (oid serial : ℕ) : Type 0 where
-  pub oid_small : oid < 2 ^ 64
-  pub serial_small : serial < 2 ^ 64
-  pub is : text ≡ codes "check " ++ (hex_number oid ++ 32 ∷ hex_number serial)
+-- a word and two numbers
+pub record IsPaired (text word : List ℕ) (first second : ℕ) : Type 0 where
+  pub first_small : first < 2 ^ 64
+  pub second_small : second < 2 ^ 64
+  pub is : text ≡ word ++ (hex_number first ++ 32 ∷ hex_number second)
+
+-- what stands behind a pack's tid
+abbrev pub collecting_text : Bool → List ℕ
+collecting_text true = []
+collecting_text false = codes " nogc"
+
+-- a word and a tid, and `nogc` where the pack doesn't collect
+pub record IsPackText (text word : List ℕ) (tid : ℕ) (collect : Bool) : Type 0 where
+  pub small : tid < 2 ^ 64
+  pub is : text ≡ word ++ (hex_number tid ++ collecting_text collect)
 
 pub record IsVote (text user description : List ℕ) : Type 0 where
   pub user_short : IsShort user
@@ -133,7 +144,8 @@ IsLineText text (lines.Load oid) = IsNumbered text (codes "load ") oid
 IsLineText text (lines.Get oid) = IsNumbered text (codes "get ") oid
 IsLineText text (lines.Store oid base bytes) = IsStore text oid base bytes
 IsLineText text (lines.Put oid bytes) = IsPut text oid bytes
-IsLineText text (lines.Check oid serial) = IsCheck text oid serial
+IsLineText text (lines.Check oid serial) = IsPaired text (codes "check ") oid serial
+IsLineText text (lines.Delete oid base) = IsPaired text (codes "delete ") oid base
 IsLineText text (lines.Tree root call) = IsTreeText text root call
 IsLineText text lines.Savepoint = text ≡ codes "savepoint"
 IsLineText text (lines.Rollback number) = IsRollback text number
@@ -144,7 +156,9 @@ IsLineText text lines.Finish = text ≡ codes "finish"
 IsLineText text lines.Abort = text ≡ codes "abort"
 IsLineText text (lines.History oid) = IsNumbered text (codes "history ") oid
 IsLineText text lines.UndoLog = text ≡ codes "undolog"
-IsLineText text (lines.Pack tid) = IsNumbered text (codes "pack ") tid
+IsLineText text (lines.Pack tid collect) = IsPackText text (codes "pack ") tid collect
+IsLineText text (lines.PackBegin tid collect) = IsPackText text (codes "packbegin ") tid collect
+IsLineText text lines.PackTurn = text ≡ codes "packturn"
 IsLineText text lines.Close = text ≡ codes "close"
 
 -- the client's name, a blank, and what it does
@@ -183,12 +197,14 @@ IsLine (lines.Get oid) = oid < 2 ^ 64
 IsLine (lines.Store oid base bytes) = (oid < 2 ^ 64) × (base < 2 ^ 64) × IsPayload bytes
 IsLine (lines.Put oid bytes) = (oid < 2 ^ 64) × (0 < length bytes)
 IsLine (lines.Check oid serial) = (oid < 2 ^ 64) × (serial < 2 ^ 64)
+IsLine (lines.Delete oid base) = (oid < 2 ^ 64) × (base < 2 ^ 64)
 IsLine (lines.Tree root call) = (root < 2 ^ 64) × IsTreeCall call
 IsLine (lines.Rollback number) = number < 2 ^ 32
 IsLine (lines.Vote user description) = IsShort user × IsShort description
 IsLine (lines.Undo user description tids) = IsShort user × IsShort description × AreTids tids
 IsLine (lines.History oid) = oid < 2 ^ 64
-IsLine (lines.Pack tid) = tid < 2 ^ 64
+IsLine (lines.Pack tid collect) = tid < 2 ^ 64
+IsLine (lines.PackBegin tid collect) = tid < 2 ^ 64
 IsLine _ = Unit {0}
 
 abbrev pub IsTurn : Turn → Type 0

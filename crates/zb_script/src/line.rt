@@ -45,6 +45,13 @@ pub enum Line {
         /// The serial.
         serial: Tid,
     },
+    /// `delete OID BASE`: the object is to have no content.
+    Delete {
+        /// The object.
+        oid: Oid,
+        /// The serial of the revision that goes.
+        base: Tid,
+    },
     /// A call on a tree, or on a bucket or a set that stands alone.
     Tree {
         /// The object: the root of the tree, the bucket or the set.
@@ -88,11 +95,22 @@ pub enum Line {
     },
     /// `undolog`: lists the transactions that may be undone.
     UndoLog,
-    /// `pack TID`: drops what no reader of this moment or a later one needs.
+    /// `pack TID`, `pack TID nogc`: drops what no reader of this moment or a later one needs.
     Pack {
         /// The moment: what was committed up to it is packed.
         tid: Tid,
+        /// Whether objects that nothing leads to go too: where `nogc` doesn't stand.
+        collect: bool,
     },
+    /// `packbegin TID`, `packbegin TID nogc`: begins the same in turns, between which others commit.
+    PackBegin {
+        /// The moment: what was committed up to it is packed.
+        tid: Tid,
+        /// Whether objects that nothing leads to go too: where `nogc` doesn't stand.
+        collect: bool,
+    },
+    /// `packturn`: the next turn of the pack that was begun.
+    PackTurn,
     /// `close`: ends the session.
     Close,
 }

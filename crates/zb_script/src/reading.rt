@@ -2,7 +2,7 @@
 
 ghost use Rattle.std.specs.Prelude.{◌≡◌};
 ghost use Rattle.zb_script.specs.declared.line.Line.TheVariants as lines;
-ghost use Rattle.zb_script.specs.Reading.{ReadsAs, behind_word, check_at, line_at, name_at, numbered_at, put_at, rollback_at, short_line_at, store_at, turn_at, undo_at, vote_at, words_at};
+ghost use Rattle.zb_script.specs.Reading.{ReadsAs, behind_word, line_at, name_at, numbered_at, packed_at, paired_at, put_at, rollback_at, short_line_at, store_at, turn_at, undo_at, vote_at, words_at};
 
 use crate::errors::ReadError;
 use crate::keys::small_of;
@@ -10,7 +10,7 @@ use crate::line::{Line, Turn};
 use crate::name::Name;
 use crate::stored::{payload_of, record_of};
 use crate::tree_lines::tree_line_of;
-use crate::voting::{short_field_of, short_of, tids_of};
+use crate::voting::{collecting_of, short_field_of, short_of, sixteen_of, tids_of};
 use crate::words::{cut, cut_literal, field_of, number_of};
 use std::alloc::Global;
 use zb_ids::{Oid, Tid};
@@ -49,12 +49,28 @@ fn history_of(bytes: &[u8]) -> Result<Line, ReadError>
     Ok(Line::History { oid: Oid(oid) })
 }
 
-#[tactic(auto, unfolding(crate::specs::Reading::numbered_at))]
+#[tactic(auto, unfolding(crate::specs::Reading::packed_at))]
 fn pack_of(bytes: &[u8]) -> Result<Line, ReadError>
-    ensures { ReadsAs (λ line. line) result (numbered_at lines.Pack bytes.now) }
+    ensures { ReadsAs (λ line. line) result (packed_at lines.Pack bytes.now) }
 {
-    let tid = number_of(bytes)?;
-    Ok(Line::Pack { tid: Tid(tid) })
+    let (tid, rest) = sixteen_of(bytes)?;
+    let collect = collecting_of(rest)?;
+    Ok(Line::Pack {
+        tid: Tid(tid),
+        collect,
+    })
+}
+
+#[tactic(auto, unfolding(crate::specs::Reading::packed_at))]
+fn pack_begin_of(bytes: &[u8]) -> Result<Line, ReadError>
+    ensures { ReadsAs (λ line. line) result (packed_at lines.PackBegin bytes.now) }
+{
+    let (tid, rest) = sixteen_of(bytes)?;
+    let collect = collecting_of(rest)?;
+    Ok(Line::PackBegin {
+        tid: Tid(tid),
+        collect,
+    })
 }
 
 #[tactic(auto, unfolding(crate::specs::Reading::store_at))]
@@ -84,15 +100,27 @@ fn put_of(alloc: Global, bytes: &[u8]) -> Result<Line, ReadError>
     })
 }
 
-#[tactic(auto, unfolding(crate::specs::Reading::check_at))]
+#[tactic(auto, unfolding(crate::specs::Reading::paired_at))]
 fn check_of(bytes: &[u8]) -> Result<Line, ReadError>
-    ensures { ReadsAs (λ line. line) result (check_at bytes.now) }
+    ensures { ReadsAs (λ line. line) result (paired_at lines.Check bytes.now) }
 {
     let (oid, rest) = field_of(bytes)?;
     let serial = number_of(rest)?;
     Ok(Line::Check {
         oid: Oid(oid),
         serial: Tid(serial),
+    })
+}
+
+#[tactic(auto, unfolding(crate::specs::Reading::paired_at))]
+fn delete_of(bytes: &[u8]) -> Result<Line, ReadError>
+    ensures { ReadsAs (λ line. line) result (paired_at lines.Delete bytes.now) }
+{
+    let (oid, rest) = field_of(bytes)?;
+    let base = number_of(rest)?;
+    Ok(Line::Delete {
+        oid: Oid(oid),
+        base: Tid(base),
     })
 }
 
@@ -148,6 +176,8 @@ fn words_of(alloc: Global, bytes: &[u8]) -> Result<Line, ReadError>
         Ok(Line::Close)
     } else if bytes == b"savepoint".as_slice() {
         Ok(Line::Savepoint)
+    } else if bytes == b"packturn".as_slice() {
+        Ok(Line::PackTurn)
     } else {
         tree_line_of(alloc, bytes)
     }
@@ -166,6 +196,8 @@ fn short_line_of(alloc: Global, bytes: &[u8]) -> Result<Line, ReadError>
         history_of(rest)
     } else if let Some(rest) = bytes.strip_prefix(b"pack ") {
         pack_of(rest)
+    } else if let Some(rest) = bytes.strip_prefix(b"packbegin ") {
+        pack_begin_of(rest)
     } else if let Some(rest) = bytes.strip_prefix(b"rollback ") {
         rollback_of(alloc, rest)
     } else {
@@ -183,6 +215,8 @@ fn line_of(alloc: Global, bytes: &[u8]) -> Result<Line, ReadError>
         put_of(alloc, rest)
     } else if let Some(rest) = bytes.strip_prefix(b"check ") {
         check_of(rest)
+    } else if let Some(rest) = bytes.strip_prefix(b"delete ") {
+        delete_of(rest)
     } else if let Some(rest) = bytes.strip_prefix(b"vote ") {
         vote_of(alloc, rest)
     } else if let Some(rest) = bytes.strip_prefix(b"undo ") {

@@ -1,8 +1,8 @@
-//! Reading what a vote and an undo say.
+//! Reading what a vote, an undo and a pack say.
 
 ghost use Rattle.std.specs.Prelude.{◌≡◌};
 ghost use Rattle.std.specs.Option.{option_copied};
-ghost use Rattle.zb_script.specs.Reading.{ReadsAs, lower_at, short_at, short_field_at, sixteen_at, text_in, tids_at};
+ghost use Rattle.zb_script.specs.Reading.{ReadsAs, collecting_at, lower_at, short_at, short_field_at, sixteen_at, text_in, tids_at};
 
 use crate::errors::ReadError;
 use crate::stored::graph_of;
@@ -46,12 +46,25 @@ pub(crate) fn short_field_of(alloc: Global, bytes: &[u8]) -> Result<(Text8, &[u8
 
 /// A number, and what stands behind its digits.
 #[tactic(auto, unfolding(crate::specs::Reading::sixteen_at))]
-fn sixteen_of(bytes: &[u8]) -> Result<(u64, &[u8]), ReadError>
+pub(crate) fn sixteen_of(bytes: &[u8]) -> Result<(u64, &[u8]), ReadError>
     ensures { ReadsAs (λ x. (x.0, x.1.now)) result (sixteen_at bytes.now) }
 {
     let (digits, rest) = bytes.split_at(bytes.len().min(16));
     let number = number_of(digits)?;
     Ok((number, rest))
+}
+
+/// Whether a pack collects: nothing stands behind its tid, or `nogc`.
+pub(crate) fn collecting_of(rest: &[u8]) -> Result<bool, ReadError>
+    ensures { ReadsAs (λ collect. collect) result (collecting_at rest.now) }
+{
+    if rest == b"".as_slice() {
+        Ok(true)
+    } else if rest == b" nogc".as_slice() {
+        Ok(false)
+    } else {
+        Err(ReadError::Bad)
+    }
 }
 
 /// A blank and a lower number.
