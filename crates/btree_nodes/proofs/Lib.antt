@@ -37,3 +37,4 @@ pub mod Endings
 pub mod Leaving
 pub mod Removing
 pub mod Removed
+pub mod Meeting

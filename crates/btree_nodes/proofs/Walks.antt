@@ -37,7 +37,7 @@ unfolding cost
 cost_positive span zero objects o = omega arith
 cost_positive span (suc d) objects o = omega arith
 
-room_suc : (n : ℕ) → n < 2 ^ 64 → 2 ^ 64 - n ≡ suc (2 ^ 64 - suc n)
+pub room_suc : (n : ℕ) → n < 2 ^ 64 → 2 ^ 64 - n ≡ suc (2 ^ 64 - suc n)
 room_suc n l = omega arith
 
 visit_here : (fits : Bool) (span : Span) (objects : ℕ → Held) (way : List ℕ) (o : ℕ) (b : Bool) → length way < 2 ^ 64 → stands_in way o ≡ b → visit fits span (2 ^ 64 - length way) objects way o ≡ (if b then Err (NotATree o) else visit_held fits span (visit fits span (2 ^ 64 - length (o ∷ way)) objects (o ∷ way)) o (objects o))
@@ -115,7 +115,7 @@ start_rest : (r : Result (List Item) TreeError) → and_then (Ok []) (and_then r
 start_rest (Ok xs) = ap Ok (append-nil xs)
 start_rest (Err e) = refl
 
-start_is : (span : Span) (way : List ℕ) (lefts : List (List ℕ)) (items : List Item) (o : ℕ) (node : Node) → way ≡ [] → lefts ≡ [] → items ≡ [] → entered span o (record { way = way; lefts = lefts; items = items }) node ≡ entered span o fresh node
+pub start_is : (span : Span) (way : List ℕ) (lefts : List (List ℕ)) (items : List Item) (o : ℕ) (node : Node) → way ≡ [] → lefts ≡ [] → items ≡ [] → entered span o (record { way = way; lefts = lefts; items = items }) node ≡ entered span o fresh node
 start_is span way lefts items o node w f i =
     ap (λ x. entered span o (record { way = x; lefts = lefts; items = items }) node) w
     ∙ ap (λ x. entered span o (record { way = []; lefts = x; items = items }) node) f
@@ -159,7 +159,7 @@ and_then_end fits span objects way lefts xs e = ap (and_then (Ok xs)) (finish fi
 
 -- ---- what is left is popped
 
-popped_two : (lefts : List (List ℕ)) (left : List ℕ) (rest : List (List ℕ)) (child : ℕ) (more : List ℕ) → lefts ≡ left ∷ rest → left ≡ child ∷ more → lefts ≡ (child ∷ more) ∷ rest
+pub popped_two : (lefts : List (List ℕ)) (left : List ℕ) (rest : List (List ℕ)) (child : ℕ) (more : List ℕ) → lefts ≡ left ∷ rest → left ≡ child ∷ more → lefts ≡ (child ∷ more) ∷ rest
 popped_two lefts left rest child more e f = e ∙ ap (λ l. l ∷ rest) f
 
 pub loop_child : (fits : Bool) (span : Span) (objects : ℕ → Held) (way : List ℕ) (lefts : List (List ℕ)) (items : List Item) (left : List ℕ) (rest : List (List ℕ)) (child : ℕ) (more : List ℕ) (pushed : List (List ℕ)) (whole : Result (List Item) TreeError) → SameLength way lefts → lefts ≡ left ∷ rest → left ≡ child ∷ more → pushed ≡ more ∷ rest → left_of fits span objects (record { way = way; lefts = lefts; items = items }) ≡ whole → entering fits span objects (record { way = way; lefts = pushed; items = items }) child ≡ whole
@@ -176,7 +176,7 @@ same_child way lefts left rest more pushed s e p = s ∙ ap length e ∙ sym (ap
 abbrev pub Pops : Option ℕ → List ℕ → List ℕ → Type 0
 Pops r way way' = MatchOption r ((way ≡ []) × (way' ≡ [])) (λ oid. way ≡ oid ∷ way')
 
-pops_one : (r : Option ℕ) (way way' : List ℕ) (n : ℕ) → Pops r way way' → length way ≡ suc n → (oid : ℕ) × (way ≡ oid ∷ way')
+pub pops_one : (r : Option ℕ) (way way' : List ℕ) (n : ℕ) → Pops r way way' → length way ≡ suc n → (oid : ℕ) × (way ≡ oid ∷ way')
 pops_one None way way' n p l = let z : length way ≡ 0 = ap length p.0 in absurd (omega arith)
 pops_one (Some oid) way way' n p l = (oid, p)
 

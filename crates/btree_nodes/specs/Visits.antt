@@ -85,7 +85,49 @@ abbrev pub range_under : (ℕ → Option (List ℕ)) → ℕ → Key → Key →
 range_under contents root low high =
     visited (family_key (class_held (contents root)) low && family_key (class_held (contents root)) high) (Within low high) (objects_of contents root) root
 
+-- ---- what is met
+
+-- what is met at objects, one after another
+abbrev pub met_in_turn : (ℕ → List ℕ) → List ℕ → List ℕ
+met_in_turn each [] = []
+met_in_turn each (oid ∷ oids) = each oid ++ met_in_turn each oids
+
+abbrev pub children_in : Span → Held → List ℕ
+children_in span Nothing = []
+children_in span Foreign = []
+children_in span (Holds class (node.Lone bucket)) = []
+children_in span (Holds class (node.Leaf bucket)) = []
+children_in span (Holds class (node.Inner inner)) = children_within span inner.head inner.tail
+
+-- The objects that a walk comes to at an object, which stands below others, the newest first: itself, and then what it comes to
+-- at its children. One that would stand twice on one way down isn't read.
+unfoldable pub met_at : Span → ℕ → (ℕ → Held) → List ℕ → ℕ → List ℕ
+met_at span zero objects above oid = []
+met_at span (suc room) objects above oid =
+    if stands_in above oid then [] else oid ∷ met_in_turn (met_at span room objects (oid ∷ above)) (children_in span (objects oid))
+
+-- the objects of a tree that a walk comes to, as if it were refused at none
+abbrev pub met_by : Span → (ℕ → Held) → ℕ → List ℕ
+met_by span objects root = met_at span (2 ^ 64) objects [] root
+
+abbrev pub items_met : (ℕ → Option (List ℕ)) → ℕ → List ℕ
+items_met contents root = met_by All (objects_of contents root) root
+
+abbrev pub range_met : (ℕ → Option (List ℕ)) → ℕ → Key → Key → List ℕ
+range_met contents root low high = met_by (Within low high) (objects_of contents root) root
+
 -- ---- a walk under way
+
+-- what is left to be met where these objects are open, the newest first, and these children of each are left
+abbrev pub met_left : Span → (ℕ → Held) → List ℕ → List (List ℕ) → List ℕ
+met_left span objects [] lefts = []
+met_left span objects (oid ∷ way) [] = []
+met_left span objects (oid ∷ way) (left ∷ lefts) =
+    met_in_turn (met_at span (2 ^ 64 - length (oid ∷ way)) objects (oid ∷ way)) left ++ met_left span objects way lefts
+
+-- and where one more object is to be visited first
+abbrev pub met_entering : Span → (ℕ → Held) → List ℕ → List (List ℕ) → ℕ → List ℕ
+met_entering span objects way lefts oid = met_at span (2 ^ 64 - length way) objects way oid ++ met_left span objects way lefts
 
 -- what is left of the walk where these objects are open, the newest first, and these children of each are left
 abbrev pub rest_of : Bool → Span → (ℕ → Held) → List ℕ → List (List ℕ) → Result (List Item) TreeError
@@ -108,13 +150,6 @@ abbrev pub entered : Span → ℕ → Walk → Node → Walk
 entered span oid walk (node.Lone bucket) = record { way = walk.way; lefts = walk.lefts; items = walk.items ++ items_within span bucket.items }
 entered span oid walk (node.Leaf bucket) = record { way = walk.way; lefts = walk.lefts; items = walk.items ++ items_within span bucket.items }
 entered span oid walk (node.Inner inner) = record { way = oid ∷ walk.way; lefts = children_within span inner.head inner.tail ∷ walk.lefts; items = walk.items }
-
-abbrev pub children_in : Span → Held → List ℕ
-children_in span Nothing = []
-children_in span Foreign = []
-children_in span (Holds class (node.Lone bucket)) = []
-children_in span (Holds class (node.Leaf bucket)) = []
-children_in span (Holds class (node.Inner inner)) = children_within span inner.head inner.tail
 
 abbrev pub total : (ℕ → ℕ) → List ℕ → ℕ
 total each [] = 0

@@ -6,20 +6,21 @@ ghost use Rattle.btree_family.specs.Keys.{rank_of};
 ghost use Rattle.btree_nodes.specs.declared.span.Span.TheVariants.{Within};
 ghost use Rattle.btree_shapes.specs.Spaces.{handed_on};
 ghost use Rattle.btree_shapes.specs.Nodes.{class_held, objects_of, items_in, value_in};
-ghost use Rattle.btree_shapes.specs.Ways.{Answers, OnlyReads, TookReads, family_key, key_way, value_under, reads_of};
-ghost use Rattle.btree_nodes.specs.Visits.{items_under, range_under, items_within};
+ghost use Rattle.btree_shapes.specs.Met.{ReadsFirst, met_for};
+ghost use Rattle.btree_shapes.specs.Ways.{Answers, TookReads, family_key, key_way, value_under, reads_of};
+ghost use Rattle.btree_nodes.specs.Visits.{items_met, items_under, items_within, range_met, range_under};
 ghost use Rattle.btree_nodes.specs.Drawn.{DrawsNew};
 ghost use Rattle.btree_nodes.specs.Settings.{SetsIn};
 ghost use Rattle.btree_nodes.specs.Removals.{RemovesIn};
 ghost use Rattle.btree_shapes.specs.Shapes.{Shape, IsSound, IsTree, nodes_in};
-ghost use Rattle.btree_setting.specs.Ends.{Sets};
+ghost use Rattle.btree_setting.specs.Ends.{Sets, SetsWithin};
 ghost use Rattle.btree_removing.specs.Ends.{Removes};
 
 use crate::span::Span;
 use crate::walk::walk_all;
 use btree_family::{Item, Key, key_fits};
 use btree_removing::remove;
-use btree_setting::{Sizes, set};
+use btree_setting::{SetEnd, Sizes, set, set_within};
 use btree_shapes::{Node, Space, TreeError, find, read_root, value_in};
 use std::alloc::{AllocError, Global};
 use zb_ids::{ListOf, Oid, Text8};
@@ -61,7 +62,8 @@ impl<const LEAF: usize, const INNER: usize> Tree<LEAF, INNER> {
         ensures answer { Answers result (value_under (S.contents space.old) self.now.root key.now) }
         ensures log { IfOk result (λ value. S.told
             → S.log space.new ≡ S.log space.old ++ reads_of (key_way (S.contents space.old) self.now.root key.now)) }
-        ensures only { S.told → OnlyReads (S.log space.old) (S.log space.new) }
+        ensures met { S.told → ReadsFirst (met_for (S.contents space.old) self.now.root key.now) (S.log space.old)
+            (S.log space.new) }
         ensures contents { S.contents space.new ≡ S.contents space.old }
         ensures refusals { S.told → S.refusals space.new ≡ S.refusals space.old ++ handed_on result }
     {
@@ -92,7 +94,8 @@ impl<const LEAF: usize, const INNER: usize> Tree<LEAF, INNER> {
             → IsSound (nodes_in (objects_of (S.contents space.old) self.now.root)) self.now.root kind h s
             → rank_of key.now ≡ kind → family_key (class_held (S.contents space.old self.now.root)) key.now ≡ true
             → S.told → IfOk result (λ value. TookReads (suc h) (S.log space.old) (S.log space.new)) }
-        ensures only { S.told → OnlyReads (S.log space.old) (S.log space.new) }
+        ensures met { S.told → ReadsFirst (met_for (S.contents space.old) self.now.root key.now) (S.log space.old)
+            (S.log space.new) }
         ensures contents { S.contents space.new ≡ S.contents space.old }
         ensures refusals { S.told → S.refusals space.new ≡ S.refusals space.old ++ handed_on result }
     {
@@ -143,6 +146,27 @@ impl<const LEAF: usize, const INNER: usize> Tree<LEAF, INNER> {
         set(alloc, space, self.root, sizes, key, value)
     }
 
+    /// Sets what stands under a key as [`set`](Self::set) does, where the space can give so many numbers for new objects. Where
+    /// more are needed, it says so once all was read and each record tried, and nothing is drawn or put.
+    pub fn set_within<S: Space>(
+        &self,
+        alloc: Global,
+        space: &mut S,
+        key: Key,
+        value: Option<Text8>,
+        supply: usize,
+    ) -> Result<SetEnd, TreeError>
+        ensures ways { SetsWithin S.told (S.contents space.old) (S.contents space.new) (S.log space.old)
+            (S.log space.new) self.now.root (record { leaf = LEAF; inner = INNER }) key value supply result }
+        ensures refusals { S.told → S.refusals space.new ≡ S.refusals space.old ++ handed_on result }
+    {
+        let sizes = Sizes {
+            leaf: LEAF,
+            inner: INNER,
+        };
+        set_within(alloc, space, self.root, sizes, key, value, supply)
+    }
+
     /// Removes a key, and answers whether it was there. Where it is absent, nothing is put.
     ///
     /// The objects on the way are each read once, from the root on. A leaf that still has items is put alone. One that
@@ -184,11 +208,12 @@ impl<const LEAF: usize, const INNER: usize> Tree<LEAF, INNER> {
     }
 
     /// All items, by a walk.
-    #[tactic(auto, using(crate::proofs::Calls::items_unread, btree_shapes::specs::Logs::only_read, btree_shapes::specs::Logs::only_more))]
+    #[tactic(auto, using(crate::proofs::Calls::items_unread))]
     fn all_items<S: Space>(&self, alloc: Global, space: &mut S) -> Result<ListOf<Item>, TreeError>
         ensures answer { Answers result (items_under (S.contents space.old) self.now.root) }
         ensures contents { S.contents space.new ≡ S.contents space.old }
-        ensures only { S.told → OnlyReads (S.log space.old) (S.log space.new) }
+        ensures met { S.told → ReadsFirst (items_met (S.contents space.old) self.now.root) (S.log space.old)
+            (S.log space.new) }
         ensures refusals { S.told → S.refusals space.new ≡ S.refusals space.old ++ handed_on result }
     {
         let (tree, entry) = read_root(alloc, space, self.root)?;
@@ -196,7 +221,7 @@ impl<const LEAF: usize, const INNER: usize> Tree<LEAF, INNER> {
     }
 
     /// The items from one key to another, by a walk.
-    #[tactic(auto, using(crate::proofs::Calls::range_unread, crate::proofs::Calls::range_walk, btree_shapes::specs::Logs::only_none, btree_shapes::specs::Logs::only_read, btree_shapes::specs::Logs::only_more))]
+    #[tactic(auto, using(crate::proofs::Calls::range_unread, crate::proofs::Calls::range_walk, btree_shapes::specs::MetLaws::first_start))]
     fn items_between<S: Space>(
         &self,
         alloc: Global,
@@ -206,7 +231,8 @@ impl<const LEAF: usize, const INNER: usize> Tree<LEAF, INNER> {
     ) -> Result<ListOf<Item>, TreeError>
         ensures answer { Answers result (range_under (S.contents space.old) self.now.root from.now to.now) }
         ensures contents { S.contents space.new ≡ S.contents space.old }
-        ensures only { S.told → OnlyReads (S.log space.old) (S.log space.new) }
+        ensures met { S.told → ReadsFirst (range_met (S.contents space.old) self.now.root from.now to.now)
+            (S.log space.old) (S.log space.new) }
         ensures refusals { S.told → S.refusals space.new ≡ S.refusals space.old ++ handed_on result }
     {
         let low = from.clone()?;
@@ -231,7 +257,8 @@ impl<const LEAF: usize, const INNER: usize> Tree<LEAF, INNER> {
             → IsTree (objects_of (S.contents space.old) self.now.root) self.now.root kind mapping
             → Answers result (Ok mapping) }
         ensures contents { S.contents space.new ≡ S.contents space.old }
-        ensures only { S.told → OnlyReads (S.log space.old) (S.log space.new) }
+        ensures met { S.told → ReadsFirst (items_met (S.contents space.old) self.now.root) (S.log space.old)
+            (S.log space.new) }
         ensures refusals { S.told → S.refusals space.new ≡ S.refusals space.old ++ handed_on result }
     {
         self.all_items(alloc, space)
@@ -254,7 +281,8 @@ impl<const LEAF: usize, const INNER: usize> Tree<LEAF, INNER> {
             → family_key (class_held (S.contents space.old self.now.root)) to.now ≡ true
             → Answers result (Ok (items_within (Within from.now to.now) mapping)) }
         ensures contents { S.contents space.new ≡ S.contents space.old }
-        ensures only { S.told → OnlyReads (S.log space.old) (S.log space.new) }
+        ensures met { S.told → ReadsFirst (range_met (S.contents space.old) self.now.root from.now to.now)
+            (S.log space.old) (S.log space.new) }
         ensures refusals { S.told → S.refusals space.new ≡ S.refusals space.old ++ handed_on result }
     {
         self.items_between(alloc, space, from, to)

@@ -1,12 +1,14 @@
 //! A walk over the leaves of a tree.
 
-ghost use Rattle.std.specs.Prelude.{◌≡◌, ◌+◌, ◌-◌, ◌++◌, ◌∷◌, [], ◌<◌, ◌^◌, length, OnOk, IfOk, IfErr, MatchOption};
+ghost use Rattle.std.specs.Prelude.{◌≡◌, ◌+◌, ◌-◌, ◌++◌, ◌∷◌, [], ◌<◌, ◌^◌, List, length, OnOk, IfOk, IfErr, MatchOption};
 ghost use Rattle.btree_shapes.specs.Reading.{IsRooted};
 ghost use Rattle.btree_shapes.specs.Spaces.{handed_on};
-ghost use Rattle.btree_shapes.specs.Ways.{OnlyReads};
+ghost use Rattle.btree_shapes.specs.Met.{ReadsFirst};
+ghost use Rattle.btree_shapes.specs.declared.space.Call.{Call};
+ghost use Rattle.btree_shapes.specs.declared.space.Call.TheVariants.{Read};
 ghost use Rattle.btree_shapes.specs.Nodes.{objects_of, Holds};
 ghost use Rattle.btree_shapes.specs.Ways.{Answers, IsRefusal};
-ghost use Rattle.btree_nodes.specs.Visits.{items_within, entered, left_of, entering, visited, cost, cost_of, SameLength};
+ghost use Rattle.btree_nodes.specs.Visits.{items_within, entered, left_of, entering, visited, cost, cost_of, met_by, met_entering, met_left, SameLength};
 
 use crate::children::Children;
 use crate::span::{Span, children_within};
@@ -113,7 +115,7 @@ fn enter_node(
 }
 
 /// Reads one more object, and visits it.
-#[tactic(auto, using(crate::proofs::Walks::enter_twice, crate::proofs::Walks::enter_unread, crate::proofs::Walks::enter_bad_key, crate::proofs::Walks::enter_gives, crate::proofs::Walks::enter_less, crate::proofs::Walks::enter_same, btree_shapes::specs::Logs::only_read))]
+#[tactic(auto, using(crate::proofs::Walks::enter_twice, crate::proofs::Walks::enter_unread, crate::proofs::Walks::enter_bad_key, crate::proofs::Walks::enter_gives, crate::proofs::Walks::enter_less, crate::proofs::Walks::enter_same, btree_shapes::specs::MetLaws::first_start))]
 fn enter<S: Space>(
     alloc: Global,
     space: &mut S,
@@ -137,7 +139,12 @@ fn enter<S: Space>(
     ensures err { IfErr result (λ e.
         IsRefusal e (entering fits span.now (objects_of (S.contents space.old) tree.now.root) walk oid)) }
     ensures contents { S.contents space.new ≡ S.contents space.old }
-    ensures log { S.told → OnlyReads (S.log space.old) (S.log space.new) }
+    ensures met { S.told → ReadsFirst (met_entering span.now (objects_of (S.contents space.old) tree.now.root)
+        walk.way walk.lefts oid) (S.log space.old) (S.log space.new) }
+    ensures read { IfOk result (λ next. S.told → S.log space.new ≡ S.log space.old ++ Read oid ∷ []) }
+    ensures left { IfOk result (λ next.
+        met_entering span.now (objects_of (S.contents space.old) tree.now.root) walk.way walk.lefts oid
+        ≡ oid ∷ met_left span.now (objects_of (S.contents space.old) tree.now.root) next.way next.lefts) }
     ensures refusals { S.told → S.refusals space.new ≡ S.refusals space.old ++ handed_on result }
 {
     if walk.way.contains(oid) {
@@ -151,7 +158,7 @@ fn enter<S: Space>(
 }
 
 /// The items of a tree whose root was read.
-#[tactic(auto, using(crate::proofs::Walks::start_gives, crate::proofs::Walks::start_same, crate::proofs::Walks::start_bad_key, crate::proofs::Walks::and_then_end, crate::proofs::Walks::rest_child, crate::proofs::Walks::rest_none, crate::proofs::Walks::cost_child, crate::proofs::Walks::cost_none, crate::proofs::Walks::finish, btree_shapes::specs::Logs::only_none, btree_shapes::specs::Logs::only_more))]
+#[tactic(auto, using(crate::proofs::Walks::start_gives, crate::proofs::Walks::start_same, crate::proofs::Walks::start_bad_key, crate::proofs::Walks::and_then_end, crate::proofs::Walks::rest_child, crate::proofs::Walks::rest_none, crate::proofs::Walks::cost_child, crate::proofs::Walks::cost_none, crate::proofs::Walks::finish))]
 pub(crate) fn walk_all<S: Space>(
     alloc: Global,
     space: &mut S,
@@ -165,7 +172,8 @@ pub(crate) fn walk_all<S: Space>(
     ensures answer { Answers result
         (visited fits span.now (objects_of (S.contents space.old) tree.now.root) tree.now.root) }
     ensures contents { S.contents space.new ≡ S.contents space.old }
-    ensures log { S.told → OnlyReads (S.log space.old) (S.log space.new) }
+    ensures met { S.told → (base : List Call) → S.log space.old ≡ base ++ Read tree.now.root ∷ []
+        → ReadsFirst (met_by span.now (objects_of (S.contents space.old) tree.now.root) tree.now.root) base (S.log space.new) }
     ensures refusals { S.told → S.refusals space.new ≡ S.refusals space.old ++ handed_on result }
 {
     let Entry { node, .. } = entry;

@@ -13,5 +13,5 @@ pub use copying::{copy_pickle, with_branches, with_items};
 pub use first::first_below;
 pub use items::{has_key, has_value};
 pub use puts::{Put, Puts, in_order};
-pub use storing::{all_keep, can_keep, same_link, store_all};
+pub use storing::{all_keep, same_link, store_all};
 pub use writing::{Family, plain_class};

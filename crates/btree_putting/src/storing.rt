@@ -162,7 +162,7 @@ fn record_for(alloc: Global, family: &Family, put: &Put) -> Result<Option<Object
 
 /// Whether the record of a put can be written and reads back.
 #[tactic(auto, using(crate::proofs::Keeping::keeps_by, crate::proofs::Keeping::sound_where, crate::proofs::Keeping::sound_so))]
-pub fn can_keep(alloc: Global, family: &Family, put: &Put) -> Result<bool, AllocError>
+fn can_keep(alloc: Global, family: &Family, put: &Put) -> Result<bool, AllocError>
     requires global { AreGlobal family.now }
     ensures keeps { IfOk result (λ holds. holds
         ≡ keeps (class_seen family.now.row.now) (class_seen family.now.leaf.now) put.now) }

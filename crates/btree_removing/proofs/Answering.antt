@@ -1,5 +1,5 @@
 -- What a remove answers.
-use Rattle.std.proofs.Common.{◌≡◌, ℕ, Bool, true, false, List, [], ◌∷◌, ◌++◌, Option, Some, None, Result, Ok, Err, refl, sym, ◌∙◌, ap, subst, append_assoc, append-nil, inl, inr, ◌⊎◌}
+use Rattle.std.proofs.Common.{◌≡◌, ℕ, ◌^◌, Bool, true, false, List, [], ◌∷◌, ◌++◌, Option, Some, None, Result, Ok, Err, refl, sym, ◌∙◌, ap, subst, append_assoc, append-nil, inl, inr, ◌⊎◌}
 use Rattle.std.specs.Prelude.{◌&&◌, map}
 use Rattle.pickle_graph.specs.Graph.{Graph}
 use Rattle.btree_family.specs.declared.key.Key.{Key}
@@ -10,15 +10,19 @@ use Rattle.btree_shapes.specs.declared.error.TreeError.TheVariants.{NotATree, No
 use Rattle.btree_shapes.specs.declared.node.Node.{Node}
 use Rattle.btree_shapes.specs.declared.way.Found.{Found}
 use Rattle.btree_shapes.specs.declared.space.Call.{Call}
+use Rattle.btree_shapes.specs.declared.space.Call.TheVariants.{Read}
 use Rattle.btree_shapes.specs.Nodes.{Held, Nothing, Foreign, Holds, node_suits, class_held, objects_of}
 use Rattle.btree_shapes.specs.Reading.{IsReadError}
-use Rattle.btree_shapes.specs.Ways.{way_for, IsRefusal, OnlyReads, family_key, reads, reads_of}
+use Rattle.btree_shapes.specs.Met.{ReadsFirst, met_for, oids_of}
+use Rattle.btree_shapes.specs.MetLaws.{first_more, first_then, met_found, met_of_root, root_logged, root_read}
+use Rattle.btree_shapes.specs.Spaces.{IsLogged}
+use Rattle.btree_shapes.specs.Ways.{way_for, IsRefusal, family_key, reads, reads_of}
 use Rattle.btree_shapes.specs.Steps.{above_root, root_bad_key}
 use Rattle.btree_putting.specs.declared.puts.Put.{Put}
 use Rattle.btree_putting.specs.Puts.{all_keep}
 use Rattle.btree_putting.specs.Storing.{IsFree, IsStored, IsStoredFront}
 use Rattle.btree_putting.specs.Writing.{has_leaf}
-use Rattle.btree_removing.specs.Plans.{plan_found, plan_by, family_leaf, fits_tree, remove_way, plan_under, oids_found, reads_by, reads_under}
+use Rattle.btree_removing.specs.Plans.{plan_found, plan_by, family_leaf, fits_tree, remove_way, plan_under, oids_found, beside_by, met_beside, met_under, reads_by, reads_under}
 use Rattle.btree_removing.specs.Ends.{Breaks, Writes, HasPuts, Removes}
 
 -- ---- writing
@@ -105,9 +109,34 @@ all_reads f root key objects found log middle log' o t h m l =
     ∙ append_assoc log (reads_of (Ok found)) (reads (oids_found key (objects_of f root) found))
     ∙ ap (λ w. log ++ reads_by key (objects_of f root) w) (sym (ap (λ b. way_for b key (objects_of f root) root) t ∙ h))
 
+-- ---- what was read of the way
+
+pub met_at_root : (f : ℕ → Option (List ℕ)) (root : ℕ) (key : Key) (log log' : List Call) (no_memory : Bool) → IsLogged root no_memory log log' → ReadsFirst (met_under f root key) log log'
+met_at_root f root key log log' no_memory l =
+    first_more (met_for f root key) (beside_by key (objects_of f root) (remove_way f root key)) log log' (root_logged key (objects_of f root) root log log' no_memory l)
+
+pub met_root_read : (f : ℕ → Option (List ℕ)) (root : ℕ) (key : Key) (log log' : List Call) → log' ≡ log ++ Read root ∷ [] → ReadsFirst (met_under f root key) log log'
+met_root_read f root key log log' l =
+    first_more (met_for f root key) (beside_by key (objects_of f root) (remove_way f root key)) log log' (root_read key (objects_of f root) root log log' l)
+
+pub met_on_way : (f f' : ℕ → Option (List ℕ)) (root root' : ℕ) (key : Key) (log log' : List Call) → f' ≡ f → root' ≡ root → ReadsFirst (met_for f' root' key) log log' → ReadsFirst (met_under f root key) log log'
+met_on_way f f' root root' key log log' c r reads =
+    first_more (met_for f root key) (beside_by key (objects_of f root) (remove_way f root key)) log log' (met_of_root f f' root root' key log log' c r reads)
+
+met_is : (f : ℕ → Option (List ℕ)) (root : ℕ) (key : Key) (found : Found) → fits_tree (class_held (f root)) key ≡ true → way_for true key (objects_of f root) root ≡ Ok found → met_under f root key ≡ oids_of found ++ met_beside key (objects_of f root) found
+met_is f root key found t h =
+    ap (λ xs. xs ++ beside_by key (objects_of f root) (remove_way f root key)) (met_found true key (objects_of f root) (2 ^ 64) [] root found h)
+    ∙ ap (λ w. oids_of found ++ beside_by key (objects_of f root) w) (ap (λ b. way_for b key (objects_of f root) root) t ∙ h)
+
+-- the way was found, and some of the objects besides it were read
+pub met_past_way : (f : ℕ → Option (List ℕ)) (root : ℕ) (key : Key) (objects : ℕ → Held) (found : Found) (log middle log' : List Call) → objects ≡ objects_of f root → fits_tree (class_held (f root)) key ≡ true → way_for true key (objects_of f root) root ≡ Ok found → middle ≡ log ++ reads_of (Ok found) → ReadsFirst (met_beside key objects found) middle log' → ReadsFirst (met_under f root key) log log'
+met_past_way f root key objects found log middle log' o t h m r =
+    subst (λ xs. ReadsFirst xs log log') (sym (met_is f root key found t h))
+    (first_then (oids_of found) (met_beside key (objects_of f root) found) log middle log' m (subst (λ x. ReadsFirst (met_beside key x found) middle log') o r))
+
 -- ---- answers
 
-pub refused_before : (told : Type 0) (f f' : ℕ → Option (List ℕ)) (log log' : List Call) (root : ℕ) (key : Key) (e : TreeError) → IsRefusal e (plan_under f root key) → f' ≡ f → (told → OnlyReads log log') → Removes told f f' log log' root key (Err e)
+pub refused_before : (told : Type 0) (f f' : ℕ → Option (List ℕ)) (log log' : List Call) (root : ℕ) (key : Key) (e : TreeError) → IsRefusal e (plan_under f root key) → f' ≡ f → (told → ReadsFirst (met_under f root key) log log') → Removes told f f' log log' root key (Err e)
 refused_before told f f' log log' root key e r c l = inl (record { refusal = r; contents = c; log = l })
 
 pub is_absent : (told : Type 0) (f f' : ℕ → Option (List ℕ)) (log log' : List Call) (root : ℕ) (key : Key) → plan_under f root key ≡ Ok None → f' ≡ f → (told → log' ≡ log ++ reads_under f root key) → Removes told f f' log log' root key (Ok false)

@@ -1,5 +1,5 @@
 -- What a remove is to put, from what was read.
-use Rattle.std.proofs.Common.{◌≡◌, ℕ, Bool, true, false, List, [], ◌∷◌, ◌++◌, Option, Some, None, Result, Ok, Err, refl, sym, ◌∙◌, ap, subst, append_assoc, append-nil}
+use Rattle.std.proofs.Common.{◌≡◌, ℕ, ◌-◌, ◌^◌, length, Bool, true, false, List, [], ◌∷◌, ◌++◌, Option, Some, None, Result, Ok, Err, refl, sym, ◌∙◌, ap, subst, append_assoc, append-nil}
 use Rattle.std.specs.Prelude.{if◌then◌else◌}
 use Rattle.pickle_graph.specs.Graph.{Graph}
 use Rattle.btree_family.specs.declared.key.Key.{Key}
@@ -10,6 +10,9 @@ use Rattle.btree_shapes.specs.declared.space.Call.{Call}
 use Rattle.btree_shapes.specs.declared.space.Call.TheVariants.{Read}
 use Rattle.btree_shapes.specs.declared.way.Found.{Found}
 use Rattle.btree_shapes.specs.Nodes.{Held}
+use Rattle.btree_shapes.specs.Met.{ReadsFirst}
+use Rattle.btree_shapes.specs.MetLaws.{first_logged, first_more, first_then}
+use Rattle.btree_shapes.specs.Spaces.{IsLogged}
 use Rattle.btree_shapes.specs.Ways.{Answers, stands_in, IsRefusal, reads}
 use Rattle.btree_putting.specs.declared.puts.Put.{Put}
 use Rattle.btree_putting.specs.Puts.{sort_puts}
@@ -19,10 +22,11 @@ use Rattle.btree_removing.specs.declared.rung.Rung.{Rung}
 use Rattle.btree_removing.specs.declared.sides.Start.{Start}
 use Rattle.btree_removing.specs.declared.sides.Sides.{Sides}
 use Rattle.btree_removing.specs.Bottoms.{bottom_of, is_emptied, is_leaf, next_of}
-use Rattle.btree_removing.specs.Lasts.{last_below, oids_to, last_oids, relinked, relink, link_before}
+use Rattle.btree_removing.specs.Lasts.{last_below, oids_to, last_oids, met_last, met_lasts, relinked, relink, link_before}
 use Rattle.btree_removing.specs.Losses.{raise, leaves_tree}
 use Rattle.btree_removing.specs.Sides.{sides_of}
-use Rattle.btree_removing.specs.Plans.{left_asked, known_first, first_head, head_oids, all_puts, puts_with, puts_leaving, oids_leaving, rungs_above, puts_for, oids_for, some_puts, plan_for, plan_found, oids_with, oids_found}
+use Rattle.btree_removing.specs.Plans.{left_asked, known_first, first_head, head_oids, all_puts, puts_with, puts_leaving, oids_leaving, rungs_above, puts_for, oids_for, some_puts, plan_for, plan_found, oids_with, oids_found, met_beside, met_leaving, met_puts, met_with}
+use Rattle.btree_removing.proofs.Lasting.{met_found}
 
 reads_append : (xs ys : List ℕ) → reads (xs ++ ys) ≡ reads xs ++ reads ys
 reads_append [] ys = refl
@@ -49,7 +53,22 @@ relink_found key objects next start last puts h p = ap (relink next) h ∙ ap Ok
 pub link_log : (key : Key) (objects : ℕ → Held) (start : Start) (last : Last) (log log' : List Call) → last_below key objects start ≡ Ok last → log' ≡ log ++ reads (oids_to start.above (Ok last)) → log' ≡ log ++ reads (last_oids key objects (Some start))
 link_log key objects start last log log' h l = l ∙ ap (λ r. log ++ reads (oids_to start.above r)) (sym h)
 
+pub link_met : (objects : ℕ → Held) (start : Start) (log log' : List Call) → ReadsFirst (met_last objects (2 ^ 64 - length start.above) start.above start.child) log log' → ReadsFirst (met_lasts objects (Some start)) log log'
+link_met objects start log log' r = r
+
+-- where the leaf before is linked anew, what was met is what was read
+lasts_by : (key : Key) (objects : ℕ → Held) (next : Option ℕ) (start : Start) (before : List Put) (r : Result Last TreeError) → last_below key objects start ≡ r → relink next r ≡ Ok before → met_lasts objects (Some start) ≡ oids_to start.above r
+lasts_by key objects next start before (Ok last) e h = met_found key objects (2 ^ 64 - length start.above) start.above start.child last e
+lasts_by key objects next start before (Err x) e h = absurd cc
+
+lasts_read : (key : Key) (objects : ℕ → Held) (next : Option ℕ) (start : Option Start) (before : List Put) → link_before key objects next start ≡ Ok before → met_lasts objects start ≡ last_oids key objects start
+lasts_read key objects next None before h = refl
+lasts_read key objects next (Some start) before h = lasts_by key objects next start before (last_below key objects start) refl h
+
 -- ---- the child that is the first now
+
+pub head_met : (start : Start) (log log' : List Call) (no_memory : Bool) → IsLogged start.child no_memory log log' → ReadsFirst (head_oids (Some start)) log log'
+head_met start log log' no_memory l = first_logged start.child [] log log' no_memory l
 
 pub head_twice : (key : Key) (objects : ℕ → Held) (start : Start) → stands_in start.above start.child ≡ true → first_head key objects (Some start) ≡ Err (NotATree start.child)
 head_twice key objects start s = ap (λ b. if b then Err (NotATree start.child) else known_first (first_held true key start.child (objects start.child))) s
@@ -69,6 +88,9 @@ head_refused key objects start e s h = subst (λ r. IsRefusal e r) (sym (head_on
 
 pub head_found : (key : Key) (objects : ℕ → Held) (start : Start) (first : ℕ) → stands_in start.above start.child ≡ false → first_held true key start.child (objects start.child) ≡ Ok first → first_head key objects (Some start) ≡ Ok (Some first)
 head_found key objects start first s h = head_once key objects start s ∙ ap known_first h
+
+pub head_read : (start : Start) (log log' : List Call) → log' ≡ log ++ Read start.child ∷ [] → ReadsFirst (head_oids (Some start)) log log'
+head_read start log log' l = first_logged start.child [] log log' false l
 
 -- ---- an emptied leaf
 
@@ -112,6 +134,18 @@ leaving_log key objects leaf sides start log middle log' s m l =
     ∙ append_assoc log (reads (last_oids key objects (left_asked (is_leaf leaf.node) sides.left))) (reads (head_oids sides.head))
     ∙ ap (λ x. log ++ x) (sym (reads_append (last_oids key objects (left_asked (is_leaf leaf.node) sides.left)) (head_oids sides.head)))
 
+-- the way to the leaf before stopped
+pub leaving_before : (objects : ℕ → Held) (leaf : Put) (sides whole : Sides) (start : Option Start) (log log' : List Call) → sides ≡ whole → start ≡ left_asked (is_leaf leaf.node) sides.left → ReadsFirst (met_lasts objects start) log log' → ReadsFirst (met_leaving objects leaf whole) log log'
+leaving_before objects leaf sides whole start log log' w s r =
+    subst (λ x. ReadsFirst (met_leaving objects leaf x) log log') w (subst (λ x. ReadsFirst (met_lasts objects x ++ head_oids sides.head) log log') s (first_more (met_lasts objects start) (head_oids sides.head) log log' r))
+
+-- the leaf before was read, and the child that is the first now, or not
+pub leaving_head : (key : Key) (objects : ℕ → Held) (leaf : Put) (sides whole : Sides) (next : Option ℕ) (start : Option Start) (before : List Put) (log middle log' : List Call) → sides ≡ whole → start ≡ left_asked (is_leaf leaf.node) sides.left → link_before key objects next start ≡ Ok before → middle ≡ log ++ reads (last_oids key objects start) → ReadsFirst (head_oids sides.head) middle log' → ReadsFirst (met_leaving objects leaf whole) log log'
+leaving_head key objects leaf sides whole next start before log middle log' w s h m r =
+    subst (λ x. ReadsFirst (met_leaving objects leaf x) log log') w (subst (λ x. ReadsFirst (met_lasts objects x ++ head_oids sides.head) log log') s
+    (first_then (met_lasts objects start) (head_oids sides.head) log middle log'
+    (m ∙ ap (λ xs. log ++ reads xs) (sym (lasts_read key objects next start before h))) r))
+
 -- ---- all puts
 
 pub stays_so : (key : Key) (objects : ℕ → Held) (path : List Step) (leaf : Put) (none puts : List Put) → is_emptied leaf.node ≡ false → none ≡ [] → puts ≡ none ++ leaf ∷ [] → puts_for key objects path leaf ≡ Ok puts
@@ -142,6 +176,11 @@ gone_log key objects path leaf rungs log log' e r l =
     l ∙ ap (λ x. log ++ reads (oids_leaving key objects leaf (sides_of key x))) r
     ∙ ap (λ b. log ++ reads (if b then oids_leaving key objects leaf (sides_of key (rungs_above leaf path)) else [])) (sym e)
 
+pub gone_met : (key : Key) (objects : ℕ → Held) (path : List Step) (leaf : Put) (rungs : List Rung) (log log' : List Call) → is_emptied leaf.node ≡ true → rungs ≡ rungs_above leaf path → ReadsFirst (met_leaving objects leaf (sides_of key rungs)) log log' → ReadsFirst (met_puts key objects path leaf) log log'
+gone_met key objects path leaf rungs log log' e r m =
+    subst (λ b. ReadsFirst (if b then met_leaving objects leaf (sides_of key (rungs_above leaf path)) else []) log log') (sym e)
+    (subst (λ x. ReadsFirst (met_leaving objects leaf (sides_of key x)) log log') r m)
+
 -- ---- the end of the way
 
 pub absent : (key : Key) (objects : ℕ → Held) (found : Found) → bottom_of found.oid found.class found.node key ≡ None → plan_found key objects found ≡ Ok None
@@ -165,3 +204,6 @@ puts_found key objects found leaf puts b h = ap (plan_for key objects found.path
 
 pub puts_log : (key : Key) (objects : ℕ → Held) (found : Found) (leaf : Put) (log log' : List Call) → bottom_of found.oid found.class found.node key ≡ Some leaf → log' ≡ log ++ reads (oids_for key objects found.path leaf) → log' ≡ log ++ reads (oids_found key objects found)
 puts_log key objects found leaf log log' b l = l ∙ ap (λ x. log ++ reads (oids_with key objects found.path x)) (sym b)
+
+pub puts_met : (key : Key) (objects : ℕ → Held) (found : Found) (leaf : Put) (log log' : List Call) → bottom_of found.oid found.class found.node key ≡ Some leaf → ReadsFirst (met_puts key objects found.path leaf) log log' → ReadsFirst (met_beside key objects found) log log'
+puts_met key objects found leaf log log' b r = subst (λ x. ReadsFirst (met_with key objects found.path x) log log') (sym b) r

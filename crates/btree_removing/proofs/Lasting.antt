@@ -13,9 +13,12 @@ use Rattle.btree_shapes.specs.declared.space.Call.{Call}
 use Rattle.btree_shapes.specs.declared.space.Call.TheVariants.{Read}
 use Rattle.btree_shapes.specs.Nodes.{Held, Nothing, Foreign, Holds, node_suits}
 use Rattle.btree_shapes.specs.Reading.{IsReadError}
+use Rattle.btree_shapes.specs.Met.{ReadsFirst, ReadsUpTo}
+use Rattle.btree_shapes.specs.MetLaws.{first_logged, first_one, up_to_first, up_to_next}
+use Rattle.btree_shapes.specs.Spaces.{IsLogged}
 use Rattle.btree_shapes.specs.Ways.{stands_in, IsRefusal, reads}
 use Rattle.btree_removing.specs.declared.last.Last.{Last}
-use Rattle.btree_removing.specs.Lasts.{last_child, last_node, last_held, last_from, oids_to}
+use Rattle.btree_removing.specs.Lasts.{last_child, last_node, last_held, last_from, met_last, met_last_below, oids_to}
 
 last_suc : (key : Key) (objects : ℕ → Held) (room : ℕ) (above : List ℕ) (oid : ℕ) → last_from key objects (suc room) above oid ≡ (if stands_in above oid then Err (NotATree oid) else last_held (last_from key objects room (above ++ oid ∷ [])) key above oid (objects oid))
 unfolding last_from
@@ -110,3 +113,108 @@ read_end start log log' first above oid class node r l =
     l ∙ ap (λ xs. xs ++ Read oid ∷ []) r.log_is ∙ append_assoc start (reads r.oids) (Read oid ∷ [])
     ∙ ap (λ xs. start ++ xs) (sym (reads_last r.oids oid))
     ∙ ap (λ xs. start ++ reads (xs ++ oid ∷ [])) (sym (ap (drop (length first)) r.above_is ∙ drop_front first r.oids))
+
+-- ---- what is met
+
+met_suc : (objects : ℕ → Held) (room : ℕ) (above : List ℕ) (oid : ℕ) → met_last objects (suc room) above oid ≡ (if stands_in above oid then [] else oid ∷ met_last_below (met_last objects room (above ++ oid ∷ [])) (objects oid))
+unfolding met_last
+met_suc objects room above oid = refl
+
+-- what is met from an object on
+abbrev pub met_at : (ℕ → Held) → List ℕ → ℕ → List ℕ
+met_at objects above oid = met_last objects (2 ^ 64 - length above) above oid
+
+-- what is met below an object
+abbrev met_beyond : (ℕ → Held) → List ℕ → ℕ → List ℕ
+met_beyond objects above oid = met_last_below (met_last objects (2 ^ 64 - suc (length above)) (above ++ oid ∷ [])) (objects oid)
+
+met_next : (objects : ℕ → Held) (above : List ℕ) (oid : ℕ) → length above < 2 ^ 64 → stands_in above oid ≡ false → met_at objects above oid ≡ oid ∷ met_beyond objects above oid
+met_next objects above oid l s =
+    ap (λ room. met_last objects room above oid) (room_suc (length above) l)
+    ∙ met_suc objects (2 ^ 64 - suc (length above)) above oid
+    ∙ ap (λ b. if b then [] else oid ∷ met_beyond objects above oid) s
+
+pub logged_here : (objects : ℕ → Held) (above : List ℕ) (oid : ℕ) (all : List ℕ) (a b c : List Call) (no_memory : Bool) → ReadsUpTo all (met_at objects above oid) a b → length above < 2 ^ 64 → stands_in above oid ≡ false → IsLogged oid no_memory b c → ReadsFirst all a c
+logged_here objects above oid all a b c no_memory r l s logged =
+    up_to_first all (met_at objects above oid) a b c r
+    (subst (λ xs. ReadsFirst xs b c) (sym (met_next objects above oid l s)) (first_logged oid (met_beyond objects above oid) b c no_memory logged))
+
+pub read_here : (objects : ℕ → Held) (above : List ℕ) (oid : ℕ) (all : List ℕ) (a b c : List Call) → ReadsUpTo all (met_at objects above oid) a b → length above < 2 ^ 64 → stands_in above oid ≡ false → c ≡ b ++ Read oid ∷ [] → ReadsFirst all a c
+read_here objects above oid all a b c r l s e =
+    up_to_first all (met_at objects above oid) a b c r
+    (subst (λ xs. ReadsFirst xs b c) (sym (met_next objects above oid l s)) (first_one oid (met_beyond objects above oid) b c e))
+
+beyond_is : (objects : ℕ → Held) (above above' : List ℕ) (oid next : ℕ) (class : Graph) (inner : Inner) → objects oid ≡ Holds class (node.Inner inner) → next ≡ last_child inner.head inner.tail → above' ≡ above ++ oid ∷ [] → met_beyond objects above oid ≡ met_at objects above' next
+beyond_is objects above above' oid next class inner h n a =
+    ap (met_last_below (met_last objects (2 ^ 64 - suc (length above)) (above ++ oid ∷ []))) h
+    ∙ ap (met_last objects (2 ^ 64 - suc (length above)) (above ++ oid ∷ [])) (sym n)
+    ∙ ap (λ m. met_last objects (2 ^ 64 - m) (above ++ oid ∷ []) next) (sym (length_last above oid))
+    ∙ ap (λ xs. met_last objects (2 ^ 64 - length xs) xs next) (sym a)
+
+pub met_onward : (objects : ℕ → Held) (above above' : List ℕ) (oid next : ℕ) (all : List ℕ) (a b c : List Call) (class : Graph) (inner : Inner) → ReadsUpTo all (met_at objects above oid) a b → length above < 2 ^ 64 → stands_in above oid ≡ false → objects oid ≡ Holds class (node.Inner inner) → next ≡ last_child inner.head inner.tail → above' ≡ above ++ oid ∷ [] → c ≡ b ++ Read oid ∷ [] → ReadsUpTo all (met_at objects above' next) a c
+met_onward objects above above' oid next all a b c class inner r l s h n p e =
+    up_to_next all (met_at objects above oid) oid (met_at objects above' next) a b c r
+    (met_next objects above oid l s ∙ ap (λ xs. oid ∷ xs) (beyond_is objects above above' oid next class inner h n p)) e
+
+-- ---- a way that is found meets just its objects
+
+abbrev as_last : Last → Result Last TreeError
+as_last last = Ok last
+
+-- the objects that stand behind those above the start, and the end
+record MeetsLast (above met : List ℕ) (last : Last) : Type 0 where
+  oids : List ℕ
+  above_is : last.above ≡ above ++ oids
+  met_is : met ≡ oids ++ last.oid ∷ []
+
+ends_here : (above : List ℕ) (oid : ℕ) (class : Graph) (n : Node) (last : Last) → as_last (record { above = above; oid = oid; class = class; node = n }) ≡ as_last last → MeetsLast above (oid ∷ []) last
+ends_here above oid class n last e = record {
+  oids = [];
+  above_is = ap (λ (l : Last). l.above) (same last (record { above = above; oid = oid; class = class; node = n }) e) ∙ sym (append-nil above);
+  met_is = ap (λ (l : Last). l.oid ∷ []) (sym (same last (record { above = above; oid = oid; class = class; node = n }) e));
+}
+  where
+    same : (a b : Last) → as_last b ≡ as_last a → a ≡ b
+    same a b e = cc
+
+goes_on : (above met : List ℕ) (oid : ℕ) (last : Last) → MeetsLast (above ++ oid ∷ []) met last → MeetsLast above (oid ∷ met) last
+goes_on above met oid last m = record {
+  oids = oid ∷ m.oids;
+  above_is = m.above_is ∙ append_assoc above (oid ∷ []) m.oids;
+  met_is = ap (λ xs. oid ∷ xs) m.met_is;
+}
+
+meets_node : (below : ℕ → Result Last TreeError) (met : ℕ → List ℕ) (above : List ℕ) (oid : ℕ) (class : Graph) (n : Node) (last : Last) → ((next : ℕ) → below next ≡ as_last last → MeetsLast (above ++ oid ∷ []) (met next) last) → last_node below above oid class n ≡ as_last last → MeetsLast above (oid ∷ met_last_below met (Holds class n)) last
+meets_node below met above oid class (node.Inner inner) last same e =
+    goes_on above (met (last_child inner.head inner.tail)) oid last (same (last_child inner.head inner.tail) e)
+meets_node below met above oid class (node.Lone leaf) last same e = ends_here above oid class (node.Lone leaf) last e
+meets_node below met above oid class (node.Leaf leaf) last same e = ends_here above oid class (node.Leaf leaf) last e
+
+meets_suiting : (key : Key) (below : ℕ → Result Last TreeError) (met : ℕ → List ℕ) (above : List ℕ) (oid : ℕ) (class : Graph) (n : Node) (last : Last) → ((next : ℕ) → below next ≡ as_last last → MeetsLast (above ++ oid ∷ []) (met next) last) → (b : Bool) → (if b then last_node below above oid class n else Err BadKey) ≡ as_last last → MeetsLast above (oid ∷ met_last_below met (Holds class n)) last
+meets_suiting key below met above oid class n last same true e = meets_node below met above oid class n last same e
+meets_suiting key below met above oid class n last same false e = absurd cc
+
+meets_held : (key : Key) (below : ℕ → Result Last TreeError) (met : ℕ → List ℕ) (above : List ℕ) (oid : ℕ) (held : Held) (last : Last) → ((next : ℕ) → below next ≡ as_last last → MeetsLast (above ++ oid ∷ []) (met next) last) → last_held below key above oid held ≡ as_last last → MeetsLast above (oid ∷ met_last_below met held) last
+meets_held key below met above oid Nothing last same e = absurd cc
+meets_held key below met above oid Foreign last same e = absurd cc
+meets_held key below met above oid (Holds class n) last same e = meets_suiting key below met above oid class n last same (node_suits key n) e
+
+meets_unless : (key : Key) (objects : ℕ → Held) (below : ℕ → Result Last TreeError) (met : ℕ → List ℕ) (above : List ℕ) (oid : ℕ) (last : Last) → ((next : ℕ) → below next ≡ as_last last → MeetsLast (above ++ oid ∷ []) (met next) last) → (b : Bool) → (if b then Err (NotATree oid) else last_held below key above oid (objects oid)) ≡ as_last last → MeetsLast above (if b then [] else oid ∷ met_last_below met (objects oid)) last
+meets_unless key objects below met above oid last same true e = absurd cc
+meets_unless key objects below met above oid last same false e = meets_held key below met above oid (objects oid) last same e
+
+never_last : (key : Key) (objects : ℕ → Held) (above : List ℕ) (oid : ℕ) (last : Last) → last_from key objects zero above oid ≡ as_last last → ⊥
+unfolding last_from
+never_last key objects above oid last e = absurd cc
+
+meets_last : (key : Key) (objects : ℕ → Held) (room : ℕ) (above : List ℕ) (oid : ℕ) (last : Last) → last_from key objects room above oid ≡ as_last last → MeetsLast above (met_last objects room above oid) last
+meets_last key objects zero above oid last e = absurd (never_last key objects above oid last e)
+meets_last key objects (suc room) above oid last e =
+    subst (λ xs. MeetsLast above xs last) (sym (met_suc objects room above oid))
+    (meets_unless key objects (last_from key objects room (above ++ oid ∷ [])) (met_last objects room (above ++ oid ∷ [])) above oid last
+    (λ next. meets_last key objects room (above ++ oid ∷ []) next last) (stands_in above oid) (sym (last_suc key objects room above oid) ∙ e))
+
+pub met_found : (key : Key) (objects : ℕ → Held) (room : ℕ) (above : List ℕ) (oid : ℕ) (last : Last) → last_from key objects room above oid ≡ Ok last → met_last objects room above oid ≡ drop (length above) last.above ++ last.oid ∷ []
+met_found key objects room above oid last e =
+    let m = meets_last key objects room above oid last e in
+    m.met_is ∙ ap (λ xs. xs ++ last.oid ∷ []) (sym (ap (drop (length above)) m.above_is ∙ drop_front above m.oids))

@@ -6,12 +6,13 @@ use Rattle.btree_shapes.specs.declared.error.TreeError.{TreeError}
 use Rattle.btree_shapes.specs.declared.error.TreeError.TheVariants.{NotATree, NodeMissing, BadKey, Refused, Memory}
 use Rattle.btree_shapes.specs.declared.space.Call.{Call}
 use Rattle.btree_shapes.specs.Nodes.{class_held}
-use Rattle.btree_shapes.specs.Ways.{IsRefusal, OnlyReads}
+use Rattle.btree_shapes.specs.Met.{ReadsFirst}
+use Rattle.btree_shapes.specs.Ways.{IsRefusal}
 use Rattle.btree_putting.specs.declared.puts.Put.{Put}
 use Rattle.btree_putting.specs.Puts.{all_keep}
 use Rattle.btree_putting.specs.Storing.{IsStored, IsStoredFront}
 use Rattle.btree_removing.specs.declared.removing.Finding.{Finding}
-use Rattle.btree_removing.specs.Plans.{plan_under, reads_under}
+use Rattle.btree_removing.specs.Plans.{met_under, plan_under, reads_under}
 
 -- what was found: nothing that is to be changed, or what is to be put, and the classes of the tree
 abbrev pub IsFinding : (ℕ → Option (List ℕ)) → ℕ → Key → Option Finding → Type 0
@@ -74,11 +75,11 @@ pub record IsAbsent (told : Type 0) (before after : ℕ → Option (List ℕ)) (
   pub contents : after ≡ before
   pub log : told → calls' ≡ calls ++ reads_under before root key
 
--- what is to be changed was not found: nothing is put
+-- what is to be changed was not found: only the first objects of the way were read, and nothing is put
 pub record IsRefusedBefore (told : Type 0) (before after : ℕ → Option (List ℕ)) (calls calls' : List Call) (root : ℕ) (key : Key) (e : TreeError) : Type 0 where
   pub refusal : IsRefusal e (plan_under before root key)
   pub contents : after ≡ before
-  pub log : told → OnlyReads calls calls'
+  pub log : told → ReadsFirst (met_under before root key) calls calls'
 
 -- what is to be changed was found, and not all was put
 pub record IsStopped (told : Type 0) (before after : ℕ → Option (List ℕ)) (calls calls' : List Call) (root : ℕ) (key : Key) (e : TreeError) : Type 0 where

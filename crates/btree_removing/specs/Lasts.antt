@@ -53,6 +53,25 @@ abbrev pub last_oids : Key → (ℕ → Held) → Option Start → List ℕ
 last_oids key objects None = []
 last_oids key objects (Some start) = oids_to start.above (last_below key objects start)
 
+-- ---- what is met
+
+abbrev pub met_last_below : (ℕ → List ℕ) → Held → List ℕ
+met_last_below below Nothing = []
+met_last_below below Foreign = []
+met_last_below below (Holds class (node.Inner inner)) = below (last_child inner.head inner.tail)
+met_last_below below (Holds class (node.Lone leaf)) = []
+met_last_below below (Holds class (node.Leaf leaf)) = []
+
+-- The objects on the way by last children from an object on, below those that stand above it, as far as it goes: each is met
+-- once.
+unfoldable pub met_last : (ℕ → Held) → ℕ → List ℕ → ℕ → List ℕ
+met_last objects zero above oid = []
+met_last objects (suc room) above oid = if stands_in above oid then [] else oid ∷ met_last_below (met_last objects room (above ++ oid ∷ [])) (objects oid)
+
+abbrev pub met_lasts : (ℕ → Held) → Option Start → List ℕ
+met_lasts objects None = []
+met_lasts objects (Some start) = met_last objects (2 ^ 64 - length start.above) start.above start.child
+
 -- ---- the link
 
 -- an object with this link, where it is a leaf that has another one

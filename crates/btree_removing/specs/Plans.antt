@@ -8,6 +8,7 @@ use Rattle.btree_shapes.specs.declared.path.Step.{Step}
 use Rattle.btree_shapes.specs.declared.space.Call.{Call}
 use Rattle.btree_shapes.specs.declared.way.Found.{Found}
 use Rattle.btree_shapes.specs.Nodes.{Held, class_held, objects_of}
+use Rattle.btree_shapes.specs.Met.{met_for}
 use Rattle.btree_shapes.specs.Ways.{stands_in, way_for, family_key, reads, reads_of}
 use Rattle.btree_putting.specs.declared.puts.Put.{Put}
 use Rattle.btree_putting.specs.Puts.{sort_puts}
@@ -19,7 +20,7 @@ use Rattle.btree_removing.specs.declared.sides.Sides.{Sides}
 use Rattle.btree_removing.specs.Bottoms.{bottom_of, is_emptied, is_leaf, next_of}
 use Rattle.btree_removing.specs.Rungs.{rungs_of}
 use Rattle.btree_removing.specs.Sides.{sides_of}
-use Rattle.btree_removing.specs.Lasts.{last_oids, link_before}
+use Rattle.btree_removing.specs.Lasts.{last_oids, link_before, met_lasts}
 use Rattle.btree_removing.specs.Losses.{raise, leaves_tree}
 
 -- ---- children besides the way
@@ -120,6 +121,32 @@ oids_found key objects found = oids_with key objects found.path (bottom_of found
 abbrev pub reads_by : Key → (ℕ → Held) → Result Found TreeError → List Call
 reads_by key objects (Ok found) = reads_of (Ok found) ++ reads (oids_found key objects found)
 reads_by key objects (Err e) = []
+
+-- ---- what is met
+
+-- the objects that are read where a leaf leaves its tree: those of the way to the leaf before, as far as it goes, and then the
+-- child that is the first now
+abbrev pub met_leaving : (ℕ → Held) → Put → Sides → List ℕ
+met_leaving objects leaf sides = met_lasts objects (left_asked (is_leaf leaf.node) sides.left) ++ head_oids sides.head
+
+abbrev pub met_puts : Key → (ℕ → Held) → List Step → Put → List ℕ
+met_puts key objects path leaf = if is_emptied leaf.node then met_leaving objects leaf (sides_of key (rungs_above leaf path)) else []
+
+abbrev pub met_with : Key → (ℕ → Held) → List Step → Option Put → List ℕ
+met_with key objects path None = []
+met_with key objects path (Some leaf) = met_puts key objects path leaf
+
+-- the objects besides the way
+abbrev pub met_beside : Key → (ℕ → Held) → Found → List ℕ
+met_beside key objects found = met_with key objects found.path (bottom_of found.oid found.class found.node key)
+
+abbrev pub beside_by : Key → (ℕ → Held) → Result Found TreeError → List ℕ
+beside_by key objects (Ok found) = met_beside key objects found
+beside_by key objects (Err e) = []
+
+-- the objects that a remove may read, in this order: those of the way, as far as it goes, and then those besides it
+abbrev pub met_under : (ℕ → Option (List ℕ)) → ℕ → Key → List ℕ
+met_under contents root key = met_for contents root key ++ beside_by key (objects_of contents root) (remove_way contents root key)
 
 -- the objects of the way, and then those besides it, each from the root down
 abbrev pub reads_under : (ℕ → Option (List ℕ)) → ℕ → Key → List Call

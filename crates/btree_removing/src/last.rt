@@ -1,11 +1,12 @@
 //! The last leaf below an object.
 
-ghost use Rattle.std.specs.Prelude.{◌≡◌, ◌++◌, ◌<◌, ◌^◌, length, Ok, IfOk};
+ghost use Rattle.std.specs.Prelude.{◌≡◌, ◌++◌, ◌-◌, ◌<◌, ◌^◌, length, Ok, IfOk};
 ghost use Rattle.btree_shapes.specs.Nodes.{objects_of};
 ghost use Rattle.btree_shapes.specs.Reading.{IsRooted};
 ghost use Rattle.btree_shapes.specs.Spaces.{handed_on};
-ghost use Rattle.btree_shapes.specs.Ways.{Answers, OnlyReads, stands_in, reads};
-ghost use Rattle.btree_removing.specs.Lasts.{last_child, last_below, oids_to};
+ghost use Rattle.btree_shapes.specs.Met.{ReadsFirst};
+ghost use Rattle.btree_shapes.specs.Ways.{Answers, stands_in, reads};
+ghost use Rattle.btree_removing.specs.Lasts.{last_child, last_below, met_last, oids_to};
 
 use crate::sides::Start;
 use btree_family::Key;
@@ -57,7 +58,8 @@ pub(crate) fn follow_last<S: Space>(
     ensures answer { Answers result (last_below key.now (objects_of (S.contents space.old) tree.now.root) start) }
     ensures log { IfOk result (λ last. S.told
         → S.log space.new ≡ S.log space.old ++ reads (oids_to start.above (Ok last))) }
-    ensures only { S.told → OnlyReads (S.log space.old) (S.log space.new) }
+    ensures met { S.told → ReadsFirst (met_last (objects_of (S.contents space.old) tree.now.root) (2 ^ 64 - length start.above)
+        start.above start.child) (S.log space.old) (S.log space.new) }
     ensures contents { S.contents space.new ≡ S.contents space.old }
     ensures refusals { S.told → S.refusals space.new ≡ S.refusals space.old ++ handed_on result }
 {

@@ -4,8 +4,9 @@ ghost use Rattle.std.specs.Prelude.{◌≡◌, ◌++◌, IfOk};
 ghost use Rattle.btree_shapes.specs.Nodes.{objects_of};
 ghost use Rattle.btree_shapes.specs.Reading.{IsRooted};
 ghost use Rattle.btree_shapes.specs.Spaces.{handed_on};
-ghost use Rattle.btree_shapes.specs.Ways.{Answers, OnlyReads, reads};
-ghost use Rattle.btree_removing.specs.Lasts.{last_oids, relinked, link_before};
+ghost use Rattle.btree_shapes.specs.Met.{ReadsFirst};
+ghost use Rattle.btree_shapes.specs.Ways.{Answers, reads};
+ghost use Rattle.btree_removing.specs.Lasts.{last_oids, met_lasts, relinked, link_before};
 ghost use Rattle.btree_removing.specs.Plans.{first_head, head_oids};
 
 use crate::last::{Last, follow_last, stands_in};
@@ -56,7 +57,7 @@ fn relinked(alloc: Global, last: Last, next: Option<Oid>) -> Result<Puts, AllocE
 }
 
 /// The leaf before takes over a link, where there is one before.
-#[tactic(auto, using(crate::proofs::Finding::relink_refused, crate::proofs::Finding::relink_found, crate::proofs::Finding::link_log, crate::proofs::Finding::log_none, btree_shapes::specs::Logs::only_none))]
+#[tactic(auto, using(crate::proofs::Finding::relink_refused, crate::proofs::Finding::relink_found, crate::proofs::Finding::link_log, crate::proofs::Finding::log_none, crate::proofs::Finding::link_met, btree_shapes::specs::MetLaws::first_start))]
 pub(crate) fn link_before<S: Space>(
     alloc: Global,
     space: &mut S,
@@ -70,7 +71,8 @@ pub(crate) fn link_before<S: Space>(
         (link_before key.now (objects_of (S.contents space.old) tree.now.root) next start) }
     ensures log { IfOk result (λ puts. S.told → S.log space.new ≡ S.log space.old
         ++ reads (last_oids key.now (objects_of (S.contents space.old) tree.now.root) start)) }
-    ensures only { S.told → OnlyReads (S.log space.old) (S.log space.new) }
+    ensures met { S.told → ReadsFirst (met_lasts (objects_of (S.contents space.old) tree.now.root) start) (S.log space.old)
+        (S.log space.new) }
     ensures contents { S.contents space.new ≡ S.contents space.old }
     ensures refusals { S.told → S.refusals space.new ≡ S.refusals space.old ++ handed_on result }
 {
@@ -83,7 +85,7 @@ pub(crate) fn link_before<S: Space>(
 }
 
 /// The first leaf below the child that is the first one now, where it is to be read.
-#[tactic(auto, using(crate::proofs::Finding::head_twice, crate::proofs::Finding::head_refused, crate::proofs::Finding::head_found, crate::proofs::Finding::log_none, btree_shapes::specs::Logs::only_none, btree_shapes::specs::Logs::only_read))]
+#[tactic(auto, using(crate::proofs::Finding::head_twice, crate::proofs::Finding::head_refused, crate::proofs::Finding::head_found, crate::proofs::Finding::log_none, crate::proofs::Finding::head_met, crate::proofs::Finding::head_read, btree_shapes::specs::MetLaws::first_start))]
 pub(crate) fn first_head<S: Space>(
     alloc: Global,
     space: &mut S,
@@ -96,7 +98,7 @@ pub(crate) fn first_head<S: Space>(
         (first_head key.now (objects_of (S.contents space.old) tree.now.root) start) }
     ensures log { IfOk result (λ known. S.told
         → S.log space.new ≡ S.log space.old ++ reads (head_oids start)) }
-    ensures only { S.told → OnlyReads (S.log space.old) (S.log space.new) }
+    ensures met { S.told → ReadsFirst (head_oids start) (S.log space.old) (S.log space.new) }
     ensures contents { S.contents space.new ≡ S.contents space.old }
     ensures refusals { S.told → S.refusals space.new ≡ S.refusals space.old ++ handed_on result }
 {

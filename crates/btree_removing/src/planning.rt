@@ -4,9 +4,10 @@ ghost use Rattle.std.specs.Prelude.{◌≡◌, ◌++◌, IfOk};
 ghost use Rattle.btree_shapes.specs.Nodes.{objects_of};
 ghost use Rattle.btree_shapes.specs.Reading.{IsRooted};
 ghost use Rattle.btree_shapes.specs.Spaces.{handed_on};
-ghost use Rattle.btree_shapes.specs.Ways.{Answers, OnlyReads, reads};
+ghost use Rattle.btree_shapes.specs.Met.{ReadsFirst};
+ghost use Rattle.btree_shapes.specs.Ways.{Answers, reads};
 ghost use Rattle.btree_removing.specs.Sides.{sides_of};
-ghost use Rattle.btree_removing.specs.Plans.{left_asked, puts_leaving, oids_leaving, puts_for, oids_for, plan_found, oids_found};
+ghost use Rattle.btree_removing.specs.Plans.{left_asked, puts_leaving, oids_leaving, puts_for, oids_for, plan_found, oids_found, met_beside, met_leaving, met_puts};
 
 use crate::bottom::{bottom_of, is_emptied, is_leaf, next_of};
 use crate::linking::{first_head, link_before};
@@ -31,7 +32,7 @@ fn left_asked(leaf: bool, start: Option<Start>) -> Option<Start>
 
 /// What is to be put where an emptied leaf leaves its tree. The way to the leaf before it is read first, and then the
 /// child that is the first one now.
-#[tactic(auto, using(crate::proofs::Finding::before_refused, crate::proofs::Finding::first_refused, crate::proofs::Finding::leaving, crate::proofs::Finding::leaving_log, btree_shapes::specs::Logs::only_none, btree_shapes::specs::Logs::only_more))]
+#[tactic(auto, using(crate::proofs::Finding::before_refused, crate::proofs::Finding::first_refused, crate::proofs::Finding::leaving, crate::proofs::Finding::leaving_log, btree_shapes::specs::MetLaws::first_start))]
 fn leave<S: Space>(
     alloc: Global,
     space: &mut S,
@@ -45,7 +46,8 @@ fn leave<S: Space>(
         (sides_of key.now rungs)) }
     ensures log { IfOk result (λ puts. S.told → S.log space.new ≡ S.log space.old
         ++ reads (oids_leaving key.now (objects_of (S.contents space.old) tree.now.root) leaf (sides_of key.now rungs))) }
-    ensures only { S.told → OnlyReads (S.log space.old) (S.log space.new) }
+    ensures met { S.told → ReadsFirst (met_leaving (objects_of (S.contents space.old) tree.now.root) leaf
+        (sides_of key.now rungs)) (S.log space.old) (S.log space.new) }
     ensures contents { S.contents space.new ≡ S.contents space.old }
     ensures refusals { S.told → S.refusals space.new ≡ S.refusals space.old ++ handed_on result }
 {
@@ -59,7 +61,7 @@ fn leave<S: Space>(
 }
 
 /// What is to be put where a leaf lost an item.
-#[tactic(auto, using(crate::proofs::Finding::stays_so, crate::proofs::Finding::stays_log, crate::proofs::Finding::gone_found, crate::proofs::Finding::gone_refused, crate::proofs::Finding::gone_log, btree_shapes::specs::Logs::only_none))]
+#[tactic(auto, using(crate::proofs::Finding::stays_so, crate::proofs::Finding::stays_log, crate::proofs::Finding::gone_found, crate::proofs::Finding::gone_refused, crate::proofs::Finding::gone_log, crate::proofs::Finding::gone_met, btree_shapes::specs::MetLaws::first_start))]
 fn puts_for<S: Space>(
     alloc: Global,
     space: &mut S,
@@ -73,7 +75,8 @@ fn puts_for<S: Space>(
         (puts_for key.now (objects_of (S.contents space.old) tree.now.root) path leaf) }
     ensures log { IfOk result (λ puts. S.told → S.log space.new ≡ S.log space.old
         ++ reads (oids_for key.now (objects_of (S.contents space.old) tree.now.root) path leaf)) }
-    ensures only { S.told → OnlyReads (S.log space.old) (S.log space.new) }
+    ensures met { S.told → ReadsFirst (met_puts key.now (objects_of (S.contents space.old) tree.now.root) path leaf)
+        (S.log space.old) (S.log space.new) }
     ensures contents { S.contents space.new ≡ S.contents space.old }
     ensures refusals { S.told → S.refusals space.new ≡ S.refusals space.old ++ handed_on result }
 {
@@ -87,7 +90,7 @@ fn puts_for<S: Space>(
 }
 
 /// What is to be put where a way ends: nothing, where the key is absent.
-#[tactic(auto, using(crate::proofs::Finding::absent, crate::proofs::Finding::absent_log, crate::proofs::Finding::puts_refused, crate::proofs::Finding::puts_found, crate::proofs::Finding::puts_log, btree_shapes::specs::Logs::only_none))]
+#[tactic(auto, using(crate::proofs::Finding::absent, crate::proofs::Finding::absent_log, crate::proofs::Finding::puts_refused, crate::proofs::Finding::puts_found, crate::proofs::Finding::puts_log, crate::proofs::Finding::puts_met, btree_shapes::specs::MetLaws::first_start))]
 pub(crate) fn plan<S: Space>(
     alloc: Global,
     space: &mut S,
@@ -99,7 +102,8 @@ pub(crate) fn plan<S: Space>(
     ensures answer { Answers result (plan_found key.now (objects_of (S.contents space.old) tree.now.root) found) }
     ensures log { IfOk result (λ puts. S.told → S.log space.new ≡ S.log space.old
         ++ reads (oids_found key.now (objects_of (S.contents space.old) tree.now.root) found)) }
-    ensures only { S.told → OnlyReads (S.log space.old) (S.log space.new) }
+    ensures met { S.told → ReadsFirst (met_beside key.now (objects_of (S.contents space.old) tree.now.root) found)
+        (S.log space.old) (S.log space.new) }
     ensures contents { S.contents space.new ≡ S.contents space.old }
     ensures refusals { S.told → S.refusals space.new ≡ S.refusals space.old ++ handed_on result }
 {

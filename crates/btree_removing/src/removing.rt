@@ -2,10 +2,11 @@
 
 ghost use Rattle.std.specs.Prelude.{◌≡◌, ◌++◌, IfOk, IfErr, IfSome};
 ghost use Rattle.btree_shapes.specs.Spaces.{handed_on};
-ghost use Rattle.btree_shapes.specs.Ways.{IsRefusal, OnlyReads};
+ghost use Rattle.btree_shapes.specs.Met.{ReadsFirst};
+ghost use Rattle.btree_shapes.specs.Ways.{IsRefusal};
 ghost use Rattle.btree_family.specs.Classes.{class_seen};
 ghost use Rattle.btree_putting.specs.Writing.{AreGlobal};
-ghost use Rattle.btree_removing.specs.Plans.{plan_under, reads_under};
+ghost use Rattle.btree_removing.specs.Plans.{met_under, plan_under, reads_under};
 ghost use Rattle.btree_removing.specs.Ends.{IsFinding, Writes, Removes};
 
 use crate::planning::plan;
@@ -23,7 +24,7 @@ struct Finding {
 }
 
 /// What a remove is to put in the tree with this root: nothing, where the key is absent.
-#[tactic(auto, using(crate::proofs::Answering::root_unread, crate::proofs::Answering::no_leaf, crate::proofs::Answering::no_key, crate::proofs::Answering::way_is_refused, crate::proofs::Answering::plan_is_refused, crate::proofs::Answering::plan_is, btree_shapes::specs::Logs::only_read, btree_shapes::specs::Logs::only_more))]
+#[tactic(auto, using(crate::proofs::Answering::root_unread, crate::proofs::Answering::no_leaf, crate::proofs::Answering::no_key, crate::proofs::Answering::way_is_refused, crate::proofs::Answering::plan_is_refused, crate::proofs::Answering::plan_is))]
 fn find_puts<S: Space>(
     alloc: Global,
     space: &mut S,
@@ -36,7 +37,8 @@ fn find_puts<S: Space>(
     ensures contents { S.contents space.new ≡ S.contents space.old }
     ensures log { IfOk result (λ found. S.told
         → S.log space.new ≡ S.log space.old ++ reads_under (S.contents space.old) root key.now) }
-    ensures only { S.told → OnlyReads (S.log space.old) (S.log space.new) }
+    ensures met { S.told → ReadsFirst (met_under (S.contents space.old) root key.now) (S.log space.old)
+        (S.log space.new) }
     ensures refusals { S.told → S.refusals space.new ≡ S.refusals space.old ++ handed_on result }
 {
     let (tree, entry) = read_root(alloc, space, root)?;

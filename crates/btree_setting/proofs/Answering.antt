@@ -1,5 +1,5 @@
 -- What a set answers.
-use Rattle.std.proofs.Common.{◌≡◌, ℕ, Bool, true, false, List, [], ◌∷◌, ◌++◌, Option, Some, None, Result, Ok, Err, refl, sym, ◌∙◌, ap, subst, append_assoc, append-nil, inl, inr, ◌⊎◌}
+use Rattle.std.proofs.Common.{◌≡◌, ℕ, ◌<◌, ◌^◌, Bool, true, false, List, [], ◌∷◌, ◌++◌, Option, Some, None, Result, Ok, Err, refl, sym, ◌∙◌, ap, subst, append_assoc, append-nil, inl, inr, ◌⊎◌}
 use Rattle.std.specs.Prelude.{◌&&◌, map}
 use Rattle.std.specs.Option.{option_map}
 use Rattle.pickle_graph.specs.Graph.{Graph}
@@ -11,37 +11,40 @@ use Rattle.btree_shapes.specs.declared.error.TreeError.TheVariants.{NotATree, No
 use Rattle.btree_shapes.specs.declared.node.Node.{Node}
 use Rattle.btree_shapes.specs.declared.way.Found.{Found}
 use Rattle.btree_shapes.specs.declared.space.Call.{Call}
-use Rattle.btree_shapes.specs.declared.space.Call.TheVariants.{Drew}
+use Rattle.btree_shapes.specs.declared.space.Call.TheVariants.{Drew, Read}
 use Rattle.btree_shapes.specs.Nodes.{Held, Nothing, Foreign, Holds, node_suits, class_held, objects_of}
 use Rattle.btree_shapes.specs.Reading.{IsReadError}
-use Rattle.btree_shapes.specs.Ways.{way_for, IsRefusal, OnlyReads, family_key, reads, reads_of}
+use Rattle.btree_shapes.specs.Met.{ReadsFirst, met_for, oids_of}
+use Rattle.btree_shapes.specs.MetLaws.{first_more, first_then, met_found, met_of_root, root_logged, root_read}
+use Rattle.btree_shapes.specs.Spaces.{IsLogged}
+use Rattle.btree_shapes.specs.Ways.{way_for, IsRefusal, family_key, reads, reads_of}
 use Rattle.btree_shapes.specs.Steps.{above_root, root_bad_key}
 use Rattle.btree_putting.specs.declared.puts.Put.{Put}
 use Rattle.btree_setting.specs.declared.growing.Terms.{Terms}
 use Rattle.btree_setting.specs.declared.preparing.Sizes.{Sizes}
 use Rattle.btree_setting.specs.declared.preparing.Task.{Task}
+use Rattle.btree_setting.specs.declared.setting.SetEnd.{SetEnd}
+use Rattle.btree_setting.specs.declared.setting.SetEnd.TheVariants.{Done, Lacks}
 use Rattle.btree_setting.specs.Values.{fits_class, family_value}
 use Rattle.btree_putting.specs.Writing.{has_leaf}
-use Rattle.btree_setting.specs.Tasks.{fits_tree, set_way, task_found, task_by, task_under, asked_found, reads_by, reads_under}
+use Rattle.btree_setting.specs.Tasks.{fits_tree, set_way, task_found, task_by, task_under, asked_found, beside_by, met_under, reads_by, reads_under}
 use Rattle.btree_putting.specs.Storing.{IsFree, IsStored, IsStoredFront}
-use Rattle.btree_setting.specs.Sets.{DrewSome, terms_of, Fails, Passes, IsPlan, Plans, IsWritten, IsBrokenOff, IsUnwritten, IsUnwritable, Writes}
-use Rattle.btree_setting.specs.Ends.{HasTask, HasNone, IsRefusedBefore, Sets}
+use Rattle.btree_setting.specs.Sets.{DrewOf, terms_of, Fails, Passes, IsPlan, IsShort, Plans, IsWritten, IsBrokenOff, IsUnwritable, Writes, WritesWithin}
+use Rattle.btree_setting.specs.Ends.{HasTask, HasNone, IsLacking, IsRefusedBefore, Sets, SetsWithin}
 
 -- ---- writing
 
-drew_nothing : (log : List Call) → DrewSome log log
-drew_nothing log = record { oids = []; grown = sym (append-nil log) }
-
--- nothing was put
-pub unwritten : (told : Type 0) (class leaf : Class) (sizes : Sizes) (key : Key) (task : Task) (f f' : ℕ → Option (List ℕ)) (log log' : List Call) (e : TreeError) → IsFree e → f' ≡ f → (told → DrewSome log log') → Writes told class leaf sizes key task f f' log log' (Err e)
-unwritten told class leaf sizes key task f f' log log' (NotATree oid) free c l = absurd free
-unwritten told class leaf sizes key task f f' log log' (NodeMissing oid) free c l = absurd free
-unwritten told class leaf sizes key task f f' log log' BadKey free c l = absurd free
-unwritten told class leaf sizes key task f f' log log' (Refused refusal) free c l = inl (record { contents = c; log = l })
-unwritten told class leaf sizes key task f f' log log' Memory free c l = inl (record { contents = c; log = l })
-
+-- there was no memory before a number was drawn
 pub starved : (told : Type 0) (class leaf : Class) (sizes : Sizes) (key : Key) (task : Task) (f : ℕ → Option (List ℕ)) (log : List Call) → Writes told class leaf sizes key task f f log log (Err Memory)
-starved told class leaf sizes key task f log = inl (record { contents = refl; log = λ t. drew_nothing log })
+starved told class leaf sizes key task f log = inl (record { contents = refl; log = λ t. refl })
+
+-- not all numbers were drawn
+pub undrawn : (told : Type 0) (class leaf : Class) (sizes : Sizes) (key : Key) (task : Task) (terms : Terms) (count : ℕ) (f f' : ℕ → Option (List ℕ)) (log log' : List Call) (e : TreeError) → IsFree e → terms_of class leaf sizes key ≡ Some terms → Passes class leaf terms task count → f' ≡ f → (told → DrewOf count e log log') → Writes told class leaf sizes key task f f' log log' (Err e)
+undrawn told class leaf sizes key task terms count f f' log log' (NotATree oid) free t p c l = absurd free
+undrawn told class leaf sizes key task terms count f f' log log' (NodeMissing oid) free t p c l = absurd free
+undrawn told class leaf sizes key task terms count f f' log log' BadKey free t p c l = absurd free
+undrawn told class leaf sizes key task terms count f f' log log' (Refused refusal) free t p c l = inl (record { terms = terms; terms_are = t; count = count; passes = p; contents = c; log = l })
+undrawn told class leaf sizes key task terms count f f' log log' Memory free t p c l = inr (inl (record { terms = terms; terms_are = t; count = count; passes = p; contents = c; log = l }))
 
 pub no_terms : (told : Type 0) (class leaf : Class) (sizes : Sizes) (key : Key) (task : Task) (f : ℕ → Option (List ℕ)) (log : List Call) → terms_of class leaf sizes key ≡ None → Writes told class leaf sizes key task f f log log (Err BadKey)
 no_terms told class leaf sizes key task f log e = record { fails = inl e; contents = refl; log = λ t. refl }
@@ -60,7 +63,11 @@ broken_off told class leaf sizes key task puts f f' log middle log' (NotATree oi
 broken_off told class leaf sizes key task puts f f' log middle log' (NodeMissing oid) free p s = absurd free
 broken_off told class leaf sizes key task puts f f' log middle log' BadKey free p s = absurd free
 broken_off told class leaf sizes key task puts f f' log middle log' (Refused refusal) free p s = inr (record { puts = puts; middle = middle; plan = p; stored = s })
-broken_off told class leaf sizes key task puts f f' log middle log' Memory free p s = inr (record { puts = puts; middle = middle; plan = p; stored = s })
+broken_off told class leaf sizes key task puts f f' log middle log' Memory free p s = inr (inr (record { puts = puts; middle = middle; plan = p; stored = s }))
+
+-- there are fewer numbers than are needed
+pub is_short : (told : Type 0) (class leaf : Class) (sizes : Sizes) (key : Key) (task : Task) (terms : Terms) (count supply : ℕ) (f : ℕ → Option (List ℕ)) (log : List Call) → terms_of class leaf sizes key ≡ Some terms → Passes class leaf terms task count → supply < count → IsShort told class leaf sizes key task supply f f log log
+is_short told class leaf sizes key task terms count supply f log t p m = record { terms = terms; terms_are = t; count = count; passes = p; more = m; contents = refl; log = λ x. refl }
 
 -- ---- the way
 
@@ -148,14 +155,60 @@ all_reads f root sizes key value found log middle log' t h m l =
     ∙ append_assoc log (reads_of (Ok found)) (reads (asked_found sizes key value found))
     ∙ ap (λ w. log ++ reads_by sizes key value w) (sym (ap (λ b. way_for b key (objects_of f root) root) t ∙ h))
 
+-- ---- what was read of the way
+
+pub met_at_root : (f : ℕ → Option (List ℕ)) (root : ℕ) (sizes : Sizes) (key : Key) (value : Option (List ℕ)) (log log' : List Call) (no_memory : Bool) → IsLogged root no_memory log log' → ReadsFirst (met_under f root sizes key value) log log'
+met_at_root f root sizes key value log log' no_memory l =
+    first_more (met_for f root key) (beside_by sizes key value (set_way f root key value)) log log' (root_logged key (objects_of f root) root log log' no_memory l)
+
+pub met_root_read : (f : ℕ → Option (List ℕ)) (root : ℕ) (sizes : Sizes) (key : Key) (value : Option (List ℕ)) (log log' : List Call) → log' ≡ log ++ Read root ∷ [] → ReadsFirst (met_under f root sizes key value) log log'
+met_root_read f root sizes key value log log' l =
+    first_more (met_for f root key) (beside_by sizes key value (set_way f root key value)) log log' (root_read key (objects_of f root) root log log' l)
+
+pub met_on_way : (f f' : ℕ → Option (List ℕ)) (root root' : ℕ) (sizes : Sizes) (key : Key) (value : Option (List ℕ)) (log log' : List Call) → f' ≡ f → root' ≡ root → ReadsFirst (met_for f' root' key) log log' → ReadsFirst (met_under f root sizes key value) log log'
+met_on_way f f' root root' sizes key value log log' c r reads =
+    first_more (met_for f root key) (beside_by sizes key value (set_way f root key value)) log log' (met_of_root f f' root root' key log log' c r reads)
+
+met_is : (f : ℕ → Option (List ℕ)) (root : ℕ) (sizes : Sizes) (key : Key) (value : Option (List ℕ)) (found : Found) → fits_tree (class_held (f root)) key value ≡ true → way_for true key (objects_of f root) root ≡ Ok found → met_under f root sizes key value ≡ oids_of found ++ asked_found sizes key value found
+met_is f root sizes key value found t h =
+    ap (λ xs. xs ++ beside_by sizes key value (set_way f root key value)) (met_found true key (objects_of f root) (2 ^ 64) [] root found h)
+    ∙ ap (λ w. oids_of found ++ beside_by sizes key value w) (ap (λ b. way_for b key (objects_of f root) root) t ∙ h)
+
+-- the way was found, and some of the children besides it were read
+pub met_beside : (f : ℕ → Option (List ℕ)) (root : ℕ) (sizes : Sizes) (key : Key) (value : Option (List ℕ)) (found : Found) (log middle log' : List Call) → fits_tree (class_held (f root)) key value ≡ true → way_for true key (objects_of f root) root ≡ Ok found → middle ≡ log ++ reads_of (Ok found) → ReadsFirst (asked_found sizes key value found) middle log' → ReadsFirst (met_under f root sizes key value) log log'
+met_beside f root sizes key value found log middle log' t h m r =
+    subst (λ xs. ReadsFirst xs log log') (sym (met_is f root sizes key value found t h)) (first_then (oids_of found) (asked_found sizes key value found) log middle log' m r)
+
 -- ---- answers
 
-pub refused_before : (told : Type 0) (f f' : ℕ → Option (List ℕ)) (log log' : List Call) (root : ℕ) (sizes : Sizes) (key : Key) (value : Option (List ℕ)) (e : TreeError) → IsRefusal e (task_under f root sizes key value) → f' ≡ f → (told → OnlyReads log log') → Sets told f f' log log' root sizes key value (Err e)
+pub refused_before : (told : Type 0) (f f' : ℕ → Option (List ℕ)) (log log' : List Call) (root : ℕ) (sizes : Sizes) (key : Key) (value : Option (List ℕ)) (e : TreeError) → IsRefusal e (task_under f root sizes key value) → f' ≡ f → (told → ReadsFirst (met_under f root sizes key value) log log') → Sets told f f' log log' root sizes key value (Err e)
 refused_before told f f' log log' root sizes key value e r c l = inl (record { refusal = r; contents = c; log = l })
 
 pub has_none : (told : Type 0) (f f' : ℕ → Option (List ℕ)) (log log' : List Call) (root : ℕ) (sizes : Sizes) (key : Key) (value : Option (List ℕ)) → task_under f root sizes key value ≡ Ok None → f' ≡ f → (told → log' ≡ log ++ reads_under f root sizes key value) → Sets told f f' log log' root sizes key value (Ok tt)
 has_none told f f' log log' root sizes key value r c l = inl (record { none = r; contents = c; log = l })
 
-pub has_task : (told : Type 0) (f f' : ℕ → Option (List ℕ)) (log middle log' : List Call) (root : ℕ) (sizes : Sizes) (key : Key) (value : Option (List ℕ)) (class leaf : Class) (task : Task) (result : Result (Unit {0}) TreeError) → class_held (f root) ≡ Some class → leaf_in classes class ≡ Some leaf → task_under f root sizes key value ≡ Ok (Some task) → (told → middle ≡ log ++ reads_under f root sizes key value) → Writes told class leaf sizes key task f f' middle log' result → Sets told f f' log log' root sizes key value result
-has_task told f f' log middle log' root sizes key value class leaf task (Ok u) c l t m w = inr (record { class = class; class_is = c; leaf = leaf; leaf_is = l; task = task; task_is = t; middle = middle; reads = m; writes = w })
-has_task told f f' log middle log' root sizes key value class leaf task (Err e) c l t m w = inr (record { class = class; class_is = c; leaf = leaf; leaf_is = l; task = task; task_is = t; middle = middle; reads = m; writes = w })
+pub has_task : (told : Type 0) (f f' : ℕ → Option (List ℕ)) (log middle log' : List Call) (root : ℕ) (sizes : Sizes) (key : Key) (value : Option (List ℕ)) (supply : ℕ) (class leaf : Class) (task : Task) (result : Result SetEnd TreeError) → class_held (f root) ≡ Some class → leaf_in classes class ≡ Some leaf → task_under f root sizes key value ≡ Ok (Some task) → (told → middle ≡ log ++ reads_under f root sizes key value)
+    → WritesWithin told class leaf sizes key task supply f f' middle log' result → SetsWithin told f f' log log' root sizes key value supply result
+has_task told f f' log middle log' root sizes key value supply class leaf task (Ok Done) c l t m w = inr (record { class = class; class_is = c; leaf = leaf; leaf_is = l; task = task; task_is = t; middle = middle; reads = m; writes = w })
+has_task told f f' log middle log' root sizes key value supply class leaf task (Ok Lacks) c l t m w = record {
+  count = w.count;
+  needs = record { class = class; class_is = c; leaf = leaf; leaf_is = l; task = task; task_is = t; terms = w.terms; terms_are = w.terms_are; passes = w.passes };
+  more = w.more;
+  contents = w.contents;
+  log = λ x. w.log x ∙ m x;
+}
+has_task told f f' log middle log' root sizes key value supply class leaf task (Err e) c l t m w = inr (record { class = class; class_is = c; leaf = leaf; leaf_is = l; task = task; task_is = t; middle = middle; reads = m; writes = w })
+
+-- where no supply is too small, want of memory stands for one
+pub never_lacks : (told : Type 0) (f f' : ℕ → Option (List ℕ)) (log log' : List Call) (root : ℕ) (sizes : Sizes) (key : Key) (value : Option (List ℕ)) (supply : ℕ) → IsLacking told f f' log log' root sizes key value supply → Sets told f f' log log' root sizes key value (Err Memory)
+never_lacks told f f' log log' root sizes key value supply x = inr (record {
+  class = x.needs.class;
+  class_is = x.needs.class_is;
+  leaf = x.needs.leaf;
+  leaf_is = x.needs.leaf_is;
+  task = x.needs.task;
+  task_is = x.needs.task_is;
+  middle = log';
+  reads = x.log;
+  writes = inl (record { contents = x.contents; log = λ t. refl });
+})

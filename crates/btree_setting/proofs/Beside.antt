@@ -7,6 +7,9 @@ use Rattle.btree_shapes.specs.declared.error.TreeError.TheVariants.{NotATree, No
 use Rattle.btree_shapes.specs.declared.space.Call.{Call}
 use Rattle.btree_shapes.specs.declared.space.Call.TheVariants.{Read}
 use Rattle.btree_shapes.specs.Nodes.{Held}
+use Rattle.btree_shapes.specs.Met.{ReadsFirst, ReadsUpTo}
+use Rattle.btree_shapes.specs.MetLaws.{first_logged, first_more, up_to_end, up_to_first}
+use Rattle.btree_shapes.specs.Spaces.{IsLogged}
 use Rattle.btree_shapes.specs.Ways.{IsRefusal, stands_in, reads}
 use Rattle.btree_setting.specs.declared.rung.Rung.{Rung}
 use Rattle.btree_setting.specs.declared.rung.Seam.{Seam}
@@ -151,3 +154,29 @@ read_step start log log' whole left left' rung r l e = record {
 
 pub read_end : (start log : List Call) (whole left : List Rung) → ReadSo start log whole left → left ≡ [] → log ≡ start ++ reads (asked whole)
 read_end start log whole left r e = sym (append-nil log) ∙ ap (λ x. log ++ reads (asked x)) (sym e) ∙ r.gives
+
+-- ---- what was read where it stopped
+
+first_at : (log log' : List Call) (rung : Rung) (child : ℕ) (no_memory : Bool) → rung.seam ≡ Beside child → IsLogged child no_memory log log' → ReadsFirst (asked_by rung.seam) log log'
+first_at log log' rung child no_memory e l = subst (λ s. ReadsFirst (asked_by s) log log') (sym e) (first_logged child [] log log' no_memory l)
+
+pub first_child : (log log' : List Call) (rung : Rung) (child : ℕ) (no_memory : Bool) → child_asked rung.seam ≡ Some child → IsLogged child no_memory log log' → ReadsFirst (asked_by rung.seam) log log'
+first_child log log' rung child no_memory e l = first_at log log' rung child no_memory (is_beside rung child e) l
+
+pub first_child_read : (log log' : List Call) (rung : Rung) (child : ℕ) → child_asked rung.seam ≡ Some child → log' ≡ log ++ Read child ∷ [] → ReadsFirst (asked_by rung.seam) log log'
+first_child_read log log' rung child e l = first_at log log' rung child false (is_beside rung child e) l
+
+pub first_step : (start log log' : List Call) (whole left left' : List Rung) (rung : Rung) → ReadsUpTo (asked whole) (asked left) start log → left ≡ rung ∷ left' → log' ≡ log ++ reads (asked_by rung.seam) → ReadsUpTo (asked whole) (asked left') start log'
+first_step start log log' whole left left' rung r l e = record {
+  front = r.front ++ asked_by rung.seam;
+  split = r.split ∙ ap (λ x. r.front ++ asked x) l ∙ sym (append_assoc r.front (asked_by rung.seam) (asked left'));
+  grown = e ∙ ap (λ x. x ++ reads (asked_by rung.seam)) r.grown ∙ append_assoc start (reads r.front) (reads (asked_by rung.seam)) ∙ ap (λ x. start ++ x) (sym (reads_append r.front (asked_by rung.seam)));
+}
+
+pub first_end : (start log log' : List Call) (whole left : List Rung) → ReadsUpTo (asked whole) (asked left) start log → log' ≡ log → ReadsFirst (asked whole) start log'
+first_end start log log' whole left r e = up_to_end (asked whole) (asked left) start log log' r e
+
+pub first_refused : (start log log' : List Call) (whole left left' : List Rung) (rung : Rung) → ReadsUpTo (asked whole) (asked left) start log → left ≡ rung ∷ left' → ReadsFirst (asked_by rung.seam) log log' → ReadsFirst (asked whole) start log'
+first_refused start log log' whole left left' rung r l f =
+    up_to_first (asked whole) (asked left) start log log' r
+    (subst (λ x. ReadsFirst (asked x) log log') (sym l) (first_more (asked_by rung.seam) (asked left') log log' f))

@@ -8,6 +8,7 @@ use Rattle.btree_shapes.specs.declared.path.Step.{Step}
 use Rattle.btree_shapes.specs.declared.way.Found.{Found}
 use Rattle.btree_shapes.specs.declared.space.Call.{Call}
 use Rattle.btree_shapes.specs.Nodes.{Held}
+use Rattle.btree_shapes.specs.Met.{ReadsFirst}
 use Rattle.btree_shapes.specs.Ways.{Answers, IsRefusal, reads}
 use Rattle.btree_setting.specs.declared.bottom.Bottom.{Bottom}
 use Rattle.btree_setting.specs.declared.bottom.End.{End}
@@ -48,3 +49,7 @@ found_refused objects fits sizes key value found bottom e b r =
 
 pub reads_some : (sizes : Sizes) (key : Key) (value : Option (List ℕ)) (found : Found) (bottom : Bottom) (log log' : List Call) → bottom_of (end_of found) key value ≡ Some bottom → log' ≡ log ++ reads (asked (rungs_above sizes key found bottom)) → log' ≡ log ++ reads (asked_found sizes key value found)
 reads_some sizes key value found bottom log log' e l = l ∙ ap (λ b. log ++ reads (asked_for sizes key found b)) (sym e)
+
+pub met_some : (sizes : Sizes) (key : Key) (value : Option (List ℕ)) (found : Found) (bottom : Bottom) (rungs : List Rung) (log log' : List Call) → bottom_of (end_of found) key value ≡ Some bottom → rungs ≡ rungs_above sizes key found bottom → ReadsFirst (asked rungs) log log' → ReadsFirst (asked_found sizes key value found) log log'
+met_some sizes key value found bottom rungs log log' e s r =
+    subst (λ b. ReadsFirst (asked_for sizes key found b) log log') (sym e) (subst (λ rs. ReadsFirst (asked rs) log log') s r)

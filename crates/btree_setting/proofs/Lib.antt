@@ -13,3 +13,4 @@ pub mod Numbered
 pub mod Renumbered
 pub mod Graphed
 pub mod Rekept
+pub mod Alike

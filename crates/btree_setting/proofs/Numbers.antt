@@ -6,7 +6,6 @@ use Rattle.btree_shapes.specs.declared.space.Call.TheVariants.{Drew}
 use Rattle.btree_putting.specs.declared.puts.Put.{Put}
 use Rattle.btree_putting.specs.Puts.{put_oid}
 use Rattle.btree_setting.specs.Changes.{AreDrawn}
-use Rattle.btree_setting.specs.Sets.{DrewSome}
 
 pub oids-append : (xs ys : List Put) → map put_oid (xs ++ ys) ≡ map put_oid xs ++ map put_oid ys
 oids-append [] ys = refl

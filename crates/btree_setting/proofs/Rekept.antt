@@ -1,10 +1,10 @@
 -- What can be written and reads back with 0 for each number, can be with any.
 use Rattle.std.proofs.Common.{◌≡◌, ℕ, ◌<◌, ◌^◌, Bool, true, false, cond, List, [], ◌∷◌, ◌++◌, Option, Some, None, Result, Ok, Err, ◌⊎◌, inl, inr, refl, arith, sym, ◌∙◌, ap, subst}
-use Rattle.std.specs.Prelude.{◌&&◌, if◌then◌else◌, ◌==◌, nat_lt}
+use Rattle.std.specs.Prelude.{◌&&◌, if◌then◌else◌, ◌==◌, nat_lt, map}
 use Rattle.std.specs.Option.{option_map, option_and_then}
 use Rattle.std.proofs.lemmas.Bool.{eqb-true, eq-eqb}
 use Rattle.byteorder.specs.Numbers.{big_number-reads_back}
-use Rattle.pickle_graph.specs.Graph.{Graph, IsGraph}
+use Rattle.pickle_graph.specs.Graph.{AllBelow, Graph, IsGraph}
 use Rattle.pickle_graph.specs.Same.{AreSame}
 use Rattle.pickle_writing.specs.Spelling.{Spelled}
 use Rattle.btree_family.specs.declared.bucket.Item.{Item}
@@ -37,8 +37,10 @@ use Rattle.btree_putting.specs.declared.puts.Put.{Put}
 use Rattle.btree_setting.specs.declared.growing.Terms.{Terms}
 use Rattle.btree_setting.specs.declared.preparing.Task.{Task}
 use Rattle.btree_putting.specs.Items.{same_items, same_branch, same_branches}
-use Rattle.btree_putting.specs.Puts.{add_put, add_all, sort_puts, same_link, same_node, is_copy, is_class_kept, reads_as, text_reads_as, state_reads_as, keeps, all_keep, IsSoundPut, AreSound}
-use Rattle.btree_setting.specs.Sets.{Passes, IsPlan}
+use Rattle.btree_putting.specs.Puts.{put_oid, add_put, add_all, sort_puts, same_link, same_node, is_copy, is_class_kept, reads_as, text_reads_as, state_reads_as, keeps, all_keep, IsSoundPut, AreSound}
+use Rattle.btree_setting.specs.declared.change.Change.{Change}
+use Rattle.btree_setting.specs.Changes.{IsRootSet}
+use Rattle.btree_setting.specs.Sets.{Passes, IsPlan, change_keeps}
 use Rattle.btree_putting.specs.Writing.{child_class, node_writable, node_graph, node_state}
 use Rattle.btree_setting.proofs.Graphed.{graph_same, bucket_alike, inner_alike, same_writable}
 use Rattle.btree_setting.proofs.Numbered.{OidAlike, LinkAlike, BranchAlike, BranchesAlike, NodeAlike, PutAlike, PutsAlike, same_separators}
@@ -349,3 +351,12 @@ plan_kept alike holds apart written class leaf told terms task count puts calls 
     let olds = all_kept apart written alike holds class leaf p.change.olds plan.change.olds c.olds p.sound_olds k.1 in
     ap (all_keep class leaf) plan.puts_are
     ∙ keep_puts class leaf (plan.change.news ++ plan.change.olds) [] (keep_append class leaf plan.change.news plan.change.olds news olds) refl
+
+-- each change of a set can be written and reads back, since that of the trial does
+pub change_kept : AlikeIsKept → SameHoldsTheSame → LinkStandsApart → WrittenInnerReadsBack → (class leaf : Class) (terms : Terms) (task : Task) (count : ℕ) (change : Change) → Passes class leaf terms task count → IsRootSet terms task.bottom task.rungs change → AllBelow (2 ^ 64) (map put_oid change.news) → change_keeps class leaf change ≡ true
+change_kept alike holds apart written class leaf terms task count change p set numbers =
+    let c = changes_alike terms task.bottom task.rungs p.change change p.trial.set set numbers in
+    let k = both (all_keep class leaf p.change.news) (all_keep class leaf p.change.olds) p.kept in
+    let news = all_kept apart written alike holds class leaf p.change.news change.news c.news p.sound_news k.0 in
+    let olds = all_kept apart written alike holds class leaf p.change.olds change.olds c.olds p.sound_olds k.1 in
+    ap (λ b. b && all_keep class leaf change.olds) news ∙ olds

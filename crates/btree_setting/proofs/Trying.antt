@@ -1,17 +1,20 @@
 -- Trying the records of a set, and its numbers.
-use Rattle.std.proofs.Common.{◌≡◌, ℕ, ◌+◌, ◌-◌, ◌<◌, ◌^◌, true, false, List, [], ◌∷◌, ◌++◌, refl, arith, sym, ◌∙◌, ap, subst, length, suc, append-nil}
+use Rattle.std.proofs.Common.{◌≡◌, ℕ, ◌+◌, ◌-◌, ◌<◌, ◌≤◌, ◌^◌, true, false, List, [], ◌∷◌, ◌++◌, refl, arith, sym, ◌∙◌, ap, subst, length, suc, append-nil}
 use Rattle.std.specs.Prelude.{◌&&◌, map, Result, Ok, Err, IfErr}
 use Rattle.pickle_graph.specs.Graph.{AllBelow}
 use Rattle.btree_family.specs.Classes.{Class}
 use Rattle.btree_shapes.specs.declared.space.Call.{Call}
 use Rattle.btree_shapes.specs.declared.space.Call.TheVariants.{Drew}
+use Rattle.btree_shapes.specs.declared.error.TreeError.{TreeError}
+use Rattle.btree_shapes.specs.declared.error.TreeError.TheVariants.{NotATree, NodeMissing, BadKey, Refused, Memory}
+use Rattle.btree_putting.specs.Storing.{IsFree}
 use Rattle.btree_putting.specs.declared.puts.Put.{Put}
 use Rattle.btree_setting.specs.declared.change.Change.{Change}
 use Rattle.btree_setting.specs.declared.growing.Terms.{Terms}
 use Rattle.btree_setting.specs.declared.preparing.Task.{Task}
 use Rattle.btree_putting.specs.Puts.{put_oid, sort_puts, all_keep, AreSound}
 use Rattle.btree_setting.specs.Changes.{AreDrawn, IsRootSet}
-use Rattle.btree_setting.specs.Sets.{AreZero, DrewSome, IsTrial, Fails, Passes, CountsNews, IsPlan}
+use Rattle.btree_setting.specs.Sets.{AreZero, DrewOf, IsTrial, Fails, Passes, CountsNews, IsPlan}
 
 pub zero_push : (oids : List ℕ) → AreZero oids → AreZero (oids ++ 0 ∷ [])
 zero_push [] z = (refl, tt)
@@ -77,8 +80,20 @@ pub any_err : {X E : Type 0} (r : Result X E) (P : Type 0) → P → IfErr r (λ
 any_err (Ok x) P p = tt
 any_err (Err e) P p = p
 
-pub drew_all : (log log' : List Call) (oids : List ℕ) → log' ≡ log ++ map Drew oids → DrewSome log log'
-drew_all log log' oids e = record { oids = oids; grown = e }
+-- one number was refused, and so many were drawn before it
+pub drew_fewer : (count : ℕ) (e : TreeError) (log middle log' : List Call) (oids : List ℕ) → IsFree e → middle ≡ log ++ map Drew oids → log' ≡ middle → length oids < count → DrewOf count e log log'
+drew_fewer count (NotATree oid) log middle log' oids free m l f = absurd free
+drew_fewer count (NodeMissing oid) log middle log' oids free m l f = absurd free
+drew_fewer count BadKey log middle log' oids free m l f = absurd free
+drew_fewer count (Refused refusal) log middle log' oids free m l f = record { oids = oids; grown = l ∙ m; below = f }
+drew_fewer count Memory log middle log' oids free m l f = record { oids = oids; grown = l ∙ m; below = omega (arith, f) }
+
+-- there was no memory behind so many
+pub drew_most : (count : ℕ) (e : TreeError) (log log' : List Call) (oids : List ℕ) → e ≡ Memory → log' ≡ log ++ map Drew oids → length oids ≤ count → DrewOf count e log log'
+drew_most count e log log' oids is l f = subst (λ (x : TreeError). DrewOf count x log log') (sym is) (record { oids = oids; grown = l; below = omega (arith, f) })
+
+pub one_more : (oids : List ℕ) (oid left count : ℕ) → length oids + left ≡ count → 0 < left → length (oids ++ oid ∷ []) ≤ count
+one_more oids oid left count e l = let n : length (oids ++ oid ∷ []) ≡ length oids + 1 = length_append oids (oid ∷ []) in omega (arith, n, e, l)
 
 below_last : (n : ℕ) (oids : List ℕ) (oid : ℕ) → AllBelow n oids → oid < n → AllBelow n (oids ++ oid ∷ [])
 below_last n [] oid h l = (l, tt)

@@ -1,5 +1,5 @@
 -- What a set draws and puts, on every tree. Own.
-use Rattle.std.specs.Prelude.{◌≡◌, ℕ, ◌<◌, ◌^◌, Bool, true, false, List, [], ◌∷◌, ◌++◌, length, map, Option, Some, None, Result, Ok, Err, ◌&&◌, ◌⊎◌}
+use Rattle.std.specs.Prelude.{◌≡◌, ℕ, suc, ◌<◌, ◌^◌, Bool, true, false, List, [], ◌∷◌, ◌++◌, length, map, Option, Some, None, Result, Ok, Err, ◌&&◌, ◌⊎◌}
 use Rattle.pickle_graph.specs.Graph.{Graph, AllBelow}
 use Rattle.btree_family.specs.declared.key.Key.{Key}
 use Rattle.btree_family.specs.Classes.{Class}
@@ -13,6 +13,8 @@ use Rattle.btree_setting.specs.declared.growing.Plain.{Plain}
 use Rattle.btree_setting.specs.declared.growing.Terms.{Terms}
 use Rattle.btree_setting.specs.declared.preparing.Sizes.{Sizes}
 use Rattle.btree_setting.specs.declared.preparing.Task.{Task}
+use Rattle.btree_setting.specs.declared.setting.SetEnd.{SetEnd}
+use Rattle.btree_setting.specs.declared.setting.SetEnd.TheVariants.{Done, Lacks}
 use Rattle.btree_putting.specs.Writing.{plain_class}
 use Rattle.btree_putting.specs.Puts.{put_oid, sort_puts, all_keep, AreSound}
 use Rattle.btree_putting.specs.Storing.{IsStored, IsStoredFront}
@@ -24,10 +26,20 @@ abbrev pub AreZero : List ℕ → Type 0
 AreZero [] = Unit {0}
 AreZero (oid ∷ oids) = (oid ≡ 0) × AreZero oids
 
--- some numbers were drawn, and nothing else was done
-pub record DrewSome (calls calls' : List Call) : Type 0 where
+-- fewer numbers than so many were drawn, and nothing else was done
+pub record DrewBelow (limit : ℕ) (calls calls' : List Call) : Type 0 where
   pub oids : List ℕ
   pub grown : calls' ≡ calls ++ map Drew oids
+  pub below : length oids < limit
+
+-- What is drawn of so many numbers by a call that ends so: fewer, where the space refused one, and no more, where there was no
+-- memory.
+abbrev pub DrewOf : ℕ → TreeError → List Call → List Call → Type 0
+DrewOf count (NotATree oid) calls calls' = ⊥
+DrewOf count (NodeMissing oid) calls calls' = ⊥
+DrewOf count BadKey calls calls' = ⊥
+DrewOf count (Refused refusal) calls calls' = DrewBelow count calls calls'
+DrewOf count Memory calls calls' = DrewBelow (suc count) calls calls'
 
 -- ---- the terms of a set
 
@@ -117,10 +129,19 @@ pub record IsBrokenOff (told : Type 0) (class leaf : Class) (sizes : Sizes) (key
   pub plan : Plans told class leaf sizes key task puts calls middle
   pub stored : IsStoredFront told class leaf puts before after middle calls'
 
--- nothing was put
-pub record IsUnwritten (told : Type 0) (before after : ℕ → Option (List ℕ)) (calls calls' : List Call) : Type 0 where
+-- each record was tried, not all numbers were drawn that are needed, and nothing was put
+pub record IsUndrawn (told : Type 0) (class leaf : Class) (sizes : Sizes) (key : Key) (task : Task) (before after : ℕ → Option (List ℕ)) (calls calls' : List Call) (e : TreeError) : Type 0 where
+  pub terms : Terms
+  pub terms_are : terms_of class leaf sizes key ≡ Some terms
+  pub count : ℕ
+  pub passes : Passes class leaf terms task count
   pub contents : after ≡ before
-  pub log : told → DrewSome calls calls'
+  pub log : told → DrewOf count e calls calls'
+
+-- there was no memory before a number was drawn
+pub record IsUntried (told : Type 0) (before after : ℕ → Option (List ℕ)) (calls calls' : List Call) : Type 0 where
+  pub contents : after ≡ before
+  pub log : told → calls' ≡ calls
 
 -- no record was put and no number drawn, since a record can't be written or doesn't read back
 pub record IsUnwritable (told : Type 0) (class leaf : Class) (sizes : Sizes) (key : Key) (task : Task) (before after : ℕ → Option (List ℕ)) (calls calls' : List Call) : Type 0 where
@@ -135,6 +156,24 @@ Writes told class leaf sizes key task before after calls calls' (Err (NotATree o
 Writes told class leaf sizes key task before after calls calls' (Err (NodeMissing oid)) = ⊥
 Writes told class leaf sizes key task before after calls calls' (Err BadKey) = IsUnwritable told class leaf sizes key task before after calls calls'
 Writes told class leaf sizes key task before after calls calls' (Err (Refused refusal)) =
-    IsUnwritten told before after calls calls' ⊎ IsBrokenOff told class leaf sizes key task before after calls calls'
+    IsUndrawn told class leaf sizes key task before after calls calls' (Refused refusal) ⊎ IsBrokenOff told class leaf sizes key task before after calls calls'
 Writes told class leaf sizes key task before after calls calls' (Err Memory) =
-    IsUnwritten told before after calls calls' ⊎ IsBrokenOff told class leaf sizes key task before after calls calls'
+    IsUntried told before after calls calls' ⊎ (IsUndrawn told class leaf sizes key task before after calls calls' Memory ⊎ IsBrokenOff told class leaf sizes key task before after calls calls')
+
+-- ---- where numbers may be lacking
+
+-- there are fewer numbers than are needed, and each record was tried: nothing was drawn or put
+pub record IsShort (told : Type 0) (class leaf : Class) (sizes : Sizes) (key : Key) (task : Task) (supply : ℕ) (before after : ℕ → Option (List ℕ)) (calls calls' : List Call) : Type 0 where
+  pub terms : Terms
+  pub terms_are : terms_of class leaf sizes key ≡ Some terms
+  pub count : ℕ
+  pub passes : Passes class leaf terms task count
+  pub more : supply < count
+  pub contents : after ≡ before
+  pub log : told → calls' ≡ calls
+
+-- what a set answers that has found what it is to change, where there are so many numbers
+abbrev pub WritesWithin : Type 0 → Class → Class → Sizes → Key → Task → ℕ → (ℕ → Option (List ℕ)) → (ℕ → Option (List ℕ)) → List Call → List Call → Result SetEnd TreeError → Type 0
+WritesWithin told class leaf sizes key task supply before after calls calls' (Ok Done) = Writes told class leaf sizes key task before after calls calls' (Ok _)
+WritesWithin told class leaf sizes key task supply before after calls calls' (Ok Lacks) = IsShort told class leaf sizes key task supply before after calls calls'
+WritesWithin told class leaf sizes key task supply before after calls calls' (Err e) = Writes told class leaf sizes key task before after calls calls' (Err e)

@@ -7,6 +7,7 @@ use Rattle.btree_shapes.specs.declared.error.TreeError.{TreeError}
 use Rattle.btree_shapes.specs.declared.way.Found.{Found}
 use Rattle.btree_shapes.specs.declared.space.Call.{Call}
 use Rattle.btree_shapes.specs.Nodes.{Held, class_held, objects_of}
+use Rattle.btree_shapes.specs.Met.{met_for}
 use Rattle.btree_shapes.specs.Ways.{way_for, family_key, reads, reads_of}
 use Rattle.btree_setting.specs.declared.bottom.Bottom.{Bottom}
 use Rattle.btree_setting.specs.declared.bottom.End.{End}
@@ -79,6 +80,15 @@ asked_found sizes key value found = asked_for sizes key found (bottom_of (end_of
 abbrev pub reads_by : Sizes → Key → Option (List ℕ) → Result Found TreeError → List Call
 reads_by sizes key value (Ok found) = reads_of (Ok found) ++ reads (asked_found sizes key value found)
 reads_by sizes key value (Err e) = []
+
+-- the children besides the way, where it was found
+abbrev pub beside_by : Sizes → Key → Option (List ℕ) → Result Found TreeError → List ℕ
+beside_by sizes key value (Ok found) = asked_found sizes key value found
+beside_by sizes key value (Err e) = []
+
+-- the objects that a set may read, in this order: those of the way, as far as it goes, and then the children besides it
+abbrev pub met_under : (ℕ → Option (List ℕ)) → ℕ → Sizes → Key → Option (List ℕ) → List ℕ
+met_under contents root sizes key value = met_for contents root key ++ beside_by sizes key value (set_way contents root key value)
 
 -- the objects of the way, and then the children besides it, each from the root down
 abbrev pub reads_under : (ℕ → Option (List ℕ)) → ℕ → Sizes → Key → Option (List ℕ) → List Call

@@ -5,7 +5,7 @@ ghost use Rattle.pickle_graph.specs.Graph.{AllBelow};
 ghost use Rattle.btree_shapes.specs.declared.space.Call.TheVariants.{Drew};
 ghost use Rattle.btree_shapes.specs.Spaces.{handed_on};
 ghost use Rattle.btree_putting.specs.Storing.{IsFree};
-ghost use Rattle.btree_setting.specs.Sets.{AreZero, DrewSome};
+ghost use Rattle.btree_setting.specs.Sets.{AreZero, DrewOf};
 
 use btree_shapes::{Space, SpaceError, TreeError};
 use std::alloc::{AllocError, Global};
@@ -42,7 +42,7 @@ fn draw<S: Space>(space: &mut S) -> Result<Oid, TreeError>
 }
 
 /// So many numbers, in the order in which they are drawn.
-#[tactic(auto, using(crate::proofs::Numbers::drew_none, crate::proofs::Numbers::drew_more, crate::proofs::Trying::drew_all, crate::proofs::Trying::below_more))]
+#[tactic(auto, using(crate::proofs::Numbers::drew_none, crate::proofs::Numbers::drew_more, crate::proofs::Trying::drew_fewer, crate::proofs::Trying::drew_most, crate::proofs::Trying::one_more, crate::proofs::Trying::below_more))]
 pub(crate) fn draw_all<S: Space>(
     alloc: Global,
     space: &mut S,
@@ -51,7 +51,7 @@ pub(crate) fn draw_all<S: Space>(
     ensures ok { IfOk result (λ oids. S.told → S.log space.new ≡ S.log space.old ++ map Drew oids) }
     ensures count { IfOk result (λ oids. length oids ≡ count) }
     ensures numbers { IfOk result (λ oids. AllBelow (2 ^ 64) oids) }
-    ensures err { IfErr result (λ e. S.told → DrewSome (S.log space.old) (S.log space.new)) }
+    ensures err { IfErr result (λ e. S.told → DrewOf count e (S.log space.old) (S.log space.new)) }
     ensures free { IfErr result IsFree }
     ensures contents { S.contents space.new ≡ S.contents space.old }
     ensures refusals { S.told → S.refusals space.new ≡ S.refusals space.old ++ handed_on result }

@@ -15,4 +15,4 @@ mod settling;
 mod value;
 
 pub use preparing::Sizes;
-pub use setting::set;
+pub use setting::{SetEnd, changes_are_alike, set, set_within};

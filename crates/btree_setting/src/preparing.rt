@@ -5,7 +5,8 @@ ghost use Rattle.btree_family.specs.Buckets.{IsValue};
 ghost use Rattle.btree_shapes.specs.Nodes.{objects_of};
 ghost use Rattle.btree_shapes.specs.Reading.{IsRooted};
 ghost use Rattle.btree_shapes.specs.Spaces.{handed_on};
-ghost use Rattle.btree_shapes.specs.Ways.{Answers, OnlyReads, reads};
+ghost use Rattle.btree_shapes.specs.Met.{ReadsFirst};
+ghost use Rattle.btree_shapes.specs.Ways.{Answers, reads};
 ghost use Rattle.btree_setting.specs.Tasks.{task_found, asked_found, splits, rungs_above};
 
 use crate::bottom::{Bottom, End, Place, bottom_of};
@@ -46,7 +47,7 @@ fn splits(max: usize, bottom: &Bottom) -> bool
 
 /// What is to be set where a way ends: nothing, where the key has the value already. The children besides the way of
 /// which the first leaves are needed are read, from the root down.
-#[tactic(auto, using(crate::proofs::Finding::none_is, crate::proofs::Finding::found_none, crate::proofs::Finding::reads_none, crate::proofs::Finding::found_some, crate::proofs::Finding::found_refused, crate::proofs::Finding::reads_some, btree_shapes::specs::Logs::only_none))]
+#[tactic(auto, using(crate::proofs::Finding::none_is, crate::proofs::Finding::found_none, crate::proofs::Finding::reads_none, crate::proofs::Finding::found_some, crate::proofs::Finding::found_refused, crate::proofs::Finding::reads_some, btree_shapes::specs::MetLaws::first_start))]
 pub(crate) fn prepare<S: Space>(
     alloc: Global,
     space: &mut S,
@@ -63,7 +64,7 @@ pub(crate) fn prepare<S: Space>(
     ensures contents { S.contents space.new ≡ S.contents space.old }
     ensures log { IfOk result (λ task. S.told
         → S.log space.new ≡ S.log space.old ++ reads (asked_found sizes key.now value found)) }
-    ensures only { S.told → OnlyReads (S.log space.old) (S.log space.new) }
+    ensures met { S.told → ReadsFirst (asked_found sizes key.now value found) (S.log space.old) (S.log space.new) }
     ensures refusals { S.told → S.refusals space.new ≡ S.refusals space.old ++ handed_on result }
 {
     let Found {

@@ -4,20 +4,21 @@ ghost use Rattle.std.specs.Prelude.{◌≡◌, ◌++◌, IfOk, IfErr, IfSome, On
 ghost use Rattle.btree_family.specs.Classes.{class_seen};
 ghost use Rattle.btree_shapes.specs.Spaces.{handed_on};
 ghost use Rattle.btree_putting.specs.Storing.{IsFree};
-ghost use Rattle.btree_setting.specs.Sets.{DrewSome, terms_of, CountsNews, Tried, IsPlan, Writes};
-ghost use Rattle.btree_shapes.specs.Ways.{IsRefusal, OnlyReads};
-ghost use Rattle.btree_setting.specs.Tasks.{task_under, reads_under};
-ghost use Rattle.btree_setting.specs.Ends.{IsFinding, Sets};
+ghost use Rattle.btree_setting.specs.Sets.{DrewOf, terms_of, CountsNews, Tried, IsPlan, WritesWithin};
+ghost use Rattle.btree_shapes.specs.Met.{ReadsFirst};
+ghost use Rattle.btree_shapes.specs.Ways.{IsRefusal};
+ghost use Rattle.btree_setting.specs.Tasks.{met_under, task_under, reads_under};
+ghost use Rattle.btree_setting.specs.Ends.{ChangesAreAlike, IsFinding, Sets, SetsWithin};
 ghost use Rattle.btree_putting.specs.Writing.{AreGlobal};
 
 use crate::drawing::{draw_all, stand_ins};
-use crate::growing::{Plain, Terms, leaf_grows};
+use crate::growing::{Plain, Terms};
 use crate::planning::plan;
 use crate::preparing::{Sizes, Task, prepare};
 use crate::value::fits_class;
 use btree_family::{Key, key_fits, leaf_of};
-use btree_putting::{Family, Puts, all_keep, can_keep, in_order, plain_class, store_all};
-use btree_shapes::{Node, Space, TreeError, follow_root, read_root};
+use btree_putting::{Family, Puts, all_keep, in_order, plain_class, store_all};
+use btree_shapes::{Space, TreeError, follow_root, read_root};
 use bucket_state::{links_stand_apart, same_graphs_hold_the_same, written_objects_read_back};
 use std::alloc::{AllocError, Global};
 use zb_ids::{Oid, Text8};
@@ -68,66 +69,8 @@ fn try_out(
     Ok(None)
 }
 
-/// Whether the records of the leaves among puts can be written and read back.
-fn leaves_keep(alloc: Global, family: &Family, puts: &Puts) -> Result<bool, AllocError>
-    requires global { AreGlobal family.now }
-{
-    let mut place = 0;
-    'puts: while place < puts.len() {
-        let put = puts.at(place);
-        match put.node {
-            Node::Inner(_) => {}
-            Node::Lone(_) | Node::Leaf(_) => {
-                if !can_keep(alloc, family, put)? {
-                    return Ok(false);
-                }
-            }
-        }
-        place += 1;
-    }
-    Ok(true)
-}
-
-/// How many numbers a set draws, where the space can't give as many and the leaves that it puts can be written and read back.
-/// What stands above them can be, too, and is tried once the numbers are there.
-fn lacked<S: Space>(
-    alloc: Global,
-    space: &S,
-    family: &Family,
-    terms: &Terms,
-    task: &Task,
-) -> Result<Option<usize>, AllocError>
-    requires { AreGlobal family.now }
-{
-    if !leaf_grows(terms.leaf, &task.bottom) {
-        return Ok(None);
-    }
-    let oids = stand_ins(alloc, task.rungs.len())?;
-    let change = plan(alloc, terms, &task.bottom, &task.rungs, oids.as_slice())?;
-    let count = change.news.len();
-    if space.lacks(count)
-        && leaves_keep(alloc, family, &change.news)?
-        && leaves_keep(alloc, family, &change.olds)?
-    {
-        return Ok(Some(count));
-    }
-    Ok(None)
-}
-
-/// Asks for as many numbers as the space can give, and for the one that it lacks.
-#[tactic(auto, using(crate::proofs::Trying::drew_all))]
-fn ask<S: Space>(alloc: Global, space: &mut S, count: usize) -> Result<(), TreeError>
-    ensures log { S.told → DrewSome (S.log space.old) (S.log space.new) }
-    ensures free { IfErr result IsFree }
-    ensures contents { S.contents space.new ≡ S.contents space.old }
-    ensures refusals { S.told → S.refusals space.new ≡ S.refusals space.old ++ handed_on result }
-{
-    draw_all(alloc, space, count)?;
-    Ok(())
-}
-
 /// Draws so many numbers, and gives the puts of the change with these.
-#[tactic(auto, using(crate::proofs::Trying::drew_all, crate::proofs::Trying::is_plan))]
+#[tactic(auto, using(crate::proofs::Trying::drew_most, crate::proofs::Trying::is_plan))]
 fn draw_and_plan<S: Space>(
     alloc: Global,
     space: &mut S,
@@ -137,7 +80,7 @@ fn draw_and_plan<S: Space>(
 ) -> Result<Puts, TreeError>
     requires counted { CountsNews terms.now task.now count }
     ensures ok { IfOk result (λ puts. IsPlan S.told terms.now task.now puts (S.log space.old) (S.log space.new)) }
-    ensures err { OnErr result (S.told → DrewSome (S.log space.old) (S.log space.new)) }
+    ensures err { IfErr result (λ e. S.told → DrewOf count e (S.log space.old) (S.log space.new)) }
     ensures free { IfErr result IsFree }
     ensures contents { S.contents space.new ≡ S.contents space.old }
     ensures refusals { S.told → S.refusals space.new ≡ S.refusals space.old ++ handed_on result }
@@ -147,8 +90,17 @@ fn draw_and_plan<S: Space>(
     Ok(in_order(alloc, change.news, change.olds)?)
 }
 
-/// Tries the records that a set puts, draws the numbers of new objects, and puts all.
-#[tactic(auto, using(crate::proofs::Counting::counts_news, crate::proofs::Rekept::plan_kept))]
+/// How a set ends that isn't refused.
+#[derive(Clone, Copy, Debug, PartialEq, Eq)]
+pub enum SetEnd {
+    /// What stands under the key is set.
+    Done,
+    /// More numbers are needed than there are. Nothing was drawn or put.
+    Lacks,
+}
+
+/// Tries the records that a set puts, draws the numbers of new objects, of which there are so many, and puts all.
+#[tactic(auto, using(crate::proofs::Counting::counts_news, crate::proofs::Rekept::plan_kept, crate::proofs::Answering::starved, crate::proofs::Answering::undrawn, crate::proofs::Answering::is_short))]
 fn write<S: Space>(
     alloc: Global,
     space: &mut S,
@@ -156,22 +108,22 @@ fn write<S: Space>(
     sizes: Sizes,
     key: Key,
     task: &Task,
-) -> Result<(), TreeError>
+    supply: usize,
+) -> Result<SetEnd, TreeError>
     requires { AreGlobal family.now }
-    ensures writes { Writes S.told (class_seen family.now.row.now) (class_seen family.now.leaf.now) sizes key task.now
-        (S.contents space.old) (S.contents space.new) (S.log space.old) (S.log space.new) result }
+    ensures writes { WritesWithin S.told (class_seen family.now.row.now) (class_seen family.now.leaf.now) sizes key
+        task.now supply (S.contents space.old) (S.contents space.new) (S.log space.old) (S.log space.new) result }
     ensures refusals { S.told → S.refusals space.new ≡ S.refusals space.old ++ handed_on result }
 {
     let Some(terms) = terms_of(alloc, family, sizes, key)? else {
         return Err(TreeError::BadKey);
     };
-    if let Some(count) = lacked(alloc, &*space, family, &terms, task)? {
-        ask(alloc, space, count)?;
-        return Err(TreeError::Memory);
-    }
     let Some(count) = try_out(alloc, family, &terms, task)? else {
         return Err(TreeError::BadKey);
     };
+    if supply < count {
+        return Ok(SetEnd::Lacks);
+    }
     let puts = draw_and_plan(alloc, space, &terms, task, count)?;
     // What could be written and read back with 0 for each number, can be with any.
     alike_records_are_kept();
@@ -179,7 +131,7 @@ fn write<S: Space>(
     links_stand_apart();
     written_objects_read_back();
     store_all(alloc, space, family, puts)?;
-    Ok(())
+    Ok(SetEnd::Done)
 }
 
 /// What a set is to change, and the classes of the tree.
@@ -190,7 +142,7 @@ struct Finding {
 }
 
 /// What a set is to change in the tree with this root: nothing, where the key has the value already.
-#[tactic(auto, using(crate::proofs::Answering::root_unread, crate::proofs::Answering::no_leaf, crate::proofs::Answering::no_key, crate::proofs::Answering::no_value, crate::proofs::Answering::way_is_refused, crate::proofs::Answering::task_is_refused, btree_shapes::specs::Logs::only_read, btree_shapes::specs::Logs::only_more))]
+#[tactic(auto, using(crate::proofs::Answering::root_unread, crate::proofs::Answering::no_leaf, crate::proofs::Answering::no_key, crate::proofs::Answering::no_value, crate::proofs::Answering::way_is_refused, crate::proofs::Answering::task_is_refused))]
 fn find_task<S: Space>(
     alloc: Global,
     space: &mut S,
@@ -205,7 +157,8 @@ fn find_task<S: Space>(
     ensures contents { S.contents space.new ≡ S.contents space.old }
     ensures log { IfOk result (λ found. S.told
         → S.log space.new ≡ S.log space.old ++ reads_under (S.contents space.old) root sizes key.now value) }
-    ensures only { S.told → OnlyReads (S.log space.old) (S.log space.new) }
+    ensures met { S.told → ReadsFirst (met_under (S.contents space.old) root sizes key.now value)
+        (S.log space.old) (S.log space.new) }
     ensures refusals { S.told → S.refusals space.new ≡ S.refusals space.old ++ handed_on result }
 {
     let (tree, entry) = read_root(alloc, space, root)?;
@@ -229,8 +182,38 @@ fn find_task<S: Space>(
     Ok(Some(Finding { family, task }))
 }
 
+/// Sets what stands under a key in the tree with this root, where the space can give so many numbers for new objects. Where more
+/// are needed, it says so once all was read and each record tried, and nothing is drawn or put.
+#[tactic(auto, using(crate::proofs::Answering::refused_before, crate::proofs::Answering::has_none, crate::proofs::Answering::has_task))]
+pub fn set_within<S: Space>(
+    alloc: Global,
+    space: &mut S,
+    root: Oid,
+    sizes: Sizes,
+    key: Key,
+    value: Option<Text8>,
+    supply: usize,
+) -> Result<SetEnd, TreeError>
+    ensures ways { SetsWithin S.told (S.contents space.old) (S.contents space.new) (S.log space.old)
+        (S.log space.new) root sizes key value supply result }
+    ensures refusals { S.told → S.refusals space.new ≡ S.refusals space.old ++ handed_on result }
+{
+    match find_task(alloc, space, root, sizes, &key, value) {
+        Err(error) => Err(error),
+        Ok(None) => Ok(SetEnd::Done),
+        Ok(Some(finding)) => write(
+            alloc,
+            space,
+            &finding.family,
+            sizes,
+            key,
+            &finding.task,
+            supply,
+        ),
+    }
+}
+
 /// Sets what stands under a key in the tree with this root.
-#[tactic(auto, using(crate::proofs::Answering::refused_before))]
 pub fn set<S: Space>(
     alloc: Global,
     space: &mut S,
@@ -243,9 +226,19 @@ pub fn set<S: Space>(
         root sizes key value result }
     ensures refusals { S.told → S.refusals space.new ≡ S.refusals space.old ++ handed_on result }
 {
-    match find_task(alloc, space, root, sizes, &key, value) {
+    match set_within(alloc, space, root, sizes, key, value, usize::MAX) {
+        Ok(SetEnd::Done) => Ok(()),
+        Ok(SetEnd::Lacks) => Err(TreeError::Memory),
         Err(error) => Err(error),
-        Ok(None) => Ok(()),
-        Ok(Some(finding)) => write(alloc, space, &finding.family, sizes, key, &finding.task),
     }
+}
+
+/// The law that the changes of one set are alike, whatever the numbers of new objects are, where one of them can be written.
+pub fn changes_are_alike()
+    ensures { ChangesAreAlike }
+{
+    alike_records_are_kept();
+    same_graphs_hold_the_same();
+    links_stand_apart();
+    written_objects_read_back();
 }

@@ -4,7 +4,8 @@ ghost use Rattle.std.specs.Prelude.{◌≡◌, ◌++◌, [], IfOk};
 ghost use Rattle.btree_shapes.specs.Nodes.{objects_of};
 ghost use Rattle.btree_shapes.specs.Reading.{IsRooted};
 ghost use Rattle.btree_shapes.specs.Spaces.{handed_on};
-ghost use Rattle.btree_shapes.specs.Ways.{Answers, OnlyReads, stands_in, reads};
+ghost use Rattle.btree_shapes.specs.Met.{ReadsFirst};
+ghost use Rattle.btree_shapes.specs.Ways.{Answers, stands_in, reads};
 ghost use Rattle.btree_setting.specs.Rungs.{with_first, settled, settle, asked, asked_by};
 
 use crate::rung::{Rung, Rungs, Seam, child_asked};
@@ -43,7 +44,7 @@ fn stands_in(oids: &[Oid], oid: Oid) -> bool
 
 /// An object with the first leaf of its second half, which is read where it isn't known. `above` has the object and
 /// those above it.
-#[tactic(auto, using(crate::proofs::Beside::settled_twice, crate::proofs::Beside::settled_child, crate::proofs::Beside::settled_unread, crate::proofs::Beside::settled_known, crate::proofs::Beside::logged_child, crate::proofs::Beside::logged_none, btree_shapes::specs::Logs::only_none, btree_shapes::specs::Logs::only_read))]
+#[tactic(auto, using(crate::proofs::Beside::settled_twice, crate::proofs::Beside::settled_child, crate::proofs::Beside::settled_unread, crate::proofs::Beside::settled_known, crate::proofs::Beside::logged_child, crate::proofs::Beside::logged_none, crate::proofs::Beside::first_child, crate::proofs::Beside::first_child_read, btree_shapes::specs::MetLaws::first_start))]
 fn settle_one<S: Space>(
     alloc: Global,
     space: &mut S,
@@ -58,7 +59,7 @@ fn settle_one<S: Space>(
         (settled (objects_of (S.contents space.old) tree.now.root) fits key.now above.now rung) }
     ensures contents { S.contents space.new ≡ S.contents space.old }
     ensures log { IfOk result (λ known. S.told → S.log space.new ≡ S.log space.old ++ reads (asked_by rung.seam)) }
-    ensures only { S.told → OnlyReads (S.log space.old) (S.log space.new) }
+    ensures met { S.told → ReadsFirst (asked_by rung.seam) (S.log space.old) (S.log space.new) }
     ensures refusals { S.told → S.refusals space.new ≡ S.refusals space.old ++ handed_on result }
 {
     let Some(child) = child_asked(&rung) else {
@@ -73,7 +74,7 @@ fn settle_one<S: Space>(
 
 /// The objects of a way with the first leaves of their second halves. Those that aren't known are read, from the root
 /// down.
-#[tactic(auto, using(crate::proofs::Beside::settle_start, crate::proofs::Beside::settle_step, crate::proofs::Beside::settle_end, crate::proofs::Beside::settle_refused, crate::proofs::Beside::read_start, crate::proofs::Beside::read_step, crate::proofs::Beside::read_end, btree_shapes::specs::Logs::only_none, btree_shapes::specs::Logs::only_more))]
+#[tactic(auto, using(crate::proofs::Beside::settle_start, crate::proofs::Beside::settle_step, crate::proofs::Beside::settle_end, crate::proofs::Beside::settle_refused, crate::proofs::Beside::read_start, crate::proofs::Beside::read_step, crate::proofs::Beside::read_end, crate::proofs::Beside::first_step, crate::proofs::Beside::first_end, crate::proofs::Beside::first_refused))]
 pub(crate) fn settle<S: Space>(
     alloc: Global,
     space: &mut S,
@@ -87,7 +88,7 @@ pub(crate) fn settle<S: Space>(
         (settle (objects_of (S.contents space.old) tree.now.root) fits key.now [] rungs) }
     ensures contents { S.contents space.new ≡ S.contents space.old }
     ensures log { IfOk result (λ known. S.told → S.log space.new ≡ S.log space.old ++ reads (asked rungs)) }
-    ensures only { S.told → OnlyReads (S.log space.old) (S.log space.new) }
+    ensures met { S.told → ReadsFirst (asked rungs) (S.log space.old) (S.log space.new) }
     ensures refusals { S.told → S.refusals space.new ≡ S.refusals space.old ++ handed_on result }
 {
     let mut left = rungs;

@@ -21,7 +21,7 @@ use Rattle.btree_shapes.specs.Ways.{stands_in, step_oid, below_step, below_path,
 use Rattle.btree_shapes.specs.Steps.{way_suc, above_root, root_node}
 
 -- with room for one more object on the way
-room_suc : (n : ℕ) → n < 2 ^ 64 → 2 ^ 64 - n ≡ suc (2 ^ 64 - suc n)
+pub room_suc : (n : ℕ) → n < 2 ^ 64 → 2 ^ 64 - n ≡ suc (2 ^ 64 - suc n)
 room_suc n l = omega arith
 
 pub oids_last : (path : List Step) (s : Step) → map step_oid (path ++ s ∷ []) ≡ map step_oid path ++ s.oid ∷ []

@@ -6,4 +6,6 @@ pub mod Reading
 pub mod Ways
 pub mod Logs
 pub mod Steps
+pub mod Met
+pub mod MetLaws
 pub mod Shapes

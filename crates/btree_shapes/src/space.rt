@@ -95,13 +95,6 @@ pub trait Space {
         ensures fault { IfErr result IsFault }
         ensures refusals { told → refusals self.new ≡ refusals self.old ++ refused result };
 
-    /// Whether the space can't give so many numbers now. Where it says so, a call that draws them may end early, as for want of
-    /// memory. This is no call of the space.
-    fn lacks(&self, count: usize) -> bool {
-        let _ = count;
-        false
-    }
-
     /// What an object holds, where the space remembers it from an earlier reading. This is no call of the space.
     fn recall(&self, oid: Oid) -> Option<Recalled>
         ensures holds { IfSome result (λ recalled. held_in (Some (class_seen recalled.row.now)) (contents self.now oid)

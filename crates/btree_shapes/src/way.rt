@@ -6,7 +6,8 @@ ghost use Rattle.btree_shapes.specs.declared.space.Call.{Call};
 ghost use Rattle.btree_shapes.specs.declared.space.Call.TheVariants.{Read};
 ghost use Rattle.btree_shapes.specs.Spaces.{handed_on};
 ghost use Rattle.btree_shapes.specs.Nodes.{objects_of, Holds};
-ghost use Rattle.btree_shapes.specs.Ways.{Answers, OnlyReads, way_from, way_for, below_path, step_oid, reads, reads_of, key_way};
+ghost use Rattle.btree_shapes.specs.Met.{ReadsFirst, met_for, met_from};
+ghost use Rattle.btree_shapes.specs.Ways.{Answers, way_from, way_for, below_path, step_oid, reads, reads_of, key_way};
 
 use crate::error::TreeError;
 use crate::node::{Node, child_for, suits};
@@ -47,7 +48,8 @@ fn follow<S: Space>(
     ensures log { IfOk result (λ found. S.told → (base : List Call)
         → S.log space.old ≡ base ++ reads (map step_oid path)
         → S.log space.new ≡ base ++ reads (map step_oid found.path ++ found.oid ∷ [])) }
-    ensures only { S.told → OnlyReads (S.log space.old) (S.log space.new) }
+    ensures met { S.told → ReadsFirst (met_from key.now (objects_of (S.contents space.old) tree.now.root)
+        (2 ^ 64 - length path) (map step_oid path) oid) (S.log space.old) (S.log space.new) }
     ensures contents { S.contents space.new ≡ S.contents space.old }
     ensures refusals { S.told → S.refusals space.new ≡ S.refusals space.old ++ handed_on result }
 {
@@ -104,7 +106,8 @@ pub fn follow_root<S: Space>(
         (way_for fits key.now (objects_of (S.contents space.old) tree.now.root) tree.now.root) }
     ensures log { IfOk result (λ found. S.told → (base : List Call) → S.log space.old ≡ base ++ Read tree.now.root ∷ []
         → S.log space.new ≡ base ++ reads (map step_oid found.path ++ found.oid ∷ [])) }
-    ensures only { S.told → OnlyReads (S.log space.old) (S.log space.new) }
+    ensures met { S.told → (base : List Call) → S.log space.old ≡ base ++ Read tree.now.root ∷ []
+        → ReadsFirst (met_for (S.contents space.old) tree.now.root key.now) base (S.log space.new) }
     ensures contents { S.contents space.new ≡ S.contents space.old }
     ensures refusals { S.told → S.refusals space.new ≡ S.refusals space.old ++ handed_on result }
 {
@@ -154,7 +157,7 @@ pub fn find<S: Space>(
 ) -> Result<Found, TreeError>
     ensures answer { Answers result (key_way (S.contents space.old) root key.now) }
     ensures log { IfOk result (λ found. S.told → S.log space.new ≡ S.log space.old ++ reads_of (Ok found)) }
-    ensures only { S.told → OnlyReads (S.log space.old) (S.log space.new) }
+    ensures met { S.told → ReadsFirst (met_for (S.contents space.old) root key.now) (S.log space.old) (S.log space.new) }
     ensures contents { S.contents space.new ≡ S.contents space.old }
     ensures refusals { S.told → S.refusals space.new ≡ S.refusals space.old ++ handed_on result }
 {

@@ -1,9 +1,9 @@
-use Rattle.std.proofs.Common.{◌≡◌, ◌∙◌, true, false, append-nil, arith}
+use Rattle.std.proofs.Common.{◌≡◌, ◌∙◌, true, false, append-nil, arith, refl}
 use Rattle.btree_shapes.specs.declared.node.Node.TheVariants as node
 use Rattle.btree_shapes.specs.Nodes.{Holds, node_suits, objects_of}
 use Rattle.btree_shapes.specs.Ways.{stands_in}
-use Rattle.btree_shapes.specs.Logs.{only_none, only_one, only_read, only_more}
-use Rattle.btree_removing.proofs.Lasting.{twice, bad_key, ends_lone, ends_leaf, onward, read_start, read_step, read_end}
+use Rattle.btree_shapes.specs.MetLaws.{up_to_end}
+use Rattle.btree_removing.proofs.Lasting.{twice, bad_key, ends_lone, ends_leaf, onward, read_start, read_step, read_end, logged_here, met_onward, read_here}
 use Rattle.btree_removing.proofs.last.follow_last.Goals as goal
 
 pub returns-then-stands_in-clause-answer : goal.returns-then-stands_in-clause-answer
@@ -28,7 +28,7 @@ down-preserved g c =
     record {
       gives = onward _ _ _ _ _ _ _ _ _ c.down.invariant.gives c.stands_in.ensures.room s h t c.last_child-next.ensures pushed;
       log = λ t. read_step _ _ _ _ _ _ _ (c.down.invariant.log t) (c.in_ok-class.ensures.log t) pushed;
-      only = λ t. only_more _ _ _ (c.down.invariant.only t) (only_one _ _ _ (c.in_ok-class.ensures.log t));
+      met = λ t. met_onward (objects_of (g.S.Space.contents c.args.space.now) c.args.tree.now.root) c.down.above _ c.down.oid _ _ _ _ _ _ _ (c.down.invariant.met t) c.stands_in.ensures.room s h c.last_child-next.ensures pushed (c.in_ok-class.ensures.log t);
       contents = c.in_ok-class.ensures.contents ∙ c.down.invariant.contents;
       refusals = λ t. c.in_ok-class.ensures.refusals t ∙ append-nil _ ∙ c.down.invariant.refusals t;
     }
@@ -57,17 +57,30 @@ returns-in-Leaf-clause-answer g c =
 pub returns-in-Leaf-clause-log : goal.returns-in-Leaf-clause-log
 returns-in-Leaf-clause-log g c = λ t. read_end _ _ _ _ _ _ c.in_ok-class.field-0.class (node.Leaf c.in-Leaf.leaf) (c.down.invariant.log t) (c.in_ok-class.ensures.log t)
 
-pub returns-in_err-class-clause-only : goal.returns-in_err-class-clause-only
-returns-in_err-class-clause-only g c = λ t. only_more _ _ _ (c.down.invariant.only t) (only_read _ _ _ _ (c.in_err-class.ensures.log t))
+pub returns-then-stands_in-clause-met : goal.returns-then-stands_in-clause-met
+returns-then-stands_in-clause-met g c = λ t. up_to_end _ _ _ _ _ (c.down.invariant.met t) refl
 
-pub returns-then-not-suits-clause-only : goal.returns-then-not-suits-clause-only
-returns-then-not-suits-clause-only g c = λ t. only_more _ _ _ (c.down.invariant.only t) (only_one _ _ _ (c.in_ok-class.ensures.log t))
+pub returns-in_err-class-clause-met : goal.returns-in_err-class-clause-met
+returns-in_err-class-clause-met g c =
+    let s : stands_in c.down.above c.down.oid ≡ false = cc in
+    λ t. logged_here (objects_of (g.S.Space.contents c.args.space.now) c.args.tree.now.root) c.down.above c.down.oid _ _ _ _ _ (c.down.invariant.met t) c.stands_in.ensures.room s (c.in_err-class.ensures.log t)
 
-pub returns-in_err-push-in-Inner-clause-only : goal.returns-in_err-push-in-Inner-clause-only
-returns-in_err-push-in-Inner-clause-only g c = λ t. only_more _ _ _ (c.down.invariant.only t) (only_one _ _ _ (c.in_ok-class.ensures.log t))
+pub returns-then-not-suits-clause-met : goal.returns-then-not-suits-clause-met
+returns-then-not-suits-clause-met g c =
+    let s : stands_in c.down.above c.down.oid ≡ false = cc in
+    λ t. read_here (objects_of (g.S.Space.contents c.args.space.now) c.args.tree.now.root) c.down.above c.down.oid _ _ _ _ (c.down.invariant.met t) c.stands_in.ensures.room s (c.in_ok-class.ensures.log t)
 
-pub returns-in-Lone-clause-only : goal.returns-in-Lone-clause-only
-returns-in-Lone-clause-only g c = λ t. only_more _ _ _ (c.down.invariant.only t) (only_one _ _ _ (c.in_ok-class.ensures.log t))
+pub returns-in_err-push-in-Inner-clause-met : goal.returns-in_err-push-in-Inner-clause-met
+returns-in_err-push-in-Inner-clause-met g c =
+    let s : stands_in c.down.above c.down.oid ≡ false = cc in
+    λ t. read_here (objects_of (g.S.Space.contents c.args.space.now) c.args.tree.now.root) c.down.above c.down.oid _ _ _ _ (c.down.invariant.met t) c.stands_in.ensures.room s (c.in_ok-class.ensures.log t)
 
-pub returns-in-Leaf-clause-only : goal.returns-in-Leaf-clause-only
-returns-in-Leaf-clause-only g c = λ t. only_more _ _ _ (c.down.invariant.only t) (only_one _ _ _ (c.in_ok-class.ensures.log t))
+pub returns-in-Lone-clause-met : goal.returns-in-Lone-clause-met
+returns-in-Lone-clause-met g c =
+    let s : stands_in c.down.above c.down.oid ≡ false = cc in
+    λ t. read_here (objects_of (g.S.Space.contents c.args.space.now) c.args.tree.now.root) c.down.above c.down.oid _ _ _ _ (c.down.invariant.met t) c.stands_in.ensures.room s (c.in_ok-class.ensures.log t)
+
+pub returns-in-Leaf-clause-met : goal.returns-in-Leaf-clause-met
+returns-in-Leaf-clause-met g c =
+    let s : stands_in c.down.above c.down.oid ≡ false = cc in
+    λ t. read_here (objects_of (g.S.Space.contents c.args.space.now) c.args.tree.now.root) c.down.above c.down.oid _ _ _ _ (c.down.invariant.met t) c.stands_in.ensures.room s (c.in_ok-class.ensures.log t)

@@ -1,21 +1,33 @@
 use Rattle.std.proofs.Common.{◌≡◌, ◌∙◌, Ok, sym, ap, subst}
 use Rattle.btree_shapes.specs.Nodes.{objects_of}
-use Rattle.btree_shapes.specs.Logs.{only_more}
 use Rattle.btree_removing.specs.Plans.{left_asked, first_head, puts_leaving}
-use Rattle.btree_removing.proofs.Finding.{leaving}
+use Rattle.btree_removing.proofs.Finding.{leaving, leaving_before, leaving_head}
 use Rattle.btree_removing.proofs.planning.leave.Goals as goal
 
-pub returns-in_err-known-clause-only : goal.returns-in_err-known-clause-only
-returns-in_err-known-clause-only g c = λ t. only_more _ _ _ (c.in_ok-before.ensures.only t) (c.in_err-known.ensures.only t)
+pub returns-in_err-before-clause-met : goal.returns-in_err-before-clause-met
+returns-in_err-before-clause-met g c = λ t.
+    leaving_before (objects_of (g.S.Space.contents c.args.space.now) c.args.tree.now.root) c.args.leaf c.in_ok-left.field-0 _ _ _ _ c.in_ok-left.ensures
+    (c.left_asked-left.ensures ∙ ap (λ b. left_asked b c.in_ok-left.field-0.left) c.is_leaf.ensures) (c.in_err-before.ensures.met t)
 
-pub returns-in_err-puts-clause-only : goal.returns-in_err-puts-clause-only
-returns-in_err-puts-clause-only g c = λ t. only_more _ _ _ (c.in_ok-before.ensures.only t) (c.in_ok-known.ensures.only t)
+pub returns-in_err-known-clause-met : goal.returns-in_err-known-clause-met
+returns-in_err-known-clause-met g c = λ t.
+    leaving_head c.args.key.now (objects_of (g.S.Space.contents c.args.space.now) c.args.tree.now.root) c.args.leaf c.in_ok-left.field-0 _ _ _ _ _ _ _ c.in_ok-left.ensures
+    (c.left_asked-left.ensures ∙ ap (λ b. left_asked b c.in_ok-left.field-0.left) c.is_leaf.ensures) c.in_ok-before.ensures.answer (c.in_ok-before.ensures.log t) (c.in_err-known.ensures.met t)
 
-pub returns-in_err-all-clause-only : goal.returns-in_err-all-clause-only
-returns-in_err-all-clause-only g c = λ t. only_more _ _ _ (c.in_ok-before.ensures.only t) (c.in_ok-known.ensures.only t)
+pub returns-in_err-puts-clause-met : goal.returns-in_err-puts-clause-met
+returns-in_err-puts-clause-met g c = λ t.
+    leaving_head c.args.key.now (objects_of (g.S.Space.contents c.args.space.now) c.args.tree.now.root) c.args.leaf c.in_ok-left.field-0 _ _ _ _ _ _ _ c.in_ok-left.ensures
+    (c.left_asked-left.ensures ∙ ap (λ b. left_asked b c.in_ok-left.field-0.left) c.is_leaf.ensures) c.in_ok-before.ensures.answer (c.in_ok-before.ensures.log t) (c.in_ok-known.ensures.met t)
 
-pub returns-clause-only : goal.returns-clause-only
-returns-clause-only g c = λ t. only_more _ _ _ (c.in_ok-before.ensures.only t) (c.in_ok-known.ensures.only t)
+pub returns-in_err-all-clause-met : goal.returns-in_err-all-clause-met
+returns-in_err-all-clause-met g c = λ t.
+    leaving_head c.args.key.now (objects_of (g.S.Space.contents c.args.space.now) c.args.tree.now.root) c.args.leaf c.in_ok-left.field-0 _ _ _ _ _ _ _ c.in_ok-left.ensures
+    (c.left_asked-left.ensures ∙ ap (λ b. left_asked b c.in_ok-left.field-0.left) c.is_leaf.ensures) c.in_ok-before.ensures.answer (c.in_ok-before.ensures.log t) (c.in_ok-known.ensures.met t)
+
+pub returns-clause-met : goal.returns-clause-met
+returns-clause-met g c = λ t.
+    leaving_head c.args.key.now (objects_of (g.S.Space.contents c.args.space.now) c.args.tree.now.root) c.args.leaf c.in_ok-left.field-0 _ _ _ _ _ _ _ c.in_ok-left.ensures
+    (c.left_asked-left.ensures ∙ ap (λ b. left_asked b c.in_ok-left.field-0.left) c.is_leaf.ensures) c.in_ok-before.ensures.answer (c.in_ok-before.ensures.log t) (c.in_ok-known.ensures.met t)
 
 pub returns-clause-answer : goal.returns-clause-answer
 returns-clause-answer g c =

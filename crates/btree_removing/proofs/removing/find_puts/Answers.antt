@@ -4,8 +4,7 @@ use Rattle.btree_family.specs.Families.{key_fits}
 use Rattle.btree_shapes.specs.declared.space.Call.TheVariants.{Read}
 use Rattle.btree_shapes.specs.Nodes.{class_held, objects_of}
 use Rattle.btree_shapes.specs.Ways.{way_for}
-use Rattle.btree_shapes.specs.Logs.{only_one, only_more}
-use Rattle.btree_removing.proofs.Answering.{no_leaf, no_key, fits_all, all_reads}
+use Rattle.btree_removing.proofs.Answering.{no_leaf, no_key, fits_all, all_reads, met_at_root, met_on_way, met_past_way, met_root_read}
 use Rattle.btree_removing.proofs.removing.find_puts.Goals as goal
 
 pub returns-in_default-clause-err : goal.returns-in_default-clause-err
@@ -23,20 +22,62 @@ returns-then-not-key_fits-clause-err g c =
     no_key f c.args.root c.args.key.now _ _ (class_seen c.in_ok-tree.tree.row.now) r.2
     (ap (λ x. class_held (f x)) (sym r.0) ∙ r.1) k
 
-pub returns-in_err-found-clause-only : goal.returns-in_err-found-clause-only
-returns-in_err-found-clause-only g c = λ t. only_more _ _ _ (only_one _ _ _ (c.in_ok-tree.ensures.log t)) (c.in_err-found.ensures.only t)
+pub returns-in_err-tree-clause-met : goal.returns-in_err-tree-clause-met
+returns-in_err-tree-clause-met g c = λ t. met_at_root (g.S.Space.contents c.args.space.now) c.args.root c.args.key.now _ _ _ (c.in_err-tree.ensures.log t)
 
-pub returns-in_err-puts-clause-only : goal.returns-in_err-puts-clause-only
-returns-in_err-puts-clause-only g c = λ t.
-    only_more _ _ _ (only_more _ _ _ (only_one _ _ _ (c.in_ok-tree.ensures.log t)) (c.in_ok-found.ensures.only t)) (c.in_err-puts.ensures.only t)
+pub returns-in_default-clause-met : goal.returns-in_default-clause-met
+returns-in_default-clause-met g c = λ t. met_root_read (g.S.Space.contents c.args.space.now) c.args.root c.args.key.now _ _ (c.in_ok-tree.ensures.log t)
 
-pub returns-in_default-2-clause-only : goal.returns-in_default-2-clause-only
-returns-in_default-2-clause-only g c = λ t.
-    only_more _ _ _ (only_more _ _ _ (only_one _ _ _ (c.in_ok-tree.ensures.log t)) (c.in_ok-found.ensures.only t)) (c.in_ok-puts.ensures.only t)
+pub returns-then-not-key_fits-clause-met : goal.returns-then-not-key_fits-clause-met
+returns-then-not-key_fits-clause-met g c = λ t. met_root_read (g.S.Space.contents c.args.space.now) c.args.root c.args.key.now _ _ (c.in_ok-tree.ensures.log t)
 
-pub returns-clause-only : goal.returns-clause-only
-returns-clause-only g c = λ t.
-    only_more _ _ _ (only_more _ _ _ (only_one _ _ _ (c.in_ok-tree.ensures.log t)) (c.in_ok-found.ensures.only t)) (c.in_ok-puts.ensures.only t)
+pub returns-in_err-found-clause-met : goal.returns-in_err-found-clause-met
+returns-in_err-found-clause-met g c = λ t.
+    let r = c.in_ok-tree.ensures.root in
+    met_on_way (g.S.Space.contents c.args.space.now) _ c.args.root _ c.args.key.now _ _ c.in_ok-tree.ensures.contents r.0
+    (c.in_err-found.ensures.met t _ (c.in_ok-tree.ensures.log t ∙ ap (λ x. g.S.Space.log c.args.space.now ++ Read x ∷ []) (sym r.0)))
+
+pub returns-in_err-puts-clause-met : goal.returns-in_err-puts-clause-met
+returns-in_err-puts-clause-met g c = λ t.
+    let f = g.S.Space.contents c.args.space.now in
+    let r = c.in_ok-tree.ensures.root in
+    let k : key_fits c.in_ok-tree.tree.row.now.key c.args.key.now ≡ true = cc in
+    met_past_way f c.args.root c.args.key.now _ c.in_ok-found.found _ _ _
+    (ap (λ h. objects_of h c.in_ok-tree.tree.root) (c.in_ok-found.ensures.contents ∙ c.in_ok-tree.ensures.contents) ∙ ap (objects_of f) r.0)
+    (fits_all f c.args.root c.args.key.now _ _ (ap (λ x. class_held (f x)) (sym r.0) ∙ r.1) (sym c.in-Some.ensures.row) k)
+    (ap (λ x. way_for true c.args.key.now (objects_of f x) x) (sym r.0)
+    ∙ ap (λ h. way_for true c.args.key.now (objects_of h c.in_ok-tree.tree.root) c.in_ok-tree.tree.root) (sym c.in_ok-tree.ensures.contents)
+    ∙ c.in_ok-found.ensures.answer)
+    (c.in_ok-found.ensures.log t _ (c.in_ok-tree.ensures.log t ∙ ap (λ x. g.S.Space.log c.args.space.now ++ Read x ∷ []) (sym r.0)))
+    (c.in_err-puts.ensures.met t)
+
+pub returns-in_default-2-clause-met : goal.returns-in_default-2-clause-met
+returns-in_default-2-clause-met g c = λ t.
+    let f = g.S.Space.contents c.args.space.now in
+    let r = c.in_ok-tree.ensures.root in
+    let k : key_fits c.in_ok-tree.tree.row.now.key c.args.key.now ≡ true = cc in
+    met_past_way f c.args.root c.args.key.now _ c.in_ok-found.found _ _ _
+    (ap (λ h. objects_of h c.in_ok-tree.tree.root) (c.in_ok-found.ensures.contents ∙ c.in_ok-tree.ensures.contents) ∙ ap (objects_of f) r.0)
+    (fits_all f c.args.root c.args.key.now _ _ (ap (λ x. class_held (f x)) (sym r.0) ∙ r.1) (sym c.in-Some.ensures.row) k)
+    (ap (λ x. way_for true c.args.key.now (objects_of f x) x) (sym r.0)
+    ∙ ap (λ h. way_for true c.args.key.now (objects_of h c.in_ok-tree.tree.root) c.in_ok-tree.tree.root) (sym c.in_ok-tree.ensures.contents)
+    ∙ c.in_ok-found.ensures.answer)
+    (c.in_ok-found.ensures.log t _ (c.in_ok-tree.ensures.log t ∙ ap (λ x. g.S.Space.log c.args.space.now ++ Read x ∷ []) (sym r.0)))
+    (c.in_ok-puts.ensures.met t)
+
+pub returns-clause-met : goal.returns-clause-met
+returns-clause-met g c = λ t.
+    let f = g.S.Space.contents c.args.space.now in
+    let r = c.in_ok-tree.ensures.root in
+    let k : key_fits c.in_ok-tree.tree.row.now.key c.args.key.now ≡ true = cc in
+    met_past_way f c.args.root c.args.key.now _ c.in_ok-found.found _ _ _
+    (ap (λ h. objects_of h c.in_ok-tree.tree.root) (c.in_ok-found.ensures.contents ∙ c.in_ok-tree.ensures.contents) ∙ ap (objects_of f) r.0)
+    (fits_all f c.args.root c.args.key.now _ _ (ap (λ x. class_held (f x)) (sym r.0) ∙ r.1) (sym c.in-Some.ensures.row) k)
+    (ap (λ x. way_for true c.args.key.now (objects_of f x) x) (sym r.0)
+    ∙ ap (λ h. way_for true c.args.key.now (objects_of h c.in_ok-tree.tree.root) c.in_ok-tree.tree.root) (sym c.in_ok-tree.ensures.contents)
+    ∙ c.in_ok-found.ensures.answer)
+    (c.in_ok-found.ensures.log t _ (c.in_ok-tree.ensures.log t ∙ ap (λ x. g.S.Space.log c.args.space.now ++ Read x ∷ []) (sym r.0)))
+    (c.in_ok-puts.ensures.met t)
 
 pub returns-in_default-2-clause-log : goal.returns-in_default-2-clause-log
 returns-in_default-2-clause-log g c = λ t.

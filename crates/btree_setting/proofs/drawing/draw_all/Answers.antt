@@ -1,9 +1,8 @@
 use Rattle.std.proofs.Common.{arith, ◌^◌, ◌++◌, ◌∙◌, sym, ap, append-nil}
 use Rattle.std.specs.Prelude.{map}
 use Rattle.btree_shapes.specs.declared.space.Call.TheVariants.{Drew}
-use Rattle.btree_setting.specs.Sets.{DrewSome}
 use Rattle.btree_setting.proofs.Numbers.{drew_more}
-use Rattle.btree_setting.proofs.Trying.{any_err, drew_all, below_more, drawn_count}
+use Rattle.btree_setting.proofs.Trying.{below_more, drawn_count}
 use Rattle.btree_setting.proofs.drawing.draw_all.Goals as goal
 
 pub draws-preserved : goal.draws-preserved
@@ -14,8 +13,3 @@ draws-preserved g c = record {
   contents = c.in_ok-oid.ensures.contents ∙ c.draws.invariant.contents;
   refusals = λ t. c.in_ok-oid.ensures.refusals t ∙ append-nil _ ∙ c.draws.invariant.refusals t;
 }
-
-pub returns-in_err-push-clause-err : goal.returns-in_err-push-clause-err
-returns-in_err-push-clause-err g c =
-    any_err c.from_residual-in_err-push.result (g.S.Space.told → DrewSome (g.S.Space.log c.args.space.now) (g.S.Space.log c.draw.new.space))
-    (λ t. drew_all _ _ _ (drew_more _ _ _ _ _ (c.draws.invariant.log t) (c.in_ok-oid.ensures.ok t)))

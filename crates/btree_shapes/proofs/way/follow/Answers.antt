@@ -1,11 +1,12 @@
-use Rattle.std.proofs.Common.{◌≡◌, ◌∙◌, true, false, append-nil, arith}
+use Rattle.std.proofs.Common.{◌≡◌, ◌∙◌, true, false, append-nil, arith, refl}
 use Rattle.std.specs.Prelude.{map, ◌&&◌}
 use Rattle.btree_shapes.specs.declared.node.Node.TheVariants as node
 use Rattle.btree_shapes.specs.declared.path.Step.{Step}
 use Rattle.btree_shapes.specs.Nodes.{Holds, node_suits, objects_of}
 use Rattle.btree_shapes.specs.Ways.{stands_in, step_oid}
 use Rattle.btree_shapes.proofs.Goings.{twice, bad_key, ends_lone, ends_leaf, onward, read_last, reads_onward}
-use Rattle.btree_shapes.specs.Logs.{only_one, only_read, only_more}
+use Rattle.btree_shapes.specs.MetLaws.{up_to_end}
+use Rattle.btree_shapes.proofs.Meeting.{logged_here, met_onward, read_here}
 use Rattle.btree_shapes.proofs.way.follow.Goals as goal
 
 pub returns-then-contains-clause-answer : goal.returns-then-contains-clause-answer
@@ -32,7 +33,7 @@ down-preserved g c =
       room = let r = c.in_ok-push-in-Inner.ensures.room in omega (arith, r);
       gives = onward _ _ _ _ _ _ _ _ _ _ c.down.invariant.gives c.down.invariant.room s h t c.child_for-next.ensures pushed;
       log = λ t base e. reads_onward base _ _ _ _ step (c.down.invariant.log t base e) (c.in_ok-class.ensures.log t) pushed;
-      only = λ t. only_more _ _ _ (c.down.invariant.only t) (only_one _ _ _ (c.in_ok-class.ensures.log t));
+      met = λ t. met_onward c.args.key.now (objects_of (g.S.Space.contents c.args.space.now) c.args.tree.now.root) c.down.path _ c.down.oid _ _ _ _ _ _ _ (c.down.invariant.met t) c.down.invariant.room s h c.child_for-next.ensures pushed (c.in_ok-class.ensures.log t);
       contents = c.in_ok-class.ensures.contents ∙ c.down.invariant.contents;
       refusals = λ t. c.in_ok-class.ensures.refusals t ∙ append-nil _ ∙ c.down.invariant.refusals t;
     }
@@ -61,17 +62,32 @@ returns-in-Leaf-clause-answer g c =
 pub returns-in-Leaf-clause-log : goal.returns-in-Leaf-clause-log
 returns-in-Leaf-clause-log g c = λ t base e. read_last base _ _ _ _ (c.down.invariant.log t base e) (c.in_ok-class.ensures.log t)
 
-pub returns-in_err-class-clause-only : goal.returns-in_err-class-clause-only
-returns-in_err-class-clause-only g c = λ t. only_more _ _ _ (c.down.invariant.only t) (only_read _ _ _ _ (c.in_err-class.ensures.log t))
+-- ---- what is met
 
-pub returns-then-not-suits-clause-only : goal.returns-then-not-suits-clause-only
-returns-then-not-suits-clause-only g c = λ t. only_more _ _ _ (c.down.invariant.only t) (only_one _ _ _ (c.in_ok-class.ensures.log t))
+pub returns-then-contains-clause-met : goal.returns-then-contains-clause-met
+returns-then-contains-clause-met g c = λ t. up_to_end _ _ _ _ _ (c.down.invariant.met t) refl
 
-pub returns-in_err-push-in-Inner-clause-only : goal.returns-in_err-push-in-Inner-clause-only
-returns-in_err-push-in-Inner-clause-only g c = λ t. only_more _ _ _ (c.down.invariant.only t) (only_one _ _ _ (c.in_ok-class.ensures.log t))
+pub returns-in_err-class-clause-met : goal.returns-in_err-class-clause-met
+returns-in_err-class-clause-met g c =
+    let s : stands_in (map step_oid c.down.path) c.down.oid ≡ false = cc in
+    λ t. logged_here c.args.key.now (objects_of (g.S.Space.contents c.args.space.now) c.args.tree.now.root) c.down.path c.down.oid _ _ _ _ _ (c.down.invariant.met t) c.down.invariant.room s (c.in_err-class.ensures.log t)
 
-pub returns-in-Lone-clause-only : goal.returns-in-Lone-clause-only
-returns-in-Lone-clause-only g c = λ t. only_more _ _ _ (c.down.invariant.only t) (only_one _ _ _ (c.in_ok-class.ensures.log t))
+pub returns-then-not-suits-clause-met : goal.returns-then-not-suits-clause-met
+returns-then-not-suits-clause-met g c =
+    let s : stands_in (map step_oid c.down.path) c.down.oid ≡ false = cc in
+    λ t. read_here c.args.key.now (objects_of (g.S.Space.contents c.args.space.now) c.args.tree.now.root) c.down.path c.down.oid _ _ _ _ (c.down.invariant.met t) c.down.invariant.room s (c.in_ok-class.ensures.log t)
 
-pub returns-in-Leaf-clause-only : goal.returns-in-Leaf-clause-only
-returns-in-Leaf-clause-only g c = λ t. only_more _ _ _ (c.down.invariant.only t) (only_one _ _ _ (c.in_ok-class.ensures.log t))
+pub returns-in_err-push-in-Inner-clause-met : goal.returns-in_err-push-in-Inner-clause-met
+returns-in_err-push-in-Inner-clause-met g c =
+    let s : stands_in (map step_oid c.down.path) c.down.oid ≡ false = cc in
+    λ t. read_here c.args.key.now (objects_of (g.S.Space.contents c.args.space.now) c.args.tree.now.root) c.down.path c.down.oid _ _ _ _ (c.down.invariant.met t) c.down.invariant.room s (c.in_ok-class.ensures.log t)
+
+pub returns-in-Lone-clause-met : goal.returns-in-Lone-clause-met
+returns-in-Lone-clause-met g c =
+    let s : stands_in (map step_oid c.down.path) c.down.oid ≡ false = cc in
+    λ t. read_here c.args.key.now (objects_of (g.S.Space.contents c.args.space.now) c.args.tree.now.root) c.down.path c.down.oid _ _ _ _ (c.down.invariant.met t) c.down.invariant.room s (c.in_ok-class.ensures.log t)
+
+pub returns-in-Leaf-clause-met : goal.returns-in-Leaf-clause-met
+returns-in-Leaf-clause-met g c =
+    let s : stands_in (map step_oid c.down.path) c.down.oid ≡ false = cc in
+    λ t. read_here c.args.key.now (objects_of (g.S.Space.contents c.args.space.now) c.args.tree.now.root) c.down.path c.down.oid _ _ _ _ (c.down.invariant.met t) c.down.invariant.room s (c.in_ok-class.ensures.log t)

@@ -6,6 +6,8 @@ use Rattle.btree_shapes.specs.Nodes.{Holds, node_suits, objects_of}
 use Rattle.btree_shapes.specs.Ways.{Answers}
 use Rattle.btree_shapes.specs.Steps.{root_bad_key, root_lone, root_leaf}
 use Rattle.btree_shapes.proofs.Goings.{root_inner}
+use Rattle.btree_shapes.specs.MetLaws.{root_read}
+use Rattle.btree_shapes.proofs.Meeting.{root_onward}
 use Rattle.btree_shapes.proofs.way.follow_root.Goals as goal
 
 pub returns-then-not-suits-clause-answer : goal.returns-then-not-suits-clause-answer
@@ -34,3 +36,24 @@ returns-in-Leaf-clause-answer g c =
     let h : objects_of (g.S.Space.contents c.args.space.now) c.args.tree.now.root c.args.tree.now.root ≡ Holds c.args.entry.class (node.Leaf c.in-Leaf.bucket) = cc c.requires.entry in
     root_leaf c.args.fits c.args.key.now (objects_of (g.S.Space.contents c.args.space.now) c.args.tree.now.root) c.args.tree.now.root c.args.entry.class c.in-Leaf.bucket h t
     ∙ ap (λ steps. Ok (record { path = steps; oid = c.args.tree.now.root; class = c.args.entry.class; node = node.Leaf c.in-Leaf.bucket })) (sym c.new-path.ensures)
+
+-- ---- what is met
+
+pub returns-in_ok-push-in-Inner-clause-met : goal.returns-in_ok-push-in-Inner-clause-met
+returns-in_ok-push-in-Inner-clause-met g c =
+    let h : objects_of (g.S.Space.contents c.args.space.now) c.args.tree.now.root c.args.tree.now.root ≡ Holds c.args.entry.class (node.Inner c.in-Inner.inner) = cc c.requires.entry in
+    let step : Step = record { oid = c.args.tree.now.root; class = c.args.entry.class; inner = c.in-Inner.inner } in
+    let path = c.in_ok-push-in-Inner.ensures.ok ∙ ap (λ steps. steps ++ step ∷ []) c.new-path.ensures in
+    λ t base e. root_onward c.args.key.now (objects_of (g.S.Space.contents c.args.space.now) c.args.tree.now.root) c.args.tree.now.root _ base _ _ _ _ _ e h c.child_for-next.ensures path (c.follow.ensures.met t)
+
+pub returns-then-not-suits-clause-met : goal.returns-then-not-suits-clause-met
+returns-then-not-suits-clause-met g c = λ t base e. root_read c.args.key.now (objects_of (g.S.Space.contents c.args.space.now) c.args.tree.now.root) c.args.tree.now.root base _ e
+
+pub returns-in_err-push-in-Inner-clause-met : goal.returns-in_err-push-in-Inner-clause-met
+returns-in_err-push-in-Inner-clause-met g c = λ t base e. root_read c.args.key.now (objects_of (g.S.Space.contents c.args.space.now) c.args.tree.now.root) c.args.tree.now.root base _ e
+
+pub returns-in-Lone-clause-met : goal.returns-in-Lone-clause-met
+returns-in-Lone-clause-met g c = λ t base e. root_read c.args.key.now (objects_of (g.S.Space.contents c.args.space.now) c.args.tree.now.root) c.args.tree.now.root base _ e
+
+pub returns-in-Leaf-clause-met : goal.returns-in-Leaf-clause-met
+returns-in-Leaf-clause-met g c = λ t base e. root_read c.args.key.now (objects_of (g.S.Space.contents c.args.space.now) c.args.tree.now.root) c.args.tree.now.root base _ e
