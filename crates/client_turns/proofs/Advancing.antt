@@ -1,6 +1,7 @@
 -- How a call on a tree goes from one attempt to the next.
-use Rattle.std.proofs.Common.{true, ◌≡◌, ℕ, false, List, [], ◌∷◌, ◌++◌, Option, Some, None, Result, Ok, Err, refl, sym, ap, subst, ◌∙◌, arith, inl, inr}
-use Rattle.std.specs.Prelude.{IsSome, if◌then◌else◌, nat_eq, slice_get}
+use Rattle.std.proofs.Common.{◌≡◌, ◌==◌, Bool, true, ◌<◌, ◌≤◌, ◌+◌, ℕ, false, length, List, [], ◌∷◌, ◌++◌, Option, Some, None, Result, Ok, Err, refl, sym, ap, subst, ◌∙◌, arith, inl, inr}
+use Rattle.std.specs.Prelude.{All, IsSome, if◌then◌else◌, nat_eq, slice_get}
+use Rattle.std.proofs.lemmas.Bool.{eqb-true}
 use Rattle.zb_ids.specs.declared.stamp.Stamp.{Stamp}
 use Rattle.zb_volume.specs.Moments.{here}
 use Rattle.zb_model.specs.declared.data.Transaction.{Transaction}
@@ -13,7 +14,7 @@ use Rattle.zodb_core.specs.Outcomes.{Answered, StepOutcome, outcome_of_refusal}
 use Rattle.tree_calls.specs.declared.attempt.Made.{Made}
 use Rattle.tree_calls.specs.declared.known.Seen.{Seen}
 use Rattle.tree_calls.specs.declared.operation.TreeOperation.{TreeOperation}
-use Rattle.tree_calls.specs.Calls.{IsMade, IsRefused, takes_numbers}
+use Rattle.tree_calls.specs.Calls.{IsMade, IsRefused}
 use Rattle.tree_calls.specs.Known.{known_at}
 use Rattle.client_turns.specs.declared.client.Client.{Client}
 use Rattle.connection_view.specs.declared.work.Work.{Work}
@@ -22,6 +23,7 @@ use Rattle.client_turns.specs.Clients.{Moment, OpenTransaction}
 use Rattle.client_turns.specs.Clients as seen
 use Rattle.client_turns.specs.DrawLaws.{new_raised, refused_answers}
 use Rattle.client_turns.specs.Gathering.{AdvancesTo, IsCallOf, IsDrawIn, IsDrawOf, IsSightIn, IsSightOf, StandsGathering, objects_of, objects_over}
+use Rattle.client_turns.specs.Steps.{IsReadAt}
 use Rattle.client_turns.specs.Standing.{ClientsState, IsOpenAs, IsWorkOf, LeadsTo, MayReadAt, ReadsHub, StandsForMoment}
 use Rattle.client_turns.specs.Views.{server_of}
 use Rattle.connection_view.specs.declared.connection.Connection.{Connection}
@@ -29,7 +31,7 @@ use Rattle.connection_view.specs.Connections.{work_of}
 use Rattle.connection_view.specs.ViewLaws.{IsSeenFrom, later_later, seen_from}
 use Rattle.connection_view.specs.Views.{Later, view_of}
 use Rattle.local_loads.specs.LocalLaws.{view_whole}
-use Rattle.client_turns.specs.Trees.{Draws, IsDrawn, IsRaised, IsSeenIn, IsUncalled, MayDraw, Sees, by_draw, by_read, by_tree, by_want}
+use Rattle.client_turns.specs.Trees.{Draws, IsDrawn, IsRaised, IsSeenIn, IsUncalled, MayDraw, NeedsMore, Sees, by_draw, by_read, by_tree, by_want}
 use Rattle.client_turns.proofs.Changing.{opened_work}
 use Rattle.client_turns.proofs.Framing.{calm_counts, calm_other, calm_whole}
 use Rattle.client_turns.proofs.Gathering.{draws_more, known_more, seen_kept, seen_over, seen_same}
@@ -72,13 +74,18 @@ module _ {R F : Type 0} (told lasts : Type 0) (stands : List ℕ → List Transa
   }
 
 -- a tree refuses a call
-pub refused_calm : (objects : ℕ → Option Seen) (root : ℕ) (op : TreeOperation) (numbers : List ℕ) (why : Refusal) → IsRefused objects root op numbers why → IsCalm (outcome_of_refusal why)
-refused_calm objects root op numbers why is = inl (refused_answers objects root op numbers why is)
+pub refused_calm : (objects : ℕ → Option Seen) (root : ℕ) (op : TreeOperation) (why : Refusal) → IsRefused objects root op why → IsCalm (outcome_of_refusal why)
+refused_calm objects root op why is = inl (refused_answers objects root op why is)
+
+-- no number was drawn
+pub none_drawn : (numbers : List ℕ) (is_empty : Bool) → is_empty ≡ (length numbers == 0) → is_empty ≡ true → numbers ≡ []
+none_drawn [] is_empty is holds = refl
+none_drawn (n ∷ numbers) is_empty is holds = absurd (omega (arith, eqb-true (length (n ∷ numbers)) 0 (sym is ∙ holds)))
 
 -- ---- the first attempt
 
-pub starts : {R F : Type 0} (m : Moment) (at : ℕ) (old : ClientsState R F) (before : Option (List Stamp)) → StandsForMoment old before m → MayReadAt m at → StandsGathering old before m at [] []
-starts m at old before stands may =
+pub starts : {R F : Type 0} (m : Moment) (at root : ℕ) (op : TreeOperation) (old : ClientsState R F) (before : Option (List Stamp)) → StandsForMoment old before m → MayReadAt m at → StandsGathering old before m at root op [] []
+starts m at root op old before stands may =
     let t : (u : OpenTransaction) × (may.0.transaction ≡ Some u) = some_there may.0.transaction may.3 in
     record {
       now = m;
@@ -93,6 +100,7 @@ starts m at old before stands may =
       journal = refl;
       clients = refl;
       sees = λ oid x is. absurd cc;
+      may_draw = inl refl;
     }
   where
     some_there : (o : Option OpenTransaction) → IsSome o → (u : OpenTransaction) × (o ≡ Some u)
@@ -105,14 +113,18 @@ some_of : (o : Option OpenTransaction) (t : OpenTransaction) → o ≡ Some t �
 some_of (Some t) u is = refl
 some_of None u is = absurd cc
 
--- a call that may take numbers may have drawn any
-pub never_taken : (op : TreeOperation) (ns : List ℕ) → takes_numbers op ≡ true → MayDraw op ns
-never_taken op ns takes none = absurd (no_both (sym none ∙ takes))
+-- one more of the numbers that a call needs
+one_within : (numbers : List ℕ) (oid count : ℕ) → length numbers < count → length (numbers ++ oid ∷ []) ≤ count
+one_within numbers oid count less = let n : length (numbers ++ oid ∷ []) ≡ length numbers + 1 = one_longer numbers in omega (arith, n, less)
   where
-    no_both : false ≡ true → ⊥
-    no_both e = absurd cc
+    one_longer : (ns : List ℕ) → length (ns ++ oid ∷ []) ≡ length ns + 1
+    one_longer [] = omega arith
+    one_longer (n ∷ ns) = let r = one_longer ns in omega (arith, r)
 
-module _ {R F : Type 0} (m : Moment) (at : ℕ) (old : ClientsState R F) (before : Option (List Stamp)) (known : List (ℕ × Option Seen)) (numbers : List ℕ) (g : StandsGathering old before m at known numbers) where
+pub needed_more : (m : Machine) (t : OpenTransaction) (root : ℕ) (op : TreeOperation) (numbers : List ℕ) (oid : ℕ) → NeedsMore m t root op numbers → MayDraw m t root op (numbers ++ oid ∷ [])
+needed_more m t root op numbers oid n = inr (record { objects = n.objects; sees = n.sees; count = n.lacks.count; needs = n.lacks.needs; within = one_within numbers oid n.lacks.count n.lacks.more })
+
+module _ {R F : Type 0} (m : Moment) (at root : ℕ) (op : TreeOperation) (old : ClientsState R F) (before : Option (List Stamp)) (known : List (ℕ × Option Seen)) (numbers : List ℕ) (g : StandsGathering old before m at root op known numbers) where
   there_now : slice_get g.now.clients at ≡ Some g.client
   there_now = ap (λ (cs : List seen.Client). slice_get cs at) g.clients ∙ g.there
 
@@ -126,12 +138,15 @@ module _ {R F : Type 0} (m : Moment) (at : ℕ) (old : ClientsState R F) (before
       same a b e = cc
 
   -- a call that isn't answered
-  pub ends_at : (root : ℕ) (op : TreeOperation) (why : Refusal) (new : ClientsState R F) (after : Option (List Stamp)) (now : Moment) → StandsForMoment new after now → IsUncalled m g.client.session g.transaction root op why now
-      → LeadsTo (IsCallOf m at root op (Err why)) new after
-  ends_at root op why new after now stands uncalled = record { now = now; holds = (g.client, g.there, g.transaction, g.begun, uncalled); stands = stands }
+  pub ends_at : (why : Refusal) (new : ClientsState R F) (after : Option (List Stamp)) (now : Moment) → StandsForMoment new after now → IsUncalled m g.client.session g.transaction root op why now → LeadsTo (IsCallOf m at root op (Err why)) new after
+  ends_at why new after now stands uncalled = record { now = now; holds = (g.client, g.there, g.transaction, g.begun, uncalled); stands = stands }
 
-  pub starves : (root : ℕ) (op : TreeOperation) → MayDraw op numbers → LeadsTo (IsCallOf m at root op (Err refusal.Memory)) old before
-  starves root op drawn = ends_at root op refusal.Memory old before g.now g.stands (by_want numbers drawn g.draws refl)
+  pub starves : LeadsTo (IsCallOf m at root op (Err refusal.Memory)) old before
+  starves = ends_at refusal.Memory old before g.now g.stands (by_want numbers g.may_draw g.draws refl)
+
+  -- where no number was drawn, nothing was done
+  at_start : numbers ≡ [] → g.now ≡ m
+  at_start none = subst (λ (ns : List ℕ). Draws m g.client.session ns g.now) none g.draws
 
   -- ---- one more object
 
@@ -139,9 +154,9 @@ module _ {R F : Type 0} (m : Moment) (at : ℕ) (old : ClientsState R F) (before
   at_sight oid result now is =
       subst (λ (t : Option OpenTransaction). IsSightIn g.now t oid result now) (ap (λ (c : seen.Client). c.transaction) (same_client is.0 is.1) ∙ g.begun) is.2
 
-  pub learns : (root : ℕ) (op : TreeOperation) (oid : ℕ) (x : Option Seen) (more : List (ℕ × Option Seen)) (new : ClientsState R F) (after : Option (List Stamp)) → LeadsTo (IsSightOf g.now at oid (Ok x)) new after
+  pub learns : (oid : ℕ) (x : Option Seen) (more : List (ℕ × Option Seen)) (new : ClientsState R F) (after : Option (List Stamp)) → LeadsTo (IsSightOf g.now at oid (Ok x)) new after
       → ((other : ℕ) → known_at more other ≡ (if nat_eq oid other then Some x else known_at known other)) → AdvancesTo m at root op new after more numbers None
-  learns root op oid x more new after leads learned =
+  learns oid x more new after leads learned =
       let sight : (leads.now ≡ g.now) × IsSeenIn g.now.machine g.transaction oid x = at_sight oid (Ok x) leads.now leads.holds in
       let here : IsSeenIn m.machine g.transaction oid x = seen_same g.now.machine m.machine g.transaction.view oid _ x (sym g.list) (sym g.journal) sight.1 in
       record {
@@ -157,27 +172,28 @@ module _ {R F : Type 0} (m : Moment) (at : ℕ) (old : ClientsState R F) (before
         journal = g.journal;
         clients = g.clients;
         sees = known_more (IsSeenIn m.machine g.transaction) known more oid x learned g.sees here;
+        may_draw = g.may_draw;
       }
 
-  pub unlearned : (root : ℕ) (op : TreeOperation) (oid : ℕ) (x : Option Seen) (new : ClientsState R F) (after : Option (List Stamp)) → LeadsTo (IsSightOf g.now at oid (Ok x)) new after → MayDraw op numbers → LeadsTo (IsCallOf m at root op (Err refusal.Memory)) new after
-  unlearned root op oid x new after leads drawn =
+  pub unlearned : (oid : ℕ) (x : Option Seen) (new : ClientsState R F) (after : Option (List Stamp)) → LeadsTo (IsSightOf g.now at oid (Ok x)) new after → LeadsTo (IsCallOf m at root op (Err refusal.Memory)) new after
+  unlearned oid x new after leads =
       let sight : (leads.now ≡ g.now) × IsSeenIn g.now.machine g.transaction oid x = at_sight oid (Ok x) leads.now leads.holds in
-      ends_at root op refusal.Memory new after g.now (subst (StandsForMoment new after) sight.0 leads.stands) (by_want numbers drawn g.draws refl)
+      ends_at refusal.Memory new after g.now (subst (StandsForMoment new after) sight.0 leads.stands) (by_want numbers g.may_draw g.draws refl)
 
-  unseen_by : (root : ℕ) (op : TreeOperation) (oid : ℕ) (why : Refusal) (now : Moment) → MayDraw op numbers → IsSightIn g.now (Some g.transaction) oid (Err why) now → IsUncalled m g.client.session g.transaction root op why now
-  unseen_by root op oid why now drawn (inl read) = by_read numbers g.now oid drawn g.draws read.0 read.1
-  unseen_by root op oid why now drawn (inr starved) = by_want numbers drawn (subst (Draws m g.client.session numbers) (sym starved.1) g.draws) starved.0
+  unseen_by : (oid : ℕ) (why : Refusal) (now : Moment) → numbers ≡ [] → IsSightIn g.now (Some g.transaction) oid (Err why) now → IsUncalled m g.client.session g.transaction root op why now
+  unseen_by oid why now none (inl read) = by_read oid (subst (λ (b : Moment). IsReadAt b g.transaction.view oid (Err why) now) (at_start none) read.0) read.1
+  unseen_by oid why now none (inr starved) = by_want numbers g.may_draw (subst (Draws m g.client.session numbers) (sym starved.1) g.draws) starved.0
 
-  pub unseen : (root : ℕ) (op : TreeOperation) (oid : ℕ) (why : Refusal) (new : ClientsState R F) (after : Option (List Stamp)) → LeadsTo (IsSightOf g.now at oid (Err why)) new after → MayDraw op numbers → LeadsTo (IsCallOf m at root op (Err why)) new after
-  unseen root op oid why new after leads drawn = ends_at root op why new after leads.now leads.stands (unseen_by root op oid why leads.now drawn (at_sight oid (Err why) leads.now leads.holds))
+  pub unseen : (oid : ℕ) (why : Refusal) (new : ClientsState R F) (after : Option (List Stamp)) → numbers ≡ [] → LeadsTo (IsSightOf g.now at oid (Err why)) new after → LeadsTo (IsCallOf m at root op (Err why)) new after
+  unseen oid why new after none leads = ends_at why new after leads.now leads.stands (unseen_by oid why leads.now none (at_sight oid (Err why) leads.now leads.holds))
 
   -- ---- one more number
 
   at_draw : (result : Result ℕ Refusal) (now : Moment) → IsDrawOf g.now at result now → IsDrawIn g.now g.client.session result now
   at_draw result now is = subst (λ (c : seen.Client). IsDrawIn g.now c.session result now) (same_client is.0 is.1) is.2
 
-  pub draws_on : (root : ℕ) (op : TreeOperation) (oid : ℕ) (new : ClientsState R F) (after : Option (List Stamp)) → LeadsTo (IsDrawOf g.now at (Ok oid)) new after → AdvancesTo m at root op new after known (numbers ++ oid ∷ []) None
-  draws_on root op oid new after leads =
+  pub draws_on : (oid : ℕ) (new : ClientsState R F) (after : Option (List Stamp)) → NeedsMore m.machine g.transaction root op numbers → LeadsTo (IsDrawOf g.now at (Ok oid)) new after → AdvancesTo m at root op new after known (numbers ++ oid ∷ []) None
+  draws_on oid new after needs leads =
       let drawn : IsDrawn g.now g.client.session oid leads.now = at_draw (Ok oid) leads.now leads.holds in
       let raised : IsRaised g.now.machine leads.now.machine = new_raised drawn.0 g.now g.client.session (reply.Oids oid 1) leads.now drawn.1 in
       record {
@@ -193,15 +209,17 @@ module _ {R F : Type 0} (m : Moment) (at : ℕ) (old : ClientsState R F) (before
         journal = ap (λ (x : Machine). x.journal) raised.is ∙ g.journal;
         clients = drawn.1.clients ∙ g.clients;
         sees = g.sees;
+        may_draw = needed_more m.machine g.transaction root op numbers oid needs;
       }
 
-  pub undrawn_on : (root : ℕ) (op : TreeOperation) (oid : ℕ) (new : ClientsState R F) (after : Option (List Stamp)) → takes_numbers op ≡ true → LeadsTo (IsDrawOf g.now at (Ok oid)) new after → LeadsTo (IsCallOf m at root op (Err refusal.Memory)) new after
-  undrawn_on root op oid new after takes leads =
+  pub undrawn_on : (oid : ℕ) (new : ClientsState R F) (after : Option (List Stamp)) → NeedsMore m.machine g.transaction root op numbers → LeadsTo (IsDrawOf g.now at (Ok oid)) new after → LeadsTo (IsCallOf m at root op (Err refusal.Memory)) new after
+  undrawn_on oid new after needs leads =
       let drawn : IsDrawn g.now g.client.session oid leads.now = at_draw (Ok oid) leads.now leads.holds in
-      ends_at root op refusal.Memory new after leads.now leads.stands (by_want (numbers ++ oid ∷ []) (never_taken op (numbers ++ oid ∷ []) takes) (draws_more m g.client.session numbers oid g.now leads.now g.draws drawn) refl)
+      ends_at refusal.Memory new after leads.now leads.stands
+      (by_want (numbers ++ oid ∷ []) (needed_more m.machine g.transaction root op numbers oid needs) (draws_more m g.client.session numbers oid g.now leads.now g.draws drawn) refl)
 
-  pub undrawn : (root : ℕ) (op : TreeOperation) (why : Refusal) (new : ClientsState R F) (after : Option (List Stamp)) → takes_numbers op ≡ true → LeadsTo (IsDrawOf g.now at (Err why)) new after → LeadsTo (IsCallOf m at root op (Err why)) new after
-  undrawn root op why new after takes leads = ends_at root op why new after leads.now leads.stands (by_draw numbers g.now takes g.draws (at_draw (Err why) leads.now leads.holds))
+  pub undrawn : (why : Refusal) (new : ClientsState R F) (after : Option (List Stamp)) → NeedsMore m.machine g.transaction root op numbers → LeadsTo (IsDrawOf g.now at (Err why)) new after → LeadsTo (IsCallOf m at root op (Err why)) new after
+  undrawn why new after needs leads = ends_at why new after leads.now leads.stands (by_draw numbers g.now needs g.draws (at_draw (Err why) leads.now leads.holds))
 
   -- ---- an attempt
 
@@ -221,12 +239,12 @@ module _ {R F : Type 0} (m : Moment) (at : ℕ) (old : ClientsState R F) (before
       seen_over m.machine g.transaction oid (known_at known oid) (objects_of old.hub.store.list (work_of k) oid) (λ y is. g.sees oid y is)
       (seen_same g.now.machine m.machine g.transaction.view oid _ (objects_of old.hub.store.list (work_of k) oid) (sym g.list) (sym g.journal) over)
 
-  pub made_on : (objects : ℕ → Option Seen) (root : ℕ) (op : TreeOperation) (made : Made) → Sees m.machine g.transaction objects → IsMade objects root op numbers made.answer made.puts → MayDraw op numbers → LeadsTo (IsCallOf m at root op (Ok made)) old before
-  made_on objects root op made sees is may = record {
+  pub made_on : (objects : ℕ → Option Seen) (made : Made) → Sees m.machine g.transaction objects → IsMade objects root op numbers made.answer made.puts × All (λ p. 0 < length p.bytes) made.puts → LeadsTo (IsCallOf m at root op (Ok made)) old before
+  made_on objects made sees is = record {
     now = g.now;
-    holds = (g.client, g.there, g.transaction, g.begun, record { objects = objects; sees = sees; numbers = numbers; draws = g.draws; made = is });
+    holds = (g.client, g.there, g.transaction, g.begun, record { objects = objects; sees = sees; numbers = numbers; draws = g.draws; made = is.0; filled = is.1 });
     stands = g.stands;
   }
 
-  pub refused_on : (objects : ℕ → Option Seen) (root : ℕ) (op : TreeOperation) (why : Refusal) → Sees m.machine g.transaction objects → IsRefused objects root op numbers why → MayDraw op numbers → LeadsTo (IsCallOf m at root op (Err why)) old before
-  refused_on objects root op why sees is may = ends_at root op why old before g.now g.stands (by_tree objects numbers sees g.draws is)
+  pub refused_on : (objects : ℕ → Option Seen) (why : Refusal) → Sees m.machine g.transaction objects → IsRefused objects root op why × (numbers ≡ []) → LeadsTo (IsCallOf m at root op (Err why)) old before
+  refused_on objects why sees is = ends_at why old before g.now g.stands (by_tree objects sees is.0 (at_start is.1))

@@ -1,6 +1,5 @@
 -- What a client's connection reads over the hub.
-use Rattle.std.proofs.Common.{◌≡◌, ℕ, Bool, true, false, List, Option, Some, None, Result, Ok, Err, refl, sym, ap, subst, ◌∙◌, ◌⊎◌, arith, inl, inr}
-use Rattle.std.specs.Prelude.{slice_get, slice_set}
+use Rattle.std.proofs.Common.{◌≡◌, ℕ, true, false, List, Option, Some, None, Result, Ok, Err, refl, sym, ap, subst, ◌∙◌, ◌⊎◌, arith, inl, inr}
 use Rattle.std.specs.Option.{option_map}
 use Rattle.zb_ids.specs.declared.stamp.Stamp.{Stamp}
 use Rattle.zb_model.specs.declared.data.Transaction.{Transaction}
@@ -9,8 +8,6 @@ use Rattle.zb_model.specs.declared.refusal.Refusal.{Refusal}
 use Rattle.zb_model.specs.declared.refusal.Refusal.TheVariants as refusal
 use Rattle.zb_model.specs.Rules.{MergeRules}
 use Rattle.zb_answers.specs.declared.answer.Answer.{Answer}
-use Rattle.zb_answers.specs.declared.answer.Answer.TheVariants as answer
-use Rattle.zb_script.specs.declared.line.Line.{Line}
 use Rattle.zb_script.specs.declared.line.Line.TheVariants as line
 use Rattle.commit_phases.specs.Pending.{pending_of}
 use Rattle.zodb_core.specs.declared.request.Request.TheVariants as request
@@ -20,7 +17,7 @@ use Rattle.zodb_core.specs.Sound.{IsPackWithin}
 use Rattle.connection_view.specs.declared.connection.Connection.{Connection}
 use Rattle.connection_view.specs.declared.loads.Loaded.{Loaded}
 use Rattle.connection_view.specs.declared.work.Work.{Work}
-use Rattle.connection_view.specs.Connections.{Between, InView, IsLoadedBy, IsReadAnswered, IsReadBy, IsUnasked, work_of}
+use Rattle.connection_view.specs.Connections.{Between, InView, IsReadAnswered, IsReadBy, IsUnasked, work_of, waiting_read}
 use Rattle.connection_view.specs.Loading.{Load, LoadsCall, Reads}
 use Rattle.connection_view.specs.ViewLaws.{IsSeenFrom, later_later, seen_from}
 use Rattle.connection_view.specs.Views.{Later, Server, View, view_of}
@@ -35,10 +32,9 @@ use Rattle.client_turns.specs.declared.client.Client.{Client}
 use Rattle.client_turns.specs.Asking.{IsSameBut}
 use Rattle.client_turns.specs.Clients.{Changes, Moment, OpenTransaction, changes_of}
 use Rattle.client_turns.specs.Clients as seen
-use Rattle.client_turns.specs.Lines.{data_of, object_of, object_pending, request_of}
+use Rattle.client_turns.specs.Lines.{data_of, object_of, request_of}
 use Rattle.client_turns.specs.Refusing.{line_refusal}
-use Rattle.client_turns.specs.Reads.{EndsReading}
-use Rattle.client_turns.specs.Standing.{IsClientOf, IsGotAs, IsGotWhere, IsLineOpen, IsOpenAs, IsReadWhere, IsWorkOf, MayTakeAt, OneLeadsTo, StandsForOne, changes_kept}
+use Rattle.client_turns.specs.Standing.{IsClientOf, IsGotAs, IsGotWhere, IsLineOpen, IsOpenAs, IsWorkOf, MayTakeAt, OneLeadsTo}
 use Rattle.client_turns.specs.Steps.{IsReadAt, IsStepAt}
 use Rattle.client_turns.specs.Turns.{IsGet}
 use Rattle.client_turns.specs.Views.{server_of}
@@ -201,9 +197,9 @@ module _ {R F S : Type 0} (told lasts : Type 0) (stands : List ℕ → List Tran
           (λ now read. own_open (rules_of rules_in named_in h) m at c (line.Load oid) reply now o.transaction o.begun (ap (λ (z : Option OpenTransaction). line_refusal (option_map (λ (t : OpenTransaction). t.changes) z) (line.Load oid)) o.begun) (ap (λ (z : Option OpenTransaction). request_of (option_map (λ (t : OpenTransaction). t.changes) z) (line.Load oid)) o.begun) (result, read, answers))
 
   -- what a transaction has of an object
-  pub get_leads : (oid : ℕ) (result : Result (ℕ × List ℕ) Refusal) → ((w : Work) (p : PendingStore) → work_of x.connection ≡ Ok w → pending_of w.pending.stores oid ≡ Some p → ((result ≡ Ok (p.base, p.bytes)) ⊎ (result ≡ Err refusal.Memory)) × (b ≡ a))
+  pub get_leads : (oid : ℕ) (result : Result (ℕ × List ℕ) Refusal) → ((w : Work) (p : PendingStore) → work_of x.connection ≡ Ok w → pending_of w.pending.stores oid ≡ Some p → ((result ≡ waiting_read oid p) ⊎ (result ≡ Err refusal.Memory)) × (b ≡ a))
       → ((w : Work) → work_of x.connection ≡ Ok w → pending_of w.pending.stores oid ≡ None → (u : View) (v : views.Client) → MayStand told h x v → InView x.connection u v → Reads u (local.server_of h) oid result)
-      → ((r : Refusal) → work_of x.connection ≡ Err r → (result ≡ Err r) × (b ≡ a)) → ((w : Work) → work_of x.connection ≡ Ok w → IsReadBy makes a b oid w.front w.switches result)
+      → ((r : Refusal) → work_of x.connection ≡ Err r → (result ≡ Err r) × (b ≡ a)) → ((w : Work) → work_of x.connection ≡ Ok w → pending_of w.pending.stores oid ≡ None → IsReadBy makes a b oid w.front w.switches result)
       → work_of y.connection ≡ work_of x.connection → ((u : View) (v : views.Client) → MayStand told h x v → InView x.connection u v → InView y.connection u v) → ((v : views.Client) → Between x.connection v → Between y.connection v)
       → OneLeadsTo (IsGotWhere m c.transaction oid result) m at h g y after
   get_leads oid result waiting reads refused made work view between = by_work (work_of x.connection) refl
@@ -229,7 +225,7 @@ module _ {R F S : Type 0} (told lasts : Type 0) (stands : List ℕ → List Tran
               let said = waiting w p works is in
               stays _ m at h g x y c before after takes (same_hub said.1) (same_stamps said.1) (kept_same said.1 work (λ u. view u mine.told may) (between mine.told)) (where_is (Some p) is m (said.0, refl))
           by_pending None is =
-              weaken_one (read_one oid result o.transaction.view (read_to oid result w works o (reads w works is o.transaction.view mine.told may o.is.view) (made w works)) work (λ u. view u mine.told may) (between mine.told)) (λ now read. where_is None is now read)
+              weaken_one (read_one oid result o.transaction.view (read_to oid result w works o (reads w works is o.transaction.view mine.told may o.is.view) (made w works is)) work (λ u. view u mine.told may) (between mine.told)) (λ now read. where_is None is now read)
 
 -- ---- what is got is answered
 

@@ -1,8 +1,9 @@
 -- How a call on a tree ends its line.
-use Rattle.std.proofs.Common.{◌≡◌, ◌⊎◌, ℕ, List, [], ◌∷◌, Option, Some, None, Result, Ok, Err, refl, sym, ap, subst, ◌∙◌, inl, inr}
+use Rattle.std.proofs.Common.{◌≡◌, ◌⊎◌, ℕ, List, [], ◌∷◌, ◌++◌, append_assoc, Option, Some, None, Result, Ok, Err, refl, sym, ap, subst, ◌∙◌, inl, inr}
 use Rattle.std.specs.Prelude.{IsSome, slice_get, slice_set}
 use Rattle.std.specs.Option.{option_map}
 use Rattle.zb_ids.specs.declared.stamp.Stamp.{Stamp}
+use Rattle.zb_model.specs.declared.data.Content.TheVariants.{Held}
 use Rattle.zb_model.specs.declared.pending.PendingStore.{PendingStore}
 use Rattle.zb_model.specs.declared.refusal.Refusal.{Refusal}
 use Rattle.zb_model.specs.declared.refusal.Refusal.TheVariants as refusal
@@ -21,6 +22,7 @@ use Rattle.connection_view.specs.Views as views
 use Rattle.local_loads.specs.declared.told.Told.{Told}
 use Rattle.local_loads.specs.Local.{MayBeTold}
 use Rattle.tree_calls.specs.declared.attempt.Made.{Made}
+use Rattle.tree_calls.specs.declared.put.TreePut.{TreePut}
 use Rattle.tree_calls.specs.declared.operation.TreeOperation.{TreeOperation}
 use Rattle.client_turns.specs.declared.client.Client.{Client}
 use Rattle.client_turns.specs.Asking.{IsPutAll, IsPutAs, IsSameBut, answered}
@@ -32,7 +34,7 @@ use Rattle.client_turns.specs.Lines.{request_of, with_changes}
 use Rattle.client_turns.specs.Refusing.{line_refusal}
 use Rattle.client_turns.specs.Standing.{AreClientsOf, ClientsState, IsClientOf, IsLineOpen, IsOpenAs, IsOpenLineOf, IsOwnOf, LeadsTo, MayAskAt, MayReadAt, OrStarved, StandsForMoment}
 use Rattle.client_turns.specs.Steps.{IsChange}
-use Rattle.client_turns.specs.Trees.{CallEnds, IsTreeEnd, IsTreeLine, all_stored, answer_told, operation_of}
+use Rattle.client_turns.specs.Trees.{CallEnds, IsTreeEnd, IsTreeLine, all_stored, answer_told, operation_of, stores_put}
 use Rattle.client_turns.specs.Turns.{IsOwnLine}
 use Rattle.client_turns.proofs.Asked.{none_of, opened_of}
 use Rattle.client_turns.proofs.Changing.{puts_leave}
@@ -45,6 +47,13 @@ pub all_put : (x y : Client) (a : Answer) (puts : List PendingStore) (reply : An
     → LeavesWork (followed_by (changeable (work_of x.connection)) (stored_all puts)) (work_of x.connection) (work_of y.connection) result → reply ≡ answered result a → IsPutAll x y a puts reply
 all_put x y a [] reply result but view some leaves answers = absurd (some refl)
 all_put x y a (p ∷ ps) reply result but view some leaves answers = puts_leave x y a p ps but view reply result leaves answers
+
+-- one more is put
+pub stores_more : (done : List PendingStore) (p : TreePut) (left items puts : List TreePut) → items ≡ p ∷ left → done ++ stores_put items ≡ stores_put puts
+    → (done ++ (record { oid = p.oid; base = p.base; content = Held p.bytes }) ∷ []) ++ stores_put left ≡ stores_put puts
+stores_more done p left items puts is all =
+    let store : PendingStore = record { oid = p.oid; base = p.base; content = Held p.bytes } in
+    append_assoc done (store ∷ []) (stores_put left) ∙ subst (λ (ps : List TreePut). done ++ stores_put ps ≡ stores_put puts) is all
 
 -- ---- lines
 
@@ -86,7 +95,7 @@ same_moment b at c there = ap (λ (cs : List seen.Client). let n : Moment = reco
 
 -- a call that is answered, and what it puts
 pub call_made : {R F : Type 0} (m : Moment) (at root : ℕ) (call : TreeCall) (op : TreeOperation) (made : Made) (told : Answer) (puts : List PendingStore) (reply : Answer) (mid new : ClientsState R F) (between : Option (List Stamp))
-    → op ≡ operation_of call → told ≡ answer_told made.answer → puts ≡ made.puts → LeadsTo (IsCallOf m at root op (Ok made)) mid between
+    → op ≡ operation_of call → told ≡ answer_told made.answer → puts ≡ stores_put made.puts → LeadsTo (IsCallOf m at root op (Ok made)) mid between
     → ((x : Client) → slice_get mid.clients at ≡ Some x → (y : Client) × (new.clients ≡ slice_set mid.clients at y) × IsPutAll x y told puts reply) → new.hub ≡ mid.hub → LeadsTo (OrStarved (IsOwnOf m at (line.Tree root call)) m reply) new between
 call_made {R} {F} m at root call op made told puts reply mid new between is tells same leads changed hub =
     by_put y.0 (y.2 k.is.told t (subst (IsOpenAs k.kept.connection k.is.told (work_of k.kept.connection)) leads.holds.3 k.is.transaction)) y.1
@@ -125,7 +134,7 @@ call_made {R} {F} m at root call op made told puts reply mid new between is tell
             → LeadsTo (OrStarved (IsOwnOf m at (line.Tree root call)) m reply) new between
         by_either (inl so) =
             let d : seen.Client = with_changes c t (all_stored t.changes told puts).changes in
-            let change : IsChange b at c t (all_stored t.changes (answer_told made.answer) made.puts) reply (with_client b at d) =
+            let change : IsChange b at c t (all_stored t.changes (answer_told made.answer) (stores_put made.puts)) reply (with_client b at d) =
             subst (λ (ps : List PendingStore). IsChange b at c t (all_stored t.changes (answer_told made.answer) ps) reply (with_client b at d)) same
             (subst (λ (z : Answer). IsChange b at c t (all_stored t.changes z puts) reply (with_client b at d)) tells (so.0, refl)) in
             record {
@@ -139,6 +148,19 @@ call_made {R} {F} m at root call op made told puts reply mid new between is tell
               holds = inl (c, leads.holds.1, line_at m b (with_client b at c) at root call c t op (Ok made) reply leads.holds.3 is leads.holds.4 (inr (starved.0, same_moment b at c there)));
               stands = with_one b at c z mid new between leads.stands hub clients (client z c (Some t) put.same refl refl leads.holds.3 starved.1);
             }
+
+-- there was no memory for what it puts
+pub call_starved : {R F : Type 0} (m : Moment) (at root : ℕ) (call : TreeCall) (op : TreeOperation) (made : Made) (mid : ClientsState R F) (between : Option (List Stamp)) → op ≡ operation_of call
+    → LeadsTo (IsCallOf m at root op (Ok made)) mid between → LeadsTo (OrStarved (IsOwnOf m at (line.Tree root call)) m (answer.Refused refusal.Memory)) mid between
+call_starved m at root call op made mid between is leads = record {
+  now = leads.now;
+  holds = inl (
+    leads.holds.0,
+    leads.holds.1,
+    line_at m leads.now leads.now at root call leads.holds.0 leads.holds.2 op (Ok made) (answer.Refused refusal.Memory) leads.holds.3 is leads.holds.4 (inr (refl, refl)),
+  );
+  stands = leads.stands;
+}
 
 -- there was no memory to begin with
 pub line_starved : {R F : Type 0} (m : Moment) (at : ℕ) (l : Line) (old : ClientsState R F) (before : Option (List Stamp)) → StandsForMoment old before m → LeadsTo (OrStarved (IsOwnOf m at l) m (answer.Refused refusal.Memory)) old before

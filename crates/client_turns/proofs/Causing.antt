@@ -4,6 +4,8 @@ use Rattle.std.specs.Option.{option_map, option_or}
 use Rattle.std.specs.Prelude.{slice_get}
 use Rattle.std.proofs.lemmas.Bool.{ltb-false}
 use Rattle.zb_base.specs.Counts.{Rose, rose_before}
+use Rattle.zb_model.specs.declared.data.Content.TheVariants.{Held, Absent}
+use Rattle.zb_model.specs.declared.data.Content.{Content}
 use Rattle.zb_model.specs.declared.pending.PendingStore.{PendingStore}
 use Rattle.zb_model.specs.declared.refusal.Refusal.{Refusal}
 use Rattle.zb_model.specs.declared.refusal.Refusal.TheVariants as refusal
@@ -22,14 +24,15 @@ use Rattle.zodb_core.specs.declared.request.Request.{Request}
 use Rattle.zodb_core.specs.Machine.{Machine, Rules, is_open_in, with_session}
 use Rattle.zodb_core.specs.Outcomes.{Answered, EndsFor, FaultCounts, NoMemory, ReadingFailed, StepOutcome, StoreFailed, outcome_of}
 use Rattle.zodb_core.specs.Steps.{Stepped, refuse_if}
+use Rattle.connection_view.specs.Connections.{waiting_as}
 use Rattle.client_turns.specs.declared.errors.TurnError.TheVariants as turn_error
 use Rattle.client_turns.specs.Clients.{Client, Moment, OpenTransaction, changes_of, place_of_client}
-use Rattle.client_turns.specs.Laws.{HasOpen, IsNamed, IsRefusedFor, RefusalsHaveTheirCause, WouldPut, by_call, by_connection, by_length, by_lengths, by_number, by_reading, by_savepoint, by_step, by_view, by_vote, crowded, unnamed}
-use Rattle.client_turns.specs.DrawLaws.{draws_drawn, new_reply}
+use Rattle.client_turns.specs.Laws.{HasOpen, IsNamed, IsRefusedFor, RefusalsHaveTheirCause, WouldPut, by_call, by_connection, by_delete, by_length, by_lengths, by_number, by_reading, by_savepoint, by_step, by_view, by_vote, crowded, unnamed}
+use Rattle.client_turns.specs.DrawLaws.{new_reply}
 use Rattle.client_turns.specs.Lines.{Changed, answer_of, data_of, end_in, is_committed, object_of, put, request_of, rolled_to, store_unless}
 use Rattle.client_turns.specs.Reads.{EndsReading}
 use Rattle.client_turns.specs.Refusing.{connection_refusal, line_refusal, opens_session}
-use Rattle.client_turns.specs.Trees.{CallEnds, IsTreeEnd, IsTreeLine, IsUncalled, all_stored, answer_told, by_draw, by_read, by_tree, by_want, is_missing, operation_of, puts_stored}
+use Rattle.client_turns.specs.Trees.{CallEnds, IsTreeEnd, IsTreeLine, IsUncalled, all_stored, answer_told, by_draw, by_read, by_tree, by_want, is_missing, operation_of, puts_stored, stores_put}
 use Rattle.connection_view.specs.Views.{View}
 use Rattle.client_turns.specs.Turns.{IsClosed, IsClosing, IsGet, IsLine, IsLineOf, IsLineTaken, IsLineUnless, IsOpening, IsOwnLine, IsPut, IsStepLine, IsTold, IsWithin, Opening}
 use Rattle.client_turns.proofs.Data.{asks_no_load, is_loaded, step_unread}
@@ -163,9 +166,10 @@ later_refused rules m t why x y up (crowded many is) = crowded many is
 later_refused rules m t why x y up (by_connection c named is) = by_connection c named is
 later_refused rules m t why x y up (by_step c q stamp named asks is) = by_step c q stamp named asks is
 later_refused rules m t why x y up (by_view o oid has is) = by_view o oid has is
+later_refused rules m t why x y up (by_delete o oid p has said waits absent is) = by_delete o oid p has said waits absent is
 later_refused rules m t why x y up (by_length o p n has excess is) = by_length o p n has excess is
-later_refused rules m t why x y up (by_call o objects root call numbers has said sees is) = by_call o objects root call numbers has said sees is
-later_refused rules m t why x y up (by_number c root call rules' b stamp named said takes raised is) = by_number c root call rules' b stamp named said takes raised is
+later_refused rules m t why x y up (by_call o objects root call has said sees is) = by_call o objects root call has said sees is
+later_refused rules m t why x y up (by_number c o root call numbers behind rules' stamp named has said lacks draws is) = by_number c o root call numbers behind rules' stamp named has said lacks draws is
 later_refused rules m t why x y up (by_vote o root call p puts has said made voted is) = by_vote o root call p puts has said made voted is
 later_refused rules m t why x y up (by_lengths o root call puts n has said made long is) = by_lengths o root call puts n has said made long is
 later_refused rules m t why x y up (by_savepoint o number has said none is) = by_savepoint o number has said none is
@@ -294,12 +298,16 @@ object_refused : (rules : Rules) (m now : Moment) (t : Turn) (o : OpenTransactio
 object_refused rules m now t o oid why (Ok got) has ends whole is = absurd cc
 object_refused rules m now t o oid why (Err w) has ends whole is = refused_same rules m t why w now is (read_refused rules m now t o oid w has ends) whole
 
-get_refused : (rules : Rules) (m now : Moment) (t : Turn) (o : OpenTransaction) (oid : ℕ) (why : Refusal) (p : Option PendingStore) → HasOpen m t.client o → end_in why ≡ None → IsGet m o.view oid p (answer.Refused why) now → IsRefusedFor rules m t why now
-get_refused rules m now t o oid why None has whole is = object_refused rules m now t o oid why is.0 has is.1.ends whole is.2
-get_refused rules m now t o oid why (Some p) has whole is = pending_not is.0
-  where
-    pending_not : answer.Refused why ≡ answer.Object p.base p.bytes → IsRefusedFor rules m t why now
-    pending_not e = absurd cc
+-- of what waits for an object only a delete is refused
+waiting_refused : (rules : Rules) (m now : Moment) (t : Turn) (o : OpenTransaction) (oid : ℕ) (why : Refusal) (p : PendingStore) (content : Content) → HasOpen m t.client o → t.line ≡ line.Get oid → pending_of o.changes.pending.stores oid ≡ Some p → p.content ≡ content
+    → answer.Refused why ≡ object_of (waiting_as oid p.base content) → IsRefusedFor rules m t why now
+waiting_refused rules m now t o oid why p (Held bytes) has said waits is refused = absurd cc
+waiting_refused rules m now t o oid why p Absent has said waits is refused = by_delete o oid p has said waits is (same_refusal why (refusal.Missing oid false) refused)
+
+get_refused : (rules : Rules) (m now : Moment) (t : Turn) (o : OpenTransaction) (oid : ℕ) (why : Refusal) (p : Option PendingStore) → HasOpen m t.client o → t.line ≡ line.Get oid → pending_of o.changes.pending.stores oid ≡ p → end_in why ≡ None → IsGet m o.view oid p (answer.Refused why) now
+    → IsRefusedFor rules m t why now
+get_refused rules m now t o oid why None has said waits whole is = object_refused rules m now t o oid why is.0 has is.1.ends whole is.2
+get_refused rules m now t o oid why (Some p) has said waits whole is = waiting_refused rules m now t o oid why p p.content has said waits refl is.0
 
 store_refused : (rules : Rules) (m now : Moment) (t : Turn) (o : OpenTransaction) (p : PendingStore) (why : Refusal) (e : Option ℕ) → HasOpen m t.client o → excess_with o.changes.pending.stores p ≡ e
     → answer.Refused why ≡ (store_unless o.changes p e).answer → IsRefusedFor rules m t why now
@@ -309,7 +317,7 @@ store_refused rules m now t o p why (Some n) has excess is = by_length o p n has
 put_refused : (rules : Rules) (m now : Moment) (t : Turn) (o : OpenTransaction) (oid : ℕ) (bytes : List ℕ) (why : Refusal) (read : Result (ℕ × List ℕ) Refusal) → HasOpen m t.client o → EndsReading m.machine o.view oid m.counts now.counts read → end_in why ≡ None
     → answer.Refused why ≡ (put o.changes oid bytes read).answer → IsRefusedFor rules m t why now
 put_refused rules m now t o oid bytes why (Ok got) has ends whole is =
-    store_refused rules m now t o (record { oid = oid; base = got.0; bytes = bytes }) why (excess_with o.changes.pending.stores (record { oid = oid; base = got.0; bytes = bytes })) has refl is
+    store_refused rules m now t o (record { oid = oid; base = got.0; content = Held bytes }) why (excess_with o.changes.pending.stores (record { oid = oid; base = got.0; content = Held bytes })) has refl is
 put_refused rules m now t o oid bytes why (Err refusal.TidsSpent) has ends whole is = refused_same rules m t why refusal.TidsSpent now is (read_refused rules m now t o oid refusal.TidsSpent has ends) whole
 put_refused rules m now t o oid bytes why (Err refusal.StoreFault) has ends whole is = refused_same rules m t why refusal.StoreFault now is (read_refused rules m now t o oid refusal.StoreFault has ends) whole
 put_refused rules m now t o oid bytes why (Err (refusal.Conflict a0 a1 a2 a3)) has ends whole is = refused_same rules m t why (refusal.Conflict a0 a1 a2 a3) now is (read_refused rules m now t o oid (refusal.Conflict a0 a1 a2 a3) has ends) whole
@@ -322,7 +330,7 @@ put_refused rules m now t o oid bytes why (Err (refusal.Overtaken a0 a1)) has en
 put_refused rules m now t o oid bytes why (Err (refusal.Unreadable a0 a1)) has ends whole is = refused_same rules m t why (refusal.Unreadable a0 a1) now is (read_refused rules m now t o oid (refusal.Unreadable a0 a1) has ends) whole
 put_refused rules m now t o oid bytes why (Err (refusal.PackedAlready a0)) has ends whole is = refused_same rules m t why (refusal.PackedAlready a0) now is (read_refused rules m now t o oid (refusal.PackedAlready a0) has ends) whole
 put_refused rules m now t o oid bytes why (Err (refusal.Missing a0 false)) has ends whole is =
-    store_refused rules m now t o (record { oid = oid; base = 0; bytes = bytes }) why (excess_with o.changes.pending.stores (record { oid = oid; base = 0; bytes = bytes })) has refl is
+    store_refused rules m now t o (record { oid = oid; base = 0; content = Held bytes }) why (excess_with o.changes.pending.stores (record { oid = oid; base = 0; content = Held bytes })) has refl is
 put_refused rules m now t o oid bytes why (Err (refusal.Missing a0 true)) has ends whole is = refused_same rules m t why (refusal.Missing a0 true) now is (read_refused rules m now t o oid (refusal.Missing a0 true) has ends) whole
 put_refused rules m now t o oid bytes why (Err refusal.NoTransaction) has ends whole is = refused_same rules m t why refusal.NoTransaction now is (read_refused rules m now t o oid refusal.NoTransaction has ends) whole
 put_refused rules m now t o oid bytes why (Err refusal.InTransaction) has ends whole is = refused_same rules m t why refusal.InTransaction now is (read_refused rules m now t o oid refusal.InTransaction has ends) whole
@@ -353,7 +361,7 @@ put_refused rules m now t o oid bytes why (Err refusal.Memory) has ends whole is
 putting_refused : (rules : Rules) (m now : Moment) (t : Turn) (at : ℕ) (c : Client) (o : OpenTransaction) (oid : ℕ) (bytes : List ℕ) (why : Refusal) (p : Option PendingStore) → HasOpen m t.client o → end_in why ≡ None
     → IsPut m at c o oid bytes p (answer.Refused why) now → IsRefusedFor rules m t why now
 putting_refused rules m now t at c o oid bytes why (Some p) has whole is =
-    store_refused rules m now t o (record { oid = oid; base = p.base; bytes = bytes }) why (excess_with o.changes.pending.stores (record { oid = oid; base = p.base; bytes = bytes })) has refl is.0
+    store_refused rules m now t o (record { oid = oid; base = p.base; content = Held bytes }) why (excess_with o.changes.pending.stores (record { oid = oid; base = p.base; content = Held bytes })) has refl is.0
 putting_refused rules m now t at c o oid bytes why None has whole is =
     later_refused rules m t why is.1 now (omega (arith, ap (λ (x : Moment). x.counts.reads) is.3.1)) (put_refused rules m is.1 t o oid bytes why is.0 has is.2.ends whole is.3.0)
 
@@ -411,12 +419,12 @@ memory_goes_on why is whole = no_end (sym (ap end_in is) ∙ whole)
 -- why a call on a tree isn't answered
 uncalled_refused : (rules : Rules) (m now : Moment) (t : Turn) (c : Client) (o : OpenTransaction) (root : ℕ) (call : TreeCall) (why : Refusal) → t.line ≡ line.Tree root call → IsNamed m t.client c → HasOpen m t.client o → end_in why ≡ None
     → IsUncalled m c.session o root (operation_of call) why now → IsRefusedFor rules m t why now
-uncalled_refused rules m now t c o root call why said named has whole (by_tree objects numbers sees draws refused) = by_call o objects root call numbers has said sees refused
-uncalled_refused rules m now t c o root call why said named has whole (by_read numbers behind oid may draws read found) =
-    let failed : (why ≡ refusal.ReadFault) × Rose behind.counts.reads now.counts.reads = reading_failed behind.machine o.view oid behind.counts now.counts why found read.ends whole in
-    by_reading failed.0 (subst (λ (k : FaultCounts). Rose k.reads now.counts.reads) (draws_drawn m c.session numbers behind draws).counts failed.1)
-uncalled_refused rules m now t c o root call why said named has whole (by_draw numbers behind takes draws (rules', step)) =
-    by_number c root call rules' behind.machine step.stamp named said takes (draws_drawn m c.session numbers behind draws).machine (new_reply rules' behind c.session (reply.Refused why) now step)
+uncalled_refused rules m now t c o root call why said named has whole (by_tree objects sees refused same) = by_call o objects root call has said sees refused
+uncalled_refused rules m now t c o root call why said named has whole (by_read oid read found) =
+    let failed : (why ≡ refusal.ReadFault) × Rose m.counts.reads now.counts.reads = reading_failed m.machine o.view oid m.counts now.counts why found read.ends whole in
+    by_reading failed.0 failed.1
+uncalled_refused rules m now t c o root call why said named has whole (by_draw numbers behind lacks draws (rules', step)) =
+    by_number c o root call numbers behind rules' step.stamp named has said lacks draws (new_reply rules' behind c.session (reply.Refused why) now step)
 uncalled_refused rules m now t c o root call why said named has whole (by_want numbers may draws is) = absurd (memory_goes_on why is whole)
 
 told_no_refusal : (X : Type 0) (why : Refusal) (x : TreeAnswer) → answer.Refused why ≡ answer_told x → X
@@ -447,7 +455,7 @@ tree_refused : (rules : Rules) (m now : Moment) (t : Turn) (at : ℕ) (c : Clien
 tree_refused rules m now t at c o root call why said named has whole is = by_end is.result is.ends is.end
   where
     by_end : (result : Result Made Refusal) → CallEnds m c.session o root (operation_of call) result is.behind → IsTreeEnd is.behind at c o result (answer.Refused why) now → IsRefusedFor rules m t why now
-    by_end (Ok made) ends (inl change) = puts_refused rules m now t o root call made.answer made.puts why has said (ends.objects, ends.numbers, made.answer, ends.sees, ends.made) change.0
+    by_end (Ok made) ends (inl change) = puts_refused rules m now t o root call made.answer (stores_put made.puts) why has said (ends.objects, ends.numbers, made.answer, made.puts, refl, ends.sees, ends.made) change.0
     by_end (Ok made) ends (inr starved) = absurd (memory_goes_on why (same_refusal why refusal.Memory starved.0) whole)
     by_end (Err w) ends end =
         subst (IsRefusedFor rules m t why) (sym end.1)
@@ -456,14 +464,18 @@ tree_refused rules m now t at c o root call why said named has whole is = by_end
 within_refused : (rules : Rules) (m now : Moment) (t : Turn) (at : ℕ) (c : Client) (o : OpenTransaction) (l : Line) (why : Refusal) → t.line ≡ l → IsNamed m t.client c → HasOpen m t.client o → end_in why ≡ None → opens_session l ≡ false → request_of (Some o.changes) l ≡ None
     → IsWithin m at c o l (answer.Refused why) now → IsRefusedFor rules m t why now
 within_refused rules m now t at c o (line.Load oid) why said named has whole opens asks is = data_refused rules m now t o oid why is.0 has is.1.ends whole is.2
-within_refused rules m now t at c o (line.Get oid) why said named has whole opens asks is = get_refused rules m now t o oid why (pending_of o.changes.pending.stores oid) has whole is
+within_refused rules m now t at c o (line.Get oid) why said named has whole opens asks is = get_refused rules m now t o oid why (pending_of o.changes.pending.stores oid) has said refl whole is
 within_refused rules m now t at c o (line.Store oid base bytes) why said named has whole opens asks is =
-    store_refused rules m now t o (record { oid = oid; base = base; bytes = bytes }) why (excess_with o.changes.pending.stores (record { oid = oid; base = base; bytes = bytes })) has refl is.0
+    store_refused rules m now t o (record { oid = oid; base = base; content = Held bytes }) why (excess_with o.changes.pending.stores (record { oid = oid; base = base; content = Held bytes })) has refl is.0
 within_refused rules m now t at c o (line.Put oid bytes) why said named has whole opens asks is = putting_refused rules m now t at c o oid bytes why (pending_of o.changes.pending.stores oid) has whole is
 within_refused rules m now t at c o (line.Check oid serial) why said named has whole opens asks is = checked_not is.0
   where
     checked_not : answer.Refused why ≡ answer.Checked → IsRefusedFor rules m t why now
     checked_not e = absurd cc
+within_refused rules m now t at c o (line.Delete oid base) why said named has whole opens asks is = deleted_not is.0
+  where
+    deleted_not : answer.Refused why ≡ answer.Deleted → IsRefusedFor rules m t why now
+    deleted_not e = absurd cc
 within_refused rules m now t at c o line.Savepoint why said named has whole opens asks is = saved_not is.0
   where
     saved_not : answer.Refused why ≡ answer.Savepoint (length o.changes.savepoints) → IsRefusedFor rules m t why now
@@ -479,7 +491,9 @@ within_refused rules m now t at c o line.Finish why said named has whole opens a
 within_refused rules m now t at c o line.Abort why said named has whole opens asks is = absurd cc
 within_refused rules m now t at c o (line.History oid) why said named has whole opens asks is = absurd cc
 within_refused rules m now t at c o line.UndoLog why said named has whole opens asks is = absurd cc
-within_refused rules m now t at c o (line.Pack tid) why said named has whole opens asks is = absurd cc
+within_refused rules m now t at c o (line.Pack tid collect) why said named has whole opens asks is = absurd cc
+within_refused rules m now t at c o (line.PackBegin tid collect) why said named has whole opens asks is = absurd cc
+within_refused rules m now t at c o line.PackTurn why said named has whole opens asks is = absurd cc
 within_refused rules m now t at c o line.Close why said named has whole opens asks is = absurd cc
 
 -- without a transaction the connection refuses it
@@ -497,10 +511,12 @@ closed_not X false (line.Store oid base bytes) opens asks passes = absurd cc
 closed_not X true (line.Put oid bytes) opens asks passes = absurd cc
 closed_not X false (line.Put oid bytes) opens asks passes = absurd cc
 closed_not X true (line.Check oid serial) opens asks passes = absurd cc
+closed_not X true (line.Delete oid base) opens asks passes = absurd cc
 closed_not X true line.Savepoint opens asks passes = absurd cc
 closed_not X true (line.Rollback number) opens asks passes = absurd cc
 closed_not X true (line.Tree root call) opens asks passes = absurd cc
 closed_not X false (line.Check oid serial) opens asks passes = absurd cc
+closed_not X false (line.Delete oid base) opens asks passes = absurd cc
 closed_not X false line.Savepoint opens asks passes = absurd cc
 closed_not X false (line.Rollback number) opens asks passes = absurd cc
 closed_not X false (line.Tree root call) opens asks passes = absurd cc
@@ -517,9 +533,13 @@ closed_not X false line.Abort opens asks passes = absurd cc
 closed_not X true (line.History oid) opens asks passes = absurd cc
 closed_not X false (line.History oid) opens asks passes = absurd cc
 closed_not X true line.UndoLog opens asks passes = absurd cc
-closed_not X true (line.Pack tid) opens asks passes = absurd cc
+closed_not X true (line.Pack tid collect) opens asks passes = absurd cc
+closed_not X true (line.PackBegin tid collect) opens asks passes = absurd cc
+closed_not X true line.PackTurn opens asks passes = absurd cc
 closed_not X false line.UndoLog opens asks passes = absurd cc
-closed_not X false (line.Pack tid) opens asks passes = absurd cc
+closed_not X false (line.Pack tid collect) opens asks passes = absurd cc
+closed_not X false (line.PackBegin tid collect) opens asks passes = absurd cc
+closed_not X false line.PackTurn opens asks passes = absurd cc
 closed_not X true line.Close opens asks passes = absurd cc
 closed_not X false line.Close opens asks passes = absurd cc
 
@@ -571,6 +591,7 @@ line_refused rules m now t (line.Get oid) why said whole is = named_refused rule
 line_refused rules m now t (line.Store oid base bytes) why said whole is = named_refused rules m now t (line.Store oid base bytes) why said refl whole is
 line_refused rules m now t (line.Put oid bytes) why said whole is = named_refused rules m now t (line.Put oid bytes) why said refl whole is
 line_refused rules m now t (line.Check oid serial) why said whole is = named_refused rules m now t (line.Check oid serial) why said refl whole is
+line_refused rules m now t (line.Delete oid base) why said whole is = named_refused rules m now t (line.Delete oid base) why said refl whole is
 line_refused rules m now t line.Savepoint why said whole is = named_refused rules m now t line.Savepoint why said refl whole is
 line_refused rules m now t (line.Rollback number) why said whole is = named_refused rules m now t (line.Rollback number) why said refl whole is
 line_refused rules m now t (line.Tree root call) why said whole is = named_refused rules m now t (line.Tree root call) why said refl whole is
@@ -581,7 +602,9 @@ line_refused rules m now t line.Finish why said whole is = named_refused rules m
 line_refused rules m now t line.Abort why said whole is = named_refused rules m now t line.Abort why said refl whole is
 line_refused rules m now t (line.History oid) why said whole is = named_refused rules m now t (line.History oid) why said refl whole is
 line_refused rules m now t line.UndoLog why said whole is = named_refused rules m now t line.UndoLog why said refl whole is
-line_refused rules m now t (line.Pack tid) why said whole is = named_refused rules m now t (line.Pack tid) why said refl whole is
+line_refused rules m now t (line.Pack tid collect) why said whole is = named_refused rules m now t (line.Pack tid collect) why said refl whole is
+line_refused rules m now t (line.PackBegin tid collect) why said whole is = named_refused rules m now t (line.PackBegin tid collect) why said refl whole is
+line_refused rules m now t line.PackTurn why said whole is = named_refused rules m now t line.PackTurn why said refl whole is
 line_refused rules m now t line.Close why said whole is = named_refused rules m now t line.Close why said refl whole is
 
 closed_later : (rules : Rules) (m now : Moment) (at : Option ℕ) → IsClosed rules m at now → m.counts.reads ≤ now.counts.reads

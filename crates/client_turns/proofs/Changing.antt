@@ -1,26 +1,24 @@
 -- What lines change that waits in a client's transaction.
-use Rattle.std.proofs.Common.{◌≡◌, ◌⊎◌, ℕ, ◌+◌, Bool, true, false, List, [], ◌∷◌, ◌++◌, length, take, Option, Some, None, Result, Ok, Err, if◌then◌else◌, refl, sym, ap, subst, ◌∙◌, inl, inr}
+use Rattle.std.proofs.Common.{◌≡◌, ◌⊎◌, ℕ, Bool, true, false, List, ◌∷◌, Option, Some, None, Result, Ok, Err, if◌then◌else◌, refl, sym, ap, subst, ◌∙◌, inl, inr}
 use Rattle.std.specs.Prelude.{IsOk, slice_get}
 use Rattle.std.specs.Option.{option_map}
 use Rattle.zb_ids.specs.declared.stamp.Stamp.{Stamp}
-use Rattle.zb_model.specs.declared.data.Transaction.{Transaction}
+use Rattle.zb_model.specs.declared.data.Content.TheVariants.{Held}
 use Rattle.zb_model.specs.declared.pending.PendingCheck.{PendingCheck}
 use Rattle.zb_model.specs.declared.pending.PendingStore.{PendingStore}
 use Rattle.zb_model.specs.declared.refusal.Refusal.{Refusal}
 use Rattle.zb_model.specs.declared.refusal.Refusal.TheVariants as refusal
-use Rattle.zb_model.specs.Rules.{MergeRules}
 use Rattle.zb_answers.specs.declared.answer.Answer.{Answer}
 use Rattle.zb_answers.specs.declared.answer.Answer.TheVariants as answer
 use Rattle.zb_script.specs.declared.line.Line.{Line}
 use Rattle.zb_script.specs.declared.line.Line.TheVariants as line
-use Rattle.commit_phases.specs.Pending.{PendingChanges, excess_with, pending_of, stores_after, with_pending}
-use Rattle.zodb_core.specs.declared.request.Request.{Request}
-use Rattle.zodb_core.specs.HubState.{HubState, rules_of}
+use Rattle.commit_phases.specs.Pending.{PendingChanges, excess_with, stores_after}
+use Rattle.zodb_core.specs.HubState.{HubState}
 use Rattle.zodb_core.specs.Machine.{Rules}
 use Rattle.zodb_core.specs.Steps.{refuse_if}
 use Rattle.connection_view.specs.declared.connection.Connection.{Connection}
 use Rattle.connection_view.specs.declared.work.Work.{Work}
-use Rattle.connection_view.specs.Connections.{Between, InView, LeavesWork, base_read, changeable, checked_in_work, followed_by, rolled_back_to, rolled_back, saved, stored_all, stored_all_as, stored_in_work, stored_unless, unvoted_work, work_of}
+use Rattle.connection_view.specs.Connections.{Between, InView, LeavesWork, base_read, changeable, checked_in_work, deleted_in_work, followed_by, rolled_back_to, rolled_back, saved, stored_all, stored_all_as, stored_in_work, stored_unless, work_of}
 use Rattle.connection_view.specs.Views.{View}
 use Rattle.connection_view.specs.Views as views
 use Rattle.local_loads.specs.Local.{MayBeTold}
@@ -51,6 +49,9 @@ stored_so w p (Some n) = (refl, refl)
 
 pub stored_agrees : (p : PendingStore) (w : Work) → AgreesAs w (stored_in_work p w) (lines.stored (changes_kept w) p)
 stored_agrees p w = stored_so w p (excess_with w.pending.stores p)
+
+pub deleted_agrees : (oid base : ℕ) (w : Work) → AgreesAs w (deleted_in_work oid base w) (lines.deleted (changes_kept w) oid base)
+deleted_agrees oid base w = refl
 
 pub checked_agrees : (k : PendingCheck) (w : Work) → AgreesAs w (checked_in_work k w) (lines.checked (changes_kept w) k)
 checked_agrees k w = refl
@@ -198,8 +199,11 @@ module _ {R F : Type 0} (rules : Rules) (m : Moment) (at : ℕ) (x y : Client) (
 
 -- ---- the lines
 
-pub store_changes : (oid base : ℕ) (bytes : List ℕ) → IsChanging (line.Store oid base bytes) (λ t. lines.stored t (record { oid = oid; base = base; bytes = bytes }))
+pub store_changes : (oid base : ℕ) (bytes : List ℕ) → IsChanging (line.Store oid base bytes) (λ t. lines.stored t (record { oid = oid; base = base; content = Held bytes }))
 store_changes oid base bytes = record { unvoted = record { closed = refl; voted = λ t. refl; asks = λ t. refl }; within = λ m at c t a now change. change }
+
+pub delete_changes : (oid base : ℕ) → IsChanging (line.Delete oid base) (λ t. lines.deleted t oid base)
+delete_changes oid base = record { unvoted = record { closed = refl; voted = λ t. refl; asks = λ t. refl }; within = λ m at c t a now change. change }
 
 pub check_changes : (oid serial : ℕ) → IsChanging (line.Check oid serial) (λ t. lines.checked t (record { oid = oid; serial = serial }))
 check_changes oid serial = record { unvoted = record { closed = refl; voted = λ t. refl; asks = λ t. refl }; within = λ m at c t a now change. change }
@@ -226,15 +230,15 @@ rolled_done number w v ok = sym (roll_done (changes_kept w) number w v (slice_ge
 
 -- ---- a put, by what is read
 
-pub put_agrees : (oid : ℕ) (bytes : List ℕ) (read : Result (ℕ × List ℕ) Refusal) (w : Work) → AgreesAs w (followed_by (base_read read) (λ base. stored_in_work (record { oid = oid; base = base; bytes = bytes }) w)) (lines.put (changes_kept w) oid bytes read)
-put_agrees oid bytes (Ok d) w = stored_agrees (record { oid = oid; base = d.0; bytes = bytes }) w
-put_agrees oid bytes (Err (refusal.Missing o false)) w = stored_agrees (record { oid = oid; base = 0; bytes = bytes }) w
+pub put_agrees : (oid : ℕ) (bytes : List ℕ) (read : Result (ℕ × List ℕ) Refusal) (w : Work) → AgreesAs w (followed_by (base_read read) (λ base. stored_in_work (record { oid = oid; base = base; content = Held bytes }) w)) (lines.put (changes_kept w) oid bytes read)
+put_agrees oid bytes (Ok d) w = stored_agrees (record { oid = oid; base = d.0; content = Held bytes }) w
+put_agrees oid bytes (Err (refusal.Missing o false)) w = stored_agrees (record { oid = oid; base = 0; content = Held bytes }) w
 put_agrees oid bytes (Err (refusal.Missing o true)) w = (refl, refl)
 put_agrees oid bytes (Err _) w = (refl, refl)
 
-pub put_done : (oid : ℕ) (bytes : List ℕ) (read : Result (ℕ × List ℕ) Refusal) (w v : Work) → followed_by (base_read read) (λ base. stored_in_work (record { oid = oid; base = base; bytes = bytes }) w) ≡ Ok v → answer.Stored ≡ (lines.put (changes_kept w) oid bytes read).answer
-put_done oid bytes (Ok d) w v ok = stored_done (record { oid = oid; base = d.0; bytes = bytes }) w v ok
-put_done oid bytes (Err (refusal.Missing o false)) w v ok = stored_done (record { oid = oid; base = 0; bytes = bytes }) w v ok
+pub put_done : (oid : ℕ) (bytes : List ℕ) (read : Result (ℕ × List ℕ) Refusal) (w v : Work) → followed_by (base_read read) (λ base. stored_in_work (record { oid = oid; base = base; content = Held bytes }) w) ≡ Ok v → answer.Stored ≡ (lines.put (changes_kept w) oid bytes read).answer
+put_done oid bytes (Ok d) w v ok = stored_done (record { oid = oid; base = d.0; content = Held bytes }) w v ok
+put_done oid bytes (Err (refusal.Missing o false)) w v ok = stored_done (record { oid = oid; base = 0; content = Held bytes }) w v ok
 put_done oid bytes (Err (refusal.Missing o true)) w v ok = absurd cc
 put_done oid bytes (Err _) w v ok = absurd cc
 

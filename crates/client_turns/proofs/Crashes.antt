@@ -126,7 +126,8 @@ committed_whole (reply.Refused why) is = absurd cc
 -- a list that only was as it was may be seen in each line
 line_kept : (stands : List ℕ → List Transaction → Type 0) (rules : Rules) (m : Machine) (l : Line) (bytes : List ℕ) → stands bytes m.list → IsListIn stands rules m l bytes
 line_kept stands rules m line.Finish bytes left = inl left
-line_kept stands rules m (line.Pack tid) bytes left = inl left
+line_kept stands rules m (line.Pack tid collect) bytes left = inl left
+line_kept stands rules m line.PackTurn bytes left = inl left
 line_kept stands rules m _ bytes left = left
 
 pub in_kept : (stands : List ℕ → List Transaction → Type 0) (rules : Rules) (m : Machine) (l : Line) (old new : List Event) → LeavesOnly Main (λ bytes. stands bytes m.list) old new → LeavesOnly Main (IsListIn stands rules m l) old new
@@ -144,6 +145,7 @@ line_of_step stands rules m ch (line.Get oid) q bytes asks left = absurd cc
 line_of_step stands rules m ch (line.Store oid base bytes) q image asks left = absurd cc
 line_of_step stands rules m ch (line.Put oid bytes) q image asks left = absurd cc
 line_of_step stands rules m ch (line.Check oid serial) q bytes asks left = absurd cc
+line_of_step stands rules m ch (line.Delete oid base) q bytes asks left = absurd cc
 line_of_step stands rules m ch line.Savepoint q bytes asks left = absurd cc
 line_of_step stands rules m ch (line.Rollback number) q bytes asks left = absurd cc
 line_of_step stands rules m ch (line.Tree root call) q bytes asks left = absurd cc
@@ -154,7 +156,9 @@ line_of_step stands rules m ch line.Finish q bytes asks left = subst (λ (x : Re
 line_of_step stands rules m ch line.Abort q bytes asks left = subst (λ (x : Request). IsListFor stands rules m x bytes) (same_request q request.Abort asks) left
 line_of_step stands rules m ch (line.History oid) q bytes asks left = subst (λ (x : Request). IsListFor stands rules m x bytes) (same_request q (request.History oid) asks) left
 line_of_step stands rules m ch line.UndoLog q bytes asks left = subst (λ (x : Request). IsListFor stands rules m x bytes) (same_request q request.UndoLog asks) left
-line_of_step stands rules m ch (line.Pack tid) q bytes asks left = subst (λ (x : Request). IsListFor stands rules m x bytes) (same_request q (request.Pack tid true) asks) left
+line_of_step stands rules m ch (line.Pack tid collect) q bytes asks left = subst (λ (x : Request). IsListFor stands rules m x bytes) (same_request q (request.Pack tid collect) asks) left
+line_of_step stands rules m ch (line.PackBegin tid collect) q bytes asks left = subst (λ (x : Request). IsListFor stands rules m x bytes) (same_request q (request.PackBegin tid collect) asks) left
+line_of_step stands rules m ch line.PackTurn q bytes asks left = subst (λ (x : Request). IsListFor stands rules m x bytes) (same_request q request.PackTurn asks) left
 line_of_step stands rules m ch line.Close q bytes asks left = subst (λ (x : Request). IsListFor stands rules m x bytes) (same_request q request.Close asks) left
 
 pub in_step : (stands : List ℕ → List Transaction → Type 0) (rules : Rules) (m : Machine) (ch : Option Changes) (l : Line) (q : Request) (old new : List Event) → Some q ≡ request_of ch l → LeavesOnly Main (IsListFor stands rules m q) old new
@@ -164,7 +168,8 @@ in_step stands rules m ch l q old new asks only = leaves_weaker (IsListFor stand
 -- what stands for the list that a line leaves may be seen in it
 in_of : (stands : List ℕ → List Transaction → Type 0) (rules : Rules) (m : Machine) (l : Line) (list : List Transaction) (bytes : List ℕ) → IsListBehind rules m l list → stands bytes list → IsListIn stands rules m l bytes
 in_of stands rules m line.Finish list bytes keeps left = around_of stands m list bytes keeps left
-in_of stands rules m (line.Pack tid) list bytes keeps left = packed_list stands rules m (goal_named tid true m) list bytes keeps left
+in_of stands rules m (line.Pack tid collect) list bytes keeps left = packed_list stands rules m (goal_named tid collect m) list bytes keeps left
+in_of stands rules m line.PackTurn list bytes keeps left = packed_list stands rules m (goal_of_open m.pack) list bytes keeps left
 in_of stands rules m _ list bytes keeps left = subst (stands bytes) keeps left
 
 -- a line, and the closing behind it
@@ -184,6 +189,7 @@ asked_no_pack ch (line.Get oid) q asks not = absurd cc
 asked_no_pack ch (line.Store oid base bytes) q asks not = absurd cc
 asked_no_pack ch (line.Put oid bytes) q asks not = absurd cc
 asked_no_pack ch (line.Check oid serial) q asks not = absurd cc
+asked_no_pack ch (line.Delete oid base) q asks not = absurd cc
 asked_no_pack ch line.Savepoint q asks not = absurd cc
 asked_no_pack ch (line.Rollback number) q asks not = absurd cc
 asked_no_pack ch (line.Tree root call) q asks not = absurd cc
@@ -194,5 +200,7 @@ asked_no_pack ch line.Finish q asks not = ap is_pack (same_request q request.Fin
 asked_no_pack ch line.Abort q asks not = ap is_pack (same_request q request.Abort asks)
 asked_no_pack ch (line.History oid) q asks not = ap is_pack (same_request q (request.History oid) asks)
 asked_no_pack ch line.UndoLog q asks not = ap is_pack (same_request q request.UndoLog asks)
-asked_no_pack ch (line.Pack tid) q asks not = absurd cc
+asked_no_pack ch (line.Pack tid collect) q asks not = absurd cc
+asked_no_pack ch (line.PackBegin tid collect) q asks not = absurd cc
+asked_no_pack ch line.PackTurn q asks not = absurd cc
 asked_no_pack ch line.Close q asks not = ap is_pack (same_request q request.Close asks)

@@ -32,6 +32,7 @@ use Rattle.zodb_core.specs.Machine.{Machine, MachineVote, Rules, with_session}
 use Rattle.zodb_core.specs.Outcomes.{EndsFor, FaultCounts, is_pack, outcome_of}
 use Rattle.zodb_core.specs.StepCases.{PackCases, by_pack_step}
 use Rattle.zodb_core.specs.Steps.{Stepped, changes_in_journal, early_refusal, finish_gives, finish_step, journal_limit, replied_refusal, request_step, step_of, transaction_with, unless_early, vote_at, vote_counted, vote_step, with_vote}
+use Rattle.connection_view.specs.Connections.{waiting_read}
 use Rattle.client_turns.specs.Clients.{Changes, Client, Moment, OpenTransaction, changes_of, place_of_client}
 use Rattle.client_turns.specs.Laws.{IsReadBelow, ReadsStayBelowTheFront}
 use Rattle.client_turns.specs.Lines.{answer_of, data_of, object_of, pending_in, put, request_of, rolled_to, store_unless}
@@ -164,6 +165,7 @@ asks_no_load ch (line.Get oid) q is = absurd cc
 asks_no_load ch (line.Store oid base bytes) q is = absurd cc
 asks_no_load ch (line.Put oid bytes) q is = absurd cc
 asks_no_load ch (line.Check oid serial) q is = absurd cc
+asks_no_load ch (line.Delete oid base) q is = absurd cc
 asks_no_load ch line.Savepoint q is = absurd cc
 asks_no_load ch (line.Rollback number) q is = absurd cc
 asks_no_load ch (line.Tree root call) q is = absurd cc
@@ -174,7 +176,9 @@ asks_no_load ch line.Finish q is = subst AsksNoLoad (same_Some request.Finish q 
 asks_no_load ch line.Abort q is = subst AsksNoLoad (same_Some request.Abort q is) tt
 asks_no_load ch (line.History oid) q is = subst AsksNoLoad (same_Some (request.History oid) q is) tt
 asks_no_load ch line.UndoLog q is = subst AsksNoLoad (same_Some request.UndoLog q is) tt
-asks_no_load ch (line.Pack tid) q is = subst AsksNoLoad (same_Some (request.Pack tid true) q is) tt
+asks_no_load ch (line.Pack tid collect) q is = subst AsksNoLoad (same_Some (request.Pack tid collect) q is) tt
+asks_no_load ch (line.PackBegin tid collect) q is = subst AsksNoLoad (same_Some (request.PackBegin tid collect) q is) tt
+asks_no_load ch line.PackTurn q is = subst AsksNoLoad (same_Some request.PackTurn q is) tt
 asks_no_load ch line.Close q is = subst AsksNoLoad (same_Some request.Close q is) tt
 
 store_data : (t : Changes) (p : PendingStore) (o : Option ℕ) → is_data (store_unless t p o).answer ≡ false
@@ -199,10 +203,10 @@ object_data (Err why) = refl
 
 get_data : (m now : Moment) (v : View) (oid : ℕ) (o : Option PendingStore) (a : Answer) → IsGet m v oid o a now → is_data a ≡ false
 get_data m now v oid None a is = ap is_data is.2 ∙ object_data is.0
-get_data m now v oid (Some p) a is = ap is_data is.0
+get_data m now v oid (Some p) a is = ap is_data is.0 ∙ object_data (waiting_read oid p)
 
 put_data : (t : Changes) (oid : ℕ) (bytes : List ℕ) (read : Result (ℕ × List ℕ) Refusal) → is_data (put t oid bytes read).answer ≡ false
-put_data t oid bytes (Ok got) = store_data t (record { oid = oid; base = got.0; bytes = bytes }) (excess_with t.pending.stores (record { oid = oid; base = got.0; bytes = bytes }))
+put_data t oid bytes (Ok got) = store_data t (record { oid = oid; base = got.0; content = Held bytes }) (excess_with t.pending.stores (record { oid = oid; base = got.0; content = Held bytes }))
 put_data t oid bytes (Err refusal.TidsSpent) = refl
 put_data t oid bytes (Err refusal.StoreFault) = refl
 put_data t oid bytes (Err (refusal.Conflict a0 a1 a2 a3)) = refl
@@ -214,7 +218,7 @@ put_data t oid bytes (Err (refusal.UndoConflict a0 a1)) = refl
 put_data t oid bytes (Err (refusal.Overtaken a0 a1)) = refl
 put_data t oid bytes (Err (refusal.Unreadable a0 a1)) = refl
 put_data t oid bytes (Err (refusal.PackedAlready a0)) = refl
-put_data t oid bytes (Err (refusal.Missing a0 false)) = store_data t (record { oid = oid; base = 0; bytes = bytes }) (excess_with t.pending.stores (record { oid = oid; base = 0; bytes = bytes }))
+put_data t oid bytes (Err (refusal.Missing a0 false)) = store_data t (record { oid = oid; base = 0; content = Held bytes }) (excess_with t.pending.stores (record { oid = oid; base = 0; content = Held bytes }))
 put_data t oid bytes (Err (refusal.Missing a0 true)) = refl
 put_data t oid bytes (Err refusal.NoTransaction) = refl
 put_data t oid bytes (Err refusal.InTransaction) = refl
@@ -245,7 +249,7 @@ put_data t oid bytes (Err refusal.Memory) = refl
 putting_data : (m now : Moment) (at : ℕ) (c : Client) (t : OpenTransaction) (oid : ℕ) (bytes : List ℕ) (o : Option PendingStore) (a : Answer) → IsPut m at c t oid bytes o a now → is_data a ≡ false
 putting_data m now at c t oid bytes None a is = ap is_data is.3.0 ∙ put_data t.changes oid bytes is.0
 putting_data m now at c t oid bytes (Some p) a is =
-    ap is_data is.0 ∙ store_data t.changes (record { oid = oid; base = p.base; bytes = bytes }) (excess_with t.changes.pending.stores (record { oid = oid; base = p.base; bytes = bytes }))
+    ap is_data is.0 ∙ store_data t.changes (record { oid = oid; base = p.base; content = Held bytes }) (excess_with t.changes.pending.stores (record { oid = oid; base = p.base; content = Held bytes }))
 
 -- ---- the revision
 
@@ -313,10 +317,11 @@ within_reads m now at c t (line.Get oid) serial bytes is =
     not_data (ReadsWithin t (line.Get oid) serial bytes) (answer.Data serial bytes) refl (get_data m now t.view oid (pending_of t.changes.pending.stores oid) (answer.Data serial bytes) is)
 within_reads m now at c t (line.Store oid base new) serial bytes is =
     not_data (ReadsWithin t (line.Store oid base new) serial bytes) (answer.Data serial bytes) refl
-    (ap is_data is.0 ∙ store_data t.changes (record { oid = oid; base = base; bytes = new }) (excess_with t.changes.pending.stores (record { oid = oid; base = base; bytes = new })))
+    (ap is_data is.0 ∙ store_data t.changes (record { oid = oid; base = base; content = Held new }) (excess_with t.changes.pending.stores (record { oid = oid; base = base; content = Held new })))
 within_reads m now at c t (line.Put oid new) serial bytes is =
     not_data (ReadsWithin t (line.Put oid new) serial bytes) (answer.Data serial bytes) refl (putting_data m now at c t oid new (pending_of t.changes.pending.stores oid) (answer.Data serial bytes) is)
 within_reads m now at c t (line.Check oid seen) serial bytes is = not_data (ReadsWithin t (line.Check oid seen) serial bytes) (answer.Data serial bytes) refl (ap is_data is.0)
+within_reads m now at c t (line.Delete oid base) serial bytes is = not_data (ReadsWithin t (line.Delete oid base) serial bytes) (answer.Data serial bytes) refl (ap is_data is.0)
 within_reads m now at c t line.Savepoint serial bytes is = not_data (ReadsWithin t line.Savepoint serial bytes) (answer.Data serial bytes) refl (ap is_data is.0)
 within_reads m now at c t (line.Rollback number) serial bytes is =
     not_data (ReadsWithin t (line.Rollback number) serial bytes) (answer.Data serial bytes) refl (ap is_data is.0 ∙ rolled_data t.changes number (slice_get t.changes.savepoints number))
@@ -331,7 +336,9 @@ within_reads m now at c t line.Finish serial bytes is = not_data (ReadsWithin t 
 within_reads m now at c t line.Abort serial bytes is = not_data (ReadsWithin t line.Abort serial bytes) (answer.Data serial bytes) refl (ap is_data is.0)
 within_reads m now at c t (line.History oid) serial bytes is = not_data (ReadsWithin t (line.History oid) serial bytes) (answer.Data serial bytes) refl (ap is_data is.0)
 within_reads m now at c t line.UndoLog serial bytes is = not_data (ReadsWithin t line.UndoLog serial bytes) (answer.Data serial bytes) refl (ap is_data is.0)
-within_reads m now at c t (line.Pack tid) serial bytes is = not_data (ReadsWithin t (line.Pack tid) serial bytes) (answer.Data serial bytes) refl (ap is_data is.0)
+within_reads m now at c t (line.Pack tid collect) serial bytes is = not_data (ReadsWithin t (line.Pack tid collect) serial bytes) (answer.Data serial bytes) refl (ap is_data is.0)
+within_reads m now at c t (line.PackBegin tid collect) serial bytes is = not_data (ReadsWithin t (line.PackBegin tid collect) serial bytes) (answer.Data serial bytes) refl (ap is_data is.0)
+within_reads m now at c t line.PackTurn serial bytes is = not_data (ReadsWithin t line.PackTurn serial bytes) (answer.Data serial bytes) refl (ap is_data is.0)
 within_reads m now at c t line.Close serial bytes is = not_data (ReadsWithin t line.Close serial bytes) (answer.Data serial bytes) refl (ap is_data is.0)
 
 -- what a client's line reads

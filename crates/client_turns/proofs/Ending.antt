@@ -1,8 +1,8 @@
 -- How transactions begin, are voted on and end, over the hub.
-use Rattle.std.proofs.Common.{rules, ◌≡◌, ◌⊎◌, ℕ, zero, suc, ◌+◌, ◌==◌, ◌<◌, Bool, true, false, List, [], ◌∷◌, length, Option, Some, None, Result, Ok, Err, if◌then◌else◌, nat_lt, refl, sym, ap, subst, ◌∙◌, arith, inl, inr}
+use Rattle.std.proofs.Common.{rules, ◌≡◌, ◌⊎◌, ℕ, zero, suc, ◌==◌, Bool, true, false, List, [], Option, Some, None, Result, Ok, Err, if◌then◌else◌, nat_lt, refl, sym, ap, subst, ◌∙◌, arith, inl, inr}
 use Rattle.std.proofs.lemmas.Bool.{lt-ltb}
 use Rattle.std.proofs.Math.Dec.{eqb-suc-zero}
-use Rattle.std.specs.Prelude.{IfErr, IfOk, IsOk, MatchOption, OnErr, OnOk, slice_get, ◌≢◌}
+use Rattle.std.specs.Prelude.{IfOk, IsOk, MatchOption, OnErr, OnOk}
 use Rattle.std.specs.Option.{option_map, option_or}
 use Rattle.zb_ids.specs.declared.stamp.Stamp.{Stamp}
 use Rattle.zb_model.specs.declared.data.Transaction.{Transaction}
@@ -20,19 +20,17 @@ use Rattle.zodb_core.specs.declared.reply.Reply.{Reply}
 use Rattle.zodb_core.specs.declared.reply.Reply.TheVariants as reply
 use Rattle.zodb_core.specs.declared.request.Request.{Request}
 use Rattle.zodb_core.specs.declared.request.Request.TheVariants as request
-use Rattle.zodb_core.specs.HubState.{HubState, StandsForMachine, counts_of, rules_of}
-use Rattle.zodb_core.specs.Machine.{Machine, Rules, switches_of}
+use Rattle.zodb_core.specs.HubState.{HubState, rules_of}
+use Rattle.zodb_core.specs.Machine.{Machine, Rules}
 use Rattle.zodb_core.specs.Outcomes.{Answered, NoMemory, ReadingFailed, StepOutcome, StoreFailed, machine_left, outcome_of}
-use Rattle.zodb_core.specs.Steps.{Stepped, early_refusal, front_step, refuse_if, step_of, unless_early}
+use Rattle.zodb_core.specs.Steps.{early_refusal, front_step, refuse_if, unless_early}
 use Rattle.connection_view.specs.declared.connection.Connection.{Connection}
-use Rattle.connection_view.specs.declared.loads.FrontView.{FrontView}
 use Rattle.connection_view.specs.declared.work.Work.{Work}
 use Rattle.connection_view.specs.Connections.{Between, InView, IsCallMade, IsFrontBy, IsNewWork, begin_refusal, changeable, followed_by, unmixed, unvoted_work, waiting_count, work_of}
 use Rattle.connection_view.specs.Connections as connections
 use Rattle.connection_view.specs.Loading.{Abort, Finish, Front, LoadsCall, Undo, Vote}
 use Rattle.connection_view.specs.Views.{View, committed, each_object, renewed, stored_in, unvoted, view_of, voting}
 use Rattle.connection_view.specs.Views as views
-use Rattle.local_loads.specs.declared.told.Told.{Told}
 use Rattle.local_loads.specs.Answers.{abort_answer, finish_answer, front_answer, server_refusal, told_after, vote_answer}
 use Rattle.local_loads.specs.Answers as local_answers
 use Rattle.local_loads.specs.Local as local
@@ -40,14 +38,14 @@ use Rattle.local_loads.specs.Local.{LocalState, MayBeTold}
 use Rattle.local_loads.specs.LocalLaws.{kept_behind, view_whole}
 use Rattle.local_loads.specs.Making.{IsFinishStep, IsFrontBehind, IsFrontStep, IsHubStep, IsLocalCall, IsOneStep, IsStarved}
 use Rattle.client_turns.specs.declared.client.Client.{Client}
-use Rattle.client_turns.specs.Asking.{IsSameBut, answered, begun_as, finished_as}
+use Rattle.client_turns.specs.Asking.{answered, begun_as, finished_as}
 use Rattle.client_turns.specs.Clients.{Changes, Moment, OpenTransaction, begun, changes_of, no_changes, with_client}
 use Rattle.client_turns.specs.Clients as seen
-use Rattle.client_turns.specs.Lines.{answer_of, as_voted, client_left, is_committed, request_of, transaction_left}
-use Rattle.client_turns.specs.Refusing.{line_refusal, mixed, pending_count}
+use Rattle.client_turns.specs.Lines.{answer_of, as_voted, client_left, is_committed, request_of}
+use Rattle.client_turns.specs.Refusing.{line_refusal, mixed}
 use Rattle.client_turns.specs.Standing.{IsClientOf, IsLineOpen, IsOpenAs, IsWorkOf, MayTakeAt, OneLeadsTo, changes_kept}
 use Rattle.client_turns.specs.Steps.{IsStepAt}
-use Rattle.client_turns.specs.Turns.{IsTold, IsStepLine}
+use Rattle.client_turns.specs.Turns.{IsStepLine}
 use Rattle.client_turns.specs.Views.{server_of}
 use Rattle.client_turns.proofs.Hubs.{open_whole}
 use Rattle.client_turns.proofs.Asked.{IsOpened, MayStand, end_of_client, none_of, opened_of}

@@ -1,10 +1,12 @@
 -- What lines of a client did to the hub, over the calls of its connection.
-use Rattle.std.proofs.Common.{◌≡◌, ℕ, List, Option, Some, None, Result, Ok, Err, sym, ap, subst, ◌∙◌, refl, inl, inr}
+use Rattle.std.proofs.Common.{◌≡◌, ◌⊎◌, ℕ, List, Option, Some, None, Result, Ok, Err, sym, ap, subst, ◌∙◌, refl, inl, inr}
 use Rattle.std.specs.Prelude.{IsOk, slice_get}
+use Rattle.zb_model.specs.declared.data.Content.TheVariants.{Held}
 use Rattle.zb_model.specs.declared.data.Transaction.{Transaction}
 use Rattle.zb_model.specs.declared.pending.PendingCheck.{PendingCheck}
 use Rattle.zb_model.specs.declared.pending.PendingStore.{PendingStore}
 use Rattle.zb_model.specs.declared.refusal.Refusal.{Refusal}
+use Rattle.zb_model.specs.declared.refusal.Refusal.TheVariants as refusal
 use Rattle.zb_model.specs.Rules.{MergeRules}
 use Rattle.zb_answers.specs.declared.answer.Answer.{Answer}
 use Rattle.zb_answers.specs.declared.answer.Answer.TheVariants as answer
@@ -16,7 +18,7 @@ use Rattle.zodb_core.specs.Machine.{Rules}
 use Rattle.zodb_core.specs.Outcomes.{Answered, NoMemory, StepOutcome, outcome_of_refusal}
 use Rattle.connection_view.specs.declared.connection.Connection.{Connection}
 use Rattle.connection_view.specs.declared.work.Work.{Work}
-use Rattle.connection_view.specs.Connections.{IsCallMade, IsFrontBy, IsPutAsRead, IsReadBy, LeavesWork, begin_refusal, changeable, checked_in_work, followed_by, rolled_back, rolled_back_to, saved, stored_in_work, unmixed, work_of}
+use Rattle.connection_view.specs.Connections.{IsCallMade, IsFrontBy, IsPutAsRead, IsReadBy, LeavesWork, begin_refusal, changeable, checked_in_work, deleted_in_work, followed_by, rolled_back, rolled_back_to, saved, stored_in_work, unmixed, waiting_read, work_of}
 use Rattle.connection_view.specs.Loading.{Abort, Finish, LoadsCall, Undo, Vote}
 use Rattle.connection_view.specs.Views.{Server}
 use Rattle.connection_view.specs.Views as views
@@ -25,7 +27,7 @@ use Rattle.local_loads.specs.Making.{IsHubStep, IsLocalCall}
 use Rattle.client_turns.specs.Asking.{IsCalm, answered, begun_as, finished_as, saved_as}
 use Rattle.client_turns.specs.Lines.{data_of, object_of, outcome_of_answer, outcome_of_read, outcome_of_result}
 use Rattle.client_turns.specs.Standing.{LeavesHub, ReadsHub}
-use Rattle.client_turns.proofs.Framing.{abort_hub, begin_hub, finish_hub, leaves_calm, none_leaves, put_hub, read_any, stored_calm, undo_hub, vote_hub}
+use Rattle.client_turns.proofs.Framing.{abort_hub, begin_hub, finish_hub, get_any, leaves_calm, none_leaves, put_hub, read_any, stored_calm, undo_hub, vote_hub}
 
 -- ---- how answers end
 
@@ -53,6 +55,9 @@ saved_outcome (Err why) = refl
 
 pub checked_calm : (k : PendingCheck) (w : Work) (r : Refusal) → checked_in_work k w ≡ Err r → IsCalm (outcome_of_refusal r)
 checked_calm k w r is = absurd cc
+
+pub deleted_calm : (oid base : ℕ) (w : Work) (r : Refusal) → deleted_in_work oid base w ≡ Err r → IsCalm (outcome_of_refusal r)
+deleted_calm oid base w r is = absurd cc
 
 pub saved_calm : (w : Work) (r : Refusal) → saved w ≡ Err r → IsCalm (outcome_of_refusal r)
 saved_calm w r is = absurd cc
@@ -87,6 +92,16 @@ module _ {R F S : Type 0} (told lasts : Type 0) (stands : List ℕ → List Tran
       (subst (λ (z : StepOutcome). ReadsHub told lasts stands z (state a).hub (state b).hub) (sym is)
       (read_any told lasts stands rules_in named_in (number a) (state a) (state b) Made a b (λ call make. make) (λ e. ap state e) k oid result refused made)))
 
+  -- of what waits, or else a read
+  pub got_framed : (oid : ℕ) (result : Result (ℕ × List ℕ) Refusal) → ((w : Work) (p : PendingStore) → work_of k ≡ Ok w → pending_of w.pending.stores oid ≡ Some p → ((result ≡ waiting_read oid p) ⊎ (result ≡ Err refusal.Memory)) × (b ≡ a))
+      → ((r : Refusal) → work_of k ≡ Err r → (result ≡ Err r) × (b ≡ a)) → ((w : Work) → work_of k ≡ Ok w → pending_of w.pending.stores oid ≡ None → IsReadBy Made a b oid w.front w.switches result)
+      → (o : StepOutcome) → o ≡ outcome_of_read result → ReadsHub told lasts stands o h g
+  got_framed oid result waiting refused made o is =
+      subst (λ (z : HubState R F). ReadsHub told lasts stands o z g) begins
+      (subst (λ (z : HubState R F). ReadsHub told lasts stands o (state a).hub z) ends
+      (subst (λ (z : StepOutcome). ReadsHub told lasts stands z (state a).hub (state b).hub) (sym is)
+      (get_any told lasts stands rules_in named_in (number a) (state a) (state b) Made a b (λ call make. make) (λ e. ap state e) k oid result waiting refused made)))
+
   -- `load`
   pub load_framed : (oid : ℕ) (result : Result (ℕ × List ℕ) Refusal) → ((r : Refusal) → work_of k ≡ Err r → (result ≡ Err r) × (b ≡ a)) → ((w : Work) → work_of k ≡ Ok w → IsReadBy Made a b oid w.front w.switches result)
       → (reply : Answer) → reply ≡ data_of result → LeavesHub told lasts stands (rules_of rules_in named_in h) (line.Load oid) (outcome_of_answer reply) h g
@@ -99,11 +114,17 @@ module _ {R F S : Type 0} (told lasts : Type 0) (stands : List ℕ → List Tran
       none_leaves told lasts stands (rules_of rules_in named_in h) h g asked o (subst (λ (z : StepOutcome). IsCalm z) (sym is) (leaves_calm k l f result calm leaves)) (kept_framed kept)
 
   -- `store`
-  pub store_framed : (oid base : ℕ) (bytes : List ℕ) (result : Result (Unit {0}) Refusal) → LeavesWork (followed_by (changeable (work_of k)) (stored_in_work (record { oid = oid; base = base; bytes = bytes }))) (work_of k) (work_of l) result → b ≡ a
+  pub store_framed : (oid base : ℕ) (bytes : List ℕ) (result : Result (Unit {0}) Refusal) → LeavesWork (followed_by (changeable (work_of k)) (stored_in_work (record { oid = oid; base = base; content = Held bytes }))) (work_of k) (work_of l) result → b ≡ a
       → (reply : Answer) → reply ≡ answered result answer.Stored → LeavesHub told lasts stands (rules_of rules_in named_in h) (line.Store oid base bytes) (outcome_of_answer reply) h g
   store_framed oid base bytes result leaves kept reply answers =
-      let p : PendingStore = record { oid = oid; base = base; bytes = bytes } in
+      let p : PendingStore = record { oid = oid; base = base; content = Held bytes } in
       change_framed (stored_in_work p) result (stored_calm p) leaves kept (line.Store oid base bytes) (outcome_of_answer reply) (ap outcome_of_answer answers ∙ answered_outcome result answer.Stored refl)
+
+  -- `delete`
+  pub delete_framed : (oid base : ℕ) (result : Result (Unit {0}) Refusal) → LeavesWork (followed_by (changeable (work_of k)) (deleted_in_work oid base)) (work_of k) (work_of l) result → b ≡ a
+      → (reply : Answer) → reply ≡ answered result answer.Deleted → LeavesHub told lasts stands (rules_of rules_in named_in h) (line.Delete oid base) (outcome_of_answer reply) h g
+  delete_framed oid base result leaves kept reply answers =
+      change_framed (deleted_in_work oid base) result (deleted_calm oid base) leaves kept (line.Delete oid base) (outcome_of_answer reply) (ap outcome_of_answer answers ∙ answered_outcome result answer.Deleted refl)
 
   -- `check`
   pub check_framed : (oid serial : ℕ) (result : Result (Unit {0}) Refusal) → LeavesWork (followed_by (changeable (work_of k)) (checked_in_work (record { oid = oid; serial = serial }))) (work_of k) (work_of l) result → b ≡ a
@@ -138,7 +159,7 @@ module _ {R F S : Type 0} (told lasts : Type 0) (stands : List ℕ → List Tran
 
   -- `put`
   pub put_framed : (views_at : views.Client → Type 0) (server : Server) (oid : ℕ) (bytes : List ℕ) (result : Result (Unit {0}) Refusal)
-      → ((w : Work) (p : PendingStore) → changeable (work_of k) ≡ Ok w → pending_of w.pending.stores oid ≡ Some p → LeavesWork (stored_in_work (record { oid = oid; base = p.base; bytes = bytes }) w) (work_of k) (work_of l) result × (b ≡ a))
+      → ((w : Work) (p : PendingStore) → changeable (work_of k) ≡ Ok w → pending_of w.pending.stores oid ≡ Some p → LeavesWork (stored_in_work (record { oid = oid; base = p.base; content = Held bytes }) w) (work_of k) (work_of l) result × (b ≡ a))
       → ((w : Work) → changeable (work_of k) ≡ Ok w → pending_of w.pending.stores oid ≡ None → IsPutAsRead Made views_at server a b k l w oid bytes result)
       → ((r : Refusal) → changeable (work_of k) ≡ Err r → (result ≡ Err r) × (b ≡ a) × (work_of l ≡ work_of k))
       → (reply : Answer) → reply ≡ answered result answer.Stored → LeavesHub told lasts stands (rules_of rules_in named_in h) (line.Put oid bytes) (outcome_of_answer reply) h g

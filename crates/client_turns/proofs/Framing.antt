@@ -5,6 +5,7 @@ use Rattle.zb_ids.specs.declared.stamp.Stamp.{Stamp}
 use Rattle.zb_volume.specs.declared.areas.Area.TheVariants.{Main, Side}
 use Rattle.zb_volume.specs.Moments.{Leaves, LeavesOnly}
 use Rattle.zb_volume.specs.Runs.{along_now, joined}
+use Rattle.zb_model.specs.declared.data.Content.TheVariants.{Held}
 use Rattle.zb_model.specs.StayLaws.{stays_same, stays_then}
 use Rattle.zb_model.specs.declared.data.Transaction.{Transaction}
 use Rattle.zb_model.specs.declared.pending.PendingStore.{PendingStore}
@@ -27,7 +28,7 @@ use Rattle.zodb_core.specs.Outcomes.{Answered, AreLaterCounts, FaultCounts, NoMe
 use Rattle.connection_view.specs.declared.connection.Connection.{Connection}
 use Rattle.connection_view.specs.declared.loads.Loaded.{Loaded}
 use Rattle.connection_view.specs.declared.work.Work.{Work}
-use Rattle.connection_view.specs.Connections.{IsCallMade, IsFrontBy, IsPutAsRead, IsReadAnswered, IsReadBy, IsUnasked, LeavesWork, base_read, begin_refusal, changeable, followed_by, stored_in_work, stored_unless, unmixed, waiting_count, work_of}
+use Rattle.connection_view.specs.Connections.{IsCallMade, IsFrontBy, IsPutAsRead, IsReadAnswered, IsReadBy, IsUnasked, LeavesWork, base_read, begin_refusal, changeable, followed_by, stored_in_work, stored_unless, unmixed, waiting_count, waiting_read, work_of}
 use Rattle.connection_view.specs.Connections as connections
 use Rattle.connection_view.specs.Loading.{Abort, Finish, Front, Load, LoadsCall, Undo, Vote}
 use Rattle.connection_view.specs.Views.{Server}
@@ -41,6 +42,7 @@ use Rattle.local_loads.specs.Local.{LocalState}
 use Rattle.local_loads.specs.Making.{IsFinishStep, IsFrontBehind, IsFrontStep, IsHubStep, IsLocalCall, IsOneStep, IsStarved}
 use Rattle.client_turns.specs.Asking.{IsCalm, answered, begun_as, finished_as, plain_request}
 use Rattle.client_turns.specs.Clients.{Moment}
+use Rattle.client_turns.specs.CountLaws.{waiting_outcome}
 use Rattle.client_turns.specs.declared.errors.TurnError.{TurnError}
 use Rattle.client_turns.specs.Lines.{IsCountedBy, answer_of, end_in, end_of, outcome_of_answer, outcome_of_end, outcome_of_read, outcome_of_result, request_of}
 use Rattle.client_turns.specs.Standing.{IsListAround, IsListFor, KeepsHub, LeavesHub, ReadsHub}
@@ -253,6 +255,11 @@ unasked_calm : (result : Result (ℕ × List ℕ) Refusal) → IsUnasked result 
 unasked_calm (Ok d) un = inl refl
 unasked_calm (Err r) un = inr (ap outcome_of_refusal un)
 
+-- what waits is told without a call
+waiting_calm : (oid : ℕ) (p : PendingStore) (result : Result (ℕ × List ℕ) Refusal) → (result ≡ waiting_read oid p) ⊎ (result ≡ Err refusal.Memory) → IsCalm (outcome_of_read result)
+waiting_calm oid p result (inl is) = inl (ap outcome_of_read is ∙ waiting_outcome oid p.base p.content)
+waiting_calm oid p result (inr starved) = inr (ap outcome_of_read starved)
+
 module _ {R F S : Type 0} (told lasts : Type 0) (stands : List ℕ → List Transaction → Type 0) (rules_in : R → MergeRules) (named_in : F → List ℕ → Option (List ℕ)) (n : ℕ) (old new : LocalState R F) (makes : S → LoadsCall → S → Type 0) (a b : S) (calls : (call : LoadsCall) → makes a call b → IsLocalCall (IsHubStep told lasts stands rules_in named_in n) call old new) (same : b ≡ a → new ≡ old) where
   pub read_hub : (oid front switches : ℕ) (result : Result (ℕ × List ℕ) Refusal) → IsReadBy makes a b oid front switches result → ReadsHub told lasts stands (outcome_of_read result) old.hub new.hub
   read_hub oid front switches result (inl unasked) =
@@ -274,6 +281,23 @@ module _ {R F S : Type 0} (told lasts : Type 0) (stands : List ℕ → List Tran
           let said = refused r works in
           none_reads told lasts stands (rules_of rules_in named_in old.hub) old.hub new.hub (outcome_of_read result) (subst (λ (z : Result (ℕ × List ℕ) Refusal). IsCalm (outcome_of_read z)) (sym said.0) (closed_calm k r works)) (ap (λ (l : LocalState R F). l.hub) (same said.1))
 
+  -- and of what waits, or else a read
+  pub get_any : (k : Connection) (oid : ℕ) (result : Result (ℕ × List ℕ) Refusal) → ((w : Work) (p : PendingStore) → work_of k ≡ Ok w → pending_of w.pending.stores oid ≡ Some p → ((result ≡ waiting_read oid p) ⊎ (result ≡ Err refusal.Memory)) × (b ≡ a))
+      → ((r : Refusal) → work_of k ≡ Err r → (result ≡ Err r) × (b ≡ a)) → ((w : Work) → work_of k ≡ Ok w → pending_of w.pending.stores oid ≡ None → IsReadBy makes a b oid w.front w.switches result) → ReadsHub told lasts stands (outcome_of_read result) old.hub new.hub
+  get_any k oid result waiting refused made = by_work (work_of k) refl
+    where
+      by_pending : (w : Work) → work_of k ≡ Ok w → (p : Option PendingStore) → pending_of w.pending.stores oid ≡ p → ReadsHub told lasts stands (outcome_of_read result) old.hub new.hub
+      by_pending w works None is = read_hub oid w.front w.switches result (made w works is)
+      by_pending w works (Some p) is =
+          let said = waiting w p works is in
+          none_reads told lasts stands (rules_of rules_in named_in old.hub) old.hub new.hub (outcome_of_read result) (waiting_calm oid p result said.0) (ap (λ (l : LocalState R F). l.hub) (same said.1))
+
+      by_work : (wr : Result Work Refusal) → work_of k ≡ wr → ReadsHub told lasts stands (outcome_of_read result) old.hub new.hub
+      by_work (Ok w) works = by_pending w works (pending_of w.pending.stores oid) refl
+      by_work (Err r) works =
+          let said = refused r works in
+          none_reads told lasts stands (rules_of rules_in named_in old.hub) old.hub new.hub (outcome_of_read result) (subst (λ (z : Result (ℕ × List ℕ) Refusal). IsCalm (outcome_of_read z)) (sym said.0) (closed_calm k r works)) (ap (λ (l : LocalState R F). l.hub) (same said.1))
+
 -- ---- lines that ask nothing of the connection
 
 pub answer_outcome : (r : Reply) → outcome_of_answer (answer_of r) ≡ outcome_of r
@@ -285,7 +309,9 @@ plain_asks : (l : Line) (q : Request) → Some q ≡ plain_request l → Some q 
 plain_asks line.New q is = is
 plain_asks (line.History oid) q is = is
 plain_asks line.UndoLog q is = is
-plain_asks (line.Pack tid) q is = is
+plain_asks (line.Pack tid collect) q is = is
+plain_asks (line.PackBegin tid collect) q is = is
+plain_asks line.PackTurn q is = is
 plain_asks line.Close q is = is
 plain_asks _ q is = absurd cc
 
@@ -555,7 +581,7 @@ module _ {R F S : Type 0} (told lasts : Type 0) (stands : List ℕ → List Tran
 
   -- `put`
   pub put_hub : (k l : Connection) (stands_for : views.Client → Type 0) (state : Server) (oid : ℕ) (bytes : List ℕ) (result : Result (Unit {0}) Refusal) (reply : Answer)
-      → ((w : Work) (p : PendingStore) → changeable (work_of k) ≡ Ok w → pending_of w.pending.stores oid ≡ Some p → LeavesWork (stored_in_work (record { oid = oid; base = p.base; bytes = bytes }) w) (work_of k) (work_of l) result × (b ≡ a))
+      → ((w : Work) (p : PendingStore) → changeable (work_of k) ≡ Ok w → pending_of w.pending.stores oid ≡ Some p → LeavesWork (stored_in_work (record { oid = oid; base = p.base; content = Held bytes }) w) (work_of k) (work_of l) result × (b ≡ a))
       → ((w : Work) → changeable (work_of k) ≡ Ok w → pending_of w.pending.stores oid ≡ None → IsPutAsRead makes stands_for state a b k l w oid bytes result)
       → ((r : Refusal) → changeable (work_of k) ≡ Err r → (result ≡ Err r) × (b ≡ a) × (work_of l ≡ work_of k)) → reply ≡ answered result answer.Stored
       → LeavesHub told lasts stands (rules_of rules_in named_in old.hub) (line.Put oid bytes) (outcome_of_answer reply) old.hub new.hub
@@ -565,25 +591,25 @@ module _ {R F S : Type 0} (told lasts : Type 0) (stands : List ℕ → List Tran
       so = ap outcome_of_answer answers ∙ answered_outcome result answer.Stored refl
 
       -- what is put behind a read that was answered
-      behind : (w : Work) (base : ℕ) → LeavesWork (stored_in_work (record { oid = oid; base = base; bytes = bytes }) w) (work_of k) (work_of l) result → ReadsHub told lasts stands Answered old.hub new.hub → ReadsHub told lasts stands (outcome_of_result result) old.hub new.hub
+      behind : (w : Work) (base : ℕ) → LeavesWork (stored_in_work (record { oid = oid; base = base; content = Held bytes }) w) (work_of k) (work_of l) result → ReadsHub told lasts stands Answered old.hub new.hub → ReadsHub told lasts stands (outcome_of_result result) old.hub new.hub
       behind w base leaves read =
-          let calm : IsCalm (outcome_of_result result) = work_calm (stored_in_work (record { oid = oid; base = base; bytes = bytes }) w) (work_of k) (work_of l) result (stored_calm (record { oid = oid; base = base; bytes = bytes }) w) leaves in
+          let calm : IsCalm (outcome_of_result result) = work_calm (stored_in_work (record { oid = oid; base = base; content = Held bytes }) w) (work_of k) (work_of l) result (stored_calm (record { oid = oid; base = base; content = Held bytes }) w) leaves in
           reads_as told lasts stands (rules_of rules_in named_in old.hub) old.hub new.hub Answered (outcome_of_result result)
           (calm_other (counts_of old.hub.store) (counts_of new.hub.store) Answered (outcome_of_result result) (inl refl) calm) (calm_whole (outcome_of_result result) calm) read
 
       by_missing : (w : Work) (r : Refusal) → (base_read (Err r) ≡ Err r) ⊎ ((base_read (Err r) ≡ Ok 0) × (outcome_of_refusal r ≡ Answered))
-          → LeavesWork (followed_by (base_read (Err r)) (λ base. stored_in_work (record { oid = oid; base = base; bytes = bytes }) w)) (work_of k) (work_of l) result → ((s : Refusal) → base_read (Err r) ≡ Err s → result ≡ Err s)
+          → LeavesWork (followed_by (base_read (Err r)) (λ base. stored_in_work (record { oid = oid; base = base; content = Held bytes }) w)) (work_of k) (work_of l) result → ((s : Refusal) → base_read (Err r) ≡ Err s → result ≡ Err s)
           → ReadsHub told lasts stands (outcome_of_refusal r) old.hub new.hub → ReadsHub told lasts stands (outcome_of_result result) old.hub new.hub
       by_missing w r (inl is) leaves refuses read = subst (λ (z : Result (Unit {0}) Refusal). ReadsHub told lasts stands (outcome_of_result z) old.hub new.hub) (sym (refuses r is)) read
       by_missing w r (inr is) leaves refuses read =
-          behind w 0 (subst (λ (z : Result ℕ Refusal). LeavesWork (followed_by z (λ base. stored_in_work (record { oid = oid; base = base; bytes = bytes }) w)) (work_of k) (work_of l) result) is.0 leaves) (subst (λ (o : StepOutcome). ReadsHub told lasts stands o old.hub new.hub) is.1 read)
+          behind w 0 (subst (λ (z : Result ℕ Refusal). LeavesWork (followed_by z (λ base. stored_in_work (record { oid = oid; base = base; content = Held bytes }) w)) (work_of k) (work_of l) result) is.0 leaves) (subst (λ (o : StepOutcome). ReadsHub told lasts stands o old.hub new.hub) is.1 read)
 
       base_of : (r : Refusal) → (base_read (Err r) ≡ Err r) ⊎ ((base_read (Err r) ≡ Ok 0) × (outcome_of_refusal r ≡ Answered))
       base_of (refusal.Missing o false) = inr (refl, refl)
       base_of (refusal.Missing o true) = inl refl
       base_of _ = inl refl
 
-      by_read : (w : Work) (read : Result (ℕ × List ℕ) Refusal) → LeavesWork (followed_by (base_read read) (λ base. stored_in_work (record { oid = oid; base = base; bytes = bytes }) w)) (work_of k) (work_of l) result → ((s : Refusal) → base_read read ≡ Err s → result ≡ Err s)
+      by_read : (w : Work) (read : Result (ℕ × List ℕ) Refusal) → LeavesWork (followed_by (base_read read) (λ base. stored_in_work (record { oid = oid; base = base; content = Held bytes }) w)) (work_of k) (work_of l) result → ((s : Refusal) → base_read read ≡ Err s → result ≡ Err s)
           → ReadsHub told lasts stands (outcome_of_read read) old.hub new.hub → ReadsHub told lasts stands (outcome_of_result result) old.hub new.hub
       by_read w (Ok d) leaves refuses read = behind w d.0 leaves read
       by_read w (Err r) leaves refuses read = by_missing w r (base_of r) leaves refuses read
@@ -591,7 +617,7 @@ module _ {R F S : Type 0} (told lasts : Type 0) (stands : List ℕ → List Tran
       by_pending : (w : Work) → changeable (work_of k) ≡ Ok w → (o : Option PendingStore) → pending_of w.pending.stores oid ≡ o → Left (line.Put oid bytes) reply
       by_pending w is (Some p) there =
           let said = waiting w p is there in
-          none_left (line.Put oid bytes) reply (subst IsCalm (sym so) (work_calm (stored_in_work (record { oid = oid; base = p.base; bytes = bytes }) w) (work_of k) (work_of l) result (stored_calm (record { oid = oid; base = p.base; bytes = bytes }) w) said.0)) (same said.1)
+          none_left (line.Put oid bytes) reply (subst IsCalm (sym so) (work_calm (stored_in_work (record { oid = oid; base = p.base; content = Held bytes }) w) (work_of k) (work_of l) result (stored_calm (record { oid = oid; base = p.base; content = Held bytes }) w) said.0)) (same said.1)
       by_pending w is None there =
           let r : IsPutAsRead makes stands_for state a b k l w oid bytes result = reads w is there in
           step_left_as (line.Put oid bytes) reply (outcome_of_result result) so (by_read w r.read r.leaves r.refused (read_hub told lasts stands rules_in named_in n old new makes a b calls same oid w.front w.switches r.read r.made)).keeps

@@ -7,6 +7,8 @@ use Rattle.zb_ids.specs.declared.stamp.Stamp.{Stamp}
 use Rattle.zb_model.specs.declared.data.Transaction.{Transaction}
 use Rattle.zb_model.specs.declared.pending.PendingStore.{PendingStore}
 use Rattle.zb_model.specs.declared.refusal.Refusal.{Refusal}
+use Rattle.zb_model.specs.declared.data.Content.{Content}
+use Rattle.zb_model.specs.declared.data.Content.TheVariants.{Held, Absent}
 use Rattle.zb_model.specs.declared.refusal.Refusal.TheVariants as refusal
 use Rattle.commit_phases.specs.Pending.{pending_of}
 use Rattle.zodb_core.specs.declared.reply.Reply.{Reply}
@@ -28,9 +30,9 @@ use Rattle.client_turns.specs.Lines.{outcome_of_result}
 use Rattle.connection_view.specs.Loading.{IsMissing}
 use Rattle.client_turns.specs.Standing.{ClientsState, IsGotAs, IsGotOf, IsGotWhere, IsWorkOf, LeadsTo, MayReadAt, ReadsHub, StandsForMoment}
 use Rattle.client_turns.specs.Steps.{IsReadAt, IsStepAt}
-use Rattle.client_turns.specs.Trees.{Draws, IsDrawn, IsInView, IsSeen, IsSeenIn}
+use Rattle.client_turns.specs.Trees.{Draws, IsDrawn, IsInView, IsSeen, IsSeenIn, seen_waiting}
 use Rattle.connection_view.specs.declared.connection.Connection.{Connection}
-use Rattle.connection_view.specs.Connections.{work_of}
+use Rattle.connection_view.specs.Connections.{work_of, waiting_as}
 use Rattle.connection_view.specs.ViewLaws.{IsSeenFrom, seen_from}
 use Rattle.connection_view.specs.Views.{Later, View, read_below, view_of}
 use Rattle.connection_view.specs.Views as views
@@ -68,9 +70,9 @@ in_view m v oid None later is = by_switches (nat_lt v.switches (switches_of m.jo
         let same : v.switches ≡ switches_of m.journal = omega (arith, ltb-false v.switches (switches_of m.journal) not, later.switches) in
         (false, (sym same, sym (later.same same oid v.front (omega arith)) ∙ is))
 
-seen_waiting : (m : Machine) (v : View) (oid : ℕ) (p : Option PendingStore) (o : Option (ℕ × List ℕ)) → Later v (view_of (server_of m)) → read_below oid v.front m.list ≡ o → IsSeen m v oid p (seen_or p o)
-seen_waiting m v oid (Some p) o later is = refl
-seen_waiting m v oid None o later is = in_view m v oid o later is
+waiting_seen : (m : Machine) (v : View) (oid : ℕ) (p : Option PendingStore) (o : Option (ℕ × List ℕ)) → Later v (view_of (server_of m)) → read_below oid v.front m.list ≡ o → IsSeen m v oid p (seen_or p o)
+waiting_seen m v oid (Some p) o later is = refl
+waiting_seen m v oid None o later is = in_view m v oid o later is
 
 -- what a connection keeps of a transaction has of an object what the transaction has
 pub seen_kept : (m : Machine) (k : Connection) (told : views.Client) (w : Work) (t : OpenTransaction) (list : List Transaction) (oid : ℕ) → IsWorkOf k told w t → work_of k ≡ Ok w → Later t.view (view_of (server_of m)) → m.list ≡ list → IsSeenIn m t oid (objects_kept list w oid)
@@ -79,7 +81,7 @@ seen_kept m k told w t list oid is works later same =
     subst (λ (l : List Transaction). IsSeenIn m t oid (objects_kept l w oid)) same
     (subst (λ (f : ℕ). IsSeenIn m t oid (seen_or (pending_of w.pending.stores oid) (read_below oid f m.list))) (sym from.front)
     (subst (λ (ch : Changes). IsSeenIn m t oid (seen_or (pending_of ch.pending.stores oid) (read_below oid t.view.front m.list))) is.changes
-    (seen_waiting m t.view oid (pending_of t.changes.pending.stores oid) (read_below oid t.view.front m.list) later refl)))
+    (waiting_seen m t.view oid (pending_of t.changes.pending.stores oid) (read_below oid t.view.front m.list) later refl)))
 
 pub seen_over : (m : Machine) (t : OpenTransaction) (oid : ℕ) (o : Option (Option Seen)) (x : Option Seen) → ((y : Option Seen) → o ≡ Some y → IsSeenIn m t oid y) → IsSeenIn m t oid x → IsSeenIn m t oid (over_known o x)
 seen_over m t oid (Some y) x known kept = known y refl
@@ -104,11 +106,16 @@ read_sight m now t oid (Err (refusal.Missing o packed)) none read =
     (counts_same m now read.counts read.rest, subst (λ (p : Option PendingStore). IsSeen m.machine t.view oid p None) (sym none) (packed, read.ends.1))
 read_sight m now t oid (Err _) none read = inl (read, refl)
 
+seen_got : (oid base : ℕ) (content : Content) → seen_read (waiting_as oid base content) ≡ Ok (seen_waiting base content)
+seen_got oid base (Held bytes) = refl
+seen_got oid base Absent = refl
+
 -- what the transaction has, as a call on a tree wants it
 got_sight : (m now : Moment) (t : OpenTransaction) (oid : ℕ) (got : Result (ℕ × List ℕ) Refusal) (p : Option PendingStore) → pending_of t.changes.pending.stores oid ≡ p → IsGotAs m t.view oid p got now → IsSightIn m (Some t) oid (seen_read got) now
 got_sight m now t oid got None is read = read_sight m now t oid got is read
 got_sight m now t oid got (Some p) is (inl so, same) =
-    subst (λ (z : Result (ℕ × List ℕ) Refusal). IsSightIn m (Some t) oid (seen_read z) now) (sym so) (same, subst (λ (z : Option PendingStore). IsSeen m.machine t.view oid z (Some (record { serial = p.base; bytes = p.bytes }))) (sym is) refl)
+    subst (λ (z : Result (Option Seen) Refusal). IsSightIn m (Some t) oid z now) (sym (ap seen_read so ∙ seen_got oid p.base p.content))
+    (same, subst (λ (z : Option PendingStore). IsSeen m.machine t.view oid z (seen_waiting p.base p.content)) (sym is) refl)
 got_sight m now t oid got (Some p) is (inr starved, same) = subst (λ (z : Result (ℕ × List ℕ) Refusal). IsSightIn m (Some t) oid (seen_read z) now) (sym starved) (inr (refl, same))
 
 got_where : (m now : Moment) (o : Option OpenTransaction) (oid : ℕ) (got : Result (ℕ × List ℕ) Refusal) → IsSome o → IsGotWhere m o oid got now → IsSightIn m o oid (seen_read got) now

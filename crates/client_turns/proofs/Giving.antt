@@ -4,6 +4,7 @@ use Rattle.std.specs.Prelude.{slice_get}
 use Rattle.std.proofs.lemmas.Bool.{cases_Bool}
 use Rattle.std.proofs.lemmas.Option.{same_Some}
 use Rattle.zb_ids.specs.Tids.{tid_after}
+use Rattle.zb_model.specs.declared.data.Content.TheVariants.{Held}
 use Rattle.zb_model.specs.declared.data.Change.{Change}
 use Rattle.zb_model.specs.declared.data.Transaction.{Transaction}
 use Rattle.zb_model.specs.declared.found.Found.{Found}
@@ -32,6 +33,7 @@ use Rattle.zodb_core.specs.Machine.{Machine, MachineVote, Rules, front_of, with_
 use Rattle.zodb_core.specs.Outcomes.{EndsFor, FaultCounts, is_pack, outcome_of}
 use Rattle.zodb_core.specs.StepCases.{PackCases, by_pack_step}
 use Rattle.zodb_core.specs.Steps.{Stepped, changes_in_journal, early_refusal, finish_gives, finish_step, journal_limit, loaded, replied_refusal, request_step, step_of, transaction_with, unless_early, vote_at, vote_counted, vote_step, with_vote}
+use Rattle.connection_view.specs.Connections.{waiting_read}
 use Rattle.client_turns.specs.Clients.{Changes, Client, Moment, OpenTransaction, changes_of, place_of_client}
 use Rattle.client_turns.specs.Laws.{front_given, number_given}
 use Rattle.client_turns.specs.Lines.{answer_of, data_of, is_committed, object_of, pending_in, put, request_of, rolled_back, rolled_to, saved, store_unless, stored}
@@ -234,10 +236,10 @@ object_quiet m now (Err why) = quiet m now (answer.Refused why) refl refl
 
 get_gives : (m now : Moment) (v : View) (oid : ℕ) (o : Option PendingStore) (a : Answer) → IsGet m v oid o a now → Gives m.machine now.machine a
 get_gives m now v oid None a is = as_quiet m.machine now.machine a (object_of is.0) is.2 (object_quiet m.machine now.machine is.0)
-get_gives m now v oid (Some p) a is = as_quiet m.machine now.machine a (answer.Object p.base p.bytes) is.0 (quiet m.machine now.machine (answer.Object p.base p.bytes) refl refl)
+get_gives m now v oid (Some p) a is = as_quiet m.machine now.machine a (object_of (waiting_read oid p)) is.0 (object_quiet m.machine now.machine (waiting_read oid p))
 
 put_quiet : (m now : Machine) (t : Changes) (oid : ℕ) (bytes : List ℕ) (read : Result (ℕ × List ℕ) Refusal) → Gives m now (put t oid bytes read).answer
-put_quiet m now t oid bytes (Ok got) = store_quiet m now t (record { oid = oid; base = got.0; bytes = bytes }) (excess_with t.pending.stores (record { oid = oid; base = got.0; bytes = bytes }))
+put_quiet m now t oid bytes (Ok got) = store_quiet m now t (record { oid = oid; base = got.0; content = Held bytes }) (excess_with t.pending.stores (record { oid = oid; base = got.0; content = Held bytes }))
 put_quiet m now t oid bytes (Err refusal.TidsSpent) = refused_gives m now (answer.Refused refusal.TidsSpent) refusal.TidsSpent refl
 put_quiet m now t oid bytes (Err refusal.StoreFault) = refused_gives m now (answer.Refused refusal.StoreFault) refusal.StoreFault refl
 put_quiet m now t oid bytes (Err (refusal.Conflict a0 a1 a2 a3)) = refused_gives m now (answer.Refused (refusal.Conflict a0 a1 a2 a3)) (refusal.Conflict a0 a1 a2 a3) refl
@@ -249,7 +251,7 @@ put_quiet m now t oid bytes (Err (refusal.UndoConflict a0 a1)) = refused_gives m
 put_quiet m now t oid bytes (Err (refusal.Overtaken a0 a1)) = refused_gives m now (answer.Refused (refusal.Overtaken a0 a1)) (refusal.Overtaken a0 a1) refl
 put_quiet m now t oid bytes (Err (refusal.Unreadable a0 a1)) = refused_gives m now (answer.Refused (refusal.Unreadable a0 a1)) (refusal.Unreadable a0 a1) refl
 put_quiet m now t oid bytes (Err (refusal.PackedAlready a0)) = refused_gives m now (answer.Refused (refusal.PackedAlready a0)) (refusal.PackedAlready a0) refl
-put_quiet m now t oid bytes (Err (refusal.Missing a0 false)) = store_quiet m now t (record { oid = oid; base = 0; bytes = bytes }) (excess_with t.pending.stores (record { oid = oid; base = 0; bytes = bytes }))
+put_quiet m now t oid bytes (Err (refusal.Missing a0 false)) = store_quiet m now t (record { oid = oid; base = 0; content = Held bytes }) (excess_with t.pending.stores (record { oid = oid; base = 0; content = Held bytes }))
 put_quiet m now t oid bytes (Err (refusal.Missing a0 true)) = refused_gives m now (answer.Refused (refusal.Missing a0 true)) (refusal.Missing a0 true) refl
 put_quiet m now t oid bytes (Err refusal.NoTransaction) = refused_gives m now (answer.Refused refusal.NoTransaction) refusal.NoTransaction refl
 put_quiet m now t oid bytes (Err refusal.InTransaction) = refused_gives m now (answer.Refused refusal.InTransaction) refusal.InTransaction refl
@@ -280,8 +282,8 @@ put_quiet m now t oid bytes (Err refusal.Memory) = refused_gives m now (answer.R
 put_gives : (m now : Moment) (at : ℕ) (c : Client) (t : OpenTransaction) (oid : ℕ) (bytes : List ℕ) (o : Option PendingStore) (a : Answer) → IsPut m at c t oid bytes o a now → Gives m.machine now.machine a
 put_gives m now at c t oid bytes None a is = as_quiet m.machine now.machine a (put t.changes oid bytes is.0).answer is.3.0 (put_quiet m.machine now.machine t.changes oid bytes is.0)
 put_gives m now at c t oid bytes (Some p) a is =
-    as_quiet m.machine now.machine a (stored t.changes (record { oid = oid; base = p.base; bytes = bytes })).answer is.0
-    (store_quiet m.machine now.machine t.changes (record { oid = oid; base = p.base; bytes = bytes }) (excess_with t.changes.pending.stores (record { oid = oid; base = p.base; bytes = bytes })))
+    as_quiet m.machine now.machine a (stored t.changes (record { oid = oid; base = p.base; content = Held bytes })).answer is.0
+    (store_quiet m.machine now.machine t.changes (record { oid = oid; base = p.base; content = Held bytes }) (excess_with t.changes.pending.stores (record { oid = oid; base = p.base; content = Held bytes })))
 
 rolled_quiet : (m now : Machine) (t : Changes) (number : ℕ) (o : Option PendingChanges) → Gives m now (rolled_to t number o).answer
 rolled_quiet m now t number None = refused_gives m now (answer.Refused (refusal.NoSavepoint number)) (refusal.NoSavepoint number) refl
@@ -299,10 +301,11 @@ within_gives : (m now : Moment) (at : ℕ) (c : Client) (t : OpenTransaction) (l
 within_gives m now at c t (line.Load oid) a is = as_quiet m.machine now.machine a (data_of is.0) is.2 (data_quiet m.machine now.machine is.0)
 within_gives m now at c t (line.Get oid) a is = get_gives m now t.view oid (pending_of t.changes.pending.stores oid) a is
 within_gives m now at c t (line.Store oid base bytes) a is =
-    as_quiet m.machine now.machine a (stored t.changes (record { oid = oid; base = base; bytes = bytes })).answer is.0
-    (store_quiet m.machine now.machine t.changes (record { oid = oid; base = base; bytes = bytes }) (excess_with t.changes.pending.stores (record { oid = oid; base = base; bytes = bytes })))
+    as_quiet m.machine now.machine a (stored t.changes (record { oid = oid; base = base; content = Held bytes })).answer is.0
+    (store_quiet m.machine now.machine t.changes (record { oid = oid; base = base; content = Held bytes }) (excess_with t.changes.pending.stores (record { oid = oid; base = base; content = Held bytes })))
 within_gives m now at c t (line.Put oid bytes) a is = put_gives m now at c t oid bytes (pending_of t.changes.pending.stores oid) a is
 within_gives m now at c t (line.Check oid serial) a is = as_quiet m.machine now.machine a answer.Checked is.0 (quiet m.machine now.machine answer.Checked refl refl)
+within_gives m now at c t (line.Delete oid base) a is = as_quiet m.machine now.machine a answer.Deleted is.0 (quiet m.machine now.machine answer.Deleted refl refl)
 within_gives m now at c t line.Savepoint a is = as_quiet m.machine now.machine a (saved t.changes).answer is.0 (quiet m.machine now.machine (saved t.changes).answer refl refl)
 within_gives m now at c t (line.Rollback number) a is =
     as_quiet m.machine now.machine a (rolled_back t.changes number).answer is.0 (rolled_quiet m.machine now.machine t.changes number (slice_get t.changes.savepoints number))
@@ -317,7 +320,9 @@ within_gives m now at c t line.Finish a is = refused_gives m.machine now.machine
 within_gives m now at c t line.Abort a is = refused_gives m.machine now.machine a refusal.NoTransaction is.0
 within_gives m now at c t (line.History oid) a is = refused_gives m.machine now.machine a refusal.NoTransaction is.0
 within_gives m now at c t line.UndoLog a is = refused_gives m.machine now.machine a refusal.NoTransaction is.0
-within_gives m now at c t (line.Pack tid) a is = refused_gives m.machine now.machine a refusal.NoTransaction is.0
+within_gives m now at c t (line.Pack tid collect) a is = refused_gives m.machine now.machine a refusal.NoTransaction is.0
+within_gives m now at c t (line.PackBegin tid collect) a is = refused_gives m.machine now.machine a refusal.NoTransaction is.0
+within_gives m now at c t line.PackTurn a is = refused_gives m.machine now.machine a refusal.NoTransaction is.0
 within_gives m now at c t line.Close a is = refused_gives m.machine now.machine a refusal.NoTransaction is.0
 
 own_gives : (m now : Moment) (at : ℕ) (c : Client) (t : Option OpenTransaction) (l : Line) (a : Answer) → IsOwnLine m at c t l a now → Gives m.machine now.machine a
@@ -333,6 +338,7 @@ asks_one ch (line.Get oid) q is = absurd cc
 asks_one ch (line.Store oid base bytes) q is = absurd cc
 asks_one ch (line.Put oid bytes) q is = absurd cc
 asks_one ch (line.Check oid serial) q is = absurd cc
+asks_one ch (line.Delete oid base) q is = absurd cc
 asks_one ch line.Savepoint q is = absurd cc
 asks_one ch (line.Rollback number) q is = absurd cc
 asks_one ch (line.Tree root call) q is = absurd cc
@@ -343,7 +349,9 @@ asks_one ch line.Finish q is = subst AsksOne (same_Some request.Finish q is) tt
 asks_one ch line.Abort q is = subst AsksOne (same_Some request.Abort q is) tt
 asks_one ch (line.History oid) q is = subst AsksOne (same_Some (request.History oid) q is) tt
 asks_one ch line.UndoLog q is = subst AsksOne (same_Some request.UndoLog q is) tt
-asks_one ch (line.Pack tid) q is = subst AsksOne (same_Some (request.Pack tid true) q is) tt
+asks_one ch (line.Pack tid collect) q is = subst AsksOne (same_Some (request.Pack tid collect) q is) tt
+asks_one ch (line.PackBegin tid collect) q is = subst AsksOne (same_Some (request.PackBegin tid collect) q is) tt
+asks_one ch line.PackTurn q is = subst AsksOne (same_Some request.PackTurn q is) tt
 asks_one ch line.Close q is = subst AsksOne (same_Some request.Close q is) tt
 
 told_up : (rules : Rules) (b t : Moment) (n : ℕ) (committed : Bool) → IsTold rules committed b n t → b.machine.greatest ≤ t.machine.greatest

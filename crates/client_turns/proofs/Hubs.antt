@@ -1,12 +1,11 @@
 -- What the sessions of a hub say of its store.
 use Rattle.std.proofs.Common.{◌≡◌, ℕ, zero, suc, Bool, true, false, List, [], ◌∷◌, subst, sym, ◌∙◌, ap, refl}
-use Rattle.zodb_core.specs.declared.session.Session.{Session}
 use Rattle.zodb_core.specs.HubState.{HubState, StandsForMachine, is_store_failed, sessions_with}
-use Rattle.zodb_core.specs.Machine.{Machine, is_open_in}
+use Rattle.zodb_core.specs.Machine.{Machine, MachineSession, is_open_in}
 use Rattle.zodb_core.specs.Outcomes.{FaultCounts, StepOutcome, StoreFailed}
 use Rattle.client_turns.specs.Clients.{Moment}
 
-closed_open : (sessions : List Session) (n : ℕ) → is_open_in (sessions_with true sessions) n ≡ true → ⊥
+closed_open : (sessions : List MachineSession) (n : ℕ) → is_open_in (sessions_with true sessions) n ≡ true → ⊥
 closed_open sessions n is = none (by_place sessions n) is
   where
     none : is_open_in (sessions_with true sessions) n ≡ false → is_open_in (sessions_with true sessions) n ≡ true → ⊥
@@ -15,14 +14,14 @@ closed_open sessions n is = none (by_place sessions n) is
         false_true : false ≡ true → ⊥
         false_true e = absurd cc
 
-    by_place : (xs : List Session) (k : ℕ) → is_open_in (sessions_with true xs) k ≡ false
+    by_place : (xs : List MachineSession) (k : ℕ) → is_open_in (sessions_with true xs) k ≡ false
     by_place [] k = refl
     by_place (x ∷ xs) zero = refl
     by_place (x ∷ xs) (suc k) = by_place xs k
 
 -- where a session is open the store hasn't failed
 pub open_whole : {R F : Type 0} (hub : HubState R F) (m : Machine) (n : ℕ) → StandsForMachine hub m → is_open_in m.sessions n ≡ true → hub.store.broken ≡ false
-open_whole hub m n stands is = by_broken hub.store.broken (subst (λ (s : List Session). is_open_in s n ≡ true) stands.sessions is)
+open_whole hub m n stands is = by_broken hub.store.broken (subst (λ (s : List MachineSession). is_open_in s n ≡ true) stands.sessions is)
   where
     by_broken : (b : Bool) → is_open_in (sessions_with b hub.sessions) n ≡ true → b ≡ false
     by_broken false is = refl

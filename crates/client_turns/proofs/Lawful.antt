@@ -26,10 +26,10 @@ out_follows rules m now (t ∷ turns) later [] sound is = absurd is
 out_follows rules m now (t ∷ turns) later (o ∷ out) sound is =
     let first : FollowsMoment m is.0 = turn_follows rules m is.0 t (is_last t (turns ++ later)) o.answer sound is.2 in
     let rest : FollowsMoment is.0 now = out_follows rules is.0 now turns later out (sound_of m is.0 first) is.3 in
-    record { machine = follows_twice m.machine is.0.machine now.machine first.machine rest.machine; once = rest.once }
+    record { machine = follows_twice m.machine is.0.machine now.machine first.machine rest.machine; formed = rest.formed }
 
 pub first_sound : (list : List Transaction) (stamps : Option (List Stamp)) (counts : FaultCounts) → IsDatabase list → IsSoundMoment (first_moment list stamps counts)
-first_sound list stamps counts is = record { machine = over_sound list is; once = tt }
+first_sound list stamps counts is = record { machine = over_sound list is; formed = tt }
 
 pub list_stays : TheListStaysADatabase
 list_stays rules list stamps counts turns later out now is output =
@@ -42,7 +42,7 @@ list_stays rules list stamps counts turns later out now is output =
 turn_gives : (rules : Rules) (m now : Moment) (t : Turn) (last : Bool) (a : Answer) → IsSoundMoment m → IsAnswered rules m t last a now → Gives m.machine now.machine a
 turn_gives rules m now t last a sound is =
     let gives : Gives m.machine is.behind.machine a = line_gives rules m is.behind t.client t.line a is.line in
-    let line : FollowsMoment m is.behind = line_follows rules m is.behind t.client t.line a sound is.line in
+    let line : FollowsMoment m is.behind = line_follows rules m is.behind t.client t.line a sound is.fits is.line in
     let closing : FollowsMoment is.behind now = closing_follows rules is.behind now t.client last (sound_of m is.behind line) is.closing in
     record { front = gives.front; number = λ n given. ((gives.number n given).0, omega (arith, (gives.number n given).1, closing.machine.greatest)) }
 

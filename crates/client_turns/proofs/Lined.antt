@@ -2,6 +2,7 @@
 use Rattle.std.proofs.Common.{◌≡◌, ◌⊎◌, ℕ, true, List, Option, Some, None, Result, Ok, Err, sym, ap, subst, ◌∙◌, refl}
 use Rattle.std.specs.Prelude.{IfOk, IsOk, MatchOption, OnErr, OnOk, length}
 use Rattle.zb_ids.specs.declared.stamp.Stamp.{Stamp}
+use Rattle.zb_model.specs.declared.data.Content.TheVariants.{Held}
 use Rattle.zb_model.specs.declared.data.Transaction.{Transaction}
 use Rattle.zb_model.specs.declared.pending.PendingCheck.{PendingCheck}
 use Rattle.zb_model.specs.declared.pending.PendingStore.{PendingStore}
@@ -16,7 +17,7 @@ use Rattle.commit_phases.specs.Pending.{pending_of}
 use Rattle.zodb_core.specs.HubState.{HubState, rules_of}
 use Rattle.zodb_core.specs.Machine.{Rules}
 use Rattle.connection_view.specs.declared.work.Work.{Work}
-use Rattle.connection_view.specs.Connections.{Between, InView, IsCallMade, IsFrontBy, IsNewWork, IsPutAsRead, IsReadBy, LeavesWork, begin_refusal, changeable, checked_in_work, followed_by, rolled_back, saved, stored_in_work, unmixed, work_of}
+use Rattle.connection_view.specs.Connections.{Between, InView, IsCallMade, IsFrontBy, IsNewWork, IsPutAsRead, IsReadBy, LeavesWork, begin_refusal, changeable, checked_in_work, deleted_in_work, followed_by, rolled_back, saved, stored_in_work, unmixed, work_of, waiting_read}
 use Rattle.connection_view.specs.Loading.{Abort, Finish, LoadsCall, Reads, Undo, Vote}
 use Rattle.connection_view.specs.Views.{View, committed, each_object, renewed, stored_in, unvoted, view_of, voting}
 use Rattle.connection_view.specs.Views as views
@@ -30,7 +31,7 @@ use Rattle.client_turns.specs.Clients.{Changes}
 use Rattle.client_turns.specs.Lines.{Changed, data_of}
 use Rattle.client_turns.specs.Standing.{IsGotWhere, changes_kept}
 use Rattle.client_turns.proofs.Asked.{end_of_client, get_leads, load_leads}
-use Rattle.client_turns.proofs.Changing.{AgreesAs, IsChanging, change_leads, check_changes, checked_agrees, roll_changes, rolled_agrees, rolled_done, save_changes, saved_agrees, store_changes, stored_agrees, stored_done}
+use Rattle.client_turns.proofs.Changing.{AgreesAs, IsChanging, change_leads, check_changes, checked_agrees, delete_changes, deleted_agrees, roll_changes, rolled_agrees, rolled_done, save_changes, saved_agrees, store_changes, stored_agrees, stored_done}
 use Rattle.client_turns.proofs.Ending.{abort_leads, begin_leads, finish_leads, undo_leads, vote_leads}
 use Rattle.client_turns.proofs.One.{starved_open, stays}
 use Rattle.client_turns.proofs.Putting.{put_leads}
@@ -79,9 +80,9 @@ module _ {R F S : Type 0} (told lasts : Type 0) (stands : List ℕ → List Tran
 
   -- what a transaction has of an object
   pub get_over : (oid : ℕ) (result : Result (ℕ × List ℕ) Refusal)
-      → ((w : Work) (p : PendingStore) → work_of x.connection ≡ Ok w → pending_of w.pending.stores oid ≡ Some p → ((result ≡ Ok (p.base, p.bytes)) ⊎ (result ≡ Err refusal.Memory)) × (b ≡ a))
+      → ((w : Work) (p : PendingStore) → work_of x.connection ≡ Ok w → pending_of w.pending.stores oid ≡ Some p → ((result ≡ waiting_read oid p) ⊎ (result ≡ Err refusal.Memory)) × (b ≡ a))
       → ((w : Work) → work_of x.connection ≡ Ok w → pending_of w.pending.stores oid ≡ None → (u : View) (v : views.Client) → Stands a v → InView x.connection u v → Reads u (local.server_of (state a).hub) oid result)
-      → ((r : Refusal) → work_of x.connection ≡ Err r → (result ≡ Err r) × (b ≡ a)) → ((w : Work) → work_of x.connection ≡ Ok w → IsReadBy Makes a b oid w.front w.switches result)
+      → ((r : Refusal) → work_of x.connection ≡ Err r → (result ≡ Err r) × (b ≡ a)) → ((w : Work) → work_of x.connection ≡ Ok w → pending_of w.pending.stores oid ≡ None → IsReadBy Makes a b oid w.front w.switches result)
       → work_of y.connection ≡ work_of x.connection → ((u : View) (v : views.Client) → Stands a v → InView x.connection u v → InView y.connection u v) → ((v : views.Client) → Between x.connection v → Between y.connection v)
       → TakesRead told IsGotWhere oid result h g x y before after
   get_over oid result waiting reads refused made work view between tells m at c takes =
@@ -101,14 +102,23 @@ module _ {R F S : Type 0} (told lasts : Type 0) (stands : List ℕ → List Tran
       (record { name = name; session = session; told = ap (λ (s : LocalState R F). s.last) stay }) (λ u. view u takes.stands.client.told) (between takes.stands.client.told) l change f reply result is agrees leaves done refused
 
   -- `store`
-  pub store_over : (oid base : ℕ) (bytes : List ℕ) (result : Result (Unit {0}) Refusal) → LeavesWork (followed_by (changeable (work_of x.connection)) (stored_in_work (record { oid = oid; base = base; bytes = bytes }))) (work_of x.connection) (work_of y.connection) result → b ≡ a
+  pub store_over : (oid base : ℕ) (bytes : List ℕ) (result : Result (Unit {0}) Refusal) → LeavesWork (followed_by (changeable (work_of x.connection)) (stored_in_work (record { oid = oid; base = base; content = Held bytes }))) (work_of x.connection) (work_of y.connection) result → b ≡ a
       → ((u : View) (v : views.Client) → InView x.connection u v → InView y.connection u v) → ((v : views.Client) → Between x.connection v → Between y.connection v) → (reply : Answer) → reply ≡ answered result answer.Stored
       → TakesLine told (rules_of rules_in named_in h) (line.Store oid base bytes) reply h g x y before after
   store_over oid base bytes result leaves kept view between reply answers =
-      let p : PendingStore = record { oid = oid; base = base; bytes = bytes } in
+      let p : PendingStore = record { oid = oid; base = base; content = Held bytes } in
       change_over (line.Store oid base bytes) _ (stored_in_work p) result (store_changes oid base bytes) (stored_agrees p) leaves kept view between reply
       (λ w v z works said ok. answers ∙ ap (λ (e : Result (Unit {0}) Refusal). answered e answer.Stored) said ∙ stored_done p w v ok)
       (λ r said. answers ∙ ap (λ (e : Result (Unit {0}) Refusal). answered e answer.Stored) said)
+
+  -- `delete`
+  pub delete_over : (oid base : ℕ) (result : Result (Unit {0}) Refusal) → LeavesWork (followed_by (changeable (work_of x.connection)) (deleted_in_work oid base)) (work_of x.connection) (work_of y.connection) result → b ≡ a
+      → ((u : View) (v : views.Client) → InView x.connection u v → InView y.connection u v) → ((v : views.Client) → Between x.connection v → Between y.connection v) → (reply : Answer) → reply ≡ answered result answer.Deleted
+      → TakesLine told (rules_of rules_in named_in h) (line.Delete oid base) reply h g x y before after
+  delete_over oid base result leaves kept view between reply answers =
+      change_over (line.Delete oid base) _ (deleted_in_work oid base) result (delete_changes oid base) (deleted_agrees oid base) leaves kept view between reply
+      (λ w v z works said ok. answers ∙ ap (λ (e : Result (Unit {0}) Refusal). answered e answer.Deleted) said)
+      (λ r said. answers ∙ ap (λ (e : Result (Unit {0}) Refusal). answered e answer.Deleted) said)
 
   -- `check`
   pub check_over : (oid serial : ℕ) (result : Result (Unit {0}) Refusal) → LeavesWork (followed_by (changeable (work_of x.connection)) (checked_in_work (record { oid = oid; serial = serial }))) (work_of x.connection) (work_of y.connection) result → b ≡ a
@@ -140,7 +150,7 @@ module _ {R F S : Type 0} (told lasts : Type 0) (stands : List ℕ → List Tran
 
   -- `put`
   pub put_over : (oid : ℕ) (bytes : List ℕ) (result : Result (Unit {0}) Refusal)
-      → ((w : Work) (p : PendingStore) → changeable (work_of x.connection) ≡ Ok w → pending_of w.pending.stores oid ≡ Some p → LeavesWork (stored_in_work (record { oid = oid; base = p.base; bytes = bytes }) w) (work_of x.connection) (work_of y.connection) result × (b ≡ a))
+      → ((w : Work) (p : PendingStore) → changeable (work_of x.connection) ≡ Ok w → pending_of w.pending.stores oid ≡ Some p → LeavesWork (stored_in_work (record { oid = oid; base = p.base; content = Held bytes }) w) (work_of x.connection) (work_of y.connection) result × (b ≡ a))
       → ((w : Work) → changeable (work_of x.connection) ≡ Ok w → pending_of w.pending.stores oid ≡ None → IsPutAsRead Makes (Stands a) (local.server_of (state a).hub) a b x.connection y.connection w oid bytes result)
       → ((r : Refusal) → changeable (work_of x.connection) ≡ Err r → (result ≡ Err r) × (b ≡ a) × (work_of y.connection ≡ work_of x.connection))
       → ((u : View) (v : views.Client) → Stands a v → InView x.connection u v → InView y.connection u v) → ((v : views.Client) → Between x.connection v → Between y.connection v)

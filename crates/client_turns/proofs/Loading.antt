@@ -1,5 +1,5 @@
 -- How a load of the hub is a read in a view.
-use Rattle.std.proofs.Common.{◌≡◌, ℕ, Bool, true, false, not, eqb, ◌==◌, List, Option, Some, None, Result, Ok, Err, refl, sym, ap, subst, ◌∙◌, ◌≤◌, ◌<◌, arith, IsTrue, inl, inr}
+use Rattle.std.proofs.Common.{◌≡◌, ℕ, Bool, true, false, not, ◌==◌, List, Option, Some, None, Result, Err, refl, sym, ap, subst, ◌∙◌, ◌≤◌, ◌<◌, arith, IsTrue, inl, inr}
 use Rattle.std.specs.Option.{option_and_then, option_or}
 use Rattle.std.proofs.lemmas.Bool.{eqb-true, eqb-false}
 use Rattle.zb_base.specs.Counts.{Rose}
@@ -17,7 +17,6 @@ use Rattle.zodb_core.specs.HubState.{HasTicked}
 use Rattle.zodb_core.specs.Machine.{Machine, Rules, is_open_in, switches_of}
 use Rattle.zodb_core.specs.Outcomes.{Answered, EndsFor, FaultCounts, NoMemory, ReadingFailed, StepOutcome, StoreFailed, machine_left, outcome_of, outcome_of_refusal}
 use Rattle.zodb_core.specs.Steps.{Stepped, loaded, refuse_if, replied, step_of, unless_early}
-use Rattle.connection_view.specs.declared.loads.Loaded.{Loaded}
 use Rattle.connection_view.specs.Connections.{IsReadAnswered}
 use Rattle.connection_view.specs.Loading.{IsMissing}
 use Rattle.connection_view.specs.Views.{Later, View, read_as, read_from, view_of}
@@ -25,7 +24,7 @@ use Rattle.local_loads.specs.Answers.{load_answer, server_refusal}
 use Rattle.client_turns.specs.Clients.{Moment}
 use Rattle.client_turns.specs.Clients as clients
 use Rattle.client_turns.specs.Lines.{IsCountedBy, outcome_of_read}
-use Rattle.client_turns.specs.Reads.{EndsReading, IsMissedFor}
+use Rattle.client_turns.specs.Reads.{EndsReading}
 use Rattle.client_turns.specs.Steps.{IsReadAt, IsStepAt}
 use Rattle.client_turns.specs.Views.{server_of}
 

@@ -10,10 +10,9 @@ use Rattle.zb_model.specs.declared.refusal.Refusal.TheVariants as refusal
 use Rattle.zb_answers.specs.declared.answer.Answer.TheVariants as answer
 use Rattle.zodb_core.specs.declared.reply.Reply.{Reply}
 use Rattle.zodb_core.specs.declared.request.Request.TheVariants as request
-use Rattle.zodb_core.specs.declared.session.Session.{Session}
 use Rattle.zb_model.specs.Stores.{StoreState}
 use Rattle.zodb_core.specs.HubState.{HubState, StandsForMachine, counts_of, pack_with, sessions_with, vote_of_hub}
-use Rattle.zodb_core.specs.Machine.{Machine, Rules, with_session}
+use Rattle.zodb_core.specs.Machine.{Machine, MachineSession, Rules, with_session}
 use Rattle.zodb_core.specs.Outcomes.{closed_session}
 use Rattle.zodb_core.specs.Sound.{IsPackWithin}
 use Rattle.zb_model.specs.declared.data.Transaction.{Transaction}
@@ -37,7 +36,7 @@ use Rattle.client_turns.proofs.One.{clients_later}
 use Rattle.client_turns.proofs.Placing.{IsClientAt, client_at, push_at, same_place, there_at}
 
 -- as many sessions as the hub has
-sessions_counted : (b : Bool) (sessions : List Session) → length (sessions_with b sessions) ≡ length sessions
+sessions_counted : (b : Bool) (sessions : List MachineSession) → length (sessions_with b sessions) ≡ length sessions
 sessions_counted false sessions = refl
 sessions_counted true sessions = length-map sessions closed_session
 

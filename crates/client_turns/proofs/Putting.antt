@@ -1,8 +1,9 @@
 -- `put`, over the hub.
-use Rattle.std.proofs.Common.{◌≡◌, ℕ, Bool, true, false, List, Option, Some, None, Result, Ok, Err, if◌then◌else◌, refl, sym, ap, subst, ◌∙◌, inl, inr}
+use Rattle.std.proofs.Common.{◌≡◌, ℕ, Bool, true, false, List, Option, Some, None, Result, Ok, Err, if◌then◌else◌, refl, sym, ap, subst, ◌∙◌}
 use Rattle.std.specs.Prelude.{slice_get, slice_set}
 use Rattle.std.specs.Option.{option_map}
 use Rattle.zb_ids.specs.declared.stamp.Stamp.{Stamp}
+use Rattle.zb_model.specs.declared.data.Content.TheVariants.{Held}
 use Rattle.zb_model.specs.declared.data.Transaction.{Transaction}
 use Rattle.zb_model.specs.declared.pending.PendingStore.{PendingStore}
 use Rattle.zb_model.specs.declared.refusal.Refusal.{Refusal}
@@ -13,10 +14,9 @@ use Rattle.zb_answers.specs.declared.answer.Answer.TheVariants as answer
 use Rattle.zb_script.specs.declared.line.Line.TheVariants as line
 use Rattle.commit_phases.specs.Pending.{pending_of}
 use Rattle.zodb_core.specs.HubState.{HubState, rules_of}
-use Rattle.zodb_core.specs.Machine.{Machine, is_open_in}
-use Rattle.connection_view.specs.declared.connection.Connection.{Connection}
+use Rattle.zodb_core.specs.Machine.{is_open_in}
 use Rattle.connection_view.specs.declared.work.Work.{Work}
-use Rattle.connection_view.specs.Connections.{Between, InView, IsPutAsRead, LeavesWork, base_read, changeable, followed_by, stored_in_work, work_of}
+use Rattle.connection_view.specs.Connections.{Between, InView, IsPutAsRead, LeavesWork, base_read, changeable, stored_in_work, work_of}
 use Rattle.connection_view.specs.Loading.{LoadsCall}
 use Rattle.connection_view.specs.Views.{View}
 use Rattle.connection_view.specs.Views as views
@@ -29,8 +29,8 @@ use Rattle.client_turns.specs.Clients.{Changes, Moment, OpenTransaction, changes
 use Rattle.client_turns.specs.Clients as seen
 use Rattle.client_turns.specs.Lines as lines
 use Rattle.client_turns.specs.Lines.{request_of}
-use Rattle.client_turns.specs.Standing.{IsClientOf, IsLineOpen, MayTakeAt, OneLeadsTo, changes_kept}
-use Rattle.client_turns.specs.Steps.{IsChange, IsReadAt}
+use Rattle.client_turns.specs.Standing.{IsClientOf, IsLineOpen, MayTakeAt, OneLeadsTo}
+use Rattle.client_turns.specs.Steps.{IsReadAt}
 use Rattle.client_turns.specs.Turns.{IsPut}
 use Rattle.client_turns.proofs.Asked.{IsOpened, MayStand, ReadsTo, end_of_client, opened_of, read_to}
 use Rattle.client_turns.proofs.Changing.{TakesUnvoted, closed_change, next_to, put_agrees, put_done, stored_agrees, stored_done, unvoted_free, voted_change}
@@ -112,7 +112,7 @@ module _ {R F S : Type 0} (told lasts : Type 0) (stands : List ℕ → List Tran
       }
 
   pub put_leads : (oid : ℕ) (bytes : List ℕ) (result : Result (Unit {0}) Refusal)
-      → ((w : Work) (p : PendingStore) → changeable (work_of x.connection) ≡ Ok w → pending_of w.pending.stores oid ≡ Some p → LeavesWork (stored_in_work (record { oid = oid; base = p.base; bytes = bytes }) w) (work_of x.connection) (work_of y.connection) result × (b ≡ a))
+      → ((w : Work) (p : PendingStore) → changeable (work_of x.connection) ≡ Ok w → pending_of w.pending.stores oid ≡ Some p → LeavesWork (stored_in_work (record { oid = oid; base = p.base; content = Held bytes }) w) (work_of x.connection) (work_of y.connection) result × (b ≡ a))
       → ((w : Work) → changeable (work_of x.connection) ≡ Ok w → pending_of w.pending.stores oid ≡ None → IsPutAsRead makes (MayStand told h x) (local.server_of h) a b x.connection y.connection w oid bytes result)
       → ((r : Refusal) → changeable (work_of x.connection) ≡ Err r → (result ≡ Err r) × (b ≡ a) × (work_of y.connection ≡ work_of x.connection))
       → ((u : View) (v : views.Client) → MayStand told h x v → InView x.connection u v → InView y.connection u v) → ((v : views.Client) → Between x.connection v → Between y.connection v)
@@ -144,8 +144,8 @@ module _ {R F S : Type 0} (told lasts : Type 0) (stands : List ℕ → List Tran
               by_pending (Some p) is =
                   let said = waiting w p (changeable_if w false works unvoted) is in
                   next_to (rules_of rules_in named_in h) m at x y c h g before after takes (same_hub said.1) (same_stamps said.1) (same_but said.1) (λ u. view u mine.told may) (between mine.told) (IsLineOpen (rules_of rules_in named_in h) m at c (line.Put oid bytes) reply)
-                  (λ ch. lines.stored ch (record { oid = oid; base = p.base; bytes = bytes })) reply w _ result o works (stored_agrees (record { oid = oid; base = p.base; bytes = bytes }) w) said.0
-                  (λ z v done ok. answers ∙ ap (λ (e : Result (Unit {0}) Refusal). answered e answer.Stored) done ∙ stored_done (record { oid = oid; base = p.base; bytes = bytes }) w v ok)
+                  (λ ch. lines.stored ch (record { oid = oid; base = p.base; content = Held bytes })) reply w _ result o works (stored_agrees (record { oid = oid; base = p.base; content = Held bytes }) w) said.0
+                  (λ z v done ok. answers ∙ ap (λ (e : Result (Unit {0}) Refusal). answered e answer.Stored) done ∙ stored_done (record { oid = oid; base = p.base; content = Held bytes }) w v ok)
                   (λ r done. answers ∙ ap (λ (e : Result (Unit {0}) Refusal). answered e answer.Stored) done)
                   (λ now change. own_open (rules_of rules_in named_in h) m at c (line.Put oid bytes) reply now o.transaction o.begun
                   (unvoted_free (rules_of rules_in named_in h) m at x x c h h before before takes refl refl (record { name = refl; session = refl; told = refl }) (λ u z. z) (λ z. z) (line.Put oid bytes) w (put_takes oid bytes) o unvoted)

@@ -4,6 +4,8 @@ use Rattle.std.specs.Prelude.{ok_or, if◌then◌else◌, option_map, ◌||◌}
 use Rattle.std.specs.Option.{option_or}
 use Rattle.zb_ids.specs.Tids.{tid_after}
 use Rattle.zb_model.specs.declared.data.Change.{Change}
+use Rattle.zb_model.specs.declared.data.Content.{Content}
+use Rattle.zb_model.specs.declared.data.Content.TheVariants.{Held, Absent}
 use Rattle.zb_model.specs.declared.data.Transaction.{Transaction}
 use Rattle.zb_model.specs.declared.found.Found.{Found}
 use Rattle.zb_model.specs.declared.found.Found.TheVariants as found
@@ -14,11 +16,12 @@ use Rattle.zb_model.specs.declared.pending.PendingStore.{PendingStore}
 use Rattle.zb_model.specs.declared.refusal.Refusal.{Refusal}
 use Rattle.zb_model.specs.declared.refusal.Refusal.TheVariants as refusal
 use Rattle.zb_model.specs.declared.refusal.Why.{Why}
+use Rattle.zb_model.specs.declared.refusal.Why.TheVariants as why
 use Rattle.zb_model.specs.Database.{newest_tid, revision_below, serial_of}
 use Rattle.zb_model.specs.Queries.{found_below, pack_point, transaction_at}
 use Rattle.zb_model.specs.Rules.{MergeRules}
-use Rattle.commit_phases.specs.Decision.{ahead_of_changes, change_of_store, change_or_conflict, changes_of_stores, excess_of, failed_check, goes_in, length_of_content, too_long, unless_checks_fail, unless_refused, vote_decision}
-use Rattle.commit_phases.specs.Pending.{PendingChanges}
+use Rattle.commit_phases.specs.Decision.{ahead_of_changes, change_of_content, change_of_delete, change_of_store, change_or_conflict, changes_of_stores, current_record, excess_of, failed_check, goes_in, too_long, unless_checks_fail, unless_refused, vote_decision}
+use Rattle.commit_phases.specs.Pending.{PendingChanges, length_of_content}
 use Rattle.undo_records.specs.Undone.{content_before, content_now, is_same, is_untouched, merged_content, taken_over, then_with, undone_changes, undone_content, undone_from, undone_of, undone_transaction, with_change}
 use Rattle.pack_reach.specs.Packed.{packed, unread}
 use Rattle.zodb_core.specs.declared.reply.Reply.{Reply}
@@ -116,9 +119,21 @@ early_on m n q =
 
 -- ---- what a vote decides
 
-conflict_on : (list : List Transaction) (p : PendingStore) (r : Result (List ℕ) Why) → OnIfErr (change_or_conflict list p r)
-conflict_on list p (Ok bytes) = tt
-conflict_on list p (Err why) = refl
+conflict_on : (list : List Transaction) (oid base : ℕ) (r : Result (List ℕ) Why) → OnIfErr (change_or_conflict list oid base r)
+conflict_on list oid base (Ok bytes) = tt
+conflict_on list oid base (Err reason) = refl
+
+delete_on : (list : List Transaction) (oid base : ℕ) (o : Option (List ℕ)) → OnIfErr (change_of_delete list oid base o)
+delete_on list oid base None = refl
+delete_on list oid base (Some held) = by_cases (eqb base (serial_of oid list))
+  where
+    by_cases : (b : Bool) → OnIfErr {T = Change} (cond b (Ok (record { oid = oid; content = Absent })) (Err (refusal.Conflict oid base (serial_of oid list) why.NoRule)))
+    by_cases true = tt
+    by_cases false = refl
+
+content_on : (rules : MergeRules) (list : List Transaction) (oid base : ℕ) (content : Content) → OnIfErr (change_of_content rules list oid base content)
+content_on rules list oid base (Held bytes) = conflict_on list oid base (goes_in rules list oid base bytes)
+content_on rules list oid base Absent = delete_on list oid base (current_record oid list)
 
 ahead_on : (one : Result Change Refusal) (rest : Result (List Change) Refusal) → OnIfErr one → OnIfErr rest → OnIfErr (ahead_of_changes one rest)
 ahead_on (Err r) rest one all = one
@@ -127,7 +142,7 @@ ahead_on (Ok c) (Ok changes) one all = tt
 
 stores_on : (rules : MergeRules) (list : List Transaction) (stores : List PendingStore) → OnIfErr (changes_of_stores rules list stores)
 stores_on rules list [] = tt
-stores_on rules list (p ∷ stores) = ahead_on (change_of_store rules list p) (changes_of_stores rules list stores) (conflict_on list p (goes_in rules list p)) (stores_on rules list stores)
+stores_on rules list (p ∷ stores) = ahead_on (change_of_store rules list p) (changes_of_stores rules list stores) (content_on rules list p.oid p.base p.content) (stores_on rules list stores)
 
 check_on : (list : List Transaction) (checks : List PendingCheck) → OnIfSome (failed_check list checks)
 check_on list [] = tt
@@ -161,8 +176,8 @@ merged_on : (oid later : ℕ) (m : Option (List ℕ)) → OnIfErr (ok_or (option
 merged_on oid later None = refl
 merged_on oid later (Some bytes) = tt
 
-content_on : (rules : MergeRules) (list : List Transaction) (tid : ℕ) (written : List NewChange) (c : Change) → OnIfErr (undone_content rules list tid written c)
-content_on rules list tid written c = by_cases (is_untouched list tid written c.oid || is_same (content_now list written c.oid) c.content)
+undo_content_on : (rules : MergeRules) (list : List Transaction) (tid : ℕ) (written : List NewChange) (c : Change) → OnIfErr (undone_content rules list tid written c)
+undo_content_on rules list tid written c = by_cases (is_untouched list tid written c.oid || is_same (content_now list written c.oid) c.content)
   where
     by_cases : (b : Bool) → OnIfErr (cond b (Ok (taken_over (revision_below c.oid tid list))) (ok_or (option_map new_content.Bytes (merged_content rules c.content (content_now list written c.oid) (content_before c.oid tid list))) (refusal.UndoConflict c.oid (serial_of c.oid list))))
     by_cases true = tt
@@ -176,7 +191,7 @@ changes_on : (rules : MergeRules) (list : List Transaction) (tid : ℕ) (written
 changes_on rules list tid written [] = tt
 changes_on rules list tid written (c ∷ changes) =
     then_on (undone_content rules list tid written c) (λ content. undone_changes rules list tid (with_change written (record { oid = c.oid; content = content })) changes)
-    (content_on rules list tid written c)
+    (undo_content_on rules list tid written c)
     (λ content. changes_on rules list tid (with_change written (record { oid = c.oid; content = content })) changes)
 
 transaction_on : (rules : MergeRules) (list : List Transaction) (tid : ℕ) (written : List NewChange) (o : Option Transaction) → OnIfErr (undone_transaction rules list tid written o)

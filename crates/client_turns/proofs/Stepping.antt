@@ -94,6 +94,11 @@ IsPlainReply (reply.Oids first count) = Unit {0}
 IsPlainReply (reply.History list) = Unit {0}
 IsPlainReply (reply.UndoLog list) = Unit {0}
 IsPlainReply (reply.Packed kept dropped) = Unit {0}
+IsPlainReply (reply.Packing tid) = Unit {0}
+IsPlainReply (reply.Marking count) = Unit {0}
+IsPlainReply (reply.Marked count) = Unit {0}
+IsPlainReply (reply.Copying count) = Unit {0}
+IsPlainReply (reply.Copied count) = Unit {0}
 IsPlainReply reply.Closed = Unit {0}
 IsPlainReply (reply.Refused why) = Unit {0}
 IsPlainReply _ = ⊥
@@ -118,6 +123,20 @@ pack_reply (reply.Packed kept dropped) tid collects fits = tt
 pack_reply (reply.Refused why) tid collects fits = tt
 pack_reply _ tid collects fits = absurd fits
 
+begin_reply : (r : Reply) (tid : ℕ) (collects : Bool) → Fits r (request.PackBegin tid collects) → IsPlainReply r
+begin_reply (reply.Packing t) tid collects fits = tt
+begin_reply (reply.Refused why) tid collects fits = tt
+begin_reply _ tid collects fits = absurd fits
+
+turn_reply : (r : Reply) → Fits r request.PackTurn → IsPlainReply r
+turn_reply (reply.Packed kept dropped) fits = tt
+turn_reply (reply.Marking count) fits = tt
+turn_reply (reply.Marked count) fits = tt
+turn_reply (reply.Copying count) fits = tt
+turn_reply (reply.Copied count) fits = tt
+turn_reply (reply.Refused why) fits = tt
+turn_reply _ fits = absurd fits
+
 close_reply : (r : Reply) → Fits r request.Close → IsPlainReply r
 close_reply reply.Closed fits = tt
 close_reply (reply.Refused why) fits = tt
@@ -128,6 +147,8 @@ plain_reply (request.NewOids count) r plain fits = oids_reply r count fits
 plain_reply (request.History oid) r plain fits = history_reply r oid fits
 plain_reply request.UndoLog r plain fits = log_reply r fits
 plain_reply (request.Pack tid collects) r plain fits = pack_reply r tid collects fits
+plain_reply (request.PackBegin tid collects) r plain fits = begin_reply r tid collects fits
+plain_reply request.PackTurn r plain fits = turn_reply r fits
 plain_reply request.Close r plain fits = close_reply r fits
 plain_reply _ r plain fits = absurd plain
 
@@ -155,6 +176,11 @@ client_behind hub m x y c (reply.Oids first count) plain is left = subst (λ (z 
 client_behind hub m x y c (reply.History list) plain is left = subst (λ (z : Client). IsClientOf hub z c) (sym left) is
 client_behind hub m x y c (reply.UndoLog list) plain is left = subst (λ (z : Client). IsClientOf hub z c) (sym left) is
 client_behind hub m x y c (reply.Packed kept dropped) plain is left = subst (λ (z : Client). IsClientOf hub z c) (sym left) is
+client_behind hub m x y c (reply.Packing tid) plain is left = subst (λ (z : Client). IsClientOf hub z c) (sym left) is
+client_behind hub m x y c (reply.Marking count) plain is left = subst (λ (z : Client). IsClientOf hub z c) (sym left) is
+client_behind hub m x y c (reply.Marked count) plain is left = subst (λ (z : Client). IsClientOf hub z c) (sym left) is
+client_behind hub m x y c (reply.Copying count) plain is left = subst (λ (z : Client). IsClientOf hub z c) (sym left) is
+client_behind hub m x y c (reply.Copied count) plain is left = subst (λ (z : Client). IsClientOf hub z c) (sym left) is
 client_behind hub m x y c (reply.Refused why) plain is left = subst (λ (z : Client). IsClientOf hub z c) (sym left) is
 client_behind hub m x y c _ plain is left = absurd plain
 

@@ -13,9 +13,8 @@ use Rattle.zb_script.specs.declared.line.Line.TheVariants as line
 use Rattle.zb_script.specs.declared.line.Turn.{Turn}
 use Rattle.zb_script.specs.declared.tree_call.TreeCall.{TreeCall}
 use Rattle.zodb_core.specs.declared.request.Request.{Request}
-use Rattle.zodb_core.specs.declared.session.Session.{Session}
 use Rattle.zodb_core.specs.HubState.{sessions_with}
-use Rattle.zodb_core.specs.Machine.{Rules, is_open_in}
+use Rattle.zodb_core.specs.Machine.{MachineSession, Rules, is_open_in}
 use Rattle.zodb_core.specs.Steps.{refuse_if}
 use Rattle.client_turns.specs.declared.client.Client.{Client}
 use Rattle.connection_view.specs.declared.connection.Connection.{Connection}
@@ -27,7 +26,7 @@ use Rattle.client_turns.specs.declared.errors.TurnError.TheVariants as error
 use Rattle.client_turns.specs.Clients.{Changes, Moment, OpenTransaction, changes_of, place_of_client}
 use Rattle.client_turns.specs.Clients as seen
 use Rattle.client_turns.specs.Lines.{end_of, request_of}
-use Rattle.client_turns.specs.Refusing.{connection_refusal, line_refusal, opens_session}
+use Rattle.client_turns.specs.Refusing.{IsFittingLine, connection_refusal, line_refusal, opens_session}
 use Rattle.client_turns.specs.Asking.{plain_request}
 use Rattle.client_turns.specs.Standing.{ClientsState, ClosesAs, ClosesIf, IsLineOpen, IsOpenAs, IsOpenLineOf, IsOwnOf, IsStepOf, LeadsTo, MayAskAt, MayReadAt, OrStarved, StandsForMoment}
 use Rattle.client_turns.specs.Turns.{IsBroken, IsClosed, IsClosing, IsLine, IsLineAt, IsLineOf, IsLineUnless, IsOpening, IsOwnLine, IsTurn, IsWithin, by_closing, by_line, by_memory}
@@ -78,7 +77,7 @@ pub opened_there : {R F : Type 0} (m : Moment) (at n : ℕ) (b : Bool) (old : Cl
     → b ≡ is_open_in (sessions_with old.hub.store.broken old.hub.sessions) n → (k : IsSessionAt m at old) × (is_open_in m.machine.sessions k.client.session ≡ b)
 opened_there m at n b old before stood within session is =
     let k : IsSessionAt m at old = session_there m at old before stood within in
-    (k, ap (λ (s : List Session). is_open_in s k.client.session) stood.hub.sessions ∙ ap (λ (z : ℕ). is_open_in (sessions_with old.hub.store.broken old.hub.sessions) z) (k.session ∙ sym (session k.kept k.kept_there)) ∙ sym is)
+    (k, ap (λ (s : List MachineSession). is_open_in s k.client.session) stood.hub.sessions ∙ ap (λ (z : ℕ). is_open_in (sessions_with old.hub.store.broken old.hub.sessions) z) (k.session ∙ sym (session k.kept k.kept_there)) ∙ sym is)
 
 pub line_closed : {R F : Type 0} (rules : Rules) (m : Moment) (at n : ℕ) (l : Line) (old : ClientsState R F) (before : Option (List Stamp)) → StandsForMoment old before m → at < length old.clients → ((x : Client) → slice_get old.clients at ≡ Some x → n ≡ x.session)
     → false ≡ is_open_in (sessions_with old.hub.store.broken old.hub.sessions) n → LeadsTo (OrStarved (IsLineAt rules m at l) m (answer.Refused refusal.NotOpen)) old before
@@ -102,7 +101,9 @@ plain_free : (l : Line) (q : Request) (ch : Option Changes) → plain_request l 
 plain_free line.New q ch is = (refl, is)
 plain_free (line.History oid) q ch is = (refl, is)
 plain_free line.UndoLog q ch is = (refl, is)
-plain_free (line.Pack tid) q ch is = (refl, is)
+plain_free (line.Pack tid collect) q ch is = (refl, is)
+plain_free (line.PackBegin tid collect) q ch is = (refl, is)
+plain_free line.PackTurn q ch is = (refl, is)
 plain_free line.Close q ch is = (refl, is)
 plain_free _ q ch is = absurd cc
 
@@ -171,6 +172,7 @@ line_by_name rules m name (line.Get oid) a now opened is = is
 line_by_name rules m name (line.Store oid base bytes) a now opened is = is
 line_by_name rules m name (line.Put oid bytes) a now opened is = is
 line_by_name rules m name (line.Check oid serial) a now opened is = is
+line_by_name rules m name (line.Delete oid base) a now opened is = is
 line_by_name rules m name line.Savepoint a now opened is = is
 line_by_name rules m name (line.Rollback number) a now opened is = is
 line_by_name rules m name (line.Tree root call) a now opened is = is
@@ -181,7 +183,9 @@ line_by_name rules m name line.Finish a now opened is = is
 line_by_name rules m name line.Abort a now opened is = is
 line_by_name rules m name (line.History oid) a now opened is = is
 line_by_name rules m name line.UndoLog a now opened is = is
-line_by_name rules m name (line.Pack tid) a now opened is = is
+line_by_name rules m name (line.Pack tid collect) a now opened is = is
+line_by_name rules m name (line.PackBegin tid collect) a now opened is = is
+line_by_name rules m name line.PackTurn a now opened is = is
 line_by_name rules m name line.Close a now opened is = is
 
 named_result : (rules : Rules) (m : Moment) (name : List ℕ) (at : ℕ) (l : Line) (a : Answer) (now : Moment) → opens_session l ≡ false → Some at ≡ place_of_client name m.clients
@@ -213,6 +217,7 @@ opens_is (line.Get oid) is = absurd cc
 opens_is (line.Store oid base bytes) is = absurd cc
 opens_is (line.Put oid bytes) is = absurd cc
 opens_is (line.Check oid serial) is = absurd cc
+opens_is (line.Delete oid base) is = absurd cc
 opens_is line.Savepoint is = absurd cc
 opens_is (line.Rollback number) is = absurd cc
 opens_is (line.Tree root call) is = absurd cc
@@ -223,7 +228,9 @@ opens_is line.Finish is = absurd cc
 opens_is line.Abort is = absurd cc
 opens_is (line.History oid) is = absurd cc
 opens_is line.UndoLog is = absurd cc
-opens_is (line.Pack tid) is = absurd cc
+opens_is (line.Pack tid collect) is = absurd cc
+opens_is (line.PackBegin tid collect) is = absurd cc
+opens_is line.PackTurn is = absurd cc
 opens_is line.Close is = absurd cc
 opens_is line.Begin is = absurd cc
 
@@ -288,13 +295,13 @@ line_whole_of rules m t a now (inr starved) ends = absurd (no_end (ends ∙ ap e
     no_end e = absurd cc
 
 module _ {R F : Type 0} (rules rules' : Rules) (m : Moment) (t : Turn) (last : Bool) (a : Answer) (mid new : ClientsState R F) (between after : Option (List Stamp)) where
-  pub turn_done : LeadsTo (OrStarved (IsLine rules m t.client t.line) m a) mid between → None ≡ end_of a → rules' ≡ rules
+  pub turn_done : IsFittingLine t.line → LeadsTo (OrStarved (IsLine rules m t.client t.line) m a) mid between → None ≡ end_of a → rules' ≡ rules
       → ((b : Moment) → StandsForMoment mid between b → LeadsTo (ClosesIf rules' b t.client last None) new after) → LeadsTo (IsTurn rules m t last (Ok a)) new after
-  turn_done leads ends alike close =
+  turn_done fits leads ends alike close =
       let closes : LeadsTo (ClosesIf rules leads.now t.client last None) new after = subst (λ (x : Rules). LeadsTo (ClosesIf x leads.now t.client last None) new after) alike (close leads.now leads.stands) in
       record {
         now = closes.now;
-        holds = record { behind = leads.now; line = line_whole_of rules m t a leads.now leads.holds ends; whole = sym ends; closing = closing_of rules m t leads.now closes.now last closes.holds };
+        holds = record { fits = fits; behind = leads.now; line = line_whole_of rules m t a leads.now leads.holds ends; whole = sym ends; closing = closing_of rules m t leads.now closes.now last closes.holds };
         stands = closes.stands;
       }
 

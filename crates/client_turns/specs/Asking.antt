@@ -31,6 +31,7 @@ is_of_connection (line.Get oid) = true
 is_of_connection (line.Store oid base bytes) = true
 is_of_connection (line.Put oid bytes) = true
 is_of_connection (line.Check oid serial) = true
+is_of_connection (line.Delete oid base) = true
 is_of_connection line.Savepoint = true
 is_of_connection (line.Rollback number) = true
 is_of_connection (line.Vote user description) = true
@@ -44,7 +45,9 @@ abbrev pub plain_request : Line → Option Request
 plain_request line.New = Some (request.NewOids 1)
 plain_request (line.History oid) = Some (request.History oid)
 plain_request line.UndoLog = Some request.UndoLog
-plain_request (line.Pack tid) = Some (request.Pack tid true)
+plain_request (line.Pack tid collect) = Some (request.Pack tid collect)
+plain_request (line.PackBegin tid collect) = Some (request.PackBegin tid collect)
+plain_request line.PackTurn = Some request.PackTurn
 plain_request line.Close = Some request.Close
 plain_request _ = None
 
@@ -54,6 +57,8 @@ IsPlain (request.NewOids count) = count ≡ 1
 IsPlain (request.History oid) = Unit {0}
 IsPlain request.UndoLog = Unit {0}
 IsPlain (request.Pack tid collect) = Unit {0}
+IsPlain (request.PackBegin tid collect) = Unit {0}
+IsPlain request.PackTurn = Unit {0}
 IsPlain request.Close = Unit {0}
 IsPlain _ = ⊥
 

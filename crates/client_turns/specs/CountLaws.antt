@@ -1,6 +1,8 @@
 -- What turns leave of the counts of faults. For the proofs of those who follow turns.
 use Rattle.std.proofs.Common.{◌≡◌, ℕ, Bool, true, false, not, ◌||◌, List, [], ◌∷◌, ◌++◌, length, Option, Some, None, Result, Ok, Err, if◌then◌else◌, nat_lt, refl, sym, ap, subst, ◌∙◌}
 use Rattle.std.specs.Prelude.{IfOk, IsErrOf, slice_get}
+use Rattle.zb_model.specs.declared.data.Content.TheVariants.{Held, Absent}
+use Rattle.zb_model.specs.declared.data.Content.{Content}
 use Rattle.zb_model.specs.declared.pending.PendingStore.{PendingStore}
 use Rattle.zb_model.specs.declared.refusal.Refusal.{Refusal}
 use Rattle.zb_model.specs.declared.refusal.Refusal.TheVariants as refusal
@@ -18,6 +20,7 @@ use Rattle.zodb_core.specs.DecisionLaws.{AnswersIfSome, answers_or}
 use Rattle.zodb_core.specs.Machine.{Machine, Rules, is_open_in, with_session}
 use Rattle.zodb_core.specs.Outcomes.{Answered, EndsFor, FaultCounts, NoMemory, ReadingFailed, StepOutcome, StoreFailed, outcome_of, outcome_of_refusal}
 use Rattle.zodb_core.specs.Steps.{Stepped, refuse_if}
+use Rattle.connection_view.specs.Connections.{waiting_as, waiting_read}
 use Rattle.client_turns.specs.declared.errors.TurnError.{TurnError}
 use Rattle.client_turns.specs.declared.errors.TurnError.TheVariants as error
 use Rattle.client_turns.specs.Clients.{Changes, Client, Moment, OpenTransaction, changes_of, place_of_client}
@@ -73,34 +76,38 @@ refused_if true r is = is
 refused_if false r is = tt
 
 transaction_answers : (t : Changes) (l : Line) → AnswersIfSome (transaction_refusal t l)
-transaction_answers t (line.Store oid base bytes) = refused_if t.is_voted refusal.Voted (refl, refl, refl)
-transaction_answers t (line.Put oid bytes) = refused_if t.is_voted refusal.Voted (refl, refl, refl)
-transaction_answers t (line.Check oid serial) = refused_if t.is_voted refusal.Voted (refl, refl, refl)
-transaction_answers t line.Savepoint = refused_if t.is_voted refusal.Voted (refl, refl, refl)
-transaction_answers t (line.Rollback number) = refused_if t.is_voted refusal.Voted (refl, refl, refl)
-transaction_answers t (line.Vote user description) = refused_if t.is_voted refusal.Voted (refl, refl, refl)
+transaction_answers t (line.Store oid base bytes) = refused_if t.is_voted refusal.Voted (refl, refl, refl, refl)
+transaction_answers t (line.Put oid bytes) = refused_if t.is_voted refusal.Voted (refl, refl, refl, refl)
+transaction_answers t (line.Check oid serial) = refused_if t.is_voted refusal.Voted (refl, refl, refl, refl)
+transaction_answers t (line.Delete oid base) = refused_if t.is_voted refusal.Voted (refl, refl, refl, refl)
+transaction_answers t line.Savepoint = refused_if t.is_voted refusal.Voted (refl, refl, refl, refl)
+transaction_answers t (line.Rollback number) = refused_if t.is_voted refusal.Voted (refl, refl, refl, refl)
+transaction_answers t (line.Vote user description) = refused_if t.is_voted refusal.Voted (refl, refl, refl, refl)
 transaction_answers t (line.Undo user description tids) =
-    answers_or (refuse_if t.is_voted refusal.Voted) (mixed t.pending) (refused_if t.is_voted refusal.Voted (refl, refl, refl)) (refused_if (nat_lt 0 (pending_count t.pending)) (refusal.Mixed (pending_count t.pending)) (refl, refl, refl))
+    answers_or (refuse_if t.is_voted refusal.Voted) (mixed t.pending) (refused_if t.is_voted refusal.Voted (refl, refl, refl, refl)) (refused_if (nat_lt 0 (pending_count t.pending)) (refusal.Mixed (pending_count t.pending)) (refl, refl, refl, refl))
 transaction_answers t _ = tt
 
 within_answers : (t : Option Changes) (l : Line) → AnswersIfSome (refusal_within t l)
-within_answers None l = (refl, refl, refl)
+within_answers None l = (refl, refl, refl, refl)
 within_answers (Some t) l = transaction_answers t l
 
 line_answers : (t : Option Changes) (l : Line) → AnswersIfSome (line_refusal t l)
 line_answers t line.Open = tt
 line_answers None line.Begin = tt
-line_answers (Some t) line.Begin = (refl, refl, refl)
+line_answers (Some t) line.Begin = (refl, refl, refl, refl)
 line_answers t line.New = tt
 line_answers t (line.History oid) = tt
 line_answers t line.UndoLog = tt
-line_answers t (line.Pack tid) = tt
+line_answers t (line.Pack tid collect) = tt
+line_answers t (line.PackBegin tid collect) = tt
+line_answers t line.PackTurn = tt
 line_answers t line.Close = tt
 line_answers t (line.Load oid) = within_answers t (line.Load oid)
 line_answers t (line.Get oid) = within_answers t (line.Get oid)
 line_answers t (line.Store oid base bytes) = within_answers t (line.Store oid base bytes)
 line_answers t (line.Put oid bytes) = within_answers t (line.Put oid bytes)
 line_answers t (line.Check oid serial) = within_answers t (line.Check oid serial)
+line_answers t (line.Delete oid base) = within_answers t (line.Delete oid base)
 line_answers t line.Savepoint = within_answers t line.Savepoint
 line_answers t (line.Rollback number) = within_answers t (line.Rollback number)
 line_answers t (line.Tree root call) = within_answers t (line.Tree root call)
@@ -111,7 +118,7 @@ line_answers t line.Abort = within_answers t line.Abort
 
 connection_answers : (m : Machine) (c : Client) (l : Line) → AnswersIfSome (connection_refusal m c l)
 connection_answers m c l =
-    answers_or (refuse_if (not (is_open_in m.sessions c.session)) refusal.NotOpen) (line_refusal (changes_of c) l) (refused_if (not (is_open_in m.sessions c.session)) refusal.NotOpen (refl, refl, refl)) (line_answers (changes_of c) l)
+    answers_or (refuse_if (not (is_open_in m.sessions c.session)) refusal.NotOpen) (line_refusal (changes_of c) l) (refused_if (not (is_open_in m.sessions c.session)) refusal.NotOpen (refl, refl, refl, refl)) (line_answers (changes_of c) l)
 
 -- ---- a line
 
@@ -166,8 +173,8 @@ store_outcome t p None = refl
 store_outcome t p (Some n) = refl
 
 put_outcome : (t : Changes) (oid : ℕ) (bytes : List ℕ) (r : Result (ℕ × List ℕ) Refusal) → outcome_of_answer (put t oid bytes r).answer ≡ outcome_of_read r
-put_outcome t oid bytes (Ok got) = store_outcome t (record { oid = oid; base = got.0; bytes = bytes }) (excess_with t.pending.stores (record { oid = oid; base = got.0; bytes = bytes }))
-put_outcome t oid bytes (Err (refusal.Missing o false)) = store_outcome t (record { oid = oid; base = 0; bytes = bytes }) (excess_with t.pending.stores (record { oid = oid; base = 0; bytes = bytes }))
+put_outcome t oid bytes (Ok got) = store_outcome t (record { oid = oid; base = got.0; content = Held bytes }) (excess_with t.pending.stores (record { oid = oid; base = got.0; content = Held bytes }))
+put_outcome t oid bytes (Err (refusal.Missing o false)) = store_outcome t (record { oid = oid; base = 0; content = Held bytes }) (excess_with t.pending.stores (record { oid = oid; base = 0; content = Held bytes }))
 put_outcome t oid bytes (Err (refusal.Missing o true)) = refl
 put_outcome t oid bytes (Err _) = refl
 
@@ -175,8 +182,12 @@ put_outcome t oid bytes (Err _) = refl
 read_by : (m : Moment) (a b : Answer) (r : Result (ℕ × List ℕ) Refusal) (now : Moment) → a ≡ b → outcome_of_answer b ≡ outcome_of_read r → IsCountedBy m.counts now.counts (outcome_of_read r) → CountsBy m a now
 read_by m a b r now is tells counts = subst (λ (o : StepOutcome). IsCountedBy m.counts now.counts o) (sym (ap outcome_of_answer is ∙ tells)) counts
 
+pub waiting_outcome : (oid base : ℕ) (content : Content) → outcome_of_read (waiting_as oid base content) ≡ Answered
+waiting_outcome oid base (Held bytes) = refl
+waiting_outcome oid base Absent = refl
+
 get_by : (m now : Moment) (v : View) (oid : ℕ) (o : Option PendingStore) (a : Answer) → IsGet m v oid o a now → CountsBy m a now
-get_by m now v oid (Some p) a is = calm_by m a _ now is.0 refl (ap (λ (x : Moment). x.counts) is.1)
+get_by m now v oid (Some p) a is = calm_by m a _ now is.0 (object_outcome (waiting_read oid p) ∙ waiting_outcome oid p.base p.content) (ap (λ (x : Moment). x.counts) is.1)
 get_by m now v oid None a is = read_by m a (object_of is.0) is.0 now is.2 (object_outcome is.0) is.1.counts
 
 change_by : (m now : Moment) (at : ℕ) (c : Client) (t : OpenTransaction) (w : Changed) (a : Answer) → outcome_of_answer w.answer ≡ Answered → IsChange m at c t w a now → CountsBy m a now
@@ -184,8 +195,8 @@ change_by m now at c t w a answered is = calm_by m a w.answer now is.0 answered 
 
 put_by : (m now : Moment) (at : ℕ) (c : Client) (t : OpenTransaction) (oid : ℕ) (bytes : List ℕ) (o : Option PendingStore) (a : Answer) → IsPut m at c t oid bytes o a now → CountsBy m a now
 put_by m now at c t oid bytes (Some p) a is =
-    change_by m now at c t (stored t.changes (record { oid = oid; base = p.base; bytes = bytes })) a
-    (store_outcome t.changes (record { oid = oid; base = p.base; bytes = bytes }) (excess_with t.changes.pending.stores (record { oid = oid; base = p.base; bytes = bytes }))) is
+    change_by m now at c t (stored t.changes (record { oid = oid; base = p.base; content = Held bytes })) a
+    (store_outcome t.changes (record { oid = oid; base = p.base; content = Held bytes }) (excess_with t.changes.pending.stores (record { oid = oid; base = p.base; content = Held bytes }))) is
 put_by m now at c t oid bytes None a is =
     read_by m a (put t.changes oid bytes is.0).answer is.0 now is.3.0 (put_outcome t.changes oid bytes is.0)
     (subst (λ (k : FaultCounts). IsCountedBy m.counts k (outcome_of_read is.0)) (sym (ap (λ (x : Moment). x.counts) is.3.1)) is.2.counts)
@@ -198,10 +209,11 @@ within_by : (m now : Moment) (at : ℕ) (c : Client) (t : OpenTransaction) (l : 
 within_by m now at c t (line.Load oid) a is = read_by m a (data_of is.0) is.0 now is.2 (data_outcome is.0) is.1.counts
 within_by m now at c t (line.Get oid) a is = get_by m now t.view oid (pending_of t.changes.pending.stores oid) a is
 within_by m now at c t (line.Store oid base bytes) a is =
-    change_by m now at c t (stored t.changes (record { oid = oid; base = base; bytes = bytes })) a
-    (store_outcome t.changes (record { oid = oid; base = base; bytes = bytes }) (excess_with t.changes.pending.stores (record { oid = oid; base = base; bytes = bytes }))) is
+    change_by m now at c t (stored t.changes (record { oid = oid; base = base; content = Held bytes })) a
+    (store_outcome t.changes (record { oid = oid; base = base; content = Held bytes }) (excess_with t.changes.pending.stores (record { oid = oid; base = base; content = Held bytes }))) is
 within_by m now at c t (line.Put oid bytes) a is = put_by m now at c t oid bytes (pending_of t.changes.pending.stores oid) a is
 within_by m now at c t (line.Check oid serial) a is = calm_by m a answer.Checked now is.0 refl (ap (λ (x : Moment). x.counts) is.1)
+within_by m now at c t (line.Delete oid base) a is = calm_by m a answer.Deleted now is.0 refl (ap (λ (x : Moment). x.counts) is.1)
 within_by m now at c t line.Savepoint a is = calm_by m a (saved t.changes).answer now is.0 refl (ap (λ (x : Moment). x.counts) is.1)
 within_by m now at c t (line.Rollback number) a is = calm_by m a (rolled_back t.changes number).answer now is.0 (rolled_outcome t.changes number (slice_get t.changes.savepoints number)) (ap (λ (x : Moment). x.counts) is.1)
 within_by m now at c t (line.Tree root call) a is = tree_counts m at c t root call a now is

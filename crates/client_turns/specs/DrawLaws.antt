@@ -23,7 +23,7 @@ use Rattle.zodb_core.specs.Steps.{Stepped, early_refusal, oids_step, step_of, un
 use Rattle.client_turns.specs.Clients.{Changes, Client, Moment, OpenTransaction}
 use Rattle.client_turns.specs.Lines.{Changed, IsCountedBy, outcome_of_answer, outcome_of_result}
 use Rattle.client_turns.specs.Steps.{IsStepAt}
-use Rattle.client_turns.specs.Trees.{CallEnds, Draws, IsRaised, IsTreeEnd, IsTreeLine, IsUncalled, all_stored, answer_told, by_draw, by_want, by_read, by_tree, operation_of, puts_stored}
+use Rattle.client_turns.specs.Trees.{CallEnds, Draws, IsRaised, IsTreeEnd, IsTreeLine, IsUncalled, all_stored, answer_told, by_draw, by_want, by_read, by_tree, operation_of, puts_stored, stores_put}
 
 -- ---- machines
 
@@ -113,8 +113,8 @@ pub record LeavesCall (m : Moment) (o : StepOutcome) (now : Moment) : Type 0 whe
 drawn_leaves : (m now : Moment) (o : StepOutcome) → o ≡ Answered → IsDrawnTo m now → LeavesCall m o now
 drawn_leaves m now o is drawn = record { machine = drawn.machine; counts = subst (IsCountedBy m.counts now.counts) (sym is) drawn.counts; clients = drawn.clients }
 
-pub refused_answers : (objects : _) (root : ℕ) (op : TreeOperation) (numbers : List ℕ) (why : Refusal) → IsRefused objects root op numbers why → outcome_of_refusal why ≡ Answered
-refused_answers objects root op numbers why is = refused_as (λ w. outcome_of_refusal w ≡ Answered) objects root op numbers why (λ oid. refl) (λ oid. refl) refl is
+pub refused_answers : (objects : _) (root : ℕ) (op : TreeOperation) (why : Refusal) → IsRefused objects root op why → outcome_of_refusal why ≡ Answered
+refused_answers objects root op why is = refused_as (λ w. outcome_of_refusal w ≡ Answered) objects root op why (λ oid. refl) (λ oid. refl) refl is
 
 read_leaves : (m b now : Moment) (o : StepOutcome) → IsDrawnTo m b → now ≡ record b { counts = now.counts } → IsCountedBy b.counts now.counts o → LeavesCall m o now
 read_leaves m b now o drawn rest counts = record {
@@ -124,9 +124,9 @@ read_leaves m b now o drawn rest counts = record {
 }
 
 uncalled_leaves : (m : Moment) (n : ℕ) (t : OpenTransaction) (root : ℕ) (op : TreeOperation) (why : Refusal) (now : Moment) → IsUncalled m n t root op why now → LeavesCall m (outcome_of_refusal why) now
-uncalled_leaves m n t root op why now (by_tree objects numbers sees draws refused) = drawn_leaves m now (outcome_of_refusal why) (refused_answers objects root op numbers why refused) (draws_drawn m n numbers now draws)
-uncalled_leaves m n t root op why now (by_read numbers behind oid may draws read found) = read_leaves m behind now (outcome_of_refusal why) (draws_drawn m n numbers behind draws) read.rest read.counts
-uncalled_leaves m n t root op why now (by_draw numbers behind takes draws (rules, step)) =
+uncalled_leaves m n t root op why now (by_tree objects sees refused same) = drawn_leaves m now (outcome_of_refusal why) (refused_answers objects root op why refused) (drawn_same m now same)
+uncalled_leaves m n t root op why now (by_read oid read found) = read_leaves m m now (outcome_of_refusal why) (drawn_same m m refl) read.rest read.counts
+uncalled_leaves m n t root op why now (by_draw numbers behind lacks draws (rules, step)) =
     drawn_leaves m now (outcome_of_refusal why) (new_answered rules behind n (reply.Refused why) now step) (drawn_twice m behind now (draws_drawn m n numbers behind draws) (new_drawn rules behind n (reply.Refused why) now step))
 uncalled_leaves m n t root op why now (by_want numbers may draws is) =
     let drawn : IsDrawnTo m now = draws_drawn m n numbers now draws in
@@ -167,7 +167,7 @@ stored_quiet t x puts = stored_answer (λ a. outcome_of_answer a ≡ Answered) t
 end_counts : (m b now : Moment) (at : ℕ) (c : Client) (t : OpenTransaction) (result : Result Made Refusal) (a : Answer) → LeavesCall m (outcome_of_result result) b → IsTreeEnd b at c t result a now → IsCountedBy m.counts now.counts (outcome_of_answer a)
 end_counts m b now at c t (Ok made) a leaves (inl change) =
     subst (λ (k : FaultCounts). IsCountedBy m.counts k (outcome_of_answer a)) (sym (ap (λ (x : Moment). x.counts) change.1))
-    (subst (IsCountedBy m.counts b.counts) (sym (ap outcome_of_answer change.0 ∙ stored_quiet t.changes made.answer made.puts)) leaves.counts)
+    (subst (IsCountedBy m.counts b.counts) (sym (ap outcome_of_answer change.0 ∙ stored_quiet t.changes made.answer (stores_put made.puts))) leaves.counts)
 end_counts m b now at c t (Ok made) a leaves (inr starved) =
     subst (λ (k : FaultCounts). IsCountedBy m.counts k (outcome_of_answer a)) (sym (ap (λ (x : Moment). x.counts) starved.1))
     (subst (λ (x : Answer). IsCountedBy m.counts b.counts (outcome_of_answer x)) (sym starved.0) leaves.counts)
@@ -196,6 +196,6 @@ pub tree_answer : (P : Answer → Type 0) (m : Moment) (at : ℕ) (c : Client) (
 tree_answer P m at c t root call a now told refused is = by_end is.result is.end
   where
     by_end : (result : Result Made Refusal) → IsTreeEnd is.behind at c t result a now → P a
-    by_end (Ok made) (inl change) = subst P (sym change.0) (stored_answer P t.changes (answer_told made.answer) made.puts (told made.answer) (refused refusal.Voted) (λ n. refused (refusal.TooLong n)))
+    by_end (Ok made) (inl change) = subst P (sym change.0) (stored_answer P t.changes (answer_told made.answer) (stores_put made.puts) (told made.answer) (refused refusal.Voted) (λ n. refused (refusal.TooLong n)))
     by_end (Ok made) (inr starved) = subst P (sym starved.0) (refused refusal.Memory)
     by_end (Err why) end = subst P (sym end.0) (refused why)

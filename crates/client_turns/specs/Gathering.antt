@@ -6,9 +6,6 @@ use Rattle.zb_model.specs.declared.data.Transaction.{Transaction}
 use Rattle.zb_model.specs.declared.pending.PendingStore.{PendingStore}
 use Rattle.zb_model.specs.declared.refusal.Refusal.{Refusal}
 use Rattle.zb_model.specs.declared.refusal.Refusal.TheVariants as refusal
-use Rattle.std.specs.declared.alloc.AllocError.{AllocError}
-use Rattle.zb_answers.specs.declared.answer.Answer.{Answer}
-use Rattle.zb_answers.specs.declared.answer.Answer.TheVariants as answer
 use Rattle.commit_phases.specs.Pending.{pending_of}
 use Rattle.zodb_core.specs.declared.reply.Reply.{Reply}
 use Rattle.zodb_core.specs.declared.reply.Reply.TheVariants as reply
@@ -24,7 +21,7 @@ use Rattle.client_turns.specs.Lines.{outcome_of_result}
 use Rattle.connection_view.specs.Views.{read_below}
 use Rattle.client_turns.specs.Standing.{ClientsState, LeadsTo, StandsForMoment}
 use Rattle.client_turns.specs.Steps.{IsReadAt}
-use Rattle.client_turns.specs.Trees.{CallEnds, Draws, IsDrawn, IsSeenIn, IsUndrawn, MayDraw, is_missing}
+use Rattle.client_turns.specs.Trees.{CallEnds, Draws, IsDrawn, IsSeenIn, IsUndrawn, MayDraw, is_missing, seen_waiting}
 
 -- ---- what a transaction has
 
@@ -33,7 +30,7 @@ seen_as got = record { serial = got.0; bytes = got.1 }
 
 -- what waits for an object, else what a list has of it
 abbrev pub seen_or : Option PendingStore → Option (ℕ × List ℕ) → Option Seen
-seen_or (Some p) got = Some (record { serial = p.base; bytes = p.bytes })
+seen_or (Some p) got = seen_waiting p.base p.content
 seen_or None got = option_map seen_as got
 
 -- what a transaction has of an object, over a list
@@ -91,9 +88,9 @@ IsCallOf m at root op result now =
 
 -- ---- gathering
 
--- The clients stand for a moment to which the draws of a call led. What is known is what the transaction has, the session is open, and but for the machine's
--- greatest number nothing has changed.
-pub record StandsGathering {R F : Type 0} (seen : ClientsState R F) (left : Option (List Stamp)) (m : Moment) (at : ℕ) (known : List (ℕ × Option Seen)) (numbers : List ℕ) : Type 0 where
+-- The clients stand for a moment to which the draws of a call led, which are no more than it needs. What is known is what the transaction has, the session is
+-- open, and but for the machine's greatest number nothing has changed.
+pub record StandsGathering {R F : Type 0} (seen : ClientsState R F) (left : Option (List Stamp)) (m : Moment) (at root : ℕ) (op : TreeOperation) (known : List (ℕ × Option Seen)) (numbers : List ℕ) : Type 0 where
   pub now : Moment
   pub stands : StandsForMoment seen left now
   pub client : Client
@@ -106,11 +103,12 @@ pub record StandsGathering {R F : Type 0} (seen : ClientsState R F) (left : Opti
   pub journal : now.machine.journal ≡ m.machine.journal
   pub clients : now.clients ≡ m.clients
   pub sees : (oid : ℕ) (x : Option Seen) → known_at known oid ≡ Some x → IsSeenIn m.machine transaction oid x
+  pub may_draw : MayDraw m.machine transaction root op numbers
 
 -- how an attempt leaves them: the call has ended, or it is made again
 abbrev pub AdvancesTo : {R F : Type 0} → Moment → ℕ → ℕ → TreeOperation → ClientsState R F → Option (List Stamp) → List (ℕ × Option Seen) → List ℕ → Option (Result Made Refusal) → Type 0
-AdvancesTo m at root op seen left known numbers None = StandsGathering seen left m at known numbers
-AdvancesTo m at root op seen left known numbers (Some result) = MayDraw op numbers → LeadsTo (IsCallOf m at root op result) seen left
+AdvancesTo m at root op seen left known numbers None = StandsGathering seen left m at root op known numbers
+AdvancesTo m at root op seen left known numbers (Some result) = LeadsTo (IsCallOf m at root op result) seen left
 
 -- how an attempt ended that is made again, or a call
 abbrev pub outcome_of_advance : Option (Result Made Refusal) → StepOutcome

@@ -1,9 +1,9 @@
 -- Laws of turns: what holds of all that scripts are answered, over whatever rules, stamps and faults. Own.
-use Rattle.std.specs.Prelude.{◌≡◌, ℕ, ◌<◌, ◌≤◌, List, ◌∷◌, ◌++◌, Option, Some, None, Ok, Err, length, All, IfSome, map, nat_eq, slice_get, Bool, true}
-use Rattle.std.specs.List.{AllByRecursion, AllPairs, IsDistinct, filter_map}
+use Rattle.std.specs.Prelude.{◌≡◌, ℕ, ◌<◌, ◌≤◌, List, ◌∷◌, ◌++◌, Option, Some, None, Ok, Err, length, All, IfSome, slice_get, Bool, true, false}
+use Rattle.std.specs.List.{AllByRecursion, AllPairs, filter_map}
 use Rattle.zb_base.specs.Counts.{Rose}
 use Rattle.zb_ids.specs.declared.stamp.Stamp.{Stamp}
-use Rattle.zb_model.specs.declared.data.Content.TheVariants.{Held}
+use Rattle.zb_model.specs.declared.data.Content.TheVariants.{Held, Absent}
 use Rattle.zb_model.specs.declared.data.Transaction.{Transaction}
 use Rattle.zb_model.specs.declared.pending.PendingStore.{PendingStore}
 use Rattle.zb_model.specs.declared.refusal.Refusal.{Refusal}
@@ -15,42 +15,43 @@ use Rattle.zb_answers.specs.declared.answer.Answer.TheVariants as answer
 use Rattle.zb_script.specs.declared.line.Line.TheVariants as line
 use Rattle.zb_script.specs.declared.line.Turn.{Turn}
 use Rattle.zb_script.specs.declared.tree_call.TreeCall.{TreeCall}
-use Rattle.commit_phases.specs.Pending.{PendingChanges, excess_with, stores_after}
+use Rattle.commit_phases.specs.Pending.{PendingChanges, excess_with, pending_of, stores_after}
 use Rattle.tree_calls.specs.declared.known.Seen.{Seen}
+use Rattle.tree_calls.specs.declared.put.TreePut.{TreePut}
 use Rattle.tree_calls.specs.declared.operation.TreeAnswer.{TreeAnswer}
-use Rattle.tree_calls.specs.Calls.{IsMade, IsRefused, takes_numbers}
+use Rattle.tree_calls.specs.Calls.{IsMade, IsRefused}
 use Rattle.zodb_core.specs.declared.reply.Reply.TheVariants as reply
 use Rattle.zodb_core.specs.declared.request.Request.{Request}
 use Rattle.zodb_core.specs.declared.request.Request.TheVariants as request
 use Rattle.zodb_core.specs.Machine.{Machine, Rules, session_limit, switches_of}
 use Rattle.zodb_core.specs.Outcomes.{FaultCounts}
-use Rattle.zodb_core.specs.Sound.{ComesTo, GrowsTo, IsSoundMachine}
+use Rattle.zodb_core.specs.Sound.{AreWellFormedStores, ComesTo, GrowsTo, IsSoundMachine}
 use Rattle.zodb_core.specs.Steps.{step_of}
 use Rattle.client_turns.specs.Clients.{Changes, Client, Moment, OpenTransaction, changes_of, first_moment, place_of_client}
 use Rattle.client_turns.specs.Lines.{request_of}
 use Rattle.client_turns.specs.Output.{Out, TurnAnswer}
 use Rattle.client_turns.specs.Reads.{IsMissedFor}
 use Rattle.client_turns.specs.Refusing.{connection_refusal}
-use Rattle.client_turns.specs.Trees.{IsRaised, Sees, operation_of}
+use Rattle.client_turns.specs.Trees.{Draws, NeedsMore, Sees, operation_of, stores_put}
 use Rattle.client_turns.specs.Turns.{IsTurn}
 
 -- ---- words
 
--- stores that wait name each object once
-abbrev pub IsOncePending : PendingChanges → Type 0
-IsOncePending pending = IsDistinct nat_eq (map (λ p. p.oid) pending.stores)
+-- stores that wait are of each object once, and none of an empty record
+abbrev pub IsFormedPending : PendingChanges → Type 0
+IsFormedPending pending = AreWellFormedStores pending.stores
 
--- and so did those that waited at each savepoint
-abbrev pub AreOnce : Changes → Type 0
-AreOnce ch = IsOncePending ch.pending × AllByRecursion IsOncePending ch.savepoints
+-- and so were those that waited at each savepoint
+abbrev pub AreFormed : Changes → Type 0
+AreFormed ch = IsFormedPending ch.pending × AllByRecursion IsFormedPending ch.savepoints
 
-abbrev pub IsOnceClient : Client → Type 0
-IsOnceClient c = IfSome (changes_of c) AreOnce
+abbrev pub IsFormedClient : Client → Type 0
+IsFormedClient c = IfSome (changes_of c) AreFormed
 
 -- the machine is sound, and so are the stores that wait
 pub record IsSoundMoment (m : Moment) : Type 0 where
   pub machine : IsSoundMachine m.machine
-  pub once : AllByRecursion IsOnceClient m.clients
+  pub formed : AllByRecursion IsFormedClient m.clients
 
 -- A machine that steps led to: its list has only grown, by later transactions, or was packed; neither the number of packs nor the greatest number fell; and where
 -- there was no pack, the list has only grown.
@@ -140,11 +141,12 @@ pub record IsNamed (m : Moment) (name : List ℕ) (c : Client) : Type 0 where
 
 -- a call puts this, over what the transaction has, with some numbers for new objects
 abbrev pub WouldPut : Moment → OpenTransaction → ℕ → TreeCall → List PendingStore → Type 0
-WouldPut m o root call puts = (objects : ℕ → Option Seen) × (numbers : List ℕ) × (x : TreeAnswer) × Sees m.machine o objects × IsMade objects root (operation_of call) numbers x puts
+WouldPut m o root call puts = (objects : ℕ → Option Seen) × (numbers : List ℕ) × (x : TreeAnswer) × (made : List TreePut) × (puts ≡ stores_put made) × Sees m.machine o objects × IsMade objects root (operation_of call) numbers x made
 
 -- Why a turn was refused so: the client never opened a session; too many are open; its connection refuses the line; the machine refuses the line's step; the
--- view hasn't got the object; what would wait is too long; a tree refuses the call, over what the transaction has; no number is left for a new object of a call that sets a key; a call would
--- put something once the transaction is voted; there is no such savepoint; or reading failed, and the count of failed reads rose.
+-- view hasn't got the object, or the transaction is to delete it; what would wait is too long; a tree refuses the call, over what the transaction has; the machine
+-- refuses a number that the call needs, over what the transaction has, once fewer were drawn; a call would put something once the transaction is voted; there is no
+-- such savepoint; or reading failed, and the count of failed reads rose.
 pub data IsRefusedFor (rules : Rules) (m : Moment) (t : Turn) (why : Refusal) (now : Moment) : Type 0 where
   unnamed : place_of_client t.client m.clients ≡ None → why ≡ refusal.NotOpen → IsRefusedFor rules m t why now
   crowded : session_limit ≤ length m.machine.sessions → why ≡ refusal.TooManySessions (length m.machine.sessions) → IsRefusedFor rules m t why now
@@ -152,10 +154,13 @@ pub data IsRefusedFor (rules : Rules) (m : Moment) (t : Turn) (why : Refusal) (n
   by_step : (c : Client) (q : Request) (stamp : ℕ) → IsNamed m t.client c → request_of (changes_of c) t.line ≡ Some q
       → (step_of rules m.machine c.session q stamp).reply ≡ reply.Refused why → IsRefusedFor rules m t why now
   by_view : (o : OpenTransaction) (oid : ℕ) → HasOpen m t.client o → IsMissedFor m.machine o.view oid why → IsRefusedFor rules m t why now
+  by_delete : (o : OpenTransaction) (oid : ℕ) (p : PendingStore) → HasOpen m t.client o → t.line ≡ line.Get oid → pending_of o.changes.pending.stores oid ≡ Some p → p.content ≡ Absent → why ≡ refusal.Missing oid false
+      → IsRefusedFor rules m t why now
   by_length : (o : OpenTransaction) (p : PendingStore) (n : ℕ) → HasOpen m t.client o → excess_with o.changes.pending.stores p ≡ Some n → why ≡ refusal.TooLong n → IsRefusedFor rules m t why now
-  by_call : (o : OpenTransaction) (objects : ℕ → Option Seen) (root : ℕ) (call : TreeCall) (numbers : List ℕ) → HasOpen m t.client o → t.line ≡ line.Tree root call → Sees m.machine o objects
-      → IsRefused objects root (operation_of call) numbers why → IsRefusedFor rules m t why now
-  by_number : (c : Client) (root : ℕ) (call : TreeCall) (rules' : Rules) (b : Machine) (stamp : ℕ) → IsNamed m t.client c → t.line ≡ line.Tree root call → takes_numbers (operation_of call) ≡ true → IsRaised m.machine b → (step_of rules' b c.session (request.NewOids 1) stamp).reply ≡ reply.Refused why → IsRefusedFor rules m t why now
+  by_call : (o : OpenTransaction) (objects : ℕ → Option Seen) (root : ℕ) (call : TreeCall) → HasOpen m t.client o → t.line ≡ line.Tree root call → Sees m.machine o objects
+      → IsRefused objects root (operation_of call) why → IsRefusedFor rules m t why now
+  by_number : (c : Client) (o : OpenTransaction) (root : ℕ) (call : TreeCall) (numbers : List ℕ) (behind : Moment) (rules' : Rules) (stamp : ℕ) → IsNamed m t.client c → HasOpen m t.client o → t.line ≡ line.Tree root call
+      → NeedsMore m.machine o root (operation_of call) numbers → Draws m c.session numbers behind → (step_of rules' behind.machine c.session (request.NewOids 1) stamp).reply ≡ reply.Refused why → IsRefusedFor rules m t why now
   by_vote : (o : OpenTransaction) (root : ℕ) (call : TreeCall) (p : PendingStore) (puts : List PendingStore) → HasOpen m t.client o → t.line ≡ line.Tree root call → WouldPut m o root call (p ∷ puts) → o.changes.is_voted ≡ true
       → why ≡ refusal.Voted → IsRefusedFor rules m t why now
   by_lengths : (o : OpenTransaction) (root : ℕ) (call : TreeCall) (puts : List PendingStore) (n : ℕ) → HasOpen m t.client o → t.line ≡ line.Tree root call → WouldPut m o root call puts → stores_after o.changes.pending.stores puts ≡ Err n → why ≡ refusal.TooLong n → IsRefusedFor rules m t why now

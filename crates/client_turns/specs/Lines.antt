@@ -2,6 +2,7 @@
 use Rattle.std.specs.Prelude.{◌≡◌, ℕ, ◌+◌, List, [], ◌∷◌, ◌++◌, length, take, slice_get, Option, Some, None, Result, Ok, Err, Bool, true, false}
 use Rattle.std.specs.Option.{option_map, option_map_or}
 use Rattle.zb_base.specs.Counts.{Rose}
+use Rattle.zb_model.specs.declared.data.Content.TheVariants.{Held, Absent}
 use Rattle.zb_model.specs.declared.refusal.Refusal.{Refusal}
 use Rattle.zb_model.specs.declared.refusal.Refusal.TheVariants as refusal
 use Rattle.zb_model.specs.declared.pending.PendingStore.{PendingStore}
@@ -39,11 +40,13 @@ request_of changes line.Finish = Some request.Finish
 request_of changes line.Abort = Some request.Abort
 request_of changes (line.History oid) = Some (request.History oid)
 request_of changes line.UndoLog = Some request.UndoLog
-request_of changes (line.Pack tid) = Some (request.Pack tid true)
+request_of changes (line.Pack tid collect) = Some (request.Pack tid collect)
+request_of changes (line.PackBegin tid collect) = Some (request.PackBegin tid collect)
+request_of changes line.PackTurn = Some request.PackTurn
 request_of changes line.Close = Some request.Close
 request_of changes _ = None
 
--- what the line is answered; none of them asks for a load, for a pack in turns, or for what was committed
+-- what the line is answered; none of them asks for a load, or for what was committed
 abbrev pub answer_of : Reply → Answer
 answer_of (reply.Front front news switches) = answer.Begun front
 answer_of (reply.Loaded serial bytes end upto) = answer.Data serial bytes
@@ -56,11 +59,11 @@ answer_of reply.Aborted = answer.Aborted
 answer_of (reply.History list) = answer.History list
 answer_of (reply.UndoLog list) = answer.UndoLog list
 answer_of (reply.Packed kept dropped) = answer.Packed kept dropped
-answer_of (reply.Packing tid) = answer.Empty
-answer_of (reply.Marking count) = answer.Empty
-answer_of (reply.Marked count) = answer.Empty
-answer_of (reply.Copying count) = answer.Empty
-answer_of (reply.Copied count) = answer.Empty
+answer_of (reply.Packing tid) = answer.Packing tid
+answer_of (reply.Marking count) = answer.Marking count
+answer_of (reply.Marked count) = answer.Marked count
+answer_of (reply.Copying count) = answer.Copying count
+answer_of (reply.Copied count) = answer.Copied count
 answer_of (reply.Last tid changes) = answer.Empty
 answer_of (reply.Since keep commits) = answer.Empty
 answer_of reply.Closed = answer.Closed
@@ -146,19 +149,27 @@ pub record Changed : Type 0 where
 abbrev pub unchanged : Changes → Answer → Changed
 unchanged t a = record { answer = a; changes = t }
 
+-- a store or a delete waits
+abbrev pub waiting : Changes → PendingStore → Changes
+waiting t p = record t { pending = record { stores = with_pending t.pending.stores p; checks = t.pending.checks } }
+
 -- store: it waits, unless it is too long, by itself or with the others
 abbrev pub store_unless : Changes → PendingStore → Option ℕ → Changed
 store_unless t p (Some length) = unchanged t (answer.Refused (refusal.TooLong length))
-store_unless t p None = record { answer = answer.Stored; changes = record t { pending = record { stores = with_pending t.pending.stores p; checks = t.pending.checks } } }
+store_unless t p None = record { answer = answer.Stored; changes = waiting t p }
 
 abbrev pub stored : Changes → PendingStore → Changed
 stored t p = store_unless t p (excess_with t.pending.stores p)
 
 -- put: the base is the serial that a read answers, or 0 where the object is missing
 abbrev pub put : Changes → ℕ → List ℕ → Result (ℕ × List ℕ) Refusal → Changed
-put t oid bytes (Ok got) = stored t (record { oid = oid; base = got.0; bytes = bytes })
-put t oid bytes (Err (refusal.Missing o false)) = stored t (record { oid = oid; base = 0; bytes = bytes })
+put t oid bytes (Ok got) = stored t (record { oid = oid; base = got.0; content = Held bytes })
+put t oid bytes (Err (refusal.Missing o false)) = stored t (record { oid = oid; base = 0; content = Held bytes })
 put t oid bytes (Err why) = unchanged t (answer.Refused why)
+
+-- delete: it waits, and has no length
+abbrev pub deleted : Changes → ℕ → ℕ → Changed
+deleted t oid base = record { answer = answer.Deleted; changes = waiting t (record { oid = oid; base = base; content = Absent }) }
 
 -- check: it waits behind the others
 abbrev pub checked : Changes → PendingCheck → Changed
@@ -172,10 +183,6 @@ data_of (Err why) = answer.Refused why
 abbrev pub object_of : Result (ℕ × List ℕ) Refusal → Answer
 object_of (Ok got) = answer.Object got.0 got.1
 object_of (Err why) = answer.Refused why
-
--- get of what waits: its base stands as its serial
-abbrev pub object_pending : PendingStore → Answer
-object_pending p = answer.Object p.base p.bytes
 
 -- savepoint: what waits is saved, behind the other savepoints
 abbrev pub saved : Changes → Changed

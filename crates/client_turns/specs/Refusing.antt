@@ -1,5 +1,5 @@
 -- What a connection refuses by itself, in its order. Source: `Connection` and `Transaction` of ZODB.
-use Rattle.std.specs.Prelude.{ℕ, ◌+◌, ◌≤◌, Option, Some, None, Bool, true, false, not, nat_lt, length, is_some}
+use Rattle.std.specs.Prelude.{ℕ, ◌+◌, ◌<◌, ◌≤◌, Option, Some, None, Bool, true, false, not, nat_lt, length, is_some}
 use Rattle.std.specs.Option.{option_or}
 use Rattle.zb_model.specs.declared.refusal.Refusal.{Refusal}
 use Rattle.zb_model.specs.declared.refusal.Refusal.TheVariants as refusal
@@ -23,6 +23,7 @@ abbrev pub transaction_refusal : Changes → Line → Option Refusal
 transaction_refusal t (line.Store oid base bytes) = refuse_if t.is_voted refusal.Voted
 transaction_refusal t (line.Put oid bytes) = refuse_if t.is_voted refusal.Voted
 transaction_refusal t (line.Check oid serial) = refuse_if t.is_voted refusal.Voted
+transaction_refusal t (line.Delete oid base) = refuse_if t.is_voted refusal.Voted
 transaction_refusal t (line.Vote user description) = refuse_if t.is_voted refusal.Voted
 transaction_refusal t (line.Undo user description tids) = option_or (refuse_if t.is_voted refusal.Voted) (mixed t.pending)
 transaction_refusal t line.Savepoint = refuse_if t.is_voted refusal.Voted
@@ -41,7 +42,9 @@ line_refusal t line.Begin = refuse_if (is_some t) refusal.InTransaction
 line_refusal t line.New = None
 line_refusal t (line.History oid) = None
 line_refusal t line.UndoLog = None
-line_refusal t (line.Pack tid) = None
+line_refusal t (line.Pack tid collect) = None
+line_refusal t (line.PackBegin tid collect) = None
+line_refusal t line.PackTurn = None
 line_refusal t line.Close = None
 line_refusal t l = refusal_within t l
 
@@ -49,8 +52,10 @@ line_refusal t l = refusal_within t l
 abbrev pub connection_refusal : Machine → Client → Line → Option Refusal
 connection_refusal m c l = option_or (refuse_if (not (is_open_in m.sessions c.session)) refusal.NotOpen) (line_refusal (changes_of c) l)
 
--- the texts of a line have lengths of 16 bits, as each line of a script has them
+-- a line as each line of a script is: what it stores has a byte, and its texts have lengths of 16 bits
 abbrev pub IsFittingLine : Line → Type 0
+IsFittingLine (line.Store oid base bytes) = 0 < length bytes
+IsFittingLine (line.Put oid bytes) = 0 < length bytes
 IsFittingLine (line.Vote user description) = (length user ≤ 65535) × (length description ≤ 65535)
 IsFittingLine (line.Undo user description tids) = (length user ≤ 65535) × (length description ≤ 65535)
 IsFittingLine _ = Unit {0}

@@ -1,6 +1,6 @@
 -- What contracts see of clients over a hub, and the moments that they stand for. Own.
-use Rattle.std.specs.Prelude.{◌≡◌, ◌⊎◌, ℕ, ◌<◌, ◌≤◌, List, [], ◌∷◌, ◌++◌, Option, Some, None, Result, Ok, Err, Bool, true, false, IfSome, IsSome, nat_lt, not, slice_get, slice_set}
-use Rattle.std.specs.Option.{IsSomeAnd, option_map, option_or}
+use Rattle.std.specs.Prelude.{◌≡◌, ◌⊎◌, ℕ, List, [], ◌∷◌, ◌++◌, Option, Some, None, Result, Ok, Err, Bool, true, false, IsSome, slice_get, slice_set}
+use Rattle.std.specs.Option.{IsSomeAnd}
 use Rattle.zb_ids.specs.declared.stamp.Stamp.{Stamp}
 use Rattle.zb_model.specs.declared.data.Transaction.{Transaction}
 use Rattle.zb_model.specs.declared.refusal.Refusal.{Refusal}
@@ -10,14 +10,11 @@ use Rattle.zb_answers.specs.declared.answer.Answer.TheVariants as answer
 use Rattle.zb_script.specs.declared.line.Line.{Line}
 use Rattle.zb_script.specs.declared.line.Line.TheVariants as line
 use Rattle.zodb_core.specs.declared.reply.Reply.{Reply}
-use Rattle.zodb_core.specs.declared.reply.Reply.TheVariants as reply
 use Rattle.zodb_core.specs.declared.request.Request.{Request}
 use Rattle.zodb_core.specs.declared.request.Request.TheVariants as request
-use Rattle.zodb_core.specs.declared.session.Session.{Session}
 use Rattle.pack_reach.specs.Packed.{packed}
 use Rattle.zodb_core.specs.Seen.{PackGoal, goal_of_open, pack_goal}
 use Rattle.zodb_core.specs.Sound.{IsPackWithin}
-use Rattle.zodb_core.specs.Steps.{refuse_if}
 use Rattle.zodb_core.specs.HubState.{HubState, StandsForMachine, counts_of, is_store_failed}
 use Rattle.zodb_core.specs.Machine.{Machine, MachineVote, Rules, is_open_in}
 use Rattle.zodb_core.specs.Outcomes.{Answered, AreLaterCounts, FaultCounts, StepOutcome, outcome_of, outcome_of_refusal}
@@ -31,7 +28,7 @@ use Rattle.client_turns.specs.Refusing.{line_refusal}
 use Rattle.client_turns.specs.Steps.{IsReadAt}
 use Rattle.client_turns.specs.Turns.{IsClosingAt, IsLineUnless, IsOwnLine, IsStepLine}
 use Rattle.connection_view.specs.declared.connection.Connection.{Connection}
-use Rattle.connection_view.specs.Connections.{Between, InView, work_of}
+use Rattle.connection_view.specs.Connections.{Between, InView, work_of, waiting_read}
 use Rattle.connection_view.specs.Views.{View}
 use Rattle.connection_view.specs.Views as views
 use Rattle.local_loads.specs.declared.told.Told.{Told}
@@ -77,6 +74,11 @@ abbrev pub AreClientsOf : {R F : Type 0} → HubState R F → List Client → Li
 AreClientsOf hub [] [] = Unit {0}
 AreClientsOf hub (x ∷ xs) (c ∷ cs) = IsClientOf hub x c × AreClientsOf hub xs cs
 AreClientsOf hub _ _ = ⊥
+
+-- what is voted is later than the list, and the open pack leaves its newest transaction whole
+pub record IsAhead (m : Machine) : Type 0 where
+  pub writes : WritesLater m.list m.vote
+  pub within : IsPackWithin m.list m.pack
 
 -- The clients stand for a moment: their hub for its machine, and each of them for its client there.
 pub record StandsForMoment {R F : Type 0} (seen : ClientsState R F) (left : Option (List Stamp)) (m : Moment) : Type 0 where
@@ -159,7 +161,7 @@ IsReadWhere m (Some t) oid result now = IsReadAt m t.view oid result now
 
 -- what a transaction has of an object: what waits for it, for which memory is free to run out, or else what its view has
 abbrev pub IsGotAs : Moment → View → ℕ → Option PendingStore → Result (ℕ × List ℕ) Refusal → Moment → Type 0
-IsGotAs m v oid (Some p) result now = ((result ≡ Ok (p.base, p.bytes)) ⊎ (result ≡ Err refusal.Memory)) × (now ≡ m)
+IsGotAs m v oid (Some p) result now = ((result ≡ waiting_read oid p) ⊎ (result ≡ Err refusal.Memory)) × (now ≡ m)
 IsGotAs m v oid None result now = IsReadAt m v oid result now
 
 abbrev pub IsGotWhere : Moment → Option OpenTransaction → ℕ → Result (ℕ × List ℕ) Refusal → Moment → Type 0
@@ -219,15 +221,18 @@ IsListFor stands rules m (request.Pack tid collects) = IsListPacked stands rules
 IsListFor stands rules m request.PackTurn = IsListPacked stands rules m (goal_of_open m.pack)
 IsListFor stands rules m _ = λ bytes. stands bytes m.list
 
--- And so in a line: where it is `finish`, they may stand for that with what is voted behind it, and where it is `pack`, for that packed.
+-- And so in a line: where it is `finish`, they may stand for that with what is voted behind it, and where it is `pack` or `packturn`, for that packed.
 abbrev pub IsListIn : (List ℕ → List Transaction → Type 0) → Rules → Machine → Line → List ℕ → Type 0
 IsListIn stands rules m line.Finish = IsListAround stands m
-IsListIn stands rules m (line.Pack tid) = IsListPacked stands rules m (goal_named tid true m)
+IsListIn stands rules m (line.Pack tid collect) = IsListPacked stands rules m (goal_named tid collect m)
+IsListIn stands rules m line.PackTurn = IsListPacked stands rules m (goal_of_open m.pack)
 IsListIn stands rules m _ = λ bytes. stands bytes m.list
 
--- a line that packs
+-- a line that packs, in one step or in turns
 abbrev pub packs_list : Line → Bool
-packs_list (line.Pack tid) = true
+packs_list (line.Pack tid collect) = true
+packs_list (line.PackBegin tid collect) = true
+packs_list line.PackTurn = true
 packs_list _ = false
 
 -- What a line, or a part of one, did to a hub: the rules stay, neither count has fallen, and they say how it ended; the store is broken exactly where that says so;

@@ -1,5 +1,7 @@
 -- Lines of trees: a call over what the client's transaction has. Source: BTrees over a connection of ZODB; that each object is read once in a line is own.
-use Rattle.std.specs.Prelude.{◌≡◌, ℕ, ◌≤◌, List, [], ◌∷◌, Option, Some, None, Result, Ok, Err, Bool, true, false, if◌then◌else◌, ◌⊎◌}
+use Rattle.std.specs.Prelude.{◌≡◌, ℕ, ◌<◌, ◌≤◌, List, [], ◌∷◌, length, All, Option, Some, None, Result, Ok, Err, Bool, true, false, if◌then◌else◌, ◌⊎◌}
+use Rattle.zb_model.specs.declared.data.Content.{Content}
+use Rattle.zb_model.specs.declared.data.Content.TheVariants.{Held, Absent}
 use Rattle.zb_model.specs.declared.pending.PendingStore.{PendingStore}
 use Rattle.zb_model.specs.declared.refusal.Refusal.{Refusal}
 use Rattle.zb_model.specs.declared.refusal.Refusal.TheVariants as refusal
@@ -9,11 +11,12 @@ use Rattle.zb_script.specs.declared.tree_call.TreeCall.{TreeCall}
 use Rattle.zb_script.specs.declared.tree_call.TreeCall.TheVariants as tree
 use Rattle.commit_phases.specs.Pending.{pending_of, stores_after}
 use Rattle.tree_calls.specs.declared.known.Seen.{Seen}
+use Rattle.tree_calls.specs.declared.put.TreePut.{TreePut}
 use Rattle.tree_calls.specs.declared.operation.TreeAnswer.{TreeAnswer}
 use Rattle.tree_calls.specs.declared.operation.TreeAnswer.TheVariants as answered
 use Rattle.tree_calls.specs.declared.operation.TreeOperation.{TreeOperation}
 use Rattle.tree_calls.specs.declared.operation.TreeOperation.TheVariants as operation
-use Rattle.tree_calls.specs.Calls.{IsMade, IsRefused, takes_numbers}
+use Rattle.tree_calls.specs.Calls.{IsMade, IsRefused, LacksNumbers, NeedsNumbers, contents_of}
 use Rattle.zodb_core.specs.declared.reply.Reply.TheVariants as reply
 use Rattle.zodb_core.specs.declared.request.Request.TheVariants as request
 use Rattle.zodb_core.specs.Machine.{Machine, Rules}
@@ -50,9 +53,14 @@ abbrev pub IsInView : Machine → View → ℕ → Option Seen → Type 0
 IsInView m v oid (Some x) = current v oid ≡ Some (x.serial, x.bytes)
 IsInView m v oid None = (packed : Bool) × IsMissing v (server_of m) oid packed
 
--- what a transaction has of an object: what waits for it, with its base as its serial, or else what its view has
+-- what waits for an object: its bytes, with its base as its serial, or nothing where it is to be deleted
+abbrev pub seen_waiting : ℕ → Content → Option Seen
+seen_waiting base (Held bytes) = Some (record { serial = base; bytes = bytes })
+seen_waiting base Absent = None
+
+-- what a transaction has of an object: what waits for it, or else what its view has
 abbrev pub IsSeen : Machine → View → ℕ → Option PendingStore → Option Seen → Type 0
-IsSeen m v oid (Some p) x = x ≡ Some (record { serial = p.base; bytes = p.bytes })
+IsSeen m v oid (Some p) x = x ≡ seen_waiting p.base p.content
 IsSeen m v oid None x = IsInView m v oid x
 
 abbrev pub IsSeenIn : Machine → OpenTransaction → ℕ → Option Seen → Type 0
@@ -90,30 +98,51 @@ abbrev pub is_missing : Refusal → Bool
 is_missing (refusal.Missing oid packed) = true
 is_missing _ = false
 
--- A call is answered: over what the transaction has, with the numbers that its session drew.
+-- A call is answered: over what the transaction has, with the numbers that its session drew. Each of its puts has bytes.
 pub record IsCalled (m : Moment) (n : ℕ) (t : OpenTransaction) (root : ℕ) (op : TreeOperation) (x : Made) (now : Moment) : Type 0 where
   pub objects : ℕ → Option Seen
   pub sees : Sees m.machine t objects
   pub numbers : List ℕ
   pub draws : Draws m n numbers now
   pub made : IsMade objects root op numbers x.answer x.puts
+  pub filled : All (λ p. 0 < length p.bytes) x.puts
 
--- these numbers may be drawn for a call: none, unless it may take some
-abbrev pub MayDraw : TreeOperation → List ℕ → Type 0
-MayDraw op numbers = takes_numbers op ≡ false → numbers ≡ []
+-- a call over what a transaction has needs more numbers than these
+pub record NeedsMore (m : Machine) (t : OpenTransaction) (root : ℕ) (op : TreeOperation) (numbers : List ℕ) : Type 0 where
+  pub objects : ℕ → Option Seen
+  pub sees : Sees m t objects
+  pub lacks : LacksNumbers (contents_of objects) root op (length numbers)
 
--- A call isn't answered: the tree refuses it, a read fails, it may take numbers and none is given, or memory runs out.
+-- a call over what a transaction has needs all these numbers, or more
+pub record NeedsAll (m : Machine) (t : OpenTransaction) (root : ℕ) (op : TreeOperation) (numbers : List ℕ) : Type 0 where
+  pub objects : ℕ → Option Seen
+  pub sees : Sees m t objects
+  pub count : ℕ
+  pub needs : NeedsNumbers (contents_of objects) root op count
+  pub within : length numbers ≤ count
+
+-- these numbers may have been drawn for a call: none, or no more than it needs
+abbrev pub MayDraw : Machine → OpenTransaction → ℕ → TreeOperation → List ℕ → Type 0
+MayDraw m t root op numbers = (numbers ≡ []) ⊎ NeedsAll m t root op numbers
+
+-- A call isn't answered. The tree refuses it, or a read fails, and no number was drawn; or one is refused of those that the call needs, behind fewer; or memory
+-- runs out, and no more were drawn than it needs.
 pub data IsUncalled (m : Moment) (n : ℕ) (t : OpenTransaction) (root : ℕ) (op : TreeOperation) (why : Refusal) (now : Moment) : Type 0 where
-  by_tree : (objects : ℕ → Option Seen) (numbers : List ℕ) → Sees m.machine t objects → Draws m n numbers now → IsRefused objects root op numbers why → IsUncalled m n t root op why now
-  by_read : (numbers : List ℕ) (behind : Moment) (oid : ℕ) → MayDraw op numbers → Draws m n numbers behind → IsReadAt behind t.view oid (Err why) now → is_missing why ≡ false → IsUncalled m n t root op why now
-  by_draw : (numbers : List ℕ) (behind : Moment) → takes_numbers op ≡ true → Draws m n numbers behind → IsUndrawn behind n why now → IsUncalled m n t root op why now
-  by_want : (numbers : List ℕ) → MayDraw op numbers → Draws m n numbers now → why ≡ refusal.Memory → IsUncalled m n t root op why now
+  by_tree : (objects : ℕ → Option Seen) → Sees m.machine t objects → IsRefused objects root op why → now ≡ m → IsUncalled m n t root op why now
+  by_read : (oid : ℕ) → IsReadAt m t.view oid (Err why) now → is_missing why ≡ false → IsUncalled m n t root op why now
+  by_draw : (numbers : List ℕ) (behind : Moment) → NeedsMore m.machine t root op numbers → Draws m n numbers behind → IsUndrawn behind n why now → IsUncalled m n t root op why now
+  by_want : (numbers : List ℕ) → MayDraw m.machine t root op numbers → Draws m n numbers now → why ≡ refusal.Memory → IsUncalled m n t root op why now
 
 abbrev pub CallEnds : Moment → ℕ → OpenTransaction → ℕ → TreeOperation → Result Made Refusal → Moment → Type 0
 CallEnds m n t root op (Ok made) now = IsCalled m n t root op made now
 CallEnds m n t root op (Err why) now = IsUncalled m n t root op why now
 
 -- ---- a line
+
+-- what a call puts, as it waits for the vote
+abbrev pub stores_put : List TreePut → List PendingStore
+stores_put [] = []
+stores_put (p ∷ puts) = (record { oid = p.oid; base = p.base; content = Held p.bytes }) ∷ stores_put puts
 
 abbrev pub puts_stored : Changes → Answer → Result (List PendingStore) ℕ → Changed
 puts_stored t a (Ok stores) = record { answer = a; changes = record { pending = record { stores = stores; checks = t.pending.checks }; savepoints = t.savepoints; is_voted = t.is_voted } }
@@ -126,7 +155,7 @@ all_stored t a (p ∷ puts) = if t.is_voted then unchanged t (answer.Refused ref
 
 -- the answer to a call, and the changes that it leaves; memory is free to run out
 abbrev pub IsTreeEnd : Moment → ℕ → Client → OpenTransaction → Result Made Refusal → Answer → Moment → Type 0
-IsTreeEnd m at c t (Ok made) a now = IsChange m at c t (all_stored t.changes (answer_told made.answer) made.puts) a now ⊎ ((a ≡ answer.Refused refusal.Memory) × (now ≡ m))
+IsTreeEnd m at c t (Ok made) a now = IsChange m at c t (all_stored t.changes (answer_told made.answer) (stores_put made.puts)) a now ⊎ ((a ≡ answer.Refused refusal.Memory) × (now ≡ m))
 IsTreeEnd m at c t (Err why) a now = (a ≡ answer.Refused why) × (now ≡ m)
 
 -- a line of a tree: its call, and what it puts

@@ -1,5 +1,6 @@
 -- What turns leave of the list, and that it stays whole. For the proofs of those who follow turns.
 use Rattle.std.proofs.Common.{◌≡◌, ℕ, ◌+◌, ◌-◌, ◌^◌, Bool, true, false, cond, List, [], ◌∷◌, ◌++◌, length, Option, Some, None, Result, Ok, Err, if◌then◌else◌, nat_lt, refl, sym, ap, subst, ◌∙◌}
+use Rattle.zb_ids.specs.declared.stamp.Stamp.{Stamp}
 use Rattle.zb_ids.specs.Tids.{tid_after}
 use Rattle.zb_model.specs.declared.data.Change.{Change}
 use Rattle.zb_model.specs.declared.data.Transaction.{Transaction}
@@ -22,19 +23,22 @@ use Rattle.zodb_core.specs.Machine.{Machine, MachineVote, Rules, with_session}
 use Rattle.zodb_core.specs.Outcomes.{Answered, EndsFor, FaultCounts, NoMemory, ReadingFailed, StepOutcome, StoreFailed, is_pack, is_packed, machine_left, outcome_of, outcome_of_refusal}
 use Rattle.zodb_core.specs.Laws.{IsPackedTo}
 use Rattle.zodb_core.specs.Seen.{PackGoal, goal_of_open, pack_goal}
+use Rattle.zodb_core.specs.SoundLaws.{left_within}
 use Rattle.zodb_core.specs.StepCases.{StepCases, by_step, by_unanswered}
 use Rattle.zodb_core.specs.Steps.{Stepped, changes_in_journal, early_refusal, journal_limit, replied_refusal, request_step, step_of, transaction_with, unless_early, vote_at, vote_step, with_vote}
 use Rattle.zodb_core.specs.SwitchLaws.{packed_as_asked, turn_keeps_list}
-use Rattle.client_turns.specs.Clients.{Changes, Client, Moment, OpenTransaction, changes_of, place_of_client}
+use Rattle.client_turns.specs.Clients.{Changes, Client, Moment, OpenTransaction, changes_of, first_moment, place_of_client}
 use Rattle.client_turns.specs.declared.errors.TurnError.TheVariants as error
 use Rattle.client_turns.specs.Lines.{answer_of, end_in, end_of, is_committed, pending_in, request_of}
+use Rattle.client_turns.specs.Output.{Out, TurnAnswer, is_last}
 use Rattle.client_turns.specs.Refusing.{connection_refusal}
-use Rattle.client_turns.specs.Standing.{goal_named}
+use Rattle.client_turns.specs.Standing.{IsAhead, goal_named}
 use Rattle.client_turns.specs.Steps.{IsStepAt}
 use Rattle.client_turns.specs.DrawLaws.{raised_same, tree_raised}
 use Rattle.client_turns.specs.Trees.{IsRaised}
 use Rattle.client_turns.specs.Turns.{IsAnswered, IsClosed, IsClosing, IsGet, IsLine, IsLineOf, IsLineTaken, IsLineUnless, IsOpening, IsOwnLine, IsPut, IsStepLine, IsTold, IsWithin, Opening}
 use Rattle.connection_view.specs.Views.{View}
+use Rattle.local_loads.specs.LocalLaws.{left_writes, votes_later}
 
 -- ---- the list behind a step
 
@@ -58,7 +62,8 @@ IsListLeft rules m _ l = l ≡ m.list
 -- and so behind a line
 abbrev pub IsListBehind : Rules → Machine → Line → List Transaction → Type 0
 IsListBehind rules m line.Finish l = KeepsOrVoted m l
-IsListBehind rules m (line.Pack tid) l = KeepsOrPacked rules m (goal_named tid true m) l
+IsListBehind rules m (line.Pack tid collect) l = KeepsOrPacked rules m (goal_named tid collect m) l
+IsListBehind rules m line.PackTurn l = KeepsOrPacked rules m (goal_of_open m.pack) l
 IsListBehind rules m _ l = l ≡ m.list
 
 finish_cases : (m : Machine) (n : ℕ) → StepCases (λ s. KeepsOrVoted m s.machine.list) m n request.Finish
@@ -214,6 +219,18 @@ told_whole : (rules : Rules) (b t : Moment) (n : ℕ) (committed : Bool) → IsT
 told_whole rules b t n false told = ap (λ (x : Moment). x.machine.failed) told
 told_whole rules b t n true told = step_at_whole rules b n request.Front told.0 t told.1 (front_fine rules b.machine n told.1.stamp _ b.counts t.counts (outcome_of told.0) told.1.made.cause)
 
+-- what is voted behind a step is later than the list there, and the open pack leaves its newest transaction whole
+step_at_ahead : (rules : Rules) (m : Moment) (n : ℕ) (q : Request) (r : Reply) (now : Moment) → IsStepAt rules m n q r now → IsAhead m.machine → IsAhead now.machine
+step_at_ahead rules m n q r now step ahead =
+    subst IsAhead (sym step.made.left) (record {
+      writes = left_writes rules m.machine n q step.stamp (outcome_of r) ahead.writes;
+      within = left_within rules m.machine n q step.stamp (outcome_of r) (votes_later m.machine.list m.machine.vote ahead.writes) ahead.within;
+    })
+
+told_ahead : (rules : Rules) (b t : Moment) (n : ℕ) (committed : Bool) → IsTold rules committed b n t → IsAhead b.machine → IsAhead t.machine
+told_ahead rules b t n false told ahead = subst IsAhead (sym (ap (λ (x : Moment). x.machine) told)) ahead
+told_ahead rules b t n true told ahead = step_at_ahead rules b n request.Front told.0 t told.1 ahead
+
 told_list : (rules : Rules) (b t : Moment) (n : ℕ) (committed : Bool) → IsTold rules committed b n t → t.machine.list ≡ b.machine.list
 told_list rules b t n false told = ap (λ (x : Moment). x.machine.list) told
 told_list rules b t n true told = step_at_left rules b n request.Front told.0 t told.1
@@ -300,6 +317,7 @@ same_behind rules m (line.Get oid) list is = is
 same_behind rules m (line.Store oid base bytes) list is = is
 same_behind rules m (line.Put oid bytes) list is = is
 same_behind rules m (line.Check oid serial) list is = is
+same_behind rules m (line.Delete oid base) list is = is
 same_behind rules m line.Savepoint list is = is
 same_behind rules m (line.Rollback number) list is = is
 same_behind rules m (line.Tree root call) list is = is
@@ -310,7 +328,9 @@ same_behind rules m line.Finish list is = kept is
 same_behind rules m line.Abort list is = is
 same_behind rules m (line.History oid) list is = is
 same_behind rules m line.UndoLog list is = is
-same_behind rules m (line.Pack tid) list is = unpacked is
+same_behind rules m (line.Pack tid collect) list is = unpacked is
+same_behind rules m (line.PackBegin tid collect) list is = is
+same_behind rules m line.PackTurn list is = unpacked is
 same_behind rules m line.Close list is = is
 
 pub same_request : (a b : Request) → Some a ≡ Some b → a ≡ b
@@ -325,6 +345,7 @@ asked_behind rules m ch (line.Get oid) q list asks left = absurd cc
 asked_behind rules m ch (line.Store oid base bytes) q list asks left = absurd cc
 asked_behind rules m ch (line.Put oid bytes) q list asks left = absurd cc
 asked_behind rules m ch (line.Check oid serial) q list asks left = absurd cc
+asked_behind rules m ch (line.Delete oid base) q list asks left = absurd cc
 asked_behind rules m ch line.Savepoint q list asks left = absurd cc
 asked_behind rules m ch (line.Rollback number) q list asks left = absurd cc
 asked_behind rules m ch (line.Tree root call) q list asks left = absurd cc
@@ -335,16 +356,23 @@ asked_behind rules m ch line.Finish q list asks left = subst (λ (x : Request). 
 asked_behind rules m ch line.Abort q list asks left = subst (λ (x : Request). IsListLeft rules m x list) (sym (same_request request.Abort q asks)) left
 asked_behind rules m ch (line.History oid) q list asks left = subst (λ (x : Request). IsListLeft rules m x list) (sym (same_request (request.History oid) q asks)) left
 asked_behind rules m ch line.UndoLog q list asks left = subst (λ (x : Request). IsListLeft rules m x list) (sym (same_request request.UndoLog q asks)) left
-asked_behind rules m ch (line.Pack tid) q list asks left = subst (λ (x : Request). IsListLeft rules m x list) (sym (same_request (request.Pack tid true) q asks)) left
+asked_behind rules m ch (line.Pack tid collect) q list asks left = subst (λ (x : Request). IsListLeft rules m x list) (sym (same_request (request.Pack tid collect) q asks)) left
+asked_behind rules m ch (line.PackBegin tid collect) q list asks left = subst (λ (x : Request). IsListLeft rules m x list) (sym (same_request (request.PackBegin tid collect) q asks)) left
+asked_behind rules m ch line.PackTurn q list asks left = subst (λ (x : Request). IsListLeft rules m x list) (sym (same_request request.PackTurn q asks)) left
 asked_behind rules m ch line.Close q list asks left = subst (λ (x : Request). IsListLeft rules m x list) (sym (same_request request.Close q asks)) left
 
--- what a line leaves: the list that it may leave, and a store that has not failed, where the run goes on
+-- what a line leaves: the list that it may leave, a store that has not failed, where the run goes on, and what is voted or being packed as it fits the list
 pub record LeavesWhole (rules : Rules) (m : Moment) (l : Line) (now : Moment) (a : Answer) : Type 0 where
   pub list : IsListBehind rules m.machine l now.machine.list
   pub whole : end_of a ≡ None → m.machine.failed ≡ false → now.machine.failed ≡ false
+  pub ahead : IsAhead m.machine → IsAhead now.machine
 
 same_whole : (rules : Rules) (m : Moment) (l : Line) (now : Moment) (a : Answer) → now.machine ≡ m.machine → LeavesWhole rules m l now a
-same_whole rules m l now a is = record { list = same_behind rules m.machine l now.machine.list (ap (λ (x : Machine). x.list) is); whole = λ ends whole. ap (λ (x : Machine). x.failed) is ∙ whole }
+same_whole rules m l now a is = record {
+  list = same_behind rules m.machine l now.machine.list (ap (λ (x : Machine). x.list) is);
+  whole = λ ends whole. ap (λ (x : Machine). x.failed) is ∙ whole;
+  ahead = λ ahead. subst IsAhead (sym is) ahead;
+}
 
 opened_list : (m : Moment) (name : List ℕ) (b : Bool) → (if b then (let o : Opening = record { answer = answer.Opened (length m.machine.sessions); moment = record { machine = with_session m.machine; clients = m.clients ++ record { name = name; session = length m.machine.sessions; transaction = None } ∷ []; stamps = m.stamps; counts = m.counts } } in o)
     else (let o : Opening = record { answer = answer.Refused (refusal.TooManySessions (length m.machine.sessions)); moment = m } in o)).moment.machine.list ≡ m.machine.list
@@ -356,10 +384,16 @@ opened_whole : (m : Moment) (name : List ℕ) (b : Bool) → (if b then (let o :
 opened_whole m name true = refl
 opened_whole m name false = refl
 
+opened_ahead : (m : Moment) (name : List ℕ) (b : Bool) → IsAhead m.machine → IsAhead (if b then (let o : Opening = record { answer = answer.Opened (length m.machine.sessions); moment = record { machine = with_session m.machine; clients = m.clients ++ record { name = name; session = length m.machine.sessions; transaction = None } ∷ []; stamps = m.stamps; counts = m.counts } } in o)
+    else (let o : Opening = record { answer = answer.Refused (refusal.TooManySessions (length m.machine.sessions)); moment = m } in o)).moment.machine
+opened_ahead m name true ahead = record { writes = ahead.writes; within = ahead.within }
+opened_ahead m name false ahead = ahead
+
 opening_whole : (rules : Rules) (m : Moment) (l : Line) (now : Moment) (name : List ℕ) (a : Answer) → IsOpening m name a now → LeavesWhole rules m l now a
 opening_whole rules m l now name a is = record {
   list = same_behind rules m.machine l now.machine.list (ap (λ (o : Opening). o.moment.machine.list) is ∙ opened_list m name (nat_lt (length m.machine.sessions) 64));
   whole = λ ends whole. ap (λ (o : Opening). o.moment.machine.failed) is ∙ opened_whole m name (nat_lt (length m.machine.sessions) 64) ∙ whole;
+  ahead = λ ahead. subst IsAhead (sym (ap (λ (o : Opening). o.moment.machine) is)) (opened_ahead m name (nat_lt (length m.machine.sessions) 64) ahead);
 }
 
 get_same : (m now : Moment) (v : View) (oid : ℕ) (o : Option PendingStore) (a : Answer) → IsGet m v oid o a now → now.machine ≡ m.machine
@@ -376,6 +410,7 @@ within_raised m now at c t (line.Get oid) a is = raised_same m.machine now.machi
 within_raised m now at c t (line.Store oid base bytes) a is = raised_same m.machine now.machine (ap (λ (x : Moment). x.machine) is.1)
 within_raised m now at c t (line.Put oid bytes) a is = raised_same m.machine now.machine (put_same m now at c t oid bytes (pending_of t.changes.pending.stores oid) a is)
 within_raised m now at c t (line.Check oid serial) a is = raised_same m.machine now.machine (ap (λ (x : Moment). x.machine) is.1)
+within_raised m now at c t (line.Delete oid base) a is = raised_same m.machine now.machine (ap (λ (x : Moment). x.machine) is.1)
 within_raised m now at c t line.Savepoint a is = raised_same m.machine now.machine (ap (λ (x : Moment). x.machine) is.1)
 within_raised m now at c t (line.Rollback number) a is = raised_same m.machine now.machine (ap (λ (x : Moment). x.machine) is.1)
 within_raised m now at c t (line.Tree root call) a is = tree_raised m at c t root call a now is
@@ -388,7 +423,9 @@ within_raised m now at c t line.Finish a is = raised_same m.machine now.machine 
 within_raised m now at c t line.Abort a is = raised_same m.machine now.machine (ap (λ (x : Moment). x.machine) is.1)
 within_raised m now at c t (line.History oid) a is = raised_same m.machine now.machine (ap (λ (x : Moment). x.machine) is.1)
 within_raised m now at c t line.UndoLog a is = raised_same m.machine now.machine (ap (λ (x : Moment). x.machine) is.1)
-within_raised m now at c t (line.Pack tid) a is = raised_same m.machine now.machine (ap (λ (x : Moment). x.machine) is.1)
+within_raised m now at c t (line.Pack tid collect) a is = raised_same m.machine now.machine (ap (λ (x : Moment). x.machine) is.1)
+within_raised m now at c t (line.PackBegin tid collect) a is = raised_same m.machine now.machine (ap (λ (x : Moment). x.machine) is.1)
+within_raised m now at c t line.PackTurn a is = raised_same m.machine now.machine (ap (λ (x : Moment). x.machine) is.1)
 within_raised m now at c t line.Close a is = raised_same m.machine now.machine (ap (λ (x : Moment). x.machine) is.1)
 
 -- a line that is no step leaves the machine with no lower greatest number, and else as it was
@@ -400,6 +437,7 @@ raised_whole : (rules : Rules) (m : Moment) (l : Line) (now : Moment) (a : Answe
 raised_whole rules m l now a raised = record {
   list = same_behind rules m.machine l now.machine.list (ap (λ (x : Machine). x.list) raised.is);
   whole = λ ends whole. ap (λ (x : Machine). x.failed) raised.is ∙ whole;
+  ahead = λ ahead. subst IsAhead (sym raised.is) (record { writes = ahead.writes; within = ahead.within });
 }
 
 step_line_whole : (rules : Rules) (m : Moment) (l : Line) (now : Moment) (at : ℕ) (c : Client) (q : Request) (a : Answer) → request_of (changes_of c) l ≡ Some q → IsStepLine rules m at c q a now → LeavesWhole rules m l now a
@@ -411,6 +449,9 @@ step_line_whole rules m l now at c q a asks is = record {
       ∙ told_whole rules is.behind is.told c.session (is_committed is.reply) is.front
       ∙ step_at_whole rules m c.session q is.reply is.behind is.step (reply_fine is.reply (sym (ap end_of is.answer) ∙ ends))
       ∙ whole;
+  ahead = λ ahead.
+      subst IsAhead (sym (ap (λ (x : Moment). x.machine) is.left))
+      (told_ahead rules is.behind is.told c.session (is_committed is.reply) is.front (step_at_ahead rules m c.session q is.reply is.behind is.step ahead));
 }
 
 taken_whole : (rules : Rules) (m now : Moment) (at : ℕ) (c : Client) (l : Line) (q : Option Request) (a : Answer) → request_of (changes_of c) l ≡ q → IsLineTaken rules m at c l q a now → LeavesWhole rules m l now a
@@ -433,6 +474,7 @@ by_name rules m now name (line.Get oid) a P opening named is = named is
 by_name rules m now name (line.Store oid base bytes) a P opening named is = named is
 by_name rules m now name (line.Put oid bytes) a P opening named is = named is
 by_name rules m now name (line.Check oid serial) a P opening named is = named is
+by_name rules m now name (line.Delete oid base) a P opening named is = named is
 by_name rules m now name line.Savepoint a P opening named is = named is
 by_name rules m now name (line.Rollback number) a P opening named is = named is
 by_name rules m now name (line.Tree root call) a P opening named is = named is
@@ -443,7 +485,9 @@ by_name rules m now name line.Finish a P opening named is = named is
 by_name rules m now name line.Abort a P opening named is = named is
 by_name rules m now name (line.History oid) a P opening named is = named is
 by_name rules m now name line.UndoLog a P opening named is = named is
-by_name rules m now name (line.Pack tid) a P opening named is = named is
+by_name rules m now name (line.Pack tid collect) a P opening named is = named is
+by_name rules m now name (line.PackBegin tid collect) a P opening named is = named is
+by_name rules m now name line.PackTurn a P opening named is = named is
 by_name rules m now name line.Close a P opening named is = named is
 
 -- a line leaves a list that it may leave, and a store that has not failed, where the run goes on
@@ -461,9 +505,36 @@ closing_whole : (rules : Rules) (m now : Moment) (name : List ℕ) (last : Bool)
 closing_whole rules m now name false is = (ap (λ (x : Moment). x.machine.list) is, ap (λ (x : Moment). x.machine.failed) is)
 closing_whole rules m now name true is = close_whole rules m now (place_of_client name m.clients) is
 
--- an answered turn leaves a list that its line may leave, and a store that has not failed
+closed_ahead : (rules : Rules) (m now : Moment) (at : Option ℕ) → IsClosed rules m at now → IsAhead m.machine → IsAhead now.machine
+closed_ahead rules m now None is ahead = subst IsAhead (sym (ap (λ (x : Moment). x.machine) is)) ahead
+closed_ahead rules m now (Some at) is ahead = step_at_ahead rules m is.1.0.session request.Close is.0 now is.1.2 ahead
+
+closing_ahead : (rules : Rules) (m now : Moment) (name : List ℕ) (last : Bool) → IsClosing rules m name last now → IsAhead m.machine → IsAhead now.machine
+closing_ahead rules m now name false is ahead = subst IsAhead (sym (ap (λ (x : Moment). x.machine) is)) ahead
+closing_ahead rules m now name true is ahead = closed_ahead rules m now (place_of_client name m.clients) is ahead
+
+-- an answered turn leaves a list that its line may leave, a store that has not failed, and what is voted or being packed as it fits the list
 pub turn_whole : (rules : Rules) (m now : Moment) (t : Turn) (last : Bool) (a : Answer) → IsAnswered rules m t last a now → LeavesWhole rules m t.line now a
 turn_whole rules m now t last a is =
     let line : LeavesWhole rules m t.line is.behind a = line_whole rules m is.behind t.client t.line a is.line in
     let closing : (now.machine.list ≡ is.behind.machine.list) × (now.machine.failed ≡ is.behind.machine.failed) = closing_whole rules is.behind now t.client last is.closing in
-    record { list = subst (IsListBehind rules m.machine t.line) (sym closing.0) line.list; whole = λ ends whole. closing.1 ∙ line.whole ends whole }
+    record {
+      list = subst (IsListBehind rules m.machine t.line) (sym closing.0) line.list;
+      whole = λ ends whole. closing.1 ∙ line.whole ends whole;
+      ahead = λ ahead. closing_ahead rules is.behind now t.client last is.closing (line.ahead ahead);
+    }
+
+-- ---- what is voted and being packed, at every moment of a run
+
+-- before the first turn nothing is voted, and no pack is open
+pub first_ahead : (list : List Transaction) (stamps : Option (List Stamp)) (counts : FaultCounts) → IsAhead (first_moment list stamps counts).machine
+first_ahead list stamps counts = record { writes = tt; within = tt }
+
+-- so what is voted at any moment that turns lead to is later than the list, and the open pack leaves its newest transaction whole
+pub out_ahead : (rules : Rules) (m now : Moment) (turns later : List Turn) (out : List TurnAnswer) → Out rules m turns later out now → IsAhead m.machine → IsAhead now.machine
+out_ahead rules m now [] later [] is ahead = subst IsAhead (sym (ap (λ (x : Moment). x.machine) is)) ahead
+out_ahead rules m now [] later (o ∷ out) is ahead = absurd is
+out_ahead rules m now (t ∷ turns) later [] is ahead = absurd is
+out_ahead rules m now (t ∷ turns) later (o ∷ out) is ahead =
+    let turn : LeavesWhole rules m t.line is.0 o.answer = turn_whole rules m is.0 t (is_last t (turns ++ later)) o.answer is.2 in
+    out_ahead rules is.0 now turns later out is.3 (turn.ahead ahead)

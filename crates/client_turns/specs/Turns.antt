@@ -1,5 +1,6 @@
 -- A turn: one line of a client, with its steps and reads. Source: connections of ZODB; that a turn is taken at once is own.
 use Rattle.std.specs.Prelude.{◌≡◌, ℕ, List, [], ◌∷◌, ◌++◌, Option, Some, None, Result, Ok, Err, Bool, true, false, length, slice_get, nat_lt, if◌then◌else◌}
+use Rattle.zb_model.specs.declared.data.Content.TheVariants.{Held}
 use Rattle.zb_model.specs.declared.refusal.Refusal.{Refusal}
 use Rattle.zb_model.specs.declared.refusal.Refusal.TheVariants as refusal
 use Rattle.zb_model.specs.declared.pending.PendingStore.{PendingStore}
@@ -12,14 +13,15 @@ use Rattle.zodb_core.specs.declared.reply.Reply.{Reply}
 use Rattle.zodb_core.specs.declared.request.Request.{Request}
 use Rattle.zodb_core.specs.declared.request.Request.TheVariants as request
 use Rattle.zodb_core.specs.Machine.{Rules, session_limit, with_session}
+use Rattle.connection_view.specs.Connections.{waiting_read}
 use Rattle.client_turns.specs.declared.errors.TurnError.{TurnError}
 use Rattle.client_turns.specs.declared.errors.TurnError.TheVariants as error
 use Rattle.commit_phases.specs.Pending.{pending_of}
 use Rattle.client_turns.specs.Clients.{Client, Moment, OpenTransaction, changes_of, place_of_client, with_client}
-use Rattle.client_turns.specs.Lines.{answer_of, checked, client_left, data_of, end_of, is_committed, object_of, object_pending, put, request_of, rolled_back, saved, stored}
+use Rattle.client_turns.specs.Lines.{answer_of, checked, client_left, data_of, deleted, end_of, is_committed, object_of, put, request_of, rolled_back, saved, stored}
 use Rattle.client_turns.specs.Steps.{IsChange, IsReadAt, IsRefusedAt, IsStepAt}
 use Rattle.client_turns.specs.Trees.{IsTreeLine}
-use Rattle.client_turns.specs.Refusing.{connection_refusal}
+use Rattle.client_turns.specs.Refusing.{IsFittingLine, connection_refusal}
 use Rattle.connection_view.specs.Views.{View}
 
 -- ---- lines of an open connection
@@ -45,21 +47,22 @@ IsReadLine m v oid answer_to a now = (result : Result (ℕ × List ℕ) Refusal)
 
 -- get: what waits is answered, and no read is made
 abbrev pub IsGet : Moment → View → ℕ → Option PendingStore → Answer → Moment → Type 0
-IsGet m v oid (Some p) a now = (a ≡ object_pending p) × (now ≡ m)
+IsGet m v oid (Some p) a now = (a ≡ object_of (waiting_read oid p)) × (now ≡ m)
 IsGet m v oid None a now = IsReadLine m v oid object_of a now
 
 -- put: what waits keeps its base, and no read is made; else the base is the serial that a read answers
 abbrev pub IsPut : Moment → ℕ → Client → OpenTransaction → ℕ → List ℕ → Option PendingStore → Answer → Moment → Type 0
-IsPut m at c t oid bytes (Some p) a now = IsChange m at c t (stored t.changes (record { oid = oid; base = p.base; bytes = bytes })) a now
+IsPut m at c t oid bytes (Some p) a now = IsChange m at c t (stored t.changes (record { oid = oid; base = p.base; content = Held bytes })) a now
 IsPut m at c t oid bytes None a now = (result : Result (ℕ × List ℕ) Refusal) × (behind : Moment) × IsReadAt m t.view oid result behind × IsChange behind at c t (put t.changes oid bytes result) a now
 
 -- a line of an open transaction that is no step; no other line comes here
 abbrev pub IsWithin : Moment → ℕ → Client → OpenTransaction → Line → Answer → Moment → Type 0
 IsWithin m at c t (line.Load oid) a now = IsReadLine m t.view oid data_of a now
 IsWithin m at c t (line.Get oid) a now = IsGet m t.view oid (pending_of t.changes.pending.stores oid) a now
-IsWithin m at c t (line.Store oid base bytes) a now = IsChange m at c t (stored t.changes (record { oid = oid; base = base; bytes = bytes })) a now
+IsWithin m at c t (line.Store oid base bytes) a now = IsChange m at c t (stored t.changes (record { oid = oid; base = base; content = Held bytes })) a now
 IsWithin m at c t (line.Put oid bytes) a now = IsPut m at c t oid bytes (pending_of t.changes.pending.stores oid) a now
 IsWithin m at c t (line.Check oid serial) a now = IsChange m at c t (checked t.changes (record { oid = oid; serial = serial })) a now
+IsWithin m at c t (line.Delete oid base) a now = IsChange m at c t (deleted t.changes oid base) a now
 IsWithin m at c t line.Savepoint a now = IsChange m at c t (saved t.changes) a now
 IsWithin m at c t (line.Rollback number) a now = IsChange m at c t (rolled_back t.changes number) a now
 IsWithin m at c t (line.Tree root call) a now = IsTreeLine m at c t root call a now
@@ -125,8 +128,9 @@ abbrev pub IsClosing : Rules → Moment → List ℕ → Bool → Moment → Typ
 IsClosing rules m name false now = now ≡ m
 IsClosing rules m name true now = IsClosed rules m (place_of_client name m.clients) now
 
--- A turn that is answered: its line, and, where it is the client's last, the closing of its session.
+-- A turn that is answered: its line, which is one of a script, and, where it is the client's last, the closing of its session.
 pub record IsAnswered (rules : Rules) (m : Moment) (t : Turn) (last : Bool) (a : Answer) (now : Moment) : Type 0 where
+  pub fits : IsFittingLine t.line
   pub behind : Moment
   pub line : IsLine rules m t.client t.line a behind
   pub whole : end_of a ≡ None

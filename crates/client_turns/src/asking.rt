@@ -124,6 +124,30 @@ fn store_line<St: Store, R: Resolver, F: Refs, C: Clock>(
     answer
 }
 
+/// `delete`: an object's delete waits for the vote.
+fn delete_line<St: Store, R: Resolver, F: Refs, C: Clock>(
+    alloc: Global,
+    hub: &mut Hub<St, R, F>,
+    client: &mut Client,
+    oid: Oid,
+    base: Tid,
+    clock: &mut C,
+) -> Answer
+    ensures line { TakesLine St.told (rules_of R.rules F.named hub.old) (Line.Delete oid base) result hub.old hub.new client.old
+        client.new (C.stamps clock.old) (C.stamps clock.new) }
+    ensures hub { LeavesHub St.told St.lasts St.stands (rules_of R.rules F.named hub.old) (Line.Delete oid base)
+        (outcome_of_answer result) hub.old hub.new }
+{
+    let mut loads = LocalLoads::new(alloc, hub, client.session, clock, client.told);
+    let answer = answered(
+        client.connection.check(&mut loads, oid, base),
+        Answer::Deleted,
+    );
+    let told = &loads.told;
+    client.told = *told;
+    answer
+}
+
 /// `check`: a check waits for the vote.
 fn check_line<St: Store, R: Resolver, F: Refs, C: Clock>(
     alloc: Global,
@@ -313,6 +337,7 @@ pub(crate) fn connection_line<St: Store, R: Resolver, F: Refs, C: Clock>(
             put_line(alloc, hub, client, *oid, bytes, clock)
         }
         Line::Check { oid, serial } => check_line(alloc, hub, client, *oid, *serial, clock),
+        Line::Delete { oid, base } => delete_line(alloc, hub, client, *oid, *base, clock),
         Line::Savepoint => savepoint_line(alloc, hub, client, clock),
         Line::Rollback { number } => rollback_line(alloc, hub, client, *number, clock),
         Line::Vote { user, description } => vote_line(alloc, hub, client, user, description, clock),
@@ -348,7 +373,7 @@ pub(crate) fn get_of<St: Store, R: Resolver, F: Refs, C: Clock>(
     ensures hub { ReadsHub St.told St.lasts St.stands (outcome_of_result result) hub.old hub.new }
 {
     let mut loads = LocalLoads::new(alloc, hub, client.session, clock, client.told);
-    let got = client.connection.get(&mut loads, oid);
+    let got = client.connection.load(&mut loads, oid);
     let told = &loads.told;
     client.told = *told;
     got

@@ -18,7 +18,8 @@ pub(crate) fn is_of_connection(line: &Line) -> bool
 {
     match line {
         Line::Begin | Line::Load { .. } | Line::Get { .. } => true,
-        Line::Store { .. } | Line::Put { .. } | Line::Check { .. } => true,
+        Line::Store { .. } | Line::Put { .. } => true,
+        Line::Check { .. } | Line::Delete { .. } => true,
         Line::Savepoint | Line::Rollback { .. } => true,
         Line::Vote { .. } | Line::Undo { .. } => true,
         Line::Finish | Line::Abort => true,
@@ -36,10 +37,15 @@ pub(crate) fn plain_request(line: &Line) -> Option<Request>
         Line::New => Some(Request::NewOids { count: 1 }),
         Line::History { oid } => Some(Request::History { oid: *oid }),
         Line::UndoLog => Some(Request::UndoLog),
-        Line::Pack { tid } => Some(Request::Pack {
+        Line::Pack { tid, collect } => Some(Request::Pack {
             tid: *tid,
-            collect: true,
+            collect: *collect,
         }),
+        Line::PackBegin { tid, collect } => Some(Request::Pack {
+            tid: *tid,
+            collect: *collect,
+        }),
+        Line::PackTurn => Some(Request::PackTurn),
         Line::Close => Some(Request::Close),
         _ => None,
     }
@@ -72,9 +78,11 @@ pub(crate) fn answer_of(reply: Reply) -> Answer
         Reply::History { list } => Answer::History { list },
         Reply::UndoLog { list } => Answer::UndoLog { list },
         Reply::Packed { kept, dropped } => Answer::Packed { kept, dropped },
-        Reply::Packing { .. } => Answer::Empty,
-        Reply::Marking { .. } | Reply::Marked { .. } => Answer::Empty,
-        Reply::Copying { .. } | Reply::Copied { .. } => Answer::Empty,
+        Reply::Packing { tid } => Answer::Packing { tid },
+        Reply::Marking { count } => Answer::Marking { count },
+        Reply::Marked { count } => Answer::Marked { count },
+        Reply::Copying { count } => Answer::Copying { count },
+        Reply::Copied { count } => Answer::Copied { count },
         Reply::Last { .. } | Reply::Since { .. } => Answer::Empty,
         Reply::Closed => Answer::Closed,
         Reply::Refused(why) => Answer::Refused(why),

@@ -1,9 +1,10 @@
 //! Lines of trees.
 
-ghost use Rattle.std.specs.Prelude.{◌≡◌, ◌<◌, ◌≤◌, ℕ, List, All, IfOk, IfSome, Option, Some, None, true, is_some, length, slice_get, slice_set};
+ghost use Rattle.std.specs.Prelude.{◌≡◌, ◌<◌, ◌≤◌, ℕ, List, [], All, IfOk, IfSome, Option, Some, None, true, is_some, length, slice_get, slice_set};
+ghost use Rattle.zb_model.specs.Database.{IsRecord};
 ghost use Rattle.zodb_core.specs.HubState.{rules_of};
 ghost use Rattle.zodb_core.specs.Outcomes.{Answered};
-ghost use Rattle.tree_calls.specs.Calls.{IsAttempt, IsWanted, takes_numbers};
+ghost use Rattle.tree_calls.specs.Calls.{IsAttempt, IsWanted};
 ghost use Rattle.tree_calls.specs.declared.known.Seen.{Seen};
 ghost use Rattle.tree_calls.specs.Known.{known_at};
 ghost use Rattle.tree_calls.specs.declared.operation.TreeOperation.{TreeOperation};
@@ -16,7 +17,7 @@ ghost use Rattle.client_turns.specs.Gathering;
 ghost use Rattle.client_turns.specs.Gathering.{AdvancesTo, Gathers, IsCallOf, IsDrawOf, IsFilled, IsSightOf, StandsGathering, gathered, objects_over, outcome_of_advance};
 ghost use Rattle.client_turns.specs.Lines.{outcome_of_answer, outcome_of_result};
 ghost use Rattle.client_turns.specs.Standing.{IsOpenLineOf, IsOwnOf, LeadsTo, LeavesHub, MayAskAt, MayReadAt, OrStarved, ReadsHub, StandsForMoment};
-ghost use Rattle.client_turns.specs.Trees.{MayDraw, Sees, answer_told, operation_of};
+ghost use Rattle.client_turns.specs.Trees.{NeedsMore, Sees, answer_told, operation_of, stores_put};
 
 use crate::answers::answered;
 use crate::client::{Client, connection_at, session_at};
@@ -25,11 +26,12 @@ use connection_view::Connection;
 use std::alloc::{AllocError, Global};
 use std::marker::Brand;
 use tree_calls::{
-    Attempt, Known, Made, NodeCache, Seen, TreeAnswer, TreeOperation, call_tree, objects_ahead,
+    Attempt, Known, Made, NodeCache, Seen, TreeAnswer, TreeOperation, TreePut, call_tree,
+    objects_ahead,
 };
 use zb_answers::Answer;
 use zb_ids::{ListOf, Oid, Text8, Tid};
-use zb_model::{PendingStore, Refs, Refusal, Resolver, Store};
+use zb_model::{Content, PendingStore, Refs, Refusal, Resolver, Store};
 use zb_outside::Clock;
 use zb_script::{Line, TreeCall};
 use zodb_core::{Hub, Reply, Request};
@@ -105,9 +107,27 @@ fn is_missing(known: &Known, oid: Oid) -> bool
     }
 }
 
+/// What a call on a tree puts, as it waits for the vote.
+fn stores_put(alloc: Global, puts: ListOf<TreePut>) -> Result<ListOf<PendingStore>, AllocError>
+    requires filled { All (λ p. 0 < length p.bytes) puts }
+    ensures stores { IfOk result (λ stores. stores ≡ stores_put puts) }
+    ensures records { IfOk result (λ stores. All (λ p. IsRecord p.content) stores) }
+{
+    let mut stores = ListOf::new(alloc);
+    for put in puts.into_vec() {
+        let TreePut { oid, base, bytes } = put;
+        stores.push(PendingStore {
+            oid,
+            base,
+            content: Content::Held(bytes),
+        })?;
+    }
+    Ok(stores)
+}
+
 /// What a call on a tree puts waits for the vote, all of it or nothing.
 fn put_all(client: &mut Client, answer: Answer, puts: ListOf<PendingStore>) -> Answer
-    requires filled { All (λ p. 0 < length p.bytes) puts }
+    requires records { All (λ p. IsRecord p.content) puts }
     requires answered { outcome_of_answer answer ≡ Answered }
     ensures put { IsPutAll client.old client.new answer puts result }
     ensures calm { IsCalm (outcome_of_answer result) }
@@ -126,7 +146,7 @@ fn put_all_at(
     puts: ListOf<PendingStore>,
 ) -> Answer
     requires place { at < length clients.old.items }
-    requires filled { All (λ p. 0 < length p.bytes) puts }
+    requires records { All (λ p. IsRecord p.content) puts }
     requires answered { outcome_of_answer answer ≡ Answered }
     ensures put { (x : Client) → slice_get clients.old.items at ≡ Some x → (y : Client)
         × (clients.new.items ≡ slice_set clients.old.items at y) × IsPutAll x y answer puts result }
@@ -197,9 +217,9 @@ impl<St: Store, R: Resolver, F: Refs> Clients<St, R, F> {
         clock: &mut C,
     ) -> Option<Result<Made, Refusal>>
         requires place { at < length self.old.clients }
-        ensures advances { (root : ℕ) (op : TreeOperation) (numbers : List ℕ) → St.told → (m : Moment)
-            → StandsGathering self.old (C.stamps clock.old) m at known.old numbers
-            → AdvancesTo m at root op self.new (C.stamps clock.new) known.new numbers result }
+        ensures advances { (root : ℕ) (op : TreeOperation) → St.told → (m : Moment)
+            → StandsGathering self.old (C.stamps clock.old) m at root op known.old []
+            → AdvancesTo m at root op self.new (C.stamps clock.new) known.new [] result }
         ensures hub { ReadsHub St.told St.lasts St.stands (outcome_of_advance result) self.old.hub self.new.hub }
         ensures filled { IfSome result (λ ended. IfOk ended IsFilled) }
         ensures learnt { result ≡ None → is_some (known_at known.new oid) ≡ true }
@@ -226,9 +246,9 @@ impl<St: Store, R: Resolver, F: Refs> Clients<St, R, F> {
         clock: &mut C,
     ) -> Option<Result<Made, Refusal>>
         requires place { at < length self.old.clients }
-        ensures advances { (root : ℕ) (op : TreeOperation) (numbers : List ℕ) → St.told → (m : Moment)
-            → StandsGathering self.old (C.stamps clock.old) m at known.old numbers
-            → AdvancesTo m at root op self.new (C.stamps clock.new) known.new numbers result }
+        ensures advances { (root : ℕ) (op : TreeOperation) → St.told → (m : Moment)
+            → StandsGathering self.old (C.stamps clock.old) m at root op known.old []
+            → AdvancesTo m at root op self.new (C.stamps clock.new) known.new [] result }
         ensures hub { ReadsHub St.told St.lasts St.stands (outcome_of_advance result) self.old.hub self.new.hub }
         ensures filled { IfSome result (λ ended. IfOk ended IsFilled) }
         ensures learnt { result ≡ None → is_some (known_at known.new oid) ≡ true }
@@ -251,9 +271,9 @@ impl<St: Store, R: Resolver, F: Refs> Clients<St, R, F> {
         clock: &mut C,
     ) -> Option<Result<Made, Refusal>>
         requires place { at < length self.old.clients }
-        ensures advances { (root : ℕ) (op : TreeOperation) (numbers : List ℕ) → St.told → (m : Moment)
-            → StandsGathering self.old (C.stamps clock.old) m at known.old numbers
-            → AdvancesTo m at root op self.new (C.stamps clock.new) known.new numbers result }
+        ensures advances { (root : ℕ) (op : TreeOperation) → St.told → (m : Moment)
+            → StandsGathering self.old (C.stamps clock.old) m at root op known.old []
+            → AdvancesTo m at root op self.new (C.stamps clock.new) known.new [] result }
         ensures hub { ReadsHub St.told St.lasts St.stands (outcome_of_advance result) self.old.hub self.new.hub }
         ensures filled { IfSome result (λ ended. IfOk ended IsFilled) }
         ensures grows { length known.old ≤ length known.new }
@@ -281,9 +301,9 @@ impl<St: Store, R: Resolver, F: Refs> Clients<St, R, F> {
         clock: &mut C,
     ) -> Option<Result<Made, Refusal>>
         requires place { at < length self.old.clients }
-        ensures advances { (numbers : List ℕ) → St.told → (m : Moment)
-            → StandsGathering self.old (C.stamps clock.old) m at known.old numbers
-            → AdvancesTo m at root operation.now self.new (C.stamps clock.new) known.new numbers result }
+        ensures advances { St.told → (m : Moment)
+            → StandsGathering self.old (C.stamps clock.old) m at root operation.now known.old []
+            → AdvancesTo m at root operation.now self.new (C.stamps clock.new) known.new [] result }
         ensures hub { ReadsHub St.told St.lasts St.stands (outcome_of_advance result) self.old.hub self.new.hub }
         ensures filled { IfSome result (λ ended. IfOk ended IsFilled) }
         ensures grows { length known.old ≤ length known.new }
@@ -304,9 +324,9 @@ impl<St: Store, R: Resolver, F: Refs> Clients<St, R, F> {
         clock: &mut C,
     ) -> Option<Result<Made, Refusal>>
         requires place { at < length self.old.clients }
-        ensures advances { (root : ℕ) (op : TreeOperation) (known : List (ℕ × Option Seen))
-            → takes_numbers op ≡ true → St.told → (m : Moment)
-            → StandsGathering self.old (C.stamps clock.old) m at known numbers.old.items
+        ensures advances { (root : ℕ) (op : TreeOperation) (known : List (ℕ × Option Seen)) → St.told → (m : Moment)
+            → (g : StandsGathering self.old (C.stamps clock.old) m at root op known numbers.old.items)
+            → NeedsMore m.machine g.transaction root op numbers.old.items
             → AdvancesTo m at root op self.new (C.stamps clock.new) known numbers.new.items result }
         ensures hub { ReadsHub St.told St.lasts St.stands (outcome_of_advance result) self.old.hub self.new.hub }
         ensures filled { IfSome result (λ ended. IfOk ended IsFilled) }
@@ -338,14 +358,12 @@ impl<St: Store, R: Resolver, F: Refs> Clients<St, R, F> {
         requires wanted { IsWanted known.old attempt }
         ensures advances { (objects : ℕ → Option Seen) (root : ℕ) (op : TreeOperation)
             → IsAttempt objects root op numbers.old.items attempt
-            → St.told → (m : Moment) → (g : StandsGathering self.old (C.stamps clock.old) m at known.old numbers.old.items)
+            → St.told → (m : Moment)
+            → (g : StandsGathering self.old (C.stamps clock.old) m at root op known.old numbers.old.items)
             → Sees m.machine g.transaction objects
             → AdvancesTo m at root op self.new (C.stamps clock.new) known.new numbers.new.items result }
         ensures hub { ReadsHub St.told St.lasts St.stands (outcome_of_advance result) self.old.hub self.new.hub }
         ensures filled { IfSome result (λ ended. IfOk ended IsFilled) }
-        ensures drawn { (objects : ℕ → Option Seen) (root : ℕ) (op : TreeOperation)
-            → IsAttempt objects root op numbers.old.items attempt
-            → MayDraw op numbers.old.items → MayDraw op numbers.new.items }
         ensures more { Gathers (gathered known.old numbers.old.items) (gathered known.new numbers.new.items) result }
         ensures kept { length self.new.clients ≡ length self.old.clients }
     {
@@ -402,11 +420,10 @@ impl<St: Store, R: Resolver, F: Refs> Clients<St, R, F> {
     ) -> Option<Result<Made, Refusal>>
         requires place { at < length self.old.clients }
         ensures advances { St.told → (m : Moment)
-            → StandsGathering self.old (C.stamps clock.old) m at known.old numbers.old.items
+            → StandsGathering self.old (C.stamps clock.old) m at root operation.now known.old numbers.old.items
             → AdvancesTo m at root operation.now self.new (C.stamps clock.new) known.new numbers.new.items result }
         ensures hub { ReadsHub St.told St.lasts St.stands (outcome_of_advance result) self.old.hub self.new.hub }
         ensures filled { IfSome result (λ ended. IfOk ended IsFilled) }
-        ensures drawn { MayDraw operation.now numbers.old.items → MayDraw operation.now numbers.new.items }
         ensures more { Gathers (gathered known.old numbers.old.items) (gathered known.new numbers.new.items) result }
         ensures kept { length self.new.clients ≡ length self.old.clients }
     {
@@ -417,7 +434,7 @@ impl<St: Store, R: Resolver, F: Refs> Clients<St, R, F> {
         self.go_on(alloc, at, attempt, known, numbers, clock)
     }
 
-    /// The same, and what the call is going to read besides is known too.
+    /// The same, and what the call is going to read besides is known too. Nothing is read once numbers are drawn.
     fn advance<C: Clock>(
         &mut self,
         alloc: Global,
@@ -430,16 +447,18 @@ impl<St: Store, R: Resolver, F: Refs> Clients<St, R, F> {
     ) -> Option<Result<Made, Refusal>>
         requires place { at < length self.old.clients }
         ensures advances { St.told → (m : Moment)
-            → StandsGathering self.old (C.stamps clock.old) m at known.old numbers.old.items
+            → StandsGathering self.old (C.stamps clock.old) m at root operation.now known.old numbers.old.items
             → AdvancesTo m at root operation.now self.new (C.stamps clock.new) known.new numbers.new.items result }
         ensures hub { ReadsHub St.told St.lasts St.stands (outcome_of_advance result) self.old.hub self.new.hub }
         ensures filled { IfSome result (λ ended. IfOk ended IsFilled) }
-        ensures drawn { MayDraw operation.now numbers.old.items → MayDraw operation.now numbers.new.items }
         ensures more { Gathers (gathered known.old numbers.old.items) (gathered known.new numbers.new.items) result }
         ensures kept { length self.new.clients ≡ length self.old.clients }
     {
         if let Some(ended) = self.attempt_once(alloc, at, root, operation, known, numbers, clock) {
             return Some(ended);
+        }
+        if !numbers.as_slice().is_empty() {
+            return None;
         }
         self.look_ahead(alloc, at, root, operation, known, clock)
     }
@@ -501,7 +520,10 @@ impl<St: Store, R: Resolver, F: Refs> Clients<St, R, F> {
         match self.call(alloc, at, root, &operation, clock) {
             Err(why) => Answer::Refused(why),
             Ok(Made { answer, puts }) => {
-                put_all_at(&mut self.clients, at, answer_told(answer), puts)
+                let Ok(stores) = stores_put(alloc, puts) else {
+                    return Answer::Refused(Refusal::Memory);
+                };
+                put_all_at(&mut self.clients, at, answer_told(answer), stores)
             }
         }
     }

@@ -43,6 +43,10 @@ pub returns-in-Check-clause-line : goal.returns-in-Check-clause-line
 returns-in-Check-clause-line g c =
     line_at g.St.Store.told (rules_of g.R.Resolver.rules g.F.Refs.named c.args.hub.now) c.args.line.now (line.Check c.in-Check.oid c.in-Check.serial) c.check_line.result _ _ _ _ _ _ c.in-Check.is c.check_line.ensures.line
 
+pub returns-in-Delete-clause-line : goal.returns-in-Delete-clause-line
+returns-in-Delete-clause-line g c =
+    line_at g.St.Store.told (rules_of g.R.Resolver.rules g.F.Refs.named c.args.hub.now) c.args.line.now (line.Delete c.in-Delete.oid c.in-Delete.base) c.delete_line.result _ _ _ _ _ _ c.in-Delete.is c.delete_line.ensures.line
+
 pub returns-in-Savepoint-clause-line : goal.returns-in-Savepoint-clause-line
 returns-in-Savepoint-clause-line g c =
     line_at g.St.Store.told (rules_of g.R.Resolver.rules g.F.Refs.named c.args.hub.now) c.args.line.now line.Savepoint c.savepoint_line.result _ _ _ _ _ _ c.in-Savepoint.is c.savepoint_line.ensures.line

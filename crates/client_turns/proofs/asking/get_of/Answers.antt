@@ -1,7 +1,7 @@
 use Rattle.std.proofs.Common.{rules, ap, refl}
 use Rattle.client_turns.specs.declared.client.Client.{Client}
 use Rattle.client_turns.proofs.Lined.{get_over, state_is}
-use Rattle.client_turns.proofs.Framed.{read_framed, result_outcome}
+use Rattle.client_turns.proofs.Framed.{got_framed, result_outcome}
 use Rattle.client_turns.proofs.asking.get_of.Goals as goal
 
 pub returns-clause-read : goal.returns-clause-read
@@ -14,6 +14,6 @@ returns-clause-read g c =
 
 pub returns-clause-hub : goal.returns-clause-hub
 returns-clause-hub g c =
-    read_framed g.St.Store.told g.St.Store.lasts g.St.Store.stands g.R.Resolver.rules g.F.Refs.named c.args.hub.now _ c.args.client.now.connection c.get-got.new.self
+    got_framed g.St.Store.told g.St.Store.lasts g.St.Store.stands g.R.Resolver.rules g.F.Refs.named c.args.hub.now _ c.args.client.now.connection c.get-got.new.self
     (λ l. record { hub = l.hub.now; stamps = g.C.Clock.stamps l.clock.now; last = l.told }) (λ l. l.session) c.new-loads.result c.get-got.new.loads c.new-loads.ensures.hub (search rules)
-    c.args.oid c.get-got.result c.get-got.ensures.refused c.get-got.ensures.makes _ (result_outcome c.get-got.result)
+    c.args.oid c.get-got.result c.get-got.ensures.waiting c.get-got.ensures.refused c.get-got.ensures.makes _ (result_outcome c.get-got.result)

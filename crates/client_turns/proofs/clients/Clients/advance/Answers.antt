@@ -1,17 +1,32 @@
 -- An attempt, and what the call is going to read besides.
-use Rattle.std.proofs.Common.{◌∙◌, Option, Result, subst}
+use Rattle.std.proofs.Common.{◌≡◌, ◌∙◌, ℕ, true, List, [], Option, Result, subst, sym}
 use Rattle.zb_model.specs.declared.refusal.Refusal.{Refusal}
 use Rattle.tree_calls.specs.declared.attempt.Made.{Made}
-use Rattle.client_turns.specs.Gathering.{AdvancesTo, outcome_of_advance}
+use Rattle.client_turns.specs.Gathering.{AdvancesTo, StandsGathering, outcome_of_advance}
 use Rattle.client_turns.specs.Standing.{ReadsHub}
+use Rattle.client_turns.proofs.Advancing.{none_drawn}
 use Rattle.client_turns.proofs.Framing.{reads_then}
 use Rattle.client_turns.proofs.clients.Clients.advance.Goals as goal
 
+pub returns-then-not-is_empty-clause-advances : goal.returns-then-not-is_empty-clause-advances
+returns-then-not-is_empty-clause-advances g c = λ told m gathers.
+    subst (λ (r : Option (Result Made Refusal)). AdvancesTo m c.args.at c.args.root c.args.operation.now c.attempt_once.new.self (g.C.Clock.stamps c.attempt_once.new.clock) c.attempt_once.new.known c.attempt_once.new.numbers.items r) c.in_default.is
+    (c.attempt_once.ensures.advances told m gathers)
+
+pub returns-then-not-is_empty-clause-hub : goal.returns-then-not-is_empty-clause-hub
+returns-then-not-is_empty-clause-hub g c =
+    subst (λ (r : Option (Result Made Refusal)). ReadsHub g.St.Store.told g.St.Store.lasts g.St.Store.stands (outcome_of_advance r) c.args.self.now.hub c.attempt_once.new.self.hub) c.in_default.is c.attempt_once.ensures.hub
+
 pub returns-clause-advances : goal.returns-clause-advances
 returns-clause-advances g c = λ told m gathers.
-    c.look_ahead.ensures.advances c.attempt_once.new.numbers.items told m
+    let on = c.if-not-is_empty.false in
+    let yes : c.is_empty.result ≡ true = cc in
+    let none : c.attempt_once.new.numbers.items ≡ [] = sym c.as_slice.ensures.value ∙ none_drawn c.as_slice.result.now c.is_empty.result c.is_empty.ensures yes in
+    subst (λ (ns : List ℕ). AdvancesTo m c.args.at c.args.root c.args.operation.now c.look_ahead.new.self (g.C.Clock.stamps c.look_ahead.new.clock) c.look_ahead.new.known ns c.look_ahead.result) (sym none)
+    (c.look_ahead.ensures.advances told m
+    (subst (λ (ns : List ℕ). StandsGathering c.attempt_once.new.self (g.C.Clock.stamps c.attempt_once.new.clock) m c.args.at c.args.root c.args.operation.now c.attempt_once.new.known ns) none
     (subst (λ (r : Option (Result Made Refusal)). AdvancesTo m c.args.at c.args.root c.args.operation.now c.attempt_once.new.self (g.C.Clock.stamps c.attempt_once.new.clock) c.attempt_once.new.known c.attempt_once.new.numbers.items r) c.in_default.is
-    (c.attempt_once.ensures.advances told m gathers))
+    (c.attempt_once.ensures.advances told m gathers))))
 
 pub returns-clause-hub : goal.returns-clause-hub
 returns-clause-hub g c =

@@ -11,8 +11,8 @@ use Rattle.client_turns.proofs.clients.Clients.attempt_once.Goals as goal
 
 pub returns-in_default-clause-advances : goal.returns-in_default-clause-advances
 returns-in_default-clause-advances g c = λ told m gathers.
-    let gathered = subst (λ s. StandsGathering s (g.C.Clock.stamps c.args.clock.now) m c.args.at c.args.known.now c.args.numbers.now.items) (sym c.attempt_at.ensures.same) gathers in
-    starves m c.args.at c.attempt_at.new.self _ c.args.known.now c.args.numbers.now.items gathered c.args.root c.args.operation.now
+    let gathered = subst (λ s. StandsGathering s (g.C.Clock.stamps c.args.clock.now) m c.args.at c.args.root c.args.operation.now c.args.known.now c.args.numbers.now.items) (sym c.attempt_at.ensures.same) gathers in
+    starves m c.args.at c.args.root c.args.operation.now c.attempt_at.new.self _ c.args.known.now c.args.numbers.now.items gathered
 
 pub returns-in_default-clause-hub : goal.returns-in_default-clause-hub
 returns-in_default-clause-hub g c =
@@ -33,10 +33,10 @@ returns-clause-advances g c = λ told m gathers.
     let a = c.in-Ok.ensures.attempt in
     let objects = objects_over c.args.known.now c.args.self.now.hub.store.list (work_of a.0) in
     let attempted = subst (λ (ns : List ℕ). IsAttempt objects c.args.root c.args.operation.now ns c.in-Ok.attempt) c.as_slice.ensures.value a.2 in
-    subst (λ s. (gathers : StandsGathering s (g.C.Clock.stamps c.args.clock.now) m c.args.at c.args.known.now c.args.numbers.now.items) → Sees m.machine gathers.transaction objects
+    subst (λ s. (gathers : StandsGathering s (g.C.Clock.stamps c.args.clock.now) m c.args.at c.args.root c.args.operation.now c.args.known.now c.args.numbers.now.items) → Sees m.machine gathers.transaction objects
     → AdvancesTo m c.args.at c.args.root c.args.operation.now c.go_on.new.self (g.C.Clock.stamps c.go_on.new.clock) c.go_on.new.known c.go_on.new.numbers.items c.go_on.result) c.attempt_at.ensures.same
     (λ gathered sees. c.go_on.ensures.advances objects c.args.root c.args.operation.now attempted told m gathered sees)
-    gathers (sees_over m c.args.at c.args.self.now _ c.args.known.now c.args.numbers.now.items gathers a.0 a.1)
+    gathers (sees_over m c.args.at c.args.root c.args.operation.now c.args.self.now _ c.args.known.now c.args.numbers.now.items gathers a.0 a.1)
 
 pub returns-clause-hub : goal.returns-clause-hub
 returns-clause-hub g c =
@@ -44,10 +44,3 @@ returns-clause-hub g c =
 
 pub returns-clause-kept : goal.returns-clause-kept
 returns-clause-kept g c = c.go_on.ensures.kept ∙ ap (λ s. length s.clients) c.attempt_at.ensures.same
-
-pub returns-clause-drawn : goal.returns-clause-drawn
-returns-clause-drawn g c = λ may.
-    let a = c.in-Ok.ensures.attempt in
-    let objects = objects_over c.args.known.now c.args.self.now.hub.store.list (work_of a.0) in
-    let attempted = subst (λ (ns : List ℕ). IsAttempt objects c.args.root c.args.operation.now ns c.in-Ok.attempt) c.as_slice.ensures.value a.2 in
-    c.go_on.ensures.drawn objects c.args.root c.args.operation.now attempted may

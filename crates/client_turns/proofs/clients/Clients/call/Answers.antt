@@ -13,15 +13,14 @@ use Rattle.client_turns.proofs.clients.Clients.call.Goals as goal
 pub loop-i-init : goal.loop-i-init
 loop-i-init g c = record {
   gathers = λ told m stands may.
-      subst (λ ks. StandsGathering c.args.self.now (g.C.Clock.stamps c.args.clock.now) m c.args.at ks c.new-numbers.result.items) (sym c.new-known.ensures)
-      (subst (λ (ns : List ℕ). StandsGathering c.args.self.now (g.C.Clock.stamps c.args.clock.now) m c.args.at [] ns) (sym c.new-numbers.ensures.items) (starts m c.args.at c.args.self.now _ stands may));
+      subst (λ ks. StandsGathering c.args.self.now (g.C.Clock.stamps c.args.clock.now) m c.args.at c.args.root c.args.operation.now ks c.new-numbers.result.items) (sym c.new-known.ensures)
+      (subst (λ (ns : List ℕ). StandsGathering c.args.self.now (g.C.Clock.stamps c.args.clock.now) m c.args.at c.args.root c.args.operation.now [] ns) (sym c.new-numbers.ensures.items) (starts m c.args.at c.args.root c.args.operation.now c.args.self.now _ stands may));
   hub = still_reads g.St.Store.told g.St.Store.lasts g.St.Store.stands Answered (inl refl) c.args.self.now.hub;
   kept = refl;
-  drawn = λ none. c.new-numbers.ensures.items;
 }
 
 pub returns-in-Some-clause-ends : goal.returns-in-Some-clause-ends
-returns-in-Some-clause-ends g c = λ told m stands may. c.in-Some.ensures.advances told m (c.loop-i.invariant.gathers told m stands may) (c.in-Some.ensures.drawn c.loop-i.invariant.drawn)
+returns-in-Some-clause-ends g c = λ told m stands may. c.in-Some.ensures.advances told m (c.loop-i.invariant.gathers told m stands may)
 
 pub returns-in-Some-clause-hub : goal.returns-in-Some-clause-hub
 returns-in-Some-clause-hub g c =
@@ -35,12 +34,11 @@ loop-i-preserved g c = record {
   hub = reads_then g.St.Store.told g.St.Store.lasts g.St.Store.stands c.args.self.now.hub c.loop-i.self.hub c.advance.new.self.hub Answered c.loop-i.invariant.hub
       (subst (λ (r : Option (Result Made Refusal)). ReadsHub g.St.Store.told g.St.Store.lasts g.St.Store.stands (outcome_of_advance r) c.loop-i.self.hub c.advance.new.self.hub) c.in_default.is c.advance.ensures.hub);
   kept = c.advance.ensures.kept ∙ c.loop-i.invariant.kept;
-  drawn = c.advance.ensures.drawn c.loop-i.invariant.drawn;
 }
 
 pub returns-clause-ends : goal.returns-clause-ends
 returns-clause-ends g c = λ told m stands may.
-    starves m c.args.at c.loop-i.self _ c.loop-i.known c.loop-i.numbers.items (c.loop-i.invariant.gathers told m stands may) c.args.root c.args.operation.now c.loop-i.invariant.drawn
+    starves m c.args.at c.args.root c.args.operation.now c.loop-i.self _ c.loop-i.known c.loop-i.numbers.items (c.loop-i.invariant.gathers told m stands may)
 
 pub returns-clause-hub : goal.returns-clause-hub
 returns-clause-hub g c = calm_reads g.St.Store.told g.St.Store.lasts g.St.Store.stands NoMemory (inr refl) c.args.self.now.hub c.loop-i.self.hub c.loop-i.invariant.hub

@@ -6,17 +6,17 @@ use Rattle.client_turns.proofs.Advancing.{calm_reads, draws_on, undrawn, undrawn
 use Rattle.client_turns.proofs.clients.Clients.draw_more.Goals as goal
 
 pub returns-in-Err-clause-advances : goal.returns-in-Err-clause-advances
-returns-in-Err-clause-advances g c = λ root op known takes told m gathers may.
-    undrawn m c.args.at c.args.self.now _ known c.args.numbers.now.items gathers root op c.in-Err.why _ _ takes (c.in-Err.ensures.draw told gathers.now gathers.stands)
+returns-in-Err-clause-advances g c = λ root op known told m gathers needs.
+    undrawn m c.args.at root op c.args.self.now _ known c.args.numbers.now.items gathers c.in-Err.why _ _ needs (c.in-Err.ensures.draw told gathers.now gathers.stands)
 
 pub returns-in-Ok-push-clause-advances : goal.returns-in-Ok-push-clause-advances
-returns-in-Ok-push-clause-advances g c = λ root op known takes told m gathers.
+returns-in-Ok-push-clause-advances g c = λ root op known told m gathers needs.
     subst (λ ns. AdvancesTo m c.args.at root op c.draw.new.self (g.C.Clock.stamps c.draw.new.clock) known ns None) (sym c.in-Ok-push.ensures.items)
-    (draws_on m c.args.at c.args.self.now _ known c.args.numbers.now.items gathers root op c.in-Ok.oid _ _ (c.in-Ok.ensures.draw told gathers.now gathers.stands))
+    (draws_on m c.args.at root op c.args.self.now _ known c.args.numbers.now.items gathers c.in-Ok.oid _ _ needs (c.in-Ok.ensures.draw told gathers.now gathers.stands))
 
 pub returns-in-Err-push-clause-advances : goal.returns-in-Err-push-clause-advances
-returns-in-Err-push-clause-advances g c = λ root op known takes told m gathers may.
-    undrawn_on m c.args.at c.args.self.now _ known c.args.numbers.now.items gathers root op c.in-Ok.oid _ _ takes (c.in-Ok.ensures.draw told gathers.now gathers.stands)
+returns-in-Err-push-clause-advances g c = λ root op known told m gathers needs.
+    undrawn_on m c.args.at root op c.args.self.now _ known c.args.numbers.now.items gathers c.in-Ok.oid _ _ needs (c.in-Ok.ensures.draw told gathers.now gathers.stands)
 
 pub returns-in-Err-push-clause-hub : goal.returns-in-Err-push-clause-hub
 returns-in-Err-push-clause-hub g c = calm_reads g.St.Store.told g.St.Store.lasts g.St.Store.stands NoMemory (inr refl) c.args.self.now.hub c.draw.new.self.hub c.in-Ok.ensures.hub

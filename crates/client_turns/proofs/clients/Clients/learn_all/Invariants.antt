@@ -1,6 +1,7 @@
 -- Objects, one after another.
-use Rattle.std.proofs.Common.{◌≡◌, ◌≤◌, ℕ, List, length}
+use Rattle.std.proofs.Common.{◌≡◌, ◌≤◌, ℕ, [], length}
 use Rattle.zodb_core.specs.Outcomes.{Answered}
+use Rattle.tree_calls.specs.declared.operation.TreeOperation.{TreeOperation}
 use Rattle.client_turns.specs.Clients.{Moment}
 use Rattle.client_turns.specs.Gathering.{StandsGathering}
 use Rattle.client_turns.specs.Standing.{ReadsHub}
@@ -11,7 +12,7 @@ invariant-loop-oid g l =
     let C = g.C.Clock in
     let St = g.St.Store in
     record {
-      gathers : (numbers : List ℕ) → St.told → (m : Moment) → StandsGathering l.fn.self (C.stamps l.fn.clock) m l.at l.fn.known numbers → StandsGathering l.self (C.stamps l.clock) m l.at l.known numbers;
+      gathers : (root : ℕ) (op : TreeOperation) → St.told → (m : Moment) → StandsGathering l.fn.self (C.stamps l.fn.clock) m l.at root op l.fn.known [] → StandsGathering l.self (C.stamps l.clock) m l.at root op l.known [];
       hub : ReadsHub St.told St.lasts St.stands Answered l.fn.self.hub l.self.hub;
       kept : length l.self.clients ≡ length l.fn.self.clients;
       grows : length l.fn.known ≤ length l.known;

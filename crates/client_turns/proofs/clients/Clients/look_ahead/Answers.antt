@@ -1,14 +1,14 @@
 -- What a call is going to read besides.
-use Rattle.std.proofs.Common.{inr, refl}
+use Rattle.std.proofs.Common.{[], inr, refl}
 use Rattle.zodb_core.specs.Outcomes.{NoMemory}
 use Rattle.client_turns.proofs.Advancing.{starves, still_reads}
 use Rattle.client_turns.proofs.clients.Clients.look_ahead.Goals as goal
 
 pub returns-in-Err-clause-advances : goal.returns-in-Err-clause-advances
-returns-in-Err-clause-advances g c = λ numbers told m gathers. starves m c.args.at c.args.self.now _ c.args.known.now numbers gathers c.args.root c.args.operation.now
+returns-in-Err-clause-advances g c = λ told m gathers. starves m c.args.at c.args.root c.args.operation.now c.args.self.now _ c.args.known.now [] gathers
 
 pub returns-in-Err-clause-hub : goal.returns-in-Err-clause-hub
 returns-in-Err-clause-hub g c = still_reads g.St.Store.told g.St.Store.lasts g.St.Store.stands NoMemory (inr refl) c.args.self.now.hub
 
 pub returns-in-Ok-clause-advances : goal.returns-in-Ok-clause-advances
-returns-in-Ok-clause-advances g c = λ numbers told m gathers. c.learn_all.ensures.advances c.args.root c.args.operation.now numbers told m gathers
+returns-in-Ok-clause-advances g c = λ told m gathers. c.learn_all.ensures.advances c.args.root c.args.operation.now told m gathers

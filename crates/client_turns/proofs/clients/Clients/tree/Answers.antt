@@ -7,7 +7,7 @@ use Rattle.client_turns.specs.declared.client.Client.{Client}
 use Rattle.client_turns.specs.Lines.{outcome_of_answer}
 use Rattle.client_turns.specs.Standing.{ReadsHub}
 use Rattle.client_turns.proofs.Advancing.{calm_reads, still_reads}
-use Rattle.client_turns.proofs.Calling.{call_made, call_refused, line_starved}
+use Rattle.client_turns.proofs.Calling.{call_made, call_refused, call_starved, line_starved}
 use Rattle.client_turns.proofs.clients.Clients.tree.Goals as goal
 
 pub returns-in_default-clause-line : goal.returns-in_default-clause-line
@@ -23,10 +23,17 @@ returns-in-Err-clause-line g c = λ told m stands may.
 pub returns-in-Err-clause-hub : goal.returns-in-Err-clause-hub
 returns-in-Err-clause-hub g c = c.in-Err.ensures.hub.keeps
 
+pub returns-in_default-stores_put-clause-line : goal.returns-in_default-stores_put-clause-line
+returns-in_default-stores_put-clause-line g c = λ told m stands may. call_starved m c.args.at c.args.root c.args.call.now _ c.in-Ok-call.field-0 c.call.new.self _ c.in-Ok.ensures (c.in-Ok-call.ensures.ends told m stands may)
+
+pub returns-in_default-stores_put-clause-hub : goal.returns-in_default-stores_put-clause-hub
+returns-in_default-stores_put-clause-hub g c =
+    (calm_reads g.St.Store.told g.St.Store.lasts g.St.Store.stands NoMemory (inr refl) c.args.self.now.hub c.call.new.self.hub c.in-Ok-call.ensures.hub).keeps
+
 pub returns-clause-line : goal.returns-clause-line
 returns-clause-line g c = λ told m stands may.
-    call_made m c.args.at c.args.root c.args.call.now _ c.in-Ok-call.field-0 c.answer_told.result c.in-Ok-call.field-0.puts c.put_all_at.result c.call.new.self (record { hub = c.self.inside.hub; clients = c.put_all_at.new.clients.items }) _ c.in-Ok.ensures
-    c.answer_told.ensures.told refl (c.in-Ok-call.ensures.ends told m stands may)
+    call_made m c.args.at c.args.root c.args.call.now _ c.in-Ok-call.field-0 c.answer_told.result c.in-Ok-stores_put.stores c.put_all_at.result c.call.new.self (record { hub = c.self.inside.hub; clients = c.put_all_at.new.clients.items }) _ c.in-Ok.ensures
+    c.answer_told.ensures.told c.in-Ok-stores_put.ensures.stores (c.in-Ok-call.ensures.ends told m stands may)
     (λ x there.
     let put = c.put_all_at.ensures.put x (ap (λ s. slice_get s.clients c.args.at) c.self.view_is ∙ there) in
     (put.0, subst (λ (xs : List Client). c.put_all_at.new.clients.items ≡ slice_set xs c.args.at put.0) (ap (λ s. s.clients) c.self.view_is) put.1, put.2))
