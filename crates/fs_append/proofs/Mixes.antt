@@ -10,7 +10,8 @@ use Rattle.zb_volume.specs.Moments.{LeavesOnly}
 use Rattle.zb_volume.specs.Lasting.{settled_mix, written_end}
 use Rattle.zb_volume.specs.Runs.{leaves_less}
 use Rattle.fs_records.specs.Blocks.{Reached, Begins}
-use Rattle.fs_append.specs.Appending.{IsStillRead, IsVote, IsVoted}
+use Rattle.fs_append.specs.Fronts.{front_kept}
+use Rattle.fs_append.specs.Appending.{HasFront, IsStillRead, IsVote, IsVoted}
 use Rattle.fs_append.specs.Rests.{IsUnfinished, rest_stands}
 
 -- ---- one content more over settled bytes: each byte of a mix is the old one or the new one
@@ -49,6 +50,25 @@ module _ (s : Reached) (old new c : List ℕ) (begins : Begins old s) (old_long 
   mix_stands =
       let parts : take s.end old ++ drop s.end c ≡ c = ap (λ (l : List ℕ). l ++ drop s.end c) (sym front) ∙ take-append-drop s.end c in
       subst (IsStillRead s) parts (rest_stands old s (drop s.end c) begins (subst IsUnfinished (sym (get_or-drop s.end c 16 0)) status))
+
+written_front : (old text : List ℕ) (end : ℕ) → end ≤ length old → take end (written old end text) ≡ take end old
+written_front old text end within =
+    ap (take end) (append_assoc (take end old) text (drop (end + length text) old)) ∙ take_at (take end old) (text ++ drop (end + length text) old) end (omega (arith, length-take end old, within))
+
+written_long : (old text : List ℕ) (end : ℕ) → end ≤ length old → end ≤ length (written old end text)
+written_long old text end within =
+    omega (arith, length-append (take end old ++ text) (drop (end + length text) old), length-append (take end old) text, length-take end old, within)
+
+pub vote_front : (old new : List Event) (end : ℕ) (text : List ℕ) → end ≤ length (seen old Main) → IsSettled old Main
+    → LeavesOnly Main (CrashLeavesWith old Main (written (seen old Main) end text)) old new → LeavesOnly Main (HasFront end (seen old Main)) old new
+vote_front old new end text within settled = leaves_less Main _ (HasFront end (seen old Main)) old new
+    (settled_mix old Main _ (HasFront end (seen old Main)) settled (λ c image. front_kept end (seen old Main) (written (seen old Main) end text) c within (written_long (seen old Main) text end within) (written_front (seen old Main) text end within) image))
+
+pub abort_front : (old new : List Event) (end : ℕ) → end ≤ length (seen old Main) → IsSettled old Main
+    → LeavesOnly Main (CrashLeavesWith old Main (take end (seen old Main))) old new → LeavesOnly Main (HasFront end (seen old Main)) old new
+abort_front old new end within settled = leaves_less Main _ (HasFront end (seen old Main)) old new
+    (settled_mix old Main _ (HasFront end (seen old Main)) settled
+    (λ c image. front_kept end (seen old Main) (take end (seen old Main)) c within (omega (arith, length-take end (seen old Main), within)) (take-take end end (seen old Main) (omega arith)) image))
 
 -- ---- a vote
 

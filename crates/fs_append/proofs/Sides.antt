@@ -1,13 +1,14 @@
 -- What a crash leaves of Main while a file is prepared in Side and put in its place.
 use Rattle.std.proofs.Common.{◌≡◌, ◌⊎◌, inl, inr, ⊎_elim, ℕ, List, [], ◌∷◌, ◌++◌, length, ◌+◌, Result, OnOk, OnErr, refl, ◌∙◌, ap, subst, arith}
 use Rattle.std.proofs.lemmas.List.{drop_all, append-nil}
+use Rattle.zb_volume.specs.declared.areas.Area.{Area}
 use Rattle.zb_volume.specs.declared.areas.Area.TheVariants.{Main, Side}
 use Rattle.zb_volume.specs.Calls.{Event, WriteAt, CutTo, Wrote, Cut}
 use Rattle.zb_volume.specs.Disk.{Disk, disk, seen}
 use Rattle.zb_volume.specs.Images.{MayLeave, CrashLeaves}
 use Rattle.zb_volume.specs.Faults.{Fails}
 use Rattle.zb_volume.specs.Moments.{Leaves, LeavesOnly, StaysAs}
-use Rattle.zb_volume.specs.Runs.{along_now, joined, leaves_less, stays_leaves}
+use Rattle.zb_volume.specs.Runs.{along_now, joined, leaves_less, stays_leaves, weaker}
 use Rattle.zb_volume.specs.Durable.{OldOrSide, one_stays, next_stays}
 
 -- Main's old images, or the file
@@ -39,3 +40,9 @@ replaced_leaves log mid last new file cut wrote stays run =
     joined (Leaves Main (OldOr log file)) log last new (still_leaves log last file stays)
     (leaves_less Main (OldOrSide last) (OldOr log file) last new
     (λ c is. ⊎_elim (λ left. inl (subst (λ (d : Disk). MayLeave d.pending c) same left)) (λ side. inr (side ∙ side_is log mid last file cut wrote)) is) run)
+
+-- one run after another, in neither of which an area changes
+pub stays_joined : (a : Area) (old mid new : List Event) → StaysAs a old mid → StaysAs a mid new → StaysAs a old new
+stays_joined a old mid new first rest =
+    let same : disk mid a ≡ disk old a = along_now (λ l. disk l a ≡ disk old a) old mid first in
+    joined (λ l. disk l a ≡ disk old a) old mid new first (weaker (λ l. disk l a ≡ disk mid a) (λ l. disk l a ≡ disk old a) mid new (λ l is. is ∙ same) rest)

@@ -6,7 +6,7 @@ ghost use Rattle.zb_volume.specs.Calls.{Wrote, Cut, Synced};
 ghost use Rattle.zb_volume.specs.Disk.{seen, area_length, written, IsSettled};
 ghost use Rattle.zb_volume.specs.Moments.{LeavesOnly, StaysAs};
 ghost use Rattle.fs_records.specs.Blocks.{Reached};
-ghost use Rattle.fs_append.specs.Appending.{IsStillRead, IsVote, IsVoted};
+ghost use Rattle.fs_append.specs.Appending.{HasFront, IsStillRead, IsVote, IsVoted};
 ghost use Rattle.zb_volume.specs.States.{OnlyWrites};
 
 use fs_records::{COMMITTED, STATUS_PLACE};
@@ -14,7 +14,7 @@ use zb_volume::{Area, StoreFault, Volume, cut_and_sync, write_and_sync};
 
 /// Puts the bytes of a transaction into Main at the place `end`, in one write, and syncs it. Where
 /// they have the status of a vote and the file ended there, a crash at any moment leaves bytes that
-/// stand for what was read before; after `Ok` the transaction is voted. After a fault, as where Main
+/// stand for what was read before; the bytes before `end` stay; after `Ok` the transaction is voted. After a fault, as where Main
 /// would be longer than 2^63 - 1 bytes, some of its bytes may stand there or none.
 pub fn vote<V: Volume>(volume: &mut V, end: u64, bytes: &[u8]) -> Result<(), StoreFault>
     requires end { end < 2 ^ 63 }
@@ -29,7 +29,11 @@ pub fn vote<V: Volume>(volume: &mut V, end: u64, bytes: &[u8]) -> Result<(), Sto
         ∷ (V.state volume.old).log) }
     ensures any_moment { V.told → (s : Reached) → IsVote (V.state volume.old).log s end bytes.now →
         LeavesOnly Area.Main (IsStillRead s) (V.state volume.old).log (V.state volume.new).log }
+    ensures front { V.told → IsSettled (V.state volume.old).log Area.Main
+        → LeavesOnly Area.Main (HasFront end (seen (V.state volume.old).log Area.Main))
+        (V.state volume.old).log (V.state volume.new).log }
     ensures side { V.told → StaysAs Area.Side (V.state volume.old).log (V.state volume.new).log }
+    ensures hint { V.told → StaysAs Area.Hint (V.state volume.old).log (V.state volume.new).log }
     ensures limit { OnOk result (end + length bytes.now < 2 ^ 63) }
     ensures write { OnlyWrites (V.state volume.old) (V.state volume.new) result }
 {
@@ -57,6 +61,7 @@ pub fn finish<V: Volume>(volume: &mut V, end: u64) -> Result<(), StoreFault>
         ⊎ (image ≡ slice_set (seen (V.state volume.old).log Area.Main) (end + 16) 32))
         (V.state volume.old).log (V.state volume.new).log }
     ensures side { V.told → StaysAs Area.Side (V.state volume.old).log (V.state volume.new).log }
+    ensures hint { V.told → StaysAs Area.Hint (V.state volume.old).log (V.state volume.new).log }
     ensures write { OnlyWrites (V.state volume.old) (V.state volume.new) result }
 {
     write_and_sync(volume, Area::Main, end + STATUS_PLACE as u64, &[COMMITTED])
@@ -78,7 +83,11 @@ pub fn abort<V: Volume>(volume: &mut V, end: u64) -> Result<(), StoreFault>
         ∷ (V.state volume.old).log) }
     ensures any_moment { V.told → (s : Reached) → IsVoted (V.state volume.old).log s end →
         LeavesOnly Area.Main (IsStillRead s) (V.state volume.old).log (V.state volume.new).log }
+    ensures front { V.told → IsSettled (V.state volume.old).log Area.Main
+        → LeavesOnly Area.Main (HasFront end (seen (V.state volume.old).log Area.Main))
+        (V.state volume.old).log (V.state volume.new).log }
     ensures side { V.told → StaysAs Area.Side (V.state volume.old).log (V.state volume.new).log }
+    ensures hint { V.told → StaysAs Area.Hint (V.state volume.old).log (V.state volume.new).log }
     ensures write { OnlyWrites (V.state volume.old) (V.state volume.new) result }
 {
     cut_and_sync(volume, Area::Main, end)

@@ -37,7 +37,7 @@ all_reserved entries placed i done all = subst (λ (ps : List Placed). All (Room
 
 -- ---- places are kept
 
-placed_of-append : (oid : ℕ) (ps qs : List Placed) → placed_of oid (ps ++ qs) ≡ placed_of oid ps ++ placed_of oid qs
+pub placed_of-append : (oid : ℕ) (ps qs : List Placed) → placed_of oid (ps ++ qs) ≡ placed_of oid ps ++ placed_of oid qs
 placed_of-append oid ps qs = ap (map (λ (p : Placed). p.place)) (filter-append (is_placed oid) ps qs) ∙ map-append (λ (p : Placed). p.place) (filter (is_placed oid) ps) (filter (is_placed oid) qs)
 
 placed_of-one : (oid : ℕ) (p : Placed) → placed_of oid (p ∷ []) ≡ cond (eqb oid p.oid) (p.place ∷ []) []

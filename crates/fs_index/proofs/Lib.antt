@@ -4,3 +4,4 @@ pub mod Adding
 pub mod Keeping
 pub mod Rising
 pub mod Slots
+pub mod Collecting

@@ -1,9 +1,11 @@
 //! Where the records of each object stand, and where the transactions do.
 
-ghost use Rattle.std.specs.Prelude.{◌≡◌, ◌≤◌, ℕ, nat_eq, [], ◌∷◌, ◌++◌, All, length, OnOk, OnErr};
+ghost use Rattle.std.specs.Prelude.{◌≡◌, ◌≤◌, ℕ, nat_eq, [], ◌∷◌, ◌++◌, All, length, IfOk, OnOk, OnErr};
 ghost use Rattle.std.specs.List.{IsDistinct};
 ghost use Rattle.fs_index.specs.Places.{places_in, placed_of, oids_placed, Added, HasRoomIn, HasRoomFor, IsBefore, IsRising, StandBehind};
+ghost use Rattle.fs_index.specs.Listed.{AreRecordsOf};
 
+use crate::listing::{in_order, push_all};
 use crate::objects::Objects;
 use crate::place::{Place, Placed};
 use std::alloc::{AllocError, Global};
@@ -141,5 +143,17 @@ impl Index {
     {
         let _ = self.transactions.push(start);
         keep_each(&mut self.objects, placed);
+    }
+    /// All records of all objects, in rising order of the objects, those of one object in the order in
+    /// which they stand. The one error is want of memory.
+    pub fn records(&self, alloc: Global) -> Result<Vec<Placed>, AllocError>
+        ensures { IfOk result (λ r. AreRecordsOf self.now.entries r.items) }
+    {
+        let oids = in_order(self.objects.list(alloc)?)?;
+        let mut records = Vec::new(alloc);
+        'each: for oid in oids.as_slice() {
+            push_all(&mut records, *oid, self.places(*oid))?;
+        }
+        Ok(records)
     }
 }

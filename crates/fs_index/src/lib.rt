@@ -3,6 +3,7 @@
 #![tactic(auto)]
 
 mod index;
+mod listing;
 mod lookup;
 mod objects;
 mod place;

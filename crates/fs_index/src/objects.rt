@@ -1,10 +1,12 @@
 //! The places of the records of each object.
 
-ghost use Rattle.std.specs.Prelude.{◌≡◌, ◌==◌, ◌+◌, ◌<◌, ◌≤◌, ℕ, true, false, None, Some, if◌then◌else◌, nat_eq, List, [], ◌++◌, length, take, drop, vec_len, vec_capacity, slice_get, IsOk, IsSome, OnOk, OnErr};
+ghost use Rattle.std.specs.Prelude.{◌≡◌, ◌==◌, ◌+◌, ◌<◌, ◌≤◌, ℕ, true, false, None, Some, if◌then◌else◌, nat_eq, List, [], ◌++◌, length, take, drop, vec_len, vec_capacity, slice_get, IsOk, IsSome, IfOk, OnOk, OnErr};
 ghost use Rattle.std.specs.Map.{lookup};
 ghost use Rattle.fs_index.specs.Places.{PlacesKept, places_in, Added, HasRoomIn};
+ghost use Rattle.fs_index.specs.Listed.{AreListed};
 ghost use Rattle.fs_index.specs.Slots.{slots_from, if_any, if_held, if_one, nowhere, alone_kept};
 
+use crate::listing::list_first;
 use crate::place::Place;
 use crate::places::Places;
 use crate::several::{Several, lies_near};
@@ -314,5 +316,15 @@ impl Objects {
         ensures entries { self.new.entries ≡ self.old.entries }
     {
         self.several.reserve(more)
+    }
+    /// All objects that have places, and some that have none, in no order. The one error is want of
+    /// memory.
+    pub(crate) fn list(&self, alloc: Global) -> Result<Vec<Oid>, AllocError>
+        ensures { IfOk result (λ r. AreListed r.items self.now.entries) }
+    {
+        let mut oids = Vec::new(alloc);
+        list_first(&mut oids, self.alone.len())?;
+        self.several.list(&mut oids)?;
+        Ok(oids)
     }
 }

@@ -4,8 +4,10 @@ ghost use Rattle.std.specs.Prelude.{◌≡◌, ◌==◌, ◌+◌, ◌<◌, ◌�
 ghost use Rattle.std.specs.Map.{lookup};
 ghost use Rattle.indexmap.specs.IndexMap.{spare};
 ghost use Rattle.fs_index.specs.Places.{PlacesKept, places_in, Added, HasRoomIn};
+ghost use Rattle.fs_index.specs.Listed.{AreAmong, AreListed};
 ghost use Rattle.fs_index.specs.Slots.{slots_from, if_any, if_held};
 
+use crate::listing::{list_first, list_keys};
 use crate::place::Place;
 use crate::places::Places;
 use indexmap::IndexMap;
@@ -376,5 +378,15 @@ impl Several {
         ensures entries { self.new.entries ≡ self.old.entries }
     {
         self.others.reserve(more)
+    }
+    /// Puts all objects that have places here behind these, and some that have none, in no order. The
+    /// one error is want of memory.
+    pub(crate) fn list(&self, oids: &mut Vec<Oid>) -> Result<(), AllocError>
+        ensures listed { OnOk result (AreListed oids.new.items self.now.entries) }
+        ensures kept { OnOk result (AreAmong oids.old.items oids.new.items) }
+    {
+        list_first(oids, self.slots.len())?;
+        list_keys(oids, &self.others)?;
+        Ok(())
     }
 }

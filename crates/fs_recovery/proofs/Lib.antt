@@ -1,6 +1,5 @@
 pub mod Counting
 pub mod Faults
-pub mod Seen
 pub mod Starts
 pub mod Steps
 pub mod Times

@@ -68,19 +68,19 @@ none_up tid n low (t ∷ ts) h r =
     let rest = none_up tid (n + length t.changes) t.tid ts (omega (arith, r.0)) r.1 in
     record { tallies = rw above rest.tallies; list = rw above rest.list }
 
-up_to : (tid n low x : ℕ) (ts : List Transaction) → Rises low ts → changes_of (last_or (Some (record { tid = x; changes = n })) (filter (is_tally_up_to tid) (tallies_from n ts))) ≡ n + changes_up_to tid ts
-up_to tid n low x [] r = omega arith
-up_to tid n low x (t ∷ ts) r = by_cases (leb t.tid tid) refl (up_to tid (n + length t.changes) t.tid t.tid ts r.1)
+up_to : (tid n low x : ℕ) (p : Bool) (ts : List Transaction) → Rises low ts → changes_of (last_or (Some (record { tid = x; changes = n; packed = p })) (filter (is_tally_up_to tid) (tallies_from n ts))) ≡ n + changes_up_to tid ts
+up_to tid n low x p [] r = omega arith
+up_to tid n low x p (t ∷ ts) r = by_cases (leb t.tid tid) refl (up_to tid (n + length t.changes) t.tid t.tid t.packed ts r.1)
   where
-    by_cases : (b : Bool) → leb t.tid tid ≡ b → changes_of (last_or (Some (record { tid = t.tid; changes = n + length t.changes })) (filter (is_tally_up_to tid) (tallies_from (n + length t.changes) ts))) ≡ n + length t.changes + changes_up_to tid ts
-        → changes_of (last_or (Some (record { tid = x; changes = n })) (filter (is_tally_up_to tid) (tallies_from n (t ∷ ts)))) ≡ n + changes_up_to tid (t ∷ ts)
+    by_cases : (b : Bool) → leb t.tid tid ≡ b → changes_of (last_or (Some (record { tid = t.tid; changes = n + length t.changes; packed = t.packed })) (filter (is_tally_up_to tid) (tallies_from (n + length t.changes) ts))) ≡ n + length t.changes + changes_up_to tid ts
+        → changes_of (last_or (Some (record { tid = x; changes = n; packed = p })) (filter (is_tally_up_to tid) (tallies_from n (t ∷ ts)))) ≡ n + changes_up_to tid (t ∷ ts)
     by_cases true e rest = rw e (rest ∙ omega (arith, sum_by-cons (λ (u : Transaction). length u.changes) t (filter (queries.is_up_to tid) ts)))
     by_cases false e rest =
         let lt : tid ≤ t.tid = omega (arith, leb-false _ _ e) in
         let none = none_up tid (n + length t.changes) t.tid ts lt r.1 in
         rw e (rw (none.tallies, none.list) (omega arith))
 
-from_none : (tid : ℕ) (xs : List Tally) → changes_of (last_or None xs) ≡ changes_of (last_or (Some (record { tid = 0; changes = 0 })) xs)
+from_none : (tid : ℕ) (xs : List Tally) → changes_of (last_or None xs) ≡ changes_of (last_or (Some (record { tid = 0; changes = 0; packed = false })) xs)
 from_none tid [] = refl
 from_none tid (x ∷ xs) = refl
 
@@ -89,7 +89,7 @@ tallies_rise : (low n : ℕ) (ts : List Transaction) → Rises low ts → IsNonD
 tallies_rise low n [] r = (λ i j d h l. absurd (omega arith), All-nil (λ (x : Tally). low ≤ x.tid))
 tallies_rise low n (t ∷ ts) r =
     let rest = tallies_rise t.tid (n + length t.changes) ts r.1 in
-    let first : Tally = record { tid = t.tid; changes = n + length t.changes } in (
+    let first : Tally = record { tid = t.tid; changes = n + length t.changes; packed = t.packed } in (
       front first (tallies_from (n + length t.changes) ts) rest.0 rest.1,
       All-cons (λ (x : Tally). low ≤ x.tid) first (tallies_from (n + length t.changes) ts) (omega (arith, r.0))
           (All-weaker (λ (x : Tally). t.tid ≤ x.tid) (λ (x : Tally). low ≤ x.tid) (λ x h. omega (arith, h, r.0)) (tallies_from (n + length t.changes) ts) rest.1),
@@ -107,17 +107,17 @@ up_to_is tid list n o database numbers is =
     subst (λ (xs : List Tally). IsNonDecreasingBy (λ (x : Tally). x.tid) xs) (sym numbers.tallies) (tallies_rise 0 0 list (rises 0 list database.rising)).0 in
     ap changes_of (is rising ∙ ap (λ (xs : List Tally). last_or None (filter (is_tally_up_to tid) xs)) numbers.tallies)
     ∙ from_none tid (filter (is_tally_up_to tid) (tallies_from 0 list))
-    ∙ up_to tid 0 0 0 list (rises 0 list database.rising)
+    ∙ up_to tid 0 0 0 false list (rises 0 list database.rising)
     ∙ omega arith
 
 -- ---- one transaction more
 
-tallies-push : (n : ℕ) (ts : List Transaction) (t : Transaction) → tallies_from n (ts ++ t ∷ []) ≡ tallies_from n ts ++ record { tid = t.tid; changes = changes_of (last_or (Some (record { tid = 0; changes = n })) (tallies_from n ts)) + length t.changes } ∷ []
+tallies-push : (n : ℕ) (ts : List Transaction) (t : Transaction) → tallies_from n (ts ++ t ∷ []) ≡ tallies_from n ts ++ record { tid = t.tid; changes = changes_of (last_or (Some (record { tid = 0; changes = n; packed = false })) (tallies_from n ts)) + length t.changes; packed = t.packed } ∷ []
 tallies-push n [] t = refl
-tallies-push n (u ∷ us) t = ap (λ (xs : List Tally). record { tid = u.tid; changes = n + length u.changes } ∷ xs) (tallies-push (n + length u.changes) us t ∙ same (tallies_from (n + length u.changes) us))
+tallies-push n (u ∷ us) t = ap (λ (xs : List Tally). record { tid = u.tid; changes = n + length u.changes; packed = u.packed } ∷ xs) (tallies-push (n + length u.changes) us t ∙ same (tallies_from (n + length u.changes) us))
   where
-    same : (xs : List Tally) → xs ++ record { tid = t.tid; changes = changes_of (last_or (Some (record { tid = 0; changes = n + length u.changes })) xs) + length t.changes } ∷ []
-        ≡ xs ++ record { tid = t.tid; changes = changes_of (last_or (Some (record { tid = u.tid; changes = n + length u.changes })) xs) + length t.changes } ∷ []
+    same : (xs : List Tally) → xs ++ record { tid = t.tid; changes = changes_of (last_or (Some (record { tid = 0; changes = n + length u.changes; packed = false })) xs) + length t.changes; packed = t.packed } ∷ []
+        ≡ xs ++ record { tid = t.tid; changes = changes_of (last_or (Some (record { tid = u.tid; changes = n + length u.changes; packed = u.packed })) xs) + length t.changes; packed = t.packed } ∷ []
     same [] = refl
     same (x ∷ xs) = refl
 
@@ -138,11 +138,11 @@ point-push list t =
 
 -- the numbers with one transaction more, which has so many changes and this greatest object
 pub numbers-push : (list : List Transaction) (t : Transaction) (old new : NumbersKept) (m g : ℕ) → AreNumbersOf list old → length t.changes ≡ m → greatest_of (oids_of t) ≡ g
-    → new.tallies ≡ old.tallies ++ record { tid = t.tid; changes = total_of old.tallies + m } ∷ []
+    → new.tallies ≡ old.tallies ++ record { tid = t.tid; changes = total_of old.tallies + m; packed = t.packed } ∷ []
     → new.greatest ≡ max old.greatest g → new.pack_point ≡ cond t.packed (max old.pack_point t.tid) old.pack_point
     → AreNumbersOf (list ++ t ∷ []) new
 numbers-push list t old new m g numbers count most tallies greatest point =
-    let total : total_of old.tallies ≡ changes_of (last_or (Some (record { tid = 0; changes = 0 })) (tallies_from 0 list)) = ap total_of numbers.tallies ∙ from_none 0 (tallies_from 0 list) in
+    let total : total_of old.tallies ≡ changes_of (last_or (Some (record { tid = 0; changes = 0; packed = false })) (tallies_from 0 list)) = ap total_of numbers.tallies ∙ from_none 0 (tallies_from 0 list) in
     record {
       tallies = tallies ∙ rw (total, numbers.tallies, sym count) (sym (tallies-push 0 list t));
       greatest = greatest ∙ rw (numbers.greatest, sym most) (sym (flat-push list t));

@@ -2,11 +2,12 @@
 use Rattle.std.proofs.Common.{◌≡◌, inl, inr, ℕ, ◌<◌, List, [], ◌∷◌, length, take, get_or, Option, refl, sym, ap, subst, ◌∙◌, arith}
 use Rattle.std.proofs.lemmas.Bool.{cases_lt}
 use Rattle.std.proofs.lemmas.List.{ext_get_or, get_or-take, length-take, take_all}
-use Rattle.zb_volume.specs.declared.areas.Area.TheVariants.{Main, Side}
+use Rattle.zb_volume.specs.declared.areas.Area.TheVariants.{Main}
 use Rattle.zb_volume.specs.Calls.{Event}
 use Rattle.zb_volume.specs.Disk.{disk, main_bytes}
 use Rattle.zb_volume.specs.Images.{CrashLeavesWith, IsImage, MayRead}
 use Rattle.zb_volume.specs.Moments.{LeavesOnly, StaysAs, here}
+use Rattle.zb_volume.specs.States.{OthersStay}
 use Rattle.zb_volume.specs.Lasting.{more_left, settled_mix}
 use Rattle.zb_volume.specs.Runs.{leaves_less}
 use Rattle.fs_records.specs.Blocks.{Reached}
@@ -17,8 +18,8 @@ use Rattle.fs_recovery.specs.Opens.{IsOpened, MomentsOfOpening, ImagesStand}
 use Rattle.fs_recovery.specs.Fronts.{stands_shorter}
 
 -- nothing was changed
-pub still_side : (old new : List Event) → new ≡ old → StaysAs Side old new
-still_side old new same = subst (λ (l : List Event). StaysAs Side old l) (sym same) (here refl)
+pub still_others : (old new : List Event) → new ≡ old → OthersStay Main old new
+still_others old new same other not = subst (λ (l : List Event). StaysAs other old l) (sym same) (here refl)
 
 pub still_main : (old new : List Event) → new ≡ old → MomentsOfOpening old new
 still_main old new same s cut stands =

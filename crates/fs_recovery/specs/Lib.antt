@@ -6,3 +6,4 @@ pub mod Fronts
 pub mod Ends
 pub mod Numbers
 pub mod Counting
+pub mod Seen

@@ -6,10 +6,10 @@ use Rattle.zb_model.specs.declared.data.Transaction.{Transaction}
 use Rattle.zb_model.specs.Queries.{greatest_oid, pack_point}
 use Rattle.fs_recovery.specs.declared.tally.Tally.{Tally}
 
--- of each transaction, how many changes those up to it have, where those before have so many
+-- of each transaction, how many changes those up to it have, where those before have so many, and whether a pack has gone over it
 abbrev pub tallies_from : ℕ → List Transaction → List Tally
 tallies_from n [] = []
-tallies_from n (t ∷ ts) = record { tid = t.tid; changes = n + length t.changes } ∷ tallies_from (n + length t.changes) ts
+tallies_from n (t ∷ ts) = record { tid = t.tid; changes = n + length t.changes; packed = t.packed } ∷ tallies_from (n + length t.changes) ts
 
 -- how many changes there are by the last tally
 abbrev pub total_of : List Tally → ℕ

@@ -1,5 +1,5 @@
 -- What opening a file gives. Source: own.
-use Rattle.std.specs.Prelude.{◌≡◌, ◌⊎◌, ℕ, ◌-◌, ◌^◌, ◌<◌, ◌≤◌, List, take, Option, None, Result, Ok, Err, All}
+use Rattle.std.specs.Prelude.{◌≡◌, ◌⊎◌, ℕ, ◌-◌, ◌^◌, ◌<◌, ◌≤◌, List, take, Option, None, Result, Ok, Err, All, IfOk}
 use Rattle.std.specs.List.{last_or}
 use Rattle.std.specs.Option.{option_map_or}
 use Rattle.zb_volume.specs.declared.areas.Area.TheVariants.{Main}
@@ -9,7 +9,7 @@ use Rattle.zb_volume.specs.Images.{CrashLeavesWith}
 use Rattle.zb_volume.specs.Moments.{LeavesOnly}
 use Rattle.fs_records.specs.declared.field.Field.{Field}
 use Rattle.fs_index.specs.declared.place.Place.{Place}
-use Rattle.fs_records.specs.Blocks.{Reached}
+use Rattle.fs_records.specs.Blocks.{Reached, magic}
 use Rattle.fs_records.specs.File.{IsReadAs, IsNoFile, IsDamaged}
 use Rattle.fs_index.specs.Places.{Kept, AreBefore, IsBefore}
 use Rattle.fs_records.specs.Indexed.{IsIndexOf}
@@ -61,6 +61,14 @@ pub record IsOpened (bytes : List ℕ) (o : Opened) : Type 0 where
 abbrev pub IsWhole : List ℕ → Opened → Type 0
 IsWhole bytes o = IsOpened bytes (record { index = o.index; numbers = o.numbers; end = o.end; cut = None })
 
+-- what is known of the bytes is what they have up to its end, which is that of a transaction, or behind the first four bytes
+abbrev pub IsUpTo : List ℕ → Opened → Type 0
+IsUpTo bytes o = Numbered bytes o.end (newest_kept o.index) o.index o.numbers
+
+-- it is, unless the bytes are no file
+abbrev pub IsKnownOf : List ℕ → Opened → Type 0
+IsKnownOf bytes o = take 4 bytes ≡ magic → IsUpTo bytes o
+
 -- The answer is what the bytes are: a list of transactions, damaged, or no file. A failed call and want of memory say nothing of them.
 abbrev pub Opens : List ℕ → Result Opened OpenError → Type 0
 Opens bytes (Ok o) = IsOpened bytes o
@@ -82,3 +90,13 @@ MomentsOfOpening old new = (s : Reached) (cut : Option ℕ) → IsReadAs (main_b
 -- where Main stands for a list and nothing of it was pending, all that a crash at any moment leaves of it stands for that list
 abbrev pub ImagesStand : List Event → List Event → Type 0
 ImagesStand old new = (s : Reached) (cut : Option ℕ) → IsReadAs (main_bytes old) s cut → IsSettled old Main → LeavesOnly Main (λ image. (k : Option ℕ) × IsReadAs image s k) old new
+
+-- ---- the whole call
+
+-- what opening Main says and leaves: the answer is what its bytes are; where it is Ok they are left without a tail, and where they are no list they are left alone; and what a crash leaves at every moment
+pub record OpensMain (old new : List Event) (result : Result Opened OpenError) : Type 0 where
+  pub opens : Opens (main_bytes old) result
+  pub whole : IfOk result (λ o. IsWhole (main_bytes new) o)
+  pub harmed : IsNoList (main_bytes old) → new ≡ old
+  pub any_moment : MomentsOfOpening old new
+  pub images : ImagesStand old new

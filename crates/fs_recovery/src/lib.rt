@@ -17,5 +17,5 @@ mod window;
 pub use counted::Counted;
 pub use errors::OpenError;
 pub use numbers::Numbers;
-pub use opening::{Opened, open_main, read_file};
+pub use opening::{Opened, open_main, read_file, read_on};
 pub use tally::Tally;

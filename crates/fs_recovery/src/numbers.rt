@@ -108,6 +108,13 @@ impl Numbers {
         self.pack_point
     }
 
+    /// What is counted up to each transaction, in order.
+    pub fn tallies(&self) -> &[Tally]
+        ensures { result.now ≡ self.now.tallies }
+    {
+        self.tallies.as_slice()
+    }
+
     /// How many changes the list has.
     #[tactic(auto, using(crate::proofs::Tallies::last_is))]
     fn total(&self) -> u64
@@ -162,7 +169,11 @@ impl Numbers {
         let Some(changes) = self.total().checked_add(counted.changes) else {
             return Err(AllocError);
         };
-        self.tallies.push(Tally { tid, changes })?;
+        self.tallies.push(Tally {
+            tid,
+            changes,
+            packed,
+        })?;
         self.greatest = greater(self.greatest, counted.greatest);
         self.pack_point = point_with(self.pack_point, packed, tid);
         Ok(())

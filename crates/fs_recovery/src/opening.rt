@@ -1,6 +1,6 @@
 //! A file is opened.
 
-ghost use Rattle.std.specs.Prelude.{◌≡◌, ◌≢◌, ◌+◌, ◌<◌, ◌≤◌, ◌^◌, [], length, take, IfOk, OnOk};
+ghost use Rattle.std.specs.Prelude.{◌≡◌, ◌≢◌, ◌+◌, ◌<◌, ◌≤◌, ◌^◌, ℕ, List, [], length, take, IfOk, OnOk};
 ghost use Rattle.std.specs.Str.{bytes_eq};
 ghost use Rattle.zb_volume.specs.declared.areas.Area.{Area};
 ghost use Rattle.zb_volume.specs.Disk.{IsSettled, main_bytes};
@@ -10,9 +10,9 @@ ghost use Rattle.fs_records.specs.Blocks.{magic};
 ghost use Rattle.fs_records.specs.Rules.{texts_length};
 ghost use Rattle.fs_recovery.specs.Reading.{Shows, CountsFault, OnlyReadsToOpen, RefusesMain};
 ghost use Rattle.fs_recovery.specs.Heads.{HeaderBegins};
-ghost use Rattle.fs_recovery.specs.Opens.{newest_kept, KeptBefore, BlockRead, IsBounded, IsNoList, IsWhole, Opens, MomentsOfOpening, ImagesStand};
+ghost use Rattle.fs_recovery.specs.Opens.{newest_kept, KeptBefore, BlockRead, IsBounded, IsKnownOf, IsUpTo, IsNoList, IsWhole, Opens, OpensMain, MomentsOfOpening, ImagesStand};
 ghost use Rattle.fs_recovery.specs.Counting.{Numbered};
-ghost use Rattle.zb_volume.specs.States.{OnlyReads};
+ghost use Rattle.zb_volume.specs.States.{OnlyReads, OthersStay};
 
 use crate::blocks::judge;
 use crate::errors::OpenError;
@@ -21,7 +21,7 @@ use crate::numbers::Numbers;
 use crate::records::read_records;
 use crate::tail::keep_front;
 use crate::window::Window;
-use fs_index::{Index, Place};
+use fs_index::{Index, Place, last_of};
 use fs_records::{HEADER_LENGTH, Header, PACKED};
 use std::alloc::Global;
 use zb_ids::Tid;
@@ -97,29 +97,60 @@ fn keep_block<V: Volume, const N: usize>(
     Ok(())
 }
 
-/// Reads the transactions of a file, from behind its first four bytes on.
+/// The number of the last transaction that is kept, or 0.
+fn newest_of(index: &Index) -> Tid
+    ensures { result ≡ newest_kept index.now }
+{
+    match last_of(index.transactions()) {
+        Some(place) => place.serial,
+        None => Tid(0),
+    }
+}
+
+/// What is known of a file before any of its transactions was read.
+fn nothing_known(alloc: Global) -> Opened
+    ensures known { (bytes : List ℕ) → IsKnownOf bytes result }
+    ensures bounded { IsBounded result }
+    ensures end { result.end ≡ 4 }
+{
+    let index = Index::new(alloc);
+    let numbers = Numbers::new(alloc);
+    Opened {
+        index,
+        numbers,
+        end: 4,
+        cut: None,
+    }
+}
+
+/// Reads the transactions of a file on from the end of what is known of it.
 fn read_blocks<V: Volume, const N: usize>(
-    alloc: Global,
     volume: &mut V,
     window: &mut Window<N>,
+    known: Opened,
 ) -> Result<Opened, OpenError>
     requires small { 42 ≤ N }
-    requires long { 4 ≤ window.old.length }
+    requires bounded { IsBounded known }
+    requires within { known.end ≤ window.old.length }
     requires length { V.told → window.old.length ≡ length (main_bytes (V.state volume.old).log) }
     requires shows { V.told →
         Shows window.old.at window.old.count window.old.held window.old.ahead
         (main_bytes (V.state volume.old).log) }
     requires bytes { V.told → AreBytes (main_bytes (V.state volume.old).log) }
-    requires magic { V.told → take 4 (main_bytes (V.state volume.old).log) ≡ magic }
-    ensures opens { V.told → Opens (main_bytes (V.state volume.old).log) result }
+    ensures opens { V.told → IsUpTo (main_bytes (V.state volume.old).log) known
+        → Opens (main_bytes (V.state volume.old).log) result }
     ensures bounded { IfOk result (λ o. IsBounded o) }
     ensures end { IfOk result (λ o. o.end ≤ window.old.length) }
     ensures read { OnlyReadsToOpen (V.state volume.old) (V.state volume.new) result }
 {
-    let mut index = Index::new(alloc);
-    let mut numbers = Numbers::new(alloc);
-    let mut newest = Tid(0);
-    let mut p = 4;
+    let Opened {
+        mut index,
+        mut numbers,
+        end,
+        cut: _,
+    } = known;
+    let mut newest = newest_of(&index);
+    let mut p = end;
     'scan: loop {
         match judge(volume, window, p, newest)? {
             Head::Ends => {
@@ -179,13 +210,34 @@ fn has_magic<V: Volume, const N: usize>(
     Ok(is_magic(&front))
 }
 
-/// Reads Main, which has so many bytes.
-fn read_main<V: Volume>(alloc: Global, volume: &mut V, long: u64) -> Result<Opened, OpenError>
+/// What is known of a file, where it ends within so many bytes, else nothing.
+fn known_within(alloc: Global, known: Opened, long: u64) -> Opened
+    requires known { IsBounded known }
+    requires long { 4 ≤ long }
+    ensures known { (bytes : List ℕ) → IsKnownOf bytes known → IsKnownOf bytes result }
+    ensures bounded { IsBounded result }
+    ensures end { result.end ≤ long }
+{
+    if long < known.end {
+        return nothing_known(alloc);
+    }
+    known
+}
+
+/// Reads Main, which has so many bytes, on from the end of what is known of it.
+fn read_main<V: Volume>(
+    alloc: Global,
+    volume: &mut V,
+    long: u64,
+    known: Opened,
+) -> Result<Opened, OpenError>
     requires limit { long < 2 ^ 63 }
+    requires known { IsBounded known }
     requires some { V.told → main_bytes (V.state volume.old).log ≢ [] }
     requires length { V.told → long ≡ length (main_bytes (V.state volume.old).log) }
     requires bytes { V.told → AreBytes (main_bytes (V.state volume.old).log) }
-    ensures opens { V.told → Opens (main_bytes (V.state volume.old).log) result }
+    ensures opens { V.told → IsKnownOf (main_bytes (V.state volume.old).log) known
+        → Opens (main_bytes (V.state volume.old).log) result }
     ensures bounded { IfOk result (λ o. IsBounded o) }
     ensures end { IfOk result (λ o. o.end ≤ long) }
     ensures read { OnlyReadsToOpen (V.state volume.old) (V.state volume.new) result }
@@ -197,7 +249,8 @@ fn read_main<V: Volume>(alloc: Global, volume: &mut V, long: u64) -> Result<Open
     if !has_magic(volume, &mut window)? {
         return Err(OpenError::NotFileStorage);
     }
-    read_blocks(alloc, volume, &mut window)
+    let known = known_within(alloc, known, long);
+    read_blocks(volume, &mut window, known)
 }
 
 /// Reads the file in Main, which isn't empty, forward, and changes nothing: for one of which nothing
@@ -212,8 +265,61 @@ pub fn read_file<V: Volume>(alloc: Global, volume: &mut V) -> Result<Opened, Ope
     ensures read { OnlyReadsToOpen (V.state volume.old) (V.state volume.new) result }
 {
     let long = volume.len(Area::Main)?;
-    let opened = read_main(alloc, volume, long)?;
+    read_main(alloc, volume, long, nothing_known(alloc))
+}
+
+/// Opens the file in Main on from the end of what is known of it.
+fn open_from<V: Volume>(alloc: Global, volume: &mut V, known: Opened) -> Result<Opened, OpenError>
+    requires known { IsBounded known }
+    requires some { V.told → main_bytes (V.state volume.old).log ≢ [] }
+    ensures opens { V.told → IsKnownOf (main_bytes (V.state volume.old).log) known
+        → Opens (main_bytes (V.state volume.old).log) result }
+    ensures content { V.told →
+        IfOk result (λ o. main_bytes (V.state volume.new).log
+        ≡ take o.end (main_bytes (V.state volume.old).log)) }
+    ensures whole { V.told → IsKnownOf (main_bytes (V.state volume.old).log) known
+        → IfOk result (λ o. IsWhole (main_bytes (V.state volume.new).log) o) }
+    ensures settled { V.told → OnOk result (IsSettled (V.state volume.new).log Area.Main) }
+    ensures untouched { RefusesMain result → (V.state volume.new).log ≡ (V.state volume.old).log }
+    ensures harmed { V.told → IsKnownOf (main_bytes (V.state volume.old).log) known
+        → IsNoList (main_bytes (V.state volume.old).log)
+        → (V.state volume.new).log ≡ (V.state volume.old).log }
+    ensures others { V.told → OthersStay Area.Main (V.state volume.old).log
+        (V.state volume.new).log }
+    ensures any_moment { V.told → IsKnownOf (main_bytes (V.state volume.old).log) known
+        → MomentsOfOpening (V.state volume.old).log (V.state volume.new).log }
+    ensures images { V.told → IsKnownOf (main_bytes (V.state volume.old).log) known
+        → ImagesStand (V.state volume.old).log (V.state volume.new).log }
+    ensures bounded { IfOk result (λ o. IsBounded o) }
+    ensures counts { CountsFault (V.state volume.old) (V.state volume.new) result }
+{
+    let long = volume.len(Area::Main)?;
+    let opened = read_main(alloc, volume, long, known)?;
+    keep_front(volume, long, opened.end)?;
     Ok(opened)
+}
+
+/// Opens the file in Main, which isn't empty, as `open_main` does, but reads it on from the end of what
+/// is known of it. Where Main is shorter than that, it is read whole.
+///
+/// Where that end is one of a transaction of Main, or behind its first four bytes, and the index and
+/// the numbers are those of Main up to it, the answers are those of `open_main`, and it leaves the same.
+pub fn read_on<V: Volume>(alloc: Global, volume: &mut V, known: Opened) -> Result<Opened, OpenError>
+    requires known { IsBounded known }
+    requires some { V.told → main_bytes (V.state volume.old).log ≢ [] }
+    ensures opens { V.told → IsKnownOf (main_bytes (V.state volume.old).log) known
+        → OpensMain (V.state volume.old).log (V.state volume.new).log result }
+    ensures content { V.told →
+        IfOk result (λ o. main_bytes (V.state volume.new).log
+        ≡ take o.end (main_bytes (V.state volume.old).log)) }
+    ensures settled { V.told → OnOk result (IsSettled (V.state volume.new).log Area.Main) }
+    ensures untouched { RefusesMain result → (V.state volume.new).log ≡ (V.state volume.old).log }
+    ensures others { V.told → OthersStay Area.Main (V.state volume.old).log
+        (V.state volume.new).log }
+    ensures bounded { IfOk result (λ o. IsBounded o) }
+    ensures counts { CountsFault (V.state volume.old) (V.state volume.new) result }
+{
+    open_from(alloc, volume, known)
 }
 
 /// Opens the file in Main, which isn't empty: reads it forward, cuts off a transaction at its end
@@ -240,14 +346,12 @@ pub fn open_main<V: Volume>(alloc: Global, volume: &mut V) -> Result<Opened, Ope
     ensures harmed { V.told → IsNoList (main_bytes (V.state volume.old).log)
         → (V.state volume.new).log ≡ (V.state volume.old).log }
     ensures side { V.told → StaysAs Area.Side (V.state volume.old).log (V.state volume.new).log }
+    ensures hint { V.told → StaysAs Area.Hint (V.state volume.old).log (V.state volume.new).log }
     ensures any_moment { V.told → MomentsOfOpening (V.state volume.old).log
         (V.state volume.new).log }
     ensures images { V.told → ImagesStand (V.state volume.old).log (V.state volume.new).log }
     ensures bounded { IfOk result (λ o. IsBounded o) }
     ensures counts { CountsFault (V.state volume.old) (V.state volume.new) result }
 {
-    let long = volume.len(Area::Main)?;
-    let opened = read_main(alloc, volume, long)?;
-    keep_front(volume, long, opened.end)?;
-    Ok(opened)
+    open_from(alloc, volume, nothing_known(alloc))
 }

@@ -4,8 +4,8 @@ ghost use Rattle.std.specs.Prelude.{◌≡◌, ◌≤◌, length, take, OnOk};
 ghost use Rattle.zb_volume.specs.declared.areas.Area.{Area};
 ghost use Rattle.zb_volume.specs.Disk.{IsSettled, main_bytes};
 ghost use Rattle.zb_volume.specs.Images.{CrashLeavesWith};
-ghost use Rattle.zb_volume.specs.Moments.{LeavesOnly, StaysAs};
-ghost use Rattle.zb_volume.specs.States.{OnlyWrites};
+ghost use Rattle.zb_volume.specs.Moments.{LeavesOnly};
+ghost use Rattle.zb_volume.specs.States.{OnlyWrites, OthersStay};
 
 use zb_volume::{Area, StoreFault, Volume};
 
@@ -20,7 +20,8 @@ fn cut_and_sync<V: Volume>(volume: &mut V, end: u64) -> Result<(), StoreFault>
         (CrashLeavesWith (V.state volume.old).log Area.Main
         (take end (main_bytes (V.state volume.old).log)))
         (V.state volume.old).log (V.state volume.new).log }
-    ensures side { V.told → StaysAs Area.Side (V.state volume.old).log (V.state volume.new).log }
+    ensures others { V.told → OthersStay Area.Main (V.state volume.old).log
+        (V.state volume.new).log }
     ensures write { OnlyWrites (V.state volume.old) (V.state volume.new) result }
 {
     volume.cut(Area::Main, end)?;
@@ -36,7 +37,8 @@ fn sync_main<V: Volume>(volume: &mut V) -> Result<(), StoreFault>
     ensures any_moment { V.told → LeavesOnly Area.Main
         (CrashLeavesWith (V.state volume.old).log Area.Main (main_bytes (V.state volume.old).log))
         (V.state volume.old).log (V.state volume.new).log }
-    ensures side { V.told → StaysAs Area.Side (V.state volume.old).log (V.state volume.new).log }
+    ensures others { V.told → OthersStay Area.Main (V.state volume.old).log
+        (V.state volume.new).log }
     ensures write { OnlyWrites (V.state volume.old) (V.state volume.new) result }
 {
     volume.sync(Area::Main)?;
@@ -56,7 +58,8 @@ pub fn keep_front<V: Volume>(volume: &mut V, long: u64, end: u64) -> Result<(), 
         (CrashLeavesWith (V.state volume.old).log Area.Main
         (take end (main_bytes (V.state volume.old).log)))
         (V.state volume.old).log (V.state volume.new).log }
-    ensures side { V.told → StaysAs Area.Side (V.state volume.old).log (V.state volume.new).log }
+    ensures others { V.told → OthersStay Area.Main (V.state volume.old).log
+        (V.state volume.new).log }
     ensures write { OnlyWrites (V.state volume.old) (V.state volume.new) result }
 {
     if end < long {

@@ -1,7 +1,7 @@
 use Rattle.std.proofs.Common.{◌≡◌, ◌≤◌, ◌<◌, ◌^◌, ◌-◌}
 use Rattle.fs_recovery.specs.Counting.{Numbered}
 use Rattle.fs_recovery.specs.Reading.{Shows}
-use Rattle.fs_recovery.specs.Opens.{newest_kept, KeptBefore}
+use Rattle.fs_recovery.specs.Opens.{newest_kept, IsUpTo, KeptBefore}
 use Rattle.fs_recovery.proofs.opening.read_blocks.Given as goal
 use Rattle.zb_volume.specs.Disk.{main_bytes}
 
@@ -17,7 +17,7 @@ invariant-scan g l = record {
   same : (g.V.Volume.state l.volume).log ≡ (g.V.Volume.state l.fn.volume).log;
   counts : (g.V.Volume.state l.volume).read_faults ≡ (g.V.Volume.state l.fn.volume).read_faults;
   write_faults : (g.V.Volume.state l.volume).write_faults ≡ (g.V.Volume.state l.fn.volume).write_faults;
-  so_far : g.V.Volume.told → Numbered (main_bytes (g.V.Volume.state l.fn.volume).log) l.p l.newest l.index l.numbers;
+  so_far : g.V.Volume.told → IsUpTo (main_bytes (g.V.Volume.state l.fn.volume).log) l.fn.known → Numbered (main_bytes (g.V.Volume.state l.fn.volume).log) l.p l.newest l.index l.numbers;
 }
 
 abbrev pub decreases-scan : goal.decreases-scan

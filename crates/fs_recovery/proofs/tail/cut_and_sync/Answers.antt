@@ -1,8 +1,9 @@
-use Rattle.std.proofs.Common.{take, ◌∙◌, ap, refl}
-use Rattle.zb_volume.specs.declared.areas.Area.TheVariants.{Main, Side}
+use Rattle.std.proofs.Common.{take, ◌∙◌, ap}
+use Rattle.zb_volume.specs.declared.areas.Area.TheVariants.{Main}
 use Rattle.zb_volume.specs.Calls.{CutTo, SyncOf}
 use Rattle.zb_volume.specs.Images.{CrashLeavesWith}
-use Rattle.zb_volume.specs.Moments.{LeavesOnly, StaysAs}
+use Rattle.zb_volume.specs.Moments.{LeavesOnly}
+use Rattle.zb_volume.specs.States.{OthersStay}
 use Rattle.zb_volume.specs.Lasting.{cut_leaves, seen-cut}
 use Rattle.zb_volume.specs.Durable.{change_leaves, sync_leaves, one_stays, next_stays}
 use Rattle.zb_volume.specs.Disk.{main_bytes}
@@ -14,9 +15,9 @@ returns-in_err-cut-clause-any_moment g c told =
     let log = (g.V.Volume.state c.args.volume.now).log in
     change_leaves c.cut.result log (g.V.Volume.state c.cut.new.self).log Main _ (CutTo Main c.args.end) (cut_leaves log Main c.args.end) (c.cut.ensures.done told) (c.cut.ensures.failed told)
 
-pub returns-in_err-cut-clause-side : goal.returns-in_err-cut-clause-side
-returns-in_err-cut-clause-side g c told =
-    one_stays c.cut.result (g.V.Volume.state c.args.volume.now).log (g.V.Volume.state c.cut.new.self).log (CutTo Main c.args.end) Side refl (c.cut.ensures.done told) (c.cut.ensures.failed told)
+pub returns-in_err-cut-clause-others : goal.returns-in_err-cut-clause-others
+returns-in_err-cut-clause-others g c told other not =
+    one_stays c.cut.result (g.V.Volume.state c.args.volume.now).log (g.V.Volume.state c.cut.new.self).log (CutTo Main c.args.end) other not (c.cut.ensures.done told) (c.cut.ensures.failed told)
 
 -- after the sync, done or not
 second : (g : _) (c : After-sync g) → g.V.Volume.told
@@ -28,20 +29,20 @@ second g c told =
     (ap (λ l. main_bytes l) changed ∙ seen-cut log Main c.args.end)
     (change_leaves c.cut.result log (g.V.Volume.state c.cut.new.self).log Main _ (CutTo Main c.args.end) (cut_leaves log Main c.args.end) (c.cut.ensures.done told) (c.cut.ensures.failed told)) (c.sync.ensures.done told) (c.sync.ensures.failed told)
 
-second_side : (g : _) (c : After-sync g) → g.V.Volume.told → StaysAs Side (g.V.Volume.state c.args.volume.now).log (g.V.Volume.state c.sync.new.self).log
-second_side g c told =
+second_others : (g : _) (c : After-sync g) → g.V.Volume.told → OthersStay Main (g.V.Volume.state c.args.volume.now).log (g.V.Volume.state c.sync.new.self).log
+second_others g c told other not =
     let log = (g.V.Volume.state c.args.volume.now).log in
-    next_stays c.sync.result log (g.V.Volume.state c.cut.new.self).log (g.V.Volume.state c.sync.new.self).log (SyncOf Main) Side refl
-    (one_stays c.cut.result log (g.V.Volume.state c.cut.new.self).log (CutTo Main c.args.end) Side refl (c.cut.ensures.done told) (c.cut.ensures.failed told)) (c.sync.ensures.done told) (c.sync.ensures.failed told)
+    next_stays c.sync.result log (g.V.Volume.state c.cut.new.self).log (g.V.Volume.state c.sync.new.self).log (SyncOf Main) other not
+    (one_stays c.cut.result log (g.V.Volume.state c.cut.new.self).log (CutTo Main c.args.end) other not (c.cut.ensures.done told) (c.cut.ensures.failed told)) (c.sync.ensures.done told) (c.sync.ensures.failed told)
 
 pub returns-in_err-sync-clause-any_moment : goal.returns-in_err-sync-clause-any_moment
 returns-in_err-sync-clause-any_moment g c = second g (goal.at.returns-in_err-sync-clause-any_moment g c).After-sync
 
-pub returns-in_err-sync-clause-side : goal.returns-in_err-sync-clause-side
-returns-in_err-sync-clause-side g c = second_side g (goal.at.returns-in_err-sync-clause-side g c).After-sync
+pub returns-in_err-sync-clause-others : goal.returns-in_err-sync-clause-others
+returns-in_err-sync-clause-others g c = second_others g (goal.at.returns-in_err-sync-clause-others g c).After-sync
 
 pub returns-clause-any_moment : goal.returns-clause-any_moment
 returns-clause-any_moment g c = second g (goal.at.returns-clause-any_moment g c).After-sync
 
-pub returns-clause-side : goal.returns-clause-side
-returns-clause-side g c = second_side g (goal.at.returns-clause-side g c).After-sync
+pub returns-clause-others : goal.returns-clause-others
+returns-clause-others g c = second_others g (goal.at.returns-clause-others g c).After-sync

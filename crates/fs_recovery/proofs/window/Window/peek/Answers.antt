@@ -1,6 +1,6 @@
 use Rattle.std.proofs.Common.{ℕ, ◌∙◌, ap, sym, take, drop}
 use Rattle.zb_volume.specs.Disk.{main_bytes}
-use Rattle.fs_recovery.proofs.Seen.{shown}
+use Rattle.fs_recovery.specs.Seen.{shown}
 use Rattle.fs_recovery.proofs.window.Window.peek.Goals as goal
 
 pub returns-then-covers-clause-bytes : goal.returns-then-covers-clause-bytes

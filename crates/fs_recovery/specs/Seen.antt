@@ -1,4 +1,4 @@
--- What a window shows.
+-- What a window shows, for the proofs of those who read through one.
 use Rattle.std.proofs.Common.{◌≡◌, ℕ, ◌+◌, ◌-◌, ◌≤◌, List, take, drop, sym, ap, ◌∙◌, arith}
 use Rattle.std.proofs.lemmas.List.{drop-drop, drop-take, take-take}
 use Rattle.fs_recovery.specs.Reading.{Holds, Covers}

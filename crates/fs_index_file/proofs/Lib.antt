@@ -1,0 +1,10 @@
+pub mod Changing
+pub mod Objects
+pub mod Numbering
+pub mod Summing
+pub mod Totals
+pub mod Saying
+pub mod Gates
+pub mod Scanning
+pub mod Takes
+pub mod Texts

@@ -1,0 +1,10 @@
+pub mod Counts
+pub mod Hints
+pub mod Honest
+pub mod HonestLaws
+pub mod Laws
+pub mod OrderLaws
+pub mod ReadBack
+pub mod Reads
+pub mod Scans
+pub mod Writes
