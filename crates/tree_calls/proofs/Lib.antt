@@ -1,2 +1,5 @@
+pub mod Refused
 pub mod Tracking
 mod Recalled
+pub mod Alike
+pub mod Setting

@@ -7,7 +7,7 @@ use Rattle.std.proofs.lemmas.List.Elements.{All-cons}
 use Rattle.pickle_graph.specs.Graph.{Graph}
 use Rattle.pickle_writing.specs.Spelling.{Spelled, pickled, spelling_of, pickle_text}
 use Rattle.zb_record.specs.Records.{object_text, one_behind}
-use Rattle.zb_model.specs.declared.pending.PendingStore.{PendingStore}
+use Rattle.tree_calls.specs.declared.put.TreePut.{TreePut}
 use Rattle.std.specs.declared.alloc.AllocError.{AllocError}
 use Rattle.zb_model.specs.declared.refusal.Refusal.{Refusal}
 use Rattle.btree_shapes.specs.declared.space.Call.{Call}
@@ -25,6 +25,7 @@ use Rattle.tree_calls.specs.declared.operation.TreeOperation.{TreeOperation}
 use Rattle.tree_calls.specs.Calls.{CallEnds, CallFails, IsAttempt, IsMade, IsRefused, IsWant, bases_of, contents_after, contents_of, has_members, oids_of, refusal_of, written_in}
 use Rattle.tree_calls.specs.Known.{Agrees, known_at}
 use Rattle.tree_calls.specs.Puts.{are_filled, based_on, serial_seen}
+use Rattle.tree_calls.proofs.Refused.{none_drawn}
 
 -- ---- calls
 
@@ -80,11 +81,11 @@ gives_more calls calls' numbers used oid drawn is there =
 
 -- ---- puts
 
-pub oids_more : (puts : List PendingStore) (p : PendingStore) → oids_of (puts ++ p ∷ []) ≡ oids_of puts ++ p.oid ∷ []
+pub oids_more : (puts : List TreePut) (p : TreePut) → oids_of (puts ++ p ∷ []) ≡ oids_of puts ++ p.oid ∷ []
 oids_more [] p = refl
 oids_more (q ∷ puts) p = ap (λ (os : List ℕ). q.oid ∷ os) (oids_more puts p)
 
-pub bases_more : (puts : List PendingStore) (p : PendingStore) → bases_of (puts ++ p ∷ []) ≡ bases_of puts ++ p.base ∷ []
+pub bases_more : (puts : List TreePut) (p : TreePut) → bases_of (puts ++ p ∷ []) ≡ bases_of puts ++ p.base ∷ []
 bases_more [] p = refl
 bases_more (q ∷ puts) p = ap (λ (os : List ℕ). q.base ∷ os) (bases_more puts p)
 
@@ -92,12 +93,12 @@ mapped_more : (f : ℕ → ℕ) (ns : List ℕ) (n : ℕ) → map f (ns ++ n ∷
 mapped_more f [] n = refl
 mapped_more f (k ∷ ns) n = ap (λ (os : List ℕ). f k ∷ os) (mapped_more f ns n)
 
-pub based_more : (f : ℕ → ℕ) (puts puts' : List PendingStore) (p : PendingStore) → bases_of puts ≡ map f (oids_of puts) → p.base ≡ f p.oid → puts' ≡ puts ++ p ∷ [] → bases_of puts' ≡ map f (oids_of puts')
+pub based_more : (f : ℕ → ℕ) (puts puts' : List TreePut) (p : TreePut) → bases_of puts ≡ map f (oids_of puts) → p.base ≡ f p.oid → puts' ≡ puts ++ p ∷ [] → bases_of puts' ≡ map f (oids_of puts')
 based_more f puts puts' p based base is =
-    subst (λ (qs : List PendingStore). bases_of qs ≡ map f (oids_of qs)) (sym is)
+    subst (λ (qs : List TreePut). bases_of qs ≡ map f (oids_of qs)) (sym is)
     (bases_more puts p ∙ ap (λ (bs : List ℕ). bs ++ p.base ∷ []) based ∙ ap (λ (b : ℕ). map f (oids_of puts) ++ b ∷ []) base ∙ sym (mapped_more f (oids_of puts) p.oid) ∙ ap (map f) (sym (oids_more puts p)))
 
-filled_behind : (p : PendingStore) → 0 < length p.bytes → (qs : List PendingStore) → are_filled qs ≡ true → are_filled (qs ++ p ∷ []) ≡ true
+filled_behind : (p : TreePut) → 0 < length p.bytes → (qs : List TreePut) → are_filled qs ≡ true → are_filled (qs ++ p ∷ []) ≡ true
 filled_behind p filled [] all = ap (λ (b : Bool). if b then true else false) (lt-ltb 0 (length p.bytes) filled)
 filled_behind p filled (q ∷ qs) all = by_first (nat_lt 0 (length q.bytes)) (filled_behind p filled qs) all
   where
@@ -105,19 +106,19 @@ filled_behind p filled (q ∷ qs) all = by_first (nat_lt 0 (length q.bytes)) (fi
     by_first true more rest = more rest
     by_first false more rest = absurd cc
 
-pub filled_more : (puts puts' : List PendingStore) (p : PendingStore) → are_filled puts ≡ true → 0 < length p.bytes → puts' ≡ puts ++ p ∷ [] → are_filled puts' ≡ true
-filled_more puts puts' p all filled is = subst (λ (qs : List PendingStore). are_filled qs ≡ true) (sym is) (filled_behind p filled puts all)
+pub filled_more : (puts puts' : List TreePut) (p : TreePut) → are_filled puts ≡ true → 0 < length p.bytes → puts' ≡ puts ++ p ∷ [] → are_filled puts' ≡ true
+filled_more puts puts' p all filled is = subst (λ (qs : List TreePut). are_filled qs ≡ true) (sym is) (filled_behind p filled puts all)
 
-pub contents_more : (puts : List PendingStore) (p : PendingStore) (contents : ℕ → Option (List ℕ)) → contents_after (puts ++ p ∷ []) contents ≡ with_bytes (contents_after puts contents) p.oid p.bytes
+pub contents_more : (puts : List TreePut) (p : TreePut) (contents : ℕ → Option (List ℕ)) → contents_after (puts ++ p ∷ []) contents ≡ with_bytes (contents_after puts contents) p.oid p.bytes
 contents_more [] p contents = refl
 contents_more (q ∷ puts) p contents = contents_more puts p (with_bytes contents q.oid q.bytes)
 
-pub all_filled : (puts : List PendingStore) → are_filled puts ≡ true → All (λ p. 0 < length p.bytes) puts
+pub all_filled : (puts : List TreePut) → are_filled puts ≡ true → All (λ p. 0 < length p.bytes) puts
 all_filled [] all = λ k d less. absurd (omega (arith, less))
 all_filled (p ∷ puts) all = by_first (nat_lt 0 (length p.bytes)) refl (all_filled puts) all
   where
     by_first : (b : Bool) → nat_lt 0 (length p.bytes) ≡ b → (are_filled puts ≡ true → All (λ q. 0 < length q.bytes) puts) → (if b then are_filled puts else false) ≡ true → All (λ q. 0 < length q.bytes) (p ∷ puts)
-    by_first true is others rest = All-cons (λ (q : PendingStore). 0 < length q.bytes) p puts (ltb-true 0 (length p.bytes) is) (others rest)
+    by_first true is others rest = All-cons (λ (q : TreePut). 0 < length q.bytes) p puts (ltb-true 0 (length p.bytes) is) (others rest)
     by_first false is others rest = absurd cc
 
 pub read_drawn : (calls calls' : List Call) (oid : ℕ) → calls' ≡ calls ++ Read oid ∷ [] → drawn_in calls' ≡ drawn_in calls
@@ -129,7 +130,7 @@ read_written calls calls' oid is = ap written_in is ∙ written_read calls oid
 pub wrote_drawn : (calls calls' : List Call) (oid : ℕ) → calls' ≡ calls ++ Wrote oid ∷ [] → drawn_in calls' ≡ drawn_in calls
 wrote_drawn calls calls' oid is = ap drawn_in is ∙ drawn_wrote calls oid
 
-pub wrote_written : (calls calls' : List Call) (puts puts' : List PendingStore) (p : PendingStore) → calls' ≡ calls ++ Wrote p.oid ∷ [] → puts' ≡ puts ++ p ∷ [] → written_in calls ≡ oids_of puts → written_in calls' ≡ oids_of puts'
+pub wrote_written : (calls calls' : List Call) (puts puts' : List TreePut) (p : TreePut) → calls' ≡ calls ++ Wrote p.oid ∷ [] → puts' ≡ puts ++ p ∷ [] → written_in calls ≡ oids_of puts → written_in calls' ≡ oids_of puts'
 wrote_written calls calls' puts puts' p is more written =
     ap written_in is ∙ written_wrote calls p.oid ∙ ap (λ (os : List ℕ). os ++ p.oid ∷ []) written ∙ sym (ap oids_of more ∙ oids_more puts p)
 
@@ -159,33 +160,35 @@ text_filled class state text is = spelled_filled (spelling_of class.nodes class.
 
 -- ---- what an attempt comes to
 
-fails_of : (before after : ℕ → Option (List ℕ)) (calls : List Call) (root : ℕ) (op : TreeOperation) (e : TreeError) (why : Refusal) → refusal_of e ≡ Some why → CallEnds before after calls root op (Err e) → CallFails before after calls root op e
-fails_of before after calls root op (error.NotATree oid) why is ends = ends
-fails_of before after calls root op (error.NodeMissing oid) why is ends = ends
-fails_of before after calls root op error.BadKey why is ends = ends
-fails_of before after calls root op (error.Refused r) why is ends = absurd cc
-fails_of before after calls root op error.Memory why is ends = absurd cc
+fails_of : (before after : ℕ → Option (List ℕ)) (calls : List Call) (root : ℕ) (op : TreeOperation) (supply : ℕ) (e : TreeError) (why : Refusal) → refusal_of e ≡ Some why → CallEnds before after calls root op supply (Err e) → CallFails before after calls root op e
+fails_of before after calls root op supply (error.NotATree oid) why is ends = ends
+fails_of before after calls root op supply (error.NodeMissing oid) why is ends = ends
+fails_of before after calls root op supply error.BadKey why is ends = ends
+fails_of before after calls root op supply (error.Refused r) why is ends = absurd cc
+fails_of before after calls root op supply error.Memory why is ends = absurd cc
 
-pub refused_by : (objects : ℕ → Option Seen) (root : ℕ) (op : TreeOperation) (numbers : List ℕ) (puts : List PendingStore) (calls : List Call) (e : TreeError) (why : Refusal) → Some why ≡ refusal_of e
-    → CallEnds (contents_of objects) (contents_after puts (contents_of objects)) calls root op (Err e) → drawn_in calls ≡ numbers → IsRefused objects root op numbers why
-refused_by objects root op numbers puts calls e why is ends drawn = record {
-  e = e;
-  told = sym is;
-  after = contents_after puts (contents_of objects);
-  calls = calls;
-  fails = fails_of (contents_of objects) (contents_after puts (contents_of objects)) calls root op e why (sym is) ends;
-  drawn = drawn;
-}
+pub refused_by : (objects : ℕ → Option Seen) (root : ℕ) (op : TreeOperation) (numbers : List ℕ) (supply : ℕ) (puts : List TreePut) (calls : List Call) (e : TreeError) (why : Refusal) → Some why ≡ refusal_of e
+    → CallEnds (contents_of objects) (contents_after puts (contents_of objects)) calls root op supply (Err e) → drawn_in calls ≡ numbers → IsRefused objects root op why × (numbers ≡ [])
+refused_by objects root op numbers supply puts calls e why is ends drawn =
+    let fails = fails_of (contents_of objects) (contents_after puts (contents_of objects)) calls root op supply e why (sym is) ends in
+    let none = none_drawn (contents_of objects) (contents_after puts (contents_of objects)) calls root op e why (sym is) fails in
+    (record { e = e; told = sym is; after = contents_after puts (contents_of objects); calls = calls; fails = fails; undrawn = none }, sym drawn ∙ none)
 
-pub want_attempt : (objects : ℕ → Option Seen) (root : ℕ) (op : TreeOperation) (numbers : List ℕ) (result : Result Attempt AllocError) → IfOk result (IsWant op) → IfOk result (IsAttempt objects root op numbers)
+pub refused_attempt : (objects : ℕ → Option Seen) (root : ℕ) (op : TreeOperation) (numbers : List ℕ) (supply : ℕ) (puts : List TreePut) (calls : List Call) (e : TreeError) (why : Refusal) (is_whole : Bool) (result : Result Attempt AllocError) → Some why ≡ refusal_of e
+    → CallEnds (contents_of objects) (contents_after puts (contents_of objects)) calls root op supply (Err e) → (is_whole ≡ true → drawn_in calls ≡ numbers) → IfOk result (λ a. (is_whole ≡ true) × (a ≡ attempt.Refused why)) → IfOk result (IsAttempt objects root op numbers)
+refused_attempt objects root op numbers supply puts calls e why is_whole (Ok a) is ends drawn same =
+    subst (IsAttempt objects root op numbers) (sym same.1) (refused_by objects root op numbers supply puts calls e why is ends (drawn same.0))
+refused_attempt objects root op numbers supply puts calls e why is_whole (Err x) is ends drawn same = tt
+
+pub want_attempt : (objects : ℕ → Option Seen) (root : ℕ) (op : TreeOperation) (numbers : List ℕ) (result : Result Attempt AllocError) → IfOk result (IsWant numbers) → IfOk result (IsAttempt objects root op numbers)
 want_attempt objects root op numbers (Ok (attempt.Made made)) want = absurd want
 want_attempt objects root op numbers (Ok (attempt.Refused why)) want = absurd want
-want_attempt objects root op numbers (Ok (attempt.WantsObject oid)) want = tt
-want_attempt objects root op numbers (Ok attempt.WantsNumber) want = want
+want_attempt objects root op numbers (Ok (attempt.WantsObject oid)) want = want
+want_attempt objects root op numbers (Ok attempt.WantsNumber) want = absurd want
 want_attempt objects root op numbers (Err e) want = tt
 
-pub made_by : (objects : ℕ → Option Seen) (root : ℕ) (op : TreeOperation) (numbers : List ℕ) (puts : List PendingStore) (calls : List Call) (a : TreeAnswer) → CallEnds (contents_of objects) (contents_after puts (contents_of objects)) calls root op (Ok a)
+pub made_by : (objects : ℕ → Option Seen) (root : ℕ) (op : TreeOperation) (numbers : List ℕ) (supply : ℕ) (puts : List TreePut) (calls : List Call) (a : TreeAnswer) → CallEnds (contents_of objects) (contents_after puts (contents_of objects)) calls root op supply (Ok (Some a))
     → drawn_in calls ≡ numbers → written_in calls ≡ oids_of puts → bases_of puts ≡ map (based_on numbers objects) (oids_of puts) → are_filled puts ≡ true
     → IsMade objects root op numbers a puts × All (λ p. 0 < length p.bytes) puts
-made_by objects root op numbers puts calls a ends drawn written based filled =
+made_by objects root op numbers supply puts calls a ends drawn written based filled =
     (record { calls = calls; answers = ends; drawn = drawn; written = written; based = based }, all_filled puts filled)

@@ -1,5 +1,5 @@
 -- What calls on trees refuse. For the proofs of those who make them.
-use Rattle.std.proofs.Common.{◌≡◌, ℕ, List, Option, Some, subst}
+use Rattle.std.proofs.Common.{◌≡◌, ℕ, Option, Some, subst}
 use Rattle.zb_model.specs.declared.refusal.Refusal.{Refusal}
 use Rattle.zb_model.specs.declared.refusal.Refusal.TheVariants as refusal
 use Rattle.btree_shapes.specs.declared.error.TreeError.{TreeError}
@@ -19,6 +19,6 @@ by_error P (error.Refused r) why foreign missing bad is = absurd cc
 by_error P error.Memory why foreign missing bad is = absurd cc
 
 -- a tree refuses a call as NotATree, NodeMissing or BadKey
-pub refused_as : (P : Refusal → Type 0) (objects : ℕ → Option Seen) (root : ℕ) (op : TreeOperation) (numbers : List ℕ) (why : Refusal) → ((oid : ℕ) → P (refusal.NotATree oid)) → ((oid : ℕ) → P (refusal.NodeMissing oid)) → P refusal.BadKey
-    → IsRefused objects root op numbers why → P why
-refused_as P objects root op numbers why foreign missing bad is = by_error P is.e why foreign missing bad is.told
+pub refused_as : (P : Refusal → Type 0) (objects : ℕ → Option Seen) (root : ℕ) (op : TreeOperation) (why : Refusal) → ((oid : ℕ) → P (refusal.NotATree oid)) → ((oid : ℕ) → P (refusal.NodeMissing oid)) → P refusal.BadKey
+    → IsRefused objects root op why → P why
+refused_as P objects root op why foreign missing bad is = by_error P is.e why foreign missing bad is.told

@@ -1,7 +1,7 @@
 -- What calls on a tree answer, draw and put, over the objects that a client sees. Own.
 use Rattle.std.specs.Prelude.{◌≡◌, ◌<◌, ℕ, Bool, true, false, List, [], ◌∷◌, map, length, All, Option, Some, None, Result, Ok, Err}
 use Rattle.std.specs.Option.{option_map, option_map_or}
-use Rattle.zb_model.specs.declared.pending.PendingStore.{PendingStore}
+use Rattle.tree_calls.specs.declared.put.TreePut.{TreePut}
 use Rattle.zb_model.specs.declared.refusal.Refusal.{Refusal}
 use Rattle.zb_model.specs.declared.refusal.Refusal.TheVariants as refusal
 use Rattle.btree_family.specs.declared.table.Kind.{Kind}
@@ -12,12 +12,13 @@ use Rattle.btree_shapes.specs.declared.error.TreeError.{TreeError}
 use Rattle.btree_shapes.specs.declared.error.TreeError.TheVariants as error
 use Rattle.btree_shapes.specs.Nodes.{class_held}
 use Rattle.btree_shapes.specs.Spaces.{with_bytes}
-use Rattle.btree_shapes.specs.Ways.{OnlyReads, value_under}
+use Rattle.btree_shapes.specs.Met.{ReadsFirst, met_for}
+use Rattle.btree_shapes.specs.Ways.{value_under}
 use Rattle.btree_setting.specs.declared.preparing.Sizes.{Sizes}
-use Rattle.btree_setting.specs.Ends.{Sets}
+use Rattle.btree_setting.specs.Ends.{Needs, Sets}
 use Rattle.btree_removing.specs.Ends.{Removes}
 use Rattle.btree_nodes.specs.Drawn.{drawn_in}
-use Rattle.btree_nodes.specs.Visits.{items_under, range_under}
+use Rattle.btree_nodes.specs.Visits.{items_met, items_under, range_met, range_under}
 use Rattle.tree_calls.specs.declared.known.Seen.{Seen}
 use Rattle.tree_calls.specs.declared.attempt.Attempt.{Attempt}
 use Rattle.tree_calls.specs.declared.attempt.Attempt.TheVariants as attempt
@@ -33,14 +34,14 @@ abbrev pub contents_of : (ℕ → Option Seen) → ℕ → Option (List ℕ)
 contents_of objects oid = option_map (λ seen. seen.bytes) (objects oid)
 
 -- the contents behind these puts, one after another
-abbrev pub contents_after : List PendingStore → (ℕ → Option (List ℕ)) → ℕ → Option (List ℕ)
+abbrev pub contents_after : List TreePut → (ℕ → Option (List ℕ)) → ℕ → Option (List ℕ)
 contents_after [] contents = contents
 contents_after (p ∷ puts) contents = contents_after puts (with_bytes contents p.oid p.bytes)
 
-abbrev pub oids_of : List PendingStore → List ℕ
+abbrev pub oids_of : List TreePut → List ℕ
 oids_of puts = map (λ p. p.oid) puts
 
-abbrev pub bases_of : List PendingStore → List ℕ
+abbrev pub bases_of : List TreePut → List ℕ
 bases_of puts = map (λ p. p.base) puts
 
 -- the objects that calls put, in their order
@@ -64,23 +65,39 @@ is_set_kind kinds.TreeSet = true
 abbrev pub has_members : Option (List ℕ) → Bool
 has_members content = option_map_or (λ class. is_set_kind class.kind) (class_held content) false
 
+-- ---- the numbers that a call needs
+
+-- A call makes so many new objects, and all that it puts can be written. Only calls that set a key make some.
+abbrev pub NeedsNumbers : (ℕ → Option (List ℕ)) → ℕ → TreeOperation → ℕ → Type 0
+NeedsNumbers contents root (operation.Get key) count = ⊥
+NeedsNumbers contents root (operation.Set key value) count = Needs contents root sizes key value count
+NeedsNumbers contents root (operation.Remove key) count = ⊥
+NeedsNumbers contents root operation.Items count = ⊥
+NeedsNumbers contents root (operation.Range from to) count = ⊥
+
+-- so many numbers are fewer than a call needs
+pub record LacksNumbers (contents : ℕ → Option (List ℕ)) (root : ℕ) (op : TreeOperation) (supply : ℕ) : Type 0 where
+  pub count : ℕ
+  pub needs : NeedsNumbers contents root op count
+  pub more : supply < count
+
 -- ---- a call that is answered
 
--- What a call answers, over the contents before it; with the contents that its puts leave, and its calls of the space. Only
--- set and remove put something.
+-- What a call answers, over the contents before it; with the contents that its puts leave, and its calls of the space. It reads
+-- only objects on its way, each where it stands. Only set and remove put something.
 abbrev pub CallAnswers : (ℕ → Option (List ℕ)) → (ℕ → Option (List ℕ)) → List Call → ℕ → TreeOperation → TreeAnswer → Type 0
-CallAnswers before after calls root (operation.Get key) (answer.Value value) = (value_under before root key ≡ Ok value) × OnlyReads [] calls
+CallAnswers before after calls root (operation.Get key) (answer.Value value) = (value_under before root key ≡ Ok value) × ReadsFirst (met_for before root key) [] calls
 CallAnswers before after calls root (operation.Set key value) answer.Set = Sets (Unit {0}) before after [] calls root sizes key value (Ok _)
 CallAnswers before after calls root (operation.Remove key) (answer.Removed was) = Removes (Unit {0}) before after [] calls root key (Ok was)
 CallAnswers before after calls root operation.Items (answer.Items list is_set) =
-    (items_under before root ≡ Ok list) × (is_set ≡ has_members (before root)) × OnlyReads [] calls
+    (items_under before root ≡ Ok list) × (is_set ≡ has_members (before root)) × ReadsFirst (items_met before root) [] calls
 CallAnswers before after calls root (operation.Range from to) (answer.Items list is_set) =
-    (range_under before root from to ≡ Ok list) × (is_set ≡ has_members (before root)) × OnlyReads [] calls
+    (range_under before root from to ≡ Ok list) × (is_set ≡ has_members (before root)) × ReadsFirst (range_met before root from to) [] calls
 CallAnswers before after calls root _ _ = ⊥
 
 -- A call over these objects, for which these numbers were drawn: it answers this, and puts this in this order, each made from
 -- what the object had, or from nothing where it is new.
-pub record IsMade (objects : ℕ → Option Seen) (root : ℕ) (op : TreeOperation) (numbers : List ℕ) (a : TreeAnswer) (puts : List PendingStore) : Type 0 where
+pub record IsMade (objects : ℕ → Option Seen) (root : ℕ) (op : TreeOperation) (numbers : List ℕ) (a : TreeAnswer) (puts : List TreePut) : Type 0 where
   pub calls : List Call
   pub answers : CallAnswers (contents_of objects) (contents_after puts (contents_of objects)) calls root op a
   pub drawn : drawn_in calls ≡ numbers
@@ -97,51 +114,49 @@ refusal_of error.BadKey = Some refusal.BadKey
 refusal_of (error.Refused why) = None
 refusal_of error.Memory = None
 
+-- what a call is refused over the contents before it: it has read the first objects on its way, and nothing else
 abbrev pub CallFails : (ℕ → Option (List ℕ)) → (ℕ → Option (List ℕ)) → List Call → ℕ → TreeOperation → TreeError → Type 0
-CallFails before after calls root (operation.Get key) e = (value_under before root key ≡ Err e) × OnlyReads [] calls
+CallFails before after calls root (operation.Get key) e = (value_under before root key ≡ Err e) × ReadsFirst (met_for before root key) [] calls
 CallFails before after calls root (operation.Set key value) e = Sets (Unit {0}) before after [] calls root sizes key value (Err e)
 CallFails before after calls root (operation.Remove key) e = Removes (Unit {0}) before after [] calls root key (Err e)
-CallFails before after calls root operation.Items e = (items_under before root ≡ Err e) × OnlyReads [] calls
-CallFails before after calls root (operation.Range from to) e = (range_under before root from to ≡ Err e) × OnlyReads [] calls
+CallFails before after calls root operation.Items e = (items_under before root ≡ Err e) × ReadsFirst (items_met before root) [] calls
+CallFails before after calls root (operation.Range from to) e = (range_under before root from to ≡ Err e) × ReadsFirst (range_met before root from to) [] calls
 
--- a call over these objects, for which these numbers were drawn, is refused so
-pub record IsRefused (objects : ℕ → Option Seen) (root : ℕ) (op : TreeOperation) (numbers : List ℕ) (why : Refusal) : Type 0 where
+-- a call over these objects is refused so, and has drawn no number
+pub record IsRefused (objects : ℕ → Option Seen) (root : ℕ) (op : TreeOperation) (why : Refusal) : Type 0 where
   pub e : TreeError
   pub told : refusal_of e ≡ Some why
   pub after : ℕ → Option (List ℕ)
   pub calls : List Call
   pub fails : CallFails (contents_of objects) after calls root op e
-  pub drawn : drawn_in calls ≡ numbers
+  pub undrawn : drawn_in calls ≡ []
 
 -- ---- attempts
 
--- how a call ends: it is answered or refused, or memory ran out
-abbrev pub CallEnds : (ℕ → Option (List ℕ)) → (ℕ → Option (List ℕ)) → List Call → ℕ → TreeOperation → Result TreeAnswer TreeError → Type 0
-CallEnds before after calls root op (Ok a) = CallAnswers before after calls root op a
-CallEnds before after calls root op (Err (error.NotATree oid)) = CallFails before after calls root op (error.NotATree oid)
-CallEnds before after calls root op (Err (error.NodeMissing oid)) = CallFails before after calls root op (error.NodeMissing oid)
-CallEnds before after calls root op (Err error.BadKey) = CallFails before after calls root op error.BadKey
-CallEnds before after calls root op (Err (error.Refused why)) = Unit {0}
-CallEnds before after calls root op (Err error.Memory) = Unit {0}
+-- how a call ends for which so many numbers were drawn: it is answered, it needs more numbers, it is refused, or memory ran out
+abbrev pub CallEnds : (ℕ → Option (List ℕ)) → (ℕ → Option (List ℕ)) → List Call → ℕ → TreeOperation → ℕ → Result (Option TreeAnswer) TreeError → Type 0
+CallEnds before after calls root op supply (Ok (Some a)) = CallAnswers before after calls root op a
+CallEnds before after calls root op supply (Ok None) = LacksNumbers before root op supply
+CallEnds before after calls root op supply (Err (error.NotATree oid)) = CallFails before after calls root op (error.NotATree oid)
+CallEnds before after calls root op supply (Err (error.NodeMissing oid)) = CallFails before after calls root op (error.NodeMissing oid)
+CallEnds before after calls root op supply (Err error.BadKey) = CallFails before after calls root op error.BadKey
+CallEnds before after calls root op supply (Err (error.Refused why)) = Unit {0}
+CallEnds before after calls root op supply (Err error.Memory) = Unit {0}
 
--- a call may take numbers for new objects: those that set a key may
-abbrev pub takes_numbers : TreeOperation → Bool
-takes_numbers (operation.Set key value) = true
-takes_numbers _ = false
-
--- how an attempt ends: the call is answered or refused, or something is wanted first, a number only where the call may take some
+-- How an attempt ends: the call is answered or refused, or something is wanted first. An object is wanted before any number is
+-- drawn, and so a refusal comes; a number only where the call needs more than there are.
 abbrev pub IsAttempt : (ℕ → Option Seen) → ℕ → TreeOperation → List ℕ → Attempt → Type 0
 IsAttempt objects root op numbers (attempt.Made made) = IsMade objects root op numbers made.answer made.puts × All (λ p. 0 < length p.bytes) made.puts
-IsAttempt objects root op numbers (attempt.Refused why) = IsRefused objects root op numbers why
-IsAttempt objects root op numbers (attempt.WantsObject oid) = Unit {0}
-IsAttempt objects root op numbers attempt.WantsNumber = takes_numbers op ≡ true
+IsAttempt objects root op numbers (attempt.Refused why) = IsRefused objects root op why × (numbers ≡ [])
+IsAttempt objects root op numbers (attempt.WantsObject oid) = numbers ≡ []
+IsAttempt objects root op numbers attempt.WantsNumber = LacksNumbers (contents_of objects) root op (length numbers)
 
--- something is wanted first
-abbrev pub IsWant : TreeOperation → Attempt → Type 0
-IsWant op (attempt.Made made) = ⊥
-IsWant op (attempt.Refused why) = ⊥
-IsWant op (attempt.WantsObject oid) = Unit {0}
-IsWant op attempt.WantsNumber = takes_numbers op ≡ true
+-- an object is wanted first, and no number was drawn
+abbrev pub IsWant : List ℕ → Attempt → Type 0
+IsWant numbers (attempt.Made made) = ⊥
+IsWant numbers (attempt.Refused why) = ⊥
+IsWant numbers (attempt.WantsObject oid) = numbers ≡ []
+IsWant numbers attempt.WantsNumber = ⊥
 
 -- an object that is wanted first isn't known yet
 abbrev pub IsWanted : List (ℕ × Option Seen) → Attempt → Type 0

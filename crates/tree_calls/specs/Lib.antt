@@ -2,3 +2,4 @@ pub mod Known
 pub mod Puts
 pub mod Calls
 pub mod CallLaws
+pub mod Laws

@@ -2,7 +2,7 @@
 use Rattle.std.specs.Prelude.{ℕ, Bool, true, false, List, [], ◌∷◌, Option, length, nat_lt, if◌then◌else◌}
 use Rattle.std.specs.Option.{option_map_or}
 use Rattle.btree_shapes.specs.Ways.{stands_in}
-use Rattle.zb_model.specs.declared.pending.PendingStore.{PendingStore}
+use Rattle.tree_calls.specs.declared.put.TreePut.{TreePut}
 use Rattle.tree_calls.specs.declared.known.Seen.{Seen}
 
 -- the serial of an object, or 0 where it has nothing
@@ -14,6 +14,6 @@ abbrev pub based_on : List ℕ → (ℕ → Option Seen) → ℕ → ℕ
 based_on numbers objects oid = if stands_in numbers oid then 0 else serial_seen (objects oid)
 
 -- each of the puts has bytes
-abbrev pub are_filled : List PendingStore → Bool
+abbrev pub are_filled : List TreePut → Bool
 are_filled [] = true
 are_filled (p ∷ puts) = if nat_lt 0 (length p.bytes) then are_filled puts else false

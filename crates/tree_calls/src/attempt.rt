@@ -1,6 +1,6 @@
 //! An attempt at a call.
 
-ghost use Rattle.std.specs.Prelude.{◌≡◌, [], ℕ, Option, IfOk, Some, map, true};
+ghost use Rattle.std.specs.Prelude.{◌≡◌, [], ℕ, Option, IfOk, Some, length, map, true};
 ghost use Rattle.std.specs.Option.{option_map};
 ghost use Rattle.btree_nodes.specs.Drawn.{drawn_in};
 ghost use Rattle.btree_shapes.specs.Spaces.{handed_on};
@@ -13,15 +13,17 @@ ghost use Rattle.tree_calls.specs.Puts.{are_filled, based_on};
 use crate::cache::NodeCache;
 use crate::known::{Known, Seen};
 use crate::operation::{TreeAnswer, TreeOperation};
+use crate::put::TreePut;
 use crate::sight::Sight;
-use crate::space::{KnownSpace, Lack};
+use crate::space::KnownSpace;
 use btree_family::{Key, Kind};
 use btree_nodes::Tree;
+use btree_setting::SetEnd;
 use btree_shapes::{Call, TreeError, class_of};
 use std::alloc::{AllocError, Global};
 use std::marker::PhantomData;
 use zb_ids::{ListOf, Oid, Text8};
-use zb_model::{PendingStore, Refusal};
+use zb_model::Refusal;
 use zb_record::{RecordError, read_record};
 
 /// A call that is answered.
@@ -30,7 +32,7 @@ pub struct Made {
     /// The answer.
     pub answer: TreeAnswer,
     /// What it puts, in this order; each has bytes.
-    pub puts: ListOf<PendingStore>,
+    pub puts: ListOf<TreePut>,
 }
 
 /// How an attempt at a call ends.
@@ -51,7 +53,7 @@ pub enum Attempt {
         /// The object.
         oid: Oid,
     },
-    /// One more number has to be drawn first.
+    /// One more number has to be drawn first: all objects were read, and the call needs more numbers than there are.
     WantsNumber,
 }
 
@@ -113,62 +115,70 @@ fn value_of<B: Sight>(
     space: &mut KnownSpace<B>,
     root: Oid,
     key: &Key,
-) -> Result<TreeAnswer, TreeError>
+) -> Result<Option<TreeAnswer>, TreeError>
     requires fresh { space.old.calls.items ≡ [] }
     requires empty { space.old.puts ≡ [] }
     ensures ends { CallEnds (contents_of B.objects) (contents_after space.new.puts (contents_of B.objects)) space.new.calls.items
-        root (TreeOperation.Get key.now) result }
+        root (TreeOperation.Get key.now) (length space.old.numbers.now) result }
     ensures own { handed_on result ≡ [] }
 {
     let alloc = space.alloc;
     let value = tree_at(root).get(alloc, space, key)?;
-    Ok(TreeAnswer::Value(value))
+    Ok(Some(TreeAnswer::Value(value)))
 }
 
+#[tactic(auto, using(crate::proofs::Setting::set_done, crate::proofs::Setting::set_lacks, crate::proofs::Setting::set_ended))]
 fn set_value<B: Sight>(
     space: &mut KnownSpace<B>,
     root: Oid,
     key: Key,
     value: Option<Text8>,
-) -> Result<TreeAnswer, TreeError>
+) -> Result<Option<TreeAnswer>, TreeError>
     requires fresh { space.old.calls.items ≡ [] }
     requires empty { space.old.puts ≡ [] }
     ensures ends { CallEnds (contents_of B.objects) (contents_after space.new.puts (contents_of B.objects)) space.new.calls.items
-        root (TreeOperation.Set key value) result }
+        root (TreeOperation.Set key value) (length space.old.numbers.now) result }
     ensures own { handed_on result ≡ [] }
 {
     let alloc = space.alloc;
-    tree_at(root).set(alloc, space, key, value)?;
-    Ok(TreeAnswer::Set)
+    let supply = space.numbers.len();
+    let ended = tree_at(root).set_within(alloc, space, key, value, supply)?;
+    match ended {
+        SetEnd::Done => Ok(Some(TreeAnswer::Set)),
+        SetEnd::Lacks => Ok(None),
+    }
 }
 
 fn remove_key<B: Sight>(
     space: &mut KnownSpace<B>,
     root: Oid,
     key: &Key,
-) -> Result<TreeAnswer, TreeError>
+) -> Result<Option<TreeAnswer>, TreeError>
     requires fresh { space.old.calls.items ≡ [] }
     requires empty { space.old.puts ≡ [] }
     ensures ends { CallEnds (contents_of B.objects) (contents_after space.new.puts (contents_of B.objects)) space.new.calls.items
-        root (TreeOperation.Remove key.now) result }
+        root (TreeOperation.Remove key.now) (length space.old.numbers.now) result }
     ensures own { handed_on result ≡ [] }
 {
     let alloc = space.alloc;
     let was = tree_at(root).remove(alloc, space, key)?;
-    Ok(TreeAnswer::Removed { was })
+    Ok(Some(TreeAnswer::Removed { was }))
 }
 
-fn all_items<B: Sight>(space: &mut KnownSpace<B>, root: Oid) -> Result<TreeAnswer, TreeError>
+fn all_items<B: Sight>(
+    space: &mut KnownSpace<B>,
+    root: Oid,
+) -> Result<Option<TreeAnswer>, TreeError>
     requires fresh { space.old.calls.items ≡ [] }
     requires empty { space.old.puts ≡ [] }
     ensures ends { CallEnds (contents_of B.objects) (contents_after space.new.puts (contents_of B.objects)) space.new.calls.items
-        root TreeOperation.Items result }
+        root TreeOperation.Items (length space.old.numbers.now) result }
     ensures own { handed_on result ≡ [] }
 {
     let alloc = space.alloc;
     let list = tree_at(root).items(alloc, space)?;
     let is_set = root_has_members(alloc, space.known, root)?;
-    Ok(TreeAnswer::Items { list, is_set })
+    Ok(Some(TreeAnswer::Items { list, is_set }))
 }
 
 fn items_between<B: Sight>(
@@ -176,36 +186,46 @@ fn items_between<B: Sight>(
     root: Oid,
     from: &Key,
     to: &Key,
-) -> Result<TreeAnswer, TreeError>
+) -> Result<Option<TreeAnswer>, TreeError>
     requires fresh { space.old.calls.items ≡ [] }
     requires empty { space.old.puts ≡ [] }
     ensures ends { CallEnds (contents_of B.objects) (contents_after space.new.puts (contents_of B.objects)) space.new.calls.items
-        root (TreeOperation.Range from.now to.now) result }
+        root (TreeOperation.Range from.now to.now) (length space.old.numbers.now) result }
     ensures own { handed_on result ≡ [] }
 {
     let alloc = space.alloc;
     let list = tree_at(root).range(alloc, space, from, to)?;
     let is_set = root_has_members(alloc, space.known, root)?;
-    Ok(TreeAnswer::Items { list, is_set })
+    Ok(Some(TreeAnswer::Items { list, is_set }))
 }
 
-/// Makes a call over what is known.
+/// A copy of a value, if there is one.
+fn copy_value(value: &Option<Text8>) -> Result<Option<Text8>, AllocError>
+    ensures { IfOk result (λ copy. copy ≡ value.now) }
+{
+    match value {
+        Some(text) => Ok(Some(text.clone()?)),
+        None => Ok(None),
+    }
+}
+
+/// Makes a call over what is known. `None` is answered where it needs more numbers.
 fn operate<B: Sight>(
     space: &mut KnownSpace<B>,
     root: Oid,
     operation: &TreeOperation,
-) -> Result<TreeAnswer, TreeError>
+) -> Result<Option<TreeAnswer>, TreeError>
     requires fresh { space.old.calls.items ≡ [] }
     requires empty { space.old.puts ≡ [] }
     ensures ends { CallEnds (contents_of B.objects) (contents_after space.new.puts (contents_of B.objects)) space.new.calls.items
-        root operation.now result }
+        root operation.now (length space.old.numbers.now) result }
     ensures own { handed_on result ≡ [] }
 {
     match operation {
         TreeOperation::Get { key } => value_of(space, root, key),
         TreeOperation::Set { key, value } => {
             let key = key.clone()?;
-            let value = value.clone()?;
+            let value = copy_value(value)?;
             set_value(space, root, key, value)
         }
         TreeOperation::Remove { key } => remove_key(space, root, key),
@@ -214,48 +234,21 @@ fn operate<B: Sight>(
     }
 }
 
-/// Whether a call may take numbers for new objects.
-fn takes_numbers(operation: &TreeOperation) -> bool
-    ensures { result ≡ Calls.takes_numbers operation.now }
-{
-    match operation {
-        TreeOperation::Set { .. } => true,
-        _ => false,
-    }
-}
-
-/// An object that is to be read for a call, where it isn't known yet.
-fn wanted_object(known: &Known, oid: Oid, _operation: &TreeOperation) -> Result<Attempt, AllocError>
-    ensures want { IfOk result (IsWant _operation.now) }
+/// What is to be read for a call that ended as for want of memory: an object that isn't known yet. Objects are read before a number
+/// is drawn.
+fn wanted(known: &Known, numbers: &[Oid], lacked: Option<Oid>) -> Result<Attempt, AllocError>
+    ensures want { IfOk result (IsWant numbers.now) }
     ensures wants { IfOk result (IsWanted known.now) }
 {
+    let Some(oid) = lacked else {
+        return Err(AllocError);
+    };
+    if numbers.len() > 1 {
+        return Err(AllocError);
+    }
     match known.find(oid) {
         Some(_) => Err(AllocError),
         None => Ok(Attempt::WantsObject { oid }),
-    }
-}
-
-/// A number that is to be drawn for a call, where it may take one.
-fn wanted_number(_known: &Known, operation: &TreeOperation) -> Result<Attempt, AllocError>
-    ensures want { IfOk result (IsWant operation.now) }
-    ensures wants { IfOk result (IsWanted _known.now) }
-{
-    if takes_numbers(operation) {
-        Ok(Attempt::WantsNumber)
-    } else {
-        Err(AllocError)
-    }
-}
-
-/// What an attempt at a call lacked that ended as for want of memory.
-fn wanted(known: &Known, lack: Lack, operation: &TreeOperation) -> Result<Attempt, AllocError>
-    ensures want { IfOk result (IsWant operation.now) }
-    ensures wants { IfOk result (IsWanted known.now) }
-{
-    match lack {
-        Lack::Object(oid) => wanted_object(known, oid, operation),
-        Lack::Number => wanted_number(known, operation),
-        Lack::Nothing => Err(AllocError),
     }
 }
 
@@ -283,46 +276,53 @@ fn refused_if(is_whole: bool, why: Refusal) -> Result<Attempt, AllocError>
 }
 
 /// How an attempt ends that was answered so, with these calls of the space; whether it took each of the numbers.
-#[tactic(auto, using(crate::proofs::Tracking::refused_by, crate::proofs::Tracking::want_attempt, crate::proofs::Tracking::made_by))]
+#[tactic(auto, using(crate::proofs::Tracking::want_attempt))]
 fn end<B: Sight>(
     is_whole: bool,
-    puts: ListOf<PendingStore>,
-    lack: Lack,
+    puts: ListOf<TreePut>,
+    lacked: Option<Oid>,
     known: &Known,
+    numbers: &[Oid],
     _calls: &[Call],
     _root: Oid,
-    operation: &TreeOperation,
-    answered: Result<TreeAnswer, TreeError>,
+    _operation: &TreeOperation,
+    answered: Result<Option<TreeAnswer>, TreeError>,
 ) -> Result<Attempt, AllocError>
+    requires numbered { numbers.now ≡ B.numbers }
     requires whole { is_whole ≡ true → drawn_in _calls.now ≡ B.numbers }
     requires written { written_in _calls.now ≡ oids_of puts }
     requires based { bases_of puts ≡ map (based_on B.numbers B.objects) (oids_of puts) }
     requires filled { are_filled puts ≡ true }
-    requires ends { CallEnds (contents_of B.objects) (contents_after puts (contents_of B.objects)) _calls.now _root operation.now
-        answered }
-    ensures attempt { IfOk result (IsAttempt B.objects _root operation.now B.numbers) }
+    requires ends { CallEnds (contents_of B.objects) (contents_after puts (contents_of B.objects)) _calls.now _root
+        _operation.now (length numbers.now) answered }
+    ensures attempt { IfOk result (IsAttempt B.objects _root _operation.now B.numbers) }
     ensures wants { IfOk result (IsWanted known.now) }
 {
     match answered {
-        Ok(answer) => {
-            if is_whole {
-                Ok(Attempt::Made(Made { answer, puts }))
-            } else {
-                Err(AllocError)
+        Ok(given) => match given {
+            Some(answer) => {
+                if is_whole {
+                    Ok(Attempt::Made(Made { answer, puts }))
+                } else {
+                    Err(AllocError)
+                }
             }
-        }
+            None => Ok(Attempt::WantsNumber),
+        },
         Err(error) => match refusal_of(error) {
             Some(why) => refused_if(is_whole, why),
-            None => wanted(known, lack, operation),
+            None => wanted(known, numbers, lacked),
         },
     }
 }
 
 /// Attempts a call on the tree with this root, over what is known and with the numbers that were drawn: it is answered or
-/// refused, or tells what has to be read or drawn before it is made again. `_whose` and `_changes` are what the objects
-/// belong to; only proofs look at them. `cache` spares the reading of bytes that were read before; it changes no answer. The
-/// one error is want of memory; it also comes where a call that is made again takes fewer of the numbers than were drawn for
-/// it, or lacks an object that is known, or a number and isn't one that sets a key, which no call does.
+/// refused, or tells what has to be read or drawn before it is made again: an object before any number is drawn, and a number
+/// only where the call needs more than there are. `_whose` and `_changes` are what the objects belong to; only proofs look at
+/// them. `cache` spares the reading of bytes that were read before; it changes no answer. The one error is want of memory; it
+/// also comes where a call takes fewer of the numbers than were drawn for it, or lacks an object that is known, or one once
+/// numbers were drawn. None of this comes up, since a call that is made again over the same objects draws as many numbers
+/// (`calls_draw_alike`) and reads nothing else.
 pub fn call_tree<B: Sight, W, V>(
     alloc: Global,
     _whose: &W,
@@ -346,7 +346,7 @@ pub fn call_tree<B: Sight, W, V>(
         used: 0,
         puts: ListOf::new(alloc),
         calls: Vec::new(alloc),
-        lack: Lack::Nothing,
+        lacked: None,
         of: PhantomData,
     };
     let answered = operate(&mut space, root, operation);
@@ -354,15 +354,16 @@ pub fn call_tree<B: Sight, W, V>(
         used,
         puts,
         calls,
-        lack,
+        lacked,
         ..
     } = space;
     let is_whole = used == numbers.len();
     end::<B>(
         is_whole,
         puts,
-        lack,
+        lacked,
         known,
+        numbers,
         calls.as_slice(),
         root,
         operation,

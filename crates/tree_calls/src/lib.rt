@@ -5,7 +5,9 @@ mod ahead;
 mod attempt;
 mod cache;
 mod known;
+mod laws;
 mod operation;
+mod put;
 mod sight;
 mod space;
 
@@ -13,5 +15,7 @@ pub use ahead::objects_ahead;
 pub use attempt::{Attempt, Made, call_tree};
 pub use cache::NodeCache;
 pub use known::{Known, Seen};
+pub use laws::calls_draw_alike;
 pub use operation::{INNER, LEAF, TreeAnswer, TreeOperation};
+pub use put::TreePut;
 pub use sight::Sight;

@@ -14,28 +14,17 @@ ghost use Rattle.tree_calls.specs.Puts.{are_filled, based_on};
 
 use crate::cache::NodeCache;
 use crate::known::{Known, Seen};
+use crate::put::TreePut;
 use crate::sight::Sight;
 use btree_family::ClassRow;
 use btree_shapes::{Call, Entry, Recalled, Space, SpaceError};
 use std::alloc::{AllocError, Global};
 use std::marker::PhantomData;
 use zb_ids::{ListOf, Oid, Text8, Tid};
-use zb_model::PendingStore;
 use zb_record::{ObjectRecord, RecordError, read_record, write_record};
 
-/// What a call lacked.
-#[derive(Clone, Copy, Debug, PartialEq, Eq)]
-pub(crate) enum Lack {
-    /// Nothing but memory.
-    Nothing,
-    /// An object that isn't known yet.
-    Object(Oid),
-    /// A number for a new object.
-    Number,
-}
-
-/// The objects that are known, with what the call puts over them, and the numbers that it may give to new ones. Where it
-/// lacks something, the call ends as for want of memory.
+/// The objects that are known, with what the call puts over them, and the numbers that it may give to new ones. Where an object
+/// isn't known, the call ends as for want of memory.
 #[derive(Drop)]
 pub(crate) struct KnownSpace<'a, B: Sight> {
     pub alloc: Global,
@@ -44,9 +33,10 @@ pub(crate) struct KnownSpace<'a, B: Sight> {
     pub numbers: &'a [Oid],
     /// How many of the numbers were given.
     pub used: usize,
-    pub puts: ListOf<PendingStore>,
+    pub puts: ListOf<TreePut>,
     pub calls: Vec<Call>,
-    pub lack: Lack,
+    /// An object that the call lacked, since it isn't known yet.
+    pub lacked: Option<Oid>,
     pub of: PhantomData<B>,
     ghost agrees: { Agrees known.now B.objects },
     ghost numbered: { numbers.now ≡ B.numbers },
@@ -83,7 +73,7 @@ pub(crate) fn read_seen(alloc: Global, seen: &Option<Seen>) -> Result<ObjectReco
 
 /// The bytes that stand at an object that is known, where it has some and nothing is put yet.
 #[tactic(auto, using(crate::proofs::Recalled::bytes_stand))]
-fn bytes_standing<'a>(known: &'a Known, puts: &ListOf<PendingStore>, oid: Oid) -> Option<&'a Text8>
+fn bytes_standing<'a>(known: &'a Known, puts: &ListOf<TreePut>, oid: Oid) -> Option<&'a Text8>
     ensures { (objects : ℕ → Option Seen) → Agrees known.now objects
         → IfSome result (λ bytes. contents_after puts.now (contents_of objects) oid ≡ Some bytes.now) }
 {
@@ -164,8 +154,8 @@ fn note_read(calls: &mut Vec<Call>, oid: Oid) -> Result<(), AllocError>
 #[tactic(auto, using(crate::proofs::Tracking::wrote_drawn, crate::proofs::Tracking::wrote_written, crate::proofs::Tracking::based_more, crate::proofs::Tracking::filled_more))]
 fn note_put(
     calls: &mut Vec<Call>,
-    puts: &mut ListOf<PendingStore>,
-    put: PendingStore,
+    puts: &mut ListOf<TreePut>,
+    put: TreePut,
 ) -> Result<(), AllocError>
     ensures calls { OnOk result (calls.new.items ≡ calls.old.items ++ Wrote put.oid ∷ []) }
     ensures puts { OnOk result (puts.new ≡ puts.old ++ put ∷ []) }
@@ -223,7 +213,7 @@ impl<'a, B: Sight> Space for KnownSpace<'a, B> {
         match self.known.find(oid) {
             Some(seen) => read_seen(self.alloc, seen),
             None => {
-                self.lack = Lack::Object(oid);
+                self.lacked = Some(oid);
                 Err(SpaceError::Memory)
             }
         }
@@ -231,14 +221,14 @@ impl<'a, B: Sight> Space for KnownSpace<'a, B> {
 
     fn put_node(&mut self, oid: Oid, entry: ObjectRecord) -> Result<(), SpaceError> {
         let Some(base) = base_for(self.known, self.numbers, oid) else {
-            self.lack = Lack::Object(oid);
+            self.lacked = Some(oid);
             return Err(SpaceError::Memory);
         };
         let bytes = record_text(self.alloc, &entry)?;
         match note_put(
             &mut self.calls,
             &mut self.puts,
-            PendingStore { oid, base, bytes },
+            TreePut { oid, base, bytes },
         ) {
             Ok(()) => Ok(()),
             Err(_) => Err(SpaceError::Memory),
@@ -247,7 +237,6 @@ impl<'a, B: Sight> Space for KnownSpace<'a, B> {
 
     fn new_node(&mut self) -> Result<Oid, SpaceError> {
         let Some(oid) = number_at(self.numbers, self.used) else {
-            self.lack = Lack::Number;
             return Err(SpaceError::Memory);
         };
         match note_call(&mut self.calls, Call::Drew(oid)) {
@@ -257,10 +246,6 @@ impl<'a, B: Sight> Space for KnownSpace<'a, B> {
             }
             Err(_) => Err(SpaceError::Memory),
         }
-    }
-
-    fn lacks(&self, count: usize) -> bool {
-        self.numbers.len() < self.used.saturating_add(count)
     }
 
     #[tactic(auto, using(crate::proofs::Recalled::held_same))]

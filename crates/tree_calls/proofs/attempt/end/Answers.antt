@@ -1,13 +1,21 @@
 -- How an attempt ends.
-use Rattle.std.proofs.Common.{subst}
-use Rattle.tree_calls.specs.Calls.{CallEnds, contents_after, contents_of}
-use Rattle.tree_calls.proofs.Tracking.{made_by}
+use Rattle.std.proofs.Common.{◌≡◌, Some, Ok, length, subst}
+use Rattle.tree_calls.specs.Calls.{CallEnds, contents_after, contents_of, refusal_of}
+use Rattle.tree_calls.proofs.Tracking.{made_by, refused_attempt}
 use Rattle.tree_calls.proofs.attempt.end.Goals as goal
 
 pub returns-then-is_whole : goal.returns-then-is_whole
 returns-then-is_whole g c = record {
-  attempt = made_by g.B.Sight.objects c.args._root c.args.operation.now g.B.Sight.numbers c.args.puts c.args._calls.now c.in-Ok.answer
-      (subst (CallEnds (contents_of g.B.Sight.objects) (contents_after c.args.puts (contents_of g.B.Sight.objects)) c.args._calls.now c.args._root c.args.operation.now) c.in-Ok.is c.requires.ends)
+  attempt = made_by g.B.Sight.objects c.args._root c.args._operation.now g.B.Sight.numbers (length c.args.numbers.now) c.args.puts c.args._calls.now c.in-Some.answer
+      (subst (λ given. CallEnds (contents_of g.B.Sight.objects) (contents_after c.args.puts (contents_of g.B.Sight.objects)) c.args._calls.now c.args._root c.args._operation.now (length c.args.numbers.now) (Ok given)) c.in-Some.is
+      (subst (CallEnds (contents_of g.B.Sight.objects) (contents_after c.args.puts (contents_of g.B.Sight.objects)) c.args._calls.now c.args._root c.args._operation.now (length c.args.numbers.now)) c.in-Ok.is c.requires.ends))
       (c.requires.whole c.if-is_whole.true) c.requires.written c.requires.based c.requires.filled;
   wants = tt;
 }
+
+pub returns-in-Some-refusal_of-clause-attempt : goal.returns-in-Some-refusal_of-clause-attempt
+returns-in-Some-refusal_of-clause-attempt g c =
+    let told : Some c.in-Some-refusal_of.why ≡ refusal_of c.in-Err.error = cc in
+    refused_attempt g.B.Sight.objects c.args._root c.args._operation.now g.B.Sight.numbers (length c.args.numbers.now) c.args.puts c.args._calls.now c.in-Err.error c.in-Some-refusal_of.why c.args.is_whole _ told
+    (subst (CallEnds (contents_of g.B.Sight.objects) (contents_after c.args.puts (contents_of g.B.Sight.objects)) c.args._calls.now c.args._root c.args._operation.now (length c.args.numbers.now)) c.in-Err.is c.requires.ends)
+    c.requires.whole c.refused_if.ensures

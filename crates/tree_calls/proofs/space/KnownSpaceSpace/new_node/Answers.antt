@@ -5,8 +5,8 @@ use Rattle.tree_calls.specs.Calls.{written_in}
 use Rattle.tree_calls.proofs.Tracking.{gives_more, written_drew}
 use Rattle.tree_calls.proofs.space.KnownSpaceSpace.new_node.Goals as goal
 
-pub invariant_of-self-in-Ok : goal.invariant_of-self-in-Ok
-invariant_of-self-in-Ok g c = record {
+pub invariant_of-self : goal.invariant_of-self
+invariant_of-self g c = record {
   agrees = c.args.self.now.agrees;
   numbered = c.args.self.now.numbered;
   drawn = gives_more c.args.self.now.calls.items _ g.B.Sight.numbers c.args.self.now.used c.in-Some.oid c.args.self.now.drawn c.in-Ok.ensures.ok

@@ -1,0 +1,54 @@
+-- How a call that sets a key ends.
+use Rattle.std.proofs.Common.{◌≡◌, ℕ, List, [], Option, Some, None, Result, Ok, Err, subst, sym}
+use Rattle.btree_family.specs.declared.key.Key.{Key}
+use Rattle.btree_shapes.specs.declared.space.Call.{Call}
+use Rattle.btree_shapes.specs.declared.error.TreeError.{TreeError}
+use Rattle.btree_shapes.specs.declared.error.TreeError.TheVariants as error
+use Rattle.btree_setting.specs.declared.setting.SetEnd.{SetEnd}
+use Rattle.btree_setting.specs.declared.setting.SetEnd.TheVariants.{Done, Lacks}
+use Rattle.btree_setting.specs.Ends.{IsLacking, Sets, SetsWithin}
+use Rattle.tree_calls.specs.declared.operation.TreeAnswer.{TreeAnswer}
+use Rattle.tree_calls.specs.declared.operation.TreeAnswer.TheVariants as answer
+use Rattle.tree_calls.specs.declared.operation.TreeOperation.{TreeOperation}
+use Rattle.tree_calls.specs.declared.operation.TreeOperation.TheVariants as operation
+use Rattle.tree_calls.specs.declared.put.TreePut.{TreePut}
+use Rattle.tree_calls.specs.Calls.{CallEnds, LacksNumbers, contents_after, sizes}
+
+-- nothing was put before, and no call was made
+from_start : (contents after : ℕ → Option (List ℕ)) (puts : List TreePut) (calls calls' : List Call) (root : ℕ) (key : Key) (value : Option (List ℕ)) (supply : ℕ) (result : Result SetEnd TreeError) → puts ≡ [] → calls ≡ [] → SetsWithin (Unit {0}) (contents_after puts contents) after calls calls' root sizes key value supply result → SetsWithin (Unit {0}) contents after [] calls' root sizes key value supply result
+from_start contents after puts calls calls' root key value supply result p c s =
+    subst (λ (ps : List TreePut). SetsWithin (Unit {0}) (contents_after ps contents) after [] calls' root sizes key value supply result) p
+    (subst (λ (cs : List Call). SetsWithin (Unit {0}) (contents_after puts contents) after cs calls' root sizes key value supply result) c s)
+
+pub set_done : (contents after : ℕ → Option (List ℕ)) (puts : List TreePut) (calls calls' : List Call) (root : ℕ) (key : Key) (value : Option (List ℕ)) (supply whole : ℕ) (end : SetEnd) → puts ≡ [] → calls ≡ [] → supply ≡ whole → end ≡ Done → SetsWithin (Unit {0}) (contents_after puts contents) after calls calls' root sizes key value supply (Ok end) → CallEnds contents after calls' root (operation.Set key value) whole (Ok (Some answer.Set))
+set_done contents after puts calls calls' root key value supply whole end p c w e s =
+    from_start contents after puts calls calls' root key value supply (Ok Done) p c
+    (subst (λ (x : SetEnd). SetsWithin (Unit {0}) (contents_after puts contents) after calls calls' root sizes key value supply (Ok x)) e s)
+
+lacking : (contents after : ℕ → Option (List ℕ)) (calls calls' : List Call) (root : ℕ) (key : Key) (value : Option (List ℕ)) (supply : ℕ) → IsLacking (Unit {0}) contents after calls calls' root sizes key value supply → LacksNumbers contents root (operation.Set key value) supply
+lacking contents after calls calls' root key value supply x = record { count = x.count; needs = x.needs; more = x.more }
+
+pub set_lacks : (contents after : ℕ → Option (List ℕ)) (puts : List TreePut) (calls calls' : List Call) (root : ℕ) (key : Key) (value : Option (List ℕ)) (supply whole : ℕ) (end : SetEnd) → puts ≡ [] → calls ≡ [] → supply ≡ whole → end ≡ Lacks → SetsWithin (Unit {0}) (contents_after puts contents) after calls calls' root sizes key value supply (Ok end) → CallEnds contents after calls' root (operation.Set key value) whole (Ok None)
+set_lacks contents after puts calls calls' root key value supply whole end p c w e s =
+    subst (LacksNumbers contents root (operation.Set key value)) w
+    (lacking contents after [] calls' root key value supply
+    (from_start contents after puts calls calls' root key value supply (Ok Lacks) p c
+    (subst (λ (x : SetEnd). SetsWithin (Unit {0}) (contents_after puts contents) after calls calls' root sizes key value supply (Ok x)) e s)))
+
+ended : (contents after : ℕ → Option (List ℕ)) (calls' : List Call) (root : ℕ) (key : Key) (value : Option (List ℕ)) (supply : ℕ) (e : TreeError) → Sets (Unit {0}) contents after [] calls' root sizes key value (Err e) → CallEnds contents after calls' root (operation.Set key value) supply (Err e)
+ended contents after calls' root key value supply (error.NotATree oid) s = s
+ended contents after calls' root key value supply (error.NodeMissing oid) s = s
+ended contents after calls' root key value supply error.BadKey s = s
+ended contents after calls' root key value supply (error.Refused r) s = tt
+ended contents after calls' root key value supply error.Memory s = tt
+
+pub set_ended : (contents after : ℕ → Option (List ℕ)) (puts : List TreePut) (calls calls' : List Call) (root : ℕ) (key : Key) (value : Option (List ℕ)) (supply whole : ℕ) (e : TreeError) → puts ≡ [] → calls ≡ [] → SetsWithin (Unit {0}) (contents_after puts contents) after calls calls' root sizes key value supply (Err e) → CallEnds contents after calls' root (operation.Set key value) whole (Err e)
+set_ended contents after puts calls calls' root key value supply whole e p c s =
+    ended contents after calls' root key value whole e (from_start contents after puts calls calls' root key value supply (Err e) p c s)
+
+-- a call is made with copies of its key and its value
+pub set_copied : (contents after : ℕ → Option (List ℕ)) (calls : List Call) (root : ℕ) (op : TreeOperation) (key key' : Key) (value value' : Option (List ℕ)) (supply : ℕ) (result : Result (Option TreeAnswer) TreeError) → op ≡ operation.Set key value → key' ≡ key → value' ≡ value → CallEnds contents after calls root (operation.Set key' value') supply result → CallEnds contents after calls root op supply result
+set_copied contents after calls root op key key' value value' supply result o k v ends =
+    subst (λ (x : TreeOperation). CallEnds contents after calls root x supply result) (sym o)
+    (subst (λ (x : Key). CallEnds contents after calls root (operation.Set x value) supply result) k
+    (subst (λ (x : Option (List ℕ)). CallEnds contents after calls root (operation.Set key' x) supply result) v ends))
