@@ -41,4 +41,3 @@ met_for contents root key = met_from key (objects_of contents root) (2 ^ 64) [] 
 -- the objects of a way that was found
 abbrev pub oids_of : Found → List ℕ
 oids_of found = map step_oid found.path ++ found.oid ∷ []
-
