@@ -140,7 +140,7 @@ fn delete_line<St: Store, R: Resolver, F: Refs, C: Clock>(
 {
     let mut loads = LocalLoads::new(alloc, hub, client.session, clock, client.told);
     let answer = answered(
-        client.connection.check(&mut loads, oid, base),
+        client.connection.delete(&mut loads, oid, base),
         Answer::Deleted,
     );
     let told = &loads.told;
@@ -373,7 +373,7 @@ pub(crate) fn get_of<St: Store, R: Resolver, F: Refs, C: Clock>(
     ensures hub { ReadsHub St.told St.lasts St.stands (outcome_of_result result) hub.old hub.new }
 {
     let mut loads = LocalLoads::new(alloc, hub, client.session, clock, client.told);
-    let got = client.connection.load(&mut loads, oid);
+    let got = client.connection.get(&mut loads, oid);
     let told = &loads.told;
     client.told = *told;
     got

@@ -41,7 +41,7 @@ pub(crate) fn plain_request(line: &Line) -> Option<Request>
             tid: *tid,
             collect: *collect,
         }),
-        Line::PackBegin { tid, collect } => Some(Request::Pack {
+        Line::PackBegin { tid, collect } => Some(Request::PackBegin {
             tid: *tid,
             collect: *collect,
         }),

@@ -243,7 +243,7 @@ fn wanted(known: &Known, numbers: &[Oid], lacked: Option<Oid>) -> Result<Attempt
     let Some(oid) = lacked else {
         return Err(AllocError);
     };
-    if numbers.len() > 1 {
+    if !numbers.is_empty() {
         return Err(AllocError);
     }
     match known.find(oid) {
