@@ -28,9 +28,9 @@ pub no_path : (path : List ℕ) (words : List (List ℕ)) → is_path path ≡ f
 no_path path words e = sym (rw e refl)
 
 pub dashed : {X : Type 0} (f : X → List ℕ) (path : List ℕ) (xs : List X) → list_any (λ x. is_dashed (f x)) xs ≡ true → None ≡ command_of (path ∷ map f xs)
-dashed f path xs e = sym (rw (any_map f xs, e) (neither (is_path path) (option_and_then (λ p. named_command p.0 p.1) (named_of (map f xs)))))
+dashed f path xs e = sym (rw (any_map f xs, e) (neither (is_path path) (option_and_then (λ p. named_command p.0 p.1 p.2) (named_of (map f xs)))))
 
-pub plain : {X : Type 0} (f : X → List ℕ) (path : List ℕ) (xs : List X) → is_path path ≡ true → list_any (λ x. is_dashed (f x)) xs ≡ false → option_and_then (λ p. named_command p.0 p.1) (named_of (map f xs)) ≡ command_of (path ∷ map f xs)
+pub plain : {X : Type 0} (f : X → List ℕ) (path : List ℕ) (xs : List X) → is_path path ≡ true → list_any (λ x. is_dashed (f x)) xs ≡ false → option_and_then (λ p. named_command p.0 p.1 p.2) (named_of (map f xs)) ≡ command_of (path ∷ map f xs)
 plain f path xs is none = sym (rw (is, any_map f xs, none) refl)
 
 -- the same of words that are parted into the first and the others
@@ -45,8 +45,9 @@ pub dashed_rest : {X : Type 0} (f : X → List ℕ) (words : List X) (path : X) 
 dashed_rest {X = X} f words path rest parts e = dashed f (f path) rest e ∙ sym (ap (λ (ws : List X). command_of (map f ws)) parts.0)
 
 pub named_rest : {X : Type 0} (f : X → List ℕ) (words : List X) (path : X) (rest : List X) (r : Option Command) → IsFirstAndRest words path rest → is_path (f path) ≡ true → list_any (λ x. is_dashed (f x)) rest ≡ false
-    → r ≡ option_and_then (λ p. named_command p.0 p.1) (named_of (map f rest)) → r ≡ command_of (map f words)
+    → r ≡ option_and_then (λ p. named_command p.0 p.1 p.2) (named_of (map f rest)) → r ≡ command_of (map f words)
 named_rest {X = X} f words path rest r parts is none e = e ∙ plain f (f path) rest is none ∙ sym (ap (λ (ws : List X). command_of (map f ws)) parts.0)
 
-pub name_some : (named : Option (List ℕ × Option (List ℕ))) (name : List ℕ) (text : Option (List ℕ)) (r : Option Command) → Some (name, text) ≡ named → r ≡ named_command name text → r ≡ option_and_then (λ p. named_command p.0 p.1) named
-name_some named name text r is e = e ∙ ap (option_and_then (λ (p : List ℕ × Option (List ℕ)). named_command p.0 p.1)) is
+pub name_some : (named : Option (List ℕ × Option (List ℕ) × Option (List ℕ))) (name : List ℕ) (text more : Option (List ℕ)) (r : Option Command) → Some (name, text, more) ≡ named → r ≡ named_command name text more
+    → r ≡ option_and_then (λ p. named_command p.0 p.1 p.2) named
+name_some named name text more r is e = e ∙ ap (option_and_then (λ (p : List ℕ × Option (List ℕ) × Option (List ℕ)). named_command p.0 p.1 p.2)) is

@@ -1,5 +1,5 @@
 -- What digits a number is read from.
-use Rattle.std.proofs.Common.{◌≡◌, ℕ, ◌+◌, ◌*◌, ◌/◌, ◌<◌, ◌^◌, List, Option, Some, None, Result, Ok, Err, refl, ap, sym, ◌∙◌}
+use Rattle.std.proofs.Common.{◌≡◌, ℕ, ◌+◌, ◌*◌, ◌/◌, ◌<◌, ◌^◌, Bool, List, Option, Some, None, Result, Ok, Err, refl, ap, sym, ◌∙◌}
 use Rattle.std.specs.Option.{option_and_then, option_map}
 use Rattle.zb_ids.specs.Hex.{hex_number, number_at}
 use Rattle.zb_ids.specs.HexLaws.{number_again, number_takes}
@@ -10,7 +10,7 @@ use Rattle.zb_ids.specs.Spelling.{ReadsTime, Time, time_at, time_number, time_of
 use Rattle.zb_ids.specs.Tids.{minutes_of, stamp_number}
 use Rattle.zodb_top.specs.declared.command.Command.TheVariants as command
 use Rattle.zodb_top.specs.declared.command.Command.{Command}
-use Rattle.zodb_top.specs.Words.{object_command}
+use Rattle.zodb_top.specs.Words.{object_command, pack_command}
 
 pub digits_read : (word digits : List ℕ) (n : ℕ) → n < 2 ^ 64 → digits ≡ hex_number n → option_and_then (object_command word) (number_at digits) ≡ object_command word n
 digits_read word digits n below is = ap (λ (x : List ℕ). option_and_then (object_command word) (number_at x)) is ∙ ap (option_and_then (object_command word)) (number_again n below)
@@ -27,10 +27,10 @@ no_digits word digits result e is only = by_value (number_at digits) refl
         absurd cc
 
 -- a stamp that was read, and a text that is none
-pub stamp_read : (text : List ℕ) (stamp : Stamp) → ReadsTime (Ok stamp) (time_at text) → Some (command.Pack (stamp_number stamp)) ≡ option_map (λ t. command.Pack (time_number t)) (time_at text)
-stamp_read text stamp reads =
+pub stamp_read : (text : List ℕ) (collect : Bool) (stamp : Stamp) → ReadsTime (Ok stamp) (time_at text) → Some (command.Pack (record { tid = stamp_number stamp; collect = collect })) ≡ pack_command text collect
+stamp_read text collect stamp reads =
     let number : stamp_number stamp ≡ time_number (time_of stamp) = ap (λ (n : ℕ). minutes_of stamp * 2 ^ 32 + n * 2 ^ 32 / 60000000) reads.1 in
-    ap (λ (n : ℕ). Some (command.Pack n)) number ∙ sym (ap (option_map (λ (t : Time). command.Pack (time_number t))) reads.0)
+    ap (λ (n : ℕ). Some (command.Pack (record { tid = n; collect = collect }))) number ∙ sym (ap (option_map (λ (t : Time). command.Pack (record { tid = time_number t; collect = collect }))) reads.0)
 
-pub no_stamp : (text : List ℕ) (e : OutOfRange) → ReadsTime (Err e) (time_at text) → None ≡ option_map (λ t. command.Pack (time_number t)) (time_at text)
-no_stamp text e reads = sym (ap (option_map (λ (t : Time). command.Pack (time_number t))) reads)
+pub no_stamp : (text : List ℕ) (collect : Bool) (e : OutOfRange) → ReadsTime (Err e) (time_at text) → None ≡ pack_command text collect
+no_stamp text collect e reads = sym (ap (option_map (λ (t : Time). command.Pack (record { tid = time_number t; collect = collect }))) reads)

@@ -30,11 +30,11 @@ names_rows (Some x) f g = refl
 name_of_rows : (m : ArgMatches) → subcommand_name_of m ≡ option_map (λ (p : Text × List Row). p.0) (subcommand_rows_of m)
 name_of_rows m = names_rows _ _ _
 
-pub entered_some : (m : ArgMatches) (name : Text) (inner : Found) (value : Option Text) → Some name ≡ subcommand_name_of m → Some (rows_of inner) ≡ option_map (λ (p : Text × List Row). p.1) (subcommand_rows_of m)
-    → value ≡ first_value inner (codes "position") → Some (name, value) ≡ named_in (subcommand_rows_of m)
-entered_some m name inner value named rows is =
+pub entered_some : (m : ArgMatches) (name : Text) (inner : Found) (value more : Option Text) → Some name ≡ subcommand_name_of m → Some (rows_of inner) ≡ option_map (λ (p : Text × List Row). p.1) (subcommand_rows_of m)
+    → value ≡ first_value inner (codes "position") → more ≡ first_value inner (codes "more") → Some (name, value, more) ≡ named_in (subcommand_rows_of m)
+entered_some m name inner value more named rows is second =
     let all : subcommand_rows_of m ≡ Some (name, rows_of inner) = is_first (subcommand_rows_of m) name (rows_of inner) (sym (name_of_rows m) ∙ sym named) (sym rows) in
-    ap (λ (v : Option Text). Some (name, v)) (is ∙ first_value-rows inner (codes "position")) ∙ sym (ap named_in all)
+    ap₂ (λ (v w : Option Text). Some (name, v, w)) (is ∙ first_value-rows inner (codes "position")) (second ∙ first_value-rows inner (codes "more")) ∙ sym (ap named_in all)
 
 pub entered_none : (m : ArgMatches) → None ≡ subcommand_name_of m → None ≡ named_in (subcommand_rows_of m)
 entered_none m none = sym (ap named_in (no_first (subcommand_rows_of m) (sym (name_of_rows m) ∙ sym none)))
@@ -49,7 +49,7 @@ free = refl
 
 pub ok_named : (app : App) (words : List Text) (entered : Option (Text × List Row)) → app ≡ program_app → Reads words → (is_simple_and_free app ≡ true → fault_of app words ≡ [])
     → (is_simple app ≡ true → entered ≡ subcommand_of app words) → named_in entered ≡ named_of words
-ok_named app words entered is (taken name argument takes named) faultless enters =
+ok_named app words entered is (taken name argument more takes named) faultless enters =
     ap named_in (enters (ap is_simple is ∙ simple) ∙ ap (λ (a : App). subcommand_of a words) is) ∙ takes.entered ∙ sym named
 ok_named app words entered is (refused refuses named) faultless enters =
     let none : fault_of program_app words ≡ [] = sym (ap (λ (a : App). fault_of a words) is) ∙ faultless (ap is_simple_and_free is ∙ free) in
@@ -57,7 +57,7 @@ ok_named app words entered is (refused refuses named) faultless enters =
 
 pub err_named : (app : App) (words : List Text) (e : Error) → app ≡ program_app → Reads words → (is_simple_and_free app ≡ true → HasKind (fault_of app words) e) → is_starved (kind_of e) ≡ false → named_of words ≡ None
 err_named app words e is (refused refuses named) fails other = named
-err_named app words e is (taken name argument takes named) fails other =
+err_named app words e is (taken name argument more takes named) fails other =
     absurd (elim (subst (λ (k : _). HasKind k e) (ap (λ (a : App). fault_of a words) is ∙ takes.fault) (fails (ap is_simple_and_free is ∙ free))) [ inl memory ↦ never_both (sym (ap is_starved memory) ∙ other) | inr never ↦ never ])
   where
     never_both : true ≡ false → ⊥

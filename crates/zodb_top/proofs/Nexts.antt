@@ -32,7 +32,8 @@ use Rattle.zodb_top.specs.Unopened.{NamesError, SaysUnopened}
 
 line_kept : (stands : List ℕ → List Transaction → Type 0) (m : Machine) (l : Line) (bytes : List ℕ) → stands bytes m.list → IsListIn stands stock m l bytes
 line_kept stands m line.Finish bytes left = inl left
-line_kept stands m (line.Pack tid) bytes left = inl left
+line_kept stands m (line.Pack tid collect) bytes left = inl left
+line_kept stands m line.PackTurn bytes left = inl left
 line_kept stands m _ bytes left = left
 
 pub next_kept : (stands : List ℕ → List Transaction → Type 0) (m : Machine) (later : List Turn) (bytes : List ℕ) → stands bytes m.list → IsListNext stands m later bytes

@@ -31,6 +31,7 @@ use Rattle.zodb_core.specs.Outcomes.{Answered, EndsFor, FaultCounts, NoMemory, R
 use Rattle.zodb_core.specs.Steps.{Stepped, early_refusal, step_of, unless_early, unless_unread}
 use Rattle.zodb_top.specs.declared.packing.Told.{Told}
 use Rattle.zodb_top.specs.declared.packing.Told.TheVariants as told
+use Rattle.zodb_top.specs.declared.command.PackRequest.{PackRequest}
 use Rattle.zodb_top.specs.declared.status.Status.{Status}
 use Rattle.zodb_top.specs.declared.status.Status.TheVariants as status
 use Rattle.zodb_top.specs.Came.{IsCalm, stock}
@@ -56,80 +57,80 @@ early_ticks : (early : Option Refusal) (m : Machine) (made : Stepped) → made.t
 early_ticks None m made is = is
 early_ticks (Some why) m made is = refl
 
-pack_ticks : (tid stamp : ℕ) (m : Machine) → (step_of stock m 0 (request.Pack tid true) stamp).ticks ≡ false
-pack_ticks tid stamp m = early_ticks (early_refusal m 0 (request.Pack tid true)) m _ (unless_ticks m _ _ refl)
+pack_ticks : (pack : PackRequest) (stamp : ℕ) (m : Machine) → (step_of stock m 0 (request.Pack pack.tid pack.collect) stamp).ticks ≡ false
+pack_ticks pack stamp m = early_ticks (early_refusal m 0 (request.Pack pack.tid pack.collect)) m _ (unless_ticks m _ _ refl)
 
 unticked : (ticks : Bool) (stamp : ℕ) (before after : Option (List Stamp)) (step : Bool) → (IsTrue ticks → IsTrue step) → step ≡ false → HasTicked ticks stamp before after → after ≡ before
 unticked false stamp before after step only none ticked = ticked
 unticked true stamp before after false only none ticked = let never : IsTrue false = only refl in absurd cc
 unticked true stamp before after true only none ticked = absurd cc
 
-module _ {R F : Type 0} (tid : ℕ) (r : Reply) (old new : HubState R F) (before after : Option (List Stamp)) where
-  ends_so : (made : MakesStep stock (with_session (machine_over old.store.list)) 0 (request.Pack tid true) r old new before after) → (o : StepOutcome) → outcome_of r ≡ o → is_store_failed o ≡ new.store.broken
-      → IsReplyTo tid old.store.list r o × IsListBehind tid old.store.list new.store.list o
+module _ {R F : Type 0} (pack : PackRequest) (r : Reply) (old new : HubState R F) (before after : Option (List Stamp)) where
+  ends_so : (made : MakesStep stock (with_session (machine_over old.store.list)) 0 (request.Pack pack.tid pack.collect) r old new before after) → (o : StepOutcome) → outcome_of r ≡ o → is_store_failed o ≡ new.store.broken
+      → IsReplyTo pack old.store.list r o × IsListBehind pack old.store.list new.store.list o
   ends_so made Answered is whole =
       let s : Stepped = record { reply = r; machine = made.left; ticks = made.ticks } in
       let m = with_session (machine_over old.store.list) in
-      let cause : s ≡ step_of stock m 0 (request.Pack tid true) made.stamp = subst (EndsFor stock m 0 (request.Pack tid true) made.stamp s (counts_of old.store) (counts_of new.store)) is made.made.cause in
+      let cause : s ≡ step_of stock m 0 (request.Pack pack.tid pack.collect) made.stamp = subst (EndsFor stock m 0 (request.Pack pack.tid pack.collect) made.stamp s (counts_of old.store) (counts_of new.store)) is made.made.cause in
       (ap (λ (x : Stepped). x.reply) cause, sym (made.stands.list (sym whole)) ∙ ap (λ (x : Stepped). x.machine.list) cause)
   ends_so made ReadingFailed is whole =
       let m = with_session (machine_over old.store.list) in
-      let left : made.left ≡ m = made.made.left ∙ ap (machine_left stock m 0 (request.Pack tid true) made.stamp) is in
+      let left : made.left ≡ m = made.made.left ∙ ap (machine_left stock m 0 (request.Pack pack.tid pack.collect) made.stamp) is in
       (tt, sym (made.stands.list (sym whole)) ∙ ap (λ (x : Machine). x.list) left)
   ends_so made NoMemory is whole =
       let m = with_session (machine_over old.store.list) in
-      let left : made.left ≡ m = made.made.left ∙ ap (machine_left stock m 0 (request.Pack tid true) made.stamp) is in
+      let left : made.left ≡ m = made.made.left ∙ ap (machine_left stock m 0 (request.Pack pack.tid pack.collect) made.stamp) is in
       (tt, sym (made.stands.list (sym whole)) ∙ ap (λ (x : Machine). x.list) left)
   ends_so made StoreFailed is whole = (tt, tt)
 
-  step_packs : MakesStep stock (with_session (machine_over old.store.list)) 0 (request.Pack tid true) r old new before after → StepsSafely true r old new → old.store.broken ≡ false → IsStorePacked tid r old.store new.store before after
+  step_packs : MakesStep stock (with_session (machine_over old.store.list)) 0 (request.Pack pack.tid pack.collect) r old new before after → StepsSafely true r old new → old.store.broken ≡ false → IsStorePacked pack r old.store new.store before after
   step_packs made safe whole =
       let both = ends_so made (outcome_of r) refl (sym (safe.broken whole)) in record {
         made = both.0;
         list = both.1;
         whole = safe.broken whole;
-        clock = unticked made.ticks made.stamp before after (step_of stock (with_session (machine_over old.store.list)) 0 (request.Pack tid true) made.stamp).ticks made.made.ticks (pack_ticks tid made.stamp (with_session (machine_over old.store.list))) made.clock;
+        clock = unticked made.ticks made.stamp before after (step_of stock (with_session (machine_over old.store.list)) 0 (request.Pack pack.tid pack.collect) made.stamp).ticks made.made.ticks (pack_ticks pack made.stamp (with_session (machine_over old.store.list))) made.clock;
       }
 
 -- over a store that a hub is made of and gives back
-pub store_packs : {R F : Type 0} (tid : ℕ) (r : Reply) (state state' : StoreState) (first old new : HubState R F) (n : ℕ) (before after : Option (List Stamp)) → first.store ≡ state → old.store ≡ first.store → state' ≡ new.store → n ≡ 0
-    → (MakesStep stock (with_session (machine_over state.list)) n (request.Pack tid true) r old new before after) → StepsSafely true r old new → state.broken ≡ false → IsStorePacked tid r state state' before after
-store_packs tid r state state' first old new n before after is opened last zero made safe whole =
+pub store_packs : {R F : Type 0} (pack : PackRequest) (r : Reply) (state state' : StoreState) (first old new : HubState R F) (n : ℕ) (before after : Option (List Stamp)) → first.store ≡ state → old.store ≡ first.store → state' ≡ new.store → n ≡ 0
+    → (MakesStep stock (with_session (machine_over state.list)) n (request.Pack pack.tid pack.collect) r old new before after) → StepsSafely true r old new → state.broken ≡ false → IsStorePacked pack r state state' before after
+store_packs pack r state state' first old new n before after is opened last zero made safe whole =
     let same : old.store ≡ state = opened ∙ is in
-    let step : MakesStep stock (with_session (machine_over old.store.list)) 0 (request.Pack tid true) r old new before after =
-    subst (λ (k : ℕ). MakesStep stock (with_session (machine_over old.store.list)) k (request.Pack tid true) r old new before after) zero
-    (subst (λ (s : StoreState). MakesStep stock (with_session (machine_over s.list)) n (request.Pack tid true) r old new before after) (sym same) made) in
-    let packs = step_packs tid r old new before after step safe (ap (λ (s : StoreState). s.broken) same ∙ whole) in
-    subst (λ (s : StoreState). IsStorePacked tid r s state' before after) same (subst (λ (s : StoreState). IsStorePacked tid r old.store s before after) (sym last) packs)
+    let step : MakesStep stock (with_session (machine_over old.store.list)) 0 (request.Pack pack.tid pack.collect) r old new before after =
+    subst (λ (k : ℕ). MakesStep stock (with_session (machine_over old.store.list)) k (request.Pack pack.tid pack.collect) r old new before after) zero
+    (subst (λ (s : StoreState). MakesStep stock (with_session (machine_over s.list)) n (request.Pack pack.tid pack.collect) r old new before after) (sym same) made) in
+    let packs = step_packs pack r old new before after step safe (ap (λ (s : StoreState). s.broken) same ∙ whole) in
+    subst (λ (s : StoreState). IsStorePacked pack r s state' before after) same (subst (λ (s : StoreState). IsStorePacked pack r old.store s before after) (sym last) packs)
 
 -- what a crash in it leaves
-pub moments_packs : (stands : List ℕ → List Transaction → Type 0) (tid n : ℕ) (list : List Transaction) (first old new : List Event) → n ≡ 0 → old ≡ first
-    → LeavesOnly Main (IsBeforeOrBehind stands stock (with_session (machine_over list)) n (request.Pack tid true)) old new → LeavesOnly Main (IsListOrPacked stands tid list) first new
-moments_packs stands tid n list first old new zero same moments =
-    subst (λ (l : List Event). LeavesOnly Main (IsListOrPacked stands tid list) l new) same
-    (leaves_less Main (IsBeforeOrBehind stands stock (with_session (machine_over list)) n (request.Pack tid true)) (IsListOrPacked stands tid list) old new
+pub moments_packs : (stands : List ℕ → List Transaction → Type 0) (pack : PackRequest) (n : ℕ) (list : List Transaction) (first old new : List Event) → n ≡ 0 → old ≡ first
+    → LeavesOnly Main (IsBeforeOrBehind stands stock (with_session (machine_over list)) n (request.Pack pack.tid pack.collect)) old new → LeavesOnly Main (IsListOrPacked stands pack list) first new
+moments_packs stands pack n list first old new zero same moments =
+    subst (λ (l : List Event). LeavesOnly Main (IsListOrPacked stands pack list) l new) same
+    (leaves_less Main (IsBeforeOrBehind stands stock (with_session (machine_over list)) n (request.Pack pack.tid pack.collect)) (IsListOrPacked stands pack list) old new
     (λ bytes either. elim either [
       | inl is ↦ inl is
-      | inr is ↦ inr (subst (λ (k : ℕ). stands bytes (step_of stock (with_session (machine_over list)) k (request.Pack tid true) 0).machine.list) zero (is 0))
+      | inr is ↦ inr (subst (λ (k : ℕ). stands bytes (step_of stock (with_session (machine_over list)) k (request.Pack pack.tid pack.collect) 0).machine.list) zero (is 0))
     ])
     moments)
 
-pub moments_still : (stands : List ℕ → List Transaction → Type 0) (tid : ℕ) (list : List Transaction) (old new : List Event) → new ≡ old → Leaves Main (λ bytes. stands bytes list) old → LeavesOnly Main (IsListOrPacked stands tid list) old new
-moments_still stands tid list old new same lasting = subst (λ (l : List Event). LeavesOnly Main (IsListOrPacked stands tid list) old l) (sym same) (here (λ image left. inl (lasting image left)))
+pub moments_still : (stands : List ℕ → List Transaction → Type 0) (pack : PackRequest) (list : List Transaction) (old new : List Event) → new ≡ old → Leaves Main (λ bytes. stands bytes list) old → LeavesOnly Main (IsListOrPacked stands pack list) old new
+moments_still stands pack list old new same lasting = subst (λ (l : List Event). LeavesOnly Main (IsListOrPacked stands pack list) old l) (sym same) (here (λ image left. inl (lasting image left)))
 
 -- no session was opened for want of memory
-pub unopened_packs : (tid : ℕ) (state state' : StoreState) (stamps : Option (List Stamp)) → state' ≡ state → state.broken ≡ false → IsStorePacked tid (reply.Refused refusal.Memory) state state' stamps stamps
-unopened_packs tid state state' stamps same whole = record { made = tt; list = ap (λ (s : StoreState). s.list) same; whole = ap (λ (s : StoreState). s.broken) same ∙ whole; clock = refl }
+pub unopened_packs : (pack : PackRequest) (state state' : StoreState) (stamps : Option (List Stamp)) → state' ≡ state → state.broken ≡ false → IsStorePacked pack (reply.Refused refusal.Memory) state state' stamps stamps
+unopened_packs pack state state' stamps same whole = record { made = tt; list = ap (λ (s : StoreState). s.list) same; whole = ap (λ (s : StoreState). s.broken) same ∙ whole; clock = refl }
 
 -- no memory for the line of a tail
-pub nothing_packs : (told lasts : Type 0) (stands : List ℕ → List Transaction → Type 0) (tid : ℕ) (cut : Option ℕ) (taken : Option (List ℕ)) (before : ℕ) (state : StoreState) (stamps : Option (List Stamp)) → state.broken ≡ false
-    → (lasts → Leaves Main (λ bytes. stands bytes state.list) state.log) → PacksStore status.NoMemory told lasts stands tid cut taken taken before before state state stamps stamps
-nothing_packs told lasts stands tid cut taken before state stamps whole lasting = record {
+pub nothing_packs : (told lasts : Type 0) (stands : List ℕ → List Transaction → Type 0) (pack : PackRequest) (cut : Option ℕ) (taken : Option (List ℕ)) (before : ℕ) (state : StoreState) (stamps : Option (List Stamp)) → state.broken ≡ false
+    → (lasts → Leaves Main (λ bytes. stands bytes state.list) state.log) → PacksStore status.NoMemory told lasts stands pack cut taken taken before before state state stamps stamps
+nothing_packs told lasts stands pack cut taken before state stamps whole lasting = record {
   reply = reply.Refused refusal.Memory;
   says = (λ failed. absurd cc, refl);
   cause = refl;
-  step = λ known. unopened_packs tid state state stamps refl whole;
-  moments = λ known tells. moments_still stands tid state.list state.log state.log refl (lasting known);
+  step = λ known. unopened_packs pack state state stamps refl whole;
+  moments = λ known tells. moments_still stands pack state.list state.log state.log refl (lasting known);
   images = λ known sound. lasting known;
 }
 
@@ -229,29 +230,29 @@ pack_unfailed _ r lines old new before now says other = absurd says
 
 -- ---- the file
 
-pub unopened : (s : Status) (e : OpenError) (tid : ℕ) (told : Type 0) (before after : Outside) → SaysUnopened s e before.taken after.taken before.sink_faults after.sink_faults
+pub unopened : (s : Status) (e : OpenError) (pack : PackRequest) (told : Type 0) (before after : Outside) → SaysUnopened s e before.taken after.taken before.sink_faults after.sink_faults
     → (told → Harm (main_of before) e) → (e ≡ error.StoreFault → SomeRose before.read_faults after.read_faults before.write_faults after.write_faults)
     → (told → IsNoList (main_of before) → after.log ≡ before.log) → (¬ (e ≡ error.StoreFault) → (after.read_faults ≡ before.read_faults) × (after.write_faults ≡ before.write_faults)) → IsLeft told before after
-    → PackSays s tid told before after
-unopened status.StoreFault e tid told before after said harm rose same calm left = inl (record { rose = rose said.0; written = said.1; left = left })
-unopened status.Damaged e tid told before after (text, names, wrote) harm rose same calm left = refused e told before after text names wrote harm same left
-unopened status.NoMemory e tid told before after said harm rose same calm left = (said.1, inl (left, unfailed e before after said.0 calm))
-unopened _ e tid told before after said harm rose same calm left = absurd said
+    → PackSays s pack told before after
+unopened status.StoreFault e pack told before after said harm rose same calm left = inl (record { rose = rose said.0; written = said.1; left = left })
+unopened status.Damaged e pack told before after (text, names, wrote) harm rose same calm left = refused e told before after text names wrote harm same left
+unopened status.NoMemory e pack told before after said harm rose same calm left = (said.1, inl (left, unfailed e before after said.0 calm))
+unopened _ e pack told before after said harm rose same calm left = absurd said
 
 -- at the end of a call, as at each of its moments
 last_left : (P : List Event → Type 0) (old new : List Event) → Along P old new → P new
 last_left P old _ (here now) = now
 last_left P old _ (more now before) = now
 
-module _ (tid : ℕ) (before : Outside) (state : StoreState) (left : Option (List Stamp)) (cut : Option ℕ) where
+module _ (pack : PackRequest) (before : Outside) (state : StoreState) (left : Option (List Stamp)) (cut : Option ℕ) where
   opened_moments : OpensAs (main_of before) before.stamps left state.list cut → KeepsList before.log state.log → IfSome before.stamps (λ stamps. (stamp : Stamp) → slice_get stamps 0 ≡ Some stamp → MakesList stamp before.log state.log)
-      → IsCalm before → LeavesOnly Main (IsOfPack (main_of before) tid state.list) before.log state.log
+      → IsCalm before → LeavesOnly Main (IsOfPack (main_of before) pack state.list) before.log state.log
   opened_moments (opens_there some stands same) keeps makes calm =
-      leaves_less Main (λ bytes. StandsForList bytes state.list) (IsOfPack (main_of before) tid state.list) before.log state.log (λ bytes is. inl (inl is)) (keeps state.list cut some stands calm.settled)
+      leaves_less Main (λ bytes. StandsForList bytes state.list) (IsOfPack (main_of before) pack state.list) before.log state.log (λ bytes is. inl (inl is)) (keeps state.list cut some stands calm.settled)
   opened_moments (opens_made empty is given) keeps makes calm =
       let told = told_stamps before.stamps (calm.clock empty) makes in
       let first : slice_get told.0 0 ≡ Some is.stamp = subst (λ (o : Option (List Stamp)). IfSome o (λ stamps. slice_get stamps 0 ≡ Some is.stamp)) told.1 is.first in
-      leaves_less Main (IsNewOr is.stamp) (IsOfPack (main_of before) tid state.list) before.log state.log
+      leaves_less Main (IsNewOr is.stamp) (IsOfPack (main_of before) pack state.list) before.log state.log
       (λ bytes either. elim either [
         | inl none ↦ inr (empty, none)
         | inr new ↦ inl (inl (subst (λ (list : List Transaction). StandsForList bytes list) (sym is.list_is) new))
@@ -265,12 +266,12 @@ module _ (tid : ℕ) (before : Outside) (state : StoreState) (left : Option (Lis
 
   module _ (after : Outside) (state' : StoreState) (told : Type 0) (whole : state.faults ≡ before.write_faults) (first : state.read_faults ≡ before.read_faults)
       (log : after.log ≡ state'.log) (reads : after.read_faults ≡ state'.read_faults) (faults : after.write_faults ≡ state'.faults) where
-    images_by : (o : StepOutcome) → IsListBehind tid state.list state'.list o → state'.broken ≡ is_store_failed o → (state'.broken ≡ false → Leaves Main (λ bytes. StandsForList bytes state'.list) state'.log)
-        → LeavesOnly Main (IsListOrPacked StandsForList tid state.list) state.log state'.log → Leaves Main (IsLeftBy StandsForList tid state.list o) state'.log
+    images_by : (o : StepOutcome) → IsListBehind pack state.list state'.list o → state'.broken ≡ is_store_failed o → (state'.broken ≡ false → Leaves Main (λ bytes. StandsForList bytes state'.list) state'.log)
+        → LeavesOnly Main (IsListOrPacked StandsForList pack state.list) state.log state'.log → Leaves Main (IsLeftBy StandsForList pack state.list o) state'.log
     images_by Answered list sound images moments = subst (λ (l : List Transaction). Leaves Main (λ bytes. StandsForList bytes l) state'.log) list (images sound)
     images_by ReadingFailed list sound images moments = subst (λ (l : List Transaction). Leaves Main (λ bytes. StandsForList bytes l) state'.log) list (images sound)
     images_by NoMemory list sound images moments = subst (λ (l : List Transaction). Leaves Main (λ bytes. StandsForList bytes l) state'.log) list (images sound)
-    images_by StoreFailed list sound images moments = last_left (Leaves Main (IsListOrPacked StandsForList tid state.list)) state.log state'.log moments
+    images_by StoreFailed list sound images moments = last_left (Leaves Main (IsListOrPacked StandsForList pack state.list)) state.log state'.log moments
 
     counts_before : counts_of state ≡ (record { reads = before.read_faults; others = before.write_faults })
     counts_before = ap (λ (n : ℕ). let x : FaultCounts = record { reads = n; others = state.faults } in x) first ∙ ap (λ (n : ℕ). let x : FaultCounts = record { reads = before.read_faults; others = n } in x) whole
@@ -281,12 +282,12 @@ module _ (tid : ℕ) (before : Outside) (state : StoreState) (left : Option (Lis
     cause_so : (o : StepOutcome) → IsCauseOf (counts_of state) (counts_of state') o → IsCauseOf (record { reads = before.read_faults; others = before.write_faults }) (record { reads = after.read_faults; others = after.write_faults }) o
     cause_so o cause = subst (λ (x : FaultCounts). IsCauseOf x (record { reads = after.read_faults; others = after.write_faults }) o) counts_before (subst (λ (x : FaultCounts). IsCauseOf (counts_of state) x o) counts_after cause)
 
-    packed_so : (s : Status) → told → IsOpen before after state left cut → PacksStore s told told StandsForList tid cut before.taken after.taken before.sink_faults after.sink_faults state state' left after.stamps
-        → IsPacked tid (ReplySays s before.taken after.taken before.sink_faults after.sink_faults) before after
+    packed_so : (s : Status) → told → IsOpen before after state left cut → PacksStore s told told StandsForList pack cut before.taken after.taken before.sink_faults after.sink_faults state state' left after.stamps
+        → IsPacked pack (ReplySays s before.taken after.taken before.sink_faults after.sink_faults) before after
     packed_so s known is packs =
         let step = packs.step known in
-        let images : Leaves Main (IsLeftBy StandsForList tid state.list (outcome_of packs.reply)) after.log =
-        subst (λ (l : List Event). Leaves Main (IsLeftBy StandsForList tid state.list (outcome_of packs.reply)) l) (sym log) (images_by (outcome_of packs.reply) step.list step.whole (packs.images known) (packs.moments known known)) in record {
+        let images : Leaves Main (IsLeftBy StandsForList pack state.list (outcome_of packs.reply)) after.log =
+        subst (λ (l : List Event). Leaves Main (IsLeftBy StandsForList pack state.list (outcome_of packs.reply)) l) (sym log) (images_by (outcome_of packs.reply) step.list step.whole (packs.images known) (packs.moments known known)) in record {
           list = state.list;
           cut = cut;
           opens = subst (λ (o : Option (List Stamp)). OpensAs (main_of before) before.stamps o state.list cut) (sym step.clock) is.opens;
@@ -297,12 +298,12 @@ module _ (tid : ℕ) (before : Outside) (state : StoreState) (left : Option (Lis
           main = images (main_of after) is.shown;
           images = images;
           moments = λ calm.
-              subst (λ (l : List Event). LeavesOnly Main (IsOfPack (main_of before) tid state.list) before.log l) (sym log)
-              (along_joined (Leaves Main (IsOfPack (main_of before) tid state.list)) before.log state.log state'.log (opened_moments is.opens is.keeps is.makes calm)
-              (leaves_less Main (IsListOrPacked StandsForList tid state.list) (IsOfPack (main_of before) tid state.list) state.log state'.log (λ bytes either. inl either) (packs.moments known known)));
+              subst (λ (l : List Event). LeavesOnly Main (IsOfPack (main_of before) pack state.list) before.log l) (sym log)
+              (along_joined (Leaves Main (IsOfPack (main_of before) pack state.list)) before.log state.log state'.log (opened_moments is.opens is.keeps is.makes calm)
+              (leaves_less Main (IsListOrPacked StandsForList pack state.list) (IsOfPack (main_of before) pack state.list) state.log state'.log (λ bytes either. inl either) (packs.moments known known)));
         }
 
-    pub packs_file : (s : Status) → (told → IsOpen before after state left cut) → PacksStore s told told StandsForList tid cut before.taken after.taken before.sink_faults after.sink_faults state state' left after.stamps → PackSays s tid told before after
+    pub packs_file : (s : Status) → (told → IsOpen before after state left cut) → PacksStore s told told StandsForList pack cut before.taken after.taken before.sink_faults after.sink_faults state state' left after.stamps → PackSays s pack told before after
     packs_file status.Done is packs = λ known. packed_so status.Done known (is known) packs
     packs_file status.NoMemory is packs = let both = packs.says in (both.1, inr (λ known. packed_so status.NoMemory known (is known) packs))
     packs_file status.SinkFault is packs = let all = packs.says in (all.0, λ known. packed_so status.SinkFault known (is known) packs)

@@ -1,12 +1,15 @@
 -- The script of an input, and what is said of the runs of its turns.
-use Rattle.std.proofs.Common.{◌≡◌, ℕ, ◌≤◌, List, [], ◌∷◌, Option, Some, None, inl, inr, subst, sym, refl, ◌∙◌}
-use Rattle.std.specs.Prelude.{◌⊎◌, IfSome}
+use Rattle.std.proofs.Common.{◌≡◌, ℕ, ◌<◌, ◌≤◌, Bool, true, false, if◌then◌else◌, length, nat_lt, List, [], ◌∷◌, Option, Some, None, inl, inr, subst, sym, refl, ◌∙◌, true≢false}
+use Rattle.std.proofs.lemmas.Bool.{lt-ltb}
+use Rattle.std.specs.Prelude.{◌⊎◌, ◌≢◌, IfSome}
+use Rattle.std.specs.Option.{IsSomeAnd}
 use Rattle.std.specs.List.{AllByRecursion}
 use Rattle.zb_script.specs.declared.limits.Limit.{Limit}
+use Rattle.zb_script.specs.declared.limits.Limit.TheVariants as limits
 use Rattle.zb_script.specs.declared.line.Line.{Line}
 use Rattle.zb_script.specs.declared.line.Line.TheVariants as line
 use Rattle.zb_script.specs.declared.line.Turn.{Turn}
-use Rattle.zb_script.specs.Limits.{first_limit}
+use Rattle.zb_script.specs.Limits.{first_limit, limit_count}
 use Rattle.zb_script.specs.Script.{IsBadLine, IsScript}
 use Rattle.zb_script.specs.Spelling.{AreTurnTexts, IsLineText}
 use Rattle.client_turns.specs.declared.errors.TurnError.TheVariants.{Memory}
@@ -14,10 +17,10 @@ use Rattle.client_turns.specs.Refusing.{IsFittingLine}
 use Rattle.zodb_top.specs.declared.status.Status.{Status}
 use Rattle.zodb_top.specs.declared.status.Status.TheVariants as status
 use Rattle.zodb_top.specs.Came.{RanInPart, RanToFault, RanWhole}
-use Rattle.zodb_top.specs.Inputs.{InputSays}
+use Rattle.zodb_top.specs.Inputs.{InputSays, SaysLimit, most_bytes}
 use Rattle.zodb_top.specs.Opened.{IsUnopened}
 use Rattle.zodb_top.specs.Outside.{Outside}
-use Rattle.zodb_top.specs.Program.{IsInput, OfInput, RunSays}
+use Rattle.zodb_top.specs.Program.{IsInput, OfInput, ReadsToEnd, RunSays}
 use Rattle.zodb_top.specs.Running.{FileSays}
 
 -- ---- texts fit
@@ -83,3 +86,23 @@ unread_input _ told unread left all before after is unopened said = absurd said
 pub of_any : (left : Option (List ℕ)) (P : List ℕ → Type 0) → ((input : List ℕ) → P input) → IfSome left P
 of_any None P all = tt
 of_any (Some input) P all = all input
+
+-- ---- how far the source was read
+
+-- what is longer than a script may be passes the limit of its bytes first
+past_bytes : (input : List ℕ) (b : Bool) (other : Option Limit) → nat_lt (limit_count limits.Bytes) (length input) ≡ b → most_bytes < length input → (if b then Some limits.Bytes else other) ≡ Some limits.Bytes
+past_bytes input true other is long = refl
+past_bytes input false other is long = absurd (true≢false (sym (lt-ltb most_bytes (length input) long) ∙ is))
+
+not_to_end : (left : Option (List ℕ)) → IfSome left (λ all. most_bytes < length all) → IsSomeAnd left (λ input. first_limit input ≢ Some limits.Bytes) → ⊥
+not_to_end None long other = other
+not_to_end (Some input) long other = other (past_bytes input (nat_lt (limit_count limits.Bytes) (length input)) _ refl long)
+
+-- so where its bytes are told to pass their limit, or reading failed, no status says that it was read to its end
+pub limit_unread : (s : Status) (left : Option (List ℕ)) (old new : Option (List ℕ)) (before now : ℕ) (X : Type 0) → IfSome left (λ all. most_bytes < length all) → SaysLimit limits.Bytes s old new before now → ReadsToEnd s left → X
+limit_unread status.Limit left old new before now X long said ends = absurd (not_to_end left long ends)
+limit_unread status.NoMemory left old new before now X long said ends = absurd ends
+limit_unread _ left old new before now X long said ends = absurd said
+
+pub fault_unread : (s : Status) (left : Option (List ℕ)) (X : Type 0) → s ≡ status.SourceFault → ReadsToEnd s left → X
+fault_unread s left X is ends = absurd (subst (λ (x : Status). ReadsToEnd x left) is ends)

@@ -23,13 +23,13 @@ use Rattle.zodb_top.specs.declared.replying.RunError.{RunError}
 use Rattle.zodb_top.specs.declared.replying.RunError.TheVariants as errors
 use Rattle.zodb_top.specs.declared.status.Status.{Status}
 use Rattle.zodb_top.specs.declared.status.Status.TheVariants as status
-use Rattle.zodb_top.specs.Came.{BreaksOff, Came, IsMainBy, IsOfRun, answers_text, began, stock}
+use Rattle.zodb_top.specs.Came.{BreaksOff, Came, IsMainBy, IsOfCame, IsOfRun, answers_text, began, stock}
 use Rattle.zodb_top.specs.Running.{RanAllOver, RanOver, RunsOn, SaysStopped, Stops, StoreSays, broke_of}
 use Rattle.zodb_top.specs.Texts.{cut_lines, joined, store_fault_line}
 use Rattle.zodb_top.specs.Written.{IsWritten}
 use Rattle.zodb_top.proofs.Nexts.{next_kept}
 use Rattle.zodb_top.proofs.Prefixes.{behind_prefix, prefix_before}
-use Rattle.zodb_top.proofs.Turning.{BrokenKeeps, broken_keeps, out_keeps}
+use Rattle.zodb_top.proofs.Turning.{BrokenKeeps, broken_keeps, out_failed}
 
 -- ---- texts
 
@@ -57,13 +57,13 @@ pub record IsWholeAt (behind now : Moment) : Type 0 where
 whole_none : (m : Moment) (turns : List Turn) (now : Moment) → m.machine.failed ≡ false → (c : Came m turns None now) → IsWholeAt c.behind now
 whole_none m turns now whole c = record {
   list = ap (λ (x : Moment). x.machine.list) c.ends;
-  whole = ap (λ (x : Moment). x.machine.failed) c.ends ∙ (out_keeps stock m c.taken c.later c.answers c.behind c.answered).failed ∙ whole;
+  whole = ap (λ (x : Moment). x.machine.failed) c.ends ∙ out_failed stock m c.taken c.later c.answers c.behind c.answered ∙ whole;
 }
 
 whole_memory : (m : Moment) (turns : List Turn) (now : Moment) → m.machine.failed ≡ false → (c : Came m turns (Some turn_error.Memory) now) → IsWholeAt c.behind now
 whole_memory m turns now whole c =
     let keeps = broken_off c.behind c.later now c.ends in
-    record { list = keeps.list; whole = keeps.failed ∙ (out_keeps stock m c.taken c.later c.answers c.behind c.answered).failed ∙ whole }
+    record { list = keeps.list; whole = keeps.failed ∙ out_failed stock m c.taken c.later c.answers c.behind c.answered ∙ whole }
 
 -- ---- nothing was run
 
@@ -78,7 +78,13 @@ module _ (lasts : Type 0) (stands : List ℕ → List Transaction → Type 0) wh
         stamps = refl;
         counts = refl;
         images = lasting;
-        moments = λ known. here (λ image left. record { taken = []; later = turns; parts = refl; answers = []; at = m; answered = refl; list = next_kept stands m.machine turns image (lasting known image left) });
+        moments = λ known. here (λ image left. record {
+          given = [];
+          more = [];
+          parts = refl;
+          came = record { front = []; rest = []; parts = refl; at = m; before = refl; after = refl };
+          list = next_kept stands m.machine turns image (lasting known image left);
+        });
       }
 
   -- no memory for a line, or the sink took a prefix of it
@@ -105,10 +111,10 @@ module _ (lasts : Type 0) (stands : List ℕ → List Transaction → Type 0) wh
         let list : state.list ≡ behind.machine.list = ap (λ (s : StoreState). s.list) kept ∙ sym (is.hub.list (sym is.hub.failed ∙ whole.whole)) ∙ whole.list in
         subst (λ (l : List Transaction). stands image l) list (lasting known sound image left)
 
-    moments_so : LeavesOnly Main (IsOfRun stands m turns) old.log clients.hub.store.log → LeavesOnly Main (IsOfRun stands m turns) old.log state.log
-    moments_so moments = subst (λ (s : StoreState). LeavesOnly Main (IsOfRun stands m turns) old.log s.log) (sym kept) moments
+    moments_so : (may : List ℕ → Type 0) → LeavesOnly Main may old.log clients.hub.store.log → LeavesOnly Main may old.log state.log
+    moments_so may moments = subst (λ (s : StoreState). LeavesOnly Main may old.log s.log) (sym kept) moments
 
-    pub ran_all : RunsOn lasts stands m turns turns [] mid new old.log clients left → RanAllOver lasts stands m cut turns (Appends taken new) old state left
+    pub ran_all : RunsOn lasts stands m turns [] mid new old.log clients left → RanAllOver lasts stands m cut turns (Appends taken new) old state left
     ran_all runs = record {
       ran = record {
         now = runs.now;
@@ -117,7 +123,7 @@ module _ (lasts : Type 0) (stands : List ℕ → List Transaction → Type 0) wh
         stamps = sym runs.stands_for.stamps;
         counts = counts_so runs.now runs.stands_for;
         images = images_so runs.now runs.now runs.stands_for (record { list = refl; whole = runs.whole });
-        moments = λ known. moments_so (runs.moments known);
+        moments = λ known. moments_so (IsOfRun stands m turns [] runs.answers runs.now) (runs.moments known);
       };
       all = refl;
     }
@@ -130,7 +136,7 @@ module _ (lasts : Type 0) (stands : List ℕ → List Transaction → Type 0) wh
       stamps = sym s.stands_for.stamps;
       counts = counts_so s.now s.stands_for;
       images = images_so s.came.behind s.now s.stands_for (whole_none m turns s.now whole s.came);
-      moments = λ known. moments_so (s.moments known);
+      moments = λ known. moments_so (IsOfCame stands s.came) (s.moments known);
     }
 
     ran_starved : m.machine.failed ≡ false → Stops lasts stands (Some turn_error.Memory) m turns mid new old.log clients left → RanOver lasts stands m cut turns (Some turn_error.Memory) (AppendsPrefix taken new) old state left
@@ -141,7 +147,7 @@ module _ (lasts : Type 0) (stands : List ℕ → List Transaction → Type 0) wh
       stamps = sym s.stands_for.stamps;
       counts = counts_so s.now s.stands_for;
       images = images_so s.came.behind s.now s.stands_for (whole_memory m turns s.now whole s.came);
-      moments = λ known. moments_so (s.moments known);
+      moments = λ known. moments_so (IsOfCame stands s.came) (s.moments known);
     }
 
     ran_faulted : (written : List ℕ → Type 0) → ((text : List ℕ) → Appends taken new text → written text) → Stops lasts stands (Some turn_error.StoreFault) m turns mid new old.log clients left
@@ -153,7 +159,7 @@ module _ (lasts : Type 0) (stands : List ℕ → List Transaction → Type 0) wh
       stamps = sym s.stands_for.stamps;
       counts = counts_so s.now s.stands_for;
       images = λ known. subst (λ (x : StoreState). Leaves Main (IsMainBy stands (Some turn_error.StoreFault) s.came.behind.machine s.came.later) x.log) (sym kept) (s.around refl known);
-      moments = λ known. moments_so (s.moments known);
+      moments = λ known. moments_so (IsOfCame stands s.came) (s.moments known);
     }
 
     pub stopped : (e : RunError) (s : Status) (told : Type 0) (taken' : Option (List ℕ)) (before between now : ℕ) → SaysStopped e s new taken' between now → before ≤ between → between ≤ now

@@ -1,7 +1,8 @@
--- What a turn keeps, and a run.
-use Rattle.std.proofs.Common.{◌≡◌, ℕ, Bool, true, false, cond, List, [], ◌∷◌, ◌++◌, Option, Some, None, length, ltb, refl, sym, ap, subst, ◌∙◌, true≢false}
+-- What a turn leaves of the list, and a run.
+use Rattle.std.proofs.Common.{◌≡◌, ℕ, Bool, true, false, cond, List, [], ◌∷◌, ◌++◌, Option, Some, None, length, ltb, append-nil, append_assoc, refl, sym, ap, subst, ◌∙◌}
 use Rattle.std.specs.Prelude.{Result, Ok, Err, slice_get, ◌||◌}
-use Rattle.std.specs.List.{AllByRecursion}
+use Rattle.zb_ids.specs.declared.stamp.Stamp.{Stamp}
+use Rattle.zb_model.specs.declared.data.Content.TheVariants.{Held}
 use Rattle.zb_model.specs.declared.data.Transaction.{Transaction}
 use Rattle.zb_model.specs.declared.pending.PendingStore.{PendingStore}
 use Rattle.zb_model.specs.declared.refusal.Refusal.{Refusal}
@@ -16,75 +17,70 @@ use Rattle.commit_phases.specs.Pending.{PendingChanges, excess_with, pending_of}
 use Rattle.tree_calls.specs.declared.operation.TreeAnswer.{TreeAnswer}
 use Rattle.tree_calls.specs.declared.operation.TreeAnswer.TheVariants as answered
 use Rattle.zodb_core.specs.declared.reply.Reply.{Reply}
-use Rattle.zodb_core.specs.declared.reply.Reply.TheVariants as reply
 use Rattle.zodb_core.specs.declared.request.Request.{Request}
 use Rattle.zodb_core.specs.declared.request.Request.TheVariants as request
 use Rattle.zodb_core.specs.Machine.{Machine, Rules, session_limit, with_session}
-use Rattle.zodb_core.specs.Outcomes.{NoMemory, StoreFailed, is_pack, outcome_of}
-use Rattle.zodb_core.specs.Outcomes as core
-use Rattle.zodb_core.specs.Sound.{IsPackWithin}
+use Rattle.zodb_core.specs.Outcomes.{FaultCounts}
 use Rattle.client_turns.specs.declared.errors.TurnError.{TurnError}
 use Rattle.client_turns.specs.declared.errors.TurnError.TheVariants as turn_error
-use Rattle.client_turns.specs.Clients.{Changes, Client, Moment, OpenTransaction, changes_of, place_of_client}
-use Rattle.client_turns.specs.Lines.{Changed, answer_of, data_of, end_of, is_committed, object_of, object_pending, put, request_of, rolled_back, rolled_to, saved, store_unless, stored}
+use Rattle.client_turns.specs.Clients.{Changes, Client, Moment, OpenTransaction, changes_of, first_moment, place_of_client}
+use Rattle.client_turns.specs.Lines.{Changed, answer_of, data_of, deleted, end_of, is_committed, object_of, put, request_of, rolled_back, rolled_to, saved, store_unless, stored}
 use Rattle.client_turns.specs.DrawLaws.{tree_answer, tree_raised}
 use Rattle.client_turns.specs.Trees.{IsRaised, IsTreeLine, answer_told}
+use Rattle.client_turns.specs.TurnLaws.{by_name, first_ahead, out_ahead, starved_so, step_at_left, turn_whole}
 use Rattle.client_turns.specs.Output.{Out, TurnAnswer, is_last}
 use Rattle.client_turns.specs.Refusing.{connection_refusal}
+use Rattle.client_turns.specs.Standing.{IsAhead}
 use Rattle.client_turns.specs.Steps.{IsChange, IsRefusedAt, IsStepAt}
-use Rattle.client_turns.specs.Turns.{IsAnswered, IsBroken, IsClosed, IsClosing, IsClosingAt, IsGet, IsLine, IsLineOf, IsLineTaken, IsLineUnless, IsOpening, IsOwnLine, IsPut, IsReadLine, IsStepLine, IsTold, IsTurn, IsWithin, Opening, by_closing, by_line, by_memory, opened}
+use Rattle.client_turns.specs.Turns.{IsBroken, IsClosed, IsClosing, IsClosingAt, IsGet, IsLine, IsLineOf, IsLineTaken, IsLineUnless, IsOpening, IsOwnLine, IsPut, IsReadLine, IsStepLine, IsTold, IsTurn, IsWithin, Opening, by_closing, by_line, by_memory}
+use Rattle.connection_view.specs.Connections.{waiting_read}
 use Rattle.connection_view.specs.Views.{View}
-use Rattle.zodb_top.specs.Committed.{BeginsWith, CommittedStays, HasCommitted, IsInIfCommitted, IsLeftIfCommitted, IsLeftOf, has_packed, is_packed}
-use Rattle.zodb_top.proofs.Keeping.{GoesTo, HasIfCommitted, IsHeld, MadeKeeps, answered_on, close_fed, committed_on, committed_so, fails_so, front_whole, goes_both, goes_is, goes_then, in_later, left_later, made_keeps, packed_so, starved_so}
+use Rattle.zodb_top.specs.Committed.{AnswerLeaves, AnswersLeave, BeginsWith, CameBy, CommittedStays, EndsWith, HasCommitted, IsCommittedTo, IsLeftSince, has_packed, is_packed}
+use Rattle.zodb_top.proofs.Keeping.{MadeKeeps, close_fed, fails_so, front_whole, leaves_so, made_keeps}
 
 -- ---- steps at a moment
 
-step_at : (rules : Rules) (m : Moment) (n : ℕ) (q : Request) (r : Reply) (now : Moment) → IsStepAt rules m n q r now → (q ≡ request.PackTurn → IsPackWithin m.machine.list m.machine.pack) → MadeKeeps q m.machine r now.machine
-step_at rules m n q r now step turn = made_keeps rules m.machine n q step.stamp r now.machine step.ticks m.counts now.counts step.made turn
+step_at : (rules : Rules) (m : Moment) (n : ℕ) (q : Request) (r : Reply) (now : Moment) → IsStepAt rules m n q r now → MadeKeeps rules m.machine r now.machine
+step_at rules m n q r now step = made_keeps rules m.machine n q step.stamp r now.machine step.ticks m.counts now.counts step.made
 
-no_turn : (q : Request) (X : Type 0) → is_pack q ≡ false → q ≡ request.PackTurn → X
-no_turn q X not is = absurd (true≢false (sym (ap is_pack is) ∙ not))
-
--- what a list and a machine that hasn't failed become
+-- a moment with the same list, over a store that failed as little
 pub record Keeps (m now : Moment) : Type 0 where
-  pub goes : GoesTo false m.machine.list now.machine.list
+  pub list : now.machine.list ≡ m.machine.list
   pub failed : now.machine.failed ≡ m.machine.failed
 
 keeps_same : (m now : Moment) → now ≡ m → Keeps m now
-keeps_same m now is = record { goes = goes_is false m.machine.list now.machine.list (ap (λ (x : Moment). x.machine.list) is); failed = ap (λ (x : Moment). x.machine.failed) is }
-
-keeps_on : (a b c : Moment) → Keeps a b → Keeps b c → Keeps a c
-keeps_on a b c first second = record { goes = goes_then false a.machine.list b.machine.list c.machine.list first.goes second.goes; failed = second.failed ∙ first.failed }
+keeps_same m now is = record { list = ap (λ (x : Moment). x.machine.list) is; failed = ap (λ (x : Moment). x.machine.failed) is }
 
 told_keeps : (rules : Rules) (b : Bool) (m : Moment) (n : ℕ) (now : Moment) → IsTold rules b m n now → Keeps m now
 told_keeps rules false m n now told = keeps_same m now told
-told_keeps rules true m n now (r, step) =
-    let keeps = step_at rules m n request.Front r now step (no_turn request.Front (IsPackWithin m.machine.list m.machine.pack) refl) in
-    record { goes = subst (λ (b : Bool). GoesTo b m.machine.list now.machine.list) (keeps.plain refl) keeps.goes; failed = keeps.failed (front_whole rules m.machine n step.stamp r now.machine step.ticks m.counts now.counts step.made) }
+told_keeps rules true m n now (r, step) = record {
+  list = step_at_left rules m n request.Front r now step;
+  failed = (step_at rules m n request.Front r now step).failed (front_whole rules m.machine n step.stamp r now.machine step.ticks m.counts now.counts step.made);
+}
 
 -- ---- lines
 
 -- what a line keeps, by its answer
-pub record LineKeeps (m : Moment) (a : Answer) (now : Moment) : Type 0 where
-  pub goes : GoesTo (is_packed a) m.machine.list now.machine.list
-  pub committed : IsHeld now.machine.list a
+pub record LineKeeps (rules : Rules) (m : Moment) (a : Answer) (now : Moment) : Type 0 where
+  pub leaves : IsAhead m.machine → AnswerLeaves rules a m.machine.list now.machine.list
   pub failed : ¬ (end_of a ≡ Some turn_error.StoreFault) → now.machine.failed ≡ m.machine.failed
   pub memory : end_of a ≡ Some turn_error.Memory → now.machine.list ≡ m.machine.list
 
--- an answer tells of no commit
+-- an answer tells of no commit and of no pack
 abbrev IsPlain : Answer → Type 0
 IsPlain (answer.Committed tid) = ⊥
+IsPlain (answer.Packed kept dropped) = ⊥
 IsPlain _ = Unit {0}
 
-plain_in : (a : Answer) (list : List Transaction) → IsPlain a → IsHeld list a
-plain_in (answer.Committed tid) list plain = absurd plain
-plain_in _ list plain = tt
+plain_left : (rules : Rules) (a : Answer) (list now : List Transaction) → IsPlain a → now ≡ list → AnswerLeaves rules a list now
+plain_left rules (answer.Committed tid) list now plain same = absurd plain
+plain_left rules (answer.Packed kept dropped) list now plain same = absurd plain
+plain_left rules _ list now plain same = same
 
 -- a line that leaves the machine as it is
-same_line : (m : Moment) (a b : Answer) (now : Moment) → a ≡ b → IsPlain b → now.machine ≡ m.machine → LineKeeps m a now
-same_line m a b now is plain same = record {
-  goes = goes_is (is_packed a) m.machine.list now.machine.list (ap (λ (x : Machine). x.list) same);
-  committed = subst (IsHeld now.machine.list) (sym is) (plain_in b now.machine.list plain);
+same_line : (rules : Rules) (m : Moment) (a b : Answer) (now : Moment) → a ≡ b → IsPlain b → now.machine ≡ m.machine → LineKeeps rules m a now
+same_line rules m a b now is plain same = record {
+  leaves = λ ahead. subst (λ (x : Answer). AnswerLeaves rules x m.machine.list now.machine.list) (sym is) (plain_left rules b m.machine.list now.machine.list plain (ap (λ (x : Machine). x.list) same));
   failed = λ other. ap (λ (x : Machine). x.failed) same;
   memory = λ none. ap (λ (x : Machine). x.list) same;
 }
@@ -93,9 +89,9 @@ abbrev opening_of : Moment → List ℕ → Bool → Opening
 opening_of m name true = record { answer = answer.Opened (length m.machine.sessions); moment = record m { machine = with_session m.machine; clients = m.clients ++ (record { name = name; session = length m.machine.sessions; transaction = None }) ∷ [] } }
 opening_of m name false = record { answer = answer.Refused (refusal.TooManySessions (length m.machine.sessions)); moment = m }
 
-opening_keeps : (m : Moment) (name : List ℕ) (b : Bool) → LineKeeps m (opening_of m name b).answer (opening_of m name b).moment
-opening_keeps m name true = record { goes = goes_is false m.machine.list m.machine.list refl; committed = tt; failed = λ other. refl; memory = λ none. refl }
-opening_keeps m name false = record { goes = goes_is false m.machine.list m.machine.list refl; committed = tt; failed = λ other. refl; memory = λ none. refl }
+opening_keeps : (rules : Rules) (m : Moment) (name : List ℕ) (b : Bool) → LineKeeps rules m (opening_of m name b).answer (opening_of m name b).moment
+opening_keeps rules m name true = record { leaves = λ ahead. refl; failed = λ other. refl; memory = λ none. refl }
+opening_keeps rules m name false = record { leaves = λ ahead. refl; failed = λ other. refl; memory = λ none. refl }
 
 opened_so : (m : Moment) (name : List ℕ) (b : Bool)
     → cond {A = Opening} b (record { answer = answer.Opened (length m.machine.sessions); moment = record m { machine = with_session m.machine; clients = m.clients ++ (record { name = name; session = length m.machine.sessions; transaction = None }) ∷ [] } })
@@ -103,39 +99,28 @@ opened_so : (m : Moment) (name : List ℕ) (b : Bool)
 opened_so m name true = refl
 opened_so m name false = refl
 
-open_keeps : (m : Moment) (name : List ℕ) (a : Answer) (now : Moment) → IsOpening m name a now → LineKeeps m a now
-open_keeps m name a now is =
+open_keeps : (rules : Rules) (m : Moment) (name : List ℕ) (a : Answer) (now : Moment) → IsOpening m name a now → LineKeeps rules m a now
+open_keeps rules m name a now is =
     let b = ltb (length m.machine.sessions) session_limit in
-    subst (λ (o : Opening). LineKeeps m o.answer o.moment) (sym (is ∙ opened_so m name b)) (opening_keeps m name b)
+    subst (λ (o : Opening). LineKeeps rules m o.answer o.moment) (sym (is ∙ opened_so m name b)) (opening_keeps rules m name b)
 
-step_line : (rules : Rules) (m : Moment) (at : ℕ) (c : Client) (q : Request) (a : Answer) (now : Moment) → (q ≡ request.PackTurn → IsPackWithin m.machine.list m.machine.pack) → IsStepLine rules m at c q a now → LineKeeps m a now
-step_line rules m at c q a now turn l =
-    let keeps = step_at rules m c.session q l.reply l.behind l.step turn in
+step_line : (rules : Rules) (m : Moment) (at : ℕ) (c : Client) (q : Request) (a : Answer) (now : Moment) → IsStepLine rules m at c q a now → LineKeeps rules m a now
+step_line rules m at c q a now l =
+    let keeps = step_at rules m c.session q l.reply l.behind l.step in
     let told = told_keeps rules (is_committed l.reply) l.behind c.session l.told l.front in
     let machine : now.machine ≡ l.told.machine = ap (λ (x : Moment). x.machine) l.left in
-    let last = goes_is false l.told.machine.list now.machine.list (ap (λ (x : Machine). x.list) machine) in
-    let behind : GoesTo false l.behind.machine.list now.machine.list = goes_then false l.behind.machine.list l.told.machine.list now.machine.list told.goes last in
-    record {
-      goes = subst (λ (b : Bool). GoesTo b m.machine.list now.machine.list) (sym (ap is_packed l.answer ∙ packed_so l.reply)) (goes_then (core.is_packed l.reply) m.machine.list l.behind.machine.list now.machine.list keeps.goes behind);
-      committed = subst (IsHeld now.machine.list) (sym l.answer) (committed_so l.reply now.machine.list (committed_on l.reply l.behind.machine.list now.machine.list behind keeps.committed));
+    let list : now.machine.list ≡ l.behind.machine.list = ap (λ (x : Machine). x.list) machine ∙ told.list in record {
+      leaves = λ ahead.
+          subst (λ (x : Answer). AnswerLeaves rules x m.machine.list now.machine.list) (sym l.answer)
+          (subst (AnswerLeaves rules (answer_of l.reply) m.machine.list) (sym list) (leaves_so rules l.reply m.machine.list l.behind.machine.list (keeps.leaves ahead)));
       failed = λ other. ap (λ (x : Machine). x.failed) machine ∙ told.failed ∙ keeps.failed (λ lost. other (ap end_of l.answer ∙ fails_so l.reply lost));
-      memory = λ none. starved rules m at c q a now l machine (starved_so l.reply (sym (ap end_of l.answer) ∙ none)) keeps;
+      memory = λ none. list ∙ keeps.memory (starved_so l.reply (sym (ap end_of l.answer) ∙ none));
     }
-  where
-    not_told : (r : Reply) → outcome_of r ≡ NoMemory → is_committed r ≡ false
-    not_told (reply.Committed tid) is = absurd cc
-    not_told _ is = refl
-
-    starved : (rules : Rules) (m : Moment) (at : ℕ) (c : Client) (q : Request) (a : Answer) (now : Moment) (l : IsStepLine rules m at c q a now) → now.machine ≡ l.told.machine → outcome_of l.reply ≡ NoMemory → MadeKeeps q m.machine l.reply l.behind.machine
-        → now.machine.list ≡ m.machine.list
-    starved rules m at c q a now l machine none keeps =
-        let told : l.told ≡ l.behind = subst (λ (b : Bool). IsTold rules b l.behind c.session l.told) (not_told l.reply none) l.front in
-        ap (λ (x : Machine). x.list) machine ∙ ap (λ (x : Moment). x.machine.list) told ∙ keeps.memory none
 
 -- ---- lines that are no step
 
-refused_line : (m : Moment) (why : Refusal) (a : Answer) (now : Moment) → IsRefusedAt m why a now → LineKeeps m a now
-refused_line m why a now (is, same) = same_line m a (answer.Refused why) now is tt (ap (λ (x : Moment). x.machine) same)
+refused_line : (rules : Rules) (m : Moment) (why : Refusal) (a : Answer) (now : Moment) → IsRefusedAt m why a now → LineKeeps rules m a now
+refused_line rules m why a now (is, same) = same_line rules m a (answer.Refused why) now is tt (ap (λ (x : Moment). x.machine) same)
 
 plain_data : (r : Result (ℕ × List ℕ) Refusal) → IsPlain (data_of r)
 plain_data (Ok got) = tt
@@ -149,28 +134,31 @@ plain_store : (t : Changes) (p : PendingStore) (excess : Option ℕ) → IsPlain
 plain_store t p None = tt
 plain_store t p (Some n) = tt
 
+plain_stored : (t : Changes) (p : PendingStore) → IsPlain (stored t p).answer
+plain_stored t p = plain_store t p (excess_with t.pending.stores p)
+
 plain_put : (t : Changes) (oid : ℕ) (bytes : List ℕ) (r : Result (ℕ × List ℕ) Refusal) → IsPlain (put t oid bytes r).answer
-plain_put t oid bytes (Ok got) = plain_store t (record { oid = oid; base = got.0; bytes = bytes }) (excess_with t.pending.stores (record { oid = oid; base = got.0; bytes = bytes }))
-plain_put t oid bytes (Err (refusal.Missing o false)) = plain_store t (record { oid = oid; base = 0; bytes = bytes }) (excess_with t.pending.stores (record { oid = oid; base = 0; bytes = bytes }))
+plain_put t oid bytes (Ok got) = plain_stored t (record { oid = oid; base = got.0; content = Held bytes })
+plain_put t oid bytes (Err (refusal.Missing o false)) = plain_stored t (record { oid = oid; base = 0; content = Held bytes })
 plain_put t oid bytes (Err (refusal.Missing o true)) = tt
 plain_put t oid bytes (Err _) = tt
 
-change_line : (m : Moment) (at : ℕ) (c : Client) (t : OpenTransaction) (w : Changed) (a : Answer) (now : Moment) → IsPlain w.answer → IsChange m at c t w a now → LineKeeps m a now
-change_line m at c t w a now plain (is, left) = same_line m a w.answer now is plain (ap (λ (x : Moment). x.machine) left)
+change_line : (rules : Rules) (m : Moment) (at : ℕ) (c : Client) (t : OpenTransaction) (w : Changed) (a : Answer) (now : Moment) → IsPlain w.answer → IsChange m at c t w a now → LineKeeps rules m a now
+change_line rules m at c t w a now plain (is, left) = same_line rules m a w.answer now is plain (ap (λ (x : Moment). x.machine) left)
 
-read_line : (m : Moment) (v : View) (oid : ℕ) (answer_to : Result (ℕ × List ℕ) Refusal → Answer) (a : Answer) (now : Moment) → ((r : Result (ℕ × List ℕ) Refusal) → IsPlain (answer_to r)) → IsReadLine m v oid answer_to a now → LineKeeps m a now
-read_line m v oid answer_to a now plain (r, read, is) = same_line m a (answer_to r) now is (plain r) (ap (λ (x : Moment). x.machine) read.rest)
+read_line : (rules : Rules) (m : Moment) (v : View) (oid : ℕ) (answer_to : Result (ℕ × List ℕ) Refusal → Answer) (a : Answer) (now : Moment) → ((r : Result (ℕ × List ℕ) Refusal) → IsPlain (answer_to r)) → IsReadLine m v oid answer_to a now → LineKeeps rules m a now
+read_line rules m v oid answer_to a now plain (r, read, is) = same_line rules m a (answer_to r) now is (plain r) (ap (λ (x : Moment). x.machine) read.rest)
 
-get_line : (m : Moment) (v : View) (oid : ℕ) (p : Option PendingStore) (a : Answer) (now : Moment) → IsGet m v oid p a now → LineKeeps m a now
-get_line m v oid (Some p) a now (is, same) = same_line m a (object_pending p) now is tt (ap (λ (x : Moment). x.machine) same)
-get_line m v oid None a now l = read_line m v oid object_of a now plain_object l
+get_line : (rules : Rules) (m : Moment) (v : View) (oid : ℕ) (p : Option PendingStore) (a : Answer) (now : Moment) → IsGet m v oid p a now → LineKeeps rules m a now
+get_line rules m v oid (Some p) a now (is, same) = same_line rules m a (object_of (waiting_read oid p)) now is (plain_object (waiting_read oid p)) (ap (λ (x : Moment). x.machine) same)
+get_line rules m v oid None a now l = read_line rules m v oid object_of a now plain_object l
 
-put_line : (m : Moment) (at : ℕ) (c : Client) (t : OpenTransaction) (oid : ℕ) (bytes : List ℕ) (p : Option PendingStore) (a : Answer) (now : Moment) → IsPut m at c t oid bytes p a now → LineKeeps m a now
-put_line m at c t oid bytes (Some p) a now l =
-    change_line m at c t (stored t.changes (record { oid = oid; base = p.base; bytes = bytes })) a now
-    (plain_store t.changes (record { oid = oid; base = p.base; bytes = bytes }) (excess_with t.changes.pending.stores (record { oid = oid; base = p.base; bytes = bytes }))) l
-put_line m at c t oid bytes None a now (r, behind, read, (is, left)) =
-    same_line m a (put t.changes oid bytes r).answer now is (plain_put t.changes oid bytes r) (ap (λ (x : Moment). x.machine) left ∙ ap (λ (x : Moment). x.machine) read.rest)
+put_line : (rules : Rules) (m : Moment) (at : ℕ) (c : Client) (t : OpenTransaction) (oid : ℕ) (bytes : List ℕ) (p : Option PendingStore) (a : Answer) (now : Moment) → IsPut m at c t oid bytes p a now → LineKeeps rules m a now
+put_line rules m at c t oid bytes (Some p) a now l =
+    let waits : PendingStore = record { oid = oid; base = p.base; content = Held bytes } in
+    change_line rules m at c t (stored t.changes waits) a now (plain_stored t.changes waits) l
+put_line rules m at c t oid bytes None a now (r, behind, read, (is, left)) =
+    same_line rules m a (put t.changes oid bytes r).answer now is (plain_put t.changes oid bytes r) (ap (λ (x : Moment). x.machine) left ∙ ap (λ (x : Moment). x.machine) read.rest)
 
 plain_rolled : (t : Changes) (number : ℕ) (o : Option PendingChanges) → IsPlain (rolled_to t number o).answer
 plain_rolled t number None = tt
@@ -185,78 +173,56 @@ plain_told (answered.Removed false) = tt
 plain_told (answered.Items list is_set) = tt
 
 -- a line of a tree leaves all but the greatest number
-tree_line : (m : Moment) (at : ℕ) (c : Client) (t : OpenTransaction) (root : ℕ) (call : TreeCall) (a : Answer) (now : Moment) → IsTreeLine m at c t root call a now → LineKeeps m a now
-tree_line m at c t root call a now l =
+tree_line : (rules : Rules) (m : Moment) (at : ℕ) (c : Client) (t : OpenTransaction) (root : ℕ) (call : TreeCall) (a : Answer) (now : Moment) → IsTreeLine m at c t root call a now → LineKeeps rules m a now
+tree_line rules m at c t root call a now l =
     let raised : IsRaised m.machine now.machine = tree_raised m at c t root call a now l in
     let list : now.machine.list ≡ m.machine.list = ap (λ (x : Machine). x.list) raised.is in
     record {
-      goes = goes_is (is_packed a) m.machine.list now.machine.list list;
-      committed = plain_in a now.machine.list (tree_answer IsPlain m at c t root call a now plain_told (λ why. tt) l);
+      leaves = λ ahead. plain_left rules a m.machine.list now.machine.list (tree_answer IsPlain m at c t root call a now plain_told (λ why. tt) l) list;
       failed = λ other. ap (λ (x : Machine). x.failed) raised.is;
       memory = λ none. list;
     }
 
-within_line : (m : Moment) (at : ℕ) (c : Client) (t : OpenTransaction) (l : Line) (a : Answer) (now : Moment) → IsWithin m at c t l a now → LineKeeps m a now
-within_line m at c t (line.Load oid) a now l = read_line m t.view oid data_of a now plain_data l
-within_line m at c t (line.Get oid) a now l = get_line m t.view oid (pending_of t.changes.pending.stores oid) a now l
-within_line m at c t (line.Store oid base bytes) a now l =
-    change_line m at c t (stored t.changes (record { oid = oid; base = base; bytes = bytes })) a now
-    (plain_store t.changes (record { oid = oid; base = base; bytes = bytes }) (excess_with t.changes.pending.stores (record { oid = oid; base = base; bytes = bytes }))) l
-within_line m at c t (line.Put oid bytes) a now l = put_line m at c t oid bytes (pending_of t.changes.pending.stores oid) a now l
-within_line m at c t (line.Check oid serial) a now (is, left) = same_line m a answer.Checked now is tt (ap (λ (x : Moment). x.machine) left)
-within_line m at c t line.Savepoint a now (is, left) = same_line m a (saved t.changes).answer now is tt (ap (λ (x : Moment). x.machine) left)
-within_line m at c t (line.Rollback number) a now (is, left) = same_line m a (rolled_back t.changes number).answer now is (plain_rolled t.changes number (slice_get t.changes.savepoints number)) (ap (λ (x : Moment). x.machine) left)
-within_line m at c t (line.Tree root call) a now l = tree_line m at c t root call a now l
-within_line m at c t _ a now l = refused_line m refusal.NoTransaction a now l
+within_line : (rules : Rules) (m : Moment) (at : ℕ) (c : Client) (t : OpenTransaction) (l : Line) (a : Answer) (now : Moment) → IsWithin m at c t l a now → LineKeeps rules m a now
+within_line rules m at c t (line.Load oid) a now l = read_line rules m t.view oid data_of a now plain_data l
+within_line rules m at c t (line.Get oid) a now l = get_line rules m t.view oid (pending_of t.changes.pending.stores oid) a now l
+within_line rules m at c t (line.Store oid base bytes) a now l =
+    let waits : PendingStore = record { oid = oid; base = base; content = Held bytes } in
+    change_line rules m at c t (stored t.changes waits) a now (plain_stored t.changes waits) l
+within_line rules m at c t (line.Put oid bytes) a now l = put_line rules m at c t oid bytes (pending_of t.changes.pending.stores oid) a now l
+within_line rules m at c t (line.Check oid serial) a now (is, left) = same_line rules m a answer.Checked now is tt (ap (λ (x : Moment). x.machine) left)
+within_line rules m at c t (line.Delete oid base) a now l = change_line rules m at c t (deleted t.changes oid base) a now tt l
+within_line rules m at c t line.Savepoint a now (is, left) = same_line rules m a (saved t.changes).answer now is tt (ap (λ (x : Moment). x.machine) left)
+within_line rules m at c t (line.Rollback number) a now (is, left) = same_line rules m a (rolled_back t.changes number).answer now is (plain_rolled t.changes number (slice_get t.changes.savepoints number)) (ap (λ (x : Moment). x.machine) left)
+within_line rules m at c t (line.Tree root call) a now l = tree_line rules m at c t root call a now l
+within_line rules m at c t _ a now l = refused_line rules m refusal.NoTransaction a now l
 
-own_line : (m : Moment) (at : ℕ) (c : Client) (t : Option OpenTransaction) (l : Line) (a : Answer) (now : Moment) → IsOwnLine m at c t l a now → LineKeeps m a now
-own_line m at c None l a now own = refused_line m refusal.NoTransaction a now own
-own_line m at c (Some t) l a now own = within_line m at c t l a now own
+own_line : (rules : Rules) (m : Moment) (at : ℕ) (c : Client) (t : Option OpenTransaction) (l : Line) (a : Answer) (now : Moment) → IsOwnLine m at c t l a now → LineKeeps rules m a now
+own_line rules m at c None l a now own = refused_line rules m refusal.NoTransaction a now own
+own_line rules m at c (Some t) l a now own = within_line rules m at c t l a now own
 
--- no line asks for a turn of a pack
-asked_no_turn : (ch : Option Changes) (l : Line) (q : Request) (X : Type 0) → request_of ch l ≡ Some q → q ≡ request.PackTurn → X
-asked_no_turn ch (line.Pack tid) q X asks is = absurd cc
-asked_no_turn ch _ q X asks is = absurd cc
+taken_line : (rules : Rules) (m : Moment) (at : ℕ) (c : Client) (l : Line) (q : Option Request) (a : Answer) (now : Moment) → IsLineTaken rules m at c l q a now → LineKeeps rules m a now
+taken_line rules m at c l (Some q) a now taken = step_line rules m at c q a now taken
+taken_line rules m at c l None a now taken = own_line rules m at c c.transaction l a now taken
 
-taken_line : (rules : Rules) (m : Moment) (at : ℕ) (c : Client) (l : Line) (q : Option Request) (a : Answer) (now : Moment) → request_of (changes_of c) l ≡ q → IsLineTaken rules m at c l q a now → LineKeeps m a now
-taken_line rules m at c l (Some q) a now asks taken = step_line rules m at c q a now (asked_no_turn (changes_of c) l q (IsPackWithin m.machine.list m.machine.pack) asks) taken
-taken_line rules m at c l None a now asks taken = own_line m at c c.transaction l a now taken
+unless_line : (rules : Rules) (m : Moment) (at : ℕ) (c : Client) (l : Line) (why : Option Refusal) (a : Answer) (now : Moment) → IsLineUnless rules m at c l why a now → LineKeeps rules m a now
+unless_line rules m at c l (Some why) a now unless = refused_line rules m why a now unless
+unless_line rules m at c l None a now unless = taken_line rules m at c l (request_of (changes_of c) l) a now unless
 
-unless_line : (rules : Rules) (m : Moment) (at : ℕ) (c : Client) (l : Line) (why : Option Refusal) (a : Answer) (now : Moment) → IsLineUnless rules m at c l why a now → LineKeeps m a now
-unless_line rules m at c l (Some why) a now unless = refused_line m why a now unless
-unless_line rules m at c l None a now unless = taken_line rules m at c l (request_of (changes_of c) l) a now refl unless
-
-line_of : (rules : Rules) (m : Moment) (at : Option ℕ) (l : Line) (a : Answer) (now : Moment) → IsLineOf rules m at l a now → LineKeeps m a now
-line_of rules m None l a now is = refused_line m refusal.NotOpen a now is
+line_of : (rules : Rules) (m : Moment) (at : Option ℕ) (l : Line) (a : Answer) (now : Moment) → IsLineOf rules m at l a now → LineKeeps rules m a now
+line_of rules m None l a now is = refused_line rules m refusal.NotOpen a now is
 line_of rules m (Some at) l a now (c, there, unless) = unless_line rules m at c l (connection_refusal m.machine c l) a now unless
 
-pub line_keeps : (rules : Rules) (m : Moment) (name : List ℕ) (l : Line) (a : Answer) (now : Moment) → IsLine rules m name l a now → LineKeeps m a now
-line_keeps rules m name line.Open a now is = open_keeps m name a now is
-line_keeps rules m name line.Begin a now is = line_of rules m (place_of_client name m.clients) line.Begin a now is
-line_keeps rules m name (line.Load oid) a now is = line_of rules m (place_of_client name m.clients) (line.Load oid) a now is
-line_keeps rules m name (line.Get oid) a now is = line_of rules m (place_of_client name m.clients) (line.Get oid) a now is
-line_keeps rules m name (line.Store oid base bytes) a now is = line_of rules m (place_of_client name m.clients) (line.Store oid base bytes) a now is
-line_keeps rules m name (line.Put oid bytes) a now is = line_of rules m (place_of_client name m.clients) (line.Put oid bytes) a now is
-line_keeps rules m name (line.Check oid serial) a now is = line_of rules m (place_of_client name m.clients) (line.Check oid serial) a now is
-line_keeps rules m name line.Savepoint a now is = line_of rules m (place_of_client name m.clients) line.Savepoint a now is
-line_keeps rules m name (line.Rollback number) a now is = line_of rules m (place_of_client name m.clients) (line.Rollback number) a now is
-line_keeps rules m name (line.Tree root call) a now is = line_of rules m (place_of_client name m.clients) (line.Tree root call) a now is
-line_keeps rules m name line.New a now is = line_of rules m (place_of_client name m.clients) line.New a now is
-line_keeps rules m name (line.Vote user description) a now is = line_of rules m (place_of_client name m.clients) (line.Vote user description) a now is
-line_keeps rules m name (line.Undo user description tids) a now is = line_of rules m (place_of_client name m.clients) (line.Undo user description tids) a now is
-line_keeps rules m name line.Finish a now is = line_of rules m (place_of_client name m.clients) line.Finish a now is
-line_keeps rules m name line.Abort a now is = line_of rules m (place_of_client name m.clients) line.Abort a now is
-line_keeps rules m name (line.History oid) a now is = line_of rules m (place_of_client name m.clients) (line.History oid) a now is
-line_keeps rules m name line.UndoLog a now is = line_of rules m (place_of_client name m.clients) line.UndoLog a now is
-line_keeps rules m name (line.Pack tid) a now is = line_of rules m (place_of_client name m.clients) (line.Pack tid) a now is
-line_keeps rules m name line.Close a now is = line_of rules m (place_of_client name m.clients) line.Close a now is
+pub line_keeps : (rules : Rules) (m : Moment) (name : List ℕ) (l : Line) (a : Answer) (now : Moment) → IsLine rules m name l a now → LineKeeps rules m a now
+line_keeps rules m name l a now is = by_name rules m now name l a (LineKeeps rules m a now) (open_keeps rules m name a now) (line_of rules m (place_of_client name m.clients) l a now) is
 
 -- ---- turns
 
 closed_at : (rules : Rules) (m : Moment) (at : ℕ) (r : Reply) (now : Moment) → IsClosingAt rules m at r now → ¬ (end_of (answer_of r) ≡ Some turn_error.StoreFault) → Keeps m now
-closed_at rules m at r now (c, there, step) other =
-    let keeps = step_at rules m c.session request.Close r now step (no_turn request.Close (IsPackWithin m.machine.list m.machine.pack) refl) in
-    record { goes = subst (λ (b : Bool). GoesTo b m.machine.list now.machine.list) (keeps.plain refl) keeps.goes; failed = keeps.failed (λ lost. other (fails_so r lost)) }
+closed_at rules m at r now (c, there, step) other = record {
+  list = step_at_left rules m c.session request.Close r now step;
+  failed = (step_at rules m c.session request.Close r now step).failed (λ lost. other (fails_so r lost));
+}
 
 closed_keeps : (rules : Rules) (m : Moment) (at : Option ℕ) (now : Moment) → IsClosed rules m at now → Keeps m now
 closed_keeps rules m None now same = keeps_same m now same
@@ -267,19 +233,18 @@ closing_keeps rules m name false now same = keeps_same m now same
 closing_keeps rules m name true now closed = closed_keeps rules m (place_of_client name m.clients) now closed
 
 -- what an answered turn keeps
-pub record TurnKeeps (m : Moment) (a : Answer) (now : Moment) : Type 0 where
-  pub goes : GoesTo (is_packed a) m.machine.list now.machine.list
-  pub committed : IsHeld now.machine.list a
+pub record TurnKeeps (rules : Rules) (m : Moment) (a : Answer) (now : Moment) : Type 0 where
+  pub leaves : IsAhead m.machine → AnswerLeaves rules a m.machine.list now.machine.list
   pub failed : now.machine.failed ≡ m.machine.failed
+  pub ahead : IsAhead m.machine → IsAhead now.machine
 
-pub turn_keeps : (rules : Rules) (m : Moment) (t : Turn) (last : Bool) (a : Answer) (now : Moment) → IsTurn rules m t last (Ok a) now → TurnKeeps m a now
+pub turn_keeps : (rules : Rules) (m : Moment) (t : Turn) (last : Bool) (a : Answer) (now : Moment) → IsTurn rules m t last (Ok a) now → TurnKeeps rules m a now
 turn_keeps rules m t last a now is =
     let l = line_keeps rules m t.client t.line a is.behind is.line in
-    let closing = closing_keeps rules is.behind t.client last now is.closing in
-    record {
-      goes = goes_then (is_packed a) m.machine.list is.behind.machine.list now.machine.list l.goes closing.goes;
-      committed = answered_on a is.behind.machine.list now.machine.list closing.goes l.committed;
+    let closing = closing_keeps rules is.behind t.client last now is.closing in record {
+      leaves = λ ahead. subst (AnswerLeaves rules a m.machine.list) (sym closing.list) (l.leaves ahead);
       failed = closing.failed ∙ l.failed (λ lost. absurd cc);
+      ahead = (turn_whole rules m now t last a is).ahead;
     }
 
 never_starved : (rules : Rules) (m : Moment) (at : ℕ) (r : Reply) (now : Moment) → IsClosingAt rules m at r now → ¬ (end_of (answer_of r) ≡ Some turn_error.Memory)
@@ -305,35 +270,90 @@ broken_keeps rules m t last now is = broken_by rules m t last turn_error.Memory 
 
 -- ---- runs
 
-pub record OutKeeps (m : Moment) (answers : List TurnAnswer) (now : Moment) : Type 0 where
-  pub goes : GoesTo (has_packed answers) m.machine.list now.machine.list
-  pub committed : HasCommitted answers now.machine.list
-  pub failed : now.machine.failed ≡ m.machine.failed
+pub out_failed : (rules : Rules) (m : Moment) (turns later : List Turn) (answers : List TurnAnswer) (now : Moment) → Out rules m turns later answers now → now.machine.failed ≡ m.machine.failed
+out_failed rules m [] later [] now out = ap (λ (x : Moment). x.machine.failed) out
+out_failed rules m [] later (o ∷ answers) now out = absurd out
+out_failed rules m (t ∷ turns) later [] now out = absurd out
+out_failed rules m (t ∷ turns) later (o ∷ answers) now (next, named, turn, rest) =
+    out_failed rules next turns later answers now rest ∙ (turn_keeps rules m t (is_last t (turns ++ later)) o.answer next turn).failed
 
-either : (b c : Bool) → (b || c) ≡ false → c ≡ false
-either true c none = absurd cc
-either false c none = none
+-- the list behind turns is what their answers leave
+out_left : (rules : Rules) (m : Moment) (turns later : List Turn) (answers : List TurnAnswer) (now : Moment) → IsAhead m.machine → Out rules m turns later answers now → AnswersLeave rules answers m.machine.list now.machine.list
+out_left rules m [] later [] now ahead out = ap (λ (x : Moment). x.machine.list) out
+out_left rules m [] later (o ∷ answers) now ahead out = absurd out
+out_left rules m (t ∷ turns) later [] now ahead out = absurd out
+out_left rules m (t ∷ turns) later (o ∷ answers) now ahead (next, named, turn, rest) =
+    let keeps = turn_keeps rules m t (is_last t (turns ++ later)) o.answer next turn in
+    (next.machine.list, keeps.leaves ahead, out_left rules next turns later answers now (keeps.ahead ahead) rest)
 
-committed_first : (o : TurnAnswer) (answers : List TurnAnswer) (list now : List Transaction) → IsHeld list o.answer → GoesTo (has_packed answers) list now → HasCommitted answers now → HasCommitted (o ∷ answers) now
-committed_first o answers list now held goes others = record {
-  left = (left_later o.answer list now goes.left held, others.left);
-  whole = λ none. let rest = either (is_packed o.answer) (has_packed answers) none in (in_later o.answer list now (goes.begins rest) held, others.whole rest);
+-- a run came by the moment behind each front of its answers
+out_split : (rules : Rules) (m : Moment) (turns later : List Turn) (given more : List TurnAnswer) (now : Moment) → Out rules m turns later (given ++ more) now → CameBy rules m turns later given more now
+out_split rules m turns later [] more now out = record { front = []; rest = turns; parts = refl; at = m; before = refl; after = out }
+out_split rules m [] later (o ∷ given) more now out = absurd out
+out_split rules m (t ∷ turns) later (o ∷ given) more now (next, named, turn, rest) =
+    let came = out_split rules next turns later given more now rest in
+    let behind : turns ++ later ≡ came.front ++ (came.rest ++ later) = ap (λ (ts : List Turn). ts ++ later) came.parts ∙ append_assoc came.front came.rest later in
+    record {
+      front = t ∷ came.front;
+      rest = came.rest;
+      parts = ap (λ (ts : List Turn). t ∷ ts) came.parts;
+      at = came.at;
+      before = (next, named, subst (λ (ts : List Turn). IsTurn rules m t (is_last t ts) (Ok o.answer) next) behind turn, came.before);
+      after = came.after;
+    }
+
+-- where no answer says that the list was packed, it begins with the one before
+begins_same : (list now : List Transaction) → now ≡ list → BeginsWith now list
+begins_same list now same = record { more = []; parts = same ∙ sym (append-nil list) }
+
+begins_on : (a b c : List Transaction) → BeginsWith b a → BeginsWith c b → BeginsWith c a
+begins_on a b c first second = record {
+  more = first.more ++ second.more;
+  parts = second.parts ∙ ap (λ (l : List Transaction). l ++ second.more) first.parts ∙ append_assoc a first.more second.more;
 }
 
-pub out_keeps : (rules : Rules) (m : Moment) (turns later : List Turn) (answers : List TurnAnswer) (now : Moment) → Out rules m turns later answers now → OutKeeps m answers now
-out_keeps rules m [] later [] now out = let keeps = keeps_same m now out in record { goes = keeps.goes; committed = record { left = tt; whole = λ none. tt }; failed = keeps.failed }
-out_keeps rules m [] later (o ∷ answers) now out = absurd out
-out_keeps rules m (t ∷ turns) later [] now out = absurd out
-out_keeps rules m (t ∷ turns) later (o ∷ answers) now (next, named, turn, rest) =
-    let first = turn_keeps rules m t (is_last t (turns ++ later)) o.answer next turn in
-    let others = out_keeps rules next turns later answers now rest in
+answer_begins : (rules : Rules) (a : Answer) (list now : List Transaction) → is_packed a ≡ false → AnswerLeaves rules a list now → BeginsWith now list
+answer_begins rules (answer.Committed tid) list now none left = record { more = left.transaction ∷ []; parts = left.behind }
+answer_begins rules (answer.Packed kept dropped) list now none left = absurd cc
+answer_begins rules _ list now none left = begins_same list now left
+
+neither : (b c : Bool) → (b || c) ≡ false → (b ≡ false) × (c ≡ false)
+neither true c none = absurd cc
+neither false c none = (refl, none)
+
+answers_begin : (rules : Rules) (answers : List TurnAnswer) (list now : List Transaction) → AnswersLeave rules answers list now → has_packed answers ≡ false → BeginsWith now list
+answers_begin rules [] list now left none = begins_same list now left
+answers_begin rules (o ∷ answers) list now (mid, first, rest) none =
+    let both = neither (is_packed o.answer) (has_packed answers) none in
+    begins_on list mid now (answer_begins rules o.answer list mid both.0 first) (answers_begin rules answers mid now rest both.1)
+
+left_since : (rules : Rules) (m : Moment) (turns later : List Turn) (answers given more : List TurnAnswer) (now : Moment) → IsAhead m.machine → Out rules m turns later answers now → answers ≡ given ++ more
+    → IsLeftSince rules m turns later given more now
+left_since rules m turns later answers given more now ahead out parts =
+    let came = out_split rules m turns later given more now (subst (λ (os : List TurnAnswer). Out rules m turns later os now) parts out) in
+    let left = out_left rules came.at came.rest later more now (out_ahead rules m came.at came.front (came.rest ++ later) given came.before ahead) came.after in
+    record { came = came; left = left; whole = answers_begin rules more came.at.machine.list now.machine.list left }
+
+-- ---- what was answered as committed
+
+-- a commit that is answered last is of the newest transaction
+last_newest : (rules : Rules) (given : List TurnAnswer) (o : TurnAnswer) (tid : ℕ) (list now : List Transaction) → o.answer ≡ answer.Committed tid → AnswersLeave rules (given ++ o ∷ []) list now → EndsWith now tid
+last_newest rules [] o tid list now is (mid, left, same) =
+    let committed : IsCommittedTo tid list mid = subst (λ (a : Answer). AnswerLeaves rules a list mid) is left in
+    record { earlier = list; transaction = committed.transaction; parts = same ∙ committed.behind; tid_is = committed.tid_is }
+last_newest rules (g ∷ given) o tid list now is (mid, left, rest) = last_newest rules given o tid mid now is rest
+
+pub out_committed : (rules : Rules) (m : Moment) (turns later : List Turn) (answers : List TurnAnswer) (now : Moment) → IsAhead m.machine → Out rules m turns later answers now → HasCommitted rules m turns later answers now
+out_committed rules m turns later answers now ahead out given more o tid parts is =
+    let since = left_since rules m turns later answers (given ++ o ∷ []) more now ahead out (parts ∙ sym (append_assoc given (o ∷ []) more)) in
     record {
-      goes = goes_both (is_packed o.answer) (has_packed answers) m.machine.list next.machine.list now.machine.list first.goes others.goes;
-      committed = committed_first o answers next.machine.list now.machine.list first.committed others.goes others.committed;
-      failed = others.failed ∙ first.failed;
+      since = since;
+      newest = last_newest rules given o tid m.machine.list since.came.at.machine.list is (out_left rules m since.came.front (since.came.rest ++ later) (given ++ o ∷ []) since.came.at ahead since.came.before);
     }
 
 pub committed_stays : CommittedStays
-committed_stays rules m now turns later answers out =
-    let keeps = out_keeps rules m turns later answers now out in
-    record { committed = keeps.committed; left = keeps.goes.left; begins = keeps.goes.begins }
+committed_stays rules list stamps counts turns later answers now out =
+    let m = first_moment list stamps counts in record {
+      committed = out_committed rules m turns later answers now (first_ahead list stamps counts) out;
+      left = λ given more parts. left_since rules m turns later answers given more now (first_ahead list stamps counts) out parts;
+    }

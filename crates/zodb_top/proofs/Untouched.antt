@@ -12,6 +12,7 @@ use Rattle.zb_volume.specs.Disk.{seen, IsSettled}
 use Rattle.zb_volume.specs.Lasting.{settled_leaves}
 use Rattle.zb_volume.specs.Moments.{LeavesOnly, StaysAs, here}
 use Rattle.zodb_top.specs.Opened.{IsLeft, bytes_same}
+use Rattle.zodb_top.specs.declared.command.PackRequest.{PackRequest}
 use Rattle.zodb_top.specs.declared.status.Status.TheVariants as status
 use Rattle.zodb_top.specs.Outside.{Outside}
 use Rattle.zodb_top.specs.Packs.{PackSays}
@@ -47,5 +48,5 @@ left_untouched told before after stamps log = record {
 }
 
 -- no memory for the words of `pack`
-pub pack_starved : (tid : ℕ) (told : Type 0) (before : Outside) → PackSays status.NoMemory tid told before before
-pack_starved tid told before = (refl, inl (left_untouched told before before refl refl, record { reads = refl; writes = refl }))
+pub pack_starved : (pack : PackRequest) (told : Type 0) (before : Outside) → PackSays status.NoMemory pack told before before
+pack_starved pack told before = (refl, inl (left_untouched told before before refl refl, record { reads = refl; writes = refl }))

@@ -24,9 +24,10 @@ use Rattle.zodb_core.specs.Outcomes.{FaultCounts}
 use Rattle.client_turns.specs.declared.errors.TurnError.{TurnError}
 use Rattle.client_turns.specs.declared.errors.TurnError.TheVariants as turn_error
 use Rattle.client_turns.specs.Clients.{Moment}
+use Rattle.client_turns.specs.TurnLaws.{first_ahead}
 use Rattle.zodb_top.specs.declared.status.Status.{Status}
 use Rattle.zodb_top.specs.declared.status.Status.TheVariants as status
-use Rattle.zodb_top.specs.Came.{IsCalm, IsMainOf, IsOfRun, IsOfRunOrEmpty, RanWhole, Reached, began, stock}
+use Rattle.zodb_top.specs.Came.{Came, IsCalm, IsMainOf, IsOfCame, IsOfCameOrEmpty, RanWhole, Reached, began, stock}
 use Rattle.zodb_top.specs.Opened.{IsLeft, IsUnfailed, KeepsBytes, OpensAs, bytes_cut, bytes_failed, bytes_same, made, there}
 use Rattle.zodb_top.specs.Outside.{Outside, main_of}
 use Rattle.zodb_top.specs.Running.{FileSays, RanAllOver, RanOver, StoreSays}
@@ -35,7 +36,7 @@ use Rattle.zodb_top.specs.Unopened.{SaysUnopened}
 use Rattle.zodb_top.specs.Written.{IsWritten}
 use Rattle.zodb_top.proofs.Files.{opens_as, refused}
 use Rattle.zodb_top.proofs.Nexts.{counts_left, next_kept}
-use Rattle.zodb_top.proofs.Turning.{out_keeps}
+use Rattle.zodb_top.proofs.Turning.{out_committed}
 
 -- where it isn't for a fault that the file isn't open, no call has failed
 pub unfailed : (e : OpenError) (before after : Outside) → ¬ (e ≡ error.StoreFault) → (¬ (e ≡ error.StoreFault) → (after.read_faults ≡ before.read_faults) × (after.write_faults ≡ before.write_faults)) → IsUnfailed before after
@@ -65,33 +66,41 @@ unopened _ e told turns before after said harm rose same calm left = absurd said
 -- what there is of Main while it is opened, before the first turn
 module _ (before : Outside) (state : StoreState) (left : Option (List Stamp)) (cut : Option ℕ) (opens : OpensAs (main_of before) before.stamps left state.list cut)
     (keeps : KeepsList before.log state.log) (makes : IfSome before.stamps (λ stamps. (stamp : Stamp) → slice_get stamps 0 ≡ Some stamp → MakesList stamp before.log state.log)) where
-  of_start : (turns : List Turn) (bytes : List ℕ) → StandsForList bytes state.list → IsOfRun StandsForList (began state.list left before.read_faults before.write_faults) turns bytes
-  of_start turns bytes is = record { taken = []; later = turns; parts = refl; answers = []; at = began state.list left before.read_faults before.write_faults; answered = refl; list = next_kept StandsForList (began state.list left before.read_faults before.write_faults).machine turns bytes is }
+  -- a run over the list that was opened
+  module _ {turns : List Turn} {broke : Option TurnError} {now : Moment} (c : Came (began state.list left before.read_faults before.write_faults) turns broke now) where
+    of_start : (bytes : List ℕ) → StandsForList bytes state.list → IsOfCame StandsForList c bytes
+    of_start bytes is =
+        let m = began state.list left before.read_faults before.write_faults in record {
+          given = [];
+          more = c.answers;
+          parts = refl;
+          came = record { front = []; rest = c.taken; parts = refl; at = m; before = refl; after = c.answered };
+          list = next_kept StandsForList m.machine (c.taken ++ c.later) bytes is;
+        }
 
-  told_stamps : (P : List Stamp → Type 0) (o : Option (List Stamp)) → IsSome o → IfSome o P → (stamps : List Stamp) × (o ≡ Some stamps) × P stamps
-  told_stamps P None some holds = absurd cc
-  told_stamps P (Some stamps) some holds = (stamps, refl, holds)
+    told_stamps : (P : List Stamp → Type 0) (o : Option (List Stamp)) → IsSome o → IfSome o P → (stamps : List Stamp) × (o ≡ Some stamps) × P stamps
+    told_stamps P None some holds = absurd cc
+    told_stamps P (Some stamps) some holds = (stamps, refl, holds)
 
-  made_so : (turns : List Turn) (is : IsMade before.stamps state.list cut) → main_of before ≡ [] → IsCalm before
-      → LeavesOnly Main (IsOfRunOrEmpty (main_of before) (began state.list left before.read_faults before.write_faults) turns) before.log state.log
-  made_so turns is empty calm =
-      let told = told_stamps (λ stamps. (stamp : Stamp) → slice_get stamps 0 ≡ Some stamp → MakesList stamp before.log state.log) before.stamps (calm.clock empty) makes in
-      let first : slice_get told.0 0 ≡ Some is.stamp = subst (λ (o : Option (List Stamp)). IfSome o (λ stamps. slice_get stamps 0 ≡ Some is.stamp)) told.1 is.first in
-      leaves_less Main (IsNewOr is.stamp) (IsOfRunOrEmpty (main_of before) (began state.list left before.read_faults before.write_faults) turns) before.log state.log
-      (λ bytes either. elim either [
-        | inl none ↦ inr (empty, none)
-        | inr new ↦ inl (of_start turns bytes (subst (λ (list : List Transaction). StandsForList bytes list) (sym is.list_is) new))
-      ])
-      (told.2 is.stamp first empty calm.settled)
+    made_so : (is : IsMade before.stamps state.list cut) → main_of before ≡ [] → IsCalm before → LeavesOnly Main (IsOfCameOrEmpty (main_of before) c) before.log state.log
+    made_so is empty calm =
+        let told = told_stamps (λ stamps. (stamp : Stamp) → slice_get stamps 0 ≡ Some stamp → MakesList stamp before.log state.log) before.stamps (calm.clock empty) makes in
+        let first : slice_get told.0 0 ≡ Some is.stamp = subst (λ (o : Option (List Stamp)). IfSome o (λ stamps. slice_get stamps 0 ≡ Some is.stamp)) told.1 is.first in
+        leaves_less Main (IsNewOr is.stamp) (IsOfCameOrEmpty (main_of before) c) before.log state.log
+        (λ bytes either. elim either [
+          | inl none ↦ inr (empty, none)
+          | inr new ↦ inl (of_start bytes (subst (λ (list : List Transaction). StandsForList bytes list) (sym is.list_is) new))
+        ])
+        (told.2 is.stamp first empty calm.settled)
 
-  pub opening_moments : (turns : List Turn) → IsCalm before → LeavesOnly Main (IsOfRunOrEmpty (main_of before) (began state.list left before.read_faults before.write_faults) turns) before.log state.log
-  opening_moments turns calm = by_opening opens
-    where
-      by_opening : OpensAs (main_of before) before.stamps left state.list cut → LeavesOnly Main (IsOfRunOrEmpty (main_of before) (began state.list left before.read_faults before.write_faults) turns) before.log state.log
-      by_opening (there some stands same) =
-          leaves_less Main (λ bytes. StandsForList bytes state.list) (IsOfRunOrEmpty (main_of before) (began state.list left before.read_faults before.write_faults) turns) before.log state.log
-          (λ bytes is. inl (of_start turns bytes is)) (keeps state.list cut some stands calm.settled)
-      by_opening (made empty is given) = made_so turns is empty calm
+    pub opening_moments : IsCalm before → LeavesOnly Main (IsOfCameOrEmpty (main_of before) c) before.log state.log
+    opening_moments calm = by_opening opens
+      where
+        by_opening : OpensAs (main_of before) before.stamps left state.list cut → LeavesOnly Main (IsOfCameOrEmpty (main_of before) c) before.log state.log
+        by_opening (there some stands same) =
+            leaves_less Main (λ bytes. StandsForList bytes state.list) (IsOfCameOrEmpty (main_of before) c) before.log state.log
+            (λ bytes is. inl (of_start bytes is)) (keeps state.list cut some stands calm.settled)
+        by_opening (made empty is given) = made_so is empty calm
 
   -- ---- turns over the file
 
@@ -117,12 +126,12 @@ module _ (before : Outside) (state : StoreState) (left : Option (List Stamp)) (c
           counts = counts_left (began state.list left before.read_faults before.write_faults) turns broke ran.now ran.came before after reads_left faults_left refl;
           main = images (main_of after) shown;
           images = images;
-          acknowledged = (out_keeps stock (began state.list left before.read_faults before.write_faults) ran.came.taken ran.came.later ran.came.answers ran.came.behind ran.came.answered).committed;
+          acknowledged = out_committed stock (began state.list left before.read_faults before.write_faults) ran.came.taken ran.came.later ran.came.answers ran.came.behind
+              (first_ahead state.list left (record { reads = before.read_faults; others = before.write_faults })) ran.came.answered;
           moments = λ calm.
-              subst (λ (l : List Event). LeavesOnly Main (IsOfRunOrEmpty (main_of before) (began state.list left before.read_faults before.write_faults) turns) before.log l) (sym log)
-              (along_joined (Leaves Main (IsOfRunOrEmpty (main_of before) (began state.list left before.read_faults before.write_faults) turns)) before.log state.log state'.log (opening_moments turns calm)
-              (leaves_less Main (IsOfRun StandsForList (began state.list left before.read_faults before.write_faults) turns) (IsOfRunOrEmpty (main_of before) (began state.list left before.read_faults before.write_faults) turns) state.log state'.log
-              (λ bytes is. inl is) (ran.moments lasting)));
+              subst (λ (l : List Event). LeavesOnly Main (IsOfCameOrEmpty (main_of before) ran.came) before.log l) (sym log)
+              (along_joined (Leaves Main (IsOfCameOrEmpty (main_of before) ran.came)) before.log state.log state'.log (opening_moments ran.came calm)
+              (leaves_less Main (IsOfCame StandsForList ran.came) (IsOfCameOrEmpty (main_of before) ran.came) state.log state'.log (λ bytes is. inl is) (ran.moments lasting)));
         }
 
     pub reached : (broke : Option TurnError) (written : List ℕ → Type 0) → RanOver lasts StandsForList (began state.list left state.read_faults state.faults) cut turns broke written state state' after.stamps

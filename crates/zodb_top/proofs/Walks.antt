@@ -62,10 +62,10 @@ plain_walked c names held position word h none = rw (none, no_dashes word h, no_
 
 -- ---- all words
 
--- clap takes the words, with this name and this value
-pub record IsTaken (words : List Text) (name : Text) (argument : Option Text) : Type 0 where
+-- clap takes the words, with this name and these values
+pub record IsTaken (words : List Text) (name : Text) (argument more : Option Text) : Type 0 where
   pub fault : fault_of program_app words ≡ []
-  pub entered : named_in (subcommand_of program_app words) ≡ Some (name, argument)
+  pub entered : named_in (subcommand_of program_app words) ≡ Some (name, argument, more)
 
 -- or refuses them
 pub record IsRefused (words : List Text) : Type 0 where
@@ -74,7 +74,7 @@ pub record IsRefused (words : List Text) : Type 0 where
   pub fault : fault_of program_app words ≡ kind ∷ kinds
 
 pub data Reads (words : List Text) : Type 0 where
-  taken : (name : Text) (argument : Option Text) → IsTaken words name argument → named_of words ≡ Some (name, argument) → Reads words
+  taken : (name : Text) (argument more : Option Text) → IsTaken words name argument more → named_of words ≡ Some (name, argument, more) → Reads words
   refused : IsRefused words → named_of words ≡ None → Reads words
 
 abbrev top : Shape
@@ -91,7 +91,7 @@ none_refused : IsRefused []
 unfolding clap_on_literals
 none_refused = record { kind = _; kinds = _; fault = refl }
 
-run_taken : IsTaken (codes "run" ∷ []) (codes "run") None
+run_taken : IsTaken (codes "run" ∷ []) (codes "run") None None
 unfolding clap_on_literals
 run_taken = record { fault = refl; entered = refl }
 
@@ -105,11 +105,12 @@ run_longer word more h =
     record { kind = kinds.UnknownArgument; kinds = []; fault = rw (f, o, d, l, s) refl }
 
 run_reads : (rest : List Text) → AllByRecursion Plain rest → Reads (codes "run" ∷ rest)
-run_reads [] h = taken (codes "run") None run_taken refl
+run_reads [] h = taken (codes "run") None None run_taken refl
 run_reads (word ∷ []) h = refused (run_longer word [] h.0) refl
-run_reads (word ∷ other ∷ more) h = refused (run_longer word (other ∷ more) h.0) refl
+run_reads (word ∷ other ∷ []) h = refused (run_longer word (other ∷ []) h.0) refl
+run_reads (word ∷ other ∷ third ∷ more) h = refused (run_longer word (other ∷ third ∷ more) h.0) refl
 
-undolog_taken : IsTaken (codes "undolog" ∷ []) (codes "undolog") None
+undolog_taken : IsTaken (codes "undolog" ∷ []) (codes "undolog") None None
 unfolding clap_on_literals
 undolog_taken = record { fault = refl; entered = refl }
 
@@ -123,15 +124,16 @@ undolog_longer word more h =
     record { kind = kinds.UnknownArgument; kinds = []; fault = rw (f, o, d, l, s) refl }
 
 undolog_reads : (rest : List Text) → AllByRecursion Plain rest → Reads (codes "undolog" ∷ rest)
-undolog_reads [] h = taken (codes "undolog") None undolog_taken refl
+undolog_reads [] h = taken (codes "undolog") None None undolog_taken refl
 undolog_reads (word ∷ []) h = refused (undolog_longer word [] h.0) refl
-undolog_reads (word ∷ other ∷ more) h = refused (undolog_longer word (other ∷ more) h.0) refl
+undolog_reads (word ∷ other ∷ []) h = refused (undolog_longer word (other ∷ []) h.0) refl
+undolog_reads (word ∷ other ∷ third ∷ more) h = refused (undolog_longer word (other ∷ third ∷ more) h.0) refl
 
 history_short : IsRefused (codes "history" ∷ [])
 unfolding clap_on_literals
 history_short = record { kind = _; kinds = _; fault = refl }
 
-history_taken : (word : Text) → Plain word → IsTaken (codes "history" ∷ word ∷ []) (codes "history") (Some word)
+history_taken : (word : Text) → Plain word → IsTaken (codes "history" ∷ word ∷ []) (codes "history") (Some word) None
 unfolding clap_on_literals
 history_taken word h =
     let d = no_dashes word h in let l = no_long word h in let s = no_short word h in
@@ -149,14 +151,15 @@ history_longer word other more h k =
 
 history_reads : (rest : List Text) → AllByRecursion Plain rest → Reads (codes "history" ∷ rest)
 history_reads [] h = refused history_short refl
-history_reads (word ∷ []) h = taken (codes "history") (Some word) (history_taken word h.0) refl
-history_reads (word ∷ other ∷ more) h = refused (history_longer word other more h.0 h.1.0) refl
+history_reads (word ∷ []) h = taken (codes "history") (Some word) None (history_taken word h.0) refl
+history_reads (word ∷ other ∷ []) h = refused (history_longer word other [] h.0 h.1.0) refl
+history_reads (word ∷ other ∷ third ∷ more) h = refused (history_longer word other (third ∷ more) h.0 h.1.0) refl
 
 show_short : IsRefused (codes "show" ∷ [])
 unfolding clap_on_literals
 show_short = record { kind = _; kinds = _; fault = refl }
 
-show_taken : (word : Text) → Plain word → IsTaken (codes "show" ∷ word ∷ []) (codes "show") (Some word)
+show_taken : (word : Text) → Plain word → IsTaken (codes "show" ∷ word ∷ []) (codes "show") (Some word) None
 unfolding clap_on_literals
 show_taken word h =
     let d = no_dashes word h in let l = no_long word h in let s = no_short word h in
@@ -174,14 +177,15 @@ show_longer word other more h k =
 
 show_reads : (rest : List Text) → AllByRecursion Plain rest → Reads (codes "show" ∷ rest)
 show_reads [] h = refused show_short refl
-show_reads (word ∷ []) h = taken (codes "show") (Some word) (show_taken word h.0) refl
-show_reads (word ∷ other ∷ more) h = refused (show_longer word other more h.0 h.1.0) refl
+show_reads (word ∷ []) h = taken (codes "show") (Some word) None (show_taken word h.0) refl
+show_reads (word ∷ other ∷ []) h = refused (show_longer word other [] h.0 h.1.0) refl
+show_reads (word ∷ other ∷ third ∷ more) h = refused (show_longer word other (third ∷ more) h.0 h.1.0) refl
 
 digest_short : IsRefused (codes "digest" ∷ [])
 unfolding clap_on_literals
 digest_short = record { kind = _; kinds = _; fault = refl }
 
-digest_taken : (word : Text) → Plain word → IsTaken (codes "digest" ∷ word ∷ []) (codes "digest") (Some word)
+digest_taken : (word : Text) → Plain word → IsTaken (codes "digest" ∷ word ∷ []) (codes "digest") (Some word) None
 unfolding clap_on_literals
 digest_taken word h =
     let d = no_dashes word h in let l = no_long word h in let s = no_short word h in
@@ -199,39 +203,49 @@ digest_longer word other more h k =
 
 digest_reads : (rest : List Text) → AllByRecursion Plain rest → Reads (codes "digest" ∷ rest)
 digest_reads [] h = refused digest_short refl
-digest_reads (word ∷ []) h = taken (codes "digest") (Some word) (digest_taken word h.0) refl
-digest_reads (word ∷ other ∷ more) h = refused (digest_longer word other more h.0 h.1.0) refl
+digest_reads (word ∷ []) h = taken (codes "digest") (Some word) None (digest_taken word h.0) refl
+digest_reads (word ∷ other ∷ []) h = refused (digest_longer word other [] h.0 h.1.0) refl
+digest_reads (word ∷ other ∷ third ∷ more) h = refused (digest_longer word other (third ∷ more) h.0 h.1.0) refl
 
 pack_short : IsRefused (codes "pack" ∷ [])
 unfolding clap_on_literals
 pack_short = record { kind = _; kinds = _; fault = refl }
 
-pack_taken : (word : Text) → Plain word → IsTaken (codes "pack" ∷ word ∷ []) (codes "pack") (Some word)
+pack_taken : (word : Text) → Plain word → IsTaken (codes "pack" ∷ word ∷ []) (codes "pack") (Some word) None
 unfolding clap_on_literals
 pack_taken word h =
     let d = no_dashes word h in let l = no_long word h in let s = no_short word h in
     record { fault = rw (d, l, s) refl; entered = rw (d, l, s) refl }
 
-pack_longer : (word other : Text) (more : List Text) → Plain word → Plain other → IsRefused (codes "pack" ∷ word ∷ other ∷ more)
+pack_twice : (word other : Text) → Plain word → Plain other → IsTaken (codes "pack" ∷ word ∷ other ∷ []) (codes "pack") (Some word) (Some other)
 unfolding clap_on_literals
-pack_longer word other more h k =
+pack_twice word other h k =
     let d = no_dashes word h in let l = no_long word h in let s = no_short word h in
     let d' = no_dashes other k in let l' = no_long other k in let s' = no_short other k in
-    let w : Walk = behind (codes "pack") (word ∷ other ∷ []) in
-    let f = no_fault_on top names w (codes "pack", word ∷ other ∷ []) more refl in
-    let o = walk_on top.rules names w (codes "pack", word ∷ other ∷ []) more refl in
-    record { kind = kinds.UnknownArgument; kinds = []; fault = rw (f, o, d, l, s, d', l', s') refl }
+    record { fault = rw (d, l, s, d', l', s') refl; entered = rw (d, l, s, d', l', s') refl }
+
+pack_longer : (word other third : Text) (more : List Text) → Plain word → Plain other → Plain third → IsRefused (codes "pack" ∷ word ∷ other ∷ third ∷ more)
+unfolding clap_on_literals
+pack_longer word other third more h k j =
+    let d = no_dashes word h in let l = no_long word h in let s = no_short word h in
+    let d' = no_dashes other k in let l' = no_long other k in let s' = no_short other k in
+    let d'' = no_dashes third j in let l'' = no_long third j in let s'' = no_short third j in
+    let w : Walk = behind (codes "pack") (word ∷ other ∷ third ∷ []) in
+    let f = no_fault_on top names w (codes "pack", word ∷ other ∷ third ∷ []) more refl in
+    let o = walk_on top.rules names w (codes "pack", word ∷ other ∷ third ∷ []) more refl in
+    record { kind = kinds.UnknownArgument; kinds = []; fault = rw (f, o, d, l, s, d', l', s', d'', l'', s'') refl }
 
 pack_reads : (rest : List Text) → AllByRecursion Plain rest → Reads (codes "pack" ∷ rest)
 pack_reads [] h = refused pack_short refl
-pack_reads (word ∷ []) h = taken (codes "pack") (Some word) (pack_taken word h.0) refl
-pack_reads (word ∷ other ∷ more) h = refused (pack_longer word other more h.0 h.1.0) refl
+pack_reads (word ∷ []) h = taken (codes "pack") (Some word) None (pack_taken word h.0) refl
+pack_reads (word ∷ other ∷ []) h = taken (codes "pack") (Some word) (Some other) (pack_twice word other h.0 h.1.0) refl
+pack_reads (word ∷ other ∷ third ∷ more) h = refused (pack_longer word other third more h.0 h.1.0 h.1.1.0) refl
 
 check_short : IsRefused (codes "check" ∷ [])
 unfolding clap_on_literals
 check_short = record { kind = _; kinds = _; fault = refl }
 
-check_taken : (word : Text) → Plain word → IsTaken (codes "check" ∷ word ∷ []) (codes "check") (Some word)
+check_taken : (word : Text) → Plain word → IsTaken (codes "check" ∷ word ∷ []) (codes "check") (Some word) None
 unfolding clap_on_literals
 check_taken word h =
     let d = no_dashes word h in let l = no_long word h in let s = no_short word h in
@@ -249,8 +263,9 @@ check_longer word other more h k =
 
 check_reads : (rest : List Text) → AllByRecursion Plain rest → Reads (codes "check" ∷ rest)
 check_reads [] h = refused check_short refl
-check_reads (word ∷ []) h = taken (codes "check") (Some word) (check_taken word h.0) refl
-check_reads (word ∷ other ∷ more) h = refused (check_longer word other more h.0 h.1.0) refl
+check_reads (word ∷ []) h = taken (codes "check") (Some word) None (check_taken word h.0) refl
+check_reads (word ∷ other ∷ []) h = refused (check_longer word other [] h.0 h.1.0) refl
+check_reads (word ∷ other ∷ third ∷ more) h = refused (check_longer word other (third ∷ more) h.0 h.1.0) refl
 
 -- a word that is none of the names
 module _ (word : Text) (h : Plain word) (not_run : bytes_eq (codes "run") word ≡ false) (not_undolog : bytes_eq (codes "undolog") word ≡ false) (not_history : bytes_eq (codes "history") word ≡ false)
@@ -265,7 +280,8 @@ module _ (word : Text) (h : Plain word) (not_run : bytes_eq (codes "run") word �
   unknown_reads : (rest : List Text) → Reads (word ∷ rest)
   unknown_reads [] = refused (unknown []) (rw (not_run, not_undolog) refl)
   unknown_reads (argument ∷ []) = refused (unknown (argument ∷ [])) (rw (not_history, not_show, not_digest, not_pack, not_check) refl)
-  unknown_reads (argument ∷ other ∷ more) = refused (unknown (argument ∷ other ∷ more)) refl
+  unknown_reads (argument ∷ other ∷ []) = refused (unknown (argument ∷ other ∷ [])) (rw not_pack refl)
+  unknown_reads (argument ∷ other ∷ third ∷ more) = refused (unknown (argument ∷ other ∷ third ∷ more)) refl
 
 -- the word is a name, or it isn't
 by_name : (name word : Text) (rest : List Text) → Reads (name ∷ rest) → (bytes_eq name word ≡ false → Reads (word ∷ rest)) → Reads (word ∷ rest)

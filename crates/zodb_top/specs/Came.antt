@@ -21,7 +21,7 @@ use Rattle.client_turns.specs.Clients.{Moment, first_moment}
 use Rattle.client_turns.specs.Output.{Out, TurnAnswer, has_read_fault, is_last}
 use Rattle.client_turns.specs.Standing.{IsListIn}
 use Rattle.client_turns.specs.Turns.{IsBroken}
-use Rattle.zodb_top.specs.Committed.{HasCommitted}
+use Rattle.zodb_top.specs.Committed.{CameBy, HasCommitted}
 use Rattle.zodb_top.specs.Opened.{OpensAs}
 use Rattle.zodb_top.specs.Outside.{Outside, main_of}
 use Rattle.zodb_top.specs.Texts.{cut_lines, joined, store_fault_line}
@@ -57,7 +57,7 @@ abbrev pub began : List Transaction → Option (List Stamp) → ℕ → ℕ → 
 began list stamps reads others = first_moment list stamps (record { reads = reads; others = others })
 
 -- Before these turns bytes stand for the machine's list; where the first of them is a `finish`, they may stand for that with what is voted behind it, and where
--- it is a `pack`, for that packed.
+-- it is a `pack` or a `packturn`, for that packed.
 abbrev pub IsListNext : (List ℕ → List Transaction → Type 0) → Machine → List Turn → List ℕ → Type 0
 IsListNext stands m [] = λ bytes. stands bytes m.list
 IsListNext stands m (t ∷ later) = IsListIn stands stock m t.line
@@ -75,19 +75,21 @@ abbrev pub CountsLeft : Option TurnError → List TurnAnswer → Outside → Out
 CountsLeft (Some StoreFault) answers before after = Unit {0}
 CountsLeft _ answers before after = (after.write_faults ≡ before.write_faults) × (has_read_fault answers ≡ false → after.read_faults ≡ before.read_faults)
 
--- Bytes stand for the list at some moment of the run, behind some front of its turns; or, where the next one is a `finish` or a `pack`, for what that would leave.
-pub record IsOfRun (stands : List ℕ → List Transaction → Type 0) (m : Moment) (turns : List Turn) (bytes : List ℕ) : Type 0 where
-  pub taken : List Turn
-  pub later : List Turn
-  pub parts : turns ≡ taken ++ later
-  pub answers : List TurnAnswer
-  pub at : Moment
-  pub answered : Out stock m taken later answers at
-  pub list : IsListNext stands at.machine later bytes
+-- Bytes stand for the list at a moment that this run came by; or, where the turn that was taken then is a `finish` or packs, for what that would leave.
+pub record IsOfRun (stands : List ℕ → List Transaction → Type 0) (m : Moment) (turns later : List Turn) (answers : List TurnAnswer) (behind : Moment) (bytes : List ℕ) : Type 0 where
+  pub given : List TurnAnswer
+  pub more : List TurnAnswer
+  pub parts : answers ≡ given ++ more
+  pub came : CameBy stock m turns later given more behind
+  pub list : IsListNext stands came.at.machine (came.rest ++ later) bytes
+
+-- the same of a run that came so far
+abbrev pub IsOfCame : {m : Moment} {turns : List Turn} {broke : Option TurnError} {now : Moment} → (List ℕ → List Transaction → Type 0) → Came m turns broke now → List ℕ → Type 0
+IsOfCame {m = m} stands c bytes = IsOfRun stands m c.taken c.later c.answers c.behind bytes
 
 -- before the first turn the file of a new database may not be there yet
-abbrev pub IsOfRunOrEmpty : List ℕ → Moment → List Turn → List ℕ → Type 0
-IsOfRunOrEmpty main m turns bytes = IsOfRun StandsForList m turns bytes ⊎ ((main ≡ []) × StandsForList bytes [])
+abbrev pub IsOfCameOrEmpty : {m : Moment} {turns : List Turn} {broke : Option TurnError} {now : Moment} → List ℕ → Came m turns broke now → List ℕ → Type 0
+IsOfCameOrEmpty main c bytes = IsOfCame StandsForList c bytes ⊎ ((main ≡ []) × StandsForList bytes [])
 
 -- nothing of Main is pending, and where it is empty the clock tells
 pub record IsCalm (before : Outside) : Type 0 where
@@ -95,8 +97,9 @@ pub record IsCalm (before : Outside) : Type 0 where
   pub clock : main_of before ≡ [] → IsSome before.stamps
 
 -- The file was opened, where no call failed, the turns came so far over its list, and what was written has this to do with the line of the tail that was cut off
--- and the replies. The clock and the volume's counts are those of the moment. Main stands for its list, as it is and whatever a crash leaves, and that list has each transaction that
--- was answered as committed, or what packs left of it. Whatever a crash at any moment of the call leaves stands for the list at some moment of the run.
+-- and the replies. The clock and the volume's counts are those of the moment. Main stands for its list, as it is and whatever a crash leaves, and that list has each
+-- transaction that was answered as committed, or what the packs that were answered since left of it. Whatever a crash at any moment of the call leaves stands for the
+-- list at a moment that the run came by.
 pub record Reached (turns : List Turn) (broke : Option TurnError) (written : List ℕ → Type 0) (before after : Outside) : Type 0 where
   pub list : List Transaction
   pub cut : Option ℕ
@@ -111,8 +114,8 @@ pub record Reached (turns : List Turn) (broke : Option TurnError) (written : Lis
   pub counts : CountsLeft broke came.answers before after
   pub main : IsMainOf broke came.behind.machine came.later (main_of after)
   pub images : Leaves Main (IsMainOf broke came.behind.machine came.later) after.log
-  pub acknowledged : HasCommitted came.answers came.behind.machine.list
-  pub moments : IsCalm before → LeavesOnly Main (IsOfRunOrEmpty (main_of before) (began list stamps before.read_faults before.write_faults) turns) before.log after.log
+  pub acknowledged : HasCommitted stock (began list stamps before.read_faults before.write_faults) came.taken came.later came.answers came.behind
+  pub moments : IsCalm before → LeavesOnly Main (IsOfCameOrEmpty (main_of before) came) before.log after.log
 
 -- all turns were answered, and all that was written
 pub record RanWhole (turns : List Turn) (before after : Outside) : Type 0 where

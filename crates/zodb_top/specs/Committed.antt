@@ -1,52 +1,40 @@
 -- That what was answered as committed stands in the list, or what packs left of it. Own.
-use Rattle.std.specs.Prelude.{◌≡◌, ℕ, List, [], ◌∷◌, ◌++◌, Bool, true, false}
-use Rattle.std.specs.List.{AllByRecursion, list_any}
+use Rattle.std.specs.Prelude.{◌≡◌, ℕ, ◌<◌, List, [], ◌∷◌, ◌++◌, Bool, true, false, Option}
+use Rattle.std.specs.List.{list_any}
+use Rattle.zb_ids.specs.declared.stamp.Stamp.{Stamp}
 use Rattle.zb_model.specs.declared.data.Transaction.{Transaction}
+use Rattle.zb_model.specs.Database.{newest_tid}
 use Rattle.zb_answers.specs.declared.answer.Answer.{Answer}
 use Rattle.zb_answers.specs.declared.answer.Answer.TheVariants.{Committed, Packed}
 use Rattle.zb_script.specs.declared.line.Turn.{Turn}
 use Rattle.zodb_core.specs.Machine.{Rules}
-use Rattle.zodb_core.specs.Sound.{IsPackOf}
-use Rattle.client_turns.specs.Clients.{Moment}
+use Rattle.zodb_core.specs.Outcomes.{FaultCounts}
+use Rattle.zodb_core.specs.Sound.{IsPackedAsMarked}
+use Rattle.client_turns.specs.Clients.{Moment, first_moment}
 use Rattle.client_turns.specs.Output.{Out, TurnAnswer}
 
--- a list has a transaction with this tid
-pub record HasTid (list : List Transaction) (tid : ℕ) : Type 0 where
-  pub earlier : List Transaction
-  pub transaction : Transaction
-  pub later : List Transaction
-  pub parts : list ≡ earlier ++ transaction ∷ later
-  pub tid_is : transaction.tid ≡ tid
+-- ---- what answers say of the list
 
--- one list begins with another
-pub record BeginsWith (list front : List Transaction) : Type 0 where
-  pub more : List Transaction
-  pub parts : list ≡ front ++ more
-
--- A list that commits and packs made of another: it has each transaction of that one, or its packed form, which may be nothing.
-pub data IsLeftOf (list : List Transaction) : List Transaction → Type 0 where
-  left_same : IsLeftOf list list
-  left_grown : (mid : List Transaction) (t : Transaction) → IsLeftOf list mid → IsLeftOf list (mid ++ t ∷ [])
-  left_packed : (mid now : List Transaction) → IsLeftOf list mid → IsPackOf mid now → IsLeftOf list now
-
--- a transaction with this tid was the newest of a list, of which commits and packs made this one
-pub record WasCommitted (list : List Transaction) (tid : ℕ) : Type 0 where
-  pub earlier : List Transaction
+-- a later transaction, with this tid, came behind the list
+pub record IsCommittedTo (tid : ℕ) (list now : List Transaction) : Type 0 where
   pub transaction : Transaction
   pub tid_is : transaction.tid ≡ tid
-  pub left : IsLeftOf (earlier ++ transaction ∷ []) list
+  pub later : newest_tid list < tid
+  pub behind : now ≡ list ++ transaction ∷ []
 
--- an answer says that a transaction is committed: it was, and the list has it or what packs left of it
-abbrev pub IsLeftIfCommitted : List Transaction → Answer → Type 0
-IsLeftIfCommitted list (Committed tid) = WasCommitted list tid
-IsLeftIfCommitted list _ = Unit {0}
+-- An answer makes one list of another: a commit puts a transaction behind it, and a pack leaves of it what the machine marks, up to a tid below its newest; any other
+-- answer leaves it.
+abbrev pub AnswerLeaves : Rules → Answer → List Transaction → List Transaction → Type 0
+AnswerLeaves rules (Committed tid) list now = IsCommittedTo tid list now
+AnswerLeaves rules (Packed kept dropped) list now = IsPackedAsMarked rules.named list now
+AnswerLeaves rules _ list now = now ≡ list
 
--- and the list has it
-abbrev pub IsInIfCommitted : List Transaction → Answer → Type 0
-IsInIfCommitted list (Committed tid) = HasTid list tid
-IsInIfCommitted list _ = Unit {0}
+-- and so answers, one after another
+abbrev pub AnswersLeave : Rules → List TurnAnswer → List Transaction → List Transaction → Type 0
+AnswersLeave rules [] list now = now ≡ list
+AnswersLeave rules (o ∷ more) list now = (mid : List Transaction) × AnswerLeaves rules o.answer list mid × AnswersLeave rules more mid now
 
--- the list was packed
+-- an answer says that the list was packed
 abbrev pub is_packed : Answer → Bool
 is_packed (Packed kept dropped) = true
 is_packed _ = false
@@ -54,18 +42,51 @@ is_packed _ = false
 abbrev pub has_packed : List TurnAnswer → Bool
 has_packed answers = list_any (λ o. is_packed o.answer) answers
 
--- The list has each transaction that was answered as committed, or what packs left of it; and where nothing was packed, it has it.
-pub record HasCommitted (answers : List TurnAnswer) (list : List Transaction) : Type 0 where
-  pub left : AllByRecursion (λ o. IsLeftIfCommitted list o.answer) answers
-  pub whole : has_packed answers ≡ false → AllByRecursion (λ o. IsInIfCommitted list o.answer) answers
+-- one list begins with another
+pub record BeginsWith (list front : List Transaction) : Type 0 where
+  pub more : List Transaction
+  pub parts : list ≡ front ++ more
 
--- Behind every run over whatever rules the list has each transaction that was answered as committed, or what packs left of it; it is made of the list at the
--- start by commits and packs, and where nothing was packed, it begins with that.
-pub record KeepsCommitted (list : List Transaction) (answers : List TurnAnswer) (now : List Transaction) : Type 0 where
-  pub committed : HasCommitted answers now
-  pub left : IsLeftOf list now
-  pub begins : has_packed answers ≡ false → BeginsWith now list
+-- the newest transaction of a list has this tid
+pub record EndsWith (list : List Transaction) (tid : ℕ) : Type 0 where
+  pub earlier : List Transaction
+  pub transaction : Transaction
+  pub parts : list ≡ earlier ++ transaction ∷ []
+  pub tid_is : transaction.tid ≡ tid
+
+-- ---- the moments of a run
+
+-- A run came by a moment: a front of its turns was given these answers and led to it, and the rest was given those and led on from it to the moment behind.
+pub record CameBy (rules : Rules) (m : Moment) (turns later : List Turn) (given more : List TurnAnswer) (behind : Moment) : Type 0 where
+  pub front : List Turn
+  pub rest : List Turn
+  pub parts : turns ≡ front ++ rest
+  pub at : Moment
+  pub before : Out rules m front (rest ++ later) given at
+  pub after : Out rules at rest later more behind
+
+-- The list behind a run is what the answers since such a moment left of the list there; where none of them says that it was packed, it begins with that.
+pub record IsLeftSince (rules : Rules) (m : Moment) (turns later : List Turn) (given more : List TurnAnswer) (behind : Moment) : Type 0 where
+  pub came : CameBy rules m turns later given more behind
+  pub left : AnswersLeave rules more came.at.machine.list behind.machine.list
+  pub whole : has_packed more ≡ false → BeginsWith behind.machine.list came.at.machine.list
+
+-- A transaction that was answered as committed was then the newest of the list, and the list behind the run is what the later answers left of that one.
+pub record IsAcknowledged (rules : Rules) (m : Moment) (turns later : List Turn) (given more : List TurnAnswer) (tid : ℕ) (behind : Moment) : Type 0 where
+  pub since : IsLeftSince rules m turns later given more behind
+  pub newest : EndsWith since.came.at.machine.list tid
+
+-- each transaction that was answered as committed
+abbrev pub HasCommitted : Rules → Moment → List Turn → List Turn → List TurnAnswer → Moment → Type 0
+HasCommitted rules m turns later answers behind =
+    (given more : List TurnAnswer) (o : TurnAnswer) (tid : ℕ) → answers ≡ given ++ o ∷ more → o.answer ≡ Committed tid → IsAcknowledged rules m turns later (given ++ o ∷ []) more tid behind
+
+-- Behind every run over whatever rules, from its first moment on, the list has each transaction that was answered as committed, or what packs left of it. It is made
+-- of the list at each moment that the run came by, by the commits and packs that were answered since then.
+pub record KeepsCommitted (rules : Rules) (m : Moment) (turns later : List Turn) (answers : List TurnAnswer) (behind : Moment) : Type 0 where
+  pub committed : HasCommitted rules m turns later answers behind
+  pub left : (given more : List TurnAnswer) → answers ≡ given ++ more → IsLeftSince rules m turns later given more behind
 
 abbrev pub CommittedStays : Type 0
-CommittedStays = (rules : Rules) (m now : Moment) (turns later : List Turn) (answers : List TurnAnswer) → Out rules m turns later answers now
-    → KeepsCommitted m.machine.list answers now.machine.list
+CommittedStays = (rules : Rules) (list : List Transaction) (stamps : Option (List Stamp)) (counts : FaultCounts) (turns later : List Turn) (answers : List TurnAnswer) (now : Moment)
+    → Out rules (first_moment list stamps counts) turns later answers now → KeepsCommitted rules (first_moment list stamps counts) turns later answers now

@@ -11,6 +11,7 @@ use Rattle.zb_volume.specs.Moments.{Leaves, LeavesOnly}
 use Rattle.zodb_core.specs.declared.reply.Reply.{Reply}
 use Rattle.zodb_core.specs.HubState.{IsCauseOf, counts_of, is_store_failed}
 use Rattle.zodb_core.specs.Outcomes.{Answered, NoMemory, ReadingFailed, StepOutcome, StoreFailed, outcome_of}
+use Rattle.zodb_top.specs.declared.command.PackRequest.{PackRequest}
 use Rattle.zodb_top.specs.declared.status.Status.{Status}
 use Rattle.zodb_top.specs.Packs.{IsListOrPacked, IsReplyTo, ReplySays, packed_list}
 use Rattle.zodb_top.specs.declared.status.Status.TheVariants as status
@@ -23,23 +24,23 @@ IsToldAs status.SinkFault old new before now text = Rose before now × AppendsPr
 IsToldAs _ old new before now text = ⊥
 
 -- the list of a store behind a pack
-abbrev pub IsListBehind : ℕ → List Transaction → List Transaction → StepOutcome → Type 0
-IsListBehind tid list now Answered = now ≡ packed_list tid list
-IsListBehind tid list now StoreFailed = Unit {0}
-IsListBehind tid list now _ = now ≡ list
+abbrev pub IsListBehind : PackRequest → List Transaction → List Transaction → StepOutcome → Type 0
+IsListBehind pack list now Answered = now ≡ packed_list pack list
+IsListBehind pack list now StoreFailed = Unit {0}
+IsListBehind pack list now _ = now ≡ list
 
 -- a store was packed, or not, as the reply says; the clock wasn't read
-pub record IsStorePacked (tid : ℕ) (r : Reply) (old new : StoreState) (before after : Option (List Stamp)) : Type 0 where
-  pub made : IsReplyTo tid old.list r (outcome_of r)
-  pub list : IsListBehind tid old.list new.list (outcome_of r)
+pub record IsStorePacked (pack : PackRequest) (r : Reply) (old new : StoreState) (before after : Option (List Stamp)) : Type 0 where
+  pub made : IsReplyTo pack old.list r (outcome_of r)
+  pub list : IsListBehind pack old.list new.list (outcome_of r)
   pub whole : new.broken ≡ is_store_failed (outcome_of r)
   pub clock : after ≡ before
 
 -- a store was packed, and the reply written, behind the line of a tail that was cut off, where one was
-pub record PacksStore (s : Status) (told lasts : Type 0) (stands : List ℕ → List Transaction → Type 0) (tid : ℕ) (cut : Option ℕ) (taken taken' : Option (List ℕ)) (before now : ℕ) (old new : StoreState) (stamps stamps' : Option (List Stamp)) : Type 0 where
+pub record PacksStore (s : Status) (told lasts : Type 0) (stands : List ℕ → List Transaction → Type 0) (pack : PackRequest) (cut : Option ℕ) (taken taken' : Option (List ℕ)) (before now : ℕ) (old new : StoreState) (stamps stamps' : Option (List Stamp)) : Type 0 where
   pub reply : Reply
   pub says : ReplySays s taken taken' before now reply (cut_lines cut)
   pub cause : IsCauseOf (counts_of old) (counts_of new) (outcome_of reply)
-  pub step : told → IsStorePacked tid reply old new stamps stamps'
-  pub moments : lasts → told → LeavesOnly Main (IsListOrPacked stands tid old.list) old.log new.log
+  pub step : told → IsStorePacked pack reply old new stamps stamps'
+  pub moments : lasts → told → LeavesOnly Main (IsListOrPacked stands pack old.list) old.log new.log
   pub images : lasts → new.broken ≡ false → Leaves Main (λ bytes. stands bytes new.list) new.log

@@ -17,6 +17,7 @@ use Rattle.zodb_core.specs.HubState.{IsCauseOf}
 use Rattle.zodb_core.specs.Machine.{Machine, machine_over, with_session}
 use Rattle.zodb_core.specs.Outcomes.{Answered, FaultCounts, NoMemory, ReadingFailed, StepOutcome, StoreFailed, outcome_of}
 use Rattle.zodb_core.specs.Steps.{Stepped, step_of}
+use Rattle.zodb_top.specs.declared.command.PackRequest.{PackRequest}
 use Rattle.zodb_top.specs.declared.status.Status.{Status}
 use Rattle.zodb_top.specs.declared.status.Status.TheVariants as status
 use Rattle.zodb_top.specs.Came.{IsCalm, stock}
@@ -25,17 +26,17 @@ use Rattle.zodb_top.specs.Outside.{Outside, main_of}
 use Rattle.zodb_top.specs.Texts.{cut_lines, joined, line, store_fault_line}
 use Rattle.zodb_top.specs.Written.{IsWritten}
 
--- what the machine makes of a pack of a list up to a tid, which reads no clock
-abbrev pub pack_made : ℕ → List Transaction → Stepped
-pack_made tid list = step_of stock (with_session (machine_over list)) 0 (request.Pack tid true) 0
+-- what the machine makes of such a pack of a list, which reads no clock
+abbrev pub pack_made : PackRequest → List Transaction → Stepped
+pack_made pack list = step_of stock (with_session (machine_over list)) 0 (request.Pack pack.tid pack.collect) 0
 
 -- the list packed so, or as it is where that is refused
-abbrev pub packed_list : ℕ → List Transaction → List Transaction
-packed_list tid list = (pack_made tid list).machine.list
+abbrev pub packed_list : PackRequest → List Transaction → List Transaction
+packed_list pack list = (pack_made pack list).machine.list
 
 -- bytes stand for the list, or for the packed one
-abbrev pub IsListOrPacked : (List ℕ → List Transaction → Type 0) → ℕ → List Transaction → List ℕ → Type 0
-IsListOrPacked stands tid list bytes = stands bytes list ⊎ stands bytes (packed_list tid list)
+abbrev pub IsListOrPacked : (List ℕ → List Transaction → Type 0) → PackRequest → List Transaction → List ℕ → Type 0
+IsListOrPacked stands pack list bytes = stands bytes list ⊎ stands bytes (packed_list pack list)
 
 -- the line that a reply is written as
 abbrev pub reply_line : Reply → List ℕ
@@ -50,34 +51,34 @@ is_told ReadingFailed = true
 is_told _ = false
 
 -- How a pack ended: as the machine makes it, or it wasn't made, and just a count of faults rose.
-abbrev pub IsReplyTo : ℕ → List Transaction → Reply → StepOutcome → Type 0
-IsReplyTo tid list r Answered = r ≡ (pack_made tid list).reply
-IsReplyTo tid list r _ = Unit {0}
+abbrev pub IsReplyTo : PackRequest → List Transaction → Reply → StepOutcome → Type 0
+IsReplyTo pack list r Answered = r ≡ (pack_made pack list).reply
+IsReplyTo pack list r _ = Unit {0}
 
 -- bytes stand for what is left: where the store failed, for the list or the packed one
-abbrev pub IsLeftBy : (List ℕ → List Transaction → Type 0) → ℕ → List Transaction → StepOutcome → List ℕ → Type 0
-IsLeftBy stands tid list Answered bytes = stands bytes (packed_list tid list)
-IsLeftBy stands tid list StoreFailed bytes = IsListOrPacked stands tid list bytes
-IsLeftBy stands tid list _ bytes = stands bytes list
+abbrev pub IsLeftBy : (List ℕ → List Transaction → Type 0) → PackRequest → List Transaction → StepOutcome → List ℕ → Type 0
+IsLeftBy stands pack list Answered bytes = stands bytes (packed_list pack list)
+IsLeftBy stands pack list StoreFailed bytes = IsListOrPacked stands pack list bytes
+IsLeftBy stands pack list _ bytes = stands bytes list
 
 -- before the pack the file of a new database may not be there yet
-abbrev pub IsOfPack : List ℕ → ℕ → List Transaction → List ℕ → Type 0
-IsOfPack main tid list bytes = IsListOrPacked StandsForList tid list bytes ⊎ ((main ≡ []) × StandsForList bytes [])
+abbrev pub IsOfPack : List ℕ → PackRequest → List Transaction → List ℕ → Type 0
+IsOfPack main pack list bytes = IsListOrPacked StandsForList pack list bytes ⊎ ((main ≡ []) × StandsForList bytes [])
 
 -- The file was opened, where no call failed, and its list was packed or not, as the reply says. What was written has this to do with the line of the tail that
 -- was cut off and with the reply. Main stands for what is left, as it is and whatever a crash leaves. Whatever a crash at any moment of the call leaves stands for
 -- the list or for the packed one.
-pub record IsPacked (tid : ℕ) (says : Reply → List (List ℕ) → Type 0) (before after : Outside) : Type 0 where
+pub record IsPacked (pack : PackRequest) (says : Reply → List (List ℕ) → Type 0) (before after : Outside) : Type 0 where
   pub list : List Transaction
   pub cut : Option ℕ
   pub opens : OpensAs (main_of before) before.stamps after.stamps list cut
   pub reply : Reply
-  pub made : IsReplyTo tid list reply (outcome_of reply)
+  pub made : IsReplyTo pack list reply (outcome_of reply)
   pub cause : IsCauseOf (record { reads = before.read_faults; others = before.write_faults }) (record { reads = after.read_faults; others = after.write_faults }) (outcome_of reply)
   pub says_so : says reply (cut_lines cut)
-  pub main : IsLeftBy StandsForList tid list (outcome_of reply) (main_of after)
-  pub images : Leaves Main (IsLeftBy StandsForList tid list (outcome_of reply)) after.log
-  pub moments : IsCalm before → LeavesOnly Main (IsOfPack (main_of before) tid list) before.log after.log
+  pub main : IsLeftBy StandsForList pack list (outcome_of reply) (main_of after)
+  pub images : Leaves Main (IsLeftBy StandsForList pack list (outcome_of reply)) after.log
+  pub moments : IsCalm before → LeavesOnly Main (IsOfPack (main_of before) pack list) before.log after.log
 
 -- What each status says of a reply and of what was written of it behind some lines.
 abbrev pub ReplySays : Status → Option (List ℕ) → Option (List ℕ) → ℕ → ℕ → Reply → List (List ℕ) → Type 0
@@ -88,14 +89,14 @@ ReplySays status.StoreFault old new before now r lines = (outcome_of r ≡ Store
 ReplySays _ old new before now r lines = ⊥
 
 -- a pack of the file in Main, with this status
-abbrev pub PacksAs : Status → ℕ → Outside → Outside → Type 0
-PacksAs s tid before after = IsPacked tid (ReplySays s before.taken after.taken before.sink_faults after.sink_faults) before after
+abbrev pub PacksAs : Status → PackRequest → Outside → Outside → Type 0
+PacksAs s pack before after = IsPacked pack (ReplySays s before.taken after.taken before.sink_faults after.sink_faults) before after
 
 -- What each status of `pack` says: its cause, what was written, and what Main stands for. `told` says that the volume tells.
-abbrev pub PackSays : Status → ℕ → Type 0 → Outside → Outside → Type 0
-PackSays status.Done tid told before after = told → PacksAs status.Done tid before after
-PackSays status.NoMemory tid told before after = (after.taken ≡ before.taken) × ((IsLeft told before after × IsUnfailed before after) ⊎ (told → PacksAs status.NoMemory tid before after))
-PackSays status.SinkFault tid told before after = Rose before.sink_faults after.sink_faults × (told → PacksAs status.SinkFault tid before after)
-PackSays status.StoreFault tid told before after = FailedToOpen told before after ⊎ (Rose before.write_faults after.write_faults × (told → PacksAs status.StoreFault tid before after))
-PackSays status.Damaged tid told before after = IsRefused told before after
-PackSays _ tid told before after = ⊥
+abbrev pub PackSays : Status → PackRequest → Type 0 → Outside → Outside → Type 0
+PackSays status.Done pack told before after = told → PacksAs status.Done pack before after
+PackSays status.NoMemory pack told before after = (after.taken ≡ before.taken) × ((IsLeft told before after × IsUnfailed before after) ⊎ (told → PacksAs status.NoMemory pack before after))
+PackSays status.SinkFault pack told before after = Rose before.sink_faults after.sink_faults × (told → PacksAs status.SinkFault pack before after)
+PackSays status.StoreFault pack told before after = FailedToOpen told before after ⊎ (Rose before.write_faults after.write_faults × (told → PacksAs status.StoreFault pack before after))
+PackSays status.Damaged pack told before after = IsRefused told before after
+PackSays _ pack told before after = ⊥

@@ -1,8 +1,10 @@
 -- What the program writes, and what its statuses say of `run`. Own.
-use Rattle.std.specs.Prelude.{◌≡◌, ◌⊎◌, ℕ, ◌<◌, ◌≤◌, List, Option, Some, None, Bool, true, false, IfSome, length}
+use Rattle.std.specs.Prelude.{◌≡◌, ◌≢◌, ◌⊎◌, ℕ, List, Option, Some, None, Bool, false, IfSome}
 use Rattle.std.specs.List.{list_any}
+use Rattle.std.specs.Option.{IsSomeAnd}
 use Rattle.zb_base.specs.Counts.{Rose}
 use Rattle.zb_script.specs.declared.limits.Limit.{Limit}
+use Rattle.zb_script.specs.declared.limits.Limit.TheVariants.{Bytes}
 use Rattle.zb_script.specs.declared.line.Turn.{Turn}
 use Rattle.zb_script.specs.Limits.{first_limit}
 use Rattle.zb_script.specs.Script.{IsBadLine, IsScript}
@@ -35,7 +37,7 @@ pub record PacksNothing (left : Option (List ℕ)) : Type 0 where
 -- and so it is of a run, and of each command that asks, but not of `pack`
 abbrev pub KeepsSide : Option Command → Option (List ℕ) → Type 0
 KeepsSide (Some Run) left = PacksNothing left
-KeepsSide (Some (Pack tid)) left = ⊥
+KeepsSide (Some (Pack pack)) left = ⊥
 KeepsSide _ left = Unit {0}
 
 -- this holds of turns, which are those of the input where the source tells
@@ -75,11 +77,12 @@ RunSays _ told unread left before after = ⊥
 abbrev pub IsUnlessMemory : Status → Status → Type 0
 IsUnlessMemory status expected = (status ≡ expected) ⊎ (status ≡ NoMemory)
 
--- the source was read to its end
-abbrev pub is_read : Status → Bool
-is_read Done = true
-is_read SinkFault = true
-is_read StoreFault = true
-is_read Damaged = true
-is_read BadLine = true
-is_read _ = false
+-- with this status the source was read to its end; with that of a limit, where the input is told and doesn't pass the limit of its bytes
+abbrev pub ReadsToEnd : Status → Option (List ℕ) → Type 0
+ReadsToEnd Done left = Unit {0}
+ReadsToEnd SinkFault left = Unit {0}
+ReadsToEnd StoreFault left = Unit {0}
+ReadsToEnd Damaged left = Unit {0}
+ReadsToEnd BadLine left = Unit {0}
+ReadsToEnd LimitPassed left = IsSomeAnd left (λ input. first_limit input ≢ Some Bytes)
+ReadsToEnd _ left = ⊥

@@ -24,7 +24,7 @@ use Rattle.zodb_top.specs.declared.replying.RunError.{RunError}
 use Rattle.zodb_top.specs.declared.replying.RunError.TheVariants as errors
 use Rattle.zodb_top.specs.declared.status.Status.{Status}
 use Rattle.zodb_top.specs.declared.status.Status.TheVariants as status
-use Rattle.zodb_top.specs.Came.{Came, IsListNext, IsMainBy, IsOfRun, RanInPart, RanToFault, RanWhole, answers_text, stock}
+use Rattle.zodb_top.specs.Came.{Came, IsListNext, IsMainBy, IsOfCame, IsOfRun, RanInPart, RanToFault, RanWhole, answers_text, stock}
 use Rattle.zodb_top.specs.Opened.{FailedToOpen, IsLeft, IsRefused, IsUnfailed}
 use Rattle.zodb_top.specs.Outside.{Outside}
 use Rattle.zodb_top.specs.Texts.{cut_lines, joined, store_fault_line}
@@ -63,14 +63,14 @@ IsWrittenOf _ old new text = AppendsPrefix old new text
 
 -- A front of the turns was answered, and its replies were written; the clients stand for the moment behind it. Whatever a crash left meanwhile is of the run, where
 -- the list lasts.
-pub record RunsOn {R F : Type 0} (lasts : Type 0) (stands : List ℕ → List Transaction → Type 0) (m : Moment) (turns front later : List Turn) (old new : Option (List ℕ)) (log : List Event) (clients : ClientsState R F) (left : Option (List Stamp)) : Type 0 where
+pub record RunsOn {R F : Type 0} (lasts : Type 0) (stands : List ℕ → List Transaction → Type 0) (m : Moment) (front later : List Turn) (old new : Option (List ℕ)) (log : List Event) (clients : ClientsState R F) (left : Option (List Stamp)) : Type 0 where
   pub now : Moment
   pub answers : List TurnAnswer
   pub answered : Out stock m front later answers now
   pub text : Appends old new (answers_text answers)
   pub stands_for : StandsForMoment clients left now
   pub whole : now.machine.failed ≡ false
-  pub moments : lasts → LeavesOnly Main (IsOfRun stands m turns) log clients.hub.store.log
+  pub moments : lasts → LeavesOnly Main (IsOfRun stands m front later answers now) log clients.hub.store.log
 
 -- a run stopped
 pub record Stops {R F : Type 0} (lasts : Type 0) (stands : List ℕ → List Transaction → Type 0) (broke : Option TurnError) (m : Moment) (turns : List Turn) (old new : Option (List ℕ)) (log : List Event) (clients : ClientsState R F) (left : Option (List Stamp)) : Type 0 where
@@ -79,7 +79,7 @@ pub record Stops {R F : Type 0} (lasts : Type 0) (stands : List ℕ → List Tra
   pub text : IsWrittenOf broke old new (answers_text came.answers)
   pub stands_for : StandsForMoment clients left now
   pub around : broke ≡ Some turn_error.StoreFault → lasts → Leaves Main (IsListNext stands came.behind.machine came.later) clients.hub.store.log
-  pub moments : lasts → LeavesOnly Main (IsOfRun stands m turns) log clients.hub.store.log
+  pub moments : lasts → LeavesOnly Main (IsOfCame stands came) log clients.hub.store.log
 
 -- ---- a store
 
@@ -91,7 +91,7 @@ pub record RanOver (lasts : Type 0) (stands : List ℕ → List Transaction → 
   pub stamps : left ≡ now.stamps
   pub counts : counts_of new ≡ now.counts
   pub images : lasts → Leaves Main (IsMainBy stands broke came.behind.machine came.later) new.log
-  pub moments : lasts → LeavesOnly Main (IsOfRun stands m turns) old.log new.log
+  pub moments : lasts → LeavesOnly Main (IsOfCame stands came) old.log new.log
 
 pub record RanAllOver (lasts : Type 0) (stands : List ℕ → List Transaction → Type 0) (m : Moment) (cut : Option ℕ) (turns : List Turn) (written : List ℕ → Type 0) (old new : StoreState) (left : Option (List Stamp)) : Type 0 where
   pub ran : RanOver lasts stands m cut turns None written old new left

@@ -9,11 +9,18 @@ use Rattle.clap.specs.declared.error.kind.ErrorKind.TheVariants as kinds
 abbrev pub position : Rule
 position = record (new_rule (codes "position")) { required = true }
 
+-- a second word, which may be left out
+abbrev pub more : Rule
+more = new_rule (codes "more")
+
 abbrev pub alone : List ℕ → App
 alone name = new_app name
 
 abbrev pub placed : List ℕ → App
 placed name = with_rule (new_app name) position
+
+abbrev pub placed_twice : List ℕ → App
+placed_twice name = with_rule (with_rule (new_app name) position) more
 
 -- what a command gives that is added to another
 abbrev pub AddsApp : Command → App → Type 0
@@ -26,12 +33,12 @@ program_top = let a = new_app (codes "zodb") in
 abbrev pub program_app : App
 program_app =
     with_subcommand (with_subcommand (with_subcommand (with_subcommand (with_subcommand (with_subcommand (with_subcommand program_top (alone (codes "run")).top) (alone (codes "undolog")).top)
-    (placed (codes "history")).top) (placed (codes "show")).top) (placed (codes "digest")).top) (placed (codes "pack")).top) (placed (codes "check")).top
+    (placed (codes "history")).top) (placed (codes "show")).top) (placed (codes "digest")).top) (placed_twice (codes "pack")).top) (placed (codes "check")).top
 
--- the name of a subcommand, and the value of its position
-abbrev pub named_in : Option (Text × List Row) → Option (Text × Option Text)
+-- the name of a subcommand, and the values of its positions
+abbrev pub named_in : Option (Text × List Row) → Option (Text × Option Text × Option Text)
 named_in None = None
-named_in (Some p) = Some (p.0, first_of (codes "position") p.1)
+named_in (Some p) = Some (p.0, first_of (codes "position") p.1, first_of (codes "more") p.1)
 
 -- an error that tells of want of memory
 abbrev pub is_starved : ErrorKind → Bool

@@ -4,9 +4,7 @@ ghost use Rattle.std.specs.Prelude.{◌≡◌, IfOk, map, string_bytes};
 ghost use Rattle.std.specs.List.{list_any};
 ghost use Rattle.std.specs.Option.{option_and_then, option_map};
 ghost use Rattle.zb_ids.specs.Hex.{number_at};
-ghost use Rattle.zb_ids.specs.Spelling.{time_at, time_number};
-ghost use Rattle.zodb_top.specs.declared.command.Command.TheVariants as command;
-ghost use Rattle.zodb_top.specs.Words.{command_of, is_dashed, is_path, named_command, object_command, text_command, word_command};
+ghost use Rattle.zodb_top.specs.Words.{command_of, is_dashed, is_path, long_command, named_command, object_command, pack_command, text_command, word_command};
 
 use crate::entering::named;
 use std::alloc::{AllocError, Global};
@@ -39,6 +37,15 @@ pub enum Asked {
     },
 }
 
+/// A pack of the file's list.
+#[derive(Clone, Copy, Debug, PartialEq, Eq)]
+pub struct PackRequest {
+    /// Up to this tid, which is that of a stamp.
+    pub tid: Tid,
+    /// Whether objects that nothing leads to go too: where `nogc` doesn't stand.
+    pub collect: bool,
+}
+
 /// What the words ask.
 #[derive(Clone, Copy, Debug, PartialEq, Eq)]
 pub enum Command {
@@ -47,10 +54,10 @@ pub enum Command {
     /// Something is asked of the file.
     Ask(Asked),
     /// The file's list is to be packed.
-    Pack {
-        /// Up to this tid, which is that of a stamp.
-        tid: Tid,
-    },
+    Pack(
+        /// How.
+        PackRequest,
+    ),
 }
 
 /// Whether a word is a path: it isn't empty and doesn't begin with a dash.
@@ -123,15 +130,16 @@ fn digits_command(word: &str, digits: &str) -> Option<Command>
     }
 }
 
-/// A pack up to a stamp.
+/// A pack up to a stamp, and whether it collects.
 #[tactic(auto, using(crate::proofs::Digits::stamp_read, crate::proofs::Digits::no_stamp))]
-fn pack_command(stamp: &str) -> Option<Command>
-    ensures { result ≡ option_map (λ t. command.Pack (time_number t)) (time_at stamp.now) }
+fn pack_command(stamp: &str, collect: bool) -> Option<Command>
+    ensures { result ≡ pack_command stamp.now collect }
 {
     match Stamp::read(stamp) {
-        Ok(stamp) => Some(Command::Pack {
+        Ok(stamp) => Some(Command::Pack(PackRequest {
             tid: tid_of_stamp(stamp),
-        }),
+            collect,
+        })),
         Err(_) => None,
     }
 }
@@ -141,18 +149,29 @@ fn text_command(word: &str, text: &str) -> Option<Command>
     ensures { result ≡ text_command word.now text.now }
 {
     if word == "pack" {
-        return pack_command(text);
+        return pack_command(text, true);
     }
     digits_command(word, text)
 }
 
-/// What a name asks, with the word at its position, where there is one.
-fn named_command(word: &str, text: Option<&str>) -> Option<Command>
-    ensures { result ≡ named_command word.now (option_map (λ s. s.now) text.entry) }
+/// What a name asks with a second word.
+fn long_command(word: &str, text: &str, more: &str) -> Option<Command>
+    ensures { result ≡ long_command word.now text.now more.now }
 {
-    match text {
-        Some(text) => text_command(word, text),
-        None => word_command(word),
+    if word == "pack" && more == "nogc" {
+        return pack_command(text, false);
+    }
+    None
+}
+
+/// What a name asks, with the words at its positions, where they are there.
+fn named_command(word: &str, text: Option<&str>, more: Option<&str>) -> Option<Command>
+    ensures { result ≡ named_command word.now (option_map (λ s. s.now) text.entry) (option_map (λ s. s.now) more.entry) }
+{
+    match (text, more) {
+        (Some(text), Some(more)) => long_command(word, text, more),
+        (Some(text), None) => text_command(word, text),
+        (None, _) => word_command(word),
     }
 }
 
@@ -171,7 +190,7 @@ pub(crate) fn command_of(alloc: Global, words: &[String]) -> Result<Option<Comma
         return Ok(None);
     }
     match named(alloc, rest)? {
-        Some((word, text)) => Ok(named_command(word, text)),
+        Some((word, text, more)) => Ok(named_command(word, text, more)),
         None => Ok(None),
     }
 }

@@ -12,13 +12,16 @@ use clap::error::ErrorKind;
 use clap::{ArgMatches, Error};
 use std::alloc::{AllocError, Global};
 
-/// The subcommand that was met, and the value of its position, where it has one.
+/// A command's name, and the words at its positions, where they are there.
+pub(crate) type Named<'a> = (&'a str, Option<&'a str>, Option<&'a str>);
+
+/// The subcommand that was met, and the values of its positions.
 #[tactic(auto, using(crate::proofs::Matched::entered_some, crate::proofs::Matched::entered_none))]
-fn entered<'a>(matches: &ArgMatches<'a>) -> Option<(&'a str, Option<&'a str>)>
-    ensures { option_map (λ p. (p.0.now, option_map (λ s. s.now) p.1)) result ≡ named_in (subcommand_rows_of matches.now) }
+fn entered<'a>(matches: &ArgMatches<'a>) -> Option<Named<'a>>
+    ensures { option_map (λ p. (p.0.now, option_map (λ s. s.now) p.1, option_map (λ s. s.now) p.2)) result ≡ named_in (subcommand_rows_of matches.now) }
 {
     match matches.subcommand() {
-        Some((name, inner)) => Some((name, inner.get_str("position"))),
+        Some((name, inner)) => Some((name, inner.get_str("position"), inner.get_str("more"))),
         None => None,
     }
 }
@@ -35,12 +38,9 @@ fn is_starved(error: &Error) -> bool
 
 /// What words without a dash name.
 #[tactic(auto, using(crate::proofs::Matched::ok_named, crate::proofs::Matched::err_named))]
-pub(crate) fn named<'a>(
-    alloc: Global,
-    words: &'a [String],
-) -> Result<Option<(&'a str, Option<&'a str>)>, AllocError>
+pub(crate) fn named<'a>(alloc: Global, words: &'a [String]) -> Result<Option<Named<'a>>, AllocError>
     requires { AllByRecursion (λ word. is_dashed word ≡ false) (map string_bytes words.now) }
-    ensures { IfOk result (λ found. option_map (λ p. (p.0.now, option_map (λ s. s.now) p.1)) found ≡ named_of (map string_bytes words.now)) }
+    ensures { IfOk result (λ found. option_map (λ p. (p.0.now, option_map (λ s. s.now) p.1, option_map (λ s. s.now) p.2)) found ≡ named_of (map string_bytes words.now)) }
 {
     match program(alloc)?.try_get_matches_from(words) {
         Ok(matches) => Ok(entered(&matches)),

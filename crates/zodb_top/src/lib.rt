@@ -18,7 +18,7 @@ mod status;
 mod table;
 mod top;
 
-pub use command::{Asked, Command};
+pub use command::{Asked, Command, PackRequest};
 pub use laws::what_was_committed_stays;
 pub use running::run_over_store;
 pub use script::{MOST_BYTES, turns_of};

@@ -18,48 +18,60 @@ ghost use Rattle.zodb_top.specs.Packs.{IsListOrPacked, PackSays, ReplySays};
 ghost use Rattle.zodb_top.specs.Program.{IsUnlessMemory};
 ghost use Rattle.zodb_top.specs.Texts.{joined};
 
+use crate::command::PackRequest;
 use crate::saying::{cut_lines, say_behind, say_unopened, write_behind};
 use crate::status::Status;
 use file_store::FileStore;
 use std::alloc::Global;
 use zb_answers::{Answer, answer_line};
-use zb_ids::{Text8, Tid};
+use zb_ids::Text8;
 use zb_model::{Refusal, Store};
 use zb_outside::{Clock, Failed, Sink};
 use zb_resolve::{StockRefs, StockResolver};
 use zb_volume::Volume;
 use zodb_core::{Hub, Reply, Request};
 
-/// Packs the list of a hub's store up to a tid, by its first session.
+/// Packs the list of a hub's store, by its first session.
 fn pack_hub<St: Store, C: Clock>(
     alloc: Global,
     hub: &mut Hub<St, StockResolver, StockRefs>,
-    tid: Tid,
+    pack: PackRequest,
     clock: &mut C,
 ) -> Reply
     requires whole { hub.old.store.broken ≡ false }
     requires fresh { hub.old.sessions ≡ [] }
     ensures step { St.told → StandsForMachine hub.old (machine_over hub.old.store.list) →
-        IsStorePacked tid result hub.old.store hub.new.store (C.stamps clock.old) (C.stamps clock.new) }
+        IsStorePacked pack result hub.old.store hub.new.store (C.stamps clock.old) (C.stamps clock.new) }
     ensures moments { St.lasts → St.told → StandsForMachine hub.old (machine_over hub.old.store.list) →
         Leaves Main (λ bytes. St.stands bytes hub.old.store.list) hub.old.store.log →
-        LeavesOnly Main (IsListOrPacked St.stands tid hub.old.store.list) hub.old.store.log hub.new.store.log }
+        LeavesOnly Main (IsListOrPacked St.stands pack hub.old.store.list) hub.old.store.log hub.new.store.log }
     ensures cause { IsCauseOf (counts_of hub.old.store) (counts_of hub.new.store) (outcome_of result) }
     ensures others { ¬ (outcome_of result ≡ StoreFailed) → hub.new.store.faults ≡ hub.old.store.faults }
     ensures later { AreLaterCounts (counts_of hub.old.store) (counts_of hub.new.store) }
 {
     match hub.open_session() {
-        Ok(session) => hub.step(alloc, session, Request::Pack { tid, collect: true }, clock),
+        Ok(session) => {
+            let request = Request::Pack {
+                tid: pack.tid,
+                collect: pack.collect,
+            };
+            hub.step(alloc, session, request, clock)
+        }
         Err(_) => Reply::Refused(Refusal::Memory),
     }
 }
 
-/// Packs the list of a store up to a tid, and hands the store back.
-fn pack_store<St: Store, C: Clock>(alloc: Global, store: St, tid: Tid, clock: &mut C) -> (Reply, St)
+/// Packs the list of a store, and hands the store back.
+fn pack_store<St: Store, C: Clock>(
+    alloc: Global,
+    store: St,
+    pack: PackRequest,
+    clock: &mut C,
+) -> (Reply, St)
     requires whole { (St.state store).broken ≡ false }
     requires free { (St.state store).voted ≡ None }
-    ensures step { St.told → IsStorePacked tid result.0 (St.state store) (St.state result.1) (C.stamps clock.old) (C.stamps clock.new) }
-    ensures moments { St.lasts → St.told → LeavesOnly Main (IsListOrPacked St.stands tid (St.state store).list) (St.state store).log (St.state result.1).log }
+    ensures step { St.told → IsStorePacked pack result.0 (St.state store) (St.state result.1) (C.stamps clock.old) (C.stamps clock.new) }
+    ensures moments { St.lasts → St.told → LeavesOnly Main (IsListOrPacked St.stands pack (St.state store).list) (St.state store).log (St.state result.1).log }
     ensures images { St.lasts → (St.state result.1).broken ≡ false →
         Leaves Main (λ bytes. St.stands bytes (St.state result.1).list) (St.state result.1).log }
     ensures cause { IsCauseOf (counts_of (St.state store)) (counts_of (St.state result.1)) (outcome_of result.0) }
@@ -67,7 +79,7 @@ fn pack_store<St: Store, C: Clock>(alloc: Global, store: St, tid: Tid, clock: &m
     ensures later { AreLaterCounts (counts_of (St.state store)) (counts_of (St.state result.1)) }
 {
     let mut hub = Hub::new(alloc, store, StockResolver, StockRefs);
-    let reply = pack_hub(alloc, &mut hub, tid, clock);
+    let reply = pack_hub(alloc, &mut hub, pack, clock);
     (reply, hub.into_store())
 }
 
@@ -133,13 +145,13 @@ fn pack_over<St: Store, K: Sink, C: Clock>(
     alloc: Global,
     store: St,
     cut: Option<u64>,
-    tid: Tid,
+    pack: PackRequest,
     sink: &mut K,
     clock: &mut C,
 ) -> (Status, St)
     requires whole { (St.state store).broken ≡ false }
     requires free { (St.state store).voted ≡ None }
-    ensures packs { PacksStore result.0 St.told St.lasts St.stands tid cut (K.taken sink.old) (K.taken sink.new) (K.faults sink.old) (K.faults sink.new)
+    ensures packs { PacksStore result.0 St.told St.lasts St.stands pack cut (K.taken sink.old) (K.taken sink.new) (K.faults sink.old) (K.faults sink.new)
         (St.state store) (St.state result.1) (C.stamps clock.old) (C.stamps clock.new) }
     ensures complete { ¬ Rose (St.state store).faults (St.state result.1).faults → ¬ Rose (K.faults sink.old) (K.faults sink.new) → IsUnlessMemory result.0 Status.Done }
     ensures others { ¬ (result.0 ≡ Status.StoreFault) → (St.state result.1).faults ≡ (St.state store).faults }
@@ -149,20 +161,20 @@ fn pack_over<St: Store, K: Sink, C: Clock>(
     let Ok(lines) = cut_lines(alloc, cut) else {
         return (Status::NoMemory, store);
     };
-    let (reply, store) = pack_store(alloc, store, tid, clock);
+    let (reply, store) = pack_store(alloc, store, pack, clock);
     let status = write_reply(alloc, sink, lines.as_slice(), reply);
     (status, store)
 }
 
-/// Opens the file in Main, which is made first where Main is empty, and packs its list up to a tid.
+/// Opens the file in Main, which is made first where Main is empty, and packs its list.
 pub(crate) fn pack_file<K: Sink, V: Volume + Drop, C: Clock>(
     alloc: Global,
-    tid: Tid,
+    pack: PackRequest,
     sink: &mut K,
     volume: V,
     clock: &mut C,
 ) -> (Status, V)
-    ensures outcome { PackSays result.0 tid V.told
+    ensures outcome { PackSays result.0 pack V.told
         (outside (K.taken sink.old) (K.faults sink.old) (C.stamps clock.old) (V.state volume))
         (outside (K.taken sink.new) (K.faults sink.new) (C.stamps clock.new) (V.state result.1)) }
     ensures complete { V.told → ¬ Rose (V.state volume).read_faults (V.state result.1).read_faults → ¬ Rose (V.state volume).write_faults (V.state result.1).write_faults → ¬ Rose (K.faults sink.old) (K.faults sink.new)
@@ -177,7 +189,7 @@ pub(crate) fn pack_file<K: Sink, V: Volume + Drop, C: Clock>(
 {
     match FileStore::create_or_open(alloc, volume, clock) {
         Ok((store, cut)) => {
-            let (status, store) = pack_over(alloc, store, cut, tid, sink, clock);
+            let (status, store) = pack_over(alloc, store, cut, pack, sink, clock);
             (status, store.into_volume())
         }
         Err((error, volume)) => (say_unopened(alloc, sink, error), volume),

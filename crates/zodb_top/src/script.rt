@@ -17,7 +17,7 @@ ghost use Rattle.zb_volume.specs.Disk.{seen};
 ghost use Rattle.client_turns.specs.Refusing.{IsFittingLine};
 ghost use Rattle.zodb_top.specs.Inputs.{InputSays, SaysBadLine, SaysLimit, most_bytes};
 ghost use Rattle.zodb_top.specs.Outside.{outside};
-ghost use Rattle.zodb_top.specs.Program.{IsInput, IsUnlessMemory, PacksNothing, RunSays, is_read};
+ghost use Rattle.zodb_top.specs.Program.{IsInput, IsUnlessMemory, PacksNothing, ReadsToEnd, RunSays};
 
 use crate::running::run_file;
 use crate::saying::{bad_line_text, limit_text, say};
@@ -78,7 +78,7 @@ pub fn turns_of<K: Sink>(alloc: Global, input: &[u8], sink: &mut K) -> Result<Li
 
 /// Reads the script that the source has, to its end or past its limit, and runs it over the file in
 /// Main.
-#[tactic(auto, using(zb_model::specs::StayLaws::stays_same))]
+#[tactic(auto, using(zb_model::specs::StayLaws::stays_same, crate::proofs::Sources::limit_unread, crate::proofs::Sources::fault_unread))]
 pub(crate) fn run_source<S: Source, K: Sink, V: Volume + Drop, C: Clock>(
     alloc: Global,
     source: &mut S,
@@ -89,7 +89,7 @@ pub(crate) fn run_source<S: Source, K: Sink, V: Volume + Drop, C: Clock>(
     ensures outcome { RunSays result.0 V.told (Rose (S.faults source.old) (S.faults source.new)) (S.left source.old)
         (outside (K.taken sink.old) (K.faults sink.old) (C.stamps clock.old) (V.state volume))
         (outside (K.taken sink.new) (K.faults sink.new) (C.stamps clock.new) (V.state result.1)) }
-    ensures at_end { IsTrue (is_read result.0) → IsAtEnd (S.left source.new) }
+    ensures at_end { ReadsToEnd result.0 (S.left source.old) → IsAtEnd (S.left source.new) }
     ensures taken { (bytes : List ℕ) × Consumes (S.left source.old) (S.left source.new) bytes × (length bytes ≤ most_bytes + 1) }
     ensures complete { V.told → IfSome (S.left source.old) (λ input. (turns : List Turn) (list : List Transaction) (cut : Option ℕ) → IsInput input turns → StandsFor (seen (V.state volume).log Main) list cut
         → ¬ Rose (S.faults source.old) (S.faults source.new) → ¬ Rose (K.faults sink.old) (K.faults sink.new)

@@ -1,8 +1,8 @@
-//! The table of commands, as clap reads it: each is a subcommand, with one position or none.
+//! The table of commands, as clap reads it: each is a subcommand, with one position, none, or up to two.
 
 ghost use Rattle.std.specs.Prelude.{◌≡◌, IfOk};
 ghost use Rattle.clap.specs.Words.{app_of};
-ghost use Rattle.zodb_top.specs.Table.{AddsApp, alone, placed, program_app, program_top};
+ghost use Rattle.zodb_top.specs.Table.{AddsApp, alone, placed, placed_twice, program_app, program_top};
 
 use clap::{Arg, Command};
 use std::alloc::{AllocError, Global};
@@ -19,6 +19,14 @@ fn placed<'a>(alloc: Global, name: &'a str) -> Result<Command<'a>, AllocError>
     ensures { IfOk result (λ c. AddsApp c (placed name.entry.now)) }
 {
     Command::new(alloc, name).arg(Arg::new(alloc, "position").required(true))
+}
+
+/// A command with one position, and a second one that may be left out.
+fn placed_twice<'a>(alloc: Global, name: &'a str) -> Result<Command<'a>, AllocError>
+    ensures { IfOk result (λ c. AddsApp c (placed_twice name.entry.now)) }
+{
+    let once = Command::new(alloc, name).arg(Arg::new(alloc, "position").required(true))?;
+    once.arg(Arg::new(alloc, "more"))
 }
 
 /// The program, without its commands.
@@ -43,6 +51,6 @@ pub(crate) fn program<'a>(alloc: Global) -> Result<Command<'a>, AllocError>
         .subcommand(placed(alloc, "history")?)?
         .subcommand(placed(alloc, "show")?)?
         .subcommand(placed(alloc, "digest")?)?
-        .subcommand(placed(alloc, "pack")?)?
+        .subcommand(placed_twice(alloc, "pack")?)?
         .subcommand(placed(alloc, "check")?)
 }

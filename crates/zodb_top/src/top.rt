@@ -15,12 +15,13 @@ ghost use Rattle.zb_volume.specs.Moments.{StaysAs};
 ghost use Rattle.zb_volume.specs.Disk.{seen};
 ghost use Rattle.zodb_top.specs.declared.command.Asked.{Asked};
 ghost use Rattle.zodb_top.specs.declared.command.Command.TheVariants.{Run, Ask, Pack};
+ghost use Rattle.zodb_top.specs.declared.command.PackRequest.{PackRequest};
 ghost use Rattle.zodb_top.specs.Asked.{AskSays};
 ghost use Rattle.zodb_top.specs.Inputs.{most_bytes};
 ghost use Rattle.zodb_top.specs.Opened.{IsLeft, IsUnopened};
 ghost use Rattle.zodb_top.specs.Outside.{outside};
 ghost use Rattle.zodb_top.specs.Packs.{PackSays};
-ghost use Rattle.zodb_top.specs.Program.{IsInput, IsUnlessMemory, KeepsSide, RunSays, is_read};
+ghost use Rattle.zodb_top.specs.Program.{IsInput, IsUnlessMemory, KeepsSide, ReadsToEnd, RunSays};
 ghost use Rattle.zodb_top.specs.Texts.{usage_line};
 ghost use Rattle.zodb_top.specs.Words.{command_of};
 ghost use Rattle.zodb_top.specs.Written.{IsWritten};
@@ -74,7 +75,7 @@ pub fn zodb_main<S: Source, K: Sink, V: Volume + Drop, C: Clock>(
 
     // What each status of `pack` says: its cause, what was written, and what Main stands for, as it is and whatever a
     // crash leaves or left.
-    ensures packs { (tid : ℕ) → command_of (map string_bytes words.now) ≡ Some (Pack tid) → PackSays result.0 tid V.told
+    ensures packs { (pack : PackRequest) → command_of (map string_bytes words.now) ≡ Some (Pack pack) → PackSays result.0 pack V.told
         (outside (K.taken sink.old) (K.faults sink.old) (C.stamps clock.old) (V.state volume))
         (outside (K.taken sink.new) (K.faults sink.new) (C.stamps clock.new) (V.state result.1)) }
 
@@ -87,7 +88,7 @@ pub fn zodb_main<S: Source, K: Sink, V: Volume + Drop, C: Clock>(
     ensures harmed { V.told → IsNoList (seen (V.state volume).log Main) → (V.state result.1).log ≡ (V.state volume).log }
 
     // A script is read to its end, and at most to the first byte past its limit; nothing else is read.
-    ensures at_end { command_of (map string_bytes words.now) ≡ Some Run → IsTrue (is_read result.0) → IsAtEnd (S.left source.new) }
+    ensures at_end { command_of (map string_bytes words.now) ≡ Some Run → ReadsToEnd result.0 (S.left source.old) → IsAtEnd (S.left source.new) }
     ensures taken { (bytes : List ℕ) × Consumes (S.left source.old) (S.left source.new) bytes × (length bytes ≤ most_bytes + 1) }
     ensures unread { ¬ (command_of (map string_bytes words.now) ≡ Some Run) → S.left source.new ≡ S.left source.old }
 
@@ -112,10 +113,10 @@ pub fn zodb_main<S: Source, K: Sink, V: Volume + Drop, C: Clock>(
     ensures damaged { (asked : Asked) → command_of (map string_bytes words.now) ≡ Some (Ask asked) → V.told
         → ¬ Rose (V.state volume).read_faults (V.state result.1).read_faults → ¬ Rose (V.state volume).write_faults (V.state result.1).write_faults
         → IsNoList (seen (V.state volume).log Main) → IsUnlessMemory result.0 Status.Damaged }
-    ensures packed { (tid : ℕ) → command_of (map string_bytes words.now) ≡ Some (Pack tid) → V.told
+    ensures packed { (pack : PackRequest) → command_of (map string_bytes words.now) ≡ Some (Pack pack) → V.told
         → ¬ Rose (V.state volume).read_faults (V.state result.1).read_faults → ¬ Rose (V.state volume).write_faults (V.state result.1).write_faults → ¬ Rose (K.faults sink.old) (K.faults sink.new)
         → (list : List Transaction) (cut : Option ℕ) → StandsFor (seen (V.state volume).log Main) list cut → IsUnlessMemory result.0 Status.Done }
-    ensures pack_damaged { (tid : ℕ) → command_of (map string_bytes words.now) ≡ Some (Pack tid) → V.told
+    ensures pack_damaged { (pack : PackRequest) → command_of (map string_bytes words.now) ≡ Some (Pack pack) → V.told
         → ¬ Rose (V.state volume).read_faults (V.state result.1).read_faults → ¬ Rose (V.state volume).write_faults (V.state result.1).write_faults
         → IsNoList (seen (V.state volume).log Main) → IsUnlessMemory result.0 Status.Damaged }
 
@@ -141,6 +142,6 @@ pub fn zodb_main<S: Source, K: Sink, V: Volume + Drop, C: Clock>(
     match command {
         Command::Run => run_source(alloc, source, sink, volume, clock),
         Command::Ask(asked) => answer_file(alloc, asked, sink, volume, clock),
-        Command::Pack { tid } => pack_file(alloc, tid, sink, volume, clock),
+        Command::Pack(pack) => pack_file(alloc, pack, sink, volume, clock),
     }
 }

@@ -43,7 +43,7 @@ returns-in-Ok-clause-outcome g c =
       faults = (V.state t.volume).write_faults;
       read_faults = (V.state t.volume).read_faults;
     } in
-    packs_file c.args.tid before state (C.stamps c.create_or_open.new.clock) c.in-Ok.cut after state' V.told c.in-Ok.ensures.store.faults c.in-Ok.ensures.store.read_faults c.into_volume.ensures.log c.into_volume.ensures.read_faults c.into_volume.ensures.faults c.pack_over-status.result.0
+    packs_file c.args.pack before state (C.stamps c.create_or_open.new.clock) c.in-Ok.cut after state' V.told c.in-Ok.ensures.store.faults c.in-Ok.ensures.store.read_faults c.into_volume.ensures.log c.into_volume.ensures.read_faults c.into_volume.ensures.faults c.pack_over-status.result.0
     (λ told. record {
       opens = opens_as _ _ _ _ _ (λ some. ((c.in-Ok.ensures.store.main told).reopened some).opened) (λ empty. ((c.in-Ok.ensures.store.main told).anew empty).made) (c.in-Ok.ensures.clock.kept told) (c.in-Ok.ensures.clock.left told);
       keeps = (c.in-Ok.ensures.store.moments told).keeps;
@@ -62,7 +62,7 @@ returns-in-Ok-clause-harmed g c = λ told none. opened_none g.V.Volume.told _ _ 
 
 pub returns-in-Err-clause-outcome : goal.returns-in-Err-clause-outcome
 returns-in-Err-clause-outcome g c =
-    unopened c.say_unopened.result c.in-Err.error c.args.tid g.V.Volume.told _ _ c.say_unopened.ensures.said c.in-Err.ensures.refused.harm c.in-Err.ensures.refused.cause.fault c.in-Err.ensures.refused.untouched (λ other. let still = c.in-Err.ensures.refused.cause.unfailed other in (still.reads, still.writes))
+    unopened c.say_unopened.result c.in-Err.error c.args.pack g.V.Volume.told _ _ c.say_unopened.ensures.said c.in-Err.ensures.refused.harm c.in-Err.ensures.refused.cause.fault c.in-Err.ensures.refused.untouched (λ other. let still = c.in-Err.ensures.refused.cause.unfailed other in (still.reads, still.writes))
     (record {
       stamps = c.in-Err.ensures.clock.given;
       kept = c.in-Err.ensures.clock.kept;

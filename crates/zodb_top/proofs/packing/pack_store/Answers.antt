@@ -11,15 +11,15 @@ use Rattle.zodb_top.proofs.packing.pack_store.Goals as goal
 pub returns-clause-step : goal.returns-clause-step
 returns-clause-step g c = λ told.
     let St = g.St.Store in
-    subst (λ (s : StoreState). IsStorePacked c.args.tid c.pack_hub-reply.result s (St.state c.into_store.result) (g.C.Clock.stamps c.args.clock.now) (g.C.Clock.stamps c.pack_hub-reply.new.clock)) c.new-hub.ensures.store
-    (subst (λ (s : StoreState). IsStorePacked c.args.tid c.pack_hub-reply.result c.new-hub.result.store s (g.C.Clock.stamps c.args.clock.now) (g.C.Clock.stamps c.pack_hub-reply.new.clock)) (sym c.into_store.ensures)
+    subst (λ (s : StoreState). IsStorePacked c.args.pack c.pack_hub-reply.result s (St.state c.into_store.result) (g.C.Clock.stamps c.args.clock.now) (g.C.Clock.stamps c.pack_hub-reply.new.clock)) c.new-hub.ensures.store
+    (subst (λ (s : StoreState). IsStorePacked c.args.pack c.pack_hub-reply.result c.new-hub.result.store s (g.C.Clock.stamps c.args.clock.now) (g.C.Clock.stamps c.pack_hub-reply.new.clock)) (sym c.into_store.ensures)
     (c.pack_hub-reply.ensures.step told (subst (λ (s : StoreState). StandsForMachine c.new-hub.result (machine_over s.list)) (sym c.new-hub.ensures.store) (c.new-hub.ensures.stands told))))
 
 pub returns-clause-moments : goal.returns-clause-moments
 returns-clause-moments g c = λ lasts told.
     let St = g.St.Store in
-    subst (λ (s : StoreState). LeavesOnly Main (IsListOrPacked St.stands c.args.tid s.list) s.log (St.state c.into_store.result).log) c.new-hub.ensures.store
-    (subst (λ (s : StoreState). LeavesOnly Main (IsListOrPacked St.stands c.args.tid c.new-hub.result.store.list) c.new-hub.result.store.log s.log) (sym c.into_store.ensures)
+    subst (λ (s : StoreState). LeavesOnly Main (IsListOrPacked St.stands c.args.pack s.list) s.log (St.state c.into_store.result).log) c.new-hub.ensures.store
+    (subst (λ (s : StoreState). LeavesOnly Main (IsListOrPacked St.stands c.args.pack c.new-hub.result.store.list) c.new-hub.result.store.log s.log) (sym c.into_store.ensures)
     (c.pack_hub-reply.ensures.moments lasts told (subst (λ (s : StoreState). StandsForMachine c.new-hub.result (machine_over s.list)) (sym c.new-hub.ensures.store) (c.new-hub.ensures.stands told))
     (subst (λ (s : StoreState). Leaves Main (λ bytes. St.stands bytes s.list) s.log) (sym c.new-hub.ensures.store) (g.met.St.Store.lasting c.args.store lasts c.requires.whole))))
 

@@ -14,7 +14,7 @@ invariant-loop-at g l =
     let St = g.St.Store in
     record {
       runs : St.told → (m : Moment) → StandsForMoment l.fn.clients (C.stamps l.fn.clock) m → m.machine.failed ≡ false
-          → RunsOn St.lasts St.stands m l.turns (take l.at l.turns) (drop l.at l.turns) (K.taken l.fn.sink) (K.taken l.sink) l.fn.clients.hub.store.log l.clients (C.stamps l.clock);
+          → RunsOn St.lasts St.stands m (take l.at l.turns) (drop l.at l.turns) (K.taken l.fn.sink) (K.taken l.sink) l.fn.clients.hub.store.log l.clients (C.stamps l.clock);
       sink_counted : K.faults l.fn.sink ≤ K.faults l.sink;
       read_counted : l.fn.clients.hub.store.read_faults ≤ l.clients.hub.store.read_faults;
       counted : l.fn.clients.hub.store.faults ≤ l.clients.hub.store.faults;

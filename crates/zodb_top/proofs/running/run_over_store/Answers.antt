@@ -38,7 +38,7 @@ returns-in-Ok-ran-clause-outcome g c = λ told.
     (C.stamps c.take_turns-ran.new.clock)
     (subst (λ (ls : List (List ℕ)). Appends (K.taken c.args.sink.now) (K.taken c.write_lines.new.sink) (joined ls)) (c.as_slice.ensures ∙ c.in-Ok.ensures) c.in-Ok-write_lines.ensures.ok)
     c.into_store-store.ensures.store (λ lasts whole. g.met.St.Store.lasting c.into_store-store.result lasts whole)
-    (subst (λ (s : StoreState). RunsOn St.lasts St.stands m c.args.turns.now c.args.turns.now [] (K.taken c.write_lines.new.sink) (K.taken c.take_turns-ran.new.sink) s.log c.take_turns-ran.new.clients (C.stamps c.take_turns-ran.new.clock))
+    (subst (λ (s : StoreState). RunsOn St.lasts St.stands m c.args.turns.now [] (K.taken c.write_lines.new.sink) (K.taken c.take_turns-ran.new.sink) s.log c.take_turns-ran.new.clients (C.stamps c.take_turns-ran.new.clock))
     c.new-clients.ensures.store (c.in-Ok-ran.ensures.ok told m (c.new-clients.ensures.moment told (C.stamps c.args.clock.now)) refl))
 
 pub returns-clause-outcome : goal.returns-clause-outcome

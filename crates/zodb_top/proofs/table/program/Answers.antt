@@ -1,7 +1,7 @@
 use Rattle.std.proofs.Common.{ap, codes, ◌≡◌, ◌∙◌}
 use Rattle.std.proofs.lemmas.Result.{IfOk-weaker}
 use Rattle.clap.specs.Words.{App, with_subcommand}
-use Rattle.zodb_top.specs.Table.{alone, placed}
+use Rattle.zodb_top.specs.Table.{alone, placed, placed_twice}
 use Rattle.zodb_top.proofs.table.program.Goals as goal
 
 pub returns : goal.returns
@@ -11,5 +11,5 @@ returns c =
     let history = c.in_ok-placed.ensures _ _ c.in_ok-subcommand-3.ensures ∙ ap (λ (x : App). with_subcommand x (placed (codes "history")).top) undolog in
     let show = c.in_ok-placed-2.ensures _ _ c.in_ok-subcommand-4.ensures ∙ ap (λ (x : App). with_subcommand x (placed (codes "show")).top) history in
     let digest = c.in_ok-placed-3.ensures _ _ c.in_ok-subcommand-5.ensures ∙ ap (λ (x : App). with_subcommand x (placed (codes "digest")).top) show in
-    let pack = c.in_ok-placed-4.ensures _ _ c.in_ok-subcommand-6.ensures ∙ ap (λ (x : App). with_subcommand x (placed (codes "pack")).top) digest in
-    IfOk-weaker c.subcommand-7.result _ _ (λ r h. c.in_ok-placed-5.ensures _ _ h ∙ ap (λ (x : App). with_subcommand x (placed (codes "check")).top) pack) c.subcommand-7.ensures
+    let pack = c.in_ok-placed_twice.ensures _ _ c.in_ok-subcommand-6.ensures ∙ ap (λ (x : App). with_subcommand x (placed_twice (codes "pack")).top) digest in
+    IfOk-weaker c.subcommand-7.result _ _ (λ r h. c.in_ok-placed-4.ensures _ _ h ∙ ap (λ (x : App). with_subcommand x (placed (codes "check")).top) pack) c.subcommand-7.ensures
