@@ -1,0 +1,4 @@
+pub mod Lengths
+pub mod Listing
+pub mod Rows
+pub mod Sent
