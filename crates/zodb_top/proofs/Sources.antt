@@ -1,5 +1,5 @@
 -- The script of an input, and what is said of the runs of its turns.
-use Rattle.std.proofs.Common.{◌≡◌, ℕ, ◌<◌, ◌≤◌, Bool, true, false, if◌then◌else◌, length, nat_lt, List, [], ◌∷◌, Option, Some, None, inl, inr, subst, sym, refl, ◌∙◌, true≢false}
+use Rattle.std.proofs.Common.{◌≡◌, ℕ, ◌<◌, Bool, true, false, if◌then◌else◌, length, nat_lt, List, [], ◌∷◌, Option, Some, None, inl, inr, subst, sym, refl, ◌∙◌, true≢false}
 use Rattle.std.proofs.lemmas.Bool.{lt-ltb}
 use Rattle.std.specs.Prelude.{◌⊎◌, ◌≢◌, IfSome}
 use Rattle.std.specs.Option.{IsSomeAnd}
@@ -10,8 +10,8 @@ use Rattle.zb_script.specs.declared.line.Line.{Line}
 use Rattle.zb_script.specs.declared.line.Line.TheVariants as line
 use Rattle.zb_script.specs.declared.line.Turn.{Turn}
 use Rattle.zb_script.specs.Limits.{first_limit, limit_count}
-use Rattle.zb_script.specs.Script.{IsBadLine, IsScript}
-use Rattle.zb_script.specs.Spelling.{AreTurnTexts, IsLineText}
+use Rattle.zb_script.specs.Script.{IsBadLine}
+use Rattle.zb_script.specs.Spelling.{IsLine, IsTurn}
 use Rattle.client_turns.specs.declared.errors.TurnError.TheVariants.{Memory}
 use Rattle.client_turns.specs.Refusing.{IsFittingLine}
 use Rattle.zodb_top.specs.declared.status.Status.{Status}
@@ -23,21 +23,18 @@ use Rattle.zodb_top.specs.Outside.{Outside}
 use Rattle.zodb_top.specs.Program.{IsInput, OfInput, ReadsToEnd, RunSays}
 use Rattle.zodb_top.specs.Running.{FileSays}
 
--- ---- texts fit
+-- ---- turns that were read fit
 
-line_fits : (text : List ℕ) (l : Line) → IsLineText text l → IsFittingLine l
-line_fits text (line.Vote user description) is = (is.user_short.fits, is.description_short.fits)
-line_fits text (line.Undo user description tids) is = (is.user_short.fits, is.description_short.fits)
-line_fits text _ is = tt
+line_fits : (l : Line) → IsLine l → IsFittingLine l
+line_fits (line.Store oid base bytes) is = is.2.some
+line_fits (line.Put oid bytes) is = is.1
+line_fits (line.Vote user description) is = (is.0.fits, is.1.fits)
+line_fits (line.Undo user description tids) is = (is.0.fits, is.1.fits)
+line_fits _ is = tt
 
-texts_fit : (texts : List (List ℕ)) (turns : List Turn) → AreTurnTexts texts turns → AllByRecursion (λ t. IsFittingLine t.line) turns
-texts_fit [] [] are = tt
-texts_fit [] (t ∷ turns) are = absurd are
-texts_fit (text ∷ texts) [] are = absurd are
-texts_fit (text ∷ texts) (t ∷ turns) are = (line_fits are.0.line_text t.line are.0.spelled, texts_fit texts turns are.1)
-
-pub script_fits : (bytes : List ℕ) (turns : List Turn) → IsScript bytes turns → AllByRecursion (λ t. IsFittingLine t.line) turns
-script_fits bytes turns is = texts_fit is.texts turns is.each
+pub turns_fit : (turns : List Turn) → AllByRecursion IsTurn turns → AllByRecursion (λ t. IsFittingLine t.line) turns
+turns_fit [] are = tt
+turns_fit (t ∷ turns) are = (line_fits t.line are.0.1, turns_fit turns are.1)
 
 -- ---- the input
 
