@@ -1,5 +1,5 @@
 -- Steps that only read, and what they are answered.
-use Rattle.std.proofs.Common.{◌≡◌, ℕ, Bool, true, false, List, [], ◌∷◌, ◌++◌, Option, Some, None, refl, sym, ap, subst, ◌∙◌}
+use Rattle.std.proofs.Common.{◌≡◌, ℕ, Bool, true, false, List, Option, Some, None, refl, sym, ap, subst, ◌∙◌}
 use Rattle.std.specs.Prelude.{IfOk, IsTrue, Result, Ok, Err}
 use Rattle.zb_base.specs.Counts.{Rose}
 use Rattle.zodb_top.specs.declared.asking.AskError.{AskError}
@@ -20,12 +20,12 @@ use Rattle.zodb_core.specs.declared.reply.Reply.{Reply}
 use Rattle.zodb_core.specs.declared.reply.Reply.TheVariants as reply
 use Rattle.zodb_core.specs.declared.request.Request.{Request}
 use Rattle.zodb_core.specs.declared.request.Request.TheVariants as request
-use Rattle.zodb_core.specs.DecisionLaws.{AnswersIfSome, IsOrdinary}
+use Rattle.zodb_core.specs.DecisionLaws.{AnswersIfSome}
 use Rattle.zodb_core.specs.HubState.{HasTicked, HubState, IsCauseOf, MakesStep, StandsForMachine, StepsSafely, counts_of, is_store_failed, may_write}
-use Rattle.zodb_core.specs.Machine.{Machine, Rules, front_of, machine_over, with_session}
-use Rattle.zodb_core.specs.Outcomes.{Answered, EndsFor, FaultCounts, IsStepMade, NoMemory, ReadingFailed, StepOutcome, StoreFailed, changes_store, is_pack, keeps_store, machine_left, outcome_of, outcome_of_refusal}
+use Rattle.zodb_core.specs.Machine.{Machine, front_of, machine_over, with_session}
+use Rattle.zodb_core.specs.Outcomes.{Answered, EndsFor, FaultCounts, NoMemory, ReadingFailed, StepOutcome, StoreFailed, changes_store, is_pack, keeps_store, machine_left, outcome_of, outcome_of_refusal}
 use Rattle.zodb_core.specs.StepCases.{by_unanswered, early_answers}
-use Rattle.zodb_core.specs.Steps.{Stepped, early_refusal, front_step, loaded, replied, request_step, step_of, unless_early}
+use Rattle.zodb_core.specs.Steps.{Stepped, early_refusal, loaded, replied, request_step, step_of, unless_early}
 use Rattle.zodb_top.specs.Asked.{content_of, digested, last_of, shown}
 use Rattle.zodb_top.specs.Asking.{IsLast, IsStepped, KeepsList, KeepsStore, ask_refusal, digested_reply, only_reads, reply_content, shown_reply}
 use Rattle.zodb_top.specs.Came.{stock}

@@ -1,5 +1,5 @@
 -- Which status a command has that takes no script.
-use Rattle.std.proofs.Common.{◌≡◌, ℕ, List, [], Option, None, inl, inr, refl}
+use Rattle.std.proofs.Common.{ℕ, List, [], Option, None, inl, inr, refl}
 use Rattle.fs_records.specs.File.{StandsFor, no_bytes}
 use Rattle.fs_records.specs.Lists.{not_damaged, not_no_file}
 use Rattle.fs_recovery.specs.Opens.{IsNoList}

@@ -1,6 +1,6 @@
 -- Words that begin with a dash.
 use Rattle.std.proofs.Common.{◌≡◌, ℕ, Bool, true, false, cond, List, [], ◌∷◌, Option, Some, None, length, map, arith, refl, sym, ap, ◌∙◌}
-use Rattle.std.specs.Prelude.{not, ◌&&◌, ◌||◌}
+use Rattle.std.specs.Prelude.{◌&&◌, ◌||◌}
 use Rattle.std.specs.List.{AllByRecursion, IsFirstAndRest, list_any}
 use Rattle.std.specs.Option.{option_and_then}
 use Rattle.zodb_top.specs.declared.command.Command.{Command}

@@ -9,7 +9,6 @@ use Rattle.zb_ids.specs.declared.stamp.Stamp.{Stamp}
 use Rattle.zb_ids.specs.Spelling.{ReadsTime, Time, time_at, time_number, time_of}
 use Rattle.zb_ids.specs.Tids.{minutes_of, stamp_number}
 use Rattle.zodb_top.specs.declared.command.Command.TheVariants as command
-use Rattle.zodb_top.specs.declared.command.Command.{Command}
 use Rattle.zodb_top.specs.Words.{object_command, pack_command}
 
 pub digits_read : (word digits : List ℕ) (n : ℕ) → n < 2 ^ 64 → digits ≡ hex_number n → option_and_then (object_command word) (number_at digits) ≡ object_command word n

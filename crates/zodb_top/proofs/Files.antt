@@ -1,24 +1,20 @@
 -- A run over the file in Main, and a file that isn't open.
-use Rattle.std.proofs.Common.{◌≡◌, ◌≢◌, ◌⊎◌, ℕ, ◌≤◌, List, [], ◌∷◌, ◌++◌, Option, Some, None, inl, inr, refl, sym, ap, subst, ◌∙◌}
-use Rattle.std.specs.Prelude.{IfSome, IsSome, slice_get}
+use Rattle.std.proofs.Common.{◌≡◌, ◌≢◌, ℕ, List, [], ◌∷◌, Option, None, inl, inr, refl}
 use Rattle.std.specs.Option.{option_map}
-use Rattle.std.specs.Io.KnownBytes.{Appends}
-use Rattle.file_store.specs.Kept.{StandsForList}
-use Rattle.file_store.specs.Opening.{GaveAtMostOne, Harm, IsMade, IsNewOr, KeepsList, MakesList, SomeRose, first_list}
-use Rattle.fs_records.specs.File.{IsDamaged, IsNoFile, StandsFor, a_file, no_bytes}
+use Rattle.file_store.specs.Opening.{Harm, IsMade, SomeRose}
+use Rattle.fs_records.specs.File.{StandsFor, no_bytes}
 use Rattle.fs_records.specs.Lists.{not_damaged, not_no_file}
-use Rattle.fs_records.specs.declared.field.Field.{Field}
 use Rattle.fs_recovery.specs.Opens.{IsNoList}
 use Rattle.fs_recovery.specs.declared.errors.OpenError.{OpenError}
 use Rattle.fs_recovery.specs.declared.errors.OpenError.TheVariants as error
-use Rattle.zb_base.specs.Counts.{Rose, rose_after}
+use Rattle.zb_base.specs.Counts.{Rose}
 use Rattle.zb_ids.specs.declared.stamp.Stamp.{Stamp}
 use Rattle.zb_model.specs.declared.data.Transaction.{Transaction}
 use Rattle.zb_outside.specs.Stamps.{stamps_after}
 use Rattle.zodb_top.specs.declared.status.Status.{Status}
 use Rattle.zodb_top.specs.declared.status.Status.TheVariants as status
 use Rattle.zodb_top.specs.Damage.{NamesDamage, magic, rule}
-use Rattle.zodb_top.specs.Opened.{FailedToOpen, IsLeft, IsRefused, OpensAs, made, there}
+use Rattle.zodb_top.specs.Opened.{IsLeft, IsRefused, OpensAs, made, there}
 use Rattle.zodb_top.specs.Outside.{Outside, main_of}
 use Rattle.zodb_top.specs.Program.{IsUnlessMemory}
 use Rattle.zodb_top.specs.Unopened.{NamesError, SaysUnopened}

@@ -1,11 +1,10 @@
 -- What clap's matches name.
-use Rattle.std.proofs.Common.{◌≡◌, ℕ, List, [], ◌∷◌, Option, Some, None, inl, inr, true, false, refl, sym, ap, ap₂, subst, ◌∙◌, codes}
-use Rattle.std.specs.Prelude.{◌⊎◌, option_map}
+use Rattle.std.proofs.Common.{◌≡◌, List, [], Option, Some, None, inl, inr, true, false, refl, sym, ap, ap₂, subst, ◌∙◌, codes}
+use Rattle.std.specs.Prelude.{option_map}
 use Rattle.std.proofs.lemmas.Option.{same_Some}
-use Rattle.clap.specs.Words.{App, Row, Text, first_of, first_value, found_of, rows_of, subcommand_of, subcommand_rows_of, fault_of, is_simple, is_simple_and_free, HasKind, kind_of}
+use Rattle.clap.specs.Words.{App, Row, Text, first_value, rows_of, subcommand_of, subcommand_rows_of, fault_of, is_simple, is_simple_and_free, HasKind, kind_of}
 use Rattle.clap.specs.Matches.{subcommand_name_of}
 use Rattle.clap.specs.declared.error.Error.{Error}
-use Rattle.clap.specs.declared.error.kind.ErrorKind.TheVariants.{OutOfMemory}
 use Rattle.clap.specs.declared.parser.matches.ArgMatches.{ArgMatches}
 use Rattle.clap.specs.declared.parser.matches.Found.{Found}
 use Rattle.clap.proofs.WalkLemmas.{first_value-rows}

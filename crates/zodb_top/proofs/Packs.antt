@@ -1,9 +1,9 @@
 -- A pack of a store, and of the file in Main.
-use Rattle.std.proofs.Common.{◌≡◌, ◌≢◌, ◌⊎◌, ℕ, Bool, true, false, List, [], ◌∷◌, ◌++◌, Option, Some, None, inl, inr, append-nil, refl, sym, ap, subst, ◌∙◌}
-use Rattle.std.specs.Prelude.{IfSome, IsSome, IsTrue, Result, Ok, Err, OnOk, OnErr, codes, slice_get}
+use Rattle.std.proofs.Common.{◌≡◌, ℕ, Bool, true, false, List, [], ◌∷◌, ◌++◌, Option, Some, None, inl, inr, refl, sym, ap, subst, ◌∙◌}
+use Rattle.std.specs.Prelude.{IfSome, IsSome, IsTrue, codes, slice_get}
 use Rattle.std.specs.Io.KnownBytes.{Appends}
 use Rattle.file_store.specs.Kept.{StandsForList}
-use Rattle.file_store.specs.Opening.{Harm, IsMade, IsNewOr, KeepsList, MakesList, SomeRose}
+use Rattle.file_store.specs.Opening.{Harm, IsNewOr, KeepsList, MakesList, SomeRose}
 use Rattle.fs_recovery.specs.Opens.{IsNoList}
 use Rattle.fs_recovery.specs.declared.errors.OpenError.{OpenError}
 use Rattle.fs_recovery.specs.declared.errors.OpenError.TheVariants as error
@@ -14,12 +14,10 @@ use Rattle.zb_model.specs.declared.refusal.Refusal.{Refusal}
 use Rattle.zb_model.specs.declared.refusal.Refusal.TheVariants as refusal
 use Rattle.zb_model.specs.Stores.{StoreState}
 use Rattle.zb_outside.specs.Written.{AppendsPrefix}
-use Rattle.zb_outside.specs.WrittenLaws.{all_front}
 use Rattle.zb_answers.specs.declared.answer.Answer.{Answer}
 use Rattle.zb_answers.specs.Answers.{answer_text}
 use Rattle.zb_volume.specs.declared.areas.Area.TheVariants.{Main}
 use Rattle.zb_volume.specs.Calls.{Event}
-use Rattle.zb_volume.specs.Images.{CrashLeaves}
 use Rattle.zb_volume.specs.Moments.{Along, Leaves, LeavesOnly, here, more}
 use Rattle.zb_volume.specs.Runs.{joined as along_joined, leaves_less}
 use Rattle.zodb_core.specs.declared.reply.Reply.{Reply}
@@ -27,9 +25,8 @@ use Rattle.zodb_core.specs.declared.reply.Reply.TheVariants as reply
 use Rattle.zodb_core.specs.declared.request.Request.TheVariants as request
 use Rattle.zodb_core.specs.HubState.{HasTicked, HubState, IsBeforeOrBehind, IsCauseOf, MakesStep, StepsSafely, counts_of, is_store_failed}
 use Rattle.zodb_core.specs.Machine.{Machine, machine_over, with_session}
-use Rattle.zodb_core.specs.Outcomes.{Answered, EndsFor, FaultCounts, NoMemory, ReadingFailed, StepOutcome, StoreFailed, machine_left, outcome_of, outcome_of_refusal}
+use Rattle.zodb_core.specs.Outcomes.{Answered, EndsFor, FaultCounts, NoMemory, ReadingFailed, StepOutcome, StoreFailed, machine_left, outcome_of}
 use Rattle.zodb_core.specs.Steps.{Stepped, early_refusal, step_of, unless_early, unless_unread}
-use Rattle.zodb_top.specs.declared.packing.Told.{Told}
 use Rattle.zodb_top.specs.declared.packing.Told.TheVariants as told
 use Rattle.zodb_top.specs.declared.command.PackRequest.{PackRequest}
 use Rattle.zodb_top.specs.declared.status.Status.{Status}
@@ -38,10 +35,10 @@ use Rattle.zodb_top.specs.Came.{IsCalm, stock}
 use Rattle.zodb_top.specs.Opened.{IsLeft, OpensAs, made as opens_made, there as opens_there}
 use Rattle.zodb_top.specs.Outside.{Outside, main_of}
 use Rattle.zodb_top.specs.PackStores.{IsListBehind, IsStorePacked, IsToldAs, PacksStore}
-use Rattle.zodb_top.specs.Packs.{IsLeftBy, IsListOrPacked, IsOfPack, IsPacked, IsReplyTo, PackSays, ReplySays, is_told, pack_made, packed_list, reply_line}
+use Rattle.zodb_top.specs.Packs.{IsLeftBy, IsListOrPacked, IsOfPack, IsPacked, IsReplyTo, PackSays, ReplySays, is_told, reply_line}
 use Rattle.zodb_top.specs.Program.{IsUnlessMemory}
 use Rattle.zodb_top.specs.Telling.{told_of}
-use Rattle.zodb_top.specs.Texts.{cut_lines, joined, line, store_fault_line}
+use Rattle.zodb_top.specs.Texts.{joined, line, store_fault_line}
 use Rattle.zodb_top.specs.Unopened.{SaysUnopened}
 use Rattle.zodb_top.specs.Written.{IsWritten}
 use Rattle.zodb_top.proofs.Files.{refused}

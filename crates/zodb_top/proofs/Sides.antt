@@ -1,5 +1,5 @@
 -- Side is as it was.
-use Rattle.std.proofs.Common.{◌≡◌, ℕ, zero, suc, ◌<◌, Bool, true, false, List, [], ◌∷◌, Option, Some, length, get_or, arith, refl, sym, subst}
+use Rattle.std.proofs.Common.{◌≡◌, ℕ, zero, suc, ◌<◌, Bool, true, false, List, [], ◌∷◌, Option, length, get_or, arith, refl, sym, subst}
 use Rattle.std.specs.Prelude.{IfSome, ◌≢◌, ◌||◌}
 use Rattle.zb_model.specs.StayLaws.{stays_then}
 use Rattle.zb_model.specs.Stores.{StoreState}

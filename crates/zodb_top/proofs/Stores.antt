@@ -1,6 +1,5 @@
 -- A run over a store.
-use Rattle.std.proofs.Common.{◌≡◌, ℕ, ◌≤◌, true, false, List, [], ◌∷◌, ◌++◌, Option, Some, None, inl, inr, append-nil, refl, sym, ap, subst, ◌∙◌}
-use Rattle.std.specs.Prelude.{Result, Ok, Err, IfErr}
+use Rattle.std.proofs.Common.{◌≡◌, ℕ, ◌≤◌, false, List, [], ◌∷◌, ◌++◌, Option, Some, None, inl, inr, append-nil, refl, sym, ap, subst, ◌∙◌}
 use Rattle.std.specs.Io.KnownBytes.{Appends}
 use Rattle.std.proofs.KnownBytes.{Appends-trans}
 use Rattle.zb_base.specs.Counts.{Rose, rose_after, rose_before}
@@ -11,10 +10,8 @@ use Rattle.zb_outside.specs.Written.{AppendsPrefix}
 use Rattle.zb_outside.specs.WrittenLaws.{no_front}
 use Rattle.zb_script.specs.declared.line.Turn.{Turn}
 use Rattle.zb_volume.specs.declared.areas.Area.TheVariants.{Main}
-use Rattle.zb_volume.specs.Calls.{Event}
 use Rattle.zb_volume.specs.Moments.{Leaves, LeavesOnly, here}
 use Rattle.zodb_core.specs.HubState.{counts_of}
-use Rattle.client_turns.specs.declared.errors.TurnError.{TurnError}
 use Rattle.client_turns.specs.declared.errors.TurnError.TheVariants as turn_error
 use Rattle.client_turns.specs.Clients.{Moment}
 use Rattle.client_turns.specs.Output.{is_last}
@@ -22,7 +19,6 @@ use Rattle.client_turns.specs.Standing.{ClientsState, StandsForMoment}
 use Rattle.zodb_top.specs.declared.replying.RunError.{RunError}
 use Rattle.zodb_top.specs.declared.replying.RunError.TheVariants as errors
 use Rattle.zodb_top.specs.declared.status.Status.{Status}
-use Rattle.zodb_top.specs.declared.status.Status.TheVariants as status
 use Rattle.zodb_top.specs.Came.{BreaksOff, Came, IsMainBy, IsOfCame, IsOfRun, answers_text, began, stock}
 use Rattle.zodb_top.specs.Running.{RanAllOver, RanOver, RunsOn, SaysStopped, Stops, StoreSays, broke_of}
 use Rattle.zodb_top.specs.Texts.{cut_lines, joined, store_fault_line}

@@ -1,14 +1,13 @@
 -- What a run over a store on the file says of the file.
-use Rattle.std.proofs.Common.{◌≡◌, ◌≢◌, ◌⊎◌, ℕ, ◌≤◌, List, [], ◌∷◌, ◌++◌, Option, Some, None, inl, inr, refl, sym, ap, subst, ◌∙◌}
+use Rattle.std.proofs.Common.{◌≡◌, ◌≢◌, ℕ, List, [], ◌++◌, Option, Some, None, inl, inr, refl, sym, ap, subst, ◌∙◌}
 use Rattle.std.specs.Prelude.{IfSome, IsSome, slice_get}
 use Rattle.std.specs.Io.KnownBytes.{Appends}
 use Rattle.file_store.specs.Kept.{StandsForList}
-use Rattle.file_store.specs.Opening.{Harm, IsMade, IsNewFile, IsNewOr, IsUnlessWritten, KeepsList, MakesList, SomeRose, first_list, without_tail}
-use Rattle.fs_records.specs.File.{StandsFor}
+use Rattle.file_store.specs.Opening.{Harm, IsMade, IsNewFile, IsNewOr, IsUnlessWritten, KeepsList, MakesList, SomeRose, without_tail}
 use Rattle.fs_recovery.specs.Opens.{IsNoList}
 use Rattle.fs_recovery.specs.declared.errors.OpenError.{OpenError}
 use Rattle.fs_recovery.specs.declared.errors.OpenError.TheVariants as error
-use Rattle.zb_base.specs.Counts.{Rose, rose_after}
+use Rattle.zb_base.specs.Counts.{Rose}
 use Rattle.zb_ids.specs.declared.stamp.Stamp.{Stamp}
 use Rattle.zb_model.specs.declared.data.Transaction.{Transaction}
 use Rattle.zb_model.specs.Stores.{StoreState}
@@ -16,7 +15,7 @@ use Rattle.zb_outside.specs.Written.{AppendsPrefix}
 use Rattle.zb_script.specs.declared.line.Turn.{Turn}
 use Rattle.zb_volume.specs.declared.areas.Area.TheVariants.{Main}
 use Rattle.zb_volume.specs.Calls.{Event}
-use Rattle.zb_volume.specs.Disk.{IsSettled, seen}
+use Rattle.zb_volume.specs.Disk.{seen}
 use Rattle.zb_volume.specs.Images.{CrashLeaves}
 use Rattle.zb_volume.specs.Moments.{Leaves, LeavesOnly}
 use Rattle.zb_volume.specs.Runs.{joined as along_joined, leaves_less}
@@ -31,10 +30,10 @@ use Rattle.zodb_top.specs.Came.{Came, IsCalm, IsMainOf, IsOfCame, IsOfCameOrEmpt
 use Rattle.zodb_top.specs.Opened.{IsLeft, IsUnfailed, KeepsBytes, OpensAs, bytes_cut, bytes_failed, bytes_same, made, there}
 use Rattle.zodb_top.specs.Outside.{Outside, main_of}
 use Rattle.zodb_top.specs.Running.{FileSays, RanAllOver, RanOver, StoreSays}
-use Rattle.zodb_top.specs.Texts.{cut_lines, joined, store_fault_line}
+use Rattle.zodb_top.specs.Texts.{store_fault_line}
 use Rattle.zodb_top.specs.Unopened.{SaysUnopened}
 use Rattle.zodb_top.specs.Written.{IsWritten}
-use Rattle.zodb_top.proofs.Files.{opens_as, refused}
+use Rattle.zodb_top.proofs.Files.{refused}
 use Rattle.zodb_top.proofs.Nexts.{counts_left, next_kept}
 use Rattle.zodb_top.proofs.Turning.{out_committed}
 

@@ -1,16 +1,16 @@
 -- What clap makes of words that don't begin with a dash.
-use Rattle.std.proofs.Common.{◌≡◌, ℕ, ◌++◌, append_assoc, append-nil, Bool, true, false, List, [], ◌∷◌, Option, Some, None, inl, inr, refl, sym, ap, subst, ◌∙◌, codes}
+use Rattle.std.proofs.Common.{◌≡◌, ℕ, ◌++◌, append_assoc, append-nil, Bool, true, false, List, [], ◌∷◌, Option, Some, None, refl, sym, ap, subst, ◌∙◌, codes}
 use Rattle.std.specs.Prelude.{find, fold}
 use Rattle.std.specs.List.{AllByRecursion}
 use Rattle.std.specs.Str.{bytes_eq}
 use Rattle.std.proofs.lemmas.Slice.Eq.{bytes_eq-Decides}
-use Rattle.clap.specs.Words.{App, Rule, Shape, Row, Text, first_of, subcommand_of, fault_of, Kinds}
+use Rattle.clap.specs.Words.{Rule, Shape, Text, subcommand_of, fault_of, Kinds}
 use Rattle.clap.specs.Faults.{walk_fault, turn_fault, step_fault}
 use Rattle.clap.specs.Lexer.{long_of, short_of}
 use Rattle.clap.specs.declared.error.kind.ErrorKind.{ErrorKind}
 use Rattle.clap.specs.declared.error.kind.ErrorKind.TheVariants as kinds
 use Rattle.clap.specs.Simple.{built, names_of}
-use Rattle.clap.specs.Walk.{Held, Names, Walk, walk, walk_from, walked, nothing_held, subcommand_met, to_positional, answers_to, arg_by_index, value, idle}
+use Rattle.clap.specs.Walk.{Held, Names, Walk, walked, nothing_held, to_positional, answers_to, arg_by_index, value, idle}
 use Rattle.clap.proofs.OnLiterals.{clap_on_literals}
 use Rattle.zodb_top.specs.Table.{named_in, program_app}
 use Rattle.zodb_top.specs.Words.{is_dashed, named_of}

@@ -1,5 +1,5 @@
 -- How far a run came. Own.
-use Rattle.std.specs.Prelude.{◌≡◌, ◌≢◌, ◌⊎◌, ℕ, List, [], ◌∷◌, ◌++◌, Option, Some, None, false, IsSome}
+use Rattle.std.specs.Prelude.{◌≡◌, ◌⊎◌, ℕ, List, [], ◌∷◌, ◌++◌, Option, Some, None, false, IsSome}
 use Rattle.std.specs.List.{flat_map}
 use Rattle.std.specs.Io.KnownBytes.{Appends}
 use Rattle.file_store.specs.Kept.{StandsForList}
@@ -14,9 +14,8 @@ use Rattle.zb_volume.specs.declared.areas.Area.TheVariants.{Main}
 use Rattle.zb_volume.specs.Disk.{IsSettled}
 use Rattle.zb_volume.specs.Moments.{Leaves, LeavesOnly}
 use Rattle.zodb_core.specs.Machine.{Machine, Rules}
-use Rattle.zodb_core.specs.Outcomes.{FaultCounts}
 use Rattle.client_turns.specs.declared.errors.TurnError.{TurnError}
-use Rattle.client_turns.specs.declared.errors.TurnError.TheVariants.{Memory, StoreFault}
+use Rattle.client_turns.specs.declared.errors.TurnError.TheVariants.{StoreFault}
 use Rattle.client_turns.specs.Clients.{Moment, first_moment}
 use Rattle.client_turns.specs.Output.{Out, TurnAnswer, has_read_fault, is_last}
 use Rattle.client_turns.specs.Standing.{IsListIn}

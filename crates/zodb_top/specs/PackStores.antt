@@ -10,7 +10,7 @@ use Rattle.zb_volume.specs.declared.areas.Area.TheVariants.{Main}
 use Rattle.zb_volume.specs.Moments.{Leaves, LeavesOnly}
 use Rattle.zodb_core.specs.declared.reply.Reply.{Reply}
 use Rattle.zodb_core.specs.HubState.{IsCauseOf, counts_of, is_store_failed}
-use Rattle.zodb_core.specs.Outcomes.{Answered, NoMemory, ReadingFailed, StepOutcome, StoreFailed, outcome_of}
+use Rattle.zodb_core.specs.Outcomes.{Answered, StepOutcome, StoreFailed, outcome_of}
 use Rattle.zodb_top.specs.declared.command.PackRequest.{PackRequest}
 use Rattle.zodb_top.specs.declared.status.Status.{Status}
 use Rattle.zodb_top.specs.Packs.{IsListOrPacked, IsReplyTo, ReplySays, packed_list}

@@ -4,7 +4,6 @@ use Rattle.std.specs.Io.KnownBytes.{Appends}
 use Rattle.file_store.specs.Kept.{StandsForList}
 use Rattle.zb_base.specs.Counts.{Rose}
 use Rattle.zb_model.specs.declared.data.Transaction.{Transaction}
-use Rattle.zb_model.specs.declared.refusal.Refusal.{Refusal}
 use Rattle.zb_outside.specs.Written.{AppendsPrefix}
 use Rattle.zb_answers.specs.declared.answer.Answer.TheVariants as answer
 use Rattle.zb_answers.specs.Answers.{answer_text}
@@ -14,8 +13,8 @@ use Rattle.zodb_core.specs.declared.reply.Reply.{Reply}
 use Rattle.zodb_core.specs.declared.reply.Reply.TheVariants as reply
 use Rattle.zodb_core.specs.declared.request.Request.TheVariants as request
 use Rattle.zodb_core.specs.HubState.{IsCauseOf}
-use Rattle.zodb_core.specs.Machine.{Machine, machine_over, with_session}
-use Rattle.zodb_core.specs.Outcomes.{Answered, FaultCounts, NoMemory, ReadingFailed, StepOutcome, StoreFailed, outcome_of}
+use Rattle.zodb_core.specs.Machine.{machine_over, with_session}
+use Rattle.zodb_core.specs.Outcomes.{Answered, ReadingFailed, StepOutcome, StoreFailed, outcome_of}
 use Rattle.zodb_core.specs.Steps.{Stepped, step_of}
 use Rattle.zodb_top.specs.declared.command.PackRequest.{PackRequest}
 use Rattle.zodb_top.specs.declared.status.Status.{Status}

@@ -1,5 +1,5 @@
 -- What the code of a run says of turns, of a store and of the file in Main.
-use Rattle.std.specs.Prelude.{◌≡◌, ◌⊎◌, ℕ, ◌<◌, ◌≤◌, List, [], ◌∷◌, ◌++◌, Option, Some, None, Result, Ok, Err, Bool, false}
+use Rattle.std.specs.Prelude.{◌≡◌, ◌⊎◌, ℕ, List, [], ◌++◌, Option, Some, None, Ok, Err, Bool, false}
 use Rattle.std.specs.Io.KnownBytes.{Appends}
 use Rattle.zb_base.specs.Counts.{Rose}
 use Rattle.zb_ids.specs.declared.stamp.Stamp.{Stamp}
@@ -13,10 +13,9 @@ use Rattle.zb_volume.specs.declared.areas.Area.TheVariants.{Main}
 use Rattle.zb_volume.specs.Calls.{Event}
 use Rattle.zb_volume.specs.Moments.{Leaves, LeavesOnly}
 use Rattle.zodb_core.specs.HubState.{counts_of}
-use Rattle.zodb_core.specs.Machine.{Rules}
 use Rattle.client_turns.specs.declared.errors.TurnError.{TurnError}
 use Rattle.client_turns.specs.declared.errors.TurnError.TheVariants as turn_error
-use Rattle.client_turns.specs.Clients.{Moment, first_moment}
+use Rattle.client_turns.specs.Clients.{Moment}
 use Rattle.client_turns.specs.Output.{Out, TurnAnswer}
 use Rattle.client_turns.specs.Standing.{ClientsState, StandsForMoment}
 use Rattle.client_turns.specs.Turns.{IsTurn}

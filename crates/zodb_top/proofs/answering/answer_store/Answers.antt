@@ -1,4 +1,4 @@
-use Rattle.std.proofs.Common.{refl, ◌∙◌}
+use Rattle.std.proofs.Common.{◌∙◌}
 use Rattle.zodb_top.proofs.Commands.{over_answer, store_same}
 use Rattle.zodb_top.proofs.answering.answer_store.Goals as goal
 

@@ -1,4 +1,3 @@
-use Rattle.std.proofs.Common.{sym}
 use Rattle.clap.specs.Words.{found_of}
 use Rattle.zodb_top.proofs.Matched.{entered_some}
 use Rattle.zodb_top.proofs.entering.entered.Goals as goal

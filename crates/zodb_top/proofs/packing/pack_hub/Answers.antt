@@ -1,8 +1,6 @@
 use Rattle.std.proofs.Common.{refl, ap, ◌∙◌}
 use Rattle.std.specs.Prelude.{length}
 use Rattle.zb_model.specs.Stores.{StoreState}
-use Rattle.zb_volume.specs.Calls.{Event}
-use Rattle.zodb_core.specs.HubState.{IsCauseOf, counts_of}
 use Rattle.zodb_core.specs.Machine.{machine_over}
 use Rattle.zodb_top.proofs.Packs.{moments_packs, moments_still, store_packs, unopened_packs}
 use Rattle.zodb_top.proofs.packing.pack_hub.Goals as goal

@@ -2,7 +2,7 @@ use Rattle.std.proofs.Common.{ap, sym, subst, ◌∙◌}
 use Rattle.zb_model.specs.Stores.{StoreState}
 use Rattle.zb_volume.specs.declared.areas.Area.TheVariants.{Main}
 use Rattle.zb_volume.specs.Moments.{Leaves, LeavesOnly}
-use Rattle.zodb_core.specs.HubState.{StandsForMachine, counts_of}
+use Rattle.zodb_core.specs.HubState.{StandsForMachine}
 use Rattle.zodb_core.specs.Machine.{machine_over}
 use Rattle.zodb_top.specs.PackStores.{IsStorePacked}
 use Rattle.zodb_top.specs.Packs.{IsListOrPacked}

@@ -1,8 +1,7 @@
-use Rattle.std.proofs.Common.{◌≡◌, ◌+◌, ◌<◌, Bool, List, Some, arith, ap, false, length, refl, sym, subst, ◌∙◌}
+use Rattle.std.proofs.Common.{◌≡◌, Bool, List, Some, arith, ap, length, refl, sym, subst, ◌∙◌}
 use Rattle.std.specs.Prelude.{slice_get}
 use Rattle.zb_volume.specs.declared.areas.Area.TheVariants.{Side}
 use Rattle.zb_model.specs.StayLaws.{stays_same, stays_then}
-use Rattle.client_turns.specs.Output.{last_flags}
 use Rattle.zodb_top.proofs.Sides.{no_pack_at}
 use Rattle.zodb_top.proofs.Replies.{all_taken, flags_length, start_run, turn_last, turn_more}
 use Rattle.zodb_top.proofs.replying.take_turns.Goals as goal

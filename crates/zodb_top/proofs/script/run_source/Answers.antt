@@ -1,4 +1,4 @@
-use Rattle.std.proofs.Common.{inl, inr, refl}
+use Rattle.std.proofs.Common.{inr, refl}
 use Rattle.zodb_top.proofs.Sides.{packs_none}
 use Rattle.zodb_top.proofs.Sources.{of_any, run_silent, spread, unread_input}
 use Rattle.zodb_top.proofs.script.run_source.Goals as goal

@@ -1,4 +1,4 @@
-use Rattle.std.proofs.Common.{ap, rules, ◌≡◌, ◌∙◌}
+use Rattle.std.proofs.Common.{ap, rules, ◌∙◌}
 use Rattle.clap.specs.Words.{App, app_of, with_subcommand}
 use Rattle.zodb_top.proofs.table.alone.Goals as goal
 

@@ -1,4 +1,4 @@
-use Rattle.std.proofs.Common.{ap, codes, ◌≡◌, ◌∙◌}
+use Rattle.std.proofs.Common.{ap, codes, ◌∙◌}
 use Rattle.std.proofs.lemmas.Result.{IfOk-weaker}
 use Rattle.clap.specs.Words.{App, with_subcommand}
 use Rattle.zodb_top.specs.Table.{alone, placed, placed_twice}
