@@ -25,7 +25,7 @@ use Rattle.client_turns.specs.declared.errors.TurnError.{TurnError}
 use Rattle.client_turns.specs.declared.errors.TurnError.TheVariants as error
 use Rattle.client_turns.specs.Clients.{Changes, Client, Moment, OpenTransaction, changes_of, place_of_client}
 use Rattle.client_turns.specs.Lines.{Changed, IsCountedBy, answer_of, data_of, end_in, end_of, is_committed, object_of, outcome_of_answer, outcome_of_read, outcome_of_turn, put, request_of, rolled_back, rolled_to, saved, store_unless, stored}
-use Rattle.client_turns.specs.Output.{Out, TurnAnswer, has_read_fault, is_last, is_read_fault}
+use Rattle.client_turns.specs.Output.{FlaggedTurn, Out, TurnAnswer, has_read_fault, is_last, is_read_fault}
 use Rattle.client_turns.specs.Refusing.{connection_refusal, line_refusal, mixed, pending_count, refusal_within, transaction_refusal}
 use Rattle.client_turns.specs.Steps.{IsChange, IsStepAt}
 use Rattle.client_turns.specs.Turns.{IsAnswered, IsBroken, IsClosed, IsClosing, IsGet, IsLine, IsLineOf, IsLineTaken, IsLineUnless, IsOpening, IsOwnLine, IsPut, IsStepLine, IsTold, IsWithin, Opening, by_closing, by_line, by_memory}
@@ -296,13 +296,13 @@ first_fine true b none = absurd cc
 first_fine false b none = (refl, none)
 
 -- answered turns moved no count, where none says that reading failed
-pub out_calm : (rules : Rules) (m : Moment) (turns later : List Turn) (answers : List TurnAnswer) (now : Moment) → Out rules m turns later answers now → has_read_fault answers ≡ false → now.counts ≡ m.counts
-out_calm rules m [] later [] now out fine = ap (λ (x : Moment). x.counts) out
-out_calm rules m [] later (o ∷ answers) now out fine = absurd out
-out_calm rules m (t ∷ turns) later [] now out fine = absurd out
-out_calm rules m (t ∷ turns) later (o ∷ answers) now (next, named, turn, rest) fine =
+pub out_calm : (rules : Rules) (m : Moment) (turns : List FlaggedTurn) (answers : List TurnAnswer) (now : Moment) → Out rules m turns answers now → has_read_fault answers ≡ false → now.counts ≡ m.counts
+out_calm rules m [] [] now out fine = ap (λ (x : Moment). x.counts) out
+out_calm rules m [] (o ∷ answers) now out fine = absurd out
+out_calm rules m (t ∷ turns) [] now out fine = absurd out
+out_calm rules m (t ∷ turns) (o ∷ answers) now (next, named, turn, rest) fine =
     let both = first_fine (is_read_fault o.answer) (has_read_fault answers) fine in
-    out_calm rules next turns later answers now rest both.1 ∙ calm_answer m o.answer next both.0 turn.whole (turn_by rules m next t (is_last t (turns ++ later)) o.answer turn)
+    out_calm rules next turns answers now rest both.1 ∙ calm_answer m o.answer next both.0 turn.whole (turn_by rules m next t.turn t.is_last o.answer turn)
 
 -- an answer with which the run goes on left the count of other faults as it was
 pub whole_others : (before now : FaultCounts) (a : Answer) → end_of a ≡ None → IsCountedBy before now (outcome_of_answer a) → now.others ≡ before.others
@@ -321,9 +321,9 @@ turn_others before now (Ok a) whole counts other = whole_others before now a who
 turn_others before now (Err error.Memory) whole counts other = ap (λ (k : FaultCounts). k.others) counts
 turn_others before now (Err error.StoreFault) whole counts other = absurd (other refl)
 
-pub out_others : (rules : Rules) (m : Moment) (turns later : List Turn) (answers : List TurnAnswer) (now : Moment) → Out rules m turns later answers now → now.counts.others ≡ m.counts.others
-out_others rules m [] later [] now out = ap (λ (x : Moment). x.counts.others) out
-out_others rules m [] later (o ∷ answers) now out = absurd out
-out_others rules m (t ∷ turns) later [] now out = absurd out
-out_others rules m (t ∷ turns) later (o ∷ answers) now (next, named, turn, rest) =
-    out_others rules next turns later answers now rest ∙ whole_others m.counts next.counts o.answer turn.whole (turn_by rules m next t (is_last t (turns ++ later)) o.answer turn)
+pub out_others : (rules : Rules) (m : Moment) (turns : List FlaggedTurn) (answers : List TurnAnswer) (now : Moment) → Out rules m turns answers now → now.counts.others ≡ m.counts.others
+out_others rules m [] [] now out = ap (λ (x : Moment). x.counts.others) out
+out_others rules m [] (o ∷ answers) now out = absurd out
+out_others rules m (t ∷ turns) [] now out = absurd out
+out_others rules m (t ∷ turns) (o ∷ answers) now (next, named, turn, rest) =
+    out_others rules next turns answers now rest ∙ whole_others m.counts next.counts o.answer turn.whole (turn_by rules m next t.turn t.is_last o.answer turn)

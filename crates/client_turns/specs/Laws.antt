@@ -29,7 +29,7 @@ use Rattle.zodb_core.specs.Sound.{AreWellFormedStores, ComesTo, GrowsTo, IsSound
 use Rattle.zodb_core.specs.Steps.{step_of}
 use Rattle.client_turns.specs.Clients.{Changes, Client, Moment, OpenTransaction, changes_of, first_moment, place_of_client}
 use Rattle.client_turns.specs.Lines.{request_of}
-use Rattle.client_turns.specs.Output.{Out, TurnAnswer}
+use Rattle.client_turns.specs.Output.{FlaggedTurn, Out, TurnAnswer}
 use Rattle.client_turns.specs.Reads.{IsMissedFor}
 use Rattle.client_turns.specs.Refusing.{connection_refusal}
 use Rattle.client_turns.specs.Trees.{Draws, NeedsMore, Sees, operation_of, stores_put}
@@ -87,15 +87,15 @@ pub record LeavesDatabase (list : List Transaction) (now : Machine) : Type 0 whe
   pub grows : switches_of now.journal ≡ 0 → GrowsTo list now.list
 
 abbrev pub TheListStaysADatabase : Type 0
-TheListStaysADatabase = (rules : Rules) (list : List Transaction) (stamps : Option (List Stamp)) (counts : FaultCounts) (turns later : List Turn) (out : List TurnAnswer) (now : Moment)
-    → IsDatabase list → Out rules (first_moment list stamps counts) turns later out now → LeavesDatabase list now.machine
+TheListStaysADatabase = (rules : Rules) (list : List Transaction) (stamps : Option (List Stamp)) (counts : FaultCounts) (turns : List FlaggedTurn) (out : List TurnAnswer) (now : Moment)
+    → IsDatabase list → Out rules (first_moment list stamps counts) turns out now → LeavesDatabase list now.machine
 
 -- ---- fronts
 
 -- no front that a turn is given is below one that was given before, to whatever client
 abbrev pub FrontsNeverFall : Type 0
-FrontsNeverFall = (rules : Rules) (list : List Transaction) (stamps : Option (List Stamp)) (counts : FaultCounts) (turns later : List Turn) (out : List TurnAnswer) (now : Moment)
-    → IsDatabase list → Out rules (first_moment list stamps counts) turns later out now → AllPairs (λ earlier later. earlier ≤ later) (fronts_given out)
+FrontsNeverFall = (rules : Rules) (list : List Transaction) (stamps : Option (List Stamp)) (counts : FaultCounts) (turns : List FlaggedTurn) (out : List TurnAnswer) (now : Moment)
+    → IsDatabase list → Out rules (first_moment list stamps counts) turns out now → AllPairs (λ earlier later. earlier ≤ later) (fronts_given out)
 
 -- ---- new numbers
 
@@ -106,8 +106,8 @@ pub record AreNewGiven (m : Moment) (out : List TurnAnswer) : Type 0 where
 
 -- from any moment on that turns led to
 abbrev pub NumbersAreNew : Type 0
-NumbersAreNew = (rules : Rules) (list : List Transaction) (stamps : Option (List Stamp)) (counts : FaultCounts) (turns more later : List Turn) (out behind : List TurnAnswer) (m now : Moment)
-    → IsDatabase list → Out rules (first_moment list stamps counts) turns (more ++ later) out m → Out rules m more later behind now → AreNewGiven m behind
+NumbersAreNew = (rules : Rules) (list : List Transaction) (stamps : Option (List Stamp)) (counts : FaultCounts) (turns more : List FlaggedTurn) (out behind : List TurnAnswer) (m now : Moment)
+    → IsDatabase list → Out rules (first_moment list stamps counts) turns out m → Out rules m more behind now → AreNewGiven m behind
 
 -- ---- reads
 

@@ -6,9 +6,8 @@ use Rattle.zb_answers.specs.declared.answer.Answer.{Answer}
 use Rattle.zb_answers.specs.declared.answer.Answer.TheVariants as answer
 use Rattle.zb_script.specs.declared.line.Turn.{Turn}
 use Rattle.zodb_core.specs.Machine.{Rules}
-use Rattle.client_turns.specs.declared.errors.TurnError.{TurnError}
 use Rattle.client_turns.specs.Clients.{Moment}
-use Rattle.client_turns.specs.Turns.{IsBroken, IsTurn}
+use Rattle.client_turns.specs.Turns.{IsTurn}
 
 -- an answered turn: the client's name, and the answer, whose text is the reply lines
 pub record TurnAnswer : Type 0 where
@@ -21,6 +20,16 @@ is_turn_of name t = bytes_eq t.client name
 -- a turn is its client's last: none of the later ones is of the client
 abbrev pub is_last : Turn → List Turn → Bool
 is_last t later = not (list_any (is_turn_of t.client) later)
+
+-- a turn, with whether it is its client's last
+pub record FlaggedTurn : Type 0 where
+  pub turn : Turn
+  pub is_last : Bool
+
+-- the turns of a script
+abbrev pub flagged : List Turn → List FlaggedTurn
+flagged [] = []
+flagged (t ∷ later) = record { turn = t; is_last = is_last t later } ∷ flagged later
 
 -- of each turn whether it is its client's last
 abbrev pub last_flags : List Turn → List Bool
@@ -45,17 +54,11 @@ is_read_fault _ = false
 abbrev pub has_read_fault : List TurnAnswer → Bool
 has_read_fault answers = list_any (λ o. is_read_fault o.answer) answers
 
--- The turns are answered so, one after another, and lead from one moment to another; `later` are the turns behind them, which aren't taken yet. So it
--- speaks of all turns of a script, or of a front of them.
-abbrev pub Out : Rules → Moment → List Turn → List Turn → List TurnAnswer → Moment → Type 0
-Out rules m [] later [] now = now ≡ m
-Out rules m [] later (o ∷ out) now = ⊥
-Out rules m (t ∷ turns) later [] now = ⊥
-Out rules m (t ∷ turns) later (o ∷ out) now =
-    (next : Moment) × (o.client ≡ t.client) × IsTurn rules m t (is_last t (turns ++ later)) (Ok o.answer) next × Out rules next turns later out now
-
--- How far a run came that broke off: these turns were answered so and led to this moment, and the next one broke off.
-pub record IsCutShort (rules : Rules) (m : Moment) (turns : List Turn) (t : Turn) (later : List Turn) (out : List TurnAnswer) (why : TurnError) (now : Moment) : Type 0 where
-  pub before : Moment
-  pub answered : Out rules m turns (t ∷ later) out before
-  pub broken : IsBroken rules before t (is_last t later) why now
+-- The turns are answered so, one after another, and lead from one moment to another. They may be all turns of a script, a front of them, or turns of several clients
+-- in whatever order: each comes with whether it is its client's last.
+abbrev pub Out : Rules → Moment → List FlaggedTurn → List TurnAnswer → Moment → Type 0
+Out rules m [] [] now = now ≡ m
+Out rules m [] (o ∷ out) now = ⊥
+Out rules m (t ∷ turns) [] now = ⊥
+Out rules m (t ∷ turns) (o ∷ out) now =
+    (next : Moment) × (o.client ≡ t.turn.client) × IsTurn rules m t.turn t.is_last (Ok o.answer) next × Out rules next turns out now

@@ -30,7 +30,7 @@ use Rattle.zodb_core.specs.SwitchLaws.{packed_as_asked, turn_keeps_list}
 use Rattle.client_turns.specs.Clients.{Changes, Client, Moment, OpenTransaction, changes_of, first_moment, place_of_client}
 use Rattle.client_turns.specs.declared.errors.TurnError.TheVariants as error
 use Rattle.client_turns.specs.Lines.{answer_of, end_in, end_of, is_committed, pending_in, request_of}
-use Rattle.client_turns.specs.Output.{Out, TurnAnswer, is_last}
+use Rattle.client_turns.specs.Output.{FlaggedTurn, Out, TurnAnswer, is_last}
 use Rattle.client_turns.specs.Refusing.{connection_refusal}
 use Rattle.client_turns.specs.Standing.{IsAhead, goal_named}
 use Rattle.client_turns.specs.Steps.{IsStepAt}
@@ -531,10 +531,10 @@ pub first_ahead : (list : List Transaction) (stamps : Option (List Stamp)) (coun
 first_ahead list stamps counts = record { writes = tt; within = tt }
 
 -- so what is voted at any moment that turns lead to is later than the list, and the open pack leaves its newest transaction whole
-pub out_ahead : (rules : Rules) (m now : Moment) (turns later : List Turn) (out : List TurnAnswer) → Out rules m turns later out now → IsAhead m.machine → IsAhead now.machine
-out_ahead rules m now [] later [] is ahead = subst IsAhead (sym (ap (λ (x : Moment). x.machine) is)) ahead
-out_ahead rules m now [] later (o ∷ out) is ahead = absurd is
-out_ahead rules m now (t ∷ turns) later [] is ahead = absurd is
-out_ahead rules m now (t ∷ turns) later (o ∷ out) is ahead =
-    let turn : LeavesWhole rules m t.line is.0 o.answer = turn_whole rules m is.0 t (is_last t (turns ++ later)) o.answer is.2 in
-    out_ahead rules is.0 now turns later out is.3 (turn.ahead ahead)
+pub out_ahead : (rules : Rules) (m now : Moment) (turns : List FlaggedTurn) (out : List TurnAnswer) → Out rules m turns out now → IsAhead m.machine → IsAhead now.machine
+out_ahead rules m now [] [] is ahead = subst IsAhead (sym (ap (λ (x : Moment). x.machine) is)) ahead
+out_ahead rules m now [] (o ∷ out) is ahead = absurd is
+out_ahead rules m now (t ∷ turns) [] is ahead = absurd is
+out_ahead rules m now (t ∷ turns) (o ∷ out) is ahead =
+    let turn : LeavesWhole rules m t.turn.line is.0 o.answer = turn_whole rules m is.0 t.turn t.is_last o.answer is.2 in
+    out_ahead rules is.0 now turns out is.3 (turn.ahead ahead)

@@ -3,7 +3,7 @@ use Rattle.std.proofs.Common.{◌≡◌, ◌≢◌, ℕ, false, List, [], ◌∷
 use Rattle.std.specs.Prelude.{IfOk, IfSome, IsErrOf, Result, Ok, Err, slice_get}
 use Rattle.std.specs.Io.KnownBytes.{Appends}
 use Rattle.file_store.specs.Kept.{StandsForList}
-use Rattle.file_store.specs.Opening.{GaveAtMostOne, Harm, IsNewFile, KeepsList as KeepsMain, MakesList, SomeRose, without_tail}
+use Rattle.file_store.specs.Opening.{GaveAtMostOne, Harm, IsNewFile, KeepsList as KeepsMain, MakesFile, SomeRose, without_tail}
 use Rattle.fs_recovery.specs.Opens.{IsNoList}
 use Rattle.fs_recovery.specs.declared.errors.OpenError.{OpenError}
 use Rattle.fs_recovery.specs.declared.errors.OpenError.TheVariants as open_error
@@ -116,7 +116,7 @@ pub record IsLeftOpen (told : Type 0) (before : Outside) (state : StoreState) (l
   pub kept : told → main_of before ≢ [] → left ≡ before.stamps
   pub side : told → main_of before ≢ [] → StaysAs Side before.log state.log
   pub keeps : told → KeepsMain before.log state.log
-  pub makes : told → IfSome before.stamps (λ stamps. (stamp : Stamp) → slice_get stamps 0 ≡ Some stamp → MakesList stamp before.log state.log)
+  pub makes : told → main_of before ≡ [] → MakesFile before.stamps before.log state.log
 
 pub left_open : (told : Type 0) (before after : Outside) (state state' : StoreState) (left : Option (List Stamp)) → KeepsStore state state' left after.stamps → after.log ≡ state'.log
     → (list : List Transaction) (cut : Option ℕ) → (told → main_of before ≢ [] → OpensAs (main_of before) before.stamps left list cut) → (told → main_of before ≢ [] → seen state.log Main ≡ without_tail (main_of before) cut)
@@ -127,5 +127,5 @@ left_open told before after state state' left keeps log list cut opens bytes is 
   bytes = λ here some. bytes_open before after left list cut (opens here some) some (ap (λ (l : List Event). seen l Main) (log ∙ keeps.log) ∙ bytes here some);
   side = λ here some. subst (λ (l : List Event). StaysAs Side before.log l) (sym (log ∙ keeps.log)) (is.side here some);
   keeps = λ here. subst (λ (l : List Event). KeepsMain before.log l) (sym (log ∙ keeps.log)) (is.keeps here);
-  makes = λ here. subst (λ (l : List Event). IfSome before.stamps (λ stamps. (stamp : Stamp) → slice_get stamps 0 ≡ Some stamp → MakesList stamp before.log l)) (sym (log ∙ keeps.log)) (is.makes here);
+  makes = λ here empty. subst (λ (l : List Event). MakesFile before.stamps before.log l) (sym (log ∙ keeps.log)) (is.makes here empty);
 }

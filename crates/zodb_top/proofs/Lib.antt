@@ -12,6 +12,7 @@ pub mod Files
 pub mod Volumes
 pub mod Sources
 pub mod Complete
+pub mod Promises
 pub mod Asks
 pub mod Commands
 pub mod Dashes

@@ -17,7 +17,7 @@ use Rattle.client_turns.specs.declared.errors.TurnError.TheVariants as turn_erro
 use Rattle.client_turns.specs.Clients.{Moment}
 use Rattle.client_turns.specs.CountLaws.{broken_calm, out_calm, out_others, turn_others}
 use Rattle.client_turns.specs.Lines.{IsCountedBy, end_of, outcome_of_turn}
-use Rattle.client_turns.specs.Output.{has_read_fault, is_last}
+use Rattle.client_turns.specs.Output.{FlaggedTurn, has_read_fault}
 use Rattle.client_turns.specs.Standing.{IsListIn}
 use Rattle.zodb_top.specs.Came.{BreaksOff, Came, CountsLeft, IsListNext, stock}
 use Rattle.zodb_top.specs.Outside.{Outside}
@@ -36,21 +36,21 @@ line_kept stands m (line.Pack tid collect) bytes left = inl left
 line_kept stands m line.PackTurn bytes left = inl left
 line_kept stands m _ bytes left = left
 
-pub next_kept : (stands : List ℕ → List Transaction → Type 0) (m : Machine) (later : List Turn) (bytes : List ℕ) → stands bytes m.list → IsListNext stands m later bytes
+pub next_kept : (stands : List ℕ → List Transaction → Type 0) (m : Machine) (later : List FlaggedTurn) (bytes : List ℕ) → stands bytes m.list → IsListNext stands m later bytes
 next_kept stands m [] bytes left = left
-next_kept stands m (t ∷ later) bytes left = line_kept stands m t.line bytes left
+next_kept stands m (t ∷ later) bytes left = line_kept stands m t.turn.line bytes left
 
 -- ---- counts
 
-broken_off : (behind : Moment) (later : List Turn) (now : Moment) → BreaksOff behind later (Some turn_error.Memory) now → now.counts ≡ behind.counts
+broken_off : (behind : Moment) (later : List FlaggedTurn) (now : Moment) → BreaksOff behind later (Some turn_error.Memory) now → now.counts ≡ behind.counts
 broken_off behind [] now ends = absurd ends
-broken_off behind (t ∷ later) now ends = broken_calm stock behind now t (is_last t later) ends
+broken_off behind (t ∷ later) now ends = broken_calm stock behind now t.turn t.is_last ends
 
 came_left : (m : Moment) (turns : List Turn) (broke : Option TurnError) (now : Moment) (c : Came m turns broke now) → now.counts ≡ c.behind.counts → (before after : Outside) → after.read_faults ≡ now.counts.reads → after.write_faults ≡ now.counts.others
     → m.counts ≡ record { reads = before.read_faults; others = before.write_faults } → (after.write_faults ≡ before.write_faults) × (has_read_fault c.answers ≡ false → after.read_faults ≡ before.read_faults)
 came_left m turns broke now c ends before after reads others first = (
-  others ∙ ap (λ (k : FaultCounts). k.others) ends ∙ out_others stock m c.taken c.later c.answers c.behind c.answered ∙ ap (λ (k : FaultCounts). k.others) first,
-  λ fine. reads ∙ ap (λ (k : FaultCounts). k.reads) (ends ∙ out_calm stock m c.taken c.later c.answers c.behind c.answered fine ∙ first),
+  others ∙ ap (λ (k : FaultCounts). k.others) ends ∙ out_others stock m c.taken c.answers c.behind c.answered ∙ ap (λ (k : FaultCounts). k.others) first,
+  λ fine. reads ∙ ap (λ (k : FaultCounts). k.reads) (ends ∙ out_calm stock m c.taken c.answers c.behind c.answered fine ∙ first),
 )
 
 pub counts_left : (m : Moment) (turns : List Turn) (broke : Option TurnError) (now : Moment) (c : Came m turns broke now) (before after : Outside) → after.read_faults ≡ now.counts.reads → after.write_faults ≡ now.counts.others

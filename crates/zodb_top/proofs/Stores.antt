@@ -14,7 +14,7 @@ use Rattle.zb_volume.specs.Moments.{Leaves, LeavesOnly, here}
 use Rattle.zodb_core.specs.HubState.{counts_of}
 use Rattle.client_turns.specs.declared.errors.TurnError.TheVariants as turn_error
 use Rattle.client_turns.specs.Clients.{Moment}
-use Rattle.client_turns.specs.Output.{is_last}
+use Rattle.client_turns.specs.Output.{FlaggedTurn, flagged}
 use Rattle.client_turns.specs.Standing.{ClientsState, StandsForMoment}
 use Rattle.zodb_top.specs.declared.replying.RunError.{RunError}
 use Rattle.zodb_top.specs.declared.replying.RunError.TheVariants as errors
@@ -41,9 +41,9 @@ sooner a b before mid now text le wrote = record { prefix = wrote.prefix; whole 
 
 -- ---- how far turns came
 
-broken_off : (behind : Moment) (later : List Turn) (now : Moment) → BreaksOff behind later (Some turn_error.Memory) now → BrokenKeeps behind now
+broken_off : (behind : Moment) (later : List FlaggedTurn) (now : Moment) → BreaksOff behind later (Some turn_error.Memory) now → BrokenKeeps behind now
 broken_off behind [] now ends = absurd ends
-broken_off behind (t ∷ later) now ends = broken_keeps stock behind t (is_last t later) now ends
+broken_off behind (t ∷ later) now ends = broken_keeps stock behind t.turn t.is_last now ends
 
 -- the list behind the answered turns is that of the moment, and the store hasn't failed, unless it did in the turn that broke off
 pub record IsWholeAt (behind now : Moment) : Type 0 where
@@ -53,13 +53,13 @@ pub record IsWholeAt (behind now : Moment) : Type 0 where
 whole_none : (m : Moment) (turns : List Turn) (now : Moment) → m.machine.failed ≡ false → (c : Came m turns None now) → IsWholeAt c.behind now
 whole_none m turns now whole c = record {
   list = ap (λ (x : Moment). x.machine.list) c.ends;
-  whole = ap (λ (x : Moment). x.machine.failed) c.ends ∙ out_failed stock m c.taken c.later c.answers c.behind c.answered ∙ whole;
+  whole = ap (λ (x : Moment). x.machine.failed) c.ends ∙ out_failed stock m c.taken c.answers c.behind c.answered ∙ whole;
 }
 
 whole_memory : (m : Moment) (turns : List Turn) (now : Moment) → m.machine.failed ≡ false → (c : Came m turns (Some turn_error.Memory) now) → IsWholeAt c.behind now
 whole_memory m turns now whole c =
     let keeps = broken_off c.behind c.later now c.ends in
-    record { list = keeps.list; whole = keeps.failed ∙ out_failed stock m c.taken c.later c.answers c.behind c.answered ∙ whole }
+    record { list = keeps.list; whole = keeps.failed ∙ out_failed stock m c.taken c.answers c.behind c.answered ∙ whole }
 
 -- ---- nothing was run
 
@@ -69,7 +69,7 @@ module _ (lasts : Type 0) (stands : List ℕ → List Transaction → Type 0) wh
   ran_nothing state left cut turns written lasting text =
       let m = began state.list left state.read_faults state.faults in record {
         now = m;
-        came = record { taken = []; later = turns; parts = refl; answers = []; behind = m; answered = refl; ends = refl };
+        came = record { taken = []; later = flagged turns; parts = refl; answers = []; behind = m; answered = refl; ends = refl };
         text = text;
         stamps = refl;
         counts = refl;
@@ -79,7 +79,7 @@ module _ (lasts : Type 0) (stands : List ℕ → List Transaction → Type 0) wh
           more = [];
           parts = refl;
           came = record { front = []; rest = []; parts = refl; at = m; before = refl; after = refl };
-          list = next_kept stands m.machine turns image (lasting known image left);
+          list = next_kept stands m.machine (flagged turns) image (lasting known image left);
         });
       }
 
@@ -110,16 +110,16 @@ module _ (lasts : Type 0) (stands : List ℕ → List Transaction → Type 0) wh
     moments_so : (may : List ℕ → Type 0) → LeavesOnly Main may old.log clients.hub.store.log → LeavesOnly Main may old.log state.log
     moments_so may moments = subst (λ (s : StoreState). LeavesOnly Main may old.log s.log) (sym kept) moments
 
-    pub ran_all : RunsOn lasts stands m turns [] mid new old.log clients left → RanAllOver lasts stands m cut turns (Appends taken new) old state left
+    pub ran_all : RunsOn lasts stands m (flagged turns) [] mid new old.log clients left → RanAllOver lasts stands m cut turns (Appends taken new) old state left
     ran_all runs = record {
       ran = record {
         now = runs.now;
-        came = record { taken = turns; later = []; parts = sym (append-nil turns); answers = runs.answers; behind = runs.now; answered = runs.answered; ends = refl };
+        came = record { taken = flagged turns; later = []; parts = sym (append-nil (flagged turns)); answers = runs.answers; behind = runs.now; answered = runs.answered; ends = refl };
         text = Appends-trans taken mid new (joined (cut_lines cut)) (answers_text runs.answers) first runs.text;
         stamps = sym runs.stands_for.stamps;
         counts = counts_so runs.now runs.stands_for;
         images = images_so runs.now runs.now runs.stands_for (record { list = refl; whole = runs.whole });
-        moments = λ known. moments_so (IsOfRun stands m turns [] runs.answers runs.now) (runs.moments known);
+        moments = λ known. moments_so (IsOfRun stands m (flagged turns) [] runs.answers runs.now) (runs.moments known);
       };
       all = refl;
     }

@@ -26,7 +26,7 @@ use Rattle.client_turns.specs.Lines.{Changed, answer_of, data_of, deleted, end_o
 use Rattle.client_turns.specs.DrawLaws.{tree_answer, tree_raised}
 use Rattle.client_turns.specs.Trees.{IsRaised, IsTreeLine, answer_told}
 use Rattle.client_turns.specs.TurnLaws.{by_name, first_ahead, out_ahead, starved_so, step_at_left, turn_whole}
-use Rattle.client_turns.specs.Output.{Out, TurnAnswer, is_last}
+use Rattle.client_turns.specs.Output.{FlaggedTurn, Out, TurnAnswer}
 use Rattle.client_turns.specs.Refusing.{connection_refusal}
 use Rattle.client_turns.specs.Standing.{IsAhead}
 use Rattle.client_turns.specs.Steps.{IsChange, IsRefusedAt, IsStepAt}
@@ -268,35 +268,34 @@ broken_keeps rules m t last now is = broken_by rules m t last turn_error.Memory 
 
 -- ---- runs
 
-pub out_failed : (rules : Rules) (m : Moment) (turns later : List Turn) (answers : List TurnAnswer) (now : Moment) → Out rules m turns later answers now → now.machine.failed ≡ m.machine.failed
-out_failed rules m [] later [] now out = ap (λ (x : Moment). x.machine.failed) out
-out_failed rules m [] later (o ∷ answers) now out = absurd out
-out_failed rules m (t ∷ turns) later [] now out = absurd out
-out_failed rules m (t ∷ turns) later (o ∷ answers) now (next, named, turn, rest) =
-    out_failed rules next turns later answers now rest ∙ (turn_keeps rules m t (is_last t (turns ++ later)) o.answer next turn).failed
+pub out_failed : (rules : Rules) (m : Moment) (turns : List FlaggedTurn) (answers : List TurnAnswer) (now : Moment) → Out rules m turns answers now → now.machine.failed ≡ m.machine.failed
+out_failed rules m [] [] now out = ap (λ (x : Moment). x.machine.failed) out
+out_failed rules m [] (o ∷ answers) now out = absurd out
+out_failed rules m (t ∷ turns) [] now out = absurd out
+out_failed rules m (t ∷ turns) (o ∷ answers) now (next, named, turn, rest) =
+    out_failed rules next turns answers now rest ∙ (turn_keeps rules m t.turn t.is_last o.answer next turn).failed
 
 -- the list behind turns is what their answers leave
-out_left : (rules : Rules) (m : Moment) (turns later : List Turn) (answers : List TurnAnswer) (now : Moment) → IsAhead m.machine → Out rules m turns later answers now → AnswersLeave rules answers m.machine.list now.machine.list
-out_left rules m [] later [] now ahead out = ap (λ (x : Moment). x.machine.list) out
-out_left rules m [] later (o ∷ answers) now ahead out = absurd out
-out_left rules m (t ∷ turns) later [] now ahead out = absurd out
-out_left rules m (t ∷ turns) later (o ∷ answers) now ahead (next, named, turn, rest) =
-    let keeps = turn_keeps rules m t (is_last t (turns ++ later)) o.answer next turn in
-    (next.machine.list, keeps.leaves ahead, out_left rules next turns later answers now (keeps.ahead ahead) rest)
+out_left : (rules : Rules) (m : Moment) (turns : List FlaggedTurn) (answers : List TurnAnswer) (now : Moment) → IsAhead m.machine → Out rules m turns answers now → AnswersLeave rules answers m.machine.list now.machine.list
+out_left rules m [] [] now ahead out = ap (λ (x : Moment). x.machine.list) out
+out_left rules m [] (o ∷ answers) now ahead out = absurd out
+out_left rules m (t ∷ turns) [] now ahead out = absurd out
+out_left rules m (t ∷ turns) (o ∷ answers) now ahead (next, named, turn, rest) =
+    let keeps = turn_keeps rules m t.turn t.is_last o.answer next turn in
+    (next.machine.list, keeps.leaves ahead, out_left rules next turns answers now (keeps.ahead ahead) rest)
 
 -- a run came by the moment behind each front of its answers
-out_split : (rules : Rules) (m : Moment) (turns later : List Turn) (given more : List TurnAnswer) (now : Moment) → Out rules m turns later (given ++ more) now → CameBy rules m turns later given more now
-out_split rules m turns later [] more now out = record { front = []; rest = turns; parts = refl; at = m; before = refl; after = out }
-out_split rules m [] later (o ∷ given) more now out = absurd out
-out_split rules m (t ∷ turns) later (o ∷ given) more now (next, named, turn, rest) =
-    let came = out_split rules next turns later given more now rest in
-    let behind : turns ++ later ≡ came.front ++ (came.rest ++ later) = ap (λ (ts : List Turn). ts ++ later) came.parts ∙ append_assoc came.front came.rest later in
+out_split : (rules : Rules) (m : Moment) (turns : List FlaggedTurn) (given more : List TurnAnswer) (now : Moment) → Out rules m turns (given ++ more) now → CameBy rules m turns given more now
+out_split rules m turns [] more now out = record { front = []; rest = turns; parts = refl; at = m; before = refl; after = out }
+out_split rules m [] (o ∷ given) more now out = absurd out
+out_split rules m (t ∷ turns) (o ∷ given) more now (next, named, turn, rest) =
+    let came = out_split rules next turns given more now rest in
     record {
       front = t ∷ came.front;
       rest = came.rest;
-      parts = ap (λ (ts : List Turn). t ∷ ts) came.parts;
+      parts = ap (λ (ts : List FlaggedTurn). t ∷ ts) came.parts;
       at = came.at;
-      before = (next, named, subst (λ (ts : List Turn). IsTurn rules m t (is_last t ts) (Ok o.answer) next) behind turn, came.before);
+      before = (next, named, turn, came.before);
       after = came.after;
     }
 
@@ -325,11 +324,11 @@ answers_begin rules (o ∷ answers) list now (mid, first, rest) none =
     let both = neither (is_packed o.answer) (has_packed answers) none in
     begins_on list mid now (answer_begins rules o.answer list mid both.0 first) (answers_begin rules answers mid now rest both.1)
 
-left_since : (rules : Rules) (m : Moment) (turns later : List Turn) (answers given more : List TurnAnswer) (now : Moment) → IsAhead m.machine → Out rules m turns later answers now → answers ≡ given ++ more
-    → IsLeftSince rules m turns later given more now
-left_since rules m turns later answers given more now ahead out parts =
-    let came = out_split rules m turns later given more now (subst (λ (os : List TurnAnswer). Out rules m turns later os now) parts out) in
-    let left = out_left rules came.at came.rest later more now (out_ahead rules m came.at came.front (came.rest ++ later) given came.before ahead) came.after in
+left_since : (rules : Rules) (m : Moment) (turns : List FlaggedTurn) (answers given more : List TurnAnswer) (now : Moment) → IsAhead m.machine → Out rules m turns answers now → answers ≡ given ++ more
+    → IsLeftSince rules m turns given more now
+left_since rules m turns answers given more now ahead out parts =
+    let came = out_split rules m turns given more now (subst (λ (os : List TurnAnswer). Out rules m turns os now) parts out) in
+    let left = out_left rules came.at came.rest more now (out_ahead rules m came.at came.front given came.before ahead) came.after in
     record { came = came; left = left; whole = answers_begin rules more came.at.machine.list now.machine.list left }
 
 -- ---- what was answered as committed
@@ -341,17 +340,17 @@ last_newest rules [] o tid list now is (mid, left, same) =
     record { earlier = list; transaction = committed.transaction; parts = same ∙ committed.behind; tid_is = committed.tid_is }
 last_newest rules (g ∷ given) o tid list now is (mid, left, rest) = last_newest rules given o tid mid now is rest
 
-pub out_committed : (rules : Rules) (m : Moment) (turns later : List Turn) (answers : List TurnAnswer) (now : Moment) → IsAhead m.machine → Out rules m turns later answers now → HasCommitted rules m turns later answers now
-out_committed rules m turns later answers now ahead out given more o tid parts is =
-    let since = left_since rules m turns later answers (given ++ o ∷ []) more now ahead out (parts ∙ sym (append_assoc given (o ∷ []) more)) in
+pub out_committed : (rules : Rules) (m : Moment) (turns : List FlaggedTurn) (answers : List TurnAnswer) (now : Moment) → IsAhead m.machine → Out rules m turns answers now → HasCommitted rules m turns answers now
+out_committed rules m turns answers now ahead out given more o tid parts is =
+    let since = left_since rules m turns answers (given ++ o ∷ []) more now ahead out (parts ∙ sym (append_assoc given (o ∷ []) more)) in
     record {
       since = since;
-      newest = last_newest rules given o tid m.machine.list since.came.at.machine.list is (out_left rules m since.came.front (since.came.rest ++ later) (given ++ o ∷ []) since.came.at ahead since.came.before);
+      newest = last_newest rules given o tid m.machine.list since.came.at.machine.list is (out_left rules m since.came.front (given ++ o ∷ []) since.came.at ahead since.came.before);
     }
 
 pub committed_stays : CommittedStays
-committed_stays rules list stamps counts turns later answers now out =
+committed_stays rules list stamps counts turns answers now out =
     let m = first_moment list stamps counts in record {
-      committed = out_committed rules m turns later answers now (first_ahead list stamps counts) out;
-      left = λ given more parts. left_since rules m turns later answers given more now (first_ahead list stamps counts) out parts;
+      committed = out_committed rules m turns answers now (first_ahead list stamps counts) out;
+      left = λ given more parts. left_since rules m turns answers given more now (first_ahead list stamps counts) out parts;
     }

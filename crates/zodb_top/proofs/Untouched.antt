@@ -32,10 +32,6 @@ makes_when (Some told) old new makes = λ stamp is empty settled. by_cases stamp
     by_cases stamp is empty settled (inl same) = subst (λ (l : List Event). LeavesOnly Main (IsNewOr stamp) old l) (sym same) (makes_at stamp old empty settled)
     by_cases stamp is empty settled (inr (other, first, made)) = subst (λ (x : Stamp). LeavesOnly Main (IsNewOr x) old new) (same_Some other stamp (sym first ∙ is)) (made empty settled)
 
-of_all : (stamps : Option (List Stamp)) (P : List Stamp → Type 0) → ((told : List Stamp) → P told) → IfSome stamps P
-of_all None P all = tt
-of_all (Some told) P all = all told
-
 pub left_untouched : (told : Type 0) (before after : Outside) → after.stamps ≡ before.stamps → after.log ≡ before.log → IsLeft told before after
 left_untouched told before after stamps log = record {
   stamps = inl stamps;
@@ -43,8 +39,7 @@ left_untouched told before after stamps log = record {
   bytes = λ here some. bytes_same (ap (λ (l : List Event). seen l Main) log);
   side = λ known some. subst (λ (l : List Event). StaysAs Side before.log l) (sym log) (here refl);
   keeps = λ known. subst (λ (l : List Event). KeepsList before.log l) (sym log) (keeps_at before.log);
-  makes = λ known. subst (λ (l : List Event). IfSome before.stamps (λ stamps. (stamp : Stamp) → slice_get stamps 0 ≡ Some stamp → MakesList stamp before.log l)) (sym log)
-      (of_all before.stamps (λ stamps. (stamp : Stamp) → slice_get stamps 0 ≡ Some stamp → MakesList stamp before.log before.log) (λ stamps stamp is. makes_at stamp before.log));
+  makes = λ known empty. inl log;
 }
 
 -- no memory for the words of `pack`

@@ -125,7 +125,7 @@ module _ (before : Outside) (state : StoreState) (left : Option (List Stamp)) (c
           counts = counts_left (began state.list left before.read_faults before.write_faults) turns broke ran.now ran.came before after reads_left faults_left refl;
           main = images (main_of after) shown;
           images = images;
-          acknowledged = out_committed stock (began state.list left before.read_faults before.write_faults) ran.came.taken ran.came.later ran.came.answers ran.came.behind
+          acknowledged = out_committed stock (began state.list left before.read_faults before.write_faults) ran.came.taken ran.came.answers ran.came.behind
               (first_ahead state.list left (record { reads = before.read_faults; others = before.write_faults })) ran.came.answered;
           moments = λ calm.
               subst (λ (l : List Event). LeavesOnly Main (IsOfCameOrEmpty (main_of before) ran.came) before.log l) (sym log)

@@ -17,7 +17,7 @@ use Rattle.zodb_core.specs.Machine.{Machine, Rules}
 use Rattle.client_turns.specs.declared.errors.TurnError.{TurnError}
 use Rattle.client_turns.specs.declared.errors.TurnError.TheVariants.{StoreFault}
 use Rattle.client_turns.specs.Clients.{Moment, first_moment}
-use Rattle.client_turns.specs.Output.{Out, TurnAnswer, has_read_fault, is_last}
+use Rattle.client_turns.specs.Output.{FlaggedTurn, Out, TurnAnswer, flagged, has_read_fault}
 use Rattle.client_turns.specs.Standing.{IsListIn}
 use Rattle.client_turns.specs.Turns.{IsBroken}
 use Rattle.zodb_top.specs.Committed.{CameBy, HasCommitted}
@@ -35,20 +35,20 @@ abbrev pub answers_text : List TurnAnswer → List ℕ
 answers_text answers = flat_map (λ o. joined (reply_lines o.client o.answer)) answers
 
 -- What followed on the turns that were answered: nothing, or the first of those that weren't broke off so.
-abbrev pub BreaksOff : Moment → List Turn → Option TurnError → Moment → Type 0
+abbrev pub BreaksOff : Moment → List FlaggedTurn → Option TurnError → Moment → Type 0
 BreaksOff m later None now = now ≡ m
 BreaksOff m [] (Some why) now = ⊥
-BreaksOff m (t ∷ later) (Some why) now = IsBroken stock m t (is_last t later) why now
+BreaksOff m (t ∷ later) (Some why) now = IsBroken stock m t.turn t.is_last why now
 
 -- How far the turns came: those that were taken were answered so and led to a moment, and `broke` says whether the next one broke off then, and why. It is this
 -- moment now.
 pub record Came (m : Moment) (turns : List Turn) (broke : Option TurnError) (now : Moment) : Type 0 where
-  pub taken : List Turn
-  pub later : List Turn
-  pub parts : turns ≡ taken ++ later
+  pub taken : List FlaggedTurn
+  pub later : List FlaggedTurn
+  pub parts : flagged turns ≡ taken ++ later
   pub answers : List TurnAnswer
   pub behind : Moment
-  pub answered : Out stock m taken later answers behind
+  pub answered : Out stock m taken answers behind
   pub ends : BreaksOff behind later broke now
 
 -- the moment before the first turn, with these counts of failed reads and of other failed calls
@@ -57,16 +57,16 @@ began list stamps reads others = first_moment list stamps (record { reads = read
 
 -- Before these turns bytes stand for the machine's list; where the first of them is a `finish`, they may stand for that with what is voted behind it, and where
 -- it is a `pack` or a `packturn`, for that packed.
-abbrev pub IsListNext : (List ℕ → List Transaction → Type 0) → Machine → List Turn → List ℕ → Type 0
+abbrev pub IsListNext : (List ℕ → List Transaction → Type 0) → Machine → List FlaggedTurn → List ℕ → Type 0
 IsListNext stands m [] = λ bytes. stands bytes m.list
-IsListNext stands m (t ∷ later) = IsListIn stands stock m t.line
+IsListNext stands m (t ∷ later) = IsListIn stands stock m t.turn.line
 
 -- bytes stand for the list of a machine; where the store failed in the first of these turns, for that or for what its line would have left
-abbrev pub IsMainBy : (List ℕ → List Transaction → Type 0) → Option TurnError → Machine → List Turn → List ℕ → Type 0
+abbrev pub IsMainBy : (List ℕ → List Transaction → Type 0) → Option TurnError → Machine → List FlaggedTurn → List ℕ → Type 0
 IsMainBy stands (Some StoreFault) m later bytes = IsListNext stands m later bytes
 IsMainBy stands _ m later bytes = stands bytes m.list
 
-abbrev pub IsMainOf : Option TurnError → Machine → List Turn → List ℕ → Type 0
+abbrev pub IsMainOf : Option TurnError → Machine → List FlaggedTurn → List ℕ → Type 0
 IsMainOf broke m later bytes = IsMainBy StandsForList broke m later bytes
 
 -- Unless the store failed, no call of the volume has failed but reads, and none of these unless a turn was answered that one did.
@@ -75,11 +75,11 @@ CountsLeft (Some StoreFault) answers before after = Unit {0}
 CountsLeft _ answers before after = (after.write_faults ≡ before.write_faults) × (has_read_fault answers ≡ false → after.read_faults ≡ before.read_faults)
 
 -- Bytes stand for the list at a moment that this run came by; or, where the turn that was taken then is a `finish` or packs, for what that would leave.
-pub record IsOfRun (stands : List ℕ → List Transaction → Type 0) (m : Moment) (turns later : List Turn) (answers : List TurnAnswer) (behind : Moment) (bytes : List ℕ) : Type 0 where
+pub record IsOfRun (stands : List ℕ → List Transaction → Type 0) (m : Moment) (turns later : List FlaggedTurn) (answers : List TurnAnswer) (behind : Moment) (bytes : List ℕ) : Type 0 where
   pub given : List TurnAnswer
   pub more : List TurnAnswer
   pub parts : answers ≡ given ++ more
-  pub came : CameBy stock m turns later given more behind
+  pub came : CameBy stock m turns given more behind
   pub list : IsListNext stands came.at.machine (came.rest ++ later) bytes
 
 -- the same of a run that came so far
@@ -113,7 +113,7 @@ pub record Reached (turns : List Turn) (broke : Option TurnError) (written : Lis
   pub counts : CountsLeft broke came.answers before after
   pub main : IsMainOf broke came.behind.machine came.later (main_of after)
   pub images : Leaves Main (IsMainOf broke came.behind.machine came.later) after.log
-  pub acknowledged : HasCommitted stock (began list stamps before.read_faults before.write_faults) came.taken came.later came.answers came.behind
+  pub acknowledged : HasCommitted stock (began list stamps before.read_faults before.write_faults) came.taken came.answers came.behind
   pub moments : IsCalm before → LeavesOnly Main (IsOfCameOrEmpty (main_of before) came) before.log after.log
 
 -- all turns were answered, and all that was written

@@ -6,12 +6,11 @@ use Rattle.zb_model.specs.declared.data.Transaction.{Transaction}
 use Rattle.zb_model.specs.Database.{newest_tid}
 use Rattle.zb_answers.specs.declared.answer.Answer.{Answer}
 use Rattle.zb_answers.specs.declared.answer.Answer.TheVariants.{Committed, Packed}
-use Rattle.zb_script.specs.declared.line.Turn.{Turn}
 use Rattle.zodb_core.specs.Machine.{Rules}
 use Rattle.zodb_core.specs.Outcomes.{FaultCounts}
 use Rattle.zodb_core.specs.Sound.{IsPackedAsMarked}
 use Rattle.client_turns.specs.Clients.{Moment, first_moment}
-use Rattle.client_turns.specs.Output.{Out, TurnAnswer}
+use Rattle.client_turns.specs.Output.{FlaggedTurn, Out, TurnAnswer}
 
 -- ---- what answers say of the list
 
@@ -57,36 +56,36 @@ pub record EndsWith (list : List Transaction) (tid : ℕ) : Type 0 where
 -- ---- the moments of a run
 
 -- A run came by a moment: a front of its turns was given these answers and led to it, and the rest was given those and led on from it to the moment behind.
-pub record CameBy (rules : Rules) (m : Moment) (turns later : List Turn) (given more : List TurnAnswer) (behind : Moment) : Type 0 where
-  pub front : List Turn
-  pub rest : List Turn
+pub record CameBy (rules : Rules) (m : Moment) (turns : List FlaggedTurn) (given more : List TurnAnswer) (behind : Moment) : Type 0 where
+  pub front : List FlaggedTurn
+  pub rest : List FlaggedTurn
   pub parts : turns ≡ front ++ rest
   pub at : Moment
-  pub before : Out rules m front (rest ++ later) given at
-  pub after : Out rules at rest later more behind
+  pub before : Out rules m front given at
+  pub after : Out rules at rest more behind
 
 -- The list behind a run is what the answers since such a moment left of the list there; where none of them says that it was packed, it begins with that.
-pub record IsLeftSince (rules : Rules) (m : Moment) (turns later : List Turn) (given more : List TurnAnswer) (behind : Moment) : Type 0 where
-  pub came : CameBy rules m turns later given more behind
+pub record IsLeftSince (rules : Rules) (m : Moment) (turns : List FlaggedTurn) (given more : List TurnAnswer) (behind : Moment) : Type 0 where
+  pub came : CameBy rules m turns given more behind
   pub left : AnswersLeave rules more came.at.machine.list behind.machine.list
   pub whole : has_packed more ≡ false → BeginsWith behind.machine.list came.at.machine.list
 
 -- A transaction that was answered as committed was then the newest of the list, and the list behind the run is what the later answers left of that one.
-pub record IsAcknowledged (rules : Rules) (m : Moment) (turns later : List Turn) (given more : List TurnAnswer) (tid : ℕ) (behind : Moment) : Type 0 where
-  pub since : IsLeftSince rules m turns later given more behind
+pub record IsAcknowledged (rules : Rules) (m : Moment) (turns : List FlaggedTurn) (given more : List TurnAnswer) (tid : ℕ) (behind : Moment) : Type 0 where
+  pub since : IsLeftSince rules m turns given more behind
   pub newest : EndsWith since.came.at.machine.list tid
 
 -- each transaction that was answered as committed
-abbrev pub HasCommitted : Rules → Moment → List Turn → List Turn → List TurnAnswer → Moment → Type 0
-HasCommitted rules m turns later answers behind =
-    (given more : List TurnAnswer) (o : TurnAnswer) (tid : ℕ) → answers ≡ given ++ o ∷ more → o.answer ≡ Committed tid → IsAcknowledged rules m turns later (given ++ o ∷ []) more tid behind
+abbrev pub HasCommitted : Rules → Moment → List FlaggedTurn → List TurnAnswer → Moment → Type 0
+HasCommitted rules m turns answers behind =
+    (given more : List TurnAnswer) (o : TurnAnswer) (tid : ℕ) → answers ≡ given ++ o ∷ more → o.answer ≡ Committed tid → IsAcknowledged rules m turns (given ++ o ∷ []) more tid behind
 
 -- Behind every run over whatever rules, from its first moment on, the list has each transaction that was answered as committed, or what packs left of it. It is made
 -- of the list at each moment that the run came by, by the commits and packs that were answered since then.
-pub record KeepsCommitted (rules : Rules) (m : Moment) (turns later : List Turn) (answers : List TurnAnswer) (behind : Moment) : Type 0 where
-  pub committed : HasCommitted rules m turns later answers behind
-  pub left : (given more : List TurnAnswer) → answers ≡ given ++ more → IsLeftSince rules m turns later given more behind
+pub record KeepsCommitted (rules : Rules) (m : Moment) (turns : List FlaggedTurn) (answers : List TurnAnswer) (behind : Moment) : Type 0 where
+  pub committed : HasCommitted rules m turns answers behind
+  pub left : (given more : List TurnAnswer) → answers ≡ given ++ more → IsLeftSince rules m turns given more behind
 
 abbrev pub CommittedStays : Type 0
-CommittedStays = (rules : Rules) (list : List Transaction) (stamps : Option (List Stamp)) (counts : FaultCounts) (turns later : List Turn) (answers : List TurnAnswer) (now : Moment)
-    → Out rules (first_moment list stamps counts) turns later answers now → KeepsCommitted rules (first_moment list stamps counts) turns later answers now
+CommittedStays = (rules : Rules) (list : List Transaction) (stamps : Option (List Stamp)) (counts : FaultCounts) (turns : List FlaggedTurn) (answers : List TurnAnswer) (now : Moment)
+    → Out rules (first_moment list stamps counts) turns answers now → KeepsCommitted rules (first_moment list stamps counts) turns answers now

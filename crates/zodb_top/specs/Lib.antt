@@ -8,6 +8,7 @@ pub mod Opened
 pub mod Committed
 pub mod Came
 pub mod Program
+pub mod Promise
 pub mod Asked
 pub mod Unopened
 pub mod Inputs

@@ -1,7 +1,7 @@
 -- What opening the file gives, and what is left where it isn't opened. Own.
-use Rattle.std.specs.Prelude.{◌≡◌, ◌≢◌, ℕ, List, [], Option, Some, IfSome, slice_get, take}
+use Rattle.std.specs.Prelude.{◌≡◌, ◌≢◌, ℕ, List, [], Option, Some, take}
 use Rattle.std.specs.Option.{option_map}
-use Rattle.file_store.specs.Opening.{GaveAtMostOne, IsMade, KeepsList, MakesList, SomeRose}
+use Rattle.file_store.specs.Opening.{GaveAtMostOne, IsMade, KeepsList, MakesFile, SomeRose}
 use Rattle.fs_records.specs.File.{StandsFor}
 use Rattle.zb_base.specs.Counts.{Rose}
 use Rattle.zb_ids.specs.declared.stamp.Stamp.{Stamp}
@@ -49,7 +49,7 @@ pub record IsLeft (told : Type 0) (before after : Outside) : Type 0 where
   pub bytes : told → main_of before ≢ [] → KeepsBytes before after
   pub side : told → main_of before ≢ [] → StaysAs Side before.log after.log
   pub keeps : told → KeepsList before.log after.log
-  pub makes : told → IfSome before.stamps (λ stamps. (stamp : Stamp) → slice_get stamps 0 ≡ Some stamp → MakesList stamp before.log after.log)
+  pub makes : told → main_of before ≡ [] → MakesFile before.stamps before.log after.log
 
 -- it couldn't be opened, since a call of the volume failed
 pub record FailedToOpen (told : Type 0) (before after : Outside) : Type 0 where

@@ -16,7 +16,7 @@ use Rattle.zodb_core.specs.HubState.{counts_of}
 use Rattle.client_turns.specs.declared.errors.TurnError.{TurnError}
 use Rattle.client_turns.specs.declared.errors.TurnError.TheVariants as turn_error
 use Rattle.client_turns.specs.Clients.{Moment}
-use Rattle.client_turns.specs.Output.{Out, TurnAnswer}
+use Rattle.client_turns.specs.Output.{FlaggedTurn, Out, TurnAnswer}
 use Rattle.client_turns.specs.Standing.{ClientsState, StandsForMoment}
 use Rattle.client_turns.specs.Turns.{IsTurn}
 use Rattle.zodb_top.specs.declared.replying.RunError.{RunError}
@@ -62,10 +62,10 @@ IsWrittenOf _ old new text = AppendsPrefix old new text
 
 -- A front of the turns was answered, and its replies were written; the clients stand for the moment behind it. Whatever a crash left meanwhile is of the run, where
 -- the list lasts.
-pub record RunsOn {R F : Type 0} (lasts : Type 0) (stands : List ℕ → List Transaction → Type 0) (m : Moment) (front later : List Turn) (old new : Option (List ℕ)) (log : List Event) (clients : ClientsState R F) (left : Option (List Stamp)) : Type 0 where
+pub record RunsOn {R F : Type 0} (lasts : Type 0) (stands : List ℕ → List Transaction → Type 0) (m : Moment) (front later : List FlaggedTurn) (old new : Option (List ℕ)) (log : List Event) (clients : ClientsState R F) (left : Option (List Stamp)) : Type 0 where
   pub now : Moment
   pub answers : List TurnAnswer
-  pub answered : Out stock m front later answers now
+  pub answered : Out stock m front answers now
   pub text : Appends old new (answers_text answers)
   pub stands_for : StandsForMoment clients left now
   pub whole : now.machine.failed ≡ false

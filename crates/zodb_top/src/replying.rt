@@ -8,7 +8,7 @@ ghost use Rattle.zb_volume.specs.declared.areas.Area.TheVariants.{Main, Side};
 ghost use Rattle.zb_volume.specs.Moments.{Leaves, LeavesOnly, StaysAs};
 ghost use Rattle.client_turns.specs.declared.errors.TurnError.TheVariants.{StoreFault};
 ghost use Rattle.client_turns.specs.Clients.{Moment};
-ghost use Rattle.client_turns.specs.Output.{last_flags};
+ghost use Rattle.client_turns.specs.Output.{flagged, last_flags};
 ghost use Rattle.client_turns.specs.Refusing.{IsFittingLine};
 ghost use Rattle.client_turns.specs.Standing.{IsListIn, LeadsTo, StandsForMoment, packs_list};
 ghost use Rattle.zodb_top.specs.Came.{stock};
@@ -98,7 +98,7 @@ pub(crate) fn take_turns<St: Store, K: Sink, C: Clock>(
     requires flags { last.now ≡ last_flags turns.now }
     requires lasting { St.lasts → Leaves Main (λ bytes. St.stands bytes clients.old.hub.store.list) clients.old.hub.store.log }
     ensures ok { St.told → (m : Moment) → StandsForMoment clients.old (C.stamps clock.old) m → m.machine.failed ≡ false → OnOk result
-        (RunsOn St.lasts St.stands m turns.now [] (K.taken sink.old) (K.taken sink.new) clients.old.hub.store.log clients.new (C.stamps clock.new)) }
+        (RunsOn St.lasts St.stands m (flagged turns.now) [] (K.taken sink.old) (K.taken sink.new) clients.old.hub.store.log clients.new (C.stamps clock.new)) }
     ensures err { St.told → (m : Moment) → StandsForMoment clients.old (C.stamps clock.old) m → m.machine.failed ≡ false → IfErr result (λ e.
         Stops St.lasts St.stands (broke_of e) m turns.now (K.taken sink.old) (K.taken sink.new) clients.old.hub.store.log clients.new (C.stamps clock.new)) }
     ensures side { St.lasts → has_pack turns.now ≡ false → StaysAs Side clients.old.hub.store.log clients.new.hub.store.log }

@@ -94,7 +94,7 @@ returns-in-Ok-clause-left g c = λ told.
       kept = c.in-Ok.ensures.clock.kept;
       side = λ here some. ((c.in-Ok.ensures.store.main here).reopened some).side;
       keeps = λ here. (c.in-Ok.ensures.store.moments here).keeps;
-      makes = λ here. makes_when _ _ _ (c.in-Ok.ensures.store.moments here).makes;
+      makes = λ here. (c.in-Ok.ensures.store.moments here).makes;
     })
 
 pub returns-in-Ok-clause-harmed : goal.returns-in-Ok-clause-harmed
@@ -109,7 +109,7 @@ returns-in-Err-clause-outcome g c =
       bytes = λ told some. bytes_unless _ _ (c.in-Err.ensures.refused.unharmed told);
       side = c.in-Err.ensures.refused.side;
       keeps = λ told. (c.in-Err.ensures.refused.moments told).keeps;
-      makes = λ told. makes_when _ _ _ (c.in-Err.ensures.refused.moments told).makes;
+      makes = λ told. (c.in-Err.ensures.refused.moments told).makes;
     })
 
 pub returns-in-Err-clause-left : goal.returns-in-Err-clause-left
@@ -119,7 +119,7 @@ returns-in-Err-clause-left g c = λ told. record {
   bytes = λ told some. bytes_unless _ _ (c.in-Err.ensures.refused.unharmed told);
   side = c.in-Err.ensures.refused.side;
   keeps = λ told. (c.in-Err.ensures.refused.moments told).keeps;
-  makes = λ told. makes_when _ _ _ (c.in-Err.ensures.refused.moments told).makes;
+  makes = λ told. (c.in-Err.ensures.refused.moments told).makes;
 }
 
 pub returns-in-Ok-clause-others : goal.returns-in-Ok-clause-others

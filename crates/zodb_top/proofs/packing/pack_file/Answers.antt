@@ -69,7 +69,7 @@ returns-in-Err-clause-outcome g c =
       bytes = λ told some. bytes_unless _ _ (c.in-Err.ensures.refused.unharmed told);
       side = c.in-Err.ensures.refused.side;
       keeps = λ told. (c.in-Err.ensures.refused.moments told).keeps;
-      makes = λ told. makes_when _ _ _ (c.in-Err.ensures.refused.moments told).makes;
+      makes = λ told. (c.in-Err.ensures.refused.moments told).makes;
     })
 
 pub returns-in-Err-clause-complete : goal.returns-in-Err-clause-complete

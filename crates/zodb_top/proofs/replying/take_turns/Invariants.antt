@@ -2,6 +2,7 @@ use Rattle.std.proofs.Common.{◌≡◌, ◌≤◌, false, take, drop}
 use Rattle.zb_volume.specs.declared.areas.Area.TheVariants.{Side}
 use Rattle.zb_volume.specs.Moments.{StaysAs}
 use Rattle.client_turns.specs.Clients.{Moment}
+use Rattle.client_turns.specs.Output.{flagged}
 use Rattle.client_turns.specs.Standing.{StandsForMoment}
 use Rattle.zodb_top.specs.Program.{has_pack}
 use Rattle.zodb_top.specs.Running.{RunsOn}
@@ -14,7 +15,7 @@ invariant-loop-at g l =
     let St = g.St.Store in
     record {
       runs : St.told → (m : Moment) → StandsForMoment l.fn.clients (C.stamps l.fn.clock) m → m.machine.failed ≡ false
-          → RunsOn St.lasts St.stands m (take l.at l.turns) (drop l.at l.turns) (K.taken l.fn.sink) (K.taken l.sink) l.fn.clients.hub.store.log l.clients (C.stamps l.clock);
+          → RunsOn St.lasts St.stands m (take l.at (flagged l.turns)) (drop l.at (flagged l.turns)) (K.taken l.fn.sink) (K.taken l.sink) l.fn.clients.hub.store.log l.clients (C.stamps l.clock);
       sink_counted : K.faults l.fn.sink ≤ K.faults l.sink;
       read_counted : l.fn.clients.hub.store.read_faults ≤ l.clients.hub.store.read_faults;
       counted : l.fn.clients.hub.store.faults ≤ l.clients.hub.store.faults;

@@ -2,6 +2,7 @@ use Rattle.std.proofs.Common.{ℕ, List, [], Err, arith, ap, inl, refl, sym, sub
 use Rattle.std.specs.Io.KnownBytes.{Appends}
 use Rattle.zb_base.specs.Counts.{Rose, rose_after}
 use Rattle.zb_model.specs.Stores.{StoreState}
+use Rattle.client_turns.specs.Output.{flagged}
 use Rattle.zodb_top.specs.Came.{began}
 use Rattle.zodb_top.specs.Running.{RunsOn, Stops, broke_of}
 use Rattle.zodb_top.specs.Texts.{joined}
@@ -38,7 +39,7 @@ returns-in-Ok-ran-clause-outcome g c = λ told.
     (C.stamps c.take_turns-ran.new.clock)
     (subst (λ (ls : List (List ℕ)). Appends (K.taken c.args.sink.now) (K.taken c.write_lines.new.sink) (joined ls)) (c.as_slice.ensures ∙ c.in-Ok.ensures) c.in-Ok-write_lines.ensures.ok)
     c.into_store-store.ensures.store (λ lasts whole. g.met.St.Store.lasting c.into_store-store.result lasts whole)
-    (subst (λ (s : StoreState). RunsOn St.lasts St.stands m c.args.turns.now [] (K.taken c.write_lines.new.sink) (K.taken c.take_turns-ran.new.sink) s.log c.take_turns-ran.new.clients (C.stamps c.take_turns-ran.new.clock))
+    (subst (λ (s : StoreState). RunsOn St.lasts St.stands m (flagged c.args.turns.now) [] (K.taken c.write_lines.new.sink) (K.taken c.take_turns-ran.new.sink) s.log c.take_turns-ran.new.clients (C.stamps c.take_turns-ran.new.clock))
     c.new-clients.ensures.store (c.in-Ok-ran.ensures.ok told m (c.new-clients.ensures.moment told (C.stamps c.args.clock.now)) refl))
 
 pub returns-clause-outcome : goal.returns-clause-outcome

@@ -1,18 +1,27 @@
-use Rattle.zodb_top.proofs.Complete.{ask_damaged, ask_done}
-use Rattle.std.proofs.Common.{refl}
-use Rattle.zodb_top.proofs.Untouched.{left_untouched, pack_starved}
+use Rattle.std.proofs.Common.{Some, sym, ap, refl, arith, ◌∙◌}
+use Rattle.zodb_top.proofs.Promises.{ask_kept, pack_kept, run_kept, starved}
 use Rattle.zodb_top.proofs.top.zodb_main.Goals as goal
 
-pub returns-in-Ask-clause-listed : goal.returns-in-Ask-clause-listed
-returns-in-Ask-clause-listed g c = λ asked is told reads writes sinks list cut stands.
-    ask_done _ _ _ _ _ c.answer_file.ensures.outcome told reads writes sinks list cut stands
+pub returns-in_default : goal.returns-in_default
+returns-in_default g c = record { promise = starved g.V.Volume.told _ _ }
 
-pub returns-in-Ask-clause-damaged : goal.returns-in-Ask-clause-damaged
-returns-in-Ask-clause-damaged g c = λ asked is told reads writes harm.
-    ask_damaged _ _ _ _ _ c.answer_file.ensures.outcome told reads writes harm
+pub returns-in-Run : goal.returns-in-Run
+returns-in-Run g c = let e = c.run_source.ensures in record {
+  promise = run_kept g.V.Volume.told _ c.run_source.result.0 _ _ (sym c.in-Ok.ensures ∙ c.in-Some.is ∙ ap Some c.in-Run.is)
+      e.outcome e.at_end e.taken e.complete e.damaged e.bad_line e.limit e.harmed e.others e.side
+      (record { source = e.source_counted; sink = e.sink_counted; reads = e.read_counted; writes = e.counted });
+}
 
-pub returns-in_default-clause-packs : goal.returns-in_default-clause-packs
-returns-in_default-clause-packs g c = λ tid is. pack_starved tid g.V.Volume.told _
+pub returns-in-Ask : goal.returns-in-Ask
+returns-in-Ask g c = let e = c.answer_file.ensures in record {
+  promise = ask_kept g.V.Volume.told _ c.in-Ask.asked c.answer_file.result.0 _ _ (sym c.in-Ok.ensures ∙ c.in-Some.is ∙ ap Some c.in-Ask.is)
+      e.outcome e.left e.harmed e.others refl
+      (record { source = omega arith; sink = e.sink_counted; reads = e.read_counted; writes = e.counted });
+}
 
-pub returns-in_default-clause-left : goal.returns-in_default-clause-left
-returns-in_default-clause-left g c = λ asked is told. left_untouched g.V.Volume.told _ _ refl refl
+pub returns-in-Pack : goal.returns-in-Pack
+returns-in-Pack g c = let e = c.pack_file.ensures in record {
+  promise = pack_kept g.V.Volume.told _ c.in-Pack.pack c.pack_file.result.0 _ _ (sym c.in-Ok.ensures ∙ c.in-Some.is ∙ ap Some c.in-Pack.is)
+      e.outcome e.complete e.damaged e.harmed e.others refl
+      (record { source = omega arith; sink = e.sink_counted; reads = e.read_counted; writes = e.counted });
+}

@@ -1,9 +1,7 @@
 //! Keys and items of trees as words.
 
-use crate::graphs::push_bytes;
-use crate::row::bytes_of;
-use crate::row_error::RowError;
 use btree_family::Key;
+use row_cases::{RowError, bytes_of, push_bytes};
 use std::alloc::Global;
 use std::fmt::Write;
 use zb_ids::Text8;

@@ -1,20 +1,13 @@
 //! The calls of records.
 
 use crate::graphs::{push_oids, push_written};
-use crate::row::Row;
-use crate::row_error::RowError;
 use literal_reading::read_literal;
 use pickle_graph::{Pickle, is_class};
+use row_cases::{Row, RowError, push_text8};
 use std::alloc::Global;
 use std::fmt::Write;
 use zb_ids::Text8;
 use zb_record::{ObjectRecord, object_literal, read_record, references, write_record};
-
-/// Puts a text that is ASCII at the end.
-pub fn push_text8(text: &mut String, bytes: &Text8) -> Result<(), RowError> {
-    text.push_str(std::str::from_utf8(bytes.as_slice()).unwrap_or("(no text)"))?;
-    Ok(())
-}
 
 /// What an object's bytes are printed as.
 fn printed(alloc: Global, row: &Row) -> Result<String, RowError> {

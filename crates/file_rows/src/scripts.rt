@@ -1,7 +1,6 @@
 //! The calls of scripts.
 
-use crate::row::{Row, bytes_of};
-use crate::row_error::RowError;
+use row_cases::{Row, RowError, bytes_of};
 use std::alloc::Global;
 use zb_answers::{Answer, answer_line};
 use zb_ids::{Oid, Text8, Tid};

@@ -1,32 +1,14 @@
 //! The calls of graphs.
 
-use crate::row::Row;
-use crate::row_error::RowError;
 use pickle_graph::{Act, Node, Pickle};
 use pickle_ops::TokenError;
 use pickle_reading::{PickleError, read_pickle};
 use pickle_references::references_of;
 use pickle_writing::{WriteError, spelling, write_pickle};
-use sha2::{Digest, Sha256};
+use row_cases::{Row, RowError, push_bytes};
 use std::alloc::Global;
 use std::fmt::Write;
 use zb_ids::{Oid, Text8};
-
-/// How many bytes are shown by their digits at most.
-const MOST_SHOWN: usize = 1_000;
-
-/// Bytes by their digits, or where there are many by their count and their SHA-256.
-pub fn push_bytes(alloc: Global, text: &mut String, bytes: &[u8]) -> Result<(), RowError> {
-    if bytes.len() <= MOST_SHOWN {
-        text.push_str(hex::encode(alloc, bytes)?.as_str())?;
-        return Ok(());
-    }
-    let digest = Sha256::digest(bytes);
-    let digits = hex::encode(alloc, digest.as_slice())?;
-    let count = bytes.len();
-    write!(text, "{count} bytes {digits}")?;
-    Ok(())
-}
 
 /// A mark and digits.
 fn push_digits(text: &mut String, mark: &str, bytes: &[u8]) -> Result<(), RowError> {

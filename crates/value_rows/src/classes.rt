@@ -1,11 +1,10 @@
 //! The calls of classes and keys.
 
 use crate::keys::key_of;
-use crate::row::Row;
-use crate::row_error::RowError;
 use btree_family::{
     Key, KeyKind, ValueKind, is_same_kind, key_fits, key_order, leaf_of, number_fits, row_of,
 };
+use row_cases::{Row, RowError};
 use std::alloc::Global;
 
 /// What a class is, what its keys and values are, and the class of its leaves.

@@ -1,7 +1,6 @@
 //! The calls of numbers and stamps.
 
-use crate::row::Row;
-use crate::row_error::RowError;
+use row_cases::{Row, RowError};
 use std::alloc::Global;
 use zb_ids::{Stamp, Tid, hex, hex_pair, next_tid, read_hex, read_hex_pair, tid_of_stamp};
 

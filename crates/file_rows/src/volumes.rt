@@ -1,8 +1,6 @@
 //! The calls of a volume in memory: steps, and what a read gives and a crash may leave.
 
-use crate::graphs::push_bytes;
-use crate::row::{Row, bytes_of, number, trimmed};
-use crate::row_error::RowError;
+use row_cases::{Row, RowError, bytes_of, number, push_bytes, trimmed};
 use std::alloc::Global;
 use std::fmt::Write;
 use zb_volume::{Area, MemoryVolume, Volume};

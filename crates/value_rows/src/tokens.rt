@@ -1,8 +1,7 @@
 //! The calls of tokens.
 
-use crate::row::Row;
-use crate::row_error::RowError;
 use pickle_ops::{Op, TABLE, Token, TokenError, next_token, op_of};
+use row_cases::{Row, RowError};
 use std::alloc::Global;
 use std::fmt::Write;
 

@@ -1,10 +1,9 @@
 //! The calls of merges.
 
-use crate::graphs::{push_bytes, push_oids};
-use crate::records::{push_text8, value_of};
-use crate::row::Row;
-use crate::row_error::RowError;
+use crate::graphs::push_oids;
+use crate::records::value_of;
 use pickle_writing::write_pickle;
+use row_cases::{Row, RowError, push_bytes, push_text8};
 use std::alloc::Global;
 use zb_ids::Text8;
 use zb_model::{Refs, RefsError, ResolveError, Resolver, Why};

@@ -1,12 +1,11 @@
 //! The calls of files.
 
-use crate::row::{Row, trimmed};
-use crate::row_error::RowError;
 use fs_index::{Index, Lookup, Place};
 use fs_records::{
     DataHeader, Header, read_data_header, read_header, write_data_header, write_header,
 };
 use fs_recovery::{OpenError, Opened, open_main};
+use row_cases::{Row, RowError, trimmed};
 use std::alloc::Global;
 use std::fmt::Write;
 use zb_ids::{Oid, Tid, read_hex};

@@ -1,8 +1,6 @@
 //! The calls of plain lists of transactions, which stand in the fields behind those of the call.
 
-use crate::graphs::push_bytes;
-use crate::row::{Row, bytes_of, number};
-use crate::row_error::RowError;
+use row_cases::{Row, RowError, bytes_of, number, push_bytes};
 use std::alloc::Global;
 use std::fmt::Write;
 use zb_ids::{ListOf, Oid, Text8, Tid};

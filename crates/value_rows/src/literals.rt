@@ -1,13 +1,10 @@
 //! The calls of literals.
 
-use crate::graphs::push_bytes;
-use crate::records::push_text8;
-use crate::row::Row;
-use crate::row_error::RowError;
 use literal_reading::read_literal;
 use pickle_graph::Pickle;
 use pickle_reading::read_pickle;
 use pickle_writing::spelling;
+use row_cases::{Row, RowError, push_bytes, push_text8};
 use std::alloc::Global;
 use std::fmt::Write;
 use zb_literals::{node_literal, push_text, write_literal};

@@ -1,14 +1,13 @@
 //! The calls of the states of buckets and trees.
 
-use crate::graphs::{push_bytes, push_written};
+use crate::graphs::push_written;
 use crate::keys::push_key;
-use crate::row::Row;
-use crate::row_error::RowError;
 use btree_family::{Bucket, ClassRow, row_of};
 use bucket_state::{Inner, TreeState, read_bucket, read_tree, write_bucket, write_embedded};
 use pickle_graph::Pickle;
 use pickle_reading::read_pickle;
 use pickle_writing::write_pickle;
+use row_cases::{Row, RowError, push_bytes};
 use std::alloc::Global;
 use std::fmt::Write;
 use zb_ids::Oid;

@@ -1,0 +1,155 @@
+-- What the program promises, whatever its words: one record, of which each field is a sentence. Own.
+use Rattle.std.specs.Prelude.{◌≡◌, ◌≢◌, ◌≤◌, ◌+◌, ℕ, List, [], Option, Some, None, IfSome, length}
+use Rattle.std.specs.Io.KnownBytes.{Consumes, IsAtEnd}
+use Rattle.fs_records.specs.File.{StandsFor}
+use Rattle.fs_recovery.specs.Opens.{IsNoList}
+use Rattle.zb_base.specs.Counts.{Rose}
+use Rattle.zb_model.specs.declared.data.Transaction.{Transaction}
+use Rattle.zb_script.specs.declared.limits.Limit.{Limit}
+use Rattle.zb_script.specs.declared.line.Turn.{Turn}
+use Rattle.zb_script.specs.Limits.{first_limit}
+use Rattle.zb_script.specs.Script.{IsBadLine}
+use Rattle.zb_volume.specs.declared.areas.Area.TheVariants.{Side}
+use Rattle.zb_volume.specs.Moments.{StaysAs}
+use Rattle.zodb_top.specs.declared.command.Command.{Command}
+use Rattle.zodb_top.specs.declared.command.Command.TheVariants.{Ask, Pack, Run}
+use Rattle.zodb_top.specs.declared.status.Status.{Status}
+use Rattle.zodb_top.specs.declared.status.Status.TheVariants as status
+use Rattle.zodb_top.specs.Asked.{AskSays}
+use Rattle.zodb_top.specs.Inputs.{most_bytes}
+use Rattle.zodb_top.specs.Opened.{IsLeft, IsUnopened}
+use Rattle.zodb_top.specs.Outside.{Outside, main_of}
+use Rattle.zodb_top.specs.Packs.{PackSays}
+use Rattle.zodb_top.specs.Program.{IsInput, IsUnlessMemory, KeepsSide, ReadsToEnd, RunSays}
+use Rattle.zodb_top.specs.Texts.{usage_line}
+use Rattle.zodb_top.specs.Written.{IsWritten}
+
+-- What is seen of the whole outside at a moment: what the source has left, where it tells, and its
+-- count of faults; and what is seen of the sink, the clock and the volume.
+pub record ProgramSeen : Type 0 where
+  pub left : Option (List ℕ)
+  pub source_faults : ℕ
+  pub outside : Outside
+
+abbrev pub program_seen : Option (List ℕ) → ℕ → Outside → ProgramSeen
+program_seen left source_faults outside =
+    record { left = left; source_faults = source_faults; outside = outside }
+
+-- ---- what a status says
+
+-- Of words that are no command: the line of usage was written, or there was no memory to read the
+-- words and nothing was. The file wasn't opened.
+pub record SaysUsage (s : Status) (before after : Outside) : Type 0 where
+  pub is : IsUnlessMemory s status.Usage
+  pub line : s ≡ status.Usage
+      → IsWritten before.taken after.taken before.sink_faults after.sink_faults usage_line
+  pub silent : s ≡ status.NoMemory → after.taken ≡ before.taken
+  pub unopened : IsUnopened before after
+
+-- Its cause, how far the command came, what was written, which stamps the clock gave, and what Main
+-- stands for, as it is and whatever a crash leaves or left. A command that asks leaves the list as it
+-- was, at every moment and whatever its status, and Main's bytes, but for a tail.
+abbrev pub CommandSays : Option Command → Status → Type 0 → ProgramSeen → ProgramSeen → Type 0
+CommandSays None s told before after = SaysUsage s before.outside after.outside
+CommandSays (Some Run) s told before after =
+    RunSays s told (Rose before.source_faults after.source_faults) before.left
+    before.outside after.outside
+CommandSays (Some (Ask asked)) s told before after =
+    AskSays s asked told before.outside after.outside
+    × (told → IsLeft told before.outside after.outside)
+CommandSays (Some (Pack pack)) s told before after =
+    PackSays s pack told before.outside after.outside
+
+-- ---- what is read of the script
+
+-- `run` reads it to its end, or at most to the first byte past its limit
+pub record ReadsScript (s : Status) (before after : ProgramSeen) : Type 0 where
+  pub at_end : ReadsToEnd s before.left → IsAtEnd after.left
+  pub taken : (bytes : List ℕ) × Consumes before.left after.left bytes
+      × (length bytes ≤ most_bytes + 1)
+
+-- and no other command reads anything
+abbrev pub ReadsFor : Option Command → Status → ProgramSeen → ProgramSeen → Type 0
+ReadsFor (Some Run) s before after = ReadsScript s before after
+ReadsFor _ s before after = after.left ≡ before.left
+
+-- ---- which status comes, where no call fails
+
+-- no call of the volume has failed
+pub record IsServed (before after : Outside) : Type 0 where
+  pub reads : ¬ Rose before.read_faults after.read_faults
+  pub writes : ¬ Rose before.write_faults after.write_faults
+
+-- the script was read whole, and it is one
+pub record HasScript (before after : ProgramSeen) : Type 0 where
+  pub input : List ℕ
+  pub turns : List Turn
+  pub told : before.left ≡ Some input
+  pub is : IsInput input turns
+  pub unfailed : ¬ Rose before.source_faults after.source_faults
+
+-- a command opens the file: `run` where it has a script, and each other one always
+abbrev pub OpensFile : Option Command → ProgramSeen → ProgramSeen → Type 0
+OpensFile None before after = ⊥
+OpensFile (Some Run) before after = HasScript before after
+OpensFile (Some _) before after = Unit {0}
+
+-- A file that stands for a list is served, and one that stands for none is damaged.
+pub record Serves (told : Type 0) (command : Option Command) (s : Status)
+    (before after : ProgramSeen) : Type 0 where
+  pub done : told → OpensFile command before after → IsServed before.outside after.outside
+      → ¬ Rose before.outside.sink_faults after.outside.sink_faults
+      → (list : List Transaction) (cut : Option ℕ) → StandsFor (main_of before.outside) list cut
+      → IsUnlessMemory s status.Done
+  pub damaged : told → OpensFile command before after → IsServed before.outside after.outside
+      → IsNoList (main_of before.outside) → IsUnlessMemory s status.Damaged
+
+-- A script with a bad line is refused so, and one that passes a limit.
+pub record RefusesScript (s : Status) (before after : ProgramSeen) : Type 0 where
+  pub bad_line : (input : List ℕ) (n : ℕ) → before.left ≡ Some input
+      → first_limit input ≡ None → IsBadLine input n
+      → ¬ Rose before.source_faults after.source_faults → IsUnlessMemory s status.BadLine
+  pub limit : (input : List ℕ) (l : Limit) → before.left ≡ Some input
+      → first_limit input ≡ Some l
+      → ¬ Rose before.source_faults after.source_faults → IsUnlessMemory s status.Limit
+
+-- ---- all of it
+
+-- no count of faults has fallen
+pub record AreLater (before after : ProgramSeen) : Type 0 where
+  pub source : before.source_faults ≤ after.source_faults
+  pub sink : before.outside.sink_faults ≤ after.outside.sink_faults
+  pub reads : before.outside.read_faults ≤ after.outside.read_faults
+  pub writes : before.outside.write_faults ≤ after.outside.write_faults
+
+-- What the program promises: `told` says that the volume tells what it holds, and `command` what
+-- the words ask for.
+pub record Promise (told : Type 0) (command : Option Command) (s : Status)
+    (before after : ProgramSeen) : Type 0 where
+
+  -- The status says why, what was written and what Main stands for.
+  pub says : CommandSays command s told before after
+
+  -- A script is read whole, and nothing else is read.
+  pub reads : ReadsFor command s before after
+
+  -- Each command has its status over each file where no call fails, unless memory runs out.
+  pub serves : Serves told command s before after
+
+  -- And so has each input of `run` that is no script.
+  pub refuses : command ≡ Some Run → RefusesScript s before after
+
+  -- A file that is damaged is left as it was, whatever is asked.
+  pub harmed : told → IsNoList (main_of before.outside) → after.outside.log ≡ before.outside.log
+
+  -- No call that would change the volume has failed, unless the status says so.
+  pub unfailed : ¬ (s ≡ status.StoreFault)
+      → after.outside.write_faults ≡ before.outside.write_faults
+
+  -- Side is as it was, at every moment and whatever the status, unless something is packed, or
+  -- Main was empty, so that the file had to be made.
+  pub side : told → KeepsSide command before.left → main_of before.outside ≢ []
+      → StaysAs Side before.outside.log after.outside.log
+
+  -- The counts of faults never fall.
+  pub later : AreLater before after
