@@ -142,21 +142,21 @@ pub run_kept : (told : Type 0) (command : Option Command) (s : Status) (before a
     → AreLater before after → Promise told command s before after
 run_kept told command s before after is says at_end taken done damaged bad_line limit harmed unfailed side later =
     subst (λ (c : Option Command). Promise told c s before after) (sym is) (record {
-  says = says;
-  reads = record { at_end = at_end; taken = taken };
-  serves = record {
-    done = λ here has served sinks list cut stands. at_some before.left _ has.input has.told (done here) has.turns list cut has.is stands has.unfailed sinks served.reads served.writes;
-    damaged = λ here has served harm. at_some before.left _ has.input has.told (damaged here) has.turns has.is harm has.unfailed served.reads served.writes;
-  };
-  refuses = λ run. record {
-    bad_line = λ input n told within bad read. at_some before.left _ input told bad_line n within bad read;
-    limit = λ input l told first read. at_some before.left _ input told limit l first read;
-  };
-  harmed = harmed;
-  unfailed = unfailed;
-  side = side;
-  later = later;
-})
+      says = says;
+      reads = record { at_end = at_end; taken = taken };
+      serves = record {
+        done = λ here has served sinks list cut stands. at_some before.left _ has.input has.told (done here) has.turns list cut has.is stands has.unfailed sinks served.reads served.writes;
+        damaged = λ here has served harm. at_some before.left _ has.input has.told (damaged here) has.turns has.is harm has.unfailed served.reads served.writes;
+      };
+      refuses = λ run. record {
+        bad_line = λ input n told within bad read. at_some before.left _ input told bad_line n within bad read;
+        limit = λ input l told first read. at_some before.left _ input told limit l first read;
+      };
+      harmed = harmed;
+      unfailed = unfailed;
+      side = side;
+      later = later;
+    })
 
 -- ---- there was no memory for the words
 

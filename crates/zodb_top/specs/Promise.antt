@@ -126,30 +126,22 @@ pub record AreLater (before after : ProgramSeen) : Type 0 where
 -- the words ask for.
 pub record Promise (told : Type 0) (command : Option Command) (s : Status)
     (before after : ProgramSeen) : Type 0 where
-
   -- The status says why, what was written and what Main stands for.
   pub says : CommandSays command s told before after
-
   -- A script is read whole, and nothing else is read.
   pub reads : ReadsFor command s before after
-
   -- Each command has its status over each file where no call fails, unless memory runs out.
   pub serves : Serves told command s before after
-
   -- And so has each input of `run` that is no script.
   pub refuses : command ≡ Some Run → RefusesScript s before after
-
   -- A file that is damaged is left as it was, whatever is asked.
   pub harmed : told → IsNoList (main_of before.outside) → after.outside.log ≡ before.outside.log
-
   -- No call that would change the volume has failed, unless the status says so.
   pub unfailed : ¬ (s ≡ status.StoreFault)
       → after.outside.write_faults ≡ before.outside.write_faults
-
   -- Side is as it was, at every moment and whatever the status, unless something is packed, or
   -- Main was empty, so that the file had to be made.
   pub side : told → KeepsSide command before.left → main_of before.outside ≢ []
       → StaysAs Side before.outside.log after.outside.log
-
   -- The counts of faults never fall.
   pub later : AreLater before after
