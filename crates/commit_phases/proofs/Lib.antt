@@ -1,4 +1,5 @@
 pub mod Completing
+pub mod Earlier
 pub mod Restoring
 pub mod Serials
 pub mod Settling

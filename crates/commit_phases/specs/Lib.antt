@@ -1,4 +1,5 @@
 pub mod Decision
+pub mod Earlier
 pub mod Kept
 pub mod Pending
 pub mod ReadyLaws

@@ -4,10 +4,11 @@
 
 mod deciding;
 mod errors;
+mod going_back;
 mod pending;
 mod resolving;
 mod several;
 
 pub use deciding::decide;
 pub use errors::{PendingError, VoteRefusal};
-pub use pending::{OBJECT_LIMIT, Pending, TRANSACTION_LIMIT};
+pub use pending::{Extent, OBJECT_LIMIT, Pending, TRANSACTION_LIMIT};

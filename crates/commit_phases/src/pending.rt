@@ -1,15 +1,17 @@
 //! Changes that wait for a vote.
 
-ghost use Rattle.std.specs.Prelude.{◌≡◌, ◌+◌, ◌++◌, ◌∷◌, [], ◌<◌, All, IfOk, OnOk, OnErr, length, nat_eq};
+ghost use Rattle.std.specs.Prelude.{◌≡◌, ◌+◌, ◌++◌, ◌∷◌, [], ◌<◌, All, IfOk, OnOk, OnErr, length, nat_eq, take};
 ghost use Rattle.indexmap.specs.IndexMap.{get, insert_entry, keys};
 ghost use Rattle.std.specs.List.{IsDistinct};
 ghost use Rattle.std.specs.Option.{option_map};
 ghost use Rattle.zb_model.specs.declared.data.Content.TheVariants.{Held, Absent};
 ghost use Rattle.zb_model.specs.Database.{IsRecord};
 ghost use Rattle.commit_phases.specs.Pending.{excess_with, length_of_content, pending_of, size_of_stores, stores_after, with_pending, AreStores, AreStoredUnlessTooLong, IsOkUnlessTooLong};
+ghost use Rattle.commit_phases.specs.Earlier.{with_contents};
 ghost use Rattle.commit_phases.specs.Kept.{base_or, length_or_none, put_back, store_of, stores_of};
 
 use crate::errors::PendingError;
+use crate::going_back::{give_contents, keep_checks};
 use crate::several::put_all;
 use indexmap::IndexMap;
 use std::alloc::{AllocError, Global};
@@ -67,6 +69,17 @@ impl Model for Pending {
 
     ghost invariant = { λ a. AreStores (stores_of a.stores.entries)
         × (a.size ≡ size_of_stores (stores_of a.stores.entries)) };
+}
+
+/// How much is pending.
+#[derive(Clone, Copy, Debug)]
+pub struct Extent {
+    /// How many stores and deletes there are.
+    pub stores: usize,
+    /// How many checks there are.
+    pub checks: usize,
+    /// How many bytes the stores have together.
+    pub size: u64,
 }
 
 /// Puts an object's store into the table, in the place of an earlier one, which is answered, or behind all.
@@ -185,11 +198,19 @@ impl Pending {
         ensures checks { self.new.checks ≡ self.old.checks }
     {
         let content = Content::Held(bytes);
-        let placed = put(
-            &mut self.stores,
-            self.size,
-            PendingStore { oid, base, content },
-        )?;
+        self.put(PendingStore { oid, base, content })
+    }
+
+    /// Puts a store or delete behind the others, as `store` and `delete` do. With an error the pending
+    /// changes are as before.
+    pub fn put(&mut self, store: PendingStore) -> Result<(), PendingError>
+        requires filled { IsRecord store.content }
+        ensures answer { IsOkUnlessTooLong (excess_with self.old.stores store) result }
+        ensures ok { OnOk result (self.new.stores ≡ with_pending self.old.stores store) }
+        ensures err { OnErr result (self.new ≡ self.old) }
+        ensures checks { self.new.checks ≡ self.old.checks }
+    {
+        let placed = put(&mut self.stores, self.size, store)?;
         self.size = placed.size;
         Ok(())
     }
@@ -253,6 +274,36 @@ impl Pending {
         self.stores.len() as u64 + checks.len() as u64
     }
 
+    /// How much is pending, to go back to.
+    pub fn extent(&self) -> Extent
+        ensures stores { result.stores ≡ length self.now.stores }
+        ensures checks { result.checks ≡ length self.now.checks }
+        ensures size { result.size ≡ size_of_stores self.now.stores }
+        ensures are { AreStores self.now.stores }
+    {
+        let checks = self.checks.as_slice();
+        Extent {
+            stores: self.stores.len(),
+            checks: checks.len(),
+            size: self.size,
+        }
+    }
+
+    /// Goes back to what was pending earlier. Each of these objects that has a store or delete has its
+    /// content here then; of several contents of an object the first counts. The stores and deletes, and the
+    /// checks, that are behind the extent are dropped. It takes no memory.
+    pub fn go_back(&mut self, contents: Vec<(Oid, Content)>, extent: Extent)
+        requires stores { AreStores (take extent.stores (with_contents self.old.stores contents.items)) }
+        requires size { extent.size
+            ≡ size_of_stores (take extent.stores (with_contents self.old.stores contents.items)) }
+        ensures stores { self.new.stores ≡ take extent.stores (with_contents self.old.stores contents.items) }
+        ensures checks { self.new.checks ≡ take extent.checks self.old.checks }
+    {
+        give_contents(&mut self.stores, contents, extent.stores);
+        keep_checks(self.alloc, &mut self.checks, extent.checks);
+        self.size = extent.size;
+    }
+
     /// The base of the object's store, if it has one.
     #[tactic(auto, using(crate::proofs::Storing::base_found))]
     pub fn base_of(&self, oid: Oid) -> Option<Tid>
@@ -302,7 +353,7 @@ fn earlier_or(stores: &IndexMap<Oid, Stored>, oid: Oid, base: Tid) -> (Tid, u64)
 }
 
 /// The base that an object's store has.
-fn stored_base(stores: &IndexMap<Oid, Stored>, oid: Oid) -> Option<Tid>
+pub(crate) fn stored_base(stores: &IndexMap<Oid, Stored>, oid: Oid) -> Option<Tid>
     ensures { result ≡ option_map (λ stored. stored.base) (get nat_eq stores.now oid) }
 {
     match stores.get(&oid) {

@@ -79,7 +79,7 @@ fn put_each(
 }
 
 /// Puts a store into a table in the place of the object's own, which takes no memory.
-fn exchange(stores: &mut IndexMap<Oid, Stored>, oid: Oid, stored: Stored)
+pub(crate) fn exchange(stores: &mut IndexMap<Oid, Stored>, oid: Oid, stored: Stored)
     requires there { is_some (get nat_eq stores.old oid) ≡ true }
     ensures { stores.new.entries ≡ insert_entry nat_eq stores.old.entries oid stored }
 {

@@ -9,7 +9,7 @@ use Rattle.connection_view.specs.Views.{View, Client, committed, current, is_new
 use Rattle.connection_view.specs.Loading.{IsFront}
 use Rattle.connection_view.specs.ViewLaws.{later_later, later_same}
 use Rattle.connection_view.specs.Named.{CoversNamed, KeepsUnnamed, names}
-use Rattle.connection_view.specs.declared.work.Work.{Work}
+use Rattle.connection_view.specs.Works.{Work}
 use Rattle.connection_view.specs.Connections.{Between, CachesTold, CachesView, IsNewWork, IsInView, KeepsSight, SeesView, open_work}
 
 or_both : (a b : Bool) → a ≡ false → b ≡ false → (a || b) ≡ false

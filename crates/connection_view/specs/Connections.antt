@@ -8,11 +8,13 @@ use Rattle.object_cache.specs.declared.cache.CachedRevision.{CachedRevision}
 use Rattle.object_cache.specs.CachedLaws.{EachCached}
 use Rattle.zb_model.specs.declared.pending.PendingStore.{PendingStore}
 use Rattle.zb_model.specs.declared.pending.PendingCheck.{PendingCheck}
+use Rattle.commit_phases.specs.declared.errors.PendingError.{PendingError}
+use Rattle.commit_phases.specs.declared.errors.PendingError.TheVariants as pending_error
 use Rattle.commit_phases.specs.Pending.{PendingChanges, excess_with, stores_after, with_pending}
 use Rattle.connection_view.specs.declared.loads.FrontView.{FrontView}
 use Rattle.connection_view.specs.declared.loads.Loaded.{Loaded}
 use Rattle.connection_view.specs.declared.loads.Loaded.TheVariants as loaded
-use Rattle.connection_view.specs.declared.work.Work.{Work}
+use Rattle.connection_view.specs.Works.{Work}
 use Rattle.connection_view.specs.declared.named.Named.{Named}
 use Rattle.connection_view.specs.declared.connection.Connection.{Connection}
 use Rattle.connection_view.specs.Views.{View, Server, Client, Later, current}
@@ -62,6 +64,12 @@ stored_unless w p (Some length) = Err (refusal.TooLong length)
 -- an object's store waits for the vote, unless a length passes a limit
 abbrev pub stored_in_work : PendingStore → Work → Result Work Refusal
 stored_in_work p w = stored_unless w p (excess_with w.pending.stores p)
+
+-- what is answered of a store that waits, or doesn't
+abbrev pub store_told : Result (Unit {0}) PendingError → Result (Unit {0}) Refusal
+store_told (Ok done) = Ok done
+store_told (Err (pending_error.TooLong length)) = Err (refusal.TooLong length)
+store_told (Err pending_error.Memory) = Err refusal.Memory
 
 -- an object's delete waits for the vote
 abbrev pub deleted_in_work : ℕ → ℕ → Work → Result Work Refusal

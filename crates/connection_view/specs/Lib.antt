@@ -1,3 +1,4 @@
+pub mod Works
 pub mod Views
 pub mod Loading
 pub mod Named

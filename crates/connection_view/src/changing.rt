@@ -6,18 +6,29 @@ ghost use Rattle.commit_phases.specs.Pending.{pending_of};
 ghost use Rattle.zb_model.specs.declared.data.Content.TheVariants.{Held};
 ghost use Rattle.zb_model.specs.Database.{IsRecord};
 ghost use Rattle.zb_model.specs.declared.refusal.Refusal.TheVariants as refusal;
-ghost use Rattle.connection_view.specs.declared.work.Work.{Work};
-ghost use Rattle.connection_view.specs.Connections.{KeepsSight, LeavesWork, followed_by, base_read, changeable, checked_in_work, deleted_in_work, open_work, rolled_back, saved, stored_in_work, stored_all, unmixed, unvoted_work};
+ghost use Rattle.connection_view.specs.Works.{Work};
+ghost use Rattle.connection_view.specs.Connections.{KeepsSight, LeavesWork, followed_by, base_read, changeable, checked_in_work, deleted_in_work, open_work, rolled_back, saved, stored_in_work, stored_all, store_told, unmixed, unvoted_work};
 ghost use Rattle.connection_view.specs.Loading.{AreVotable};
 
-use crate::work::Work;
+use crate::work::OpenWork;
 use commit_phases::PendingError;
 use savepoints::SavepointError;
 use zb_ids::{ListOf, Oid, Text8, Tid};
 use zb_model::{PendingCheck, PendingStore, Refusal};
 
+/// What is answered of a store that waits, or doesn't.
+fn store_told(stored: Result<(), PendingError>) -> Result<(), Refusal>
+    ensures { result ≡ store_told stored }
+{
+    match stored {
+        Ok(()) => Ok(()),
+        Err(PendingError::TooLong { length }) => Err(Refusal::TooLong { length }),
+        Err(PendingError::Memory) => Err(Refusal::Memory),
+    }
+}
+
 /// An object's bytes wait for the vote of this transaction.
-fn store(work: &mut Work, oid: Oid, base: Tid, bytes: Text8) -> Result<(), Refusal>
+fn store(work: &mut OpenWork, oid: Oid, base: Tid, bytes: Text8) -> Result<(), Refusal>
     requires filled { 0 < length bytes }
     ensures leaves { LeavesWork (followed_by (changeable (Ok work.old)) (stored_in_work
         (record { oid = oid; base = base; content = Held bytes })))
@@ -26,29 +37,25 @@ fn store(work: &mut Work, oid: Oid, base: Tid, bytes: Text8) -> Result<(), Refus
     if work.is_voted {
         return Err(Refusal::Voted);
     }
-    match work.pending.store(oid, base, bytes) {
-        Ok(()) => Ok(()),
-        Err(PendingError::TooLong { length }) => Err(Refusal::TooLong { length }),
-        Err(PendingError::Memory) => Err(Refusal::Memory),
-    }
+    store_told(work.waiting.store(oid, base, bytes))
 }
 
 /// An object's delete waits for the vote of this transaction.
-fn delete(work: &mut Work, oid: Oid, base: Tid) -> Result<(), Refusal>
+fn delete(work: &mut OpenWork, oid: Oid, base: Tid) -> Result<(), Refusal>
     ensures leaves { LeavesWork (followed_by (changeable (Ok work.old)) (deleted_in_work oid base))
         (Ok work.old) (Ok work.new) result }
 {
     if work.is_voted {
         return Err(Refusal::Voted);
     }
-    match work.pending.delete(oid, base) {
+    match work.waiting.delete(oid, base) {
         Ok(()) => Ok(()),
         Err(_) => Err(Refusal::Memory),
     }
 }
 
 /// Several stores and deletes wait for the vote of this transaction: all of them, or none.
-fn store_all(work: &mut Work, stores: ListOf<PendingStore>) -> Result<(), Refusal>
+fn store_all(work: &mut OpenWork, stores: ListOf<PendingStore>) -> Result<(), Refusal>
     requires filled { All (λ p. IsRecord p.content) stores }
     ensures leaves { LeavesWork (followed_by (changeable (Ok work.old)) (stored_all stores)) (Ok work.old)
         (Ok work.new) result }
@@ -56,7 +63,7 @@ fn store_all(work: &mut Work, stores: ListOf<PendingStore>) -> Result<(), Refusa
     if work.is_voted {
         return Err(Refusal::Voted);
     }
-    match work.pending.store_all(stores) {
+    match work.waiting.store_all(stores) {
         Ok(()) => Ok(()),
         Err(PendingError::TooLong { length }) => Err(Refusal::TooLong { length }),
         Err(PendingError::Memory) => Err(Refusal::Memory),
@@ -64,7 +71,7 @@ fn store_all(work: &mut Work, stores: ListOf<PendingStore>) -> Result<(), Refusa
 }
 
 /// A check waits for the vote of this transaction.
-fn check(work: &mut Work, oid: Oid, serial: Tid) -> Result<(), Refusal>
+fn check(work: &mut OpenWork, oid: Oid, serial: Tid) -> Result<(), Refusal>
     ensures leaves { LeavesWork (followed_by (changeable (Ok work.old)) (checked_in_work
         (record { oid = oid; serial = serial })))
         (Ok work.old) (Ok work.new) result }
@@ -72,39 +79,36 @@ fn check(work: &mut Work, oid: Oid, serial: Tid) -> Result<(), Refusal>
     if work.is_voted {
         return Err(Refusal::Voted);
     }
-    match work.pending.check(oid, serial) {
+    match work.waiting.check(oid, serial) {
         Ok(()) => Ok(()),
         Err(_) => Err(Refusal::Memory),
     }
 }
 
 /// What waits in this transaction is saved.
-fn save(work: &mut Work) -> Result<u64, Refusal>
+fn save(work: &mut OpenWork) -> Result<u64, Refusal>
     ensures leaves { LeavesWork (followed_by (changeable (Ok work.old)) saved) (Ok work.old) (Ok work.new) result }
     ensures number { IfOk result (λ number. number ≡ length work.old.savepoints) }
 {
     if work.is_voted {
         return Err(Refusal::Voted);
     }
-    match work.savepoints.save(&work.pending) {
+    match work.waiting.save() {
         Ok(number) => Ok(number),
         Err(_) => Err(Refusal::Memory),
     }
 }
 
 /// This transaction goes back to a savepoint.
-fn roll_back(work: &mut Work, number: u64) -> Result<(), Refusal>
+fn roll_back(work: &mut OpenWork, number: u64) -> Result<(), Refusal>
     ensures leaves { LeavesWork (followed_by (changeable (Ok work.old)) (rolled_back number)) (Ok work.old)
         (Ok work.new) result }
 {
     if work.is_voted {
         return Err(Refusal::Voted);
     }
-    match work.savepoints.rollback(number) {
-        Ok(pending) => {
-            work.pending = pending;
-            Ok(())
-        }
+    match work.waiting.rollback(number) {
+        Ok(()) => Ok(()),
         Err(SavepointError::NoSavepoint { number }) => Err(Refusal::NoSavepoint { number }),
         Err(SavepointError::Memory) => Err(Refusal::Memory),
     }
@@ -113,7 +117,7 @@ fn roll_back(work: &mut Work, number: u64) -> Result<(), Refusal>
 /// An object's bytes wait for the vote of an open transaction.
 pub(crate) fn store_in(
     is_open: bool,
-    work: &mut Option<Work>,
+    work: &mut Option<OpenWork>,
     oid: Oid,
     base: Tid,
     bytes: Text8,
@@ -136,7 +140,7 @@ pub(crate) fn store_in(
 /// An object's delete waits for the vote of an open transaction.
 pub(crate) fn delete_in(
     is_open: bool,
-    work: &mut Option<Work>,
+    work: &mut Option<OpenWork>,
     oid: Oid,
     base: Tid,
 ) -> Result<(), Refusal>
@@ -156,7 +160,7 @@ pub(crate) fn delete_in(
 /// Several stores and deletes wait for the vote of an open transaction: all of them, or none.
 pub(crate) fn store_all_in(
     is_open: bool,
-    work: &mut Option<Work>,
+    work: &mut Option<OpenWork>,
     stores: ListOf<PendingStore>,
 ) -> Result<(), Refusal>
     requires filled { All (λ p. IsRecord p.content) stores }
@@ -176,7 +180,7 @@ pub(crate) fn store_all_in(
 /// A check waits for the vote of an open transaction.
 pub(crate) fn check_in(
     is_open: bool,
-    work: &mut Option<Work>,
+    work: &mut Option<OpenWork>,
     oid: Oid,
     serial: Tid,
 ) -> Result<(), Refusal>
@@ -195,7 +199,7 @@ pub(crate) fn check_in(
 }
 
 /// What waits in an open transaction is saved.
-pub(crate) fn save_in(is_open: bool, work: &mut Option<Work>) -> Result<u64, Refusal>
+pub(crate) fn save_in(is_open: bool, work: &mut Option<OpenWork>) -> Result<u64, Refusal>
     ensures leaves { LeavesWork (followed_by (changeable (open_work is_open work.old)) saved)
         (open_work is_open work.old) (open_work is_open work.new) result }
     ensures number { IfOk result (λ number. (w : Work) → open_work is_open work.old ≡ Ok w
@@ -214,7 +218,7 @@ pub(crate) fn save_in(is_open: bool, work: &mut Option<Work>) -> Result<u64, Ref
 /// An open transaction goes back to a savepoint.
 pub(crate) fn roll_back_in(
     is_open: bool,
-    work: &mut Option<Work>,
+    work: &mut Option<OpenWork>,
     number: u64,
 ) -> Result<(), Refusal>
     ensures leaves { LeavesWork (followed_by (changeable (open_work is_open work.old)) (rolled_back number))
@@ -233,7 +237,7 @@ pub(crate) fn roll_back_in(
 /// What waits for the vote in an open transaction that isn't voted: the stores and deletes, and the checks.
 pub(crate) fn parts_in(
     is_open: bool,
-    work: &Option<Work>,
+    work: &Option<OpenWork>,
 ) -> Result<(ListOf<PendingStore>, ListOf<PendingCheck>), Refusal>
     ensures ok { IfOk result (λ parts. (w : Work) × (changeable (open_work is_open work.now) ≡ Ok w)
         × (parts.0 ≡ w.pending.stores) × (parts.1 ≡ w.pending.checks)) }
@@ -252,7 +256,7 @@ pub(crate) fn parts_in(
 
 /// What waits for the vote in this transaction, which isn't voted.
 #[tactic(auto, using(crate::proofs::Votable::votable))]
-fn parts(work: &Work) -> Result<(ListOf<PendingStore>, ListOf<PendingCheck>), Refusal>
+fn parts(work: &OpenWork) -> Result<(ListOf<PendingStore>, ListOf<PendingCheck>), Refusal>
     ensures ok { IfOk result (λ parts. (unvoted_work work.now ≡ Ok work.now)
         × (parts.0 ≡ work.now.pending.stores) × (parts.1 ≡ work.now.pending.checks)) }
     ensures votable { IfOk result (λ parts. AreVotable parts.0) }
@@ -262,17 +266,14 @@ fn parts(work: &Work) -> Result<(ListOf<PendingStore>, ListOf<PendingCheck>), Re
     if work.is_voted {
         return Err(Refusal::Voted);
     }
-    let Ok(pending) = work.pending.copy() else {
-        return Err(Refusal::Memory);
-    };
-    match pending.into_parts() {
+    match work.waiting.parts() {
         Ok(parts) => Ok(parts),
         Err(_) => Err(Refusal::Memory),
     }
 }
 
 /// That an open transaction isn't voted, and that nothing waits in it.
-pub(crate) fn unmixed_in(is_open: bool, work: &Option<Work>) -> Result<(), Refusal>
+pub(crate) fn unmixed_in(is_open: bool, work: &Option<OpenWork>) -> Result<(), Refusal>
     ensures ok { OnOk result (IsOk (followed_by (changeable (open_work is_open work.now)) unmixed)) }
     ensures err { IfErr result (λ r. followed_by (changeable (open_work is_open work.now)) unmixed ≡ Err r) }
 {
@@ -285,7 +286,7 @@ pub(crate) fn unmixed_in(is_open: bool, work: &Option<Work>) -> Result<(), Refus
     if work.is_voted {
         return Err(Refusal::Voted);
     }
-    let stores = work.pending.count();
+    let stores = work.waiting.count();
     if stores == 0 {
         Ok(())
     } else {
@@ -294,7 +295,11 @@ pub(crate) fn unmixed_in(is_open: bool, work: &Option<Work>) -> Result<(), Refus
 }
 
 /// The base of what waits under an object in an open transaction that isn't voted, if something does.
-pub(crate) fn base_in(is_open: bool, work: &Option<Work>, oid: Oid) -> Result<Option<Tid>, Refusal>
+pub(crate) fn base_in(
+    is_open: bool,
+    work: &Option<OpenWork>,
+    oid: Oid,
+) -> Result<Option<Tid>, Refusal>
     ensures ok { IfOk result (λ base. (w : Work) × (changeable (open_work is_open work.now) ≡ Ok w)
         × (base ≡ option_map (λ p. p.base) (pending_of w.pending.stores oid))) }
     ensures err { IfErr result (λ r. changeable (open_work is_open work.now) ≡ Err r) }
@@ -308,13 +313,13 @@ pub(crate) fn base_in(is_open: bool, work: &Option<Work>, oid: Oid) -> Result<Op
     if work.is_voted {
         return Err(Refusal::Voted);
     }
-    Ok(work.pending.base_of(oid))
+    Ok(work.waiting.base_of(oid))
 }
 
 /// What waits under an object in an open transaction, if something does.
 pub(crate) fn waiting_in(
     is_open: bool,
-    work: &Option<Work>,
+    work: &Option<OpenWork>,
     oid: Oid,
 ) -> Result<Option<PendingStore>, Refusal>
     ensures ok { IfOk result (λ store. (w : Work) × (open_work is_open work.now ≡ Ok w)
@@ -328,7 +333,7 @@ pub(crate) fn waiting_in(
     let Some(work) = work else {
         return Err(Refusal::NoTransaction);
     };
-    match work.pending.copy_of(oid) {
+    match work.waiting.copy_of(oid) {
         Ok(store) => Ok(store),
         Err(_) => Err(Refusal::Memory),
     }

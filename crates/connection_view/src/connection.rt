@@ -4,17 +4,16 @@ ghost use Rattle.std.specs.Prelude.{◌≡◌, ◌≢◌, ◌≤◌, ℕ, Err, I
 ghost use Rattle.zb_model.specs.declared.refusal.Refusal.{Refusal};
 ghost use Rattle.zb_model.specs.declared.refusal.Refusal.TheVariants as refusal;
 ghost use Rattle.connection_view.specs.Loading.{IsServerRefusal, Reads};
-ghost use Rattle.connection_view.specs.declared.work.Work.{Work};
+ghost use Rattle.connection_view.specs.Works.{Work};
 ghost use Rattle.connection_view.specs.Views.{Client, View, renewed};
 ghost use Rattle.connection_view.specs.Connections.{Between, InView, IsNewWork, IsFrontBy, IsReadBy, begin_refusal, open_work, work_of};
 
 use crate::loads::Loads;
 use crate::named::{Named, forget};
 use crate::reading::{Sight, read};
-use crate::work::Work;
-use commit_phases::Pending;
+use crate::work::OpenWork;
 use object_cache::ObjectCache;
-use savepoints::Savepoints;
+use savepoints::Waiting;
 use std::alloc::{AllocError, Global};
 use zb_ids::{Oid, Text8, Tid};
 use zb_model::Refusal;
@@ -28,7 +27,7 @@ pub const CACHED_OBJECTS: usize = 400;
 pub struct Connection {
     pub(crate) alloc: Global,
     pub(crate) is_open: bool,
-    pub(crate) work: Option<Work>,
+    pub(crate) work: Option<OpenWork>,
     /// What votes of the open transaction may change that were asked for.
     pub(crate) asked: Named,
     /// What news names that isn't yet applied to the cache.
@@ -111,11 +110,10 @@ impl Connection {
         forget(&mut self.cache, &self.stale);
         self.stale = Named::none(self.alloc);
         self.asked = Named::none(self.alloc);
-        self.work = Some(Work {
+        self.work = Some(OpenWork {
             front: told.front,
             switches: told.switches,
-            pending: Pending::new(self.alloc),
-            savepoints: Savepoints::new(self.alloc),
+            waiting: Waiting::new(self.alloc),
             is_voted: false,
         });
         Ok(told.front)
@@ -200,7 +198,7 @@ impl Connection {
 }
 
 /// Where an open transaction sees from.
-fn sight_in(is_open: bool, work: &Option<Work>) -> Result<Sight, Refusal>
+fn sight_in(is_open: bool, work: &Option<OpenWork>) -> Result<Sight, Refusal>
     ensures ok { IfOk result (λ sight. (w : Work) × (open_work is_open work.now ≡ Ok w) × (sight.front ≡ w.front)
         × (sight.switches ≡ w.switches)) }
     ensures err { IfErr result (λ r. open_work is_open work.now ≡ Err r) }

@@ -5,7 +5,7 @@ ghost use Rattle.zb_model.specs.declared.data.Transaction.{Transaction};
 ghost use Rattle.zb_model.specs.declared.refusal.Refusal.{Refusal};
 ghost use Rattle.zb_model.specs.declared.refusal.Refusal.TheVariants as refusal;
 ghost use Rattle.connection_view.specs.Loading.{Abort, Finish, IsNothingDone, IsServerRefusal, IsShortText, Undo, Vote};
-ghost use Rattle.connection_view.specs.declared.work.Work.{Work};
+ghost use Rattle.connection_view.specs.Works.{Work};
 ghost use Rattle.connection_view.specs.Views.{Client, View, committed, each_object, stored_in, unvoted, view_of, voting};
 ghost use Rattle.connection_view.specs.Connections.{Between, InView, IsCallMade, KeepsSight, followed_by, changeable, open_work, unmixed, work_of};
 
@@ -13,12 +13,12 @@ use crate::changing::{parts_in, unmixed_in};
 use crate::connection::Connection;
 use crate::loads::Loads;
 use crate::named::forget;
-use crate::work::Work;
+use crate::work::OpenWork;
 use zb_ids::{Text8, Tid};
 use zb_model::Refusal;
 
 /// An open transaction is voted.
-fn set_voted(work: &mut Option<Work>)
+fn set_voted(work: &mut Option<OpenWork>)
     ensures voted { (is_open : Bool) (w : Work) → open_work is_open work.old ≡ Ok w
         → open_work is_open work.new ≡ Ok (record w { is_voted = true }) }
     ensures sight { KeepsSight work.old work.new }

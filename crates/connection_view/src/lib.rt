@@ -12,4 +12,3 @@ mod work;
 
 pub use connection::{CACHED_OBJECTS, Connection};
 pub use loads::{FrontView, Loaded, Loads};
-pub use work::Work;

@@ -8,7 +8,7 @@ ghost use Rattle.zb_model.specs.declared.refusal.Refusal.{Refusal};
 ghost use Rattle.zb_model.specs.declared.refusal.Refusal.TheVariants as refusal;
 ghost use Rattle.commit_phases.specs.Pending.{pending_of};
 ghost use Rattle.connection_view.specs.Loading.{Reads};
-ghost use Rattle.connection_view.specs.declared.work.Work.{Work};
+ghost use Rattle.connection_view.specs.Works.{Work};
 ghost use Rattle.connection_view.specs.Views.{Client, View};
 ghost use Rattle.connection_view.specs.Connections.{Between, InView, IsPutAsRead, IsReadBy, LeavesWork, followed_by, changeable, checked_in_work, deleted_in_work, rolled_back, saved, stored_in_work, stored_all, waiting_read, work_of};
 

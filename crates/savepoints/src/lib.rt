@@ -1,8 +1,11 @@
-//! Savepoints of an open transaction: what was pending when each was made, to go back to.
+//! What waits in an open transaction, and its savepoints: what was pending when each was made, to go back to.
 #![tactic(auto)]
 
 mod error;
-mod savepoints;
+mod going_back;
+mod noting;
+mod replaced;
+mod waiting;
 
 pub use error::SavepointError;
-pub use savepoints::Savepoints;
+pub use waiting::Waiting;

@@ -1,0 +1,4 @@
+pub mod Contents
+pub mod Cuts
+pub mod Marks
+pub mod Undoing
