@@ -1,5 +1,5 @@
 -- The server's end of a link: which steps the messages of a client name, and what is sent for them. From: ZEO; the profile is own.
-use Rattle.std.specs.Prelude.{◌≡◌, ℕ, ◌==◌, ◌<◌, ◌≤◌, ◌^◌, ◌++◌, Bool, true, false, List, [], ◌∷◌, Option, Some, None, length, if◌then◌else◌}
+use Rattle.std.specs.Prelude.{ℕ, ◌==◌, ◌<◌, ◌≤◌, ◌^◌, ◌++◌, Bool, true, false, List, [], ◌∷◌, Option, Some, None, length, if◌then◌else◌}
 use Rattle.zb_model.specs.declared.data.Content.TheVariants.{Held, Absent}
 use Rattle.zb_model.specs.declared.pending.PendingCheck.{PendingCheck}
 use Rattle.zb_model.specs.declared.pending.PendingStore.{PendingStore}
@@ -17,7 +17,7 @@ use Rattle.zeo_messages.specs.declared.call.Call.TheVariants as calls
 use Rattle.zeo_messages.specs.declared.message.Message.{Message}
 use Rattle.zeo_messages.specs.declared.message.Message.TheVariants.{Asked as AskedMessage}
 use Rattle.zeo_messages.specs.Calls.{flag_of}
-use Rattle.zeo_messages.specs.Reading.{message_in}
+use Rattle.zeo_reading.specs.Reading.{message_in}
 use Rattle.zeo_desk.specs.declared.asked.Asked.{Asked}
 use Rattle.zeo_desk.specs.declared.asked.Asked.TheVariants as asked
 use Rattle.zeo_desk.specs.declared.asked.Awaited.{Awaited}
@@ -136,6 +136,16 @@ called d n calls.Sync = asks d n asked.Other requests.Front
 called d n calls.LastTransaction = asks d n asked.Other requests.Last
 called d n (calls.GetInvalidations tid changes) = asks d n asked.Since (requests.Since tid changes)
 
+-- whether a call names a step whatever the desk keeps
+abbrev pub names_step : Call → Bool
+names_step (calls.Register again) = false
+names_step (calls.TpcBegin user description extension) = false
+names_step (calls.Storea oid base bytes) = false
+names_step (calls.DeleteObject oid base) = false
+names_step (calls.CheckCurrentSerial oid serial) = false
+names_step calls.Vote = false
+names_step _ = true
+
 abbrev pub is_register : Call → Bool
 is_register (calls.Register again) = true
 is_register _ = false
@@ -209,17 +219,3 @@ pub record IsDesk (user description extension : List ℕ) (awaited : Option Awai
 abbrev pub IsFittingNext : Next → Type 0
 IsFittingNext (Step request) = IsFitting request
 IsFittingNext (Send frames) = Unit {0}
-
--- ---- all messages of a client
-
--- What is done next is done: steps of the session lead from one state to another, frames are sent, and the desk is left.
-pub data Does {S : Type 0} (steps : Request → Reply → S → S → Type 0) : DeskState → Next → S → List (List ℕ) → DeskState → S → Type 0 where
-  sent : (d : DeskState) (frames : List (List ℕ)) (s : S) → Does steps d (Send frames) s frames d s
-  asked_on : (d : DeskState) (request : Request) (reply : Reply) (s between behind : S) (frames : List (List ℕ)) (left : DeskState) → steps request reply s between
-      → Does steps (replied d reply).desk (replied d reply).next between frames left behind → Does steps d (Step request) s frames left behind
-
--- Payloads one after another, each of a message of a client, and the frames that are sent for them.
-pub data Serves {S : Type 0} (steps : Request → Reply → S → S → Type 0) : DeskState → List (List ℕ) → S → List (List ℕ) → DeskState → S → Type 0 where
-  done : (d : DeskState) (s : S) → Serves steps d [] s [] d s
-  goes_on : (d between left : DeskState) (payload : List ℕ) (rest : List (List ℕ)) (turn : Turn) (s middle behind : S) (frames more : List (List ℕ)) → taken d payload ≡ Some turn
-      → Does steps turn.desk turn.next s frames between middle → Serves steps between rest middle more left behind → Serves steps d (payload ∷ rest) s (frames ++ more) left behind

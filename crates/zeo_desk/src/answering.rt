@@ -7,7 +7,7 @@ ghost use Rattle.zeo_desk.specs.Answering.{answer_to, frames_before, front_answe
 use crate::asked::Asked;
 use crate::told::Told;
 use std::alloc::{AllocError, Global};
-use zb_ids::{ListOf, Oid, Tid};
+use zb_ids::{ListOf, Oid, Text8, Tid};
 use zb_model::{LogLine, NewsCommit, Revision};
 use zeo_messages::{Answer, Stage};
 use zeo_news::news_frames;
@@ -122,18 +122,67 @@ fn turned(stage: Stage, count: u64) -> Answer
     Answer::Turned { stage, count }
 }
 
-/// An answer with nothing before it.
-fn only(alloc: Global, answer: Answer) -> Told
-    ensures frames { result.frames ≡ [] }
-    ensures answer { result.answer ≡ answer }
+/// A revision.
+fn loaded_answer(serial: Tid, bytes: Text8, end: Option<Tid>, upto: Tid) -> Answer
+    ensures { result ≡ Answer.Loaded bytes serial end upto }
 {
-    Told {
-        frames: ListOf::new(alloc),
-        answer,
+    Answer::Loaded {
+        bytes,
+        serial,
+        end,
+        upto,
     }
 }
 
-/// What a reply tells, where it is its own answer. The one error is want of memory.
+/// A transaction with the number of changes up to it.
+fn counted_tid(tid: Tid, count: u64) -> Answer
+    ensures { result ≡ Answer.TidAndCount tid count }
+{
+    Answer::TidAndCount { tid, count }
+}
+
+/// The answer that a reply is to what was asked. The one error is want of memory.
+fn reply_answer(alloc: Global, asked: &Asked, reply: Reply) -> Result<Answer, AllocError>
+    ensures { IfOk result (λ answer. answer ≡ reply_answer asked.now reply) }
+{
+    match reply {
+        Reply::Front {
+            front,
+            news: _,
+            switches,
+        } => Ok(front_answer(asked, front, switches)),
+        Reply::Loaded {
+            serial,
+            bytes,
+            end,
+            upto,
+        } => Ok(loaded_answer(serial, bytes, end, upto)),
+        Reply::Nothing { oid: _, switches } => Ok(Answer::Nothing { switches }),
+        Reply::Oids { first, count } => {
+            let oids = oids_from(alloc, count, first)?;
+            Ok(oids_answer(oids))
+        }
+        Reply::Voted => Ok(Answer::Done),
+        Reply::Committed { tid } => Ok(Answer::OneTid { tid }),
+        Reply::Empty => Ok(Answer::Done),
+        Reply::Aborted => Ok(Answer::Done),
+        Reply::History { list } => Ok(revisions_answer(list)),
+        Reply::UndoLog { list } => Ok(lines_answer(list)),
+        Reply::Packed { kept, dropped } => Ok(packed_answer(asked, kept, dropped)),
+        Reply::Packing { tid } => Ok(Answer::OneTid { tid }),
+        Reply::Marking { count } => Ok(turned(Stage::Marking, count)),
+        Reply::Marked { count } => Ok(turned(Stage::Marked, count)),
+        Reply::Copying { count } => Ok(turned(Stage::Copying, count)),
+        Reply::Copied { count } => Ok(turned(Stage::Copied, count)),
+        Reply::Last { tid, changes } => Ok(counted_tid(tid, changes)),
+        Reply::Since { keep, commits } => Ok(since_answer(keep, commits)),
+        Reply::Closed => Ok(Answer::Done),
+        Reply::Refused(refusal) => Ok(Answer::Refused { refusal }),
+    }
+}
+
+/// What a reply tells, where it is its own answer: the news of a front, and the answer. The one error is
+/// want of memory.
 fn reply_told(alloc: Global, asked: &Asked, reply: Reply) -> Result<Told, AllocError>
     ensures frames { IfOk result (λ told. told.frames ≡ frames_before reply) }
     ensures answer { IfOk result (λ told. told.answer ≡ reply_answer asked.now reply) }
@@ -148,44 +197,11 @@ fn reply_told(alloc: Global, asked: &Asked, reply: Reply) -> Result<Told, AllocE
             let frames = news_frames(alloc, front, news)?;
             Ok(Told { frames, answer })
         }
-        Reply::Loaded {
-            serial,
-            bytes,
-            end,
-            upto,
-        } => {
-            let answer = Answer::Loaded {
-                bytes,
-                serial,
-                end,
-                upto,
-            };
-            Ok(only(alloc, answer))
+        other => {
+            let answer = reply_answer(alloc, asked, other)?;
+            let frames = ListOf::new(alloc);
+            Ok(Told { frames, answer })
         }
-        Reply::Nothing { oid: _, switches } => Ok(only(alloc, Answer::Nothing { switches })),
-        Reply::Oids { first, count } => {
-            let oids = oids_from(alloc, count, first)?;
-            Ok(only(alloc, oids_answer(oids)))
-        }
-        Reply::Voted => Ok(only(alloc, Answer::Done)),
-        Reply::Committed { tid } => Ok(only(alloc, Answer::OneTid { tid })),
-        Reply::Empty => Ok(only(alloc, Answer::Done)),
-        Reply::Aborted => Ok(only(alloc, Answer::Done)),
-        Reply::History { list } => Ok(only(alloc, revisions_answer(list))),
-        Reply::UndoLog { list } => Ok(only(alloc, lines_answer(list))),
-        Reply::Packed { kept, dropped } => Ok(only(alloc, packed_answer(asked, kept, dropped))),
-        Reply::Packing { tid } => Ok(only(alloc, Answer::OneTid { tid })),
-        Reply::Marking { count } => Ok(only(alloc, turned(Stage::Marking, count))),
-        Reply::Marked { count } => Ok(only(alloc, turned(Stage::Marked, count))),
-        Reply::Copying { count } => Ok(only(alloc, turned(Stage::Copying, count))),
-        Reply::Copied { count } => Ok(only(alloc, turned(Stage::Copied, count))),
-        Reply::Last { tid, changes } => {
-            let count = changes;
-            Ok(only(alloc, Answer::TidAndCount { tid, count }))
-        }
-        Reply::Since { keep, commits } => Ok(only(alloc, since_answer(keep, commits))),
-        Reply::Closed => Ok(only(alloc, Answer::Done)),
-        Reply::Refused(refusal) => Ok(only(alloc, Answer::Refused { refusal })),
     }
 }
 

@@ -2,12 +2,13 @@
 
 ghost use Rattle.std.specs.Prelude.{◌≡◌, ◌<◌, ◌^◌, IfOk, IsErrOf, None, Some, true};
 ghost use Rattle.zeo_messages.specs.Calls.{fits_call};
-ghost use Rattle.zeo_messages.specs.Reading.{message_in};
+ghost use Rattle.zeo_reading.specs.Reading.{message_in};
 ghost use Rattle.zeo_desk.specs.Desks.{call_in, is_answered, is_register};
 
 use crate::error::DeskError;
 use std::alloc::Global;
-use zeo_messages::{Call, Message, MessageError, read_message};
+use zeo_messages::{Call, Message};
+use zeo_reading::{MessageError, read_message};
 
 /// A call and its number.
 #[derive(Drop)]

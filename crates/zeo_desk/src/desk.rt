@@ -11,6 +11,7 @@ use crate::asked::{Asked, Awaited};
 use crate::calls::{NumberedCall, is_answered, is_register, read_call};
 use crate::error::DeskError;
 use crate::framing::{refusal_frames, reply_frames};
+use crate::naming::{NamedStep, step_of};
 use crate::next::Next;
 use commit_phases::{Pending, PendingError};
 use std::alloc::{AllocError, Global};
@@ -246,7 +247,7 @@ impl Desk {
     }
 
     /// Takes a call of a client that has registered.
-    #[tactic(auto, using(crate::proofs::Lengths::not_open_fits, crate::proofs::Rows::store_filled, crate::proofs::Rows::texts_short, crate::proofs::Rows::oids_fit, crate::proofs::Rows::undo_fits))]
+    #[tactic(auto, using(crate::proofs::Lengths::not_open_fits, crate::proofs::Rows::store_filled, crate::proofs::Rows::texts_short))]
     fn take_call(&mut self, alloc: Global, number: u32, call: Call) -> Result<Next, AllocError>
         requires number { number < 2 ^ 31 }
         requires fits { fits_call call ≡ true }
@@ -257,12 +258,6 @@ impl Desk {
     {
         match call {
             Call::Register { again: _ } => self.refuse(alloc, number, Refusal::NotOpen),
-            Call::LoadBefore { oid, front } => {
-                Ok(self.ask(number, Asked::Other, Request::LoadBefore { oid, front }))
-            }
-            Call::NewOids { count } => {
-                Ok(self.ask(number, Asked::Other, Request::NewOids { count }))
-            }
             Call::TpcBegin {
                 user,
                 description,
@@ -284,35 +279,9 @@ impl Desk {
                 Ok(self.send(ListOf::new(alloc)))
             }
             Call::Vote => self.vote(alloc, number),
-            Call::Undoa {
-                user,
-                description,
-                tids,
-            } => {
-                let request = Request::Undo {
-                    user,
-                    description,
-                    tids,
-                };
-                Ok(self.ask(number, Asked::Other, request))
-            }
-            Call::TpcFinish => Ok(self.ask(number, Asked::Finish, Request::Finish)),
-            Call::TpcAbort => Ok(self.ask(number, Asked::Other, Request::Abort)),
-            Call::History { oid } => {
-                Ok(self.ask(number, Asked::Other, Request::History { oid }))
-            }
-            Call::UndoInfo => Ok(self.ask(number, Asked::Other, Request::UndoLog)),
-            Call::Pack { tid, collect } => {
-                Ok(self.ask(number, Asked::Other, Request::Pack { tid, collect }))
-            }
-            Call::PackBegin { tid, collect } => {
-                Ok(self.ask(number, Asked::Other, Request::PackBegin { tid, collect }))
-            }
-            Call::PackTurn => Ok(self.ask(number, Asked::PackTurn, Request::PackTurn)),
-            Call::Sync => Ok(self.ask(number, Asked::Other, Request::Front)),
-            Call::LastTransaction => Ok(self.ask(number, Asked::Other, Request::Last)),
-            Call::GetInvalidations { tid, changes } => {
-                Ok(self.ask(number, Asked::Since, Request::Since { tid, changes }))
+            other => {
+                let NamedStep { asked, request } = step_of(other);
+                Ok(self.ask(number, asked, request))
             }
         }
     }

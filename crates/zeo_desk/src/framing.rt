@@ -1,9 +1,8 @@
 //! The frames of answers.
 
-ghost use Rattle.std.specs.Prelude.{◌≡◌, ◌+◌, ◌<◌, ◌≤◌, ◌^◌, ◌∷◌, [], length, IfOk, IfSome, IfNone, true};
+ghost use Rattle.std.specs.Prelude.{◌≡◌, ◌<◌, ◌≤◌, ◌^◌, ◌∷◌, [], length, IfOk, IfSome, IfNone, true};
 ghost use Rattle.zeo_messages.specs.declared.answer.Answer.{Answer};
 ghost use Rattle.zeo_messages.specs.Answers.{fits_answer};
-ghost use Rattle.zeo_messages.specs.Values.{count_text};
 ghost use Rattle.zeo_desk.specs.Answering.{answer_frame, bytes_round, counted_length, in_place_of, is_allowed, reply_frames, sent_answer, IsShortAnswer};
 
 use crate::answering::told;
@@ -14,23 +13,8 @@ use zb_ids::{ListOf, Text8, Tid};
 use zb_model::Refusal;
 use zeo_frames::{FRAME_LIMIT, frame};
 use zeo_messages::{Answer, Message, fits, write_message};
+use zeo_values::count_length;
 use zodb_core::Reply;
-
-/// How many bytes the number of a call has in a payload.
-#[tactic(auto, using(crate::proofs::Lengths::count_of_one, crate::proofs::Lengths::count_of_two, crate::proofs::Lengths::count_of_four))]
-fn number_size(number: u32) -> usize
-    requires { number < 2 ^ 31 }
-    ensures size { result ≡ length (count_text number) }
-    ensures few { result ≤ 5 }
-{
-    if number < 256 {
-        2
-    } else if number < 65_536 {
-        3
-    } else {
-        5
-    }
-}
 
 /// The frame of an answer that fits whatever it says. The one error is want of memory.
 #[tactic(auto, using(crate::proofs::Rows::answer_fits))]
@@ -138,7 +122,7 @@ fn written_frame(
     }
     let text = write_message(alloc, &message)?;
     let payload = text.as_slice();
-    let length = payload.len() + 5 - number_size(number);
+    let length = payload.len() + 5 - count_length(u64::from(number));
     if length > FRAME_LIMIT as usize {
         return frame_in_place(alloc, number, asked, length as u64);
     }

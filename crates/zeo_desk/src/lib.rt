@@ -8,6 +8,7 @@ mod calls;
 mod desk;
 mod error;
 mod framing;
+mod naming;
 mod next;
 mod told;
 

@@ -1,9 +1,8 @@
 -- What a client sends, row by row. From: ZEO; which rows there are is own.
-use Rattle.std.specs.Prelude.{ℕ, ◌+◌, ◌<◌, ◌≤◌, ◌^◌, Bool, true, false, ◌&&◌, List, [], ◌∷◌, ◌++◌, length, nat_lt, nat_le, codes, if◌then◌else◌}
-use Rattle.std.specs.List.{AllByRecursion}
+use Rattle.std.specs.Prelude.{ℕ, ◌<◌, ◌^◌, Bool, true, false, ◌&&◌, List, [], ◌∷◌, length, nat_lt, codes}
 use Rattle.zeo_messages.specs.declared.call.Call.{Call}
 use Rattle.zeo_messages.specs.declared.call.Call.TheVariants as calls
-use Rattle.zeo_messages.specs.Values.{bytes_text, count_text, id_text, list_of, name_text, truth_text, tuple_text}
+use Rattle.zeo_values.specs.Values.{AreIds, IsId, bytes_text, count_text, id_text, list_of, name_text, truth_text}
 
 -- the method
 abbrev pub profile_text : Bool → List ℕ
@@ -93,12 +92,6 @@ fits_call (calls.Undoa user description tids) = is_short user && (is_short descr
 fits_call _ = true
 
 -- ---- what the types of its fields say
-
-abbrev pub IsId : ℕ → Type 0
-IsId n = n < 2 ^ 64
-
-abbrev pub AreIds : List ℕ → Type 0
-AreIds numbers = AllByRecursion IsId numbers
 
 abbrev pub HoldsCall : Call → Type 0
 HoldsCall (calls.LoadBefore oid front) = IsId oid × IsId front

@@ -1,6 +1,4 @@
-pub mod Values
-pub mod Calls
 pub mod Answers
+pub mod Calls
+pub mod LengthLaws
 pub mod Messages
-pub mod Loose
-pub mod Reading

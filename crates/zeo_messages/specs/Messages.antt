@@ -1,11 +1,11 @@
 -- A message, and its payload: the one spelling of its row. From: ZEO; which rows there are is own.
-use Rattle.std.specs.Prelude.{◌≡◌, ℕ, ◌+◌, ◌<◌, ◌≤◌, ◌^◌, Bool, true, false, ◌&&◌, List, [], ◌∷◌, ◌++◌, ◌-◌, length, nat_lt, codes, IsTrue}
+use Rattle.std.specs.Prelude.{ℕ, ◌^◌, Bool, true, ◌&&◌, List, [], ◌∷◌, ◌++◌, ◌-◌, length, nat_lt, codes}
 use Rattle.zeo_messages.specs.declared.message.Message.{Message}
 use Rattle.zeo_messages.specs.declared.message.Message.TheVariants.{Asked, Answered, Told}
 use Rattle.zeo_messages.specs.declared.message.Notice.{Notice}
 use Rattle.zeo_messages.specs.declared.message.Notice.TheVariants as notices
-use Rattle.zeo_messages.specs.Values.{count_text, id_text, list_of, name_text, tuple_text}
-use Rattle.zeo_messages.specs.Calls.{IsId, AreIds, method_of, arguments_of, flag_of, fits_call, HoldsCall}
+use Rattle.zeo_values.specs.Values.{count_text, id_text, list_of, name_text, tuple_text, IsId, AreIds}
+use Rattle.zeo_messages.specs.Calls.{method_of, arguments_of, flag_of, fits_call, HoldsCall}
 use Rattle.zeo_messages.specs.Answers.{kind_of, value_of, fits_answer, HoldsAnswer}
 
 -- ---- what is told without being asked

@@ -2,17 +2,17 @@
 
 ghost use Rattle.std.specs.Prelude.{◌≡◌, ◌++◌, ◌∷◌, [], OnOk};
 ghost use Rattle.zeo_messages.specs.Answers.{kind_of, value_of, stage_name, revision_text, line_text, commit_text};
-ghost use Rattle.zeo_messages.specs.Values.{count_text, list_of, tuple_text, bytes_text, id_text, maybe_text};
+ghost use Rattle.zeo_values.specs.Values.{count_text, list_of, tuple_text, bytes_text, id_text, maybe_text};
 
 use crate::answer::{Answer, Stage};
 use crate::refusal_text::put_refusal;
-use crate::values::{
-    put_bytes, put_closing, put_count, put_id, put_maybe_count, put_maybe_id, put_name, put_oids,
-    put_opening,
-};
 use std::alloc::AllocError;
 use zb_ids::Tid;
 use zb_model::{LogLine, NewsCommit, Revision};
+use zeo_values::{
+    put_bytes, put_closing, put_count, put_id, put_maybe_count, put_maybe_id, put_name, put_oids,
+    put_opening,
+};
 
 /// The method of an answer.
 pub(crate) fn kind_of(answer: &Answer) -> &'static [u8]
@@ -52,7 +52,7 @@ fn put_commit(text: &mut Vec<u8>, commit: &NewsCommit) -> Result<(), AllocError>
     Ok(text.push(0x86)?)
 }
 
-#[tactic(auto, using(crate::proofs::Lists::list_begun, crate::proofs::Lists::list_on, crate::proofs::Lists::list_over))]
+#[tactic(auto, using(zeo_values::specs::WrittenLaws::list_begun, zeo_values::specs::WrittenLaws::list_on, zeo_values::specs::WrittenLaws::list_over))]
 fn put_revisions(text: &mut Vec<u8>, revisions: &[Revision]) -> Result<(), AllocError>
     ensures { OnOk result (text.new.items ≡ text.old.items ++ list_of revision_text revisions.now) }
 {
@@ -63,7 +63,7 @@ fn put_revisions(text: &mut Vec<u8>, revisions: &[Revision]) -> Result<(), Alloc
     put_closing(text, revisions.len())
 }
 
-#[tactic(auto, using(crate::proofs::Lists::list_begun, crate::proofs::Lists::list_on, crate::proofs::Lists::list_over))]
+#[tactic(auto, using(zeo_values::specs::WrittenLaws::list_begun, zeo_values::specs::WrittenLaws::list_on, zeo_values::specs::WrittenLaws::list_over))]
 fn put_lines(text: &mut Vec<u8>, lines: &[LogLine]) -> Result<(), AllocError>
     ensures { OnOk result (text.new.items ≡ text.old.items ++ list_of line_text lines.now) }
 {
@@ -74,7 +74,7 @@ fn put_lines(text: &mut Vec<u8>, lines: &[LogLine]) -> Result<(), AllocError>
     put_closing(text, lines.len())
 }
 
-#[tactic(auto, using(crate::proofs::Lists::list_begun, crate::proofs::Lists::list_on, crate::proofs::Lists::list_over))]
+#[tactic(auto, using(zeo_values::specs::WrittenLaws::list_begun, zeo_values::specs::WrittenLaws::list_on, zeo_values::specs::WrittenLaws::list_over))]
 fn put_commits(text: &mut Vec<u8>, commits: &[NewsCommit]) -> Result<(), AllocError>
     ensures { OnOk result (text.new.items ≡ text.old.items ++ list_of commit_text commits.now) }
 {

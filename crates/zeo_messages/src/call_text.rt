@@ -2,11 +2,12 @@
 
 ghost use Rattle.std.specs.Prelude.{◌≡◌, ◌++◌, ◌∷◌, [], OnOk};
 ghost use Rattle.zeo_messages.specs.Calls.{arguments_of, flag_of, method_of, profile_text};
-ghost use Rattle.zeo_messages.specs.Values.{bytes_text, id_text, tuple_text};
+ghost use Rattle.zeo_values.specs.Values.{bytes_text, id_text, list_of, tuple_text};
 
 use crate::call::Call;
-use crate::values::{put_bytes, put_count, put_id, put_name, put_tids, put_truth};
 use std::alloc::AllocError;
+use zb_ids::Tid;
+use zeo_values::{put_bytes, put_count, put_id, put_name, put_tids, put_truth};
 
 /// The method of a call.
 pub(crate) fn method_of(call: &Call) -> &'static [u8]
@@ -90,6 +91,29 @@ fn put_three_bytes(
     Ok(text.push(0x87)?)
 }
 
+fn put_store(text: &mut Vec<u8>, oid: u64, base: u64, bytes: &[u8]) -> Result<(), AllocError>
+    ensures { OnOk result (text.new.items ≡ text.old.items ++ tuple_text (id_text oid ∷ id_text base ∷ bytes_text bytes.now ∷ [])) }
+{
+    put_id(text, oid)?;
+    put_id(text, base)?;
+    put_bytes(text, bytes)?;
+    Ok(text.push(0x87)?)
+}
+
+fn put_undo(
+    text: &mut Vec<u8>,
+    user: &[u8],
+    description: &[u8],
+    tids: &[Tid],
+) -> Result<(), AllocError>
+    ensures { OnOk result (text.new.items ≡ text.old.items ++ tuple_text (bytes_text user.now ∷ bytes_text description.now ∷ list_of id_text tids.now ∷ [])) }
+{
+    put_bytes(text, user)?;
+    put_bytes(text, description)?;
+    put_tids(text, tids)?;
+    Ok(text.push(0x87)?)
+}
+
 /// Writes the tuple of a call's arguments.
 pub(crate) fn put_arguments(text: &mut Vec<u8>, call: &Call) -> Result<(), AllocError>
     ensures { OnOk result (text.new.items ≡ text.old.items ++ tuple_text (arguments_of call.now)) }
@@ -115,24 +139,19 @@ pub(crate) fn put_arguments(text: &mut Vec<u8>, call: &Call) -> Result<(), Alloc
             description.as_slice(),
             extension.as_slice(),
         ),
-        Call::Storea { oid, base, bytes } => {
-            put_id(text, oid.0)?;
-            put_id(text, base.0)?;
-            put_bytes(text, bytes.as_slice())?;
-            Ok(text.push(0x87)?)
-        }
+        Call::Storea { oid, base, bytes } => put_store(text, oid.0, base.0, bytes.as_slice()),
         Call::DeleteObject { oid, base } => put_two_ids(text, oid.0, base.0),
         Call::CheckCurrentSerial { oid, serial } => put_two_ids(text, oid.0, serial.0),
         Call::Undoa {
             user,
             description,
             tids,
-        } => {
-            put_bytes(text, user.as_slice())?;
-            put_bytes(text, description.as_slice())?;
-            put_tids(text, tids.as_slice())?;
-            Ok(text.push(0x87)?)
-        }
+        } => put_undo(
+            text,
+            user.as_slice(),
+            description.as_slice(),
+            tids.as_slice(),
+        ),
         Call::History { oid } => put_one_id(text, oid.0),
         Call::Pack { tid, .. } => put_one_id(text, tid.0),
         Call::PackBegin { tid, .. } => put_one_id(text, tid.0),
@@ -141,12 +160,6 @@ pub(crate) fn put_arguments(text: &mut Vec<u8>, call: &Call) -> Result<(), Alloc
             put_count(text, *changes)?;
             Ok(text.push(0x86)?)
         }
-        Call::Vote
-        | Call::TpcFinish
-        | Call::TpcAbort
-        | Call::UndoInfo
-        | Call::PackTurn
-        | Call::Sync
-        | Call::LastTransaction => Ok(text.push(0x29)?),
+        _ => Ok(text.push(0x29)?),
     }
 }

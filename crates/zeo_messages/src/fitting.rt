@@ -8,10 +8,10 @@ ghost use Rattle.zeo_messages.specs.Messages;
 
 use crate::answer::Answer;
 use crate::call::Call;
-use crate::keys::is_key_spelled;
 use crate::message::Message;
 use zb_ids::Tid;
 use zb_model::{LogLine, Refusal, Revision, Why};
+use zeo_values::is_key_spelled;
 
 /// Whether a text has at most 65,535 bytes.
 fn is_short(text: &[u8]) -> bool

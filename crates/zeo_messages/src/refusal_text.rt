@@ -2,11 +2,11 @@
 
 ghost use Rattle.std.specs.Prelude.{◌≡◌, ◌++◌, ◌∷◌, [], OnOk};
 ghost use Rattle.zeo_messages.specs.Answers.{refusal_fields, refusal_name, refusal_text, why_name, why_fields};
-ghost use Rattle.zeo_messages.specs.Values.{count_text, ended, id_text, name_text, truth_text, tuple_text};
+ghost use Rattle.zeo_values.specs.Values.{count_text, ended, id_text, name_text, truth_text, tuple_text};
 
-use crate::values::{put_count, put_id, put_name, put_truth};
 use std::alloc::AllocError;
 use zb_model::{Refusal, Why};
+use zeo_values::{put_count, put_id, put_name, put_truth};
 
 fn put_bare(text: &mut Vec<u8>, name: &[u8]) -> Result<(), AllocError>
     ensures { OnOk result (text.new.items ≡ text.old.items ++ tuple_text (name_text name.now ∷ [])) }
@@ -175,22 +175,7 @@ fn put_fields(text: &mut Vec<u8>, name: &[u8], refusal: &Refusal) -> Result<(), 
         Refusal::NodeMissing { oid } => put_single(text, name, oid.0),
         Refusal::NothingToDelete { oid, current } => put_double(text, name, oid.0, current.0),
         Refusal::Connected { session } => put_counting(text, name, u64::from(*session)),
-        Refusal::TidsSpent
-        | Refusal::StoreFault
-        | Refusal::NoTransaction
-        | Refusal::InTransaction
-        | Refusal::NotVoted
-        | Refusal::Voted
-        | Refusal::OidsSpent
-        | Refusal::NotOpen
-        | Refusal::BadMessage
-        | Refusal::LinkFault
-        | Refusal::Closed
-        | Refusal::NoPack
-        | Refusal::BadKey
-        | Refusal::ReadFault
-        | Refusal::StepsSpent
-        | Refusal::Memory => put_bare(text, name),
+        _ => put_bare(text, name),
     }
 }
 

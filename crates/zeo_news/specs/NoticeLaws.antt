@@ -1,16 +1,10 @@
 -- Notices that fit a frame, whatever they say. For the proofs of those who write them.
-use Rattle.std.proofs.Common.{◌≡◌, ℕ, ◌+◌, ◌≤◌, List, [], ◌∷◌, ◌++◌, length, length-append, arith}
-use Rattle.byteorder.specs.Numbers.{length-bytes_high_first}
-use Rattle.byteorder.specs.Endian.{big_bytes}
+use Rattle.std.proofs.Common.{◌≡◌, ℕ, ◌≤◌, [], ◌∷◌, ◌++◌, length, length-append, arith}
 use Rattle.zeo_frames.specs.declared.limit.TheConstants.{FRAME_LIMIT}
 use Rattle.zeo_messages.specs.declared.message.Notice.TheVariants.{Forget, Packed}
-use Rattle.zeo_messages.specs.Values.{count_text, id_text, name_text}
+use Rattle.zeo_values.specs.LengthLaws.{id_length}
+use Rattle.zeo_values.specs.Values.{count_text, id_text, name_text}
 use Rattle.zeo_news.specs.Notices.{notice_payload}
-
--- a number has eight bytes behind two
-id_length : (n : ℕ) → length (id_text n) ≡ 10
-unfolding id_text
-id_length n = let e = length-bytes_high_first 8 n in omega (arith, e)
 
 -- a tuple of one number, and what stands behind it in a payload
 one_length : (n : ℕ) → length ((id_text n ++ 0x85 ∷ []) ++ 0x74 ∷ 0x2e ∷ []) ≡ 13

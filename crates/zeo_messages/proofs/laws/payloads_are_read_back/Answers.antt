@@ -1,5 +1,0 @@
-use Rattle.zeo_messages.proofs.MessageRows.{read_back}
-use Rattle.zeo_messages.proofs.laws.payloads_are_read_back.Goals as goal
-
-pub returns : goal.returns
-returns c = read_back

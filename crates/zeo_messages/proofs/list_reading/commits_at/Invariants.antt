@@ -1,6 +1,0 @@
-use Rattle.std.proofs.Common.{◌≡◌, ◌-◌, ◌++◌, length}
-use Rattle.zeo_messages.specs.Loose.{commits_at, read_items, behind, id_in, revision_in, behind_revision, line_in, behind_line, commit_in, behind_commit}
-use Rattle.zeo_messages.proofs.list_reading.commits_at.Given as goal
-
-abbrev pub invariant-loop-i : goal.invariant-loop-i
-invariant-loop-i l = l.commits ++ read_items 0x43 commit_in behind_commit (length l.bytes - l._i) l.rest ≡ commits_at l.bytes

@@ -1,0 +1,5 @@
+pub mod CallRows
+pub mod RefusalRows
+pub mod AnswerRows
+pub mod ListRows
+pub mod MessageRows

@@ -1,0 +1,9 @@
+pub mod FormLaws
+pub mod ItemLaws
+pub mod Keys
+pub mod Leaves
+pub mod LengthLaws
+pub mod ListLaws
+pub mod ValueLaws
+pub mod Values
+pub mod WrittenLaws
