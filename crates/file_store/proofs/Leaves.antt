@@ -1,10 +1,13 @@
 -- What the calls of a store leave, in its words.
-use Rattle.std.proofs.Common.{◌≡◌, ℕ, Option, Result, Ok, Err, OnErr, OnOk, ap, ◌∙◌}
+use Rattle.std.proofs.Common.{◌≡◌, ℕ, Option, Result, Ok, Err, OnErr, OnOk, ap, ◌∙◌, arith}
 use Rattle.std.specs.Prelude.{IfErr, None}
 use Rattle.zb_model.specs.declared.data.Transaction.{Transaction}
 use Rattle.zb_model.specs.declared.store_error.StoreError.{StoreError}
 use Rattle.zb_model.specs.declared.store_error.StoreError.TheVariants.{StoreFault, ReadFault, Memory}
-use Rattle.zb_model.specs.Stores.{AbortLeaves, CopyLeaves, FinishLeaves, KeepsBegun, KeepsVoted, RefusalKeepsRest, StoreState, SwitchLeaves, UnlessFault, VoteKeepsRest, VoteLeaves}
+use Rattle.zb_volume.specs.States.{VolumeState}
+use Rattle.fs_index_file.specs.Writes.{WritesFor}
+use Rattle.file_store.specs.Hinting.{KeepsStore}
+use Rattle.zb_model.specs.Stores.{AbortLeaves, CopyLeaves, FinishLeaves, HasStoreCause, KeepsBegun, KeepsVoted, RefusalKeepsRest, StoreState, SwitchLeaves, UnlessFault, VoteKeepsRest, VoteLeaves}
 
 -- a state with another number, count or voted transaction
 abbrev with_newest : StoreState → ℕ → StoreState
@@ -44,3 +47,28 @@ pub unless_any : (A : Type 0) (e : StoreError) (P : Type 0) → P → UnlessFaul
 unless_any A StoreFault P is = tt
 unless_any A ReadFault P is = is
 unless_any A Memory P is = is
+
+-- ---- a call that writes the index file
+
+pub keeps_store : (T : Type 0) (old new : StoreState) → new.newest ≡ old.newest → new.read_faults ≡ old.read_faults → (T → new.list ≡ old.list) → KeepsVoted T old new → KeepsBegun T old new → KeepsStore T old new
+keeps_store T old new newest reads list voted begun = record { keeps = ap (with_newest new) newest ∙ ap (with_reads (with_newest new old.newest)) reads; list = list; voted = voted; begun = begun }
+
+-- what contracts see of its volume
+abbrev pub volume_of : StoreState → VolumeState
+volume_of s = record { log = s.log; read_faults = s.read_faults; write_faults = s.faults }
+
+pub written_cause : (A : Type 0) (old new : StoreState) (e : StoreError) → WritesFor (volume_of old) (volume_of new) (Err e) → HasStoreCause {T = A} old new (Err e)
+written_cause A old new StoreFault f = record { reads_later = omega (arith, f.2); faults_later = f.1; refused = f.0; others = f.2; answered = tt }
+written_cause A old new ReadFault f = absurd f
+written_cause A old new Memory f = record { reads_later = omega (arith, f.0.reads); faults_later = omega (arith, f.0.writes); refused = record { reads = f.0.reads; faults = f.0.writes }; others = tt; answered = tt }
+
+pub written_reads : (old new : VolumeState) (e : StoreError) → WritesFor old new (Err e) → new.read_faults ≡ old.read_faults
+written_reads old new StoreFault f = f.2
+written_reads old new ReadFault f = absurd f
+written_reads old new Memory f = f.0.reads
+
+-- nothing was changed, unless a call of the volume failed
+pub written_same : (old new : VolumeState) (e : StoreError) → WritesFor old new (Err e) → UnlessFault {T = ℕ} (Err e) (new.log ≡ old.log)
+written_same old new StoreFault f = tt
+written_same old new ReadFault f = absurd f
+written_same old new Memory f = f.1

@@ -10,3 +10,5 @@ pub mod Sides
 pub mod Sizes
 pub mod Switches
 pub mod Writes
+pub mod Hints
+pub mod Reopening

@@ -298,6 +298,10 @@ some_bytes old new n same is some empty = omega (arith, is, some, ap length (ap 
 pub no_bytes_there : (old new : List Event) (n : ℕ) → new ≡ old → n ≡ length (seen old Main) → n ≤ 0 → seen new Main ≡ []
 no_bytes_there old new n same is none = ap (λ (log : List Event). seen log Main) same ∙ nil_from_length (seen old Main) (omega (arith, is, none))
 
+-- Main is no longer than an area can be
+pub short_there : (old new : List Event) (n : ℕ) → new ≡ old → n ≡ length (seen old Main) → n < 2 ^ 63 → length (seen new Main) < 2 ^ 63
+short_there old new n same is short = omega (arith, short, is, ap (λ (log : List Event). length (seen log Main)) same)
+
 pub any_ok : {A E : Type 0} (r : Result A E) (P : Type 0) → P → OnOk r P
 any_ok (Ok x) P holds = holds
 any_ok (Err e) P holds = tt

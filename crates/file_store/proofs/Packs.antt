@@ -1,15 +1,17 @@
 -- What a pack of the file leaves, at every moment and in the end.
-use Rattle.std.proofs.Common.{◌≡◌, ◌⊎◌, inl, inr, ⊎_elim, ℕ, ◌-◌, ◌≤◌, Bool, true, false, List, [], Option, Some, None, Err, sym, ap, subst, ◌∙◌, arith}
+use Rattle.std.proofs.Common.{◌≡◌, ◌⊎◌, inl, inr, ⊎_elim, ℕ, ◌-◌, ◌≤◌, Bool, true, false, List, Option, Some, None, Result, Ok, Err, OnErr, sym, ap, subst, ◌∙◌, arith}
 use denote.Enum.Bare.{sameb}
 use Rattle.std.specs.Option.{ForSome}
 use Rattle.std.specs.Ordering.{nat_cmp}
 use Rattle.std.specs.FinSet.{FinSet}
-use Rattle.zb_volume.specs.declared.areas.Area.TheVariants.{Main, Side}
+use Rattle.zb_base.specs.Counts.{Rose}
+use Rattle.zb_volume.specs.declared.areas.Area.TheVariants.{Main, Side, Hint}
 use Rattle.zb_volume.specs.Calls.{Event}
 use Rattle.zb_volume.specs.Disk.{seen, IsSettled}
 use Rattle.zb_volume.specs.Lasting.{settled_leaves}
 use Rattle.zb_volume.specs.Moments.{Leaves, LeavesOnly, StaysAs}
 use Rattle.zb_volume.specs.Runs.{joined, leaves_less, stays_leaves}
+use Rattle.zb_volume.specs.States.{VolumeState, FaultsStand}
 use Rattle.zb_model.specs.declared.data.Transaction.{Transaction}
 use Rattle.zb_model.specs.declared.packs.Packed.{Packed}
 use Rattle.zb_model.specs.Packing.{packed_by}
@@ -22,7 +24,9 @@ use Rattle.zb_model.specs.Stores.{BegunPack, UnlessFault}
 use Rattle.fs_records.specs.File.{a_file}
 use Rattle.fs_records.specs.Listed.{listed, reached_in, reading_stands}
 use Rattle.fs_recovery.specs.Numbers.{NumbersKept}
+use Rattle.fs_index_file.specs.Writes.{ClosesFor}
 use Rattle.pack_copy.specs.CopiedLaws.{copied_stands}
+use Rattle.pack_copy.specs.Counting.{IsCopyCounted}
 use Rattle.pack_copy.specs.Copying.{CopyKept, IsCopied, IsSource, copied_in}
 use Rattle.file_store.specs.Kept.{IsKept, StandsForList, cut_of}
 use Rattle.file_store.specs.KeptLaws.{list_read}
@@ -71,6 +75,34 @@ unbroken T StoreFault broken P is whole unless =
     absurd (cc)
 unbroken T ReadFault broken P is whole unless = unless
 unbroken T Memory broken P is whole unless = unless
+
+-- ---- the index file is closed before
+
+pub unless_refused : {T : Type 0} (r : Result T StoreError) (P : Type 0) → P → OnErr r (UnlessFault r P)
+unless_refused (Ok x) P is = tt
+unless_refused (Err StoreFault) P is = tt
+unless_refused (Err ReadFault) P is = is
+unless_refused (Err Memory) P is = is
+
+unclosed_for : (T : Type 0) (old mid new : VolumeState) (e : StoreError) → ClosesFor mid new (Err e) → StaysAs Hint old.log mid.log → UnlessFault {T = T} (Err e) (StaysAs Hint old.log new.log)
+unclosed_for T old mid new StoreFault f stays = tt
+unclosed_for T old mid new ReadFault f stays = subst (λ (l : List Event). StaysAs Hint old.log l) (sym f.3) stays
+unclosed_for T old mid new Memory f stays = absurd f
+
+-- that was refused: it is as it was, unless a call of the volume failed that would change it
+pub unclosed : {T : Type 0} (old mid new : VolumeState) (r : Result T StoreError) (x e : StoreError) → r ≡ Err x → x ≡ e → ClosesFor mid new (Err e) → StaysAs Hint old.log mid.log → OnErr r (UnlessFault r (StaysAs Hint old.log new.log))
+unclosed {T} old mid new r x e is same f stays =
+    subst (λ (q : Result T StoreError). OnErr q (UnlessFault q (StaysAs Hint old.log new.log))) (sym is)
+    (subst (λ (y : StoreError). UnlessFault {T = T} (Err y) (StaysAs Hint old.log new.log)) (sym same) (unclosed_for T old mid new e f stays))
+
+counted_for : (T : Type 0) (old mid new : VolumeState) (e : StoreError) → FaultsStand old mid → ClosesFor mid new (Err e) → IsCopyCounted {T = T} old new (Err e)
+counted_for T old mid new StoreFault stand f = (f.2 ∙ stand.reads, subst (λ (n : ℕ). Rose n new.write_faults) stand.writes f.0, omega (arith, stand.writes, f.1))
+counted_for T old mid new ReadFault stand f = (subst (λ (n : ℕ). Rose n new.read_faults) stand.reads f.0, omega (arith, stand.reads, f.1), f.2 ∙ stand.writes)
+counted_for T old mid new Memory stand f = absurd f
+
+pub unclosed_counts : {T : Type 0} (old mid new : VolumeState) (r : Result T StoreError) (x e : StoreError) → r ≡ Err x → x ≡ e → FaultsStand old mid → ClosesFor mid new (Err e) → IsCopyCounted {T = T} old new r
+unclosed_counts {T} old mid new r x e is same stand f =
+    subst (λ (q : Result T StoreError). IsCopyCounted {T = T} old new q) (sym is) (subst (λ (y : StoreError). IsCopyCounted {T = T} old new (Err y)) (sym same) (counted_for T old mid new e stand f))
 
 module _ (log mid : List Event) (stays : StaysAs Main log mid) (settled : IsSettled log Main) (packed : List Transaction) where
   abbrev OneOfTwo : List ℕ → Type 0

@@ -1,4 +1,7 @@
+pub mod EndLaws
 pub mod First
+pub mod Hinting
+pub mod HintingLaws
 pub mod Kept
 pub mod KeptLaws
 pub mod Opening

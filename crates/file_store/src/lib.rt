@@ -11,4 +11,5 @@ mod staging;
 mod store;
 mod switching;
 
+pub use opening::open_with_hint;
 pub use store::FileStore;

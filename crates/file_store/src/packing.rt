@@ -1,9 +1,9 @@
 //! The file is packed: the copy of its packed list is made whole, and takes its place.
 
-ghost use Rattle.std.specs.Prelude.{IfOk, OnErr};
-ghost use Rattle.zb_volume.specs.declared.areas.Area.TheVariants.{Main, Side};
+ghost use Rattle.std.specs.Prelude.{IfOk, OnOk, OnErr};
+ghost use Rattle.zb_volume.specs.declared.areas.Area.TheVariants.{Main, Side, Hint};
 ghost use Rattle.zb_volume.specs.Disk.{seen, IsSettled};
-ghost use Rattle.zb_volume.specs.Moments.{LeavesOnly, StaysAs};
+ghost use Rattle.zb_volume.specs.Moments.{Along, LeavesOnly, StaysAs};
 ghost use Rattle.zb_model.specs.Packing.{packed_by};
 ghost use Rattle.zb_model.specs.Packs.{IsPackCount, IsPrefixOf, StandsForOneOfTwo};
 ghost use Rattle.zb_model.specs.Stores.{UnlessFault};
@@ -12,22 +12,25 @@ ghost use Rattle.fs_recovery.specs.Numbers.{AreNumbersOf};
 ghost use Rattle.fs_recovery.specs.Opens.{IsBounded};
 ghost use Rattle.pack_copy.specs.Copying.{IsCopied, IsSource};
 ghost use Rattle.pack_copy.specs.Counting.{IsCopyCounted};
+ghost use Rattle.fs_index_file.specs.Writes.{IsClosed};
+ghost use Rattle.file_store.specs.Hinting.{LeavesOfFront};
 ghost use Rattle.file_store.specs.Kept.{StandsForList};
 ghost use Rattle.file_store.specs.Packing.{IsPackedMain};
 
 use crate::staging::StagedIndex;
 use crate::switching::{Switched, switch};
+use fs_index_file::close_hint;
 use fs_recovery::Numbers;
 use pack_copy::{CopyState, copy_rest};
 use std::alloc::Global;
 use zb_model::{OidSet, StoreError};
 use zb_volume::{StoreFault, Volume};
 
-/// Copies what is left of the packed list to Side, and puts Side in the place of Main. The answer is what
-/// is known of Main then, with the counts of the pack.
+/// Copies what is left of the packed list to Side, closes the index file, and puts Side in the place of
+/// Main. The answer is what is known of Main then, with the counts of the pack.
 ///
-/// `ReadFault` and `Memory` come before Main is touched; no memory is taken once Side is whole. At every
-/// moment a crash leaves of Main what stands for the list or for the packed one.
+/// `ReadFault` and `Memory` come before Main or Hint is touched; no memory is taken once Side is whole. At
+/// every moment a crash leaves of Main what stands for the list or for the packed one.
 pub(crate) fn pack_file<V: Volume>(
     alloc: Global,
     volume: &mut V,
@@ -56,9 +59,17 @@ pub(crate) fn pack_file<V: Volume>(
         (StandsForOneOfTwo StandsForList (listed (seen (V.state volume.old).log Main))
         (packed_by copy.tid keep.now (listed (seen (V.state volume.old).log Main))))
         (V.state volume.old).log (V.state volume.new).log }
+    ensures hint { V.told → IsSettled (V.state volume.old).log Hint
+        → LeavesOfFront (V.state volume.old).log
+        → Along LeavesOfFront (V.state volume.old).log (V.state volume.new).log }
+    ensures closed { V.told → IsSettled (V.state volume.old).log Hint → OnOk result
+        (IsClosed (seen (V.state volume.new).log Hint) × IsSettled (V.state volume.new).log Hint) }
+    ensures unclosed { V.told → OnErr result
+        (UnlessFault result (StaysAs Hint (V.state volume.old).log (V.state volume.new).log)) }
     ensures faults { IsCopyCounted (V.state volume.old) (V.state volume.new) result }
 {
     copy_rest(alloc, volume, index.index(), &mut copy, keep)?;
+    close_hint(volume)?;
     match switch(volume, numbers, copy) {
         Ok(switched) => Ok(switched),
         Err(StoreFault) => Err(StoreError::StoreFault),

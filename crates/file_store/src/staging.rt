@@ -140,6 +140,7 @@ impl StagedIndex {
     pub(crate) fn keep(&mut self)
         ensures kept { ForSome self.old.staged (λ s. IsWith s self.old self.new) }
         ensures staged { self.new.staged ≡ None }
+        ensures end { self.old.end ≤ self.new.end }
     {
         if let Some(staged) = self.staged.take() {
             let start = Place {

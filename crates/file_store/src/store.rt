@@ -2,8 +2,12 @@
 
 ghost use Rattle.std.specs.Prelude.{◌≡◌, None, Some, false, length, option_map, IfErr, IfOk};
 ghost use Rattle.std.specs.Option.{ForSome};
-ghost use Rattle.zb_volume.specs.declared.areas.Area.TheVariants.{Main, Side};
+ghost use Rattle.zb_volume.specs.declared.areas.Area.TheVariants.{Main, Side, Hint};
 ghost use Rattle.zb_volume.specs.Disk.{seen, IsSettled};
+ghost use Rattle.zb_volume.specs.States.{OthersStay};
+ghost use Rattle.zb_model.specs.Stores.{BreaksByFault, HasStoreCause};
+ghost use Rattle.file_store.specs.Hinting.{HasHonestHint, IsHintedUpTo, KeepsStore, IsHinted, LeavesHonest, StaysHonest};
+ghost use Rattle.file_store.specs.HintingLaws.{hinted_once};
 ghost use Rattle.file_store.specs.Kept.{HasRoomForTally, IsCopyKept, IsKept, IsVotedIn, StandsForList};
 ghost use Rattle.file_store.specs.KeptLaws.{copied_once, kept_once, voted_once};
 ghost use Rattle.file_store.specs.Outcomes.{AsksClock, IsOpenStore, IsRefusal};
@@ -16,6 +20,7 @@ use crate::staging::StagedIndex;
 use crate::switching::Switched;
 use fs_append as append;
 use fs_index::last_of;
+use fs_index_file::write_hint;
 use fs_reading::{
     read_before, read_first_after, read_history_at, read_transaction_with, read_undo_log_at,
 };
@@ -52,6 +57,7 @@ pub struct FileStore<V: Volume> {
         → ForSome index.staged (λ s. IsVotedIn (seen (V.state volume).log Main) s index) } by { voted_once V.told (broken ≡ false) (seen (V.state volume).log Main) index },
     ghost copied: { V.told → broken ≡ false
         → ForSome copy (λ c. IsCopyKept (seen (V.state volume).log Side) c) } by { copied_once V.told (broken ≡ false) (seen (V.state volume).log Side) copy },
+    ghost hint: { V.told → IsHinted (V.state volume).log broken index.end } by { hinted_once V.told (V.state volume).log broken index.end },
 }
 
 impl<V: Volume + Drop> FileStore<V> {
@@ -64,15 +70,23 @@ impl<V: Volume + Drop> FileStore<V> {
     /// error but `StoreFault` comes only where no call of the volume failed. Where the file is opened,
     /// none has failed, and Main's bytes are as they were without the tail, or, where it was empty, the
     /// file of a new database.
+    ///
+    /// The index file in Hint has to be honest, as an empty one is: then opening reads Main on from its
+    /// end. It is closed before a file is made, and is honest at every moment.
     pub fn create_or_open<C: Clock>(
         alloc: Global,
         mut volume: V,
         clock: &mut C,
     ) -> Result<(FileStore<V>, Option<u64>), (OpenError, V)>
+        requires { V.told → HasHonestHint (V.state volume).log }
         ensures store { IfOk result (λ r. IsOpenStore V.told (C.stamps clock.old) (V.state volume)
             (⟦<FileStore<V> as Store>⟧.state r.0) r.1) }
         ensures refused { IfErr result (λ e.
             IsRefusal V.told (C.stamps clock.old) (V.state volume) (V.state e.1) e.0) }
+        ensures hint { V.told → IsSettled (V.state volume).log Main → IfOk result (λ r.
+            StaysHonest (V.state volume).log (⟦<FileStore<V> as Store>⟧.state r.0).log) }
+        ensures hint_left { V.told → IsSettled (V.state volume).log Main → IfErr result (λ e.
+            StaysHonest (V.state volume).log (V.state e.1).log) }
         ensures clock { AsksClock V.told (V.state volume).log (C.stamps clock.old)
             (C.stamps clock.new) result }
     {
@@ -96,13 +110,55 @@ impl<V: Volume + Drop> FileStore<V> {
         }
     }
 
+    /// Writes the index file of the list, and answers the place in Main up to which it goes: the end of the
+    /// last transaction. What is voted and a pack that is begun stay so.
+    ///
+    /// Want of memory is answered before anything is written; after a `StoreFault` the store is broken.
+    /// At every moment the index file is honest.
+    pub fn write_hint(&mut self, alloc: Global) -> Result<u64, StoreError>
+        requires { (⟦<FileStore<V> as Store>⟧.state self.old).broken ≡ false }
+        ensures written { V.told → IfOk result
+            (IsHintedUpTo (⟦<FileStore<V> as Store>⟧.state self.new).log) }
+        ensures hint { V.told → StaysHonest (⟦<FileStore<V> as Store>⟧.state self.old).log
+            (⟦<FileStore<V> as Store>⟧.state self.new).log }
+        ensures others { V.told → OthersStay Hint (⟦<FileStore<V> as Store>⟧.state self.old).log
+            (⟦<FileStore<V> as Store>⟧.state self.new).log }
+        ensures keeps { KeepsStore V.told (⟦<FileStore<V> as Store>⟧.state self.old)
+            (⟦<FileStore<V> as Store>⟧.state self.new) }
+        ensures fault { BreaksByFault (⟦<FileStore<V> as Store>⟧.state self.new) result }
+        ensures cause { HasStoreCause (⟦<FileStore<V> as Store>⟧.state self.old)
+            (⟦<FileStore<V> as Store>⟧.state self.new) result }
+    {
+        let end = self.index.end();
+        self.broken = true;
+        match write_hint(
+            alloc,
+            &mut self.volume,
+            self.index.index(),
+            &self.numbers,
+            end,
+        ) {
+            Ok(()) => {
+                self.broken = false;
+                Ok(end)
+            }
+            Err(error) => {
+                self.broken = error == StoreError::StoreFault;
+                Err(error)
+            }
+        }
+    }
+
     /// The volume, whether the store is broken or not; where it isn't, Main stands for the list. What is
     /// voted is dropped from the store alone: its bytes still stand behind the file, and are cut off
-    /// when that is opened.
+    /// when that is opened. Whatever a crash leaves of the index file is honest.
     pub fn into_volume(self) -> V
         ensures stands { V.told → (⟦<FileStore<V> as Store>⟧.state self).broken ≡ false
             → StandsForList (seen (V.state result).log Main)
             (⟦<FileStore<V> as Store>⟧.state self).list }
+        ensures hint { V.told → LeavesHonest (V.state result).log }
+        ensures honest { V.told → (⟦<FileStore<V> as Store>⟧.state self).broken ≡ false
+            → HasHonestHint (V.state result).log }
         ensures log { (V.state result).log ≡ (⟦<FileStore<V> as Store>⟧.state self).log }
         ensures faults { (V.state result).write_faults
             ≡ (⟦<FileStore<V> as Store>⟧.state self).faults }

@@ -4,7 +4,7 @@ ghost use Rattle.std.specs.Prelude.{◌≡◌, ◌⊎◌, ◌-◌, ◌∷◌, If
 ghost use Rattle.zb_volume.specs.declared.areas.Area.{Area};
 ghost use Rattle.zb_volume.specs.Calls.{Replaced, Synced};
 ghost use Rattle.zb_volume.specs.Disk.{seen, IsSettled};
-ghost use Rattle.zb_volume.specs.Moments.{LeavesOnly};
+ghost use Rattle.zb_volume.specs.Moments.{LeavesOnly, StaysAs};
 ghost use Rattle.fs_records.specs.Listed.{listed};
 ghost use Rattle.fs_recovery.specs.Numbers.{AreNumbersOf};
 ghost use Rattle.fs_recovery.specs.Opens.{IsBounded};
@@ -12,10 +12,11 @@ ghost use Rattle.zb_model.specs.Packs.{change_count};
 ghost use Rattle.pack_copy.specs.Copying.{IsCopied, opened_of};
 ghost use Rattle.zb_volume.specs.States.{OnlyWrites};
 
+use fs_append::replace_main;
 use fs_recovery::{Numbers, Opened};
 use pack_copy::{CopyState, changes_of};
 use zb_model::Packed;
-use zb_volume::{StoreFault, Volume, sync_and_replace};
+use zb_volume::{StoreFault, Volume};
 
 /// A file that was packed.
 #[derive(Drop)]
@@ -33,7 +34,7 @@ pub(crate) struct Switched {
 ///
 /// At every moment a crash leaves of Main the old file, or the whole of the one on Side; after `Ok`,
 /// the latter alone, and Side is empty: that follows of the two calls. After a fault either may be
-/// left.
+/// left. Hint stays.
 pub(crate) fn switch<V: Volume>(
     volume: &mut V,
     from: &Numbers,
@@ -57,11 +58,12 @@ pub(crate) fn switch<V: Volume>(
         (λ image. (image ≡ seen (V.state volume.old).log Area.Main)
         ⊎ (image ≡ seen (V.state volume.old).log Area.Side))
         (V.state volume.old).log (V.state volume.new).log }
+    ensures hint { V.told → StaysAs Area.Hint (V.state volume.old).log (V.state volume.new).log }
     ensures write { OnlyWrites (V.state volume.old) (V.state volume.new) result }
 {
     let kept = copy.changes();
     let dropped = changes_of(from).saturating_sub(kept);
-    sync_and_replace(volume)?;
+    replace_main(volume)?;
     Ok(Switched {
         opened: copy.into_opened(),
         packed: Packed { kept, dropped },

@@ -27,6 +27,7 @@ pub fn begin<V: Volume>(alloc: Global, volume: &mut V, tid: Tid) -> Result<CopyS
     ensures empty { V.told → OnOk result (listed (seen (V.state volume.new).log Area.Side) ≡ []) }
     ensures tid { IfOk result (λ c. c.tid ≡ tid) }
     ensures main { V.told → StaysAs Area.Main (V.state volume.old).log (V.state volume.new).log }
+    ensures hint { V.told → StaysAs Area.Hint (V.state volume.old).log (V.state volume.new).log }
     ensures write { OnlyWrites (V.state volume.old) (V.state volume.new) result }
 {
     volume.cut(Area::Side, 0)?;

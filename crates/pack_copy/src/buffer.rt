@@ -62,6 +62,7 @@ fn write_behind<V: Volume>(volume: &mut V, end: u64, text: &[u8]) -> Result<(), 
         ≡ seen (V.state volume.old).log Area.Side ++ text.now) }
     ensures limit { OnOk result (end + length text.now < 2 ^ 63) }
     ensures main { V.told → StaysAs Area.Main (V.state volume.old).log (V.state volume.new).log }
+    ensures hint { V.told → StaysAs Area.Hint (V.state volume.old).log (V.state volume.new).log }
     ensures counts { IsCopyCounted (V.state volume.old) (V.state volume.new) result }
 {
     match volume.write_at(Area::Side, end, text) {
@@ -96,6 +97,8 @@ impl Buffer {
         ensures empty { OnOk result (self.new.bytes ≡ []) }
         ensures main { V.told
             → StaysAs Area.Main (V.state volume.old).log (V.state volume.new).log }
+        ensures hint { V.told
+            → StaysAs Area.Hint (V.state volume.old).log (V.state volume.new).log }
         ensures counts { IsCopyCounted (V.state volume.old) (V.state volume.new) result }
     {
         write_behind(volume, self.end, &self.bytes[..self.held])?;
@@ -112,6 +115,8 @@ impl Buffer {
         ensures room { OnOk result (length self.new.bytes < 65536) }
         ensures main { V.told
             → StaysAs Area.Main (V.state volume.old).log (V.state volume.new).log }
+        ensures hint { V.told
+            → StaysAs Area.Hint (V.state volume.old).log (V.state volume.new).log }
         ensures counts { IsCopyCounted (V.state volume.old) (V.state volume.new) result }
     {
         if self.held < PIECE {
@@ -170,6 +175,8 @@ impl Buffer {
             (V.state volume.new).log self.new bytes.now) }
         ensures main { V.told
             → StaysAs Area.Main (V.state volume.old).log (V.state volume.new).log }
+        ensures hint { V.told
+            → StaysAs Area.Hint (V.state volume.old).log (V.state volume.new).log }
         ensures counts { IsCopyCounted (V.state volume.old) (V.state volume.new) result }
     {
         are_bytes(bytes);
@@ -197,6 +204,8 @@ impl Buffer {
             (take count (drop at (main_bytes (V.state volume.old).log)))) }
         ensures main { V.told
             → StaysAs Area.Main (V.state volume.old).log (V.state volume.new).log }
+        ensures hint { V.told
+            → StaysAs Area.Hint (V.state volume.old).log (V.state volume.new).log }
         ensures counts { IsCopyCounted (V.state volume.old) (V.state volume.new) result }
     {
         let mut done = 0;

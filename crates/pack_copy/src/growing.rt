@@ -97,6 +97,7 @@ pub(crate) fn append<V: Volume>(
         ≡ listed (seen (V.state volume.old).log Area.Side)
         ++ outlined_transaction (main_bytes (V.state volume.old).log) outline.now ∷ []) }
     ensures main { V.told → StaysAs Area.Main (V.state volume.old).log (V.state volume.new).log }
+    ensures hint { V.told → StaysAs Area.Hint (V.state volume.old).log (V.state volume.new).log }
     ensures newest { OnOk result (newest_kept to.new.index ≡ outline.now.tid) }
     ensures tid { to.new.tid ≡ to.old.tid }
     ensures counts { IsCopyCounted (V.state volume.old) (V.state volume.new) result }

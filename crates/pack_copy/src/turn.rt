@@ -130,6 +130,7 @@ fn copy_one<V: Volume>(
     ensures unmoved { IfOk result (λ over. over ≡ false → ((V.state volume.new).log
         ≡ (V.state volume.old).log) × (to.new ≡ to.old)) }
     ensures main { V.told → StaysAs Area.Main (V.state volume.old).log (V.state volume.new).log }
+    ensures hint { V.told → StaysAs Area.Hint (V.state volume.old).log (V.state volume.new).log }
     ensures counts { IsCopyCounted (V.state volume.old) (V.state volume.new) result }
 {
     let outline = read_at(alloc, volume, start)?;
@@ -176,6 +177,7 @@ fn copy_from<V: Volume>(
     ensures rest { extent ≡ Extent.Rest → IfOk result (λ whole. whole ≡ true) }
     ensures tid { to.new.tid ≡ to.old.tid }
     ensures main { V.told → StaysAs Area.Main (V.state volume.old).log (V.state volume.new).log }
+    ensures hint { V.told → StaysAs Area.Hint (V.state volume.old).log (V.state volume.new).log }
     ensures counts { IsCopyCounted (V.state volume.old) (V.state volume.new) result }
 {
     let mut buffer = Buffer::new(alloc)?;
@@ -229,6 +231,7 @@ pub fn copy_turn<V: Volume>(
         (copied_in to.new.tid (seen (V.state volume.new).log Area.Side))) }
     ensures tid { to.new.tid ≡ to.old.tid }
     ensures main { V.told → StaysAs Area.Main (V.state volume.old).log (V.state volume.new).log }
+    ensures hint { V.told → StaysAs Area.Hint (V.state volume.old).log (V.state volume.new).log }
     ensures counts { IsCopyCounted (V.state volume.old) (V.state volume.new) result }
 {
     let first = count_up_to(from.transactions(), to.newest());
@@ -265,6 +268,7 @@ pub fn copy_rest<V: Volume>(
         (listed (seen (V.state volume.old).log Area.Main)))) }
     ensures tid { to.new.tid ≡ to.old.tid }
     ensures main { V.told → StaysAs Area.Main (V.state volume.old).log (V.state volume.new).log }
+    ensures hint { V.told → StaysAs Area.Hint (V.state volume.old).log (V.state volume.new).log }
     ensures counts { IsCopyCounted (V.state volume.old) (V.state volume.new) result }
 {
     let first = count_up_to(from.transactions(), to.newest());

@@ -83,6 +83,7 @@ fn put_payload<V: Volume>(
         (payload_text (full_payload
         (outlined_content (main_bytes (V.state volume.old).log) source)))) }
     ensures main { V.told → StaysAs Area.Main (V.state volume.old).log (V.state volume.new).log }
+    ensures hint { V.told → StaysAs Area.Hint (V.state volume.old).log (V.state volume.new).log }
     ensures counts { IsCopyCounted (V.state volume.old) (V.state volume.new) result }
 {
     match source {
@@ -115,6 +116,7 @@ fn put_record<V: Volume>(
     ensures room { V.told → OnOk result
         (HasRoom (record_in places.now.entries (main_bytes (V.state volume.old).log) change.now)) }
     ensures main { V.told → StaysAs Area.Main (V.state volume.old).log (V.state volume.new).log }
+    ensures hint { V.told → StaysAs Area.Hint (V.state volume.old).log (V.state volume.new).log }
     ensures counts { IsCopyCounted (V.state volume.old) (V.state volume.new) result }
 {
     let header = DataHeader {
@@ -149,6 +151,7 @@ fn put_records<V: Volume>(
     ensures room { V.told → OnOk result (AllByRecursion HasRoom
         (map (record_in places.now.entries (main_bytes (V.state volume.old).log)) changes.now)) }
     ensures main { V.told → StaysAs Area.Main (V.state volume.old).log (V.state volume.new).log }
+    ensures hint { V.told → StaysAs Area.Hint (V.state volume.old).log (V.state volume.new).log }
     ensures counts { IsCopyCounted (V.state volume.old) (V.state volume.new) result }
 {
     'record: for change in changes {
@@ -170,6 +173,7 @@ fn put_head<V: Volume>(
         (header_text header.now
         ++ (outline.now.user ++ (outline.now.description ++ outline.now.extension)))) }
     ensures main { V.told → StaysAs Area.Main (V.state volume.old).log (V.state volume.new).log }
+    ensures hint { V.told → StaysAs Area.Hint (V.state volume.old).log (V.state volume.new).log }
     ensures counts { IsCopyCounted (V.state volume.old) (V.state volume.new) result }
 {
     buffer.put(volume, &write_header(header))?;
@@ -208,6 +212,7 @@ pub(crate) fn write_block<V: Volume>(
         (map (record_in places.now.entries
         (main_bytes (V.state volume.old).log)) outline.now.changes)) }
     ensures main { V.told → StaysAs Area.Main (V.state volume.old).log (V.state volume.new).log }
+    ensures hint { V.told → StaysAs Area.Hint (V.state volume.old).log (V.state volume.new).log }
     ensures counts { IsCopyCounted (V.state volume.old) (V.state volume.new) result }
 {
     let length = end - 8 - at;

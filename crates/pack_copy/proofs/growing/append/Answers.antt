@@ -1,5 +1,5 @@
 use Rattle.std.proofs.Common.{◌≡◌, refl, ap}
-use Rattle.zb_volume.specs.declared.areas.Area.TheVariants.{Main, Side}
+use Rattle.zb_volume.specs.declared.areas.Area.TheVariants.{Main, Side, Hint}
 use Rattle.zb_volume.specs.Disk.{seen}
 use Rattle.zb_volume.specs.Moments.{here}
 use Rattle.pack_copy.specs.Copying.{CopyKept}
@@ -9,6 +9,9 @@ use Rattle.pack_copy.proofs.growing.append.Goals as goal
 
 pub returns-in_err-ready-clause-main : goal.returns-in_err-ready-clause-main
 returns-in_err-ready-clause-main g c = λ told. here refl
+
+pub returns-in_err-ready-clause-hint : goal.returns-in_err-ready-clause-hint
+returns-in_err-ready-clause-hint g c = λ told. here refl
 
 pub keep-requires-clause-next : goal.keep-requires-clause-next
 keep-requires-clause-next g c = stands_next c.make_ready.new.self c.args.outline.now c.in_ok-ready.ready c.requires.outline c.in_ok-ready.ensures.ready

@@ -1,5 +1,5 @@
 use Rattle.std.proofs.Common.{◌≡◌, ◌≤◌, ℕ, Bool, ◌+◌, List, refl, sym, subst, ◌∙◌, arith}
-use Rattle.zb_volume.specs.declared.areas.Area.TheVariants.{Main, Side}
+use Rattle.zb_volume.specs.declared.areas.Area.TheVariants.{Main, Side, Hint}
 use Rattle.zb_volume.specs.Calls.{Event}
 use Rattle.zb_volume.specs.Disk.{seen}
 use Rattle.zb_volume.specs.Moments.{here}
@@ -21,6 +21,7 @@ copy-init g c =
     let first : c.args.first ≡ c.args.first + 0 = omega arith in
     record {
       main = λ told. here refl;
+      hint = λ told. here refl;
       up_to = λ told. subst (λ (n : ℕ). IsCopiedUpTo (listed (seen (g.V.Volume.state c.args.volume.now).log Main)) (seen (g.V.Volume.state c.args.volume.now).log Side) c.args.to.now c.args.keep.now n) first (c.requires.up_to told);
       short = λ told before is k above within. absurd (omega (arith, above, within));
       above = subst (λ (n : ℕ). IsBelowNext c.args.from.now.transactions (newest_kept c.args.to.now.index) n) first c.requires.above;
@@ -45,6 +46,9 @@ copy_one-requires-clause-next g c = λ told.
 pub returns-in_err-over-clause-main : goal.returns-in_err-over-clause-main
 returns-in_err-over-clause-main g c = λ told. stays_join Main _ _ _ (c.copy.invariant.main told) (c.copy_one.ensures.main told)
 
+pub returns-in_err-over-clause-hint : goal.returns-in_err-over-clause-hint
+returns-in_err-over-clause-hint g c = λ told. stays_join Hint _ _ _ (c.copy.invariant.hint told) (c.copy_one.ensures.hint told)
+
 -- how the next transaction was gone over
 next : (g : _) (c : In_ok-over g) → g.V.Volume.told
     → GoesOn (listed (seen (g.V.Volume.state c.args.volume.now).log Main)) (seen (g.V.Volume.state c.copy_one.new.volume).log Side) c.copy_one.new.to c.args.keep.now (c.args.first + c.copy.start-index) c.in_ok-over.over
@@ -64,6 +68,7 @@ copy-preserved g c =
     let after : (c.args.first + c.copy.start-index) + 1 ≡ c.args.first + (c.copy.start-index + 1) = omega arith in
     record {
       main = λ told. stays_join Main _ _ _ (c.copy.invariant.main told) (c.copy_one.ensures.main told);
+      hint = λ told. stays_join Hint _ _ _ (c.copy.invariant.hint told) (c.copy_one.ensures.hint told);
       up_to = λ told.
           subst (λ (n : ℕ). IsCopiedUpTo (listed main) (seen (g.V.Volume.state c.copy_one.new.volume).log Side) c.copy_one.new.to c.args.keep.now n) after
           (subst (λ (b : Bool). GoesOn (listed main) (seen (g.V.Volume.state c.copy_one.new.volume).log Side) c.copy_one.new.to c.args.keep.now (c.args.first + c.copy.start-index) b) c.if-not-over.false (next g (goal.at.copy-preserved g c).In_ok-over told));
@@ -118,3 +123,6 @@ returns-clause-ends g c = λ told. record {
 
 pub returns-in_err-buffer-clause-main : goal.returns-in_err-buffer-clause-main
 returns-in_err-buffer-clause-main g c = λ told. here refl
+
+pub returns-in_err-buffer-clause-hint : goal.returns-in_err-buffer-clause-hint
+returns-in_err-buffer-clause-hint g c = λ told. here refl

@@ -1,5 +1,5 @@
 use Rattle.std.proofs.Common.{◌≡◌, ℕ, ◌+◌}
-use Rattle.zb_volume.specs.declared.areas.Area.TheVariants.{Main, Side}
+use Rattle.zb_volume.specs.declared.areas.Area.TheVariants.{Main, Side, Hint}
 use Rattle.zb_volume.specs.Disk.{seen}
 use Rattle.zb_volume.specs.Moments.{StaysAs}
 use Rattle.fs_records.specs.Listed.{listed}
@@ -13,6 +13,7 @@ use Rattle.pack_copy.proofs.turn.copy_from.Given as goal
 abbrev pub invariant-copy : goal.invariant-copy
 invariant-copy g l = record {
   main : g.V.Volume.told → StaysAs Main (g.V.Volume.state l.fn.volume).log (g.V.Volume.state l.volume).log;
+  hint : g.V.Volume.told → StaysAs Hint (g.V.Volume.state l.fn.volume).log (g.V.Volume.state l.volume).log;
   up_to : g.V.Volume.told → IsCopiedUpTo (listed (seen (g.V.Volume.state l.fn.volume).log Main)) (seen (g.V.Volume.state l.volume).log Side) l.to l.fn.keep (l.fn.first + l.start-index);
   short : g.V.Volume.told → (before : ℕ) → l.fn.extent ≡ Turn before → AreShort before (listed (seen (g.V.Volume.state l.fn.volume).log Side)) (listed (seen (g.V.Volume.state l.volume).log Side));
   above : IsBelowNext l.fn.from.transactions (newest_kept l.to.index) (l.fn.first + l.start-index);

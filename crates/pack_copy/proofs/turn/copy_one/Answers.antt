@@ -1,5 +1,5 @@
 use Rattle.std.proofs.Common.{ℕ, ◌+◌, ◌<◌, List, [], ◌∷◌, ◌++◌, length, ap, sym, subst, ◌∙◌, arith}
-use Rattle.zb_volume.specs.declared.areas.Area.TheVariants.{Main, Side}
+use Rattle.zb_volume.specs.declared.areas.Area.TheVariants.{Main, Side, Hint}
 use Rattle.zb_volume.specs.Disk.{seen}
 use Rattle.zb_model.specs.Database.{newest_tid}
 use Rattle.fs_records.specs.Listed.{listed, reached_in}
@@ -19,6 +19,9 @@ read_at-requires g c = λ told.
 
 pub returns-in_err-outline-clause-main : goal.returns-in_err-outline-clause-main
 returns-in_err-outline-clause-main g c told = stays_same Main _ _ c.read_at.ensures.same
+
+pub returns-in_err-outline-clause-hint : goal.returns-in_err-outline-clause-hint
+returns-in_err-outline-clause-hint g c told = stays_same Hint _ _ c.read_at.ensures.same
 
 pub append-requires-clause-copied : goal.append-requires-clause-copied
 append-requires-clause-copied g c = λ told. subst (λ (b : List ℕ). IsCopied b c.args.to.now) (ap (λ l. seen l Side) (sym c.read_at.ensures.same)) (c.requires.next told).2.copied
@@ -60,6 +63,9 @@ returns-then-enough-clause-next g c = λ told number start upto.
 pub returns-then-enough-clause-main : goal.returns-then-enough-clause-main
 returns-then-enough-clause-main g c told = stays_same Main _ _ c.read_at.ensures.same
 
+pub returns-then-enough-clause-hint : goal.returns-then-enough-clause-hint
+returns-then-enough-clause-hint g c told = stays_same Hint _ _ c.read_at.ensures.same
+
 pub returns-in-None-clause-next : goal.returns-in-None-clause-next
 returns-in-None-clause-next g c = λ told number start upto.
     let main = seen (g.V.Volume.state c.args.volume.now).log Main in
@@ -70,6 +76,9 @@ returns-in-None-clause-next g c = λ told number start upto.
 
 pub returns-in-None-clause-main : goal.returns-in-None-clause-main
 returns-in-None-clause-main g c told = stays_same Main _ _ c.read_at.ensures.same
+
+pub returns-in-None-clause-hint : goal.returns-in-None-clause-hint
+returns-in-None-clause-hint g c told = stays_same Hint _ _ c.read_at.ensures.same
 
 -- ---- what is added
 

@@ -1,6 +1,6 @@
 use Rattle.std.proofs.Common.{◌≡◌, ℕ, ◌++◌, List, None, ap, sym, subst, ◌∙◌}
 use Rattle.std.specs.List.{last_or}
-use Rattle.zb_volume.specs.declared.areas.Area.TheVariants.{Main}
+use Rattle.zb_volume.specs.declared.areas.Area.TheVariants.{Main, Hint}
 use Rattle.zb_volume.specs.Disk.{main_bytes}
 use Rattle.fs_records.specs.declared.header.DataHeader.{DataHeader}
 use Rattle.fs_index.specs.declared.place.Place.{Place}
@@ -44,3 +44,6 @@ returns-clause-room g c = λ told.
 
 pub returns-clause-main : goal.returns-clause-main
 returns-clause-main g c = λ told. stays_join Main _ _ _ (c.put.ensures.main told) (c.put_payload.ensures.main told)
+
+pub returns-clause-hint : goal.returns-clause-hint
+returns-clause-hint g c = λ told. stays_join Hint _ _ _ (c.put.ensures.hint told) (c.put_payload.ensures.hint told)

@@ -1,7 +1,7 @@
 use Rattle.std.proofs.Common.{◌≡◌, ℕ, ◌+◌, ◌<◌, ◌^◌, List, [], ◌++◌, All, length, map, take, refl, sym, ap, subst, ◌∙◌, arith}
 use Rattle.std.specs.List.{AllByRecursion}
 use Rattle.std.proofs.lemmas.List.{take_all}
-use Rattle.zb_volume.specs.declared.areas.Area.TheVariants.{Main}
+use Rattle.zb_volume.specs.declared.areas.Area.TheVariants.{Main, Hint}
 use Rattle.zb_volume.specs.Disk.{main_bytes}
 use Rattle.zb_volume.specs.Moments.{here}
 use Rattle.fs_records.specs.Blocks.{record_text, records_text}
@@ -19,6 +19,7 @@ record-init g c = record {
   appended = λ told. appended_none (g.V.Volume.state c.args.volume.now).log c.args.buffer.now (c.requires.end told);
   room = λ told. tt;
   main = λ told. here refl;
+  hint = λ told. here refl;
   counts = record { reads = refl; writes = refl };
 }
 
@@ -35,6 +36,9 @@ put_record-requires-clause-within g c = λ told.
 
 pub returns-in_err-put_record-clause-main : goal.returns-in_err-put_record-clause-main
 returns-in_err-put_record-clause-main g c = λ told. stays_join Main _ _ _ (c.record.invariant.main told) (c.put_record.ensures.main told)
+
+pub returns-in_err-put_record-clause-hint : goal.returns-in_err-put_record-clause-hint
+returns-in_err-put_record-clause-hint g c = λ told. stays_join Hint _ _ _ (c.record.invariant.hint told) (c.put_record.ensures.hint told)
 
 pub record-preserved : goal.record-preserved
 record-preserved g c =
@@ -53,6 +57,7 @@ record-preserved g c =
           let same = seen_same Main _ _ (c.record.invariant.main told) in
           room_more entries main cs c.record.change-index one c.record-test.true c.change-item.is (c.record.invariant.room told) (subst (λ (xs : List ℕ). HasRoom (record_in entries xs one)) same (c.in_ok-put_record.ensures.room told));
       main = λ told. stays_join Main _ _ _ (c.record.invariant.main told) (c.put_record.ensures.main told);
+      hint = λ told. stays_join Hint _ _ _ (c.record.invariant.hint told) (c.put_record.ensures.hint told);
       counts = record {
         reads = c.in_ok-put_record.ensures.counts.reads ∙ c.record.invariant.counts.reads;
         writes = c.in_ok-put_record.ensures.counts.writes ∙ c.record.invariant.counts.writes;

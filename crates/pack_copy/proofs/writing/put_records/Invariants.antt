@@ -1,6 +1,6 @@
 use Rattle.std.proofs.Common.{◌≡◌, map, take}
 use Rattle.std.specs.List.{AllByRecursion}
-use Rattle.zb_volume.specs.declared.areas.Area.TheVariants.{Main}
+use Rattle.zb_volume.specs.declared.areas.Area.TheVariants.{Main, Hint}
 use Rattle.zb_volume.specs.Disk.{main_bytes}
 use Rattle.zb_volume.specs.Moments.{StaysAs}
 use Rattle.fs_records.specs.Blocks.{records_text}
@@ -17,5 +17,6 @@ invariant-record g l = record {
       (records_text l.at l.tid (map (record_in l.places.entries (main_bytes (g.V.Volume.state l.fn.volume).log)) (take l.change-index l.changes)));
   room : g.V.Volume.told → AllByRecursion HasRoom (map (record_in l.places.entries (main_bytes (g.V.Volume.state l.fn.volume).log)) (take l.change-index l.changes));
   main : g.V.Volume.told → StaysAs Main (g.V.Volume.state l.fn.volume).log (g.V.Volume.state l.volume).log;
+  hint : g.V.Volume.told → StaysAs Hint (g.V.Volume.state l.fn.volume).log (g.V.Volume.state l.volume).log;
   counts : FaultsStand (g.V.Volume.state l.fn.volume) (g.V.Volume.state l.volume);
 }

@@ -1,7 +1,7 @@
 use Rattle.std.proofs.Common.{◌≡◌, ℕ, ◌+◌, ◌-◌, ◌++◌, List, [], cond, length, map, OnOk, refl, ap, subst, ◌∙◌, arith}
 use Rattle.std.specs.List.{AllByRecursion}
 use Rattle.zb_base.specs.Bytes.{AreBytes}
-use Rattle.zb_volume.specs.declared.areas.Area.TheVariants.{Main, Side}
+use Rattle.zb_volume.specs.declared.areas.Area.TheVariants.{Main, Side, Hint}
 use Rattle.zb_volume.specs.Disk.{main_bytes, seen}
 use Rattle.fs_records.specs.declared.header.Header.{Header}
 use Rattle.fs_records.specs.Blocks.{block_text, records_text}
@@ -24,12 +24,22 @@ overflow_sub-length-2 g c = omega (arith, c.requires.end, end_behind (records_be
 pub returns-in_err-put_records-clause-main : goal.returns-in_err-put_records-clause-main
 returns-in_err-put_records-clause-main g c = λ told. stays_join Main _ _ _ (c.put_head.ensures.main told) (c.put_records.ensures.main told)
 
+pub returns-in_err-put_records-clause-hint : goal.returns-in_err-put_records-clause-hint
+returns-in_err-put_records-clause-hint g c = λ told. stays_join Hint _ _ _ (c.put_head.ensures.hint told) (c.put_records.ensures.hint told)
+
 pub returns-in_err-put-clause-main : goal.returns-in_err-put-clause-main
 returns-in_err-put-clause-main g c = λ told. stays_join Main _ _ _ (stays_join Main _ _ _ (c.put_head.ensures.main told) (c.put_records.ensures.main told)) (c.put.ensures.main told)
+
+pub returns-in_err-put-clause-hint : goal.returns-in_err-put-clause-hint
+returns-in_err-put-clause-hint g c = λ told. stays_join Hint _ _ _ (stays_join Hint _ _ _ (c.put_head.ensures.hint told) (c.put_records.ensures.hint told)) (c.put.ensures.hint told)
 
 pub returns-clause-main : goal.returns-clause-main
 returns-clause-main g c = λ told.
     stays_join Main _ _ _ (stays_join Main _ _ _ (stays_join Main _ _ _ (c.put_head.ensures.main told) (c.put_records.ensures.main told)) (c.put.ensures.main told)) (c.flush.ensures.main told)
+
+pub returns-clause-hint : goal.returns-clause-hint
+returns-clause-hint g c = λ told.
+    stays_join Hint _ _ _ (stays_join Hint _ _ _ (stays_join Hint _ _ _ (c.put_head.ensures.hint told) (c.put_records.ensures.hint told)) (c.put.ensures.hint told)) (c.flush.ensures.hint told)
 
 -- the whole text was put behind Side and what is held
 whole : (g : _) (c : After-flush g) → g.V.Volume.told

@@ -14,3 +14,9 @@ returns-in-Err-clause-refused g c = c.in-Err.ensures.opening.refused
 
 pub returns-in-Err-clause-clock : goal.returns-in-Err-clause-clock
 returns-in-Err-clause-clock g c = let k = c.in-Err.ensures.clock in record { kept = k.kept; left = k.left; given = k.given }
+
+pub returns-in-Ok-clause-hint : goal.returns-in-Ok-clause-hint
+returns-in-Ok-clause-hint g c = λ told settled. c.in-Ok.ensures.hint told settled
+
+pub returns-in-Err-clause-hint_left : goal.returns-in-Err-clause-hint_left
+returns-in-Err-clause-hint_left g c = λ told settled. c.in-Err.ensures.hint told settled

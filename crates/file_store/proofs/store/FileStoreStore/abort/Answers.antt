@@ -7,6 +7,7 @@ use Rattle.file_store.specs.Kept.{IsVotedIn, HasRoomForTally}
 use Rattle.fs_index.specs.Places.{places_in}
 use Rattle.file_store.specs.Staging.{StagedKept}
 use Rattle.file_store.proofs.Commits.{staged_some, none_there, abort_moments, aborted}
+use Rattle.file_store.proofs.Hints.{at_last, fronts_stay, hinted_broken, hinted_on, whole_before}
 use Rattle.file_store.proofs.Leaves.{abort_leaves, not_answered}
 use Rattle.file_store.proofs.Sides.{copied_stays, keeps_begun}
 use Rattle.file_store.proofs.store.FileStoreStore.abort.Goals as goal
@@ -44,6 +45,23 @@ returns-in_err-abort-clause-any_moment g c = λ told.
     abort_moments (g.V.Volume.state self.volume).log self.index self.numbers (self.settled told c.requires.whole) (self.kept told c.requires.whole) (g.V.Volume.state c.abort.new.volume).log s.0 c.end.result s.1
     (self.voted told c.requires.whole s.0 s.1) c.end.ensures.value (c.abort.ensures.any_moment told)
 
+-- a call of the volume failed
+pub invariant_of-self : goal.invariant_of-self
+invariant_of-self g c =
+    let self = c.args.self.now in
+    record {
+      room = self.room;
+      settled = λ told whole. absurd cc;
+      kept = λ told whole. absurd cc;
+      voted = λ told whole. absurd cc;
+      copied = λ told whole. absurd cc;
+      hint = λ told.
+          let log = (g.V.Volume.state self.volume).log in
+          let new = (g.V.Volume.state c.abort.new.volume).log in
+          let was = whole_before log self.broken self.index.end c.requires.whole (self.hint told) in
+          hinted_broken new self.index.end (at_last log new (fronts_stay log new self.index.end c.end.result (self.settled told c.requires.whole) was c.end.ensures.value (c.abort.ensures.front told) (c.abort.ensures.hint told)));
+    }
+
 pub invariant_of-self-2 : goal.invariant_of-self-2
 invariant_of-self-2 g c =
     let self = c.args.self.now in
@@ -57,6 +75,11 @@ invariant_of-self-2 g c =
           (self.voted told c.requires.whole s.0 s.1) c.end.ensures.value (c.in_ok-abort.ensures.content told) (staged_of self.index c.take_back.new.self t) (end_of self.index c.take_back.new.self t) (newest_of self.index c.take_back.new.self t) (places_of self.index c.take_back.new.self t) (starts_of self.index c.take_back.new.self t)).0;
       voted = λ told whole. none_there Staged (λ x. IsVotedIn (seen (g.V.Volume.state c.abort.new.volume).log Main) x c.take_back.new.self) c.take_back.new.self.staged (staged_of self.index c.take_back.new.self t);
       copied = λ told whole. copied_stays (g.V.Volume.state self.volume).log (g.V.Volume.state c.abort.new.volume).log self.copy (c.abort.ensures.side told) (self.copied told c.requires.whole);
+      hint = λ told.
+          let log = (g.V.Volume.state self.volume).log in
+          let new = (g.V.Volume.state c.abort.new.volume).log in
+          let was = whole_before log self.broken self.index.end c.requires.whole (self.hint told) in
+          hinted_on log new self.index.end c.take_back.new.self.end was (omega (arith, end_of self.index c.take_back.new.self t)) (fronts_stay log new self.index.end c.end.result (self.settled told c.requires.whole) was c.end.ensures.value (c.abort.ensures.front told) (c.abort.ensures.hint told)) (c.abort.ensures.hint told);
     }
 
 pub returns-clause-leaves : goal.returns-clause-leaves

@@ -5,6 +5,7 @@ use Rattle.zb_model.specs.declared.data.Transaction.{Transaction}
 use Rattle.file_store.specs.declared.staged.Staged.{Staged}
 use Rattle.file_store.specs.Kept.{IsVotedIn, HasRoomForTally}
 use Rattle.file_store.proofs.Commits.{staged_some, some_mapped, none_there, finish_moments, finished}
+use Rattle.file_store.proofs.Hints.{at_last, finishing, hinted_broken, hinted_on, whole_before}
 use Rattle.file_store.proofs.Leaves.{finish_leaves}
 use Rattle.file_store.proofs.Sides.{copied_stays, keeps_begun}
 use Rattle.file_store.proofs.store.FileStoreStore.finish.Goals as goal
@@ -23,6 +24,23 @@ returns-in_err-finish-clause-any_moment g c = λ told t is.
     finish_moments (g.V.Volume.state self.volume).log self.index self.numbers (self.settled told c.requires.whole) (self.kept told c.requires.whole) (g.V.Volume.state c.finish.new.volume).log s.0 t c.end.result s.1
     (self.voted told c.requires.whole s.0 s.1) c.end.ensures.value s.2 (c.finish.ensures.any_moment told (self.settled told c.requires.whole))
 
+-- a call of the volume failed
+pub invariant_of-self : goal.invariant_of-self
+invariant_of-self g c =
+    let self = c.args.self.now in
+    record {
+      room = self.room;
+      settled = λ told whole. absurd cc;
+      kept = λ told whole. absurd cc;
+      voted = λ told whole. absurd cc;
+      copied = λ told whole. absurd cc;
+      hint = λ told.
+          let log = (g.V.Volume.state self.volume).log in
+          let new = (g.V.Volume.state c.finish.new.volume).log in
+          let was = whole_before log self.broken self.index.end c.requires.whole (self.hint told) in
+          hinted_broken new self.index.end (at_last log new (finishing log new self.index.end c.end.result (self.settled told c.requires.whole) was c.end.ensures.value (c.finish.ensures.any_moment told) (c.finish.ensures.hint told)));
+    }
+
 pub invariant_of-self-2 : goal.invariant_of-self-2
 invariant_of-self-2 g c =
     let self = c.args.self.now in
@@ -37,6 +55,11 @@ invariant_of-self-2 g c =
           (self.voted told c.requires.whole s.0 s.1) c.end.ensures.value (c.in_ok-finish.ensures.content told) none k (c.count_staged.ensures s.0 s.1);
       voted = λ told whole. none_there Staged (λ x. IsVotedIn (seen (g.V.Volume.state c.finish.new.volume).log Main) x c.keep.new.self) c.keep.new.self.staged none;
       copied = λ told whole. copied_stays (g.V.Volume.state self.volume).log (g.V.Volume.state c.finish.new.volume).log self.copy (c.finish.ensures.side told) (self.copied told c.requires.whole);
+      hint = λ told.
+          let log = (g.V.Volume.state self.volume).log in
+          let new = (g.V.Volume.state c.finish.new.volume).log in
+          let was = whole_before log self.broken self.index.end c.requires.whole (self.hint told) in
+          hinted_on log new self.index.end c.keep.new.self.end was c.keep.ensures.end (finishing log new self.index.end c.end.result (self.settled told c.requires.whole) was c.end.ensures.value (c.finish.ensures.any_moment told) (c.finish.ensures.hint told)) (c.finish.ensures.hint told);
     }
 
 pub returns-clause-any_moment : goal.returns-clause-any_moment

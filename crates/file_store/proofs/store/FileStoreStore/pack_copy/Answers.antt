@@ -1,4 +1,4 @@
-use Rattle.std.proofs.Common.{Option, ap, refl, sym, ◌∙◌}
+use Rattle.std.proofs.Common.{arith, Option, ap, refl, sym, ◌∙◌}
 use Rattle.zb_volume.specs.declared.areas.Area.TheVariants.{Side}
 use Rattle.zb_volume.specs.Disk.{seen}
 use Rattle.zb_model.specs.declared.packs.Copied.{Copied}
@@ -6,6 +6,7 @@ use Rattle.pack_copy.specs.Copying.{CopyKept}
 use Rattle.file_store.specs.Kept.{IsCopyKept}
 use Rattle.file_store.proofs.Commits.{none_there}
 use Rattle.file_store.proofs.Copies.{copy_is, only_copy}
+use Rattle.file_store.proofs.Hints.{hinted_on, hinted_or, keeps_both, whole_before}
 use Rattle.file_store.proofs.Leaves.{copy_leaves, unless_any}
 use Rattle.file_store.proofs.Sides.{begun_of, keeps_voted, kept_stays, list_stays, settled_stays, voted_stays}
 use Rattle.file_store.proofs.store.FileStoreStore.pack_copy.Goals as goal
@@ -26,6 +27,9 @@ invariant_of-self-in-Ok g c =
       kept = λ told whole. kept_stays log now (c.copy_turn.ensures.main told) self.index self.numbers (self.kept told c.requires.whole);
       voted = λ told whole. voted_stays log now (c.copy_turn.ensures.main told) self.index (self.voted told c.requires.whole);
       copied = λ told whole x some. only_copy (seen now Side) c.copy_turn.new.to x some (c.in-Ok.ensures.copied told);
+      hint = λ told.
+          let was = whole_before log self.broken self.index.end c.requires.whole (self.hint told) in
+          hinted_on log now self.index.end self.index.end was (omega arith) (keeps_both log now was.honest (c.copy_turn.ensures.main told) (c.copy_turn.ensures.hint told)) (c.copy_turn.ensures.hint told);
     }
 
 pub invariant_of-self-in-Err : goal.invariant_of-self-in-Err
@@ -39,6 +43,9 @@ invariant_of-self-in-Err g c =
       kept = λ told whole. kept_stays log now (c.copy_turn.ensures.main told) self.index self.numbers (self.kept told c.requires.whole);
       voted = λ told whole. voted_stays log now (c.copy_turn.ensures.main told) self.index (self.voted told c.requires.whole);
       copied = λ told whole. none_there CopyKept (λ x. IsCopyKept (seen now Side) x) c.take.new.self c.take.ensures.after;
+      hint = λ told.
+          let was = whole_before log self.broken self.index.end c.requires.whole (self.hint told) in
+          hinted_or log now _ self.index.end was (keeps_both log now was.honest (c.copy_turn.ensures.main told) (c.copy_turn.ensures.hint told)) (λ whole. c.copy_turn.ensures.hint told);
     }
 
 pub returns-in-Ok-clause-leaves : goal.returns-in-Ok-clause-leaves

@@ -1,5 +1,5 @@
 use Rattle.std.proofs.Common.{◌≡◌, false, Option, option_map, ap, length, refl, sym, ◌∙◌}
-use Rattle.zb_volume.specs.declared.areas.Area.TheVariants.{Main, Side}
+use Rattle.zb_volume.specs.declared.areas.Area.TheVariants.{Main, Side, Hint}
 use Rattle.zb_volume.specs.Disk.{seen}
 use Rattle.zb_volume.specs.Moments.{StaysAs}
 use Rattle.zb_model.specs.declared.packs.Packed.{Packed}
@@ -12,6 +12,7 @@ use Rattle.file_store.proofs.Commits.{none_staged, none_there}
 use Rattle.file_store.proofs.Copies.{copy_is}
 use Rattle.file_store.proofs.Packs.{switched_list, unbroken, unless_less}
 use Rattle.file_store.proofs.Shown.{newest_is}
+use Rattle.file_store.proofs.Hints.{hinted_closed, hinted_or, whole_before}
 use Rattle.file_store.proofs.Leaves.{switch_leaves}
 use Rattle.file_store.proofs.Sides.{begun_of, kept_stays, list_stays, settled_stays, voted_stays}
 use Rattle.file_store.proofs.store.FileStoreStore.pack_switch.Goals as goal
@@ -25,6 +26,10 @@ pack_file-requires-clause-copied g c = λ told.
 stays : (g : _) (c : goal.After-eq-self g) → g.V.Volume.told → c.eq-self.result ≡ false → StaysAs Main (g.V.Volume.state c.args.self.now.volume).log (g.V.Volume.state c.pack_file.new.volume).log
 stays g c told whole = unbroken Switched c.in-Err.error c.eq-self.result _ c.eq-self.ensures whole (c.in-Err.ensures.main told)
 
+-- and so does Hint
+hint_stays : (g : _) (c : goal.After-eq-self g) → g.V.Volume.told → c.eq-self.result ≡ false → StaysAs Hint (g.V.Volume.state c.args.self.now.volume).log (g.V.Volume.state c.pack_file.new.volume).log
+hint_stays g c told whole = unbroken Switched c.in-Err.error c.eq-self.result _ c.eq-self.ensures whole (c.in-Err.ensures.unclosed told)
+
 pub invariant_of-self-in-Err : goal.invariant_of-self-in-Err
 invariant_of-self-in-Err g c =
     let self = c.args.self.now in
@@ -36,6 +41,9 @@ invariant_of-self-in-Err g c =
       kept = λ told whole. kept_stays log now (stays g c told whole) self.index self.numbers (self.kept told c.requires.whole);
       voted = λ told whole. voted_stays log now (stays g c told whole) self.index (self.voted told c.requires.whole);
       copied = λ told whole. none_there CopyKept (λ x. IsCopyKept (seen now Side) x) c.take.new.self c.take.ensures.after;
+      hint = λ told.
+          let was = whole_before log self.broken self.index.end c.requires.whole (self.hint told) in
+          hinted_or log now _ self.index.end was (c.pack_file.ensures.hint told (was.settled refl) was.honest) (λ whole. hint_stays g c told whole);
     }
 
 pub invariant_of-self-in-Ok : goal.invariant_of-self-in-Ok
@@ -48,6 +56,11 @@ invariant_of-self-in-Ok g c =
       kept = λ told whole. let is = c.in-Ok.ensures.packed told in c.keep-ready.ensures.kept (seen now Main) is.whole is.fits is.long;
       voted = λ told whole. none_there Staged (λ x. IsVotedIn (seen now Main) x index) index.staged c.keep-ready.ensures.free;
       copied = λ told whole. none_there CopyKept (λ x. IsCopyKept (seen now Side) x) c.take.new.self c.take.ensures.after;
+      hint = λ told.
+          let log = (g.V.Volume.state c.args.self.now.volume).log in
+          let was = whole_before log c.args.self.now.broken c.args.self.now.index.end c.requires.whole (c.args.self.now.hint told) in
+          let shut = c.in-Ok.ensures.closed told (was.settled refl) in
+          hinted_closed now index.end shut.0 shut.1;
     }
 
 pub returns-in-Ok-clause-list : goal.returns-in-Ok-clause-list

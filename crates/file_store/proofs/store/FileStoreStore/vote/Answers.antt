@@ -1,13 +1,14 @@
-use Rattle.std.proofs.Common.{refl, option_map, Some, sym, ap, subst, ◌∙◌}
+use Rattle.std.proofs.Common.{refl, option_map, length, Some, sym, ap, subst, ◌∙◌, arith}
 use Rattle.zb_volume.specs.declared.areas.Area.TheVariants.{Main}
 use Rattle.zb_volume.specs.Disk.{seen}
 use Rattle.zb_volume.specs.Moments.{here}
 use Rattle.fs_records.specs.Listed.{reached_in}
 use Rattle.file_store.specs.declared.staged.Staged.{Staged}
-use Rattle.file_store.specs.Kept.{IsVotedIn, voted_in}
-use Rattle.file_store.proofs.Commits.{unmoved, none_staged, some_same, room_for, vote_is, voted, moments}
+use Rattle.file_store.specs.Kept.{HasRoomForTally, IsVotedIn, voted_in}
+use Rattle.file_store.proofs.Commits.{unmoved, none_staged, none_there, some_same, room_for, vote_is, voted, moments}
 use Rattle.file_store.proofs.Writes.{Voted, staged_for}
 use Rattle.file_store.specs.Staging.{StagedKept}
+use Rattle.file_store.proofs.Hints.{at_last, fronts_stay, hinted_broken, hinted_on, whole_before}
 use Rattle.file_store.proofs.Leaves.{vote_leaves}
 use Rattle.file_store.proofs.Sides.{copied_stays, keeps_begun}
 use Rattle.file_store.proofs.store.FileStoreStore.vote.Goals as goal
@@ -25,6 +26,23 @@ returns-in-Err-clause-any_moment g c = λ told.
     moments (g.V.Volume.state self.volume).log self.index self.numbers (self.settled told c.requires.whole) (self.kept told c.requires.whole) (g.V.Volume.state c.vote.new.volume).log
     (c.vote.ensures.any_moment told (reached_in (seen (g.V.Volume.state self.volume).log Main))
     (vote_is (g.V.Volume.state self.volume).log self.index self.numbers (self.settled told c.requires.whole) (self.kept told c.requires.whole) c.prepare.new.index c.prepare.new.numbers c.args.new.now c.end.result c.in_ok-text.text c.as_slice.result.now free p (c.end.ensures.value ∙ c.prepare.ensures.end) c.as_slice.ensures.value))
+
+-- a call of the volume failed
+pub invariant_of-self-in-Err : goal.invariant_of-self-in-Err
+invariant_of-self-in-Err g c =
+    let self = c.args.self.now in
+    record {
+      room = none_there Staged (λ x. HasRoomForTally c.prepare.new.numbers (length x.records)) c.take_back.new.self.staged (ap (λ (i : StagedKept). i.staged) c.take_back.ensures);
+      settled = λ told whole. absurd cc;
+      kept = λ told whole. absurd cc;
+      voted = λ told whole. absurd cc;
+      copied = λ told whole. absurd cc;
+      hint = λ told.
+          let log = (g.V.Volume.state self.volume).log in
+          let new = (g.V.Volume.state c.vote.new.volume).log in
+          let was = whole_before log self.broken self.index.end c.requires.whole (self.hint told) in
+          hinted_broken new c.take_back.new.self.end (at_last log new (fronts_stay log new self.index.end c.end.result (self.settled told c.requires.whole) was (c.end.ensures.value ∙ c.prepare.ensures.end) (c.vote.ensures.front told) (c.vote.ensures.hint told)));
+    }
 
 -- what the vote leaves
 leaves : (g : _) (c : goal.In-Ok g) → g.V.Volume.told → Voted (seen (g.V.Volume.state c.args.self.now.volume).log Main) (seen (g.V.Volume.state c.vote.new.volume).log Main) c.prepare.new.index c.prepare.new.numbers (staged_for c.args.self.now.index c.args.new.now c.in_ok-text.text) c.args.new.now
@@ -45,6 +63,11 @@ invariant_of-self-2 g c =
       kept = λ told whole. (leaves g c told).kept;
       voted = λ told whole s some. subst (λ (x : Staged). IsVotedIn (seen (g.V.Volume.state c.vote.new.volume).log Main) x c.prepare.new.index) (sym (some_same Staged c.prepare.new.index.staged _ s p.staged_is some)) (leaves g c told).voted;
       copied = λ told whole. copied_stays (g.V.Volume.state self.volume).log (g.V.Volume.state c.vote.new.volume).log self.copy (c.vote.ensures.side told) (self.copied told c.requires.whole);
+      hint = λ told.
+          let log = (g.V.Volume.state self.volume).log in
+          let new = (g.V.Volume.state c.vote.new.volume).log in
+          let was = whole_before log self.broken self.index.end c.requires.whole (self.hint told) in
+          hinted_on log new self.index.end c.prepare.new.index.end was (omega (arith, c.prepare.ensures.end)) (fronts_stay log new self.index.end c.end.result (self.settled told c.requires.whole) was (c.end.ensures.value ∙ c.prepare.ensures.end) (c.vote.ensures.front told) (c.vote.ensures.hint told)) (c.vote.ensures.hint told);
     }
 
 -- the same where the call returns

@@ -1,7 +1,7 @@
 use Rattle.std.proofs.Common.{◌≡◌, ℕ, ◌+◌, ◌-◌, List, [], ◌++◌, length, take, drop, refl, sym, ap, subst, ◌∙◌, arith}
 use Rattle.std.proofs.lemmas.List.{append-nil, take_all, take_rest}
 use Rattle.zb_base.specs.Bytes.{AreBytes, AreBytes-drop, AreBytes-take}
-use Rattle.zb_volume.specs.declared.areas.Area.TheVariants.{Main}
+use Rattle.zb_volume.specs.declared.areas.Area.TheVariants.{Main, Hint}
 use Rattle.zb_volume.specs.Moments.{here}
 use Rattle.pack_copy.proofs.Appendings.{appended_is, appended_join, appended_none, fronts_join, held_more}
 use Rattle.pack_copy.proofs.Stays.{stays_join}
@@ -12,6 +12,7 @@ loop-done-init g c = record {
   within = omega arith;
   appended = λ told. appended_none (g.V.Volume.state c.args.volume.now).log c.args.self.now (c.requires told);
   main = λ told. here refl;
+  hint = λ told. here refl;
   counts = record { reads = refl; writes = refl };
 }
 
@@ -20,6 +21,9 @@ make_room-requires g c = λ told. (c.loop-done.invariant.appended told).end
 
 pub returns-in_err-make_room-clause-main : goal.returns-in_err-make_room-clause-main
 returns-in_err-make_room-clause-main g c = λ told. stays_join Main _ _ _ (c.loop-done.invariant.main told) (c.make_room.ensures.main told)
+
+pub returns-in_err-make_room-clause-hint : goal.returns-in_err-make_room-clause-hint
+returns-in_err-make_room-clause-hint g c = λ told. stays_join Hint _ _ _ (c.loop-done.invariant.hint told) (c.make_room.ensures.hint told)
 
 pub loop-done-preserved : goal.loop-done-preserved
 loop-done-preserved g c =
@@ -37,6 +41,7 @@ loop-done-preserved g c =
           appended_is _ _ _ _ ((take done bytes ++ []) ++ take more rest) (take (done + more) bytes) (ap (λ (xs : List ℕ). xs ++ take more rest) (append-nil (take done bytes)) ∙ fronts_join done more bytes)
           (appended_join _ _ _ _ _ _ (take done bytes ++ []) (take more rest) so_far taken);
       main = λ told. stays_join Main _ _ _ (c.loop-done.invariant.main told) (c.make_room.ensures.main told);
+      hint = λ told. stays_join Hint _ _ _ (c.loop-done.invariant.hint told) (c.make_room.ensures.hint told);
       counts = record {
         reads = c.in_ok-make_room.ensures.counts.reads ∙ c.loop-done.invariant.counts.reads;
         writes = c.in_ok-make_room.ensures.counts.writes ∙ c.loop-done.invariant.counts.writes;

@@ -1,5 +1,5 @@
 use Rattle.std.proofs.Common.{◌≡◌, ◌-◌, ◌≤◌, length, take}
-use Rattle.zb_volume.specs.declared.areas.Area.TheVariants.{Main}
+use Rattle.zb_volume.specs.declared.areas.Area.TheVariants.{Main, Hint}
 use Rattle.zb_volume.specs.Moments.{StaysAs}
 use Rattle.pack_copy.specs.Appending.{IsAppended}
 use Rattle.zb_volume.specs.States.{FaultsStand}
@@ -11,6 +11,7 @@ invariant-loop-done g l = record {
   within : l.done ≤ length l.bytes;
   appended : g.V.Volume.told → IsAppended (g.V.Volume.state l.fn.volume).log l.fn.self (g.V.Volume.state l.volume).log l.self (take l.done l.bytes);
   main : g.V.Volume.told → StaysAs Main (g.V.Volume.state l.fn.volume).log (g.V.Volume.state l.volume).log;
+  hint : g.V.Volume.told → StaysAs Hint (g.V.Volume.state l.fn.volume).log (g.V.Volume.state l.volume).log;
   counts : FaultsStand (g.V.Volume.state l.fn.volume) (g.V.Volume.state l.volume);
 }
 

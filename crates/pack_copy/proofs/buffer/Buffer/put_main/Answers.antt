@@ -1,6 +1,6 @@
 use Rattle.std.proofs.Common.{◌≡◌, ℕ, ◌+◌, ◌-◌, ◌≤◌, List, [], ◌++◌, length, take, drop, refl, sym, ap, subst, ◌∙◌, arith}
 use Rattle.std.proofs.lemmas.List.{append-nil}
-use Rattle.zb_volume.specs.declared.areas.Area.TheVariants.{Main}
+use Rattle.zb_volume.specs.declared.areas.Area.TheVariants.{Main, Hint}
 use Rattle.zb_volume.specs.Disk.{main_bytes}
 use Rattle.zb_volume.specs.Moments.{here}
 use Rattle.pack_copy.proofs.Appendings.{appended_is, appended_join, appended_none, held_more, pieces_join}
@@ -12,6 +12,7 @@ loop-done-init g c = record {
   within = omega arith;
   appended = λ told. appended_none (g.V.Volume.state c.args.volume.now).log c.args.self.now (c.requires.end told);
   main = λ told. here refl;
+  hint = λ told. here refl;
   counts = record { reads = refl; writes = refl };
 }
 
@@ -20,6 +21,9 @@ make_room-requires g c = λ told. (c.loop-done.invariant.appended told).end
 
 pub returns-in_err-make_room-clause-main : goal.returns-in_err-make_room-clause-main
 returns-in_err-make_room-clause-main g c = λ told. stays_join Main _ _ _ (c.loop-done.invariant.main told) (c.make_room.ensures.main told)
+
+pub returns-in_err-make_room-clause-hint : goal.returns-in_err-make_room-clause-hint
+returns-in_err-make_room-clause-hint g c = λ told. stays_join Hint _ _ _ (c.loop-done.invariant.hint told) (c.make_room.ensures.hint told)
 
 pub read_in-requires-clause-within : goal.read_in-requires-clause-within
 read_in-requires-clause-within g c = λ told.
@@ -31,6 +35,9 @@ read_in-requires-clause-within g c = λ told.
 
 pub returns-in_err-more-clause-main : goal.returns-in_err-more-clause-main
 returns-in_err-more-clause-main g c = λ told. stays_join Main _ _ _ (stays_join Main _ _ _ (c.loop-done.invariant.main told) (c.make_room.ensures.main told)) (stays_same Main _ _ c.read_in.ensures.same)
+
+pub returns-in_err-more-clause-hint : goal.returns-in_err-more-clause-hint
+returns-in_err-more-clause-hint g c = λ told. stays_join Hint _ _ _ (stays_join Hint _ _ _ (c.loop-done.invariant.hint told) (c.make_room.ensures.hint told)) (stays_same Hint _ _ c.read_in.ensures.same)
 
 pub loop-done-preserved : goal.loop-done-preserved
 loop-done-preserved g c =
@@ -52,6 +59,7 @@ loop-done-preserved g c =
           (ap (λ (xs : List ℕ). xs ++ take more (drop from (main_bytes (g.V.Volume.state c.make_room.new.volume).log))) (append-nil (take done (drop c.args.at main))) ∙ ap (λ (xs : List ℕ). take done (drop c.args.at main) ++ xs) part ∙ pieces_join done more c.args.at main)
           (appended_join _ _ _ _ _ _ (take done (drop c.args.at main) ++ []) _ so_far read);
       main = λ told. stays_join Main _ _ _ (stays_join Main _ _ _ (c.loop-done.invariant.main told) (c.make_room.ensures.main told)) (stays_same Main _ _ c.read_in.ensures.same);
+      hint = λ told. stays_join Hint _ _ _ (stays_join Hint _ _ _ (c.loop-done.invariant.hint told) (c.make_room.ensures.hint told)) (stays_same Hint _ _ c.read_in.ensures.same);
       counts = record {
         reads = c.in_ok-more.ensures.counts.reads ∙ c.in_ok-make_room.ensures.counts.reads ∙ c.loop-done.invariant.counts.reads;
         writes = c.in_ok-more.ensures.counts.writes ∙ c.in_ok-make_room.ensures.counts.writes ∙ c.loop-done.invariant.counts.writes;

@@ -1,5 +1,5 @@
 use Rattle.std.proofs.Common.{◌≡◌, ◌-◌, ◌≤◌, take, drop}
-use Rattle.zb_volume.specs.declared.areas.Area.TheVariants.{Main}
+use Rattle.zb_volume.specs.declared.areas.Area.TheVariants.{Main, Hint}
 use Rattle.zb_volume.specs.Disk.{main_bytes}
 use Rattle.zb_volume.specs.Moments.{StaysAs}
 use Rattle.pack_copy.specs.Appending.{IsAppended}
@@ -12,6 +12,7 @@ invariant-loop-done g l = record {
   within : l.done ≤ l.count;
   appended : g.V.Volume.told → IsAppended (g.V.Volume.state l.fn.volume).log l.fn.self (g.V.Volume.state l.volume).log l.self (take l.done (drop l.at (main_bytes (g.V.Volume.state l.fn.volume).log)));
   main : g.V.Volume.told → StaysAs Main (g.V.Volume.state l.fn.volume).log (g.V.Volume.state l.volume).log;
+  hint : g.V.Volume.told → StaysAs Hint (g.V.Volume.state l.fn.volume).log (g.V.Volume.state l.volume).log;
   counts : FaultsStand (g.V.Volume.state l.fn.volume) (g.V.Volume.state l.volume);
 }
 
