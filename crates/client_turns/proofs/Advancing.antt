@@ -14,15 +14,15 @@ use Rattle.zodb_core.specs.Outcomes.{Answered, StepOutcome, outcome_of_refusal}
 use Rattle.tree_calls.specs.declared.attempt.Made.{Made}
 use Rattle.tree_calls.specs.declared.known.Seen.{Seen}
 use Rattle.tree_calls.specs.declared.operation.TreeOperation.{TreeOperation}
-use Rattle.tree_calls.specs.Calls.{IsMade, IsRefused}
+use Rattle.tree_calls.specs.Calls.{IsMade, IsRefused, MayRead, contents_of, is_walk}
 use Rattle.tree_calls.specs.Known.{known_at}
 use Rattle.client_turns.specs.declared.client.Client.{Client}
-use Rattle.connection_view.specs.declared.work.Work.{Work}
+use Rattle.connection_view.specs.Works.{Work}
 use Rattle.client_turns.specs.Asking.{IsCalm}
 use Rattle.client_turns.specs.Clients.{Moment, OpenTransaction}
 use Rattle.client_turns.specs.Clients as seen
 use Rattle.client_turns.specs.DrawLaws.{new_raised, refused_answers}
-use Rattle.client_turns.specs.Gathering.{AdvancesTo, IsCallOf, IsDrawIn, IsDrawOf, IsSightIn, IsSightOf, StandsGathering, objects_of, objects_over}
+use Rattle.client_turns.specs.Gathering.{AdvancesTo, IsAskedOf, IsCallOf, IsDrawIn, IsDrawOf, IsSightIn, IsSightOf, StandsGathering, objects_of, objects_over}
 use Rattle.client_turns.specs.Steps.{IsReadAt}
 use Rattle.client_turns.specs.Standing.{ClientsState, IsOpenAs, IsWorkOf, LeadsTo, MayReadAt, ReadsHub, StandsForMoment}
 use Rattle.client_turns.specs.Views.{server_of}
@@ -31,7 +31,7 @@ use Rattle.connection_view.specs.Connections.{work_of}
 use Rattle.connection_view.specs.ViewLaws.{IsSeenFrom, later_later, seen_from}
 use Rattle.connection_view.specs.Views.{Later, view_of}
 use Rattle.local_loads.specs.LocalLaws.{view_whole}
-use Rattle.client_turns.specs.Trees.{Draws, IsDrawn, IsRaised, IsSeenIn, IsUncalled, MayDraw, NeedsMore, Sees, by_draw, by_read, by_tree, by_want}
+use Rattle.client_turns.specs.Trees.{Draws, IsAsked, IsDrawn, IsRaised, IsSeenIn, IsUncalled, MayDraw, NeedsMore, Sees, by_draw, by_read, by_tree, by_want}
 use Rattle.client_turns.proofs.Changing.{opened_work}
 use Rattle.client_turns.proofs.Framing.{calm_counts, calm_other, calm_whole}
 use Rattle.client_turns.proofs.Gathering.{draws_more, known_more, seen_kept, seen_over, seen_same}
@@ -180,12 +180,23 @@ module _ {R F : Type 0} (m : Moment) (at root : ℕ) (op : TreeOperation) (old :
       let sight : (leads.now ≡ g.now) × IsSeenIn g.now.machine g.transaction oid x = at_sight oid (Ok x) leads.now leads.holds in
       ends_at refusal.Memory new after g.now (subst (StandsForMoment new after) sight.0 leads.stands) (by_want numbers g.may_draw g.draws refl)
 
-  unseen_by : (oid : ℕ) (why : Refusal) (now : Moment) → numbers ≡ [] → IsSightIn g.now (Some g.transaction) oid (Err why) now → IsUncalled m g.client.session g.transaction root op why now
-  unseen_by oid why now none (inl read) = by_read oid (subst (λ (b : Moment). IsReadAt b g.transaction.view oid (Err why) now) (at_start none) read.0) read.1
-  unseen_by oid why now none (inr starved) = by_want numbers g.may_draw (subst (Draws m g.client.session numbers) (sym starved.1) g.draws) starved.0
+  -- what is read for the call of the client at the place
+  asked_here : (oid : ℕ) → IsAskedOf m at root op oid → IsAsked m.machine g.transaction root op oid
+  asked_here oid (c, there, t, begun, asked) =
+      subst (λ (u : OpenTransaction). IsAsked m.machine u root op oid) (same t g.transaction (sym begun ∙ ap (λ (d : seen.Client). d.transaction) (same_there c g.client (sym there ∙ g.there)) ∙ g.begun)) asked
+    where
+      same_there : (a b : seen.Client) → Some a ≡ Some b → a ≡ b
+      same_there a b e = cc
 
-  pub unseen : (oid : ℕ) (why : Refusal) (new : ClientsState R F) (after : Option (List Stamp)) → numbers ≡ [] → LeadsTo (IsSightOf g.now at oid (Err why)) new after → LeadsTo (IsCallOf m at root op (Err why)) new after
-  unseen oid why new after none leads = ends_at why new after leads.now leads.stands (unseen_by oid why leads.now none (at_sight oid (Err why) leads.now leads.holds))
+      same : (a b : OpenTransaction) → Some a ≡ Some b → a ≡ b
+      same a b e = cc
+
+  unseen_by : (oid : ℕ) (why : Refusal) (now : Moment) → IsAskedOf m at root op oid → numbers ≡ [] → IsSightIn g.now (Some g.transaction) oid (Err why) now → IsUncalled m g.client.session g.transaction root op why now
+  unseen_by oid why now asked none (inl read) = by_read oid (asked_here oid asked) (subst (λ (b : Moment). IsReadAt b g.transaction.view oid (Err why) now) (at_start none) read.0) read.1
+  unseen_by oid why now asked none (inr starved) = by_want numbers g.may_draw (subst (Draws m g.client.session numbers) (sym starved.1) g.draws) starved.0
+
+  pub unseen : (oid : ℕ) (why : Refusal) (new : ClientsState R F) (after : Option (List Stamp)) → IsAskedOf m at root op oid → numbers ≡ [] → LeadsTo (IsSightOf g.now at oid (Err why)) new after → LeadsTo (IsCallOf m at root op (Err why)) new after
+  unseen oid why new after asked none leads = ends_at why new after leads.now leads.stands (unseen_by oid why leads.now asked none (at_sight oid (Err why) leads.now leads.holds))
 
   -- ---- one more number
 
@@ -248,3 +259,12 @@ module _ {R F : Type 0} (m : Moment) (at root : ℕ) (op : TreeOperation) (old :
 
   pub refused_on : (objects : ℕ → Option Seen) (why : Refusal) → Sees m.machine g.transaction objects → IsRefused objects root op why × (numbers ≡ []) → LeadsTo (IsCallOf m at root op (Err why)) old before
   refused_on objects why sees is = ends_at why old before g.now g.stands (by_tree objects sees is.0 (at_start is.1))
+
+-- what a walk asks for, and what an attempt wants
+pub walk_asked : {R F : Type 0} (m : Moment) (at root : ℕ) (op : TreeOperation) (old : ClientsState R F) (before : Option (List Stamp)) (known : List (ℕ × Option Seen)) (numbers : List ℕ) → StandsGathering old before m at root op known numbers → is_walk op ≡ true
+    → (oid : ℕ) → IsAskedOf m at root op oid
+walk_asked m at root op old before known numbers g walks oid = (g.client, g.there, g.transaction, g.begun, inr walks)
+
+pub want_asked : {R F : Type 0} (m : Moment) (at root : ℕ) (op : TreeOperation) (old : ClientsState R F) (before : Option (List Stamp)) (known : List (ℕ × Option Seen)) (numbers : List ℕ) → (g : StandsGathering old before m at root op known numbers) → (objects : ℕ → Option Seen) → Sees m.machine g.transaction objects
+    → (oid : ℕ) → MayRead (contents_of objects) root op oid → IsAskedOf m at root op oid
+want_asked m at root op old before known numbers g objects sees oid may = (g.client, g.there, g.transaction, g.begun, inl (record { objects = objects; sees = sees; may = may }))

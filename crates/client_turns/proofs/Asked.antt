@@ -16,7 +16,7 @@ use Rattle.zodb_core.specs.Machine.{Rules, is_open_in}
 use Rattle.zodb_core.specs.Sound.{IsPackWithin}
 use Rattle.connection_view.specs.declared.connection.Connection.{Connection}
 use Rattle.connection_view.specs.declared.loads.Loaded.{Loaded}
-use Rattle.connection_view.specs.declared.work.Work.{Work}
+use Rattle.connection_view.specs.Works.{Work}
 use Rattle.connection_view.specs.Connections.{Between, InView, IsReadAnswered, IsReadBy, IsUnasked, work_of, waiting_read}
 use Rattle.connection_view.specs.Loading.{Load, LoadsCall, Reads}
 use Rattle.connection_view.specs.ViewLaws.{IsSeenFrom, later_later, seen_from}

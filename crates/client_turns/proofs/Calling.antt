@@ -15,7 +15,7 @@ use Rattle.zb_script.specs.declared.tree_call.TreeCall.{TreeCall}
 use Rattle.zodb_core.specs.HubState.{HubState, StandsForMachine, counts_of}
 use Rattle.zodb_core.specs.Machine.{Rules}
 use Rattle.connection_view.specs.declared.connection.Connection.{Connection}
-use Rattle.connection_view.specs.declared.work.Work.{Work}
+use Rattle.connection_view.specs.Works.{Work}
 use Rattle.connection_view.specs.Connections.{InView, LeavesWork, changeable, followed_by, stored_all, work_of}
 use Rattle.connection_view.specs.Views.{View}
 use Rattle.connection_view.specs.Views as views

@@ -420,7 +420,7 @@ memory_goes_on why is whole = no_end (sym (ap end_in is) ∙ whole)
 uncalled_refused : (rules : Rules) (m now : Moment) (t : Turn) (c : Client) (o : OpenTransaction) (root : ℕ) (call : TreeCall) (why : Refusal) → t.line ≡ line.Tree root call → IsNamed m t.client c → HasOpen m t.client o → end_in why ≡ None
     → IsUncalled m c.session o root (operation_of call) why now → IsRefusedFor rules m t why now
 uncalled_refused rules m now t c o root call why said named has whole (by_tree objects sees refused same) = by_call o objects root call has said sees refused
-uncalled_refused rules m now t c o root call why said named has whole (by_read oid read found) =
+uncalled_refused rules m now t c o root call why said named has whole (by_read oid asked read found) =
     let failed : (why ≡ refusal.ReadFault) × Rose m.counts.reads now.counts.reads = reading_failed m.machine o.view oid m.counts now.counts why found read.ends whole in
     by_reading failed.0 failed.1
 uncalled_refused rules m now t c o root call why said named has whole (by_draw numbers behind lacks draws (rules', step)) =

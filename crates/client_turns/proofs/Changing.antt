@@ -17,7 +17,7 @@ use Rattle.zodb_core.specs.HubState.{HubState}
 use Rattle.zodb_core.specs.Machine.{Rules}
 use Rattle.zodb_core.specs.Steps.{refuse_if}
 use Rattle.connection_view.specs.declared.connection.Connection.{Connection}
-use Rattle.connection_view.specs.declared.work.Work.{Work}
+use Rattle.connection_view.specs.Works.{Work}
 use Rattle.connection_view.specs.Connections.{Between, InView, LeavesWork, base_read, changeable, checked_in_work, deleted_in_work, followed_by, rolled_back_to, rolled_back, saved, stored_all, stored_all_as, stored_in_work, stored_unless, work_of}
 use Rattle.connection_view.specs.Views.{View}
 use Rattle.connection_view.specs.Views as views

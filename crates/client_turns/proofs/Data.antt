@@ -34,14 +34,14 @@ use Rattle.zodb_core.specs.StepCases.{PackCases, by_pack_step}
 use Rattle.zodb_core.specs.Steps.{Stepped, changes_in_journal, early_refusal, finish_gives, finish_step, journal_limit, replied_refusal, request_step, step_of, transaction_with, unless_early, vote_at, vote_counted, vote_step, with_vote}
 use Rattle.connection_view.specs.Connections.{waiting_read}
 use Rattle.client_turns.specs.Clients.{Changes, Client, Moment, OpenTransaction, changes_of, place_of_client}
-use Rattle.client_turns.specs.Laws.{IsReadBelow, ReadsStayBelowTheFront}
+use Rattle.client_turns.specs.Laws.{IsHeldBelow, IsReadBelow}
 use Rattle.client_turns.specs.Lines.{answer_of, data_of, object_of, pending_in, put, request_of, rolled_to, store_unless}
 use Rattle.client_turns.specs.Reads.{EndsReading}
 use Rattle.client_turns.specs.Refusing.{connection_refusal}
 use Rattle.client_turns.specs.DrawLaws.{tree_answer}
 use Rattle.client_turns.specs.Trees.{answer_told}
 use Rattle.client_turns.specs.TurnLaws.{by_name}
-use Rattle.client_turns.specs.Turns.{IsGet, IsLineOf, IsLineTaken, IsLineUnless, IsOpening, IsOwnLine, IsPut, IsStepLine, IsWithin, Opening}
+use Rattle.client_turns.specs.Turns.{IsGet, IsLineOf, IsLineTaken, IsLineUnless, IsOpening, IsOwnLine, IsPut, IsStepLine, IsTurn, IsWithin, Opening}
 use Rattle.connection_view.specs.Views.{View, read_as, read_from}
 
 -- ---- no line's request loads
@@ -264,17 +264,13 @@ last_true front d (x ∷ rs) r first is = by_cases (ltb x.serial front) refl (la
     by_cases false e taken left there = left there
 
 -- the revision that was read, of the one that there is
-pub record IsHeldBelow (oid front : ℕ) (list : List Transaction) (serial : ℕ) (bytes : List ℕ) : Type 0 where
-  pub below : serial < front
-  pub revision : revision_below oid front list ≡ Some (record { serial = serial; content = Held bytes })
-
 got_is : (r : ObjectRevision) (c : Content) (got : ℕ × List ℕ) → r.content ≡ c → read_as r.serial c ≡ Some got → r ≡ record { serial = got.0; content = Held got.1 }
 got_is r Absent got content is = absurd cc
 got_is r (Held bytes) got content is =
     let same : (r.serial, bytes) ≡ got = same_Some (r.serial, bytes) got is in
     ap (λ (c : Content). record r { content = c }) content ∙ ap (λ (g : ℕ × List ℕ). record { serial = g.0; content = Held g.1 }) same
 
-held_is : (oid front : ℕ) (list : List Transaction) (o : Option ObjectRevision) (got : ℕ × List ℕ) → revision_below oid front list ≡ o → option_and_then read_from o ≡ Some got → IsHeldBelow oid front list got.0 got.1
+pub held_is : (oid front : ℕ) (list : List Transaction) (o : Option ObjectRevision) (got : ℕ × List ℕ) → revision_below oid front list ≡ o → option_and_then read_from o ≡ Some got → IsHeldBelow oid front list got.0 got.1
 held_is oid front list None got there is = absurd cc
 held_is oid front list (Some r) got there is =
     let revision : r ≡ record { serial = got.0; content = Held got.1 } = got_is r r.content got refl is in
@@ -370,8 +366,7 @@ read_below_front m t at c serial bytes place there reads = record {
   oid = reads.reads.oid;
   line = reads.reads.line;
   has = record { at = at; client = c; place = place; there = there; begun = reads.begun };
-  below = reads.reads.held.below;
-  revision = reads.reads.held.revision;
+  held = reads.reads.held;
 }
 
 line_of_reads : (rules : Rules) (m now : Moment) (at : Option ℕ) (t : Turn) (serial : ℕ) (bytes : List ℕ) → place_of_client t.client m.clients ≡ at → IsLineOf rules m at t.line (answer.Data serial bytes) now → IsReadBelow m t serial bytes
@@ -388,6 +383,6 @@ opening_reads : (m now : Moment) (t : Turn) (serial : ℕ) (bytes : List ℕ) �
 opening_reads m now t serial bytes is =
     not_data (IsReadBelow m t serial bytes) (answer.Data serial bytes) refl (ap (λ (o : Opening). is_data o.answer) is ∙ opened_data m t.client (nat_lt (length m.machine.sessions) 64))
 
-pub reads_below : ReadsStayBelowTheFront
-reads_below rules m t last serial bytes now is =
+pub loads_below : (rules : Rules) (m : Moment) (t : Turn) (last : Bool) (serial : ℕ) (bytes : List ℕ) (now : Moment) → IsTurn rules m t last (Ok (answer.Data serial bytes)) now → IsReadBelow m t serial bytes
+loads_below rules m t last serial bytes now is =
     by_name rules m is.behind t.client t.line (answer.Data serial bytes) (IsReadBelow m t serial bytes) (opening_reads m is.behind t serial bytes) (line_of_reads rules m is.behind (place_of_client t.client m.clients) t serial bytes refl) is.line

@@ -25,7 +25,7 @@ use Rattle.zodb_core.specs.Machine.{Machine, Rules}
 use Rattle.zodb_core.specs.Outcomes.{Answered, NoMemory, ReadingFailed, StepOutcome, StoreFailed, machine_left, outcome_of}
 use Rattle.zodb_core.specs.Steps.{early_refusal, front_step, refuse_if, unless_early}
 use Rattle.connection_view.specs.declared.connection.Connection.{Connection}
-use Rattle.connection_view.specs.declared.work.Work.{Work}
+use Rattle.connection_view.specs.Works.{Work}
 use Rattle.connection_view.specs.Connections.{Between, InView, IsCallMade, IsFrontBy, IsNewWork, begin_refusal, changeable, followed_by, unmixed, unvoted_work, waiting_count, work_of}
 use Rattle.connection_view.specs.Connections as connections
 use Rattle.connection_view.specs.Loading.{Abort, Finish, Front, LoadsCall, Undo, Vote}

@@ -1,6 +1,6 @@
 -- What lines and their parts do to a hub, whatever its store tells.
-use Rattle.std.proofs.Common.{◌≡◌, ◌==◌, ◌⊎◌, ℕ, Bool, true, false, List, [], Option, Some, None, Result, Ok, Err, if◌then◌else◌, refl, sym, ap, subst, ◌∙◌, arith, inl, inr}
-use Rattle.std.specs.Prelude.{IsOk}
+use Rattle.std.proofs.Common.{◌≡◌, ◌==◌, ◌<◌, ◌⊎◌, ℕ, length, Bool, true, false, List, [], Option, Some, None, Result, Ok, Err, if◌then◌else◌, refl, sym, ap, subst, ◌∙◌, arith, inl, inr}
+use Rattle.std.specs.Prelude.{IsOk, slice_get}
 use Rattle.zb_ids.specs.declared.stamp.Stamp.{Stamp}
 use Rattle.zb_volume.specs.declared.areas.Area.TheVariants.{Main, Side}
 use Rattle.zb_volume.specs.Moments.{Leaves, LeavesOnly}
@@ -22,12 +22,13 @@ use Rattle.zodb_core.specs.declared.reply.Reply.{Reply}
 use Rattle.zodb_core.specs.declared.reply.Reply.TheVariants as reply
 use Rattle.zodb_core.specs.declared.request.Request.{Request}
 use Rattle.zodb_core.specs.declared.request.Request.TheVariants as request
-use Rattle.zodb_core.specs.HubState.{HubState, counts_of, is_store_failed, rules_of}
-use Rattle.zodb_core.specs.Machine.{Rules}
+use Rattle.zodb_core.specs.HubState.{HubState, IsBeforeOrBehind, counts_of, is_store_failed, rules_of}
+use Rattle.zodb_core.specs.Machine.{Machine, Rules}
+use Rattle.zodb_core.specs.Steps.{step_of}
 use Rattle.zodb_core.specs.Outcomes.{Answered, AreLaterCounts, FaultCounts, NoMemory, ReadingFailed, StepOutcome, StoreFailed, is_pack, keeps_store, outcome_of, outcome_of_refusal}
 use Rattle.connection_view.specs.declared.connection.Connection.{Connection}
 use Rattle.connection_view.specs.declared.loads.Loaded.{Loaded}
-use Rattle.connection_view.specs.declared.work.Work.{Work}
+use Rattle.connection_view.specs.Works.{Work}
 use Rattle.connection_view.specs.Connections.{IsCallMade, IsFrontBy, IsPutAsRead, IsReadAnswered, IsReadBy, IsUnasked, LeavesWork, base_read, begin_refusal, changeable, followed_by, stored_in_work, stored_unless, unmixed, waiting_count, waiting_read, work_of}
 use Rattle.connection_view.specs.Connections as connections
 use Rattle.connection_view.specs.Loading.{Abort, Finish, Front, Load, LoadsCall, Undo, Vote}
@@ -45,13 +46,15 @@ use Rattle.client_turns.specs.Clients.{Moment}
 use Rattle.client_turns.specs.CountLaws.{waiting_outcome}
 use Rattle.client_turns.specs.declared.errors.TurnError.{TurnError}
 use Rattle.client_turns.specs.Lines.{IsCountedBy, answer_of, end_in, end_of, outcome_of_answer, outcome_of_end, outcome_of_read, outcome_of_result, request_of}
-use Rattle.client_turns.specs.Standing.{IsListAround, IsListFor, KeepsHub, LeavesHub, ReadsHub}
+use Rattle.client_turns.specs.declared.client.Client.{Client}
+use Rattle.client_turns.specs.Standing.{IsEndListOf, IsStepListOf, KeepsHub, LeavesHub, ReadsHub}
 use Rattle.client_turns.specs.Steps.{IsStepAt}
-use Rattle.client_turns.specs.TurnLaws.{step_at_left}
+use Rattle.client_turns.specs.TurnLaws.{step_at_left, step_left}
 use Rattle.client_turns.proofs.Causes.{calm_step, closed_counts, counted_of}
-use Rattle.client_turns.proofs.Crashes.{asked_no_pack, in_step, left_moments, step_moments, unmoved_in}
+use Rattle.client_turns.proofs.Crashes.{asked_no_pack, in_step, kept_moments, left_moments, unmoved_in}
 use Rattle.client_turns.proofs.Hubs.{not_failed}
 use Rattle.client_turns.proofs.One.{StepsTo, steps_to}
+use Rattle.client_turns.proofs.Placing.{there_at}
 
 -- ---- answers that move no count
 
@@ -126,36 +129,36 @@ leaves_calm k l f (Err r) calm (inr starved, stayed) = inr (ap outcome_of_refusa
 -- ---- a hub to which nothing was done
 
 module _ {R F : Type 0} (told lasts : Type 0) (stands : List ℕ → List Transaction → Type 0) (rules : Rules) (h g : HubState R F) where
-  pub none_leaves : (l : Line) (o : StepOutcome) → IsCalm o → g ≡ h → LeavesHub told lasts stands rules l o h g
-  none_leaves l o calm same = subst (λ (z : HubState R F). LeavesHub told lasts stands rules l o h z) (sym same) (record {
+  pub none_leaves : (x : Option Client) (l : Line) (o : StepOutcome) → IsCalm o → g ≡ h → LeavesHub told lasts stands rules x l o h g
+  none_leaves x l o calm same = subst (λ (z : HubState R F). LeavesHub told lasts stands rules x l o h z) (sym same) (record {
     resolver = refl;
     refs = refl;
     later = record { reads = omega arith; others = omega arith };
     cause = calm_counts o (counts_of h.store) calm;
     broken = λ whole. whole ∙ sym (calm_whole o calm);
     side = λ lasts packs. stays_same Side h.store.log h.store.log refl;
-    moments = λ lasts told whole m stands_for leaves. unmoved_in stands rules m l h.store.log h.store.log refl leaves;
+    moments = λ lasts told whole m stands_for leaves. unmoved_in stands rules x l m h.store.log h.store.log refl leaves;
   })
 
   pub none_reads : (o : StepOutcome) → IsCalm o → g ≡ h → ReadsHub told lasts stands o h g
-  none_reads o calm same = record { keeps = none_leaves line.Savepoint o calm same; list = λ told whole. ap (λ (z : HubState R F). z.store.list) same; whole = calm_whole o calm }
+  none_reads o calm same = record { keeps = none_leaves None line.Savepoint o calm same; list = λ told whole. ap (λ (z : HubState R F). z.store.list) same; whole = calm_whole o calm }
 
   -- or none to its store
-  pub store_leaves : (l : Line) (o : StepOutcome) → IsCalm o → g.store ≡ h.store → g.resolver ≡ h.resolver → g.refs ≡ h.refs → LeavesHub told lasts stands rules l o h g
-  store_leaves l o calm store resolver refs = record {
+  pub store_leaves : (x : Option Client) (l : Line) (o : StepOutcome) → IsCalm o → g.store ≡ h.store → g.resolver ≡ h.resolver → g.refs ≡ h.refs → LeavesHub told lasts stands rules x l o h g
+  store_leaves x l o calm store resolver refs = record {
     resolver = resolver;
     refs = refs;
     later = subst (λ (s : StoreState). AreLaterCounts (counts_of h.store) (counts_of s)) (sym store) (record { reads = omega arith; others = omega arith });
     cause = subst (λ (s : StoreState). IsCountedBy (counts_of h.store) (counts_of s) o) (sym store) (calm_counts o (counts_of h.store) calm);
     broken = λ whole. ap (λ (s : StoreState). s.broken) store ∙ whole ∙ sym (calm_whole o calm);
     side = λ lasts packs. stays_same Side h.store.log g.store.log (ap (λ (s : StoreState). s.log) store);
-    moments = λ lasts told whole m stands_for leaves. unmoved_in stands rules m l h.store.log g.store.log (ap (λ (s : StoreState). s.log) store) leaves;
+    moments = λ lasts told whole m stands_for leaves. unmoved_in stands rules x l m h.store.log g.store.log (ap (λ (s : StoreState). s.log) store) leaves;
   }
 
   -- what ended otherwise, with the same counts
-  pub leaves_as : (l : Line) (o p : StepOutcome) → (IsCountedBy (counts_of h.store) (counts_of g.store) o → IsCountedBy (counts_of h.store) (counts_of g.store) p) → is_store_failed p ≡ is_store_failed o → LeavesHub told lasts stands rules l o h g
-      → LeavesHub told lasts stands rules l p h g
-  leaves_as l o p counts failed leaves = record {
+  pub leaves_as : (x : Option Client) (l : Line) (o p : StepOutcome) → (IsCountedBy (counts_of h.store) (counts_of g.store) o → IsCountedBy (counts_of h.store) (counts_of g.store) p) → is_store_failed p ≡ is_store_failed o → LeavesHub told lasts stands rules x l o h g
+      → LeavesHub told lasts stands rules x l p h g
+  leaves_as x l o p counts failed leaves = record {
     resolver = leaves.resolver;
     refs = leaves.refs;
     later = leaves.later;
@@ -166,7 +169,7 @@ module _ {R F : Type 0} (told lasts : Type 0) (stands : List ℕ → List Transa
   }
 
   pub reads_as : (o p : StepOutcome) → (IsCountedBy (counts_of h.store) (counts_of g.store) o → IsCountedBy (counts_of h.store) (counts_of g.store) p) → is_store_failed p ≡ false → ReadsHub told lasts stands o h g → ReadsHub told lasts stands p h g
-  reads_as o p counts failed reads = record { keeps = leaves_as line.Savepoint o p counts (failed ∙ sym reads.whole) reads.keeps; list = reads.list; whole = failed }
+  reads_as o p counts failed reads = record { keeps = leaves_as None line.Savepoint o p counts (failed ∙ sym reads.whole) reads.keeps; list = reads.list; whole = failed }
 
 -- ---- a step
 
@@ -174,7 +177,7 @@ module _ {R F : Type 0} (told lasts : Type 0) (stands : List ℕ → List Transa
   pub step_counts : IsCountedBy (counts_of h.store) (counts_of g.store) (outcome_of r)
   step_counts = counted_of (counts_of h.store) (counts_of g.store) (outcome_of r) step.safe.cause step.safe.others
 
-  pub step_keeps : KeepsHub told lasts stands (is_pack q) (λ m. IsListFor stands (rules_of rules_in named_in h) m q) (outcome_of r) h g
+  pub step_keeps : KeepsHub told lasts stands (is_pack q) (λ m. IsBeforeOrBehind stands (rules_of rules_in named_in h) m n q) (outcome_of r) h g
   step_keeps = record {
     resolver = step.safe.resolver;
     refs = step.safe.refs;
@@ -182,7 +185,19 @@ module _ {R F : Type 0} (told lasts : Type 0) (stands : List ℕ → List Transa
     cause = step_counts;
     broken = step.safe.broken;
     side = step.side;
-    moments = λ on tells whole m stands_for leaves. step_moments stands (rules_of rules_in named_in h) m n q h.store.log g.store.log (step.any_moment on tells whole m stands_for);
+    moments = λ on tells whole m stands_for leaves. step.any_moment on tells whole m stands_for;
+  }
+
+  -- a step that leaves the list
+  pub step_keeps_list : ((m : Machine) → (step_of (rules_of rules_in named_in h) m n q 0).machine.list ≡ m.list) → KeepsHub told lasts stands (is_pack q) (λ m bytes. stands bytes m.list) (outcome_of r) h g
+  step_keeps_list same = record {
+    resolver = step_keeps.resolver;
+    refs = step_keeps.refs;
+    later = step_keeps.later;
+    cause = step_keeps.cause;
+    broken = step_keeps.broken;
+    side = step_keeps.side;
+    moments = λ on tells whole m stands_for leaves. kept_moments stands (rules_of rules_in named_in h) m n q h.store.log g.store.log (same m) (step.any_moment on tells whole m stands_for);
   }
 
   -- a step by which no list is changed, whatever it holds
@@ -199,19 +214,19 @@ module _ {R F : Type 0} (told lasts : Type 0) (stands : List ℕ → List Transa
 pub front_reads : {R F : Type 0} (told lasts : Type 0) (stands : List ℕ → List Transaction → Type 0) (rules_in : R → MergeRules) (named_in : F → List ℕ → Option (List ℕ)) (n : ℕ) (r : Reply) (h g : HubState R F) (before after : Option (List Stamp)) → IsHubStep told lasts stands rules_in named_in n request.Front r h g before after
     → ReadsHub told lasts stands (outcome_of r) h g
 front_reads told lasts stands rules_in named_in n r h g before after step =
-    step_reads told lasts stands rules_in named_in n request.Front r h g before after step refl (step_keeps told lasts stands rules_in named_in n request.Front r h g before after step)
+    step_reads told lasts stands rules_in named_in n request.Front r h g before after step refl (step_keeps_list told lasts stands rules_in named_in n request.Front r h g before after step (λ m. step_left (rules_of rules_in named_in h) m n request.Front 0))
     (λ rules m now is. step_at_left rules m n request.Front r now is)
 
 pub load_reads_hub : {R F : Type 0} (told lasts : Type 0) (stands : List ℕ → List Transaction → Type 0) (rules_in : R → MergeRules) (named_in : F → List ℕ → Option (List ℕ)) (n oid front : ℕ) (r : Reply) (h g : HubState R F) (before after : Option (List Stamp))
     → IsHubStep told lasts stands rules_in named_in n (request.LoadBefore oid front) r h g before after → ReadsHub told lasts stands (outcome_of r) h g
 load_reads_hub told lasts stands rules_in named_in n oid front r h g before after step =
-    step_reads told lasts stands rules_in named_in n (request.LoadBefore oid front) r h g before after step refl (step_keeps told lasts stands rules_in named_in n (request.LoadBefore oid front) r h g before after step)
+    step_reads told lasts stands rules_in named_in n (request.LoadBefore oid front) r h g before after step refl (step_keeps_list told lasts stands rules_in named_in n (request.LoadBefore oid front) r h g before after step (λ m. step_left (rules_of rules_in named_in h) m n (request.LoadBefore oid front) 0))
     (λ rules m now is. step_at_left rules m n (request.LoadBefore oid front) r now is)
 
 pub draw_reads : {R F : Type 0} (told lasts : Type 0) (stands : List ℕ → List Transaction → Type 0) (rules_in : R → MergeRules) (named_in : F → List ℕ → Option (List ℕ)) (n : ℕ) (r : Reply) (h g : HubState R F) (before after : Option (List Stamp)) → IsHubStep told lasts stands rules_in named_in n (request.NewOids 1) r h g before after
     → ReadsHub told lasts stands (outcome_of r) h g
 draw_reads told lasts stands rules_in named_in n r h g before after step =
-    step_reads told lasts stands rules_in named_in n (request.NewOids 1) r h g before after step refl (step_keeps told lasts stands rules_in named_in n (request.NewOids 1) r h g before after step)
+    step_reads told lasts stands rules_in named_in n (request.NewOids 1) r h g before after step refl (step_keeps_list told lasts stands rules_in named_in n (request.NewOids 1) r h g before after step (λ m. step_left (rules_of rules_in named_in h) m n (request.NewOids 1) 0))
     (λ rules m now is. step_at_left rules m n (request.NewOids 1) r now is)
 
 -- ---- one part behind another
@@ -329,29 +344,33 @@ close_failed _ = refl
 
 module _ {R F : Type 0} (told lasts : Type 0) (stands : List ℕ → List Transaction → Type 0) (rules : Rules) (h g : HubState R F) where
   -- a step is its line
-  pub line_keeps : (l : Line) (q : Request) (o : StepOutcome) → Some q ≡ plain_request l → KeepsHub told lasts stands (is_pack q) (λ m. IsListFor stands rules m q) o h g → LeavesHub told lasts stands rules l o h g
-  line_keeps l q o asks keeps = record {
+  pub line_keeps : (x : Option Client) (l : Line) (q : Request) (o : StepOutcome) → Some q ≡ plain_request l → KeepsHub told lasts stands (is_pack q) (IsStepListOf stands rules x q) o h g → LeavesHub told lasts stands rules x l o h g
+  line_keeps x l q o asks keeps = record {
     resolver = keeps.resolver;
     refs = keeps.refs;
     later = keeps.later;
     cause = keeps.cause;
     broken = keeps.broken;
     side = λ on packs. keeps.side on (asked_no_pack None l q (plain_asks l q asks) packs);
-    moments = λ on tells whole m stands_for leaves. in_step stands rules m None l q h.store.log g.store.log (plain_asks l q asks) (keeps.moments on tells whole m stands_for leaves);
+    moments = λ on tells whole m stands_for leaves. in_step stands rules x l q m h.store.log g.store.log asks (keeps.moments on tells whole m stands_for leaves);
   }
 
--- a step, as its line is answered
-pub plain_keeps : {R F : Type 0} (told lasts : Type 0) (stands : List ℕ → List Transaction → Type 0) (rules_in : R → MergeRules) (named_in : F → List ℕ → Option (List ℕ)) (n : ℕ) (q : Request) (r : Reply) (a : Answer) (h g k : HubState R F) (before after : Option (List Stamp))
-    → IsHubStep told lasts stands rules_in named_in n q r h g before after → k ≡ g → a ≡ answer_of r → KeepsHub told lasts stands (is_pack q) (λ m. IsListFor stands (rules_of rules_in named_in h) m q) (outcome_of_answer a) h k
-plain_keeps {R} {F} told lasts stands rules_in named_in n q r a h g k before after step same answers =
-    subst (λ (o : StepOutcome). KeepsHub told lasts stands (is_pack q) (λ m. IsListFor stands (rules_of rules_in named_in h) m q) o h k) (sym (ap outcome_of_answer answers ∙ answer_outcome r))
-    (subst (λ (z : HubState R F). KeepsHub told lasts stands (is_pack q) (λ m. IsListFor stands (rules_of rules_in named_in h) m q) (outcome_of r) h z) (sym same) (step_keeps told lasts stands rules_in named_in n q r h g before after step))
+-- a step of a client, as its line is answered
+pub plain_keeps : {R F : Type 0} (told lasts : Type 0) (stands : List ℕ → List Transaction → Type 0) (rules_in : R → MergeRules) (named_in : F → List ℕ → Option (List ℕ)) (n : ℕ) (q : Request) (r : Reply) (a : Answer) (h g k : HubState R F) (before after : Option (List Stamp)) (xs : List Client) (at : ℕ)
+    → at < length xs → ((x : Client) → slice_get xs at ≡ Some x → n ≡ x.session)
+    → IsHubStep told lasts stands rules_in named_in n q r h g before after → k ≡ g → a ≡ answer_of r → KeepsHub told lasts stands (is_pack q) (IsStepListOf stands (rules_of rules_in named_in h) (slice_get xs at) q) (outcome_of_answer a) h k
+plain_keeps {R} {F} told lasts stands rules_in named_in n q r a h g k before after xs at within session step same answers =
+    let x : (y : Client) × (slice_get xs at ≡ Some y) = there_at xs at within in
+    subst (λ (o : Option Client). KeepsHub told lasts stands (is_pack q) (IsStepListOf stands (rules_of rules_in named_in h) o q) (outcome_of_answer a) h k) (sym x.1)
+    (subst (λ (s : ℕ). KeepsHub told lasts stands (is_pack q) (λ m. IsBeforeOrBehind stands (rules_of rules_in named_in h) m s q) (outcome_of_answer a) h k) (session x.0 x.1)
+    (subst (λ (o : StepOutcome). KeepsHub told lasts stands (is_pack q) (λ m. IsBeforeOrBehind stands (rules_of rules_in named_in h) m n q) o h k) (sym (ap outcome_of_answer answers ∙ answer_outcome r))
+    (subst (λ (z : HubState R F). KeepsHub told lasts stands (is_pack q) (λ m. IsBeforeOrBehind stands (rules_of rules_in named_in h) m n q) (outcome_of r) h z) (sym same) (step_keeps told lasts stands rules_in named_in n q r h g before after step))))
 
 -- the closing of a session, as it ends a run
 pub close_keeps : {R F : Type 0} (told lasts : Type 0) (stands : List ℕ → List Transaction → Type 0) (rules_in : R → MergeRules) (named_in : F → List ℕ → Option (List ℕ)) (n : ℕ) (r : Reply) (a : Answer) (ended : Option TurnError) (h g : HubState R F) (before after : Option (List Stamp))
     → IsHubStep told lasts stands rules_in named_in n request.Close r h g before after → ended ≡ end_of a → a ≡ answer_of r → KeepsHub told lasts stands false (λ m bytes. stands bytes m.list) (outcome_of_end ended) h g
 close_keeps told lasts stands rules_in named_in n r a ended h g before after step ends answers =
-    let keeps = step_keeps told lasts stands rules_in named_in n request.Close r h g before after step in
+    let keeps = step_keeps_list told lasts stands rules_in named_in n request.Close r h g before after step (λ m. step_left (rules_of rules_in named_in h) m n request.Close 0) in
     record {
       resolver = keeps.resolver;
       refs = keeps.refs;
@@ -364,7 +383,7 @@ close_keeps told lasts stands rules_in named_in n r a ended h g before after ste
 
 -- nothing was done behind a line
 pub none_closed : {R F : Type 0} (told lasts : Type 0) (stands : List ℕ → List Transaction → Type 0) (rules : Rules) (h : HubState R F) → KeepsHub told lasts stands false (λ m bytes. stands bytes m.list) Answered h h
-none_closed told lasts stands rules h = none_leaves told lasts stands rules h h line.Close Answered (inl refl) refl
+none_closed told lasts stands rules h = none_leaves told lasts stands rules h h None line.Close Answered (inl refl) refl
 
 -- ---- what a connection refuses before it asks for anything
 
@@ -448,8 +467,12 @@ finished_outcome _ = refl
 -- ---- a finish, and the front behind it
 
 module _ {R F : Type 0} (told lasts : Type 0) (stands : List ℕ → List Transaction → Type 0) (rules_in : R → MergeRules) (named_in : F → List ℕ → Option (List ℕ)) (n : ℕ) (h g k : HubState R F) (before between after : Option (List Stamp)) where
+  -- what a finish of the session that ended so leaves
+  abbrev Ends : StepOutcome → HubState R F → Type 0
+  Ends o z = KeepsHub told lasts stands false (λ m. IsBeforeOrBehind stands (rules_of rules_in named_in h) m n request.Finish) o h z
+
   front_behind_finish : (r p : Reply) → IsHubStep told lasts stands rules_in named_in n request.Finish r h g before between → outcome_of r ≡ Answered → IsHubStep told lasts stands rules_in named_in n request.Front p g k between after
-      → LeavesHub told lasts stands (rules_of rules_in named_in h) line.Finish (outcome_of r) h k
+      → Ends (outcome_of r) k
   front_behind_finish r p finish fine front =
       let one = step_keeps told lasts stands rules_in named_in n request.Finish r h g before between finish in
       let two : ReadsHub told lasts stands (outcome_of p) g k = front_reads told lasts stands rules_in named_in n p g k between after front in
@@ -464,36 +487,37 @@ module _ {R F : Type 0} (told lasts : Type 0) (stands : List ℕ → List Transa
         moments = λ on tells whole m is leaves.
             let m' : Moment = record { machine = m; clients = []; stamps = before; counts = counts_of h.store } in
             let s : StepsTo (rules_of rules_in named_in h) m' n request.Finish r g between = steps_to told lasts stands rules_in named_in tells m' n request.Finish r h g before between finish is refl refl in
-            joined (Leaves Main (IsListAround stands m)) h.store.log g.store.log k.store.log (one.moments on tells whole m is leaves)
-            (left_moments stands (rules_of rules_in named_in h) m s.now.machine request.Finish g.store.log k.store.log (step_at_left (rules_of rules_in named_in h) m' n request.Finish r s.now s.holds)
-            (step_moments stands (rules_of rules_in named_in g) s.now.machine n request.Front g.store.log k.store.log (front.any_moment on tells (one.broken whole ∙ ap is_store_failed fine) s.now.machine s.hub)));
+            joined (Leaves Main (IsBeforeOrBehind stands (rules_of rules_in named_in h) m n request.Finish)) h.store.log g.store.log k.store.log (one.moments on tells whole m is leaves)
+            (left_moments stands (rules_of rules_in named_in h) m' s.now n request.Finish r g.store.log k.store.log s.holds
+            (kept_moments stands (rules_of rules_in named_in g) s.now.machine n request.Front g.store.log k.store.log (step_left (rules_of rules_in named_in g) s.now.machine n request.Front 0)
+            (front.any_moment on tells (one.broken whole ∙ ap is_store_failed fine) s.now.machine s.hub)));
       }
 
   finish_told : (r : Reply) → IsHubStep told lasts stands rules_in named_in n request.Finish r h g before between → IsFrontBehind (IsHubStep told lasts stands rules_in named_in n) (locals.is_committed r) g k between after
-      → LeavesHub told lasts stands (rules_of rules_in named_in h) line.Finish (outcome_of r) h k
+      → Ends (outcome_of r) k
   finish_told r finish behind = by_committed (locals.is_committed r) refl behind
     where
       fine : (p : Reply) → locals.is_committed p ≡ true → outcome_of p ≡ Answered
       fine (reply.Committed tid) so = refl
       fine _ so = absurd cc
 
-      by_committed : (b : Bool) → locals.is_committed r ≡ b → IsFrontBehind (IsHubStep told lasts stands rules_in named_in n) b g k between after → LeavesHub told lasts stands (rules_of rules_in named_in h) line.Finish (outcome_of r) h k
-      by_committed false so same = subst (λ (z : HubState R F). LeavesHub told lasts stands (rules_of rules_in named_in h) line.Finish (outcome_of r) h z) (sym same.0) (step_keeps told lasts stands rules_in named_in n request.Finish r h g before between finish)
+      by_committed : (b : Bool) → locals.is_committed r ≡ b → IsFrontBehind (IsHubStep told lasts stands rules_in named_in n) b g k between after → Ends (outcome_of r) k
+      by_committed false so same = subst (Ends (outcome_of r)) (sym same.0) (step_keeps told lasts stands rules_in named_in n request.Finish r h g before between finish)
       by_committed true so front = front_behind_finish r front.0 finish (fine r so) front.1
 
 -- ---- calls of a connection
 
-module _ {R F S : Type 0} (told lasts : Type 0) (stands : List ℕ → List Transaction → Type 0) (rules_in : R → MergeRules) (named_in : F → List ℕ → Option (List ℕ)) (n : ℕ) (old new : LocalState R F) (makes : S → LoadsCall → S → Type 0) (a b : S) (calls : (call : LoadsCall) → makes a call b → IsLocalCall (IsHubStep told lasts stands rules_in named_in n) call old new) (same : b ≡ a → new ≡ old) where
+module _ {R F S : Type 0} (told lasts : Type 0) (stands : List ℕ → List Transaction → Type 0) (rules_in : R → MergeRules) (named_in : F → List ℕ → Option (List ℕ)) (n : ℕ) (x : Client) (old new : LocalState R F) (makes : S → LoadsCall → S → Type 0) (a b : S) (calls : (call : LoadsCall) → makes a call b → IsLocalCall (IsHubStep told lasts stands rules_in named_in n) call old new) (same : b ≡ a → new ≡ old) where
   -- what a line of this answer leaves
   abbrev Left : Line → Answer → Type 0
-  Left l said = LeavesHub told lasts stands (rules_of rules_in named_in old.hub) l (outcome_of_answer said) old.hub new.hub
+  Left l said = LeavesHub told lasts stands (rules_of rules_in named_in old.hub) (Some x) l (outcome_of_answer said) old.hub new.hub
 
   abbrev LeftAs : Line → StepOutcome → Type 0
-  LeftAs l o = LeavesHub told lasts stands (rules_of rules_in named_in old.hub) l o old.hub new.hub
+  LeftAs l o = LeavesHub told lasts stands (rules_of rules_in named_in old.hub) (Some x) l o old.hub new.hub
 
   -- nothing was done
   pub none_left : (l : Line) (said : Answer) → IsCalm (outcome_of_answer said) → new ≡ old → Left l said
-  none_left l said calm is = none_leaves told lasts stands (rules_of rules_in named_in old.hub) old.hub new.hub l (outcome_of_answer said) calm (ap (λ (z : LocalState R F). z.hub) is)
+  none_left l said calm is = none_leaves told lasts stands (rules_of rules_in named_in old.hub) old.hub new.hub (Some x) l (outcome_of_answer said) calm (ap (λ (z : LocalState R F). z.hub) is)
 
   refused_left : {T : Type 0} (l : Line) (to : Result T Refusal → Answer) (result : Result T Refusal) (r : Refusal) (said : Answer) → to (Err r) ≡ answer.Refused r → said ≡ to result → result ≡ Err r → IsCalm (outcome_of_refusal r) → new ≡ old → Left l said
   refused_left l to result r said errs answers is calm still =
@@ -505,7 +529,7 @@ module _ {R F S : Type 0} (told lasts : Type 0) (stands : List ℕ → List Tran
 
   -- `begin`
   pub begin_hub : (k : Connection) (result : Result ℕ Refusal) (said : Answer) → ((r : Refusal) → begin_refusal (work_of k) ≡ Some r → (result ≡ Err r) × (b ≡ a)) → (begin_refusal (work_of k) ≡ None → IsFrontBy makes a b result)
-      → said ≡ begun_as result → LeavesHub told lasts stands (rules_of rules_in named_in old.hub) line.Begin (outcome_of_answer said) old.hub new.hub
+      → said ≡ begun_as result → LeavesHub told lasts stands (rules_of rules_in named_in old.hub) (Some x) line.Begin (outcome_of_answer said) old.hub new.hub
   begin_hub k result said refused made answers = by_refusal (begin_refusal (work_of k)) refl
     where
       by_refusal : (o : Option Refusal) → begin_refusal (work_of k) ≡ o → Left line.Begin said
@@ -519,7 +543,7 @@ module _ {R F S : Type 0} (told lasts : Type 0) (stands : List ℕ → List Tran
   -- `vote`
   pub vote_hub : (k l : Connection) (user description : List ℕ) (result : Result (Unit {0}) Refusal) (reply : Answer) → ((r : Refusal) → changeable (work_of k) ≡ Err r → (result ≡ Err r) × (b ≡ a) × (l ≡ k))
       → ((w : Work) → changeable (work_of k) ≡ Ok w → IsCallMade makes a b (Vote user description w.pending.stores w.pending.checks result) result) → reply ≡ answered result answer.Voted
-      → LeavesHub told lasts stands (rules_of rules_in named_in old.hub) (line.Vote user description) (outcome_of_answer reply) old.hub new.hub
+      → LeavesHub told lasts stands (rules_of rules_in named_in old.hub) (Some x) (line.Vote user description) (outcome_of_answer reply) old.hub new.hub
   vote_hub k l user description result reply refused made answers = by_work (changeable (work_of k)) refl
     where
       starved : result ≡ Err refusal.Memory → new ≡ old → Left (line.Vote user description) reply
@@ -529,7 +553,8 @@ module _ {R F S : Type 0} (told lasts : Type 0) (stands : List ℕ → List Tran
       by_step w (inl none) = starved none.1 none.0
       by_step w (inr one) =
           step_left_as (line.Vote user description) reply (outcome_of one.reply) (ap outcome_of_answer (answers ∙ ap (λ (z : Result (Unit {0}) Refusal). answered z answer.Voted) one.answer) ∙ voted_outcome one.reply)
-          (step_keeps told lasts stands rules_in named_in n (request.Vote user description [] (record { stores = w.pending.stores; checks = w.pending.checks })) one.reply old.hub new.hub old.stamps new.stamps one.step)
+          (step_keeps_list told lasts stands rules_in named_in n (request.Vote user description [] (record { stores = w.pending.stores; checks = w.pending.checks })) one.reply old.hub new.hub old.stamps new.stamps one.step
+          (λ m. step_left (rules_of rules_in named_in old.hub) m n (request.Vote user description [] (record { stores = w.pending.stores; checks = w.pending.checks })) 0))
 
       by_call : (w : Work) → IsCallMade makes a b (Vote user description w.pending.stores w.pending.checks result) result → Left (line.Vote user description) reply
       by_call w (inl call) = by_step w (calls (Vote user description w.pending.stores w.pending.checks result) call)
@@ -542,14 +567,15 @@ module _ {R F S : Type 0} (told lasts : Type 0) (stands : List ℕ → List Tran
   -- `undo`
   pub undo_hub : (k l : Connection) (user description tids : List ℕ) (result : Result (Unit {0}) Refusal) (reply : Answer) → ((r : Refusal) → followed_by (changeable (work_of k)) unmixed ≡ Err r → (result ≡ Err r) × (b ≡ a) × (l ≡ k))
       → (IsOk (followed_by (changeable (work_of k)) unmixed) → makes a (Undo user description tids result) b) → reply ≡ answered result answer.Voted
-      → LeavesHub told lasts stands (rules_of rules_in named_in old.hub) (line.Undo user description tids) (outcome_of_answer reply) old.hub new.hub
+      → LeavesHub told lasts stands (rules_of rules_in named_in old.hub) (Some x) (line.Undo user description tids) (outcome_of_answer reply) old.hub new.hub
   undo_hub k l user description tids result reply refused made answers = by_work (followed_by (changeable (work_of k)) unmixed) refl
     where
       by_step : IsStarved old new result ⊎ IsOneStep (IsHubStep told lasts stands rules_in named_in n) (request.Undo user description tids) locals.vote_answer old new result → Left (line.Undo user description tids) reply
       by_step (inl none) = refused_left (line.Undo user description tids) (λ z. answered z answer.Voted) result refusal.Memory reply refl answers none.1 (inr refl) none.0
       by_step (inr one) =
           step_left_as (line.Undo user description tids) reply (outcome_of one.reply) (ap outcome_of_answer (answers ∙ ap (λ (z : Result (Unit {0}) Refusal). answered z answer.Voted) one.answer) ∙ voted_outcome one.reply)
-          (step_keeps told lasts stands rules_in named_in n (request.Undo user description tids) one.reply old.hub new.hub old.stamps new.stamps one.step)
+          (step_keeps_list told lasts stands rules_in named_in n (request.Undo user description tids) one.reply old.hub new.hub old.stamps new.stamps one.step
+          (λ m. step_left (rules_of rules_in named_in old.hub) m n (request.Undo user description tids) 0))
 
       by_work : (c : Result Work Refusal) → followed_by (changeable (work_of k)) unmixed ≡ c → Left (line.Undo user description tids) reply
       by_work (Err r) is = refused_left (line.Undo user description tids) (λ z. answered z answer.Voted) result r reply refl answers (refused r is).0 (unchanged_calm k unmixed r (λ w. mixed_calm w r) is) (same (refused r is).1)
@@ -557,7 +583,7 @@ module _ {R F S : Type 0} (told lasts : Type 0) (stands : List ℕ → List Tran
 
   -- `abort`
   pub abort_hub : (k : Connection) (result : Result (Unit {0}) Refusal) (reply : Answer) → ((r : Refusal) → work_of k ≡ Err r → (result ≡ Err r) × (b ≡ a)) → ((w : Work) → work_of k ≡ Ok w → makes a (Abort result) b)
-      → reply ≡ answered result answer.Aborted → LeavesHub told lasts stands (rules_of rules_in named_in old.hub) line.Abort (outcome_of_answer reply) old.hub new.hub
+      → reply ≡ answered result answer.Aborted → LeavesHub told lasts stands (rules_of rules_in named_in old.hub) (Some x) line.Abort (outcome_of_answer reply) old.hub new.hub
   abort_hub k result reply refused made answers = by_work (work_of k) refl
     where
       by_work : (c : Result Work Refusal) → work_of k ≡ c → Left line.Abort reply
@@ -565,26 +591,32 @@ module _ {R F S : Type 0} (told lasts : Type 0) (stands : List ℕ → List Tran
       by_work (Ok w) is =
           let one : IsOneStep (IsHubStep told lasts stands rules_in named_in n) request.Abort locals.abort_answer old new result = calls (Abort result) (made w is) in
           step_left_as line.Abort reply (outcome_of one.reply) (ap outcome_of_answer (answers ∙ ap (λ (z : Result (Unit {0}) Refusal). answered z answer.Aborted) one.answer) ∙ aborted_outcome one.reply)
-          (step_keeps told lasts stands rules_in named_in n request.Abort one.reply old.hub new.hub old.stamps new.stamps one.step)
+          (step_keeps_list told lasts stands rules_in named_in n request.Abort one.reply old.hub new.hub old.stamps new.stamps one.step
+          (λ m. step_left (rules_of rules_in named_in old.hub) m n request.Abort 0))
 
   -- `finish`
-  pub finish_hub : (k : Connection) (result : Result (Option ℕ) Refusal) (reply : Answer) → ((r : Refusal) → work_of k ≡ Err r → (result ≡ Err r) × (b ≡ a)) → ((w : Work) → work_of k ≡ Ok w → makes a (Finish result) b)
-      → reply ≡ finished_as result → LeavesHub told lasts stands (rules_of rules_in named_in old.hub) line.Finish (outcome_of_answer reply) old.hub new.hub
-  finish_hub k result reply refused made answers = by_work (work_of k) refl
+  pub finish_hub : x.session ≡ n → (result : Result (Option ℕ) Refusal) (reply : Answer) → ((r : Refusal) → work_of x.connection ≡ Err r → (result ≡ Err r) × (b ≡ a)) → ((w : Work) → work_of x.connection ≡ Ok w → makes a (Finish result) b)
+      → reply ≡ finished_as result → LeavesHub told lasts stands (rules_of rules_in named_in old.hub) (Some x) line.Finish (outcome_of_answer reply) old.hub new.hub
+  finish_hub session result reply refused made answers = by_work (work_of x.connection) refl
     where
-      by_work : (c : Result Work Refusal) → work_of k ≡ c → Left line.Finish reply
-      by_work (Err r) is = refused_left line.Finish finished_as result r reply refl answers (refused r is).0 (closed_calm k r is) (same (refused r is).1)
+      over : (w : Work) → work_of x.connection ≡ Ok w → (o : StepOutcome) → KeepsHub told lasts stands false (λ m. IsBeforeOrBehind stands (rules_of rules_in named_in old.hub) m n request.Finish) o old.hub new.hub → LeftAs line.Finish o
+      over w is o keeps =
+          subst (λ (c : Result Work Refusal). KeepsHub told lasts stands false (IsEndListOf stands (rules_of rules_in named_in old.hub) x.session c) o old.hub new.hub) (sym is)
+          (subst (λ (s : ℕ). KeepsHub told lasts stands false (λ m. IsBeforeOrBehind stands (rules_of rules_in named_in old.hub) m s request.Finish) o old.hub new.hub) (sym session) keeps)
+
+      by_work : (c : Result Work Refusal) → work_of x.connection ≡ c → Left line.Finish reply
+      by_work (Err r) is = refused_left line.Finish finished_as result r reply refl answers (refused r is).0 (closed_calm x.connection r is) (same (refused r is).1)
       by_work (Ok w) is =
           let f : IsFinishStep (IsHubStep told lasts stands rules_in named_in n) old new result = calls (Finish result) (made w is) in
           step_left_as line.Finish reply (outcome_of f.reply) (ap outcome_of_answer (answers ∙ ap finished_as f.answer) ∙ finished_outcome f.reply)
-          (finish_told told lasts stands rules_in named_in n old.hub f.behind new.hub old.stamps f.left new.stamps f.reply f.step f.front)
+          (over w is (outcome_of f.reply) (finish_told told lasts stands rules_in named_in n old.hub f.behind new.hub old.stamps f.left new.stamps f.reply f.step f.front))
 
   -- `put`
   pub put_hub : (k l : Connection) (stands_for : views.Client → Type 0) (state : Server) (oid : ℕ) (bytes : List ℕ) (result : Result (Unit {0}) Refusal) (reply : Answer)
       → ((w : Work) (p : PendingStore) → changeable (work_of k) ≡ Ok w → pending_of w.pending.stores oid ≡ Some p → LeavesWork (stored_in_work (record { oid = oid; base = p.base; content = Held bytes }) w) (work_of k) (work_of l) result × (b ≡ a))
       → ((w : Work) → changeable (work_of k) ≡ Ok w → pending_of w.pending.stores oid ≡ None → IsPutAsRead makes stands_for state a b k l w oid bytes result)
       → ((r : Refusal) → changeable (work_of k) ≡ Err r → (result ≡ Err r) × (b ≡ a) × (work_of l ≡ work_of k)) → reply ≡ answered result answer.Stored
-      → LeavesHub told lasts stands (rules_of rules_in named_in old.hub) (line.Put oid bytes) (outcome_of_answer reply) old.hub new.hub
+      → LeavesHub told lasts stands (rules_of rules_in named_in old.hub) (Some x) (line.Put oid bytes) (outcome_of_answer reply) old.hub new.hub
   put_hub k l stands_for state oid bytes result reply waiting reads refused answers = by_work (changeable (work_of k)) refl
     where
       so : outcome_of_answer reply ≡ outcome_of_result result

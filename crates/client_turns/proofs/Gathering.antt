@@ -21,7 +21,7 @@ use Rattle.zodb_core.specs.Steps.{early_refusal, oids_step, unless_early}
 use Rattle.tree_calls.specs.declared.known.Seen.{Seen}
 use Rattle.tree_calls.specs.Known.{Agrees, known_at}
 use Rattle.client_turns.specs.declared.client.Client.{Client}
-use Rattle.connection_view.specs.declared.work.Work.{Work}
+use Rattle.connection_view.specs.Works.{Work}
 use Rattle.client_turns.specs.Clients.{Changes, Moment, OpenTransaction}
 use Rattle.client_turns.specs.Clients as seen
 use Rattle.client_turns.specs.DrawLaws.{new_reply}

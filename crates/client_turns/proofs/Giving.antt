@@ -35,7 +35,8 @@ use Rattle.zodb_core.specs.StepCases.{PackCases, by_pack_step}
 use Rattle.zodb_core.specs.Steps.{Stepped, changes_in_journal, early_refusal, finish_gives, finish_step, journal_limit, loaded, replied_refusal, request_step, step_of, transaction_with, unless_early, vote_at, vote_counted, vote_step, with_vote}
 use Rattle.connection_view.specs.Connections.{waiting_read}
 use Rattle.client_turns.specs.Clients.{Changes, Client, Moment, OpenTransaction, changes_of, place_of_client}
-use Rattle.client_turns.specs.Laws.{front_given, number_given}
+use Rattle.client_turns.specs.Laws.{front_given}
+use Rattle.client_turns.specs.Numbers.{number_given}
 use Rattle.client_turns.specs.Lines.{answer_of, data_of, is_committed, object_of, pending_in, put, request_of, rolled_back, rolled_to, saved, store_unless, stored}
 use Rattle.client_turns.specs.Refusing.{connection_refusal}
 use Rattle.client_turns.specs.DrawLaws.{tree_answer}
@@ -170,7 +171,7 @@ reply_front rules m n q stamp (reply.Since keep commits) left ticks a b f made i
 reply_front rules m n q stamp reply.Closed left ticks a b f made is = absurd cc
 reply_front rules m n q stamp (reply.Refused why) left ticks a b f made is = absurd cc
 
-oids_given : (rules : Rules) (m : Machine) (n : ℕ) (q : Request) (stamp : ℕ) (first count : ℕ) (left : Machine) (ticks : Bool) (x : ℕ) → AsksOne q
+pub oids_given : (rules : Rules) (m : Machine) (n : ℕ) (q : Request) (stamp : ℕ) (first count : ℕ) (left : Machine) (ticks : Bool) (x : ℕ) → AsksOne q
     → record { reply = reply.Oids first count; machine = left; ticks = ticks } ≡ step_of rules m n q stamp → Some first ≡ Some x → (x ≡ m.greatest + 1) × (x ≤ left.greatest)
 oids_given rules m n q stamp first count left ticks x one made is =
     let range : NumberRange = record { first = first; count = count } in

@@ -1,4 +1,5 @@
 pub mod Hubs
+pub mod Below
 pub mod Calling
 pub mod Causes
 pub mod Causing
@@ -15,6 +16,7 @@ pub mod Framing
 pub mod Giving
 pub mod Lasting
 pub mod Lawful
+pub mod Numbering
 pub mod Lined
 pub mod Loading
 pub mod One

@@ -16,7 +16,7 @@ use Rattle.zb_script.specs.declared.line.Line.TheVariants as line
 use Rattle.commit_phases.specs.Pending.{pending_of}
 use Rattle.zodb_core.specs.HubState.{HubState, rules_of}
 use Rattle.zodb_core.specs.Machine.{Rules}
-use Rattle.connection_view.specs.declared.work.Work.{Work}
+use Rattle.connection_view.specs.Works.{Work}
 use Rattle.connection_view.specs.Connections.{Between, InView, IsCallMade, IsFrontBy, IsNewWork, IsPutAsRead, IsReadBy, LeavesWork, begin_refusal, changeable, checked_in_work, deleted_in_work, followed_by, rolled_back, saved, stored_in_work, unmixed, work_of, waiting_read}
 use Rattle.connection_view.specs.Loading.{Abort, Finish, LoadsCall, Reads, Undo, Vote}
 use Rattle.connection_view.specs.Views.{View, committed, each_object, renewed, stored_in, unvoted, view_of, voting}

@@ -19,7 +19,7 @@ use Rattle.zodb_core.specs.Sound.{IsPackWithin}
 use Rattle.zodb_core.specs.SoundLaws.{left_within}
 use Rattle.zodb_core.specs.Steps.{Stepped}
 use Rattle.connection_view.specs.declared.connection.Connection.{Connection}
-use Rattle.connection_view.specs.declared.work.Work.{Work}
+use Rattle.connection_view.specs.Works.{Work}
 use Rattle.connection_view.specs.Connections.{Between, InView, work_of}
 use Rattle.connection_view.specs.Views.{View}
 use Rattle.connection_view.specs.Views as views

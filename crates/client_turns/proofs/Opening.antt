@@ -17,7 +17,7 @@ use Rattle.zodb_core.specs.Outcomes.{closed_session}
 use Rattle.zodb_core.specs.Sound.{IsPackWithin}
 use Rattle.zb_model.specs.declared.data.Transaction.{Transaction}
 use Rattle.zb_model.specs.declared.refusal.Refusal.{Refusal}
-use Rattle.connection_view.specs.declared.work.Work.{Work}
+use Rattle.connection_view.specs.Works.{Work}
 use Rattle.connection_view.specs.Connections.{Between, work_of}
 use Rattle.connection_view.specs.Views.{Later, Server, View, no_object, view_of}
 use Rattle.connection_view.specs.Views as views

@@ -95,3 +95,9 @@ same_at (z ∷ xs) zero x y there read = read ∙ same z x there
     same : (a b : Client) → Some a ≡ Some b → a ≡ b
     same a b e = cc
 same_at (z ∷ xs) (suc at) x y there read = same_at xs at x y there read
+
+-- and so it is the one there
+pub some_at : (xs : List Client) (at : ℕ) (y : Client) → at < length xs → y ≡ get_or xs at y → Some y ≡ slice_get xs at
+some_at xs at y within read =
+    let x : (z : Client) × (slice_get xs at ≡ Some z) = there_at xs at within in
+    ap (λ (z : Client). Some z) (same_at xs at x.0 y x.1 read) ∙ sym x.1

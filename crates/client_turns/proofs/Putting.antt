@@ -15,7 +15,7 @@ use Rattle.zb_script.specs.declared.line.Line.TheVariants as line
 use Rattle.commit_phases.specs.Pending.{pending_of}
 use Rattle.zodb_core.specs.HubState.{HubState, rules_of}
 use Rattle.zodb_core.specs.Machine.{is_open_in}
-use Rattle.connection_view.specs.declared.work.Work.{Work}
+use Rattle.connection_view.specs.Works.{Work}
 use Rattle.connection_view.specs.Connections.{Between, InView, IsPutAsRead, LeavesWork, base_read, changeable, stored_in_work, work_of}
 use Rattle.connection_view.specs.Loading.{LoadsCall}
 use Rattle.connection_view.specs.Views.{View}

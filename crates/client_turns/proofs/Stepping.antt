@@ -14,7 +14,7 @@ use Rattle.zodb_core.specs.declared.request.Request.TheVariants as request
 use Rattle.zodb_core.specs.HubState.{HubState, StandsForMachine, counts_of, rules_of}
 use Rattle.zodb_core.specs.Machine.{Machine, Rules, machine_over}
 use Rattle.connection_view.specs.declared.connection.Connection.{Connection}
-use Rattle.connection_view.specs.declared.work.Work.{Work}
+use Rattle.connection_view.specs.Works.{Work}
 use Rattle.connection_view.specs.Connections.{work_of}
 use Rattle.connection_view.specs.Views as views
 use Rattle.local_loads.specs.declared.told.Told.{Told}

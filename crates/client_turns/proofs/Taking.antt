@@ -18,7 +18,7 @@ use Rattle.zodb_core.specs.Machine.{MachineSession, Rules, is_open_in}
 use Rattle.zodb_core.specs.Steps.{refuse_if}
 use Rattle.client_turns.specs.declared.client.Client.{Client}
 use Rattle.connection_view.specs.declared.connection.Connection.{Connection}
-use Rattle.connection_view.specs.declared.work.Work.{Work}
+use Rattle.connection_view.specs.Works.{Work}
 use Rattle.connection_view.specs.Connections.{work_of}
 use Rattle.connection_view.specs.Views as views
 use Rattle.client_turns.specs.declared.errors.TurnError.{TurnError}

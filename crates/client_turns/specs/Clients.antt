@@ -1,5 +1,5 @@
 -- What a client remembers between its lines, and what there is at a moment. Source: connections and transactions of ZODB.
-use Rattle.std.specs.Prelude.{ℕ, List, [], Option, Some, Bool, false, bytes_eq, slice_set}
+use Rattle.std.specs.Prelude.{ℕ, List, [], Option, Some, None, Bool, false, bytes_eq, slice_get, slice_set}
 use Rattle.std.specs.List.{position}
 use Rattle.std.specs.Option.{option_map}
 use Rattle.zb_ids.specs.declared.stamp.Stamp.{Stamp}
@@ -60,6 +60,14 @@ has_name name c = bytes_eq c.name name
 -- the place of the first client of this name
 abbrev pub place_of_client : List ℕ → List Client → Option ℕ
 place_of_client name clients = position (has_name name) clients
+
+-- the client at a place, if there is one, and the first one of a name
+abbrev pub client_found : List Client → Option ℕ → Option Client
+client_found clients None = None
+client_found clients (Some at) = slice_get clients at
+
+abbrev pub client_named : List ℕ → List Client → Option Client
+client_named name clients = client_found clients (place_of_client name clients)
 
 -- a moment at which the client at a place is this one
 abbrev pub with_client : Moment → ℕ → Client → Moment

@@ -125,7 +125,7 @@ read_leaves m b now o drawn rest counts = record {
 
 uncalled_leaves : (m : Moment) (n : ℕ) (t : OpenTransaction) (root : ℕ) (op : TreeOperation) (why : Refusal) (now : Moment) → IsUncalled m n t root op why now → LeavesCall m (outcome_of_refusal why) now
 uncalled_leaves m n t root op why now (by_tree objects sees refused same) = drawn_leaves m now (outcome_of_refusal why) (refused_answers objects root op why refused) (drawn_same m now same)
-uncalled_leaves m n t root op why now (by_read oid read found) = read_leaves m m now (outcome_of_refusal why) (drawn_same m m refl) read.rest read.counts
+uncalled_leaves m n t root op why now (by_read oid asked read found) = read_leaves m m now (outcome_of_refusal why) (drawn_same m m refl) read.rest read.counts
 uncalled_leaves m n t root op why now (by_draw numbers behind lacks draws (rules, step)) =
     drawn_leaves m now (outcome_of_refusal why) (new_answered rules behind n (reply.Refused why) now step) (drawn_twice m behind now (draws_drawn m n numbers behind draws) (new_drawn rules behind n (reply.Refused why) now step))
 uncalled_leaves m n t root op why now (by_want numbers may draws is) =
@@ -175,7 +175,8 @@ end_counts m b now at c t (Err why) a leaves refused =
     subst (λ (k : FaultCounts). IsCountedBy m.counts k (outcome_of_answer a)) (sym (ap (λ (x : Moment). x.counts) refused.1))
     (subst (λ (x : Answer). IsCountedBy m.counts b.counts (outcome_of_answer x)) (sym refused.0) leaves.counts)
 
-end_machine : (b now : Moment) (at : ℕ) (c : Client) (t : OpenTransaction) (result : Result Made Refusal) (a : Answer) → IsTreeEnd b at c t result a now → now.machine ≡ b.machine
+-- the machine behind a line of a tree is that behind its call
+pub end_machine : (b now : Moment) (at : ℕ) (c : Client) (t : OpenTransaction) (result : Result Made Refusal) (a : Answer) → IsTreeEnd b at c t result a now → now.machine ≡ b.machine
 end_machine b now at c t (Ok made) a (inl change) = ap (λ (x : Moment). x.machine) change.1
 end_machine b now at c t (Ok made) a (inr starved) = ap (λ (x : Moment). x.machine) starved.1
 end_machine b now at c t (Err why) a refused = ap (λ (x : Moment). x.machine) refused.1

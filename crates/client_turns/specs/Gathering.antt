@@ -15,13 +15,13 @@ use Rattle.tree_calls.specs.declared.attempt.Made.{Made}
 use Rattle.tree_calls.specs.declared.known.Seen.{Seen}
 use Rattle.tree_calls.specs.declared.operation.TreeOperation.{TreeOperation}
 use Rattle.tree_calls.specs.Known.{known_at}
-use Rattle.connection_view.specs.declared.work.Work.{Work}
+use Rattle.connection_view.specs.Works.{Work}
 use Rattle.client_turns.specs.Clients.{Client, Moment, OpenTransaction}
 use Rattle.client_turns.specs.Lines.{outcome_of_result}
 use Rattle.connection_view.specs.Views.{read_below}
 use Rattle.client_turns.specs.Standing.{ClientsState, LeadsTo, StandsForMoment}
 use Rattle.client_turns.specs.Steps.{IsReadAt}
-use Rattle.client_turns.specs.Trees.{CallEnds, Draws, IsDrawn, IsSeenIn, IsUndrawn, MayDraw, is_missing, seen_waiting}
+use Rattle.client_turns.specs.Trees.{CallEnds, Draws, IsAsked, IsDrawn, IsSeenIn, IsUndrawn, MayDraw, is_missing, seen_waiting}
 
 -- ---- what a transaction has
 
@@ -85,6 +85,10 @@ IsDrawOf m at result now = (c : Client) × (slice_get m.clients at ≡ Some c) �
 abbrev pub IsCallOf : Moment → ℕ → ℕ → TreeOperation → Result Made Refusal → Moment → Type 0
 IsCallOf m at root op result now =
     (c : Client) × (slice_get m.clients at ≡ Some c) × (t : OpenTransaction) × (c.transaction ≡ Some t) × CallEnds m c.session t root op result now
+
+-- an object that is read for a call of the client at a place
+abbrev pub IsAskedOf : Moment → ℕ → ℕ → TreeOperation → ℕ → Type 0
+IsAskedOf m at root op oid = (c : Client) × (slice_get m.clients at ≡ Some c) × (t : OpenTransaction) × (c.transaction ≡ Some t) × IsAsked m.machine t root op oid
 
 -- ---- gathering
 

@@ -1,5 +1,5 @@
 -- Laws of turns: what holds of all that scripts are answered, over whatever rules, stamps and faults. Own.
-use Rattle.std.specs.Prelude.{◌≡◌, ℕ, ◌<◌, ◌≤◌, List, ◌∷◌, ◌++◌, Option, Some, None, Ok, Err, length, All, IfSome, slice_get, Bool, true, false}
+use Rattle.std.specs.Prelude.{◌≡◌, ◌⊎◌, ℕ, ◌<◌, ◌≤◌, List, ◌∷◌, ◌++◌, Option, Some, None, Ok, Err, length, All, IfSome, slice_get, Bool, true, false}
 use Rattle.std.specs.List.{AllByRecursion, AllPairs, filter_map}
 use Rattle.zb_base.specs.Counts.{Rose}
 use Rattle.zb_ids.specs.declared.stamp.Stamp.{Stamp}
@@ -28,12 +28,16 @@ use Rattle.zodb_core.specs.Outcomes.{FaultCounts}
 use Rattle.zodb_core.specs.Sound.{AreWellFormedStores, ComesTo, GrowsTo, IsSoundMachine}
 use Rattle.zodb_core.specs.Steps.{step_of}
 use Rattle.client_turns.specs.Clients.{Changes, Client, Moment, OpenTransaction, changes_of, first_moment, place_of_client}
-use Rattle.client_turns.specs.Lines.{request_of}
+use Rattle.client_turns.specs.Lines.{request_of, waiting, with_changes}
+use Rattle.client_turns.specs.Numbers.{numbers_given}
 use Rattle.client_turns.specs.Output.{FlaggedTurn, Out, TurnAnswer}
 use Rattle.client_turns.specs.Reads.{IsMissedFor}
 use Rattle.client_turns.specs.Refusing.{connection_refusal}
-use Rattle.client_turns.specs.Trees.{Draws, NeedsMore, Sees, operation_of, stores_put}
+use Rattle.client_turns.specs.Trees.{Draws, NeedsMore, Sees, answer_told, operation_of, seen_waiting, stores_put}
 use Rattle.client_turns.specs.Turns.{IsTurn}
+use Rattle.client_turns.specs.Views.{server_of}
+use Rattle.connection_view.specs.Loading.{IsMissing}
+use Rattle.connection_view.specs.Views.{View}
 
 -- ---- words
 
@@ -62,21 +66,14 @@ pub record Follows (m now : Machine) : Type 0 where
   pub grows : switches_of now.journal ≡ switches_of m.journal → GrowsTo m.list now.list
   pub greatest : m.greatest ≤ now.greatest
 
--- the front that an answer gives, if it gives one, and the number of a new object
+-- the front that an answer gives, if it gives one
 abbrev pub front_given : Answer → Option ℕ
 front_given (answer.Begun front) = Some front
 front_given _ = None
 
-abbrev pub number_given : Answer → Option ℕ
-number_given (answer.Oid oid) = Some oid
-number_given _ = None
-
--- the fronts, and the numbers, that turns were given, in their order
+-- the fronts that turns were given, in their order
 abbrev pub fronts_given : List TurnAnswer → List ℕ
 fronts_given out = filter_map (λ (o : TurnAnswer). front_given o.answer) out
-
-abbrev pub numbers_given : List TurnAnswer → List ℕ
-numbers_given out = filter_map (λ (o : TurnAnswer). number_given o.answer) out
 
 -- ---- the list
 
@@ -99,15 +96,15 @@ FrontsNeverFall = (rules : Rules) (list : List Transaction) (stamps : Option (Li
 
 -- ---- new numbers
 
--- From a moment on, the numbers of new objects that turns are given rise, and each is above all objects of the list at that moment.
-pub record AreNewGiven (m : Moment) (out : List TurnAnswer) : Type 0 where
-  pub rising : AllPairs (λ earlier later. earlier < later) (numbers_given out)
-  pub unlisted : All (λ n. greatest_oid m.machine.list < n) (numbers_given out)
+-- Numbers of new objects rise, and each is above all objects of the list at a moment.
+pub record AreNew (m : Moment) (numbers : List ℕ) : Type 0 where
+  pub rising : AllPairs (λ earlier later. earlier < later) numbers
+  pub unlisted : All (λ n. greatest_oid m.machine.list < n) numbers
 
--- from any moment on that turns led to
+-- from any moment on that turns led to, the numbers that turns are given are new, those among them that calls on trees draw
 abbrev pub NumbersAreNew : Type 0
 NumbersAreNew = (rules : Rules) (list : List Transaction) (stamps : Option (List Stamp)) (counts : FaultCounts) (turns more : List FlaggedTurn) (out behind : List TurnAnswer) (m now : Moment)
-    → IsDatabase list → Out rules (first_moment list stamps counts) turns out m → Out rules m more behind now → AreNewGiven m behind
+    → IsDatabase list → Out rules (first_moment list stamps counts) turns out m → (output : Out rules m more behind now) → AreNew m (numbers_given rules m more behind now output)
 
 -- ---- reads
 
@@ -119,17 +116,70 @@ pub record HasOpen (m : Moment) (name : List ℕ) (t : OpenTransaction) : Type 0
   pub there : slice_get m.clients at ≡ Some client
   pub begun : client.transaction ≡ Some t
 
--- what is read is the object's revision below the front, in the view's list
+-- an object's revision below a front, in a list, has these bytes
+pub record IsHeldBelow (oid front : ℕ) (list : List Transaction) (serial : ℕ) (bytes : List ℕ) : Type 0 where
+  pub below : serial < front
+  pub revision : revision_below oid front list ≡ Some (record { serial = serial; content = Held bytes })
+
+-- and so below a view's front, in the view's list
+abbrev pub IsInViewBelow : View → ℕ → ℕ → List ℕ → Type 0
+IsInViewBelow v oid serial bytes = IsHeldBelow oid v.front v.list serial bytes
+
+-- `load`: what is read is the object's revision below the front, in the view's list
 pub record IsReadBelow (m : Moment) (t : Turn) (serial : ℕ) (bytes : List ℕ) : Type 0 where
   pub transaction : OpenTransaction
   pub oid : ℕ
   pub line : t.line ≡ line.Load oid
   pub has : HasOpen m t.client transaction
-  pub below : serial < transaction.view.front
-  pub revision : revision_below oid transaction.view.front transaction.view.list ≡ Some (record { serial = serial; content = Held bytes })
+  pub held : IsInViewBelow transaction.view oid serial bytes
 
-abbrev pub ReadsStayBelowTheFront : Type 0
-ReadsStayBelowTheFront = (rules : Rules) (m : Moment) (t : Turn) (last : Bool) (serial : ℕ) (bytes : List ℕ) (now : Moment) → IsTurn rules m t last (Ok (answer.Data serial bytes)) now → IsReadBelow m t serial bytes
+-- `get`: what waits for the object, with its base, or else that revision
+abbrev pub IsGotFrom : View → ℕ → Option PendingStore → ℕ → List ℕ → Type 0
+IsGotFrom v oid (Some p) serial bytes = (p.base ≡ serial) × (p.content ≡ Held bytes)
+IsGotFrom v oid None serial bytes = IsInViewBelow v oid serial bytes
+
+pub record IsGotBelow (m : Moment) (t : Turn) (oid serial : ℕ) (bytes : List ℕ) : Type 0 where
+  pub transaction : OpenTransaction
+  pub has : HasOpen m t.client transaction
+  pub got : IsGotFrom transaction.view oid (pending_of transaction.changes.pending.stores oid) serial bytes
+
+-- `put`: what it stores is made from what the store before it was made from, or else from that revision, or from nothing, where the view hasn't got the object
+abbrev pub IsBaseFrom : Machine → View → ℕ → Option PendingStore → ℕ → Type 0
+IsBaseFrom m v oid (Some p) base = base ≡ p.base
+IsBaseFrom m v oid None base = ((bytes : List ℕ) × IsInViewBelow v oid base bytes) ⊎ ((base ≡ 0) × IsMissing v (server_of m) oid false)
+
+pub record IsPutBelow (m : Moment) (t : Turn) (oid : ℕ) (bytes : List ℕ) (now : Moment) : Type 0 where
+  pub transaction : OpenTransaction
+  pub has : HasOpen m t.client transaction
+  pub base : ℕ
+  pub from : IsBaseFrom m.machine transaction.view oid (pending_of transaction.changes.pending.stores oid) base
+  pub left : slice_get now.clients has.at ≡ Some (with_changes has.client transaction (waiting transaction.changes (record { oid = oid; base = base; content = Held bytes })))
+
+-- a line of a tree: each object that its call sees is what waits for it, or else that revision, or nothing, where the view hasn't got it
+abbrev pub IsSeenFrom : Machine → View → ℕ → Option PendingStore → Option Seen → Type 0
+IsSeenFrom m v oid (Some p) x = x ≡ seen_waiting p.base p.content
+IsSeenFrom m v oid None (Some x) = IsInViewBelow v oid x.serial x.bytes
+IsSeenFrom m v oid None None = (packed : Bool) × IsMissing v (server_of m) oid packed
+
+pub record IsCalledBelow (m : Moment) (t : Turn) (root : ℕ) (call : TreeCall) (a : Answer) : Type 0 where
+  pub transaction : OpenTransaction
+  pub has : HasOpen m t.client transaction
+  pub objects : ℕ → Option Seen
+  pub seen : (oid : ℕ) → IsSeenFrom m.machine transaction.view oid (pending_of transaction.changes.pending.stores oid) (objects oid)
+  pub numbers : List ℕ
+  pub told : TreeAnswer
+  pub puts : List TreePut
+  pub made : IsMade objects root (operation_of call) numbers told puts
+  pub answer : a ≡ answer_told told
+
+-- Whatever a turn reads is below the front of its client's view, in the list that the view was taken of.
+pub record ReadsStayBelowTheFront : Type 0 where
+  pub loads : (rules : Rules) (m : Moment) (t : Turn) (last : Bool) (serial : ℕ) (bytes : List ℕ) (now : Moment) → IsTurn rules m t last (Ok (answer.Data serial bytes)) now → IsReadBelow m t serial bytes
+  pub gets : (rules : Rules) (m : Moment) (t : Turn) (last : Bool) (oid serial : ℕ) (bytes : List ℕ) (now : Moment) → t.line ≡ line.Get oid → IsTurn rules m t last (Ok (answer.Object serial bytes)) now
+      → IsGotBelow m t oid serial bytes
+  pub puts : (rules : Rules) (m : Moment) (t : Turn) (last : Bool) (oid : ℕ) (bytes : List ℕ) (now : Moment) → t.line ≡ line.Put oid bytes → IsTurn rules m t last (Ok answer.Stored) now → IsPutBelow m t oid bytes now
+  pub calls : (rules : Rules) (m : Moment) (t : Turn) (last : Bool) (root : ℕ) (call : TreeCall) (a : Answer) (now : Moment) → t.line ≡ line.Tree root call → ((why : Refusal) → ¬ (a ≡ answer.Refused why)) → IsTurn rules m t last (Ok a) now
+      → IsCalledBelow m t root call a
 
 -- ---- refusals
 

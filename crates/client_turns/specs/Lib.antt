@@ -8,9 +8,11 @@ pub mod Steps
 pub mod Trees
 pub mod Turns
 pub mod Output
+pub mod Numbers
 pub mod Standing
 pub mod Asking
 pub mod Gathering
 pub mod DrawLaws
+pub mod ListLaws
 pub mod TurnLaws
 pub mod CountLaws

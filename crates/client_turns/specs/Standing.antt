@@ -1,6 +1,6 @@
 -- What contracts see of clients over a hub, and the moments that they stand for. Own.
-use Rattle.std.specs.Prelude.{◌≡◌, ◌⊎◌, ℕ, List, [], ◌∷◌, ◌++◌, Option, Some, None, Result, Ok, Err, Bool, true, false, IsSome, slice_get, slice_set}
-use Rattle.std.specs.Option.{IsSomeAnd}
+use Rattle.std.specs.Prelude.{◌≡◌, ◌⊎◌, ℕ, List, [], ◌∷◌, Option, Some, None, Result, Ok, Err, Bool, true, false, IsSome, bytes_eq, slice_get, slice_set}
+use Rattle.std.specs.List.{position}
 use Rattle.zb_ids.specs.declared.stamp.Stamp.{Stamp}
 use Rattle.zb_model.specs.declared.data.Transaction.{Transaction}
 use Rattle.zb_model.specs.declared.refusal.Refusal.{Refusal}
@@ -9,22 +9,21 @@ use Rattle.zb_answers.specs.declared.answer.Answer.{Answer}
 use Rattle.zb_answers.specs.declared.answer.Answer.TheVariants as answer
 use Rattle.zb_script.specs.declared.line.Line.{Line}
 use Rattle.zb_script.specs.declared.line.Line.TheVariants as line
+use Rattle.zb_script.specs.declared.line.Turn.{Turn}
 use Rattle.zodb_core.specs.declared.reply.Reply.{Reply}
 use Rattle.zodb_core.specs.declared.request.Request.{Request}
 use Rattle.zodb_core.specs.declared.request.Request.TheVariants as request
-use Rattle.pack_reach.specs.Packed.{packed}
-use Rattle.zodb_core.specs.Seen.{PackGoal, goal_of_open, pack_goal}
 use Rattle.zodb_core.specs.Sound.{IsPackWithin}
-use Rattle.zodb_core.specs.HubState.{HubState, StandsForMachine, counts_of, is_store_failed}
-use Rattle.zodb_core.specs.Machine.{Machine, MachineVote, Rules, is_open_in}
+use Rattle.zodb_core.specs.HubState.{HubState, IsBeforeOrBehind, StandsForMachine, counts_of, is_store_failed}
+use Rattle.zodb_core.specs.Machine.{Machine, Rules, is_open_in}
 use Rattle.zodb_core.specs.Outcomes.{Answered, AreLaterCounts, FaultCounts, StepOutcome, outcome_of, outcome_of_refusal}
 use Rattle.client_turns.specs.declared.client.Client.{Client}
-use Rattle.connection_view.specs.declared.work.Work.{Work}
+use Rattle.connection_view.specs.Works.{Work}
 use Rattle.client_turns.specs.declared.errors.TurnError.{TurnError}
-use Rattle.client_turns.specs.Clients.{Changes, Moment, OpenTransaction, changes_of, place_of_client}
+use Rattle.client_turns.specs.Clients.{Changes, Moment, OpenTransaction, changes_of, client_named, place_of_client}
 use Rattle.client_turns.specs.Clients as clients
-use Rattle.client_turns.specs.Lines.{IsCountedBy, answer_of, end_of, outcome_of_answer}
-use Rattle.client_turns.specs.Refusing.{line_refusal}
+use Rattle.client_turns.specs.Lines.{IsCountedBy, answer_of, end_of, outcome_of_answer, request_of}
+use Rattle.client_turns.specs.Refusing.{connection_refusal, line_refusal}
 use Rattle.client_turns.specs.Steps.{IsReadAt}
 use Rattle.client_turns.specs.Turns.{IsClosingAt, IsLineUnless, IsOwnLine, IsStepLine}
 use Rattle.connection_view.specs.declared.connection.Connection.{Connection}
@@ -196,37 +195,56 @@ MayReadAt m at = (c : clients.Client) × (slice_get m.clients at ≡ Some c) × 
 
 -- ---- what a crash leaves
 
--- what a vote is to write, behind the list
-abbrev pub IsVotedBehind : (List ℕ → List Transaction → Type 0) → List Transaction → Option MachineVote → List ℕ → Type 0
-IsVotedBehind stands list None bytes = ⊥
-IsVotedBehind stands list (Some v) bytes = IsSomeAnd v.writes (λ t. stands bytes (list ++ t ∷ []))
+-- the request that a line makes of the machine: none, where its client's connection refuses the line
+abbrev pub request_unless : Option Refusal → Option Request → Option Request
+request_unless (Some why) q = None
+request_unless None q = q
 
--- bytes stand for the machine's list, or for that with what is voted behind it
-abbrev pub IsListAround : (List ℕ → List Transaction → Type 0) → Machine → List ℕ → Type 0
-IsListAround stands m bytes = stands bytes m.list ⊎ IsVotedBehind stands m.list m.vote bytes
+-- bytes stand for the list before a step of a session, or for the one behind it; where there is no step, for the list
+abbrev pub IsListStepped : (List ℕ → List Transaction → Type 0) → Rules → Machine → ℕ → Option Request → List ℕ → Type 0
+IsListStepped stands rules m n None bytes = stands bytes m.list
+IsListStepped stands rules m n (Some q) bytes = IsBeforeOrBehind stands rules m n q bytes
 
--- what a request packs that names its tid
-abbrev pub goal_named : ℕ → Bool → Machine → Option PackGoal
-goal_named tid collects m = pack_goal (request.Pack tid collects) m.list None
+-- and so in a line of a client, if there is one
+abbrev pub IsListAsked : (List ℕ → List Transaction → Type 0) → Rules → Machine → Option clients.Client → Line → List ℕ → Type 0
+IsListAsked stands rules m None l bytes = stands bytes m.list
+IsListAsked stands rules m (Some c) l bytes = IsListStepped stands rules m c.session (request_unless (connection_refusal m c l) (request_of (changes_of c) l)) bytes
 
--- bytes stand for the machine's list, or for that as a pack leaves it
-abbrev pub IsListPacked : (List ℕ → List Transaction → Type 0) → Rules → Machine → Option PackGoal → List ℕ → Type 0
-IsListPacked stands rules m goal bytes = stands bytes m.list ⊎ IsSomeAnd goal (λ g. stands bytes (packed g.collects rules.named g.tid m.list))
+-- What Main may stand for at each moment of a turn: the list that the turn finds, or, where the client's connection takes the line, and it is a step of the machine,
+-- the list behind that step of the client's session. So it is only ever another list where the session's own vote is finished, or where the list is packed.
+abbrev pub IsListIn : (List ℕ → List Transaction → Type 0) → Rules → Moment → Turn → List ℕ → Type 0
+IsListIn stands rules m t = IsListAsked stands rules m.machine (client_named t.client m.clients) t.line
 
--- In a step bytes stand for the machine's list; where it is a finish, they may stand for that with what is voted behind it, and where it is a pack, or a turn of one,
--- for that packed.
-abbrev pub IsListFor : (List ℕ → List Transaction → Type 0) → Rules → Machine → Request → List ℕ → Type 0
-IsListFor stands rules m request.Finish = IsListAround stands m
-IsListFor stands rules m (request.Pack tid collects) = IsListPacked stands rules m (goal_named tid collects m)
-IsListFor stands rules m request.PackTurn = IsListPacked stands rules m (goal_of_open m.pack)
-IsListFor stands rules m _ = λ bytes. stands bytes m.list
+-- ---- the same of a client as it is kept
 
--- And so in a line: where it is `finish`, they may stand for that with what is voted behind it, and where it is `pack` or `packturn`, for that packed.
-abbrev pub IsListIn : (List ℕ → List Transaction → Type 0) → Rules → Machine → Line → List ℕ → Type 0
-IsListIn stands rules m line.Finish = IsListAround stands m
-IsListIn stands rules m (line.Pack tid collect) = IsListPacked stands rules m (goal_named tid collect m)
-IsListIn stands rules m line.PackTurn = IsListPacked stands rules m (goal_of_open m.pack)
-IsListIn stands rules m _ = λ bytes. stands bytes m.list
+-- in a step of a client
+abbrev pub IsStepListOf : (List ℕ → List Transaction → Type 0) → Rules → Option Client → Request → Machine → List ℕ → Type 0
+IsStepListOf stands rules None q = λ m bytes. stands bytes m.list
+IsStepListOf stands rules (Some x) q = λ m. IsBeforeOrBehind stands rules m x.session q
+
+-- in a finish of a session, where a transaction is open
+abbrev pub IsEndListOf : (List ℕ → List Transaction → Type 0) → Rules → ℕ → Result Work Refusal → Machine → List ℕ → Type 0
+IsEndListOf stands rules n (Err r) = λ m bytes. stands bytes m.list
+IsEndListOf stands rules n (Ok w) = λ m. IsBeforeOrBehind stands rules m n request.Finish
+
+abbrev pub IsFinishListOf : (List ℕ → List Transaction → Type 0) → Rules → Option Client → Machine → List ℕ → Type 0
+IsFinishListOf stands rules None = λ m bytes. stands bytes m.list
+IsFinishListOf stands rules (Some x) = IsEndListOf stands rules x.session (work_of x.connection)
+
+-- in a line of a client
+abbrev pub IsListOf : (List ℕ → List Transaction → Type 0) → Rules → Option Client → Line → Machine → List ℕ → Type 0
+IsListOf stands rules x line.Finish = IsFinishListOf stands rules x
+IsListOf stands rules x (line.Pack tid collect) = IsStepListOf stands rules x (request.Pack tid collect)
+IsListOf stands rules x line.PackTurn = IsStepListOf stands rules x request.PackTurn
+IsListOf stands rules x _ = λ m bytes. stands bytes m.list
+
+-- the client at a place, if there is one, and the first one of a name
+abbrev pub kept_found : List Client → Option ℕ → Option Client
+kept_found xs None = None
+kept_found xs (Some at) = slice_get xs at
+
+abbrev pub kept_named : List ℕ → List Client → Option Client
+kept_named name xs = kept_found xs (position (λ x. bytes_eq x.name name) xs)
 
 -- a line that packs, in one step or in turns
 abbrev pub packs_list : Line → Bool
@@ -247,9 +265,9 @@ pub record KeepsHub {R F : Type 0} (told lasts : Type 0) (stands : List ℕ → 
   pub moments : lasts → told → old.store.broken ≡ false → (m : Machine) → StandsForMachine old m → Leaves Main (λ bytes. stands bytes m.list) old.store.log
       → LeavesOnly Main (may m) old.store.log new.store.log
 
--- and so a whole line
-abbrev pub LeavesHub : {R F : Type 0} → Type 0 → Type 0 → (List ℕ → List Transaction → Type 0) → Rules → Line → StepOutcome → HubState R F → HubState R F → Type 0
-LeavesHub told lasts stands rules l o old new = KeepsHub told lasts stands (packs_list l) (λ m. IsListIn stands rules m l) o old new
+-- and so a whole line of a client
+abbrev pub LeavesHub : {R F : Type 0} → Type 0 → Type 0 → (List ℕ → List Transaction → Type 0) → Rules → Option Client → Line → StepOutcome → HubState R F → HubState R F → Type 0
+LeavesHub told lasts stands rules x l o old new = KeepsHub told lasts stands (packs_list l) (IsListOf stands rules x l) o old new
 
 -- A part of a line that changes no list.
 pub record ReadsHub {R F : Type 0} (told lasts : Type 0) (stands : List ℕ → List Transaction → Type 0) (o : StepOutcome) (old new : HubState R F) : Type 0 where

@@ -32,7 +32,7 @@ use Rattle.client_turns.specs.declared.errors.TurnError.TheVariants as error
 use Rattle.client_turns.specs.Lines.{answer_of, end_in, end_of, is_committed, pending_in, request_of}
 use Rattle.client_turns.specs.Output.{FlaggedTurn, Out, TurnAnswer, is_last}
 use Rattle.client_turns.specs.Refusing.{connection_refusal}
-use Rattle.client_turns.specs.Standing.{IsAhead, goal_named}
+use Rattle.client_turns.specs.Standing.{IsAhead}
 use Rattle.client_turns.specs.Steps.{IsStepAt}
 use Rattle.client_turns.specs.DrawLaws.{raised_same, tree_raised}
 use Rattle.client_turns.specs.Trees.{IsRaised}
@@ -51,6 +51,10 @@ pub data KeepsOrVoted (m : Machine) (l : List Transaction) : Type 0 where
 pub data KeepsOrPacked (rules : Rules) (m : Machine) (goal : Option PackGoal) (l : List Transaction) : Type 0 where
   unpacked : l ≡ m.list → KeepsOrPacked rules m goal l
   packed : IsPackedTo rules.named goal m.list l → KeepsOrPacked rules m goal l
+
+-- what a request packs that names its tid
+abbrev pub goal_named : ℕ → Bool → Machine → Option PackGoal
+goal_named tid collects m = pack_goal (request.Pack tid collects) m.list None
 
 -- the list behind a step: as it was; where it is a finish, maybe with what was voted behind it, and where it is a pack, or a turn of one, maybe packed
 abbrev pub IsListLeft : Rules → Machine → Request → List Transaction → Type 0

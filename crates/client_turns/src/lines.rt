@@ -36,8 +36,8 @@ fn ask_at<St: Store, R: Resolver, F: Refs, C: Clock>(
         × (clients.new.items ≡ slice_set clients.old.items at y)
         × TakesLine St.told (rules_of R.rules F.named hub.old) line.now result hub.old hub.new x y
         (C.stamps clock.old) (C.stamps clock.new) }
-    ensures hub { LeavesHub St.told St.lasts St.stands (rules_of R.rules F.named hub.old) line.now
-        (outcome_of_answer result) hub.old hub.new }
+    ensures hub { LeavesHub St.told St.lasts St.stands (rules_of R.rules F.named hub.old)
+        (slice_get clients.old.items at) line.now (outcome_of_answer result) hub.old hub.new }
     ensures kept { length clients.new.items ≡ length clients.old.items }
 {
     connection_line(alloc, hub, &mut clients[at], line, clock)
@@ -77,8 +77,8 @@ impl<St: Store, R: Resolver, F: Refs> Clients<St, R, F> {
         ensures line { St.told → (m : Moment) → StandsForMoment self.old (C.stamps clock.old) m → MayAskAt m at →
             LeadsTo (IsOpenLineOf (rules_of R.rules F.named self.old.hub) m at line.now result)
             self.new (C.stamps clock.new) }
-        ensures hub { LeavesHub St.told St.lasts St.stands (rules_of R.rules F.named self.old.hub) line.now
-            (outcome_of_answer result) self.old.hub self.new.hub }
+        ensures hub { LeavesHub St.told St.lasts St.stands (rules_of R.rules F.named self.old.hub)
+            (slice_get self.old.clients at) line.now (outcome_of_answer result) self.old.hub self.new.hub }
         ensures kept { length self.new.clients ≡ length self.old.clients }
     {
         ask_at(alloc, &mut self.hub, &mut self.clients, at, line, clock)

@@ -7,7 +7,7 @@ ghost use Rattle.client_turns.specs.declared.client.Client.{Client};
 ghost use Rattle.client_turns.specs.Asking.{IsLeftBy, IsPlain};
 ghost use Rattle.client_turns.specs.Clients.{Moment};
 ghost use Rattle.client_turns.specs.Lines.{outcome_of_answer};
-ghost use Rattle.client_turns.specs.Standing.{IsListFor, IsStepOf, KeepsHub, LeadsTo, StandsForMoment};
+ghost use Rattle.client_turns.specs.Standing.{IsStepListOf, IsStepOf, KeepsHub, LeadsTo, StandsForMoment};
 
 use crate::client::{Client, session_at};
 use crate::clients::Clients;
@@ -53,7 +53,7 @@ impl<St: Store, R: Resolver, F: Refs> Clients<St, R, F> {
             LeadsTo (IsStepOf (rules_of R.rules F.named self.old.hub) m at request result)
             self.new (C.stamps clock.new) }
         ensures hub { KeepsHub St.told St.lasts St.stands (is_pack request)
-            (λ machine. IsListFor St.stands (rules_of R.rules F.named self.old.hub) machine request)
+            (IsStepListOf St.stands (rules_of R.rules F.named self.old.hub) (slice_get self.old.clients at) request)
             (outcome_of_answer result) self.old.hub self.new.hub }
         ensures kept { length self.new.clients ≡ length self.old.clients }
     {

@@ -4,7 +4,8 @@ ghost use Rattle.std.specs.Prelude.{◌≡◌, ◌<◌, ◌≤◌, ℕ, List, []
 ghost use Rattle.zb_model.specs.Database.{IsRecord};
 ghost use Rattle.zodb_core.specs.HubState.{rules_of};
 ghost use Rattle.zodb_core.specs.Outcomes.{Answered};
-ghost use Rattle.tree_calls.specs.Calls.{IsAttempt, IsWanted};
+ghost use Rattle.tree_calls.specs.Calls;
+ghost use Rattle.tree_calls.specs.Calls.{IsAttempt, IsWanted, is_walk};
 ghost use Rattle.tree_calls.specs.declared.known.Seen.{Seen};
 ghost use Rattle.tree_calls.specs.Known.{known_at};
 ghost use Rattle.tree_calls.specs.declared.operation.TreeOperation.{TreeOperation};
@@ -14,7 +15,7 @@ ghost use Rattle.client_turns.specs.declared.client.Client.{Client};
 ghost use Rattle.client_turns.specs.Asking.{IsCalm, IsPutAll};
 ghost use Rattle.client_turns.specs.Clients.{Moment};
 ghost use Rattle.client_turns.specs.Gathering;
-ghost use Rattle.client_turns.specs.Gathering.{AdvancesTo, Gathers, IsCallOf, IsDrawOf, IsFilled, IsSightOf, StandsGathering, gathered, objects_over, outcome_of_advance};
+ghost use Rattle.client_turns.specs.Gathering.{AdvancesTo, Gathers, IsAskedOf, IsCallOf, IsDrawOf, IsFilled, IsSightOf, StandsGathering, gathered, objects_over, outcome_of_advance};
 ghost use Rattle.client_turns.specs.Lines.{outcome_of_answer, outcome_of_result};
 ghost use Rattle.client_turns.specs.Standing.{IsOpenLineOf, IsOwnOf, LeadsTo, LeavesHub, MayAskAt, MayReadAt, OrStarved, ReadsHub, StandsForMoment};
 ghost use Rattle.client_turns.specs.Trees.{NeedsMore, Sees, answer_told, operation_of, stores_put};
@@ -105,6 +106,16 @@ fn is_missing(known: &Known, oid: Oid) -> bool
         Some(None) => true,
         _ => false,
     }
+}
+
+/// Whether a call goes over many items: all of them, or those of a range.
+fn is_walk(operation: &TreeOperation) -> bool
+    ensures { result ≡ Calls.is_walk operation.now }
+{
+    matches!(
+        operation,
+        TreeOperation::Items | TreeOperation::Range { .. }
+    )
 }
 
 /// What a call on a tree puts, as it waits for the vote.
@@ -218,7 +229,7 @@ impl<St: Store, R: Resolver, F: Refs> Clients<St, R, F> {
     ) -> Option<Result<Made, Refusal>>
         requires place { at < length self.old.clients }
         ensures advances { (root : ℕ) (op : TreeOperation) → St.told → (m : Moment)
-            → StandsGathering self.old (C.stamps clock.old) m at root op known.old []
+            → StandsGathering self.old (C.stamps clock.old) m at root op known.old [] → IsAskedOf m at root op oid
             → AdvancesTo m at root op self.new (C.stamps clock.new) known.new [] result }
         ensures hub { ReadsHub St.told St.lasts St.stands (outcome_of_advance result) self.old.hub self.new.hub }
         ensures filled { IfSome result (λ ended. IfOk ended IsFilled) }
@@ -247,7 +258,7 @@ impl<St: Store, R: Resolver, F: Refs> Clients<St, R, F> {
     ) -> Option<Result<Made, Refusal>>
         requires place { at < length self.old.clients }
         ensures advances { (root : ℕ) (op : TreeOperation) → St.told → (m : Moment)
-            → StandsGathering self.old (C.stamps clock.old) m at root op known.old []
+            → StandsGathering self.old (C.stamps clock.old) m at root op known.old [] → IsAskedOf m at root op oid
             → AdvancesTo m at root op self.new (C.stamps clock.new) known.new [] result }
         ensures hub { ReadsHub St.told St.lasts St.stands (outcome_of_advance result) self.old.hub self.new.hub }
         ensures filled { IfSome result (λ ended. IfOk ended IsFilled) }
@@ -261,7 +272,7 @@ impl<St: Store, R: Resolver, F: Refs> Clients<St, R, F> {
         self.learn(alloc, at, oid, known, clock)
     }
 
-    /// Objects are known, up to the first that is missing, or the call has ended.
+    /// Objects are known that a walk asks for, up to the first that is missing, or the call has ended.
     fn learn_all<C: Clock>(
         &mut self,
         alloc: Global,
@@ -272,7 +283,7 @@ impl<St: Store, R: Resolver, F: Refs> Clients<St, R, F> {
     ) -> Option<Result<Made, Refusal>>
         requires place { at < length self.old.clients }
         ensures advances { (root : ℕ) (op : TreeOperation) → St.told → (m : Moment)
-            → StandsGathering self.old (C.stamps clock.old) m at root op known.old []
+            → StandsGathering self.old (C.stamps clock.old) m at root op known.old [] → is_walk op ≡ true
             → AdvancesTo m at root op self.new (C.stamps clock.new) known.new [] result }
         ensures hub { ReadsHub St.told St.lasts St.stands (outcome_of_advance result) self.old.hub self.new.hub }
         ensures filled { IfSome result (λ ended. IfOk ended IsFilled) }
@@ -309,6 +320,9 @@ impl<St: Store, R: Resolver, F: Refs> Clients<St, R, F> {
         ensures grows { length known.old ≤ length known.new }
         ensures kept { length self.new.clients ≡ length self.old.clients }
     {
+        if !is_walk(operation) {
+            return None;
+        }
         match objects_ahead(alloc, known, root, operation) {
             Ok(oids) => self.learn_all(alloc, at, oids.as_slice(), known, clock),
             Err(_) => Some(Err(Refusal::Memory)),
@@ -511,7 +525,8 @@ impl<St: Store, R: Resolver, F: Refs> Clients<St, R, F> {
             MayReadAt m at → LeadsTo (OrStarved (IsOwnOf m at (Line.Tree root call.now)) m result)
             self.new (C.stamps clock.new) }
         ensures hub { LeavesHub St.told St.lasts St.stands (rules_of R.rules F.named self.old.hub)
-            (Line.Tree root call.now) (outcome_of_answer result) self.old.hub self.new.hub }
+            (slice_get self.old.clients at) (Line.Tree root call.now) (outcome_of_answer result) self.old.hub
+            self.new.hub }
         ensures kept { length self.new.clients ≡ length self.old.clients }
     {
         let Ok(operation) = operation_of(call) else {
@@ -542,7 +557,8 @@ impl<St: Store, R: Resolver, F: Refs> Clients<St, R, F> {
             LeadsTo (IsOpenLineOf (rules_of R.rules F.named self.old.hub) m at (Line.Tree root call.now) result)
             self.new (C.stamps clock.new) }
         ensures hub { LeavesHub St.told St.lasts St.stands (rules_of R.rules F.named self.old.hub)
-            (Line.Tree root call.now) (outcome_of_answer result) self.old.hub self.new.hub }
+            (slice_get self.old.clients at) (Line.Tree root call.now) (outcome_of_answer result) self.old.hub
+            self.new.hub }
     {
         if !connection_at(self.clients.as_slice(), at).is_in_transaction() {
             return Answer::Refused(Refusal::NoTransaction);

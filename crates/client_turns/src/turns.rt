@@ -1,6 +1,6 @@
 //! Turns.
 
-ghost use Rattle.std.specs.Prelude.{◌≡◌, ◌<◌, ◌∷◌, ◌++◌, [], List, Option, Some, IfOk, IsErrOf, None, false, length, vec_capacity};
+ghost use Rattle.std.specs.Prelude.{◌≡◌, ◌<◌, ◌∷◌, ◌++◌, [], List, Option, Some, IfOk, IsErrOf, None, false, length, slice_get, vec_capacity};
 ghost use Rattle.zb_base.specs.Counts.{Rose};
 ghost use Rattle.zb_ids.specs.declared.stamp.Stamp.{Stamp};
 ghost use Rattle.zb_volume.specs.declared.areas.Area.TheVariants.{Main, Side};
@@ -11,7 +11,7 @@ ghost use Rattle.client_turns.specs.Asking.{IsCalm};
 ghost use Rattle.client_turns.specs.Clients.{Moment, place_of_client};
 ghost use Rattle.client_turns.specs.Lines.{IsCountedBy, end_of, outcome_of_answer, outcome_of_end, outcome_of_turn};
 ghost use Rattle.client_turns.specs.Refusing.{IsFittingLine, opens_session};
-ghost use Rattle.client_turns.specs.Standing.{ClosesAs, ClosesIf, IsListIn, IsOpenLineOf, KeepsHub, LeadsTo, LeavesHub, MayAskAt, OrStarved, StandsForMoment, packs_list};
+ghost use Rattle.client_turns.specs.Standing.{ClosesAs, ClosesIf, IsListIn, IsOpenLineOf, KeepsHub, LeadsTo, LeavesHub, MayAskAt, OrStarved, StandsForMoment, kept_named, packs_list};
 ghost use Rattle.client_turns.specs.Turns.{IsLine, IsLineAt, IsOpening, IsTurn};
 
 use crate::client::{Client, place_of, session_at};
@@ -90,8 +90,8 @@ impl<St: Store, R: Resolver, F: Refs> Clients<St, R, F> {
         ensures line { St.told → (m : Moment) → StandsForMoment self.old (C.stamps clock.old) m → MayAskAt m at →
             LeadsTo (IsOpenLineOf (rules_of R.rules F.named self.old.hub) m at line.now result)
             self.new (C.stamps clock.new) }
-        ensures hub { LeavesHub St.told St.lasts St.stands (rules_of R.rules F.named self.old.hub) line.now
-            (outcome_of_answer result) self.old.hub self.new.hub }
+        ensures hub { LeavesHub St.told St.lasts St.stands (rules_of R.rules F.named self.old.hub)
+            (slice_get self.old.clients at) line.now (outcome_of_answer result) self.old.hub self.new.hub }
     {
         if is_of_connection(line) {
             return self.ask(alloc, at, line, clock);
@@ -119,8 +119,8 @@ impl<St: Store, R: Resolver, F: Refs> Clients<St, R, F> {
         ensures line { St.told → (m : Moment) → StandsForMoment self.old (C.stamps clock.old) m →
             LeadsTo (OrStarved (IsLineAt (rules_of R.rules F.named self.old.hub) m at line.now) m result)
             self.new (C.stamps clock.new) }
-        ensures hub { LeavesHub St.told St.lasts St.stands (rules_of R.rules F.named self.old.hub) line.now
-            (outcome_of_answer result) self.old.hub self.new.hub }
+        ensures hub { LeavesHub St.told St.lasts St.stands (rules_of R.rules F.named self.old.hub)
+            (slice_get self.old.clients at) line.now (outcome_of_answer result) self.old.hub self.new.hub }
     {
         if !self.hub.is_open(session_at(self.clients.as_slice(), at)) {
             return Answer::Refused(Refusal::NotOpen);
@@ -134,8 +134,8 @@ impl<St: Store, R: Resolver, F: Refs> Clients<St, R, F> {
         ensures line { St.told → (m : Moment) → StandsForMoment self.old (C.stamps clock.old) m →
             LeadsTo (OrStarved (IsLine (rules_of R.rules F.named self.old.hub) m name line.now) m result)
             self.new (C.stamps clock.new) }
-        ensures hub { LeavesHub St.told St.lasts St.stands (rules_of R.rules F.named self.old.hub) line.now
-            (outcome_of_answer result) self.old.hub self.new.hub }
+        ensures hub { LeavesHub St.told St.lasts St.stands (rules_of R.rules F.named self.old.hub)
+            (kept_named name self.old.clients) line.now (outcome_of_answer result) self.old.hub self.new.hub }
     {
         if opens_session(line) {
             return self.open(alloc, name);
@@ -201,7 +201,7 @@ impl<St: Store, R: Resolver, F: Refs> Clients<St, R, F> {
             self.new (C.stamps clock.new) }
         ensures any_moment { St.lasts → St.told → self.old.hub.store.broken ≡ false →
             (m : Moment) → StandsForMoment self.old (C.stamps clock.old) m →
-            LeavesOnly Main (IsListIn St.stands (rules_of R.rules F.named self.old.hub) m.machine turn.now.line)
+            LeavesOnly Main (IsListIn St.stands (rules_of R.rules F.named self.old.hub) m turn.now)
             self.old.hub.store.log self.new.hub.store.log }
         ensures side { St.lasts → packs_list turn.now.line ≡ false → StaysAs Side self.old.hub.store.log self.new.hub.store.log }
         ensures resolver { self.new.hub.resolver ≡ self.old.hub.resolver }

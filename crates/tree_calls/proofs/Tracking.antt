@@ -1,5 +1,5 @@
 -- What a call's space keeps of its calls.
-use Rattle.std.proofs.Common.{◌≡◌, ℕ, zero, suc, ◌+◌, ◌<◌, Bool, true, false, List, [], ◌∷◌, ◌++◌, length, map, take, Option, Some, Result, Ok, Err, refl, sym, ap, subst, ◌∙◌, arith}
+use Rattle.std.proofs.Common.{◌≡◌, ℕ, zero, suc, ◌+◌, ◌<◌, Bool, true, false, List, [], ◌∷◌, ◌++◌, length, map, take, Option, Some, None, Result, Ok, Err, refl, sym, ap, subst, ◌∙◌, arith}
 use Rattle.std.specs.Prelude.{All, IfOk, if◌then◌else◌, nat_lt, slice_get}
 use Rattle.std.specs.Option.{option_map}
 use Rattle.std.proofs.lemmas.Bool.{ltb-true, lt-ltb}
@@ -22,7 +22,7 @@ use Rattle.tree_calls.specs.declared.attempt.Attempt.TheVariants as attempt
 use Rattle.tree_calls.specs.declared.known.Seen.{Seen}
 use Rattle.tree_calls.specs.declared.operation.TreeAnswer.{TreeAnswer}
 use Rattle.tree_calls.specs.declared.operation.TreeOperation.{TreeOperation}
-use Rattle.tree_calls.specs.Calls.{CallEnds, CallFails, IsAttempt, IsMade, IsRefused, IsWant, bases_of, contents_after, contents_of, has_members, oids_of, refusal_of, written_in}
+use Rattle.tree_calls.specs.Calls.{CallEnds, CallFails, IsAttempt, IsLacked, IsMade, IsRefused, IsWant, ReadsOnWay, bases_of, contents_after, contents_of, has_members, oids_of, refusal_of, written_in}
 use Rattle.tree_calls.specs.Known.{Agrees, known_at}
 use Rattle.tree_calls.specs.Puts.{are_filled, based_on, serial_seen}
 use Rattle.tree_calls.proofs.Refused.{none_drawn}
@@ -180,12 +180,22 @@ refused_attempt objects root op numbers supply puts calls e why is_whole (Ok a) 
     subst (IsAttempt objects root op numbers) (sym same.1) (refused_by objects root op numbers supply puts calls e why is ends (drawn same.0))
 refused_attempt objects root op numbers supply puts calls e why is_whole (Err x) is ends drawn same = tt
 
-pub want_attempt : (objects : ℕ → Option Seen) (root : ℕ) (op : TreeOperation) (numbers : List ℕ) (result : Result Attempt AllocError) → IfOk result (IsWant numbers) → IfOk result (IsAttempt objects root op numbers)
-want_attempt objects root op numbers (Ok (attempt.Made made)) want = absurd want
-want_attempt objects root op numbers (Ok (attempt.Refused why)) want = absurd want
-want_attempt objects root op numbers (Ok (attempt.WantsObject oid)) want = want
-want_attempt objects root op numbers (Ok attempt.WantsNumber) want = absurd want
-want_attempt objects root op numbers (Err e) want = tt
+-- a call that the tree doesn't refuse ended for want of memory, or by a refusal of its space
+free_reads : (before after : ℕ → Option (List ℕ)) (calls : List Call) (root : ℕ) (op : TreeOperation) (supply : ℕ) (e : TreeError) → refusal_of e ≡ None → CallEnds before after calls root op supply (Err e) → ReadsOnWay before calls root op
+free_reads before after calls root op supply (error.Refused why) free ends = ends
+free_reads before after calls root op supply error.Memory free ends = ends
+free_reads before after calls root op supply (error.NotATree oid) free ends = absurd cc
+free_reads before after calls root op supply (error.NodeMissing oid) free ends = absurd cc
+free_reads before after calls root op supply error.BadKey free ends = absurd cc
+
+pub want_attempt : (objects : ℕ → Option Seen) (root : ℕ) (op : TreeOperation) (numbers : List ℕ) (supply : ℕ) (puts : List TreePut) (calls : List Call) (lacked : Option ℕ) (e : TreeError) (result : Result Attempt AllocError) → None ≡ refusal_of e
+    → CallEnds (contents_of objects) (contents_after puts (contents_of objects)) calls root op supply (Err e) → IsLacked calls lacked → IfOk result (IsWant numbers lacked) → IfOk result (IsAttempt objects root op numbers)
+want_attempt objects root op numbers supply puts calls lacked e (Ok (attempt.Made made)) free ends was want = absurd want
+want_attempt objects root op numbers supply puts calls lacked e (Ok (attempt.Refused why)) free ends was want = absurd want
+want_attempt objects root op numbers supply puts calls lacked e (Ok (attempt.WantsObject oid)) free ends was want =
+    (want.0, free_reads (contents_of objects) (contents_after puts (contents_of objects)) calls root op supply e (sym free) ends oid (was oid want.1))
+want_attempt objects root op numbers supply puts calls lacked e (Ok attempt.WantsNumber) free ends was want = absurd want
+want_attempt objects root op numbers supply puts calls lacked e (Err x) free ends was want = tt
 
 pub made_by : (objects : ℕ → Option Seen) (root : ℕ) (op : TreeOperation) (numbers : List ℕ) (supply : ℕ) (puts : List TreePut) (calls : List Call) (a : TreeAnswer) → CallEnds (contents_of objects) (contents_after puts (contents_of objects)) calls root op supply (Ok (Some a))
     → drawn_in calls ≡ numbers → written_in calls ≡ oids_of puts → bases_of puts ≡ map (based_on numbers objects) (oids_of puts) → are_filled puts ≡ true

@@ -1,6 +1,6 @@
 -- What calls on a tree answer, draw and put, over the objects that a client sees. Own.
-use Rattle.std.specs.Prelude.{◌≡◌, ◌<◌, ℕ, Bool, true, false, List, [], ◌∷◌, map, length, All, Option, Some, None, Result, Ok, Err}
-use Rattle.std.specs.Option.{option_map, option_map_or}
+use Rattle.std.specs.Prelude.{◌≡◌, ◌⊎◌, ◌<◌, ℕ, Bool, true, false, List, [], ◌∷◌, map, length, All, Option, Some, None, Result, Ok, Err}
+use Rattle.std.specs.Option.{ForSome, option_map, option_map_or}
 use Rattle.tree_calls.specs.declared.put.TreePut.{TreePut}
 use Rattle.zb_model.specs.declared.refusal.Refusal.{Refusal}
 use Rattle.zb_model.specs.declared.refusal.Refusal.TheVariants as refusal
@@ -13,10 +13,12 @@ use Rattle.btree_shapes.specs.declared.error.TreeError.TheVariants as error
 use Rattle.btree_shapes.specs.Nodes.{class_held}
 use Rattle.btree_shapes.specs.Spaces.{with_bytes}
 use Rattle.btree_shapes.specs.Met.{ReadsFirst, met_for}
-use Rattle.btree_shapes.specs.Ways.{value_under}
+use Rattle.btree_shapes.specs.Ways.{stands_in, value_under}
 use Rattle.btree_setting.specs.declared.preparing.Sizes.{Sizes}
 use Rattle.btree_setting.specs.Ends.{Needs, Sets}
+use Rattle.btree_setting.specs.Tasks as setting
 use Rattle.btree_removing.specs.Ends.{Removes}
+use Rattle.btree_removing.specs.Plans as removing
 use Rattle.btree_nodes.specs.Drawn.{drawn_in}
 use Rattle.btree_nodes.specs.Visits.{items_met, items_under, range_met, range_under}
 use Rattle.tree_calls.specs.declared.known.Seen.{Seen}
@@ -131,6 +133,38 @@ pub record IsRefused (objects : ℕ → Option Seen) (root : ℕ) (op : TreeOper
   pub fails : CallFails (contents_of objects) after calls root op e
   pub undrawn : drawn_in calls ≡ []
 
+-- ---- what a call may read
+
+-- the objects that calls read, in their order
+abbrev pub reads_in : List Call → List ℕ
+reads_in [] = []
+reads_in (Read oid ∷ calls) = oid ∷ reads_in calls
+reads_in (Drew oid ∷ calls) = reads_in calls
+reads_in (Wrote oid ∷ calls) = reads_in calls
+
+-- an object that stands among these
+abbrev pub IsAmong : List ℕ → ℕ → Type 0
+IsAmong oids oid = stands_in oids oid ≡ true
+
+-- The objects that a call may read, on every tree: those on the way for its key, as far as it goes, and for a change those besides the way; or those that a walk comes
+-- to, of which one over a range goes only into children that may have a key of it.
+abbrev pub MayRead : (ℕ → Option (List ℕ)) → ℕ → TreeOperation → ℕ → Type 0
+MayRead contents root (operation.Get key) oid = IsAmong (met_for contents root key) oid
+MayRead contents root (operation.Set key value) oid = IsAmong (setting.met_under contents root sizes key value) oid ⊎ IsAmong (reads_in (setting.reads_under contents root sizes key value)) oid
+MayRead contents root (operation.Remove key) oid = IsAmong (removing.met_under contents root key) oid ⊎ IsAmong (reads_in (removing.reads_under contents root key)) oid
+MayRead contents root operation.Items oid = IsAmong (items_met contents root) oid
+MayRead contents root (operation.Range from to) oid = IsAmong (range_met contents root from to) oid
+
+-- a walk: a call over all items, or over those of a range
+abbrev pub is_walk : TreeOperation → Bool
+is_walk operation.Items = true
+is_walk (operation.Range from to) = true
+is_walk _ = false
+
+-- all that was read is of those
+abbrev pub ReadsOnWay : (ℕ → Option (List ℕ)) → List Call → ℕ → TreeOperation → Type 0
+ReadsOnWay contents calls root op = (oid : ℕ) → IsAmong (reads_in calls) oid → MayRead contents root op oid
+
 -- ---- attempts
 
 -- how a call ends for which so many numbers were drawn: it is answered, it needs more numbers, it is refused, or memory ran out
@@ -140,23 +174,27 @@ CallEnds before after calls root op supply (Ok None) = LacksNumbers before root 
 CallEnds before after calls root op supply (Err (error.NotATree oid)) = CallFails before after calls root op (error.NotATree oid)
 CallEnds before after calls root op supply (Err (error.NodeMissing oid)) = CallFails before after calls root op (error.NodeMissing oid)
 CallEnds before after calls root op supply (Err error.BadKey) = CallFails before after calls root op error.BadKey
-CallEnds before after calls root op supply (Err (error.Refused why)) = Unit {0}
-CallEnds before after calls root op supply (Err error.Memory) = Unit {0}
+CallEnds before after calls root op supply (Err (error.Refused why)) = ReadsOnWay before calls root op
+CallEnds before after calls root op supply (Err error.Memory) = ReadsOnWay before calls root op
 
 -- How an attempt ends: the call is answered or refused, or something is wanted first. An object is wanted before any number is
--- drawn, and so a refusal comes; a number only where the call needs more than there are.
+-- drawn, and so a refusal comes, and only one that the call may read; a number only where the call needs more than there are.
 abbrev pub IsAttempt : (ℕ → Option Seen) → ℕ → TreeOperation → List ℕ → Attempt → Type 0
 IsAttempt objects root op numbers (attempt.Made made) = IsMade objects root op numbers made.answer made.puts × All (λ p. 0 < length p.bytes) made.puts
 IsAttempt objects root op numbers (attempt.Refused why) = IsRefused objects root op why × (numbers ≡ [])
-IsAttempt objects root op numbers (attempt.WantsObject oid) = numbers ≡ []
+IsAttempt objects root op numbers (attempt.WantsObject oid) = (numbers ≡ []) × MayRead (contents_of objects) root op oid
 IsAttempt objects root op numbers attempt.WantsNumber = LacksNumbers (contents_of objects) root op (length numbers)
 
--- an object is wanted first, and no number was drawn
-abbrev pub IsWant : List ℕ → Attempt → Type 0
-IsWant numbers (attempt.Made made) = ⊥
-IsWant numbers (attempt.Refused why) = ⊥
-IsWant numbers (attempt.WantsObject oid) = numbers ≡ []
-IsWant numbers attempt.WantsNumber = ⊥
+-- an object is wanted first, which was lacked, and no number was drawn
+abbrev pub IsWant : List ℕ → Option ℕ → Attempt → Type 0
+IsWant numbers lacked (attempt.Made made) = ⊥
+IsWant numbers lacked (attempt.Refused why) = ⊥
+IsWant numbers lacked (attempt.WantsObject oid) = (numbers ≡ []) × (lacked ≡ Some oid)
+IsWant numbers lacked attempt.WantsNumber = ⊥
+
+-- what was lacked was to be read
+abbrev pub IsLacked : List Call → Option ℕ → Type 0
+IsLacked calls lacked = ForSome lacked (λ oid. stands_in (reads_in calls) oid ≡ true)
 
 -- an object that is wanted first isn't known yet
 abbrev pub IsWanted : List (ℕ × Option Seen) → Attempt → Type 0

@@ -6,7 +6,7 @@ ghost use Rattle.btree_nodes.specs.Drawn.{drawn_in};
 ghost use Rattle.btree_shapes.specs.Spaces.{handed_on};
 ghost use Rattle.tree_calls.specs.declared.known.Seen.{Seen};
 ghost use Rattle.tree_calls.specs.Calls;
-ghost use Rattle.tree_calls.specs.Calls.{CallEnds, IsAttempt, IsWant, IsWanted, bases_of, contents_after, contents_of, has_members, is_set_kind, oids_of, written_in};
+ghost use Rattle.tree_calls.specs.Calls.{CallEnds, IsAttempt, IsLacked, IsWant, IsWanted, bases_of, contents_after, contents_of, has_members, is_set_kind, oids_of, written_in};
 ghost use Rattle.tree_calls.specs.Known.{Agrees};
 ghost use Rattle.tree_calls.specs.Puts.{are_filled, based_on};
 
@@ -111,6 +111,7 @@ fn tree_at(root: Oid) -> Tree<30, 250>
     Tree { root }
 }
 
+#[tactic(auto, using(crate::proofs::Reading::get_reads))]
 fn value_of<B: Sight>(
     space: &mut KnownSpace<B>,
     root: Oid,
@@ -127,7 +128,7 @@ fn value_of<B: Sight>(
     Ok(Some(TreeAnswer::Value(value)))
 }
 
-#[tactic(auto, using(crate::proofs::Setting::set_done, crate::proofs::Setting::set_lacks, crate::proofs::Setting::set_ended))]
+#[tactic(auto, using(crate::proofs::Setting::set_done, crate::proofs::Setting::set_lacks))]
 fn set_value<B: Sight>(
     space: &mut KnownSpace<B>,
     root: Oid,
@@ -142,7 +143,10 @@ fn set_value<B: Sight>(
 {
     let alloc = space.alloc;
     let supply = space.numbers.len();
-    let ended = tree_at(root).set_within(alloc, space, key, value, supply)?;
+    let ended = match tree_at(root).set_within(alloc, space, key, value, supply) {
+        Ok(ended) => ended,
+        Err(error) => return Err(error),
+    };
     match ended {
         SetEnd::Done => Ok(Some(TreeAnswer::Set)),
         SetEnd::Lacks => Ok(None),
@@ -161,10 +165,14 @@ fn remove_key<B: Sight>(
     ensures own { handed_on result ≡ [] }
 {
     let alloc = space.alloc;
-    let was = tree_at(root).remove(alloc, space, key)?;
+    let was = match tree_at(root).remove(alloc, space, key) {
+        Ok(was) => was,
+        Err(error) => return Err(error),
+    };
     Ok(Some(TreeAnswer::Removed { was }))
 }
 
+#[tactic(auto, using(crate::proofs::Reading::items_read))]
 fn all_items<B: Sight>(
     space: &mut KnownSpace<B>,
     root: Oid,
@@ -181,6 +189,7 @@ fn all_items<B: Sight>(
     Ok(Some(TreeAnswer::Items { list, is_set }))
 }
 
+#[tactic(auto, using(crate::proofs::Reading::range_reads))]
 fn items_between<B: Sight>(
     space: &mut KnownSpace<B>,
     root: Oid,
@@ -210,6 +219,7 @@ fn copy_value(value: &Option<Text8>) -> Result<Option<Text8>, AllocError>
 }
 
 /// Makes a call over what is known. `None` is answered where it needs more numbers.
+#[tactic(auto, using(crate::proofs::Reading::none_read))]
 fn operate<B: Sight>(
     space: &mut KnownSpace<B>,
     root: Oid,
@@ -237,7 +247,7 @@ fn operate<B: Sight>(
 /// What is to be read for a call that ended as for want of memory: an object that isn't known yet. Objects are read before a number
 /// is drawn.
 fn wanted(known: &Known, numbers: &[Oid], lacked: Option<Oid>) -> Result<Attempt, AllocError>
-    ensures want { IfOk result (IsWant numbers.now) }
+    ensures want { IfOk result (IsWant numbers.now lacked) }
     ensures wants { IfOk result (IsWanted known.now) }
 {
     let Some(oid) = lacked else {
@@ -276,7 +286,6 @@ fn refused_if(is_whole: bool, why: Refusal) -> Result<Attempt, AllocError>
 }
 
 /// How an attempt ends that was answered so, with these calls of the space; whether it took each of the numbers.
-#[tactic(auto, using(crate::proofs::Tracking::want_attempt))]
 fn end<B: Sight>(
     is_whole: bool,
     puts: ListOf<TreePut>,
@@ -295,6 +304,7 @@ fn end<B: Sight>(
     requires filled { are_filled puts ≡ true }
     requires ends { CallEnds (contents_of B.objects) (contents_after puts (contents_of B.objects)) _calls.now _root
         _operation.now (length numbers.now) answered }
+    requires lacking { IsLacked _calls.now lacked }
     ensures attempt { IfOk result (IsAttempt B.objects _root _operation.now B.numbers) }
     ensures wants { IfOk result (IsWanted known.now) }
 {
@@ -320,9 +330,9 @@ fn end<B: Sight>(
 /// refused, or tells what has to be read or drawn before it is made again: an object before any number is drawn, and a number
 /// only where the call needs more than there are. `_whose` and `_changes` are what the objects belong to; only proofs look at
 /// them. `cache` spares the reading of bytes that were read before; it changes no answer. The one error is want of memory; it
-/// also comes where a call takes fewer of the numbers than were drawn for it, or lacks an object that is known, or one once
-/// numbers were drawn. None of this comes up, since a call that is made again over the same objects draws as many numbers
-/// (`calls_draw_alike`) and reads nothing else.
+/// also comes where a call takes fewer of the numbers than were drawn for it, lacks an object that is known, or one once
+/// numbers were drawn, or puts an object that it hasn't read. None of this comes up, since a call that is made again over the
+/// same objects draws as many numbers (`calls_draw_alike`) and reads nothing else.
 pub fn call_tree<B: Sight, W, V>(
     alloc: Global,
     _whose: &W,

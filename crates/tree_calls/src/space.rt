@@ -8,7 +8,7 @@ ghost use Rattle.btree_shapes.specs.Spaces.{IsContentOf, IsFault, IsStorable, re
 ghost use Rattle.btree_shapes.specs.Ways.{stands_in};
 ghost use Rattle.tree_calls.specs.declared.known.Seen.{Seen};
 ghost use Rattle.tree_calls.specs.Known.{Agrees};
-ghost use Rattle.tree_calls.specs.Calls.{bases_of, contents_after, contents_of, oids_of, written_in};
+ghost use Rattle.tree_calls.specs.Calls.{IsLacked, bases_of, contents_after, contents_of, oids_of, written_in};
 ghost use Rattle.tree_calls.specs.Puts;
 ghost use Rattle.tree_calls.specs.Puts.{are_filled, based_on};
 
@@ -44,6 +44,7 @@ pub(crate) struct KnownSpace<'a, B: Sight> {
     ghost written: { written_in calls.items ≡ oids_of puts },
     ghost based: { bases_of puts ≡ map (based_on B.numbers B.objects) (oids_of puts) },
     ghost filled: { are_filled puts ≡ true },
+    ghost lacking: { IsLacked calls.items lacked },
 }
 
 /// The record that bytes are.
@@ -130,7 +131,9 @@ fn number_at(numbers: &[Oid], at: usize) -> Option<Oid>
 }
 
 /// Notes a call.
+#[tactic(auto, using(crate::proofs::Reading::lacked_more))]
 fn note_call(calls: &mut Vec<Call>, call: Call) -> Result<(), AllocError>
+    ensures lacked { (lacked : Option ℕ) → IsLacked calls.old.items lacked → IsLacked calls.new.items lacked }
     ensures ok { OnOk result (calls.new.items ≡ calls.old.items ++ call ∷ []) }
     ensures err { OnErr result (calls.new.items ≡ calls.old.items) }
 {
@@ -145,6 +148,7 @@ fn note_read(calls: &mut Vec<Call>, oid: Oid) -> Result<(), AllocError>
     ensures err { OnErr result (calls.new.items ≡ calls.old.items) }
     ensures drawn { drawn_in calls.new.items ≡ drawn_in calls.old.items }
     ensures written { written_in calls.new.items ≡ written_in calls.old.items }
+    ensures lacked { (lacked : Option ℕ) → IsLacked calls.old.items lacked → IsLacked calls.new.items lacked }
 {
     note_call(calls, Call::Read(oid))?;
     Ok(())
@@ -164,6 +168,7 @@ fn note_put(
     ensures based { (f : ℕ → ℕ) → put.base ≡ f put.oid → bases_of puts.old ≡ map f (oids_of puts.old)
         → bases_of puts.new ≡ map f (oids_of puts.new) }
     ensures filled { 0 < length put.bytes → are_filled puts.old ≡ true → are_filled puts.new ≡ true }
+    ensures lacked { (lacked : Option ℕ) → IsLacked calls.old.items lacked → IsLacked calls.new.items lacked }
     ensures err { OnErr result (puts.new ≡ puts.old) }
     ensures same { OnErr result (calls.new.items ≡ calls.old.items) }
 {
@@ -221,7 +226,6 @@ impl<'a, B: Sight> Space for KnownSpace<'a, B> {
 
     fn put_node(&mut self, oid: Oid, entry: ObjectRecord) -> Result<(), SpaceError> {
         let Some(base) = base_for(self.known, self.numbers, oid) else {
-            self.lacked = Some(oid);
             return Err(SpaceError::Memory);
         };
         let bytes = record_text(self.alloc, &entry)?;

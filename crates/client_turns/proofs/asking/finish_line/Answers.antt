@@ -1,4 +1,4 @@
-use Rattle.std.proofs.Common.{rules, ap, refl}
+use Rattle.std.proofs.Common.{rules, ap, refl, sym}
 use Rattle.client_turns.specs.declared.client.Client.{Client}
 use Rattle.client_turns.proofs.Lined.{finish_over, state_is}
 use Rattle.client_turns.proofs.Framed.{finish_framed}
@@ -14,6 +14,6 @@ returns-clause-line g c =
 
 pub returns-clause-hub : goal.returns-clause-hub
 returns-clause-hub g c =
-    finish_framed g.St.Store.told g.St.Store.lasts g.St.Store.stands g.R.Resolver.rules g.F.Refs.named c.args.hub.now _ c.args.client.now.connection c.finish.new.self
+    finish_framed g.St.Store.told g.St.Store.lasts g.St.Store.stands g.R.Resolver.rules g.F.Refs.named c.args.hub.now _ c.args.client.now c.finish.new.self
     (λ l. record { hub = l.hub.now; stamps = g.C.Clock.stamps l.clock.now; last = l.told }) (λ l. l.session) c.new-loads.result c.finish.new.loads c.new-loads.ensures.hub (search rules)
-    c.finish.result c.finish.ensures.refused c.finish.ensures.makes c.finished-answer.result c.finished-answer.ensures
+    (sym c.new-loads.ensures.session) c.finish.result c.finish.ensures.refused c.finish.ensures.makes c.finished-answer.result c.finished-answer.ensures

@@ -14,6 +14,6 @@ returns-clause-read g c =
 
 pub returns-clause-hub : goal.returns-clause-hub
 returns-clause-hub g c =
-    got_framed g.St.Store.told g.St.Store.lasts g.St.Store.stands g.R.Resolver.rules g.F.Refs.named c.args.hub.now _ c.args.client.now.connection c.get-got.new.self
+    got_framed g.St.Store.told g.St.Store.lasts g.St.Store.stands g.R.Resolver.rules g.F.Refs.named c.args.hub.now _ c.args.client.now c.get-got.new.self
     (λ l. record { hub = l.hub.now; stamps = g.C.Clock.stamps l.clock.now; last = l.told }) (λ l. l.session) c.new-loads.result c.get-got.new.loads c.new-loads.ensures.hub (search rules)
     c.args.oid c.get-got.result c.get-got.ensures.waiting c.get-got.ensures.refused c.get-got.ensures.makes _ (result_outcome c.get-got.result)

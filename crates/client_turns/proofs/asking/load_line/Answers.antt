@@ -14,6 +14,6 @@ returns-clause-line g c =
 
 pub returns-clause-hub : goal.returns-clause-hub
 returns-clause-hub g c =
-    load_framed g.St.Store.told g.St.Store.lasts g.St.Store.stands g.R.Resolver.rules g.F.Refs.named c.args.hub.now _ c.args.client.now.connection c.load.new.self
+    load_framed g.St.Store.told g.St.Store.lasts g.St.Store.stands g.R.Resolver.rules g.F.Refs.named c.args.hub.now _ c.args.client.now c.load.new.self
     (λ l. record { hub = l.hub.now; stamps = g.C.Clock.stamps l.clock.now; last = l.told }) (λ l. l.session) c.new-loads.result c.load.new.loads c.new-loads.ensures.hub (search rules)
     c.args.oid c.load.result c.load.ensures.refused c.load.ensures.makes c.data_of-answer.result c.data_of-answer.ensures

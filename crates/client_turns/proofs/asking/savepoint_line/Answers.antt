@@ -14,6 +14,6 @@ returns-clause-line g c =
 
 pub returns-clause-hub : goal.returns-clause-hub
 returns-clause-hub g c =
-    save_framed g.St.Store.told g.St.Store.lasts g.St.Store.stands g.R.Resolver.rules g.F.Refs.named c.args.hub.now _ c.args.client.now.connection c.savepoint.new.self
+    save_framed g.St.Store.told g.St.Store.lasts g.St.Store.stands g.R.Resolver.rules g.F.Refs.named c.args.hub.now _ c.args.client.now c.savepoint.new.self
     (λ l. record { hub = l.hub.now; stamps = g.C.Clock.stamps l.clock.now; last = l.told }) (λ l. l.session) c.new-loads.result c.savepoint.new._loads c.new-loads.ensures.hub (search rules)
     c.savepoint.result c.savepoint.ensures.leaves c.savepoint.ensures.loads c.saved-answer.result c.saved-answer.ensures

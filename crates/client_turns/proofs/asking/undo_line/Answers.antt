@@ -14,6 +14,6 @@ returns-clause-line g c =
 
 pub returns-clause-hub : goal.returns-clause-hub
 returns-clause-hub g c =
-    undo_framed g.St.Store.told g.St.Store.lasts g.St.Store.stands g.R.Resolver.rules g.F.Refs.named c.args.hub.now _ c.args.client.now.connection c.undo.new.self
+    undo_framed g.St.Store.told g.St.Store.lasts g.St.Store.stands g.R.Resolver.rules g.F.Refs.named c.args.hub.now _ c.args.client.now c.undo.new.self
     (λ l. record { hub = l.hub.now; stamps = g.C.Clock.stamps l.clock.now; last = l.told }) (λ l. l.session) c.new-loads.result c.undo.new.loads c.new-loads.ensures.hub (search rules)
     c.args.user.now c.args.description.now c.args.tids.now c.undo.result c.undo.ensures.refused c.undo.ensures.makes c.answered-answer.result c.answered-answer.ensures

@@ -14,6 +14,6 @@ returns-clause-line g c =
 
 pub returns-clause-hub : goal.returns-clause-hub
 returns-clause-hub g c =
-    vote_framed g.St.Store.told g.St.Store.lasts g.St.Store.stands g.R.Resolver.rules g.F.Refs.named c.args.hub.now _ c.args.client.now.connection c.vote.new.self
+    vote_framed g.St.Store.told g.St.Store.lasts g.St.Store.stands g.R.Resolver.rules g.F.Refs.named c.args.hub.now _ c.args.client.now c.vote.new.self
     (λ l. record { hub = l.hub.now; stamps = g.C.Clock.stamps l.clock.now; last = l.told }) (λ l. l.session) c.new-loads.result c.vote.new.loads c.new-loads.ensures.hub (search rules)
     c.args.user.now c.args.description.now c.vote.result c.vote.ensures.refused c.vote.ensures.makes c.answered-answer.result c.answered-answer.ensures

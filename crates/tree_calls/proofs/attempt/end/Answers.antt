@@ -1,7 +1,8 @@
 -- How an attempt ends.
-use Rattle.std.proofs.Common.{◌≡◌, Some, Ok, length, subst}
-use Rattle.tree_calls.specs.Calls.{CallEnds, contents_after, contents_of, refusal_of}
-use Rattle.tree_calls.proofs.Tracking.{made_by, refused_attempt}
+use Rattle.std.proofs.Common.{◌≡◌, Some, None, Ok, length, subst}
+use Rattle.std.specs.Prelude.{IfOk}
+use Rattle.tree_calls.specs.Calls.{CallEnds, IsWant, contents_after, contents_of, refusal_of}
+use Rattle.tree_calls.proofs.Tracking.{made_by, refused_attempt, want_attempt}
 use Rattle.tree_calls.proofs.attempt.end.Goals as goal
 
 pub returns-then-is_whole : goal.returns-then-is_whole

@@ -3,7 +3,7 @@ use Rattle.std.proofs.Common.{◌≡◌, ℕ, List, [], inl, refl, subst, sym}
 use Rattle.tree_calls.specs.Calls.{IsAttempt}
 use Rattle.zodb_core.specs.Outcomes.{Answered, outcome_of_refusal}
 use Rattle.client_turns.specs.Gathering.{AdvancesTo, StandsGathering}
-use Rattle.client_turns.proofs.Advancing.{made_on, refused_calm, refused_on, still_reads}
+use Rattle.client_turns.proofs.Advancing.{made_on, refused_calm, refused_on, still_reads, want_asked}
 use Rattle.client_turns.proofs.clients.Clients.go_on.Goals as goal
 
 pub returns-in-Made-clause-advances : goal.returns-in-Made-clause-advances
@@ -30,9 +30,11 @@ returns-in-Refused-clause-hub g c =
 
 pub returns-in-WantsObject-clause-advances : goal.returns-in-WantsObject-clause-advances
 returns-in-WantsObject-clause-advances g c = λ objects root op attempted told m gathers sees.
-    let none : c.args.numbers.now.items ≡ [] = subst (IsAttempt objects root op c.args.numbers.now.items) c.in-WantsObject.is attempted in
+    let want = subst (IsAttempt objects root op c.args.numbers.now.items) c.in-WantsObject.is attempted in
+    let none : c.args.numbers.now.items ≡ [] = want.0 in
     subst (λ (ns : List ℕ). AdvancesTo m c.args.at root op c.learn.new.self (g.C.Clock.stamps c.learn.new.clock) c.learn.new.known ns c.learn.result) (sym none)
-    (c.learn.ensures.advances root op told m (subst (λ (ns : List ℕ). StandsGathering c.args.self.now (g.C.Clock.stamps c.args.clock.now) m c.args.at root op c.args.known.now ns) none gathers))
+    (c.learn.ensures.advances root op told m (subst (λ (ns : List ℕ). StandsGathering c.args.self.now (g.C.Clock.stamps c.args.clock.now) m c.args.at root op c.args.known.now ns) none gathers)
+    (want_asked m c.args.at root op c.args.self.now _ c.args.known.now c.args.numbers.now.items gathers objects sees c.in-WantsObject.oid want.1))
 
 pub returns-in-WantsNumber-clause-advances : goal.returns-in-WantsNumber-clause-advances
 returns-in-WantsNumber-clause-advances g c = λ objects root op attempted told m gathers sees.

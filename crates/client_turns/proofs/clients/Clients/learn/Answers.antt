@@ -5,17 +5,17 @@ use Rattle.client_turns.proofs.Advancing.{calm_reads, learns, may_now, unlearned
 use Rattle.client_turns.proofs.clients.Clients.learn.Goals as goal
 
 pub returns-in-Err-clause-advances : goal.returns-in-Err-clause-advances
-returns-in-Err-clause-advances g c = λ root op told m gathers.
-    unseen m c.args.at root op c.args.self.now _ c.args.known.now [] gathers c.args.oid c.in-Err.why _ _ refl
+returns-in-Err-clause-advances g c = λ root op told m gathers asked.
+    unseen m c.args.at root op c.args.self.now _ c.args.known.now [] gathers c.args.oid c.in-Err.why _ _ asked refl
     (c.in-Err.ensures.sight told gathers.now gathers.stands (may_now m c.args.at root op c.args.self.now _ c.args.known.now [] gathers))
 
 pub returns-in-Ok-learn-clause-advances : goal.returns-in-Ok-learn-clause-advances
-returns-in-Ok-learn-clause-advances g c = λ root op told m gathers.
+returns-in-Ok-learn-clause-advances g c = λ root op told m gathers asked.
     learns m c.args.at root op c.args.self.now _ c.args.known.now [] gathers c.args.oid c.in-Ok.seen _ _ _
     (c.in-Ok.ensures.sight told gathers.now gathers.stands (may_now m c.args.at root op c.args.self.now _ c.args.known.now [] gathers)) c.in-Ok-learn.ensures.known
 
 pub returns-in-Err-learn-clause-advances : goal.returns-in-Err-learn-clause-advances
-returns-in-Err-learn-clause-advances g c = λ root op told m gathers.
+returns-in-Err-learn-clause-advances g c = λ root op told m gathers asked.
     unlearned m c.args.at root op c.args.self.now _ c.args.known.now [] gathers c.args.oid c.in-Ok.seen _ _
     (c.in-Ok.ensures.sight told gathers.now gathers.stands (may_now m c.args.at root op c.args.self.now _ c.args.known.now [] gathers))
 

@@ -19,7 +19,7 @@ returns-then-not-is_open-clause-line g c = λ told m stands.
 
 pub returns-then-not-is_open-clause-hub : goal.returns-then-not-is_open-clause-hub
 returns-then-not-is_open-clause-hub g c =
-    none_leaves g.St.Store.told g.St.Store.lasts g.St.Store.stands (rules_of g.R.Resolver.rules g.F.Refs.named c.args.self.now.hub) c.args.self.now.hub c.args.self.now.hub c.args.line.now (outcome_of_answer (answer.Refused refusal.NotOpen)) (inl refl) refl
+    none_leaves g.St.Store.told g.St.Store.lasts g.St.Store.stands (rules_of g.R.Resolver.rules g.F.Refs.named c.args.self.now.hub) c.args.self.now.hub c.args.self.now.hub (slice_get c.args.self.now.clients c.args.at) c.args.line.now (outcome_of_answer (answer.Refused refusal.NotOpen)) (inl refl) refl
 
 pub returns-clause-line : goal.returns-clause-line
 returns-clause-line g c = λ told m stands.

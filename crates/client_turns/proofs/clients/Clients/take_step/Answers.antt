@@ -18,5 +18,7 @@ returns-clause-line g c = λ told m stands.
 
 pub returns-clause-hub : goal.returns-clause-hub
 returns-clause-hub g c =
-    plain_keeps g.St.Store.told g.St.Store.lasts g.St.Store.stands g.R.Resolver.rules g.F.Refs.named c.session_at-session.result c.args.request c.step-reply.result c.answer_of.result c.args.self.now.hub c.step-reply.new.self.hub _ _ _ c.step-reply.ensures.made
+    plain_keeps g.St.Store.told g.St.Store.lasts g.St.Store.stands g.R.Resolver.rules g.F.Refs.named c.session_at-session.result c.args.request c.step-reply.result c.answer_of.result c.args.self.now.hub c.step-reply.new.self.hub _ _ _ c.args.self.now.clients c.args.at c.requires.place
+    (λ x there. c.session_at-session.ensures.session x (ap (λ (xs : List Client). slice_get xs c.args.at) (c.as_slice.ensures.value ∙ ap (λ s. s.clients) c.self.view_is) ∙ there))
+    c.step-reply.ensures.made
     (ap (λ s. s.hub) c.self-2.view_is) c.answer_of.ensures

@@ -14,4 +14,5 @@ invariant_of-self g c = record {
   written = ap written_in c.in-Ok.ensures.ok ∙ written_drew c.args.self.now.calls.items c.in-Some.oid ∙ c.args.self.now.written;
   based = c.args.self.now.based;
   filled = c.args.self.now.filled;
+  lacking = c.note_call.ensures.lacked c.args.self.now.lacked c.args.self.now.lacking;
 }

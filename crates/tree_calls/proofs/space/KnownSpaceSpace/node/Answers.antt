@@ -2,6 +2,7 @@
 use Rattle.std.proofs.Common.{◌∙◌, ap}
 use Rattle.btree_nodes.specs.Drawn.{drawn_in}
 use Rattle.tree_calls.specs.Calls.{written_in}
+use Rattle.tree_calls.proofs.Reading.{read_lacked}
 use Rattle.tree_calls.proofs.Tracking.{drawn_read, written_read}
 use Rattle.tree_calls.proofs.space.KnownSpaceSpace.node.Goals as goal
 
@@ -13,6 +14,7 @@ invariant_of-self-then-not-is_empty g c = record {
   written = ap written_in c.in-Ok.ensures.ok ∙ written_read c.args.self.now.calls.items c.args.oid ∙ c.args.self.now.written;
   based = c.args.self.now.based;
   filled = c.args.self.now.filled;
+  lacking = c.note_call.ensures.lacked c.args.self.now.lacked c.args.self.now.lacking;
 }
 
 pub invariant_of-self-in-Some-1 : goal.invariant_of-self-in-Some-1
@@ -23,6 +25,7 @@ invariant_of-self-in-Some-1 g c = record {
   written = ap written_in c.in-Ok.ensures.ok ∙ written_read c.args.self.now.calls.items c.args.oid ∙ c.args.self.now.written;
   based = c.args.self.now.based;
   filled = c.args.self.now.filled;
+  lacking = c.note_call.ensures.lacked c.args.self.now.lacked c.args.self.now.lacking;
 }
 
 pub invariant_of-self-in-None : goal.invariant_of-self-in-None
@@ -33,4 +36,5 @@ invariant_of-self-in-None g c = record {
   written = ap written_in c.in-Ok.ensures.ok ∙ written_read c.args.self.now.calls.items c.args.oid ∙ c.args.self.now.written;
   based = c.args.self.now.based;
   filled = c.args.self.now.filled;
+  lacking = read_lacked c.args.self.now.calls.items _ c.args.oid c.in-Ok.ensures.ok;
 }

@@ -6,8 +6,8 @@ use Rattle.tree_calls.specs.Puts.{based_on}
 use Rattle.tree_calls.proofs.Tracking.{contents_more}
 use Rattle.tree_calls.proofs.space.KnownSpaceSpace.put_node.Goals as goal
 
-pub invariant_of-self-2 : goal.invariant_of-self-2
-invariant_of-self-2 g c = record {
+pub invariant_of-self : goal.invariant_of-self
+invariant_of-self g c = record {
   agrees = c.args.self.now.agrees;
   numbered = c.args.self.now.numbered;
   drawn = c.note_put.ensures.drawn ∙ c.args.self.now.drawn;
@@ -15,6 +15,7 @@ invariant_of-self-2 g c = record {
   based = c.note_put.ensures.based (based_on g.B.Sight.numbers g.B.Sight.objects)
       (subst (λ ns. c.in-Some.base ≡ based_on ns g.B.Sight.objects c.args.oid) c.args.self.now.numbered (c.in-Some.ensures g.B.Sight.objects c.args.self.now.agrees)) c.args.self.now.based;
   filled = c.note_put.ensures.filled c.in_ok-bytes.ensures.filled c.args.self.now.filled;
+  lacking = c.note_put.ensures.lacked c.args.self.now.lacked c.args.self.now.lacking;
 }
 
 pub returns-in-Ok-clause-ok : goal.returns-in-Ok-clause-ok

@@ -10,4 +10,5 @@ invariant_of-self g c = record {
   written = c.note_read.ensures.written ∙ c.args.self.now.written;
   based = c.args.self.now.based;
   filled = c.args.self.now.filled;
+  lacking = c.note_read.ensures.lacked c.args.self.now.lacked c.args.self.now.lacking;
 }
