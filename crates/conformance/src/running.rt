@@ -1,5 +1,10 @@
 //! A case is run through the program.
 
+ghost use Rattle.std.specs.Prelude.{IfOk};
+ghost use Rattle.zb_volume.specs.Kept.{log_of};
+ghost use Rattle.file_store.specs.Hinting.{LeavesHonest};
+ghost use Rattle.conformance.specs.Starts.{MayStart};
+
 use run_cases::{
     Case, Each, Left, Outcome, Outside, Run, difference_of, main_of, spend, tell, volume_with,
 };
@@ -44,7 +49,10 @@ fn run_over(
     run: &Run,
     failing: Failing,
     volume: MemoryVolume,
-) -> Result<Ending, AllocError> {
+) -> Result<Ending, AllocError>
+    requires { MayStart (log_of volume.done) }
+    ensures { IfOk result (λ ending. LeavesHonest (log_of ending.volume.done)) }
+{
     let reads = with(alloc, run.failing_reads.as_slice(), failing.read)?;
     let writes = with(alloc, run.failing_writes.as_slice(), failing.write)?;
     let script = Vec::from_slice(alloc, run.script.as_slice())?;
@@ -70,7 +78,9 @@ fn run_over(
 }
 
 /// What `undolog` writes over an image, and the status where it isn't 0.
-fn listed(alloc: Global, run: &Run, image: MemoryVolume) -> Result<Vec<u8>, AllocError> {
+fn listed(alloc: Global, run: &Run, image: MemoryVolume) -> Result<Vec<u8>, AllocError>
+    requires { MayStart (log_of image.done) }
+{
     let mut words = Vec::new(alloc);
     words.push(String::from_str(alloc, "image.fs")?)?;
     words.push(String::from_str(alloc, "undolog")?)?;
@@ -94,14 +104,27 @@ fn listed(alloc: Global, run: &Run, image: MemoryVolume) -> Result<Vec<u8>, Allo
     Ok(lines)
 }
 
+/// What a stop now leaves: with all that waits for a sync, or with none of it.
+#[tactic(auto, using(crate::proofs::Starts::may_start))]
+fn image_of(volume: &MemoryVolume, all: bool) -> Result<MemoryVolume, AllocError>
+    requires { LeavesHonest (log_of volume.now.done) }
+    ensures { IfOk result (λ v. MayStart (log_of v.done)) }
+{
+    let image = volume.image(all)?;
+    Ok(image)
+}
+
 /// What a stop now leaves of Main: with all that waits for a sync, or with none of it.
+#[tactic(auto, using(crate::proofs::Starts::starts_same))]
 fn left_by_stop(
     alloc: Global,
     run: &Run,
     volume: &MemoryVolume,
     all: bool,
-) -> Result<Left, AllocError> {
-    let mut image = volume.image(all)?;
+) -> Result<Left, AllocError>
+    requires { LeavesHonest (log_of volume.now.done) }
+{
+    let mut image = image_of(volume, all)?;
     if main_of(alloc, &mut image)?.is_empty() {
         return Ok(Left::Empty);
     }
@@ -115,7 +138,9 @@ fn left_if(
     volume: &MemoryVolume,
     wanted: &Option<Left>,
     all: bool,
-) -> Result<Option<Left>, AllocError> {
+) -> Result<Option<Left>, AllocError>
+    requires { LeavesHonest (log_of volume.now.done) }
+{
     match wanted {
         None => Ok(None),
         Some(_) => Ok(Some(left_by_stop(alloc, run, volume, all)?)),
@@ -123,6 +148,7 @@ fn left_if(
 }
 
 /// What a difference says, if there is one, and the volume behind the run.
+#[tactic(auto, using(crate::proofs::Starts::honest_same))]
 fn run_once(
     alloc: Global,
     run: &Run,
@@ -130,7 +156,10 @@ fn run_once(
     volume: MemoryVolume,
     before: Vec<u8>,
     failing_calls: &[u64],
-) -> Result<(Option<String>, MemoryVolume), AllocError> {
+) -> Result<(Option<String>, MemoryVolume), AllocError>
+    requires { MayStart (log_of volume.done) }
+    ensures { IfOk result (λ r. LeavesHonest (log_of r.1.done)) }
+{
     let mut ending = run_over(alloc, run, failing, volume)?;
     spend(&mut ending.volume, failing_calls);
     let expected = &run.expected;
@@ -153,13 +182,14 @@ fn run_once(
 
 /// The difference in the first run of a case in which there is one, where these calls fail in the
 /// first run.
+#[tactic(auto, using(crate::proofs::Starts::starts_new, crate::proofs::Starts::starts_same))]
 fn run_all(alloc: Global, case: &Case, failing: Failing) -> Result<Option<String>, AllocError> {
     let calls = with(alloc, case.failing_calls.as_slice(), failing.call)?;
     let mut volume = volume_with(alloc, case.main.as_slice(), calls.as_slice())?;
     let mut before = Vec::from_slice(alloc, case.main.as_slice())?;
     let mut failing = failing;
     let mut number = 0u64;
-    for run in &case.runs {
+    'runs: for run in &case.runs {
         number = number.saturating_add(1);
         let (text, behind) = run_once(alloc, run, failing, volume, before, calls.as_slice())?;
         if let Some(text) = text {
@@ -168,7 +198,7 @@ fn run_all(alloc: Global, case: &Case, failing: Failing) -> Result<Option<String
             }
             return Ok(Some(format!(in alloc; "run {number}: {text}")?));
         }
-        volume = behind;
+        volume = image_of(&behind, true)?;
         before = main_of(alloc, &mut volume)?;
         failing = NONE_FAIL;
     }

@@ -16,7 +16,7 @@ use Rattle.zodb_top.specs.Outside.{Outside, main_of}
 use Rattle.zodb_top.specs.Program.{IsUnlessMemory}
 use Rattle.zodb_top.proofs.Files.{never_no_list}
 
-not_named : (told : Type 0) (bytes text : List ℕ) (list : List Transaction) (cut : Option ℕ) → told → StandsFor bytes list cut → NamesDamage told bytes text → ⊥
+pub not_named : (told : Type 0) (bytes text : List ℕ) (list : List Transaction) (cut : Option ℕ) → told → StandsFor bytes list cut → NamesDamage told bytes text → ⊥
 not_named told bytes text list cut here stands (magic other names) = not_no_file bytes list cut stands (other here)
 not_named told bytes text list cut here stands (rule at field harm names) = not_damaged bytes list cut at field stands (harm here)
 
@@ -31,7 +31,7 @@ ask_done status.StoreFault asked told before after o here reads writes sinks lis
 ask_done status.Damaged asked told before after o here reads writes sinks list cut stands = absurd (not_named told (main_of before) o.text list cut here stands o.names)
 ask_done _ asked told before after o here reads writes sinks list cut stands = absurd o
 
-not_opened : (bytes : List ℕ) (stamps left : Option (List Stamp)) (list : List Transaction) (cut : Option ℕ) → IsNoList bytes → OpensAs bytes stamps left list cut → ⊥
+pub not_opened : (bytes : List ℕ) (stamps left : Option (List Stamp)) (list : List Transaction) (cut : Option ℕ) → IsNoList bytes → OpensAs bytes stamps left list cut → ⊥
 not_opened bytes stamps left list cut harm (there some stands same) = never_no_list bytes list cut stands harm
 not_opened bytes stamps left list cut harm (made empty is given) = never_no_list bytes [] None (no_bytes empty refl refl) harm
 

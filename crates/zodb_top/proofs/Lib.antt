@@ -21,3 +21,4 @@ pub mod Packs
 pub mod Walks
 pub mod Untouched
 pub mod Checks
+pub mod Indexes

@@ -18,7 +18,7 @@ use Rattle.client_turns.specs.Clients.{Moment}
 use Rattle.client_turns.specs.CountLaws.{broken_calm, out_calm, out_others, turn_others}
 use Rattle.client_turns.specs.Lines.{IsCountedBy, end_of, outcome_of_turn}
 use Rattle.client_turns.specs.Output.{FlaggedTurn, has_read_fault}
-use Rattle.client_turns.specs.Standing.{IsListIn}
+use Rattle.client_turns.specs.ListLaws.{turn_kept}
 use Rattle.zodb_top.specs.Came.{BreaksOff, Came, CountsLeft, IsListNext, stock}
 use Rattle.zodb_top.specs.Outside.{Outside}
 use Rattle.zodb_top.specs.declared.replying.RunError.{RunError}
@@ -30,15 +30,9 @@ use Rattle.zodb_top.specs.Unopened.{NamesError, SaysUnopened}
 
 -- ---- what stands for the list may be left before a turn
 
-line_kept : (stands : List ℕ → List Transaction → Type 0) (m : Machine) (l : Line) (bytes : List ℕ) → stands bytes m.list → IsListIn stands stock m l bytes
-line_kept stands m line.Finish bytes left = inl left
-line_kept stands m (line.Pack tid collect) bytes left = inl left
-line_kept stands m line.PackTurn bytes left = inl left
-line_kept stands m _ bytes left = left
-
-pub next_kept : (stands : List ℕ → List Transaction → Type 0) (m : Machine) (later : List FlaggedTurn) (bytes : List ℕ) → stands bytes m.list → IsListNext stands m later bytes
+pub next_kept : (stands : List ℕ → List Transaction → Type 0) (m : Moment) (later : List FlaggedTurn) (bytes : List ℕ) → stands bytes m.machine.list → IsListNext stands m later bytes
 next_kept stands m [] bytes left = left
-next_kept stands m (t ∷ later) bytes left = line_kept stands m t.turn.line bytes left
+next_kept stands m (t ∷ later) bytes left = turn_kept stands stock m t.turn bytes left
 
 -- ---- counts
 

@@ -3,6 +3,7 @@ use Rattle.std.proofs.Common.{◌≡◌, ℕ, List, [], Option, Some, None, leng
 use Rattle.std.specs.Prelude.{◌≢◌, ◌≤◌, ◌+◌, IfSome}
 use Rattle.std.specs.Io.KnownBytes.{Consumes, IsAtEnd}
 use Rattle.std.proofs.lemmas.Option.{same_Some}
+use Rattle.file_store.specs.Hinting.{HasHonestHint, LeavesHonest}
 use Rattle.fs_records.specs.File.{StandsFor}
 use Rattle.fs_recovery.specs.Opens.{IsNoList}
 use Rattle.zb_base.specs.Counts.{Rose}
@@ -11,16 +12,18 @@ use Rattle.zb_script.specs.declared.limits.Limit.{Limit}
 use Rattle.zb_script.specs.declared.line.Turn.{Turn}
 use Rattle.zb_script.specs.Limits.{first_limit}
 use Rattle.zb_script.specs.Script.{IsBadLine}
-use Rattle.zb_volume.specs.declared.areas.Area.TheVariants.{Side}
+use Rattle.zb_volume.specs.declared.areas.Area.TheVariants.{Main, Side}
+use Rattle.zb_volume.specs.Disk.{IsSettled}
 use Rattle.zb_volume.specs.Calls.{Event}
 use Rattle.zb_volume.specs.Moments.{StaysAs, here as from_here}
 use Rattle.zodb_top.specs.declared.command.Asked.{Asked}
 use Rattle.zodb_top.specs.declared.command.Command.{Command}
-use Rattle.zodb_top.specs.declared.command.Command.TheVariants.{Ask, Pack, Run}
+use Rattle.zodb_top.specs.declared.command.Command.TheVariants.{Ask, Index, Pack, Run}
 use Rattle.zodb_top.specs.declared.command.PackRequest.{PackRequest}
 use Rattle.zodb_top.specs.declared.status.Status.{Status}
 use Rattle.zodb_top.specs.declared.status.Status.TheVariants as status
 use Rattle.zodb_top.specs.Asked.{AskSays}
+use Rattle.zodb_top.specs.Indexing.{IndexSays}
 use Rattle.zodb_top.specs.Inputs.{most_bytes}
 use Rattle.zodb_top.specs.Opened.{IsLeft, IsUnopened}
 use Rattle.zodb_top.specs.Outside.{Outside, main_of}
@@ -28,8 +31,9 @@ use Rattle.zodb_top.specs.Packs.{PackSays}
 use Rattle.zodb_top.specs.Program.{IsInput, IsUnlessMemory, PacksNothing, ReadsToEnd, RunSays}
 use Rattle.zodb_top.specs.Promise.{AreLater, HasScript, IsServed, ProgramSeen, Promise, SaysUsage}
 use Rattle.zodb_top.proofs.Complete.{ask_damaged, ask_done}
+use Rattle.zodb_top.proofs.Indexes.{index_damaged, index_done}
 use Rattle.zodb_top.proofs.Sides.{left_side}
-use Rattle.zodb_top.proofs.Untouched.{left_untouched, pack_starved}
+use Rattle.zodb_top.proofs.Untouched.{index_starved, left_untouched, pack_starved, still_honest}
 
 -- a file that stands for a list is served
 abbrev pub Done : Type 0 → Status → Outside → Outside → Type 0
@@ -47,14 +51,17 @@ Harmed told before after = told → IsNoList (main_of before) → after.log ≡ 
 abbrev pub Unfailed : Status → Outside → Outside → Type 0
 Unfailed s before after = ¬ (s ≡ status.StoreFault) → after.write_faults ≡ before.write_faults
 
+abbrev pub Hinted : Type 0 → Outside → Outside → Type 0
+Hinted told before after = told → IsSettled before.log Main → LeavesHonest after.log
+
 at_some : {A : Type 0} (o : Option A) (P : A → Type 0) (x : A) → o ≡ Some x → IfSome o P → P x
 at_some None P x is holds = absurd cc
 at_some (Some y) P x is holds = subst P (same_Some y x is) holds
 
 -- words that are no command
 pub usage_kept : (told : Type 0) (command : Option Command) (s : Status) (before after : ProgramSeen) → command ≡ None
-    → SaysUsage s before.outside after.outside → after.left ≡ before.left → AreLater before after → Promise told command s before after
-usage_kept told command s before after is says left later = subst (λ (c : Option Command). Promise told c s before after) (sym is) (record {
+    → SaysUsage s before.outside after.outside → after.left ≡ before.left → Hinted told before.outside after.outside → AreLater before after → Promise told command s before after
+usage_kept told command s before after is says left hint later = subst (λ (c : Option Command). Promise told c s before after) (sym is) (record {
   says = says;
   reads = left;
   serves = record { done = λ here opens served sinks list cut stands. absurd opens; damaged = λ here opens served harm. absurd opens };
@@ -62,6 +69,7 @@ usage_kept told command s before after is says left later = subst (λ (c : Optio
   harmed = λ here harm. says.unopened.log;
   unfailed = λ other. says.unopened.write_faults;
   side = λ here keeps some. subst (λ (l : List Event). StaysAs Side before.outside.log l) (sym says.unopened.log) (from_here refl);
+  hint = hint;
   later = later;
 })
   where
@@ -71,9 +79,9 @@ usage_kept told command s before after is says left later = subst (λ (c : Optio
 -- a command that asks
 pub ask_kept : (told : Type 0) (command : Option Command) (asked : Asked) (s : Status) (before after : ProgramSeen) → command ≡ Some (Ask asked)
     → AskSays s asked told before.outside after.outside → (told → IsLeft told before.outside after.outside)
-    → Harmed told before.outside after.outside → Unfailed s before.outside after.outside → after.left ≡ before.left → AreLater before after
+    → Harmed told before.outside after.outside → Unfailed s before.outside after.outside → after.left ≡ before.left → Hinted told before.outside after.outside → AreLater before after
     → Promise told command s before after
-ask_kept told command asked s before after is says kept harmed unfailed left later = subst (λ (c : Option Command). Promise told c s before after) (sym is) (record {
+ask_kept told command asked s before after is says kept harmed unfailed left hint later = subst (λ (c : Option Command). Promise told c s before after) (sym is) (record {
   says = (says, kept);
   reads = left;
   serves = record {
@@ -84,6 +92,7 @@ ask_kept told command asked s before after is says kept harmed unfailed left lat
   harmed = harmed;
   unfailed = unfailed;
   side = λ here keeps some. left_side told before.outside after.outside (kept here) here some;
+  hint = hint;
   later = later;
 })
   where
@@ -93,9 +102,9 @@ ask_kept told command asked s before after is says kept harmed unfailed left lat
 -- a pack
 pub pack_kept : (told : Type 0) (command : Option Command) (pack : PackRequest) (s : Status) (before after : ProgramSeen) → command ≡ Some (Pack pack)
     → PackSays s pack told before.outside after.outside → Done told s before.outside after.outside → Damaged told s before.outside after.outside
-    → Harmed told before.outside after.outside → Unfailed s before.outside after.outside → after.left ≡ before.left → AreLater before after
+    → Harmed told before.outside after.outside → Unfailed s before.outside after.outside → after.left ≡ before.left → Hinted told before.outside after.outside → AreLater before after
     → Promise told command s before after
-pack_kept told command pack s before after is says done damaged harmed unfailed left later = subst (λ (c : Option Command). Promise told c s before after) (sym is) (record {
+pack_kept told command pack s before after is says done damaged harmed unfailed left hint later = subst (λ (c : Option Command). Promise told c s before after) (sym is) (record {
   says = says;
   reads = left;
   serves = record {
@@ -106,6 +115,7 @@ pack_kept told command pack s before after is says done damaged harmed unfailed 
   harmed = harmed;
   unfailed = unfailed;
   side = λ here keeps some. absurd keeps;
+  hint = hint;
   later = later;
 })
   where
@@ -139,8 +149,8 @@ pub run_kept : (told : Type 0) (command : Option Command) (s : Status) (before a
     → RunDone told s before after → RunDamaged told s before after → HasBadStatus s before after → HasLimitStatus s before after
     → Harmed told before.outside after.outside → Unfailed s before.outside after.outside
     → (told → PacksNothing before.left → main_of before.outside ≢ [] → StaysAs Side before.outside.log after.outside.log)
-    → AreLater before after → Promise told command s before after
-run_kept told command s before after is says at_end taken done damaged bad_line limit harmed unfailed side later =
+    → Hinted told before.outside after.outside → AreLater before after → Promise told command s before after
+run_kept told command s before after is says at_end taken done damaged bad_line limit harmed unfailed side hint later =
     subst (λ (c : Option Command). Promise told c s before after) (sym is) (record {
       says = says;
       reads = record { at_end = at_end; taken = taken };
@@ -155,8 +165,32 @@ run_kept told command s before after is says at_end taken done damaged bad_line 
       harmed = harmed;
       unfailed = unfailed;
       side = side;
+      hint = hint;
       later = later;
     })
+
+-- an index file
+pub index_kept : (told : Type 0) (command : Option Command) (s : Status) (before after : ProgramSeen) → command ≡ Some Index
+    → IndexSays s told before.outside after.outside → (told → IsLeft told before.outside after.outside)
+    → Harmed told before.outside after.outside → Unfailed s before.outside after.outside → after.left ≡ before.left → Hinted told before.outside after.outside → AreLater before after
+    → Promise told command s before after
+index_kept told command s before after is says kept harmed unfailed left hint later = subst (λ (c : Option Command). Promise told c s before after) (sym is) (record {
+  says = (says, kept);
+  reads = left;
+  serves = record {
+    done = λ here opens served sinks list cut stands. index_done s told before.outside after.outside says here served.reads served.writes sinks list cut stands;
+    damaged = λ here opens served harm. index_damaged s told before.outside after.outside says here served.reads served.writes harm;
+  };
+  refuses = λ run. absurd (no_run run);
+  harmed = harmed;
+  unfailed = unfailed;
+  side = λ here keeps some. left_side told before.outside after.outside (kept here) here some;
+  hint = hint;
+  later = later;
+})
+  where
+    no_run : Some Index ≡ Some Run → ⊥
+    no_run run = cc
 
 -- ---- there was no memory for the words
 
@@ -174,11 +208,11 @@ nothing_taken : (left : Option (List ℕ)) → Consumes left left []
 nothing_taken None = tt
 nothing_taken (Some bytes) = refl
 
-pub starved : (told : Type 0) (command : Option Command) (seen : ProgramSeen) → Promise told command status.NoMemory seen seen
-starved told None seen =
+pub starved : (told : Type 0) (command : Option Command) (seen : ProgramSeen) → (told → HasHonestHint seen.outside.log) → Promise told command status.NoMemory seen seen
+starved told None seen honest =
     usage_kept told None status.NoMemory seen seen refl
-    (record { is = inr refl; line = λ other. absurd cc; silent = λ same. refl; unopened = unopened_same seen.outside }) refl (later_same seen)
-starved told (Some Run) seen =
+    (record { is = inr refl; line = λ other. absurd cc; silent = λ same. refl; unopened = unopened_same seen.outside }) refl (λ here settled. still_honest seen.outside.log (honest here) settled) (later_same seen)
+starved told (Some Run) seen honest =
     run_kept told (Some Run) status.NoMemory seen seen refl
     (inl (refl, inl (unopened_same seen.outside)))
     (λ end. absurd end)
@@ -187,12 +221,16 @@ starved told (Some Run) seen =
     (λ here. if_some seen.left _ (λ input turns is harm source reads writes. inr refl))
     (if_some seen.left _ (λ input n within bad source. inr refl))
     (if_some seen.left _ (λ input l first source. inr refl))
-    (λ here harm. refl) (λ other. refl) (λ here packs some. from_here refl) (later_same seen)
-starved told (Some (Ask asked)) seen =
+    (λ here harm. refl) (λ other. refl) (λ here packs some. from_here refl) (λ here settled. still_honest seen.outside.log (honest here) settled) (later_same seen)
+starved told (Some (Ask asked)) seen honest =
     ask_kept told (Some (Ask asked)) asked status.NoMemory seen seen refl
     (refl, record { reads = refl; writes = refl }) (λ here. left_untouched told seen.outside seen.outside refl refl)
-    (λ here harm. refl) (λ other. refl) refl (later_same seen)
-starved told (Some (Pack pack)) seen =
+    (λ here harm. refl) (λ other. refl) refl (λ here settled. still_honest seen.outside.log (honest here) settled) (later_same seen)
+starved told (Some (Pack pack)) seen honest =
     pack_kept told (Some (Pack pack)) pack status.NoMemory seen seen refl
     (pack_starved pack told seen.outside) (λ here reads writes sinks list cut stands. inr refl) (λ here reads writes harm. inr refl)
-    (λ here harm. refl) (λ other. refl) refl (later_same seen)
+    (λ here harm. refl) (λ other. refl) refl (λ here settled. still_honest seen.outside.log (honest here) settled) (later_same seen)
+starved told (Some Index) seen honest =
+    index_kept told (Some Index) status.NoMemory seen seen refl
+    (index_starved told seen.outside) (λ here. left_untouched told seen.outside seen.outside refl refl)
+    (λ here harm. refl) (λ other. refl) refl (λ here settled. still_honest seen.outside.log (honest here) settled) (later_same seen)

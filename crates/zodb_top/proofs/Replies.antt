@@ -81,7 +81,7 @@ of_run_more stands m mid now turns t later answers a turn bytes is =
         before = came.before;
         after = out_push stock came.at mid now came.rest t is.more a came.after turn;
       };
-      list = subst (λ (ts : List FlaggedTurn). IsListNext stands came.at.machine ts bytes) (sym (append_assoc came.rest (t ∷ []) later)) is.list;
+      list = subst (λ (ts : List FlaggedTurn). IsListNext stands came.at ts bytes) (sym (append_assoc came.rest (t ∷ []) later)) is.list;
     }
 
 answers_push : (answers : List TurnAnswer) (o : TurnAnswer) → answers_text (answers ++ o ∷ []) ≡ answers_text answers ++ joined (reply_lines o.client o.answer)
@@ -132,18 +132,18 @@ module _ {R F : Type 0} (lasts : Type 0) (stands : List ℕ → List Transaction
       more = [];
       parts = refl;
       came = record { front = []; rest = []; parts = refl; at = m; before = refl; after = refl };
-      list = next_kept stands m.machine (flagged turns) image (subst (λ (list : List Transaction). stands image list) (sym (is.hub.list (sym is.hub.failed ∙ whole))) (lasting lasts image left));
+      list = next_kept stands m (flagged turns) image (subst (λ (list : List Transaction). stands image list) (sym (is.hub.list (sym is.hub.failed ∙ whole))) (lasting lasts image left));
     });
   }
 
   module _ (k : ℕ) (t : FlaggedTurn) (rest : List FlaggedTurn) (old mid new : Option (List ℕ)) (log : List Event) (before clients : ClientsState R F) (stamps left : Option (List Stamp))
       (parts : drop k (flagged turns) ≡ t ∷ rest) (runs : RunsOn lasts stands m (take k (flagged turns)) (drop k (flagged turns)) old mid log before stamps)
-      (moments : lasts → LeavesOnly Main (IsListIn stands stock runs.now.machine t.turn.line) before.hub.store.log clients.hub.store.log) where
+      (moments : lasts → LeavesOnly Main (IsListIn stands stock runs.now t.turn) before.hub.store.log clients.hub.store.log) where
     whole_parts : flagged turns ≡ take k (flagged turns) ++ (t ∷ rest)
     whole_parts = sym (take-append-drop k (flagged turns)) ∙ ap (λ (ts : List FlaggedTurn). take k (flagged turns) ++ ts) parts
 
     -- the moment that it is now
-    of_now : (bytes : List ℕ) → IsListIn stands stock runs.now.machine t.turn.line bytes → IsOfRun stands m (take k (flagged turns)) (t ∷ rest) runs.answers runs.now bytes
+    of_now : (bytes : List ℕ) → IsListIn stands stock runs.now t.turn bytes → IsOfRun stands m (take k (flagged turns)) (t ∷ rest) runs.answers runs.now bytes
     of_now bytes is = record {
       given = runs.answers;
       more = [];
@@ -155,7 +155,7 @@ module _ {R F : Type 0} (lasts : Type 0) (stands : List ℕ → List Transaction
     all_moments : lasts → LeavesOnly Main (IsOfRun stands m (take k (flagged turns)) (t ∷ rest) runs.answers runs.now) log clients.hub.store.log
     all_moments known = along_joined (Leaves Main (IsOfRun stands m (take k (flagged turns)) (t ∷ rest) runs.answers runs.now)) log before.hub.store.log clients.hub.store.log
         (subst (λ (ts : List FlaggedTurn). LeavesOnly Main (IsOfRun stands m (take k (flagged turns)) ts runs.answers runs.now) log before.hub.store.log) parts (runs.moments known))
-        (leaves_less Main (IsListIn stands stock runs.now.machine t.turn.line) (IsOfRun stands m (take k (flagged turns)) (t ∷ rest) runs.answers runs.now) before.hub.store.log clients.hub.store.log of_now (moments known))
+        (leaves_less Main (IsListIn stands stock runs.now t.turn) (IsOfRun stands m (take k (flagged turns)) (t ∷ rest) runs.answers runs.now) before.hub.store.log clients.hub.store.log of_now (moments known))
 
     -- the same of the run with its turn
     more_moments : (now : Moment) (a : Answer) → IsTurn stock runs.now t.turn t.is_last (Ok a) now → lasts
@@ -214,7 +214,7 @@ module _ {R F : Type 0} (lasts : Type 0) (stands : List ℕ → List Transaction
           };
           text = written_of why new r.silent;
           stands_for = leads.stands;
-          around = λ is known. along_now (Leaves Main (IsListIn stands stock runs.now.machine t.turn.line)) before.hub.store.log clients.hub.store.log (moments known);
+          around = λ is known. along_now (Leaves Main (IsListIn stands stock runs.now t.turn)) before.hub.store.log clients.hub.store.log (moments known);
           moments = all_moments;
         }
 
@@ -227,7 +227,7 @@ module _ {R F : Type 0} (lasts : Type 0) (stands : List ℕ → List Transaction
   pub turn_more : (k : ℕ) (t : Turn) (flag : Bool) (old mid new : Option (List ℕ)) (log : List Event) (before clients : ClientsState R F) (stamps left : Option (List Stamp))
       → k < length turns → t ≡ get_or turns k t → slice_get (last_flags turns) k ≡ Some flag
       → (runs : RunsOn lasts stands m (take k (flagged turns)) (drop k (flagged turns)) old mid log before stamps)
-      → (lasts → LeavesOnly Main (IsListIn stands stock runs.now.machine t.line) before.hub.store.log clients.hub.store.log)
+      → (lasts → LeavesOnly Main (IsListIn stands stock runs.now t) before.hub.store.log clients.hub.store.log)
       → LeadsTo (IsReplied (Appends mid new) runs.now t flag) clients left
       → RunsOn lasts stands m (take (k + 1) (flagged turns)) (drop (k + 1) (flagged turns)) old new log clients left
   turn_more k t flag old mid new log before clients stamps left within is at runs moments leads =
@@ -238,7 +238,7 @@ module _ {R F : Type 0} (lasts : Type 0) (stands : List ℕ → List Transaction
   pub turn_last : (k : ℕ) (t : Turn) (flag : Bool) (old mid new : Option (List ℕ)) (log : List Event) (before clients : ClientsState R F) (stamps left : Option (List Stamp)) (e : RunError)
       → k < length turns → t ≡ get_or turns k t → slice_get (last_flags turns) k ≡ Some flag
       → (runs : RunsOn lasts stands m (take k (flagged turns)) (drop k (flagged turns)) old mid log before stamps)
-      → (lasts → LeavesOnly Main (IsListIn stands stock runs.now.machine t.line) before.hub.store.log clients.hub.store.log)
+      → (lasts → LeavesOnly Main (IsListIn stands stock runs.now t) before.hub.store.log clients.hub.store.log)
       → LeadsTo (IsStopped e runs.now t flag mid new) clients left
       → Stops lasts stands (broke_of e) m turns old new log clients left
   turn_last k t flag old mid new log before clients stamps left e within is at runs moments leads =

@@ -79,7 +79,7 @@ module _ (lasts : Type 0) (stands : List ℕ → List Transaction → Type 0) wh
           more = [];
           parts = refl;
           came = record { front = []; rest = []; parts = refl; at = m; before = refl; after = refl };
-          list = next_kept stands m.machine (flagged turns) image (lasting known image left);
+          list = next_kept stands m (flagged turns) image (lasting known image left);
         });
       }
 
@@ -154,7 +154,7 @@ module _ (lasts : Type 0) (stands : List ℕ → List Transaction → Type 0) wh
       text = says _ (Appends-trans taken mid new (joined (cut_lines cut)) (answers_text s.came.answers) first s.text);
       stamps = sym s.stands_for.stamps;
       counts = counts_so s.now s.stands_for;
-      images = λ known. subst (λ (x : StoreState). Leaves Main (IsMainBy stands (Some turn_error.StoreFault) s.came.behind.machine s.came.later) x.log) (sym kept) (s.around refl known);
+      images = λ known. subst (λ (x : StoreState). Leaves Main (IsMainBy stands (Some turn_error.StoreFault) s.came.behind s.came.later) x.log) (sym kept) (s.around refl known);
       moments = λ known. moments_so (IsOfCame stands s.came) (s.moments known);
     }
 

@@ -2,15 +2,18 @@
 use Rattle.std.proofs.Common.{◌≡◌, List, [], Option, Some, None, inl, inr, refl, sym, ap, subst, ◌∙◌}
 use Rattle.std.specs.Prelude.{IfSome, slice_get}
 use Rattle.std.proofs.lemmas.Option.{same_Some}
+use Rattle.file_store.specs.Hinting.{HasHonestHint, LeavesHonest}
 use Rattle.file_store.specs.Kept.{StandsForList}
 use Rattle.file_store.specs.Opening.{IsNewOr, KeepsList, MakesFile, MakesList}
+use Rattle.fs_index_file.specs.Honest.{IsHonest}
 use Rattle.fs_records.specs.File.{no_bytes}
 use Rattle.zb_ids.specs.declared.stamp.Stamp.{Stamp}
-use Rattle.zb_volume.specs.declared.areas.Area.TheVariants.{Main, Side}
+use Rattle.zb_volume.specs.declared.areas.Area.TheVariants.{Hint, Main, Side}
 use Rattle.zb_volume.specs.Calls.{Event}
 use Rattle.zb_volume.specs.Disk.{seen, IsSettled}
 use Rattle.zb_volume.specs.Lasting.{settled_leaves}
 use Rattle.zb_volume.specs.Moments.{LeavesOnly, StaysAs, here}
+use Rattle.zodb_top.specs.Indexing.{IndexSays}
 use Rattle.zodb_top.specs.Opened.{IsLeft, bytes_same}
 use Rattle.zodb_top.specs.declared.command.PackRequest.{PackRequest}
 use Rattle.zodb_top.specs.declared.status.Status.TheVariants as status
@@ -20,7 +23,7 @@ use Rattle.zodb_top.specs.Packs.{PackSays}
 keeps_at : (log : List Event) → KeepsList log log
 keeps_at log list cut some stands settled = here (settled_leaves log Main (λ bytes. StandsForList bytes list) settled (cut, stands))
 
-makes_at : (stamp : Stamp) (log : List Event) → MakesList stamp log log
+pub makes_at : (stamp : Stamp) (log : List Event) → MakesList stamp log log
 makes_at stamp log empty settled = here (settled_leaves log Main (IsNewOr stamp) settled (inl (None, no_bytes empty refl refl)))
 
 -- a file that is made is made by the clock's first stamp, where the clock tells
@@ -42,6 +45,15 @@ left_untouched told before after stamps log = record {
   makes = λ known empty. inl log;
 }
 
+-- an index file that is honest, and of which nothing is pending, is so of whatever a crash leaves
+pub still_honest : (log : List Event) → HasHonestHint log → IsSettled log Main → LeavesHonest log
+still_honest log is settled main hint left_main left_hint =
+    settled_leaves log Main (λ bytes. IsHonest bytes hint) settled (settled_leaves log Hint (IsHonest (seen log Main)) is.settled is.honest hint left_hint) main left_main
+
 -- no memory for the words of `pack`
 pub pack_starved : (pack : PackRequest) (told : Type 0) (before : Outside) → PackSays status.NoMemory pack told before before
 pack_starved pack told before = (refl, inl (left_untouched told before before refl refl, record { reads = refl; writes = refl }))
+
+-- and for those of `index`
+pub index_starved : (told : Type 0) (before : Outside) → IndexSays status.NoMemory told before before
+index_starved told before = (refl, record { reads = refl; writes = refl })

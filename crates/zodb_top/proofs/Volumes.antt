@@ -74,7 +74,7 @@ module _ (before : Outside) (state : StoreState) (left : Option (List Stamp)) (c
           more = c.answers;
           parts = refl;
           came = record { front = []; rest = c.taken; parts = refl; at = m; before = refl; after = c.answered };
-          list = next_kept StandsForList m.machine (c.taken ++ c.later) bytes is;
+          list = next_kept StandsForList m (c.taken ++ c.later) bytes is;
         }
 
     told_stamps : (P : List Stamp → Type 0) (o : Option (List Stamp)) → IsSome o → IfSome o P → (stamps : List Stamp) × (o ≡ Some stamps) × P stamps
@@ -109,7 +109,7 @@ module _ (before : Outside) (state : StoreState) (left : Option (List Stamp)) (c
     abbrev reached_so : (broke : Option TurnError) (written : List ℕ → Type 0) → RanOver lasts StandsForList (began state.list left before.read_faults before.write_faults) cut turns broke written state state' after.stamps
         → Reached turns broke written before after
     reached_so broke written ran =
-        let images : Leaves Main (IsMainOf broke ran.came.behind.machine ran.came.later) after.log = subst (λ (l : List Event). Leaves Main (IsMainOf broke ran.came.behind.machine ran.came.later) l) (sym log) (ran.images lasting) in
+        let images : Leaves Main (IsMainOf broke ran.came.behind ran.came.later) after.log = subst (λ (l : List Event). Leaves Main (IsMainOf broke ran.came.behind ran.came.later) l) (sym log) (ran.images lasting) in
         let reads_left : after.read_faults ≡ ran.now.counts.reads = reads ∙ ap (λ (c : FaultCounts). c.reads) ran.counts in
         let faults_left : after.write_faults ≡ ran.now.counts.others = faults ∙ ap (λ (c : FaultCounts). c.others) ran.counts in record {
           list = state.list;

@@ -129,6 +129,25 @@ undolog_reads (word ∷ []) h = refused (undolog_longer word [] h.0) refl
 undolog_reads (word ∷ other ∷ []) h = refused (undolog_longer word (other ∷ []) h.0) refl
 undolog_reads (word ∷ other ∷ third ∷ more) h = refused (undolog_longer word (other ∷ third ∷ more) h.0) refl
 
+index_taken : IsTaken (codes "index" ∷ []) (codes "index") None None
+unfolding clap_on_literals
+index_taken = record { fault = refl; entered = refl }
+
+index_longer : (word : Text) (more : List Text) → Plain word → IsRefused (codes "index" ∷ word ∷ more)
+unfolding clap_on_literals
+index_longer word more h =
+    let d = no_dashes word h in let l = no_long word h in let s = no_short word h in
+    let w : Walk = behind (codes "index") (word ∷ []) in
+    let f = no_fault_on top names w (codes "index", word ∷ []) more refl in
+    let o = walk_on top.rules names w (codes "index", word ∷ []) more refl in
+    record { kind = kinds.UnknownArgument; kinds = []; fault = rw (f, o, d, l, s) refl }
+
+index_reads : (rest : List Text) → AllByRecursion Plain rest → Reads (codes "index" ∷ rest)
+index_reads [] h = taken (codes "index") None None index_taken refl
+index_reads (word ∷ []) h = refused (index_longer word [] h.0) refl
+index_reads (word ∷ other ∷ []) h = refused (index_longer word (other ∷ []) h.0) refl
+index_reads (word ∷ other ∷ third ∷ more) h = refused (index_longer word (other ∷ third ∷ more) h.0) refl
+
 history_short : IsRefused (codes "history" ∷ [])
 unfolding clap_on_literals
 history_short = record { kind = _; kinds = _; fault = refl }
@@ -268,17 +287,17 @@ check_reads (word ∷ other ∷ []) h = refused (check_longer word other [] h.0 
 check_reads (word ∷ other ∷ third ∷ more) h = refused (check_longer word other (third ∷ more) h.0 h.1.0) refl
 
 -- a word that is none of the names
-module _ (word : Text) (h : Plain word) (not_run : bytes_eq (codes "run") word ≡ false) (not_undolog : bytes_eq (codes "undolog") word ≡ false) (not_history : bytes_eq (codes "history") word ≡ false)
+module _ (word : Text) (h : Plain word) (not_run : bytes_eq (codes "run") word ≡ false) (not_undolog : bytes_eq (codes "undolog") word ≡ false) (not_index : bytes_eq (codes "index") word ≡ false) (not_history : bytes_eq (codes "history") word ≡ false)
     (not_show : bytes_eq (codes "show") word ≡ false) (not_digest : bytes_eq (codes "digest") word ≡ false) (not_pack : bytes_eq (codes "pack") word ≡ false)
     (not_check : bytes_eq (codes "check") word ≡ false) where
   unknown : (rest : List Text) → IsRefused (word ∷ rest)
   unfolding clap_on_literals
   unknown rest =
       let d = no_dashes word h in let l = no_long word h in let s = no_short word h in
-      record { kind = kinds.UnknownArgument; kinds = kinds.InvalidSubcommand ∷ []; fault = rw (not_run, not_undolog, not_history, not_show, not_digest, not_pack, not_check, d, l, s) refl }
+      record { kind = kinds.UnknownArgument; kinds = kinds.InvalidSubcommand ∷ []; fault = rw (not_run, not_undolog, not_history, not_show, not_digest, not_pack, not_check, not_index, d, l, s) refl }
 
   unknown_reads : (rest : List Text) → Reads (word ∷ rest)
-  unknown_reads [] = refused (unknown []) (rw (not_run, not_undolog) refl)
+  unknown_reads [] = refused (unknown []) (rw (not_run, not_undolog, not_index) refl)
   unknown_reads (argument ∷ []) = refused (unknown (argument ∷ [])) (rw (not_history, not_show, not_digest, not_pack, not_check) refl)
   unknown_reads (argument ∷ other ∷ []) = refused (unknown (argument ∷ other ∷ [])) (rw not_pack refl)
   unknown_reads (argument ∷ other ∷ third ∷ more) = refused (unknown (argument ∷ other ∷ third ∷ more)) refl
@@ -296,9 +315,10 @@ reads [] h = refused none_refused refl
 reads (word ∷ rest) h =
     by_name (codes "run") word rest (run_reads rest h.1) (λ not_run.
     by_name (codes "undolog") word rest (undolog_reads rest h.1) (λ not_undolog.
+    by_name (codes "index") word rest (index_reads rest h.1) (λ not_index.
     by_name (codes "history") word rest (history_reads rest h.1) (λ not_history.
     by_name (codes "show") word rest (show_reads rest h.1) (λ not_show.
     by_name (codes "digest") word rest (digest_reads rest h.1) (λ not_digest.
     by_name (codes "pack") word rest (pack_reads rest h.1) (λ not_pack.
     by_name (codes "check") word rest (check_reads rest h.1) (λ not_check.
-    unknown_reads word h.0 not_run not_undolog not_history not_show not_digest not_pack not_check rest)))))))
+    unknown_reads word h.0 not_run not_undolog not_index not_history not_show not_digest not_pack not_check rest))))))))

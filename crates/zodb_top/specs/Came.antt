@@ -55,18 +55,17 @@ pub record Came (m : Moment) (turns : List Turn) (broke : Option TurnError) (now
 abbrev pub began : List Transaction → Option (List Stamp) → ℕ → ℕ → Moment
 began list stamps reads others = first_moment list stamps (record { reads = reads; others = others })
 
--- Before these turns bytes stand for the machine's list; where the first of them is a `finish`, they may stand for that with what is voted behind it, and where
--- it is a `pack` or a `packturn`, for that packed.
-abbrev pub IsListNext : (List ℕ → List Transaction → Type 0) → Machine → List FlaggedTurn → List ℕ → Type 0
-IsListNext stands m [] = λ bytes. stands bytes m.list
-IsListNext stands m (t ∷ later) = IsListIn stands stock m t.turn.line
+-- Before these turns bytes stand for the machine's list, or for what the step of the first of them leaves of it.
+abbrev pub IsListNext : (List ℕ → List Transaction → Type 0) → Moment → List FlaggedTurn → List ℕ → Type 0
+IsListNext stands m [] = λ bytes. stands bytes m.machine.list
+IsListNext stands m (t ∷ later) = IsListIn stands stock m t.turn
 
--- bytes stand for the list of a machine; where the store failed in the first of these turns, for that or for what its line would have left
-abbrev pub IsMainBy : (List ℕ → List Transaction → Type 0) → Option TurnError → Machine → List FlaggedTurn → List ℕ → Type 0
+-- bytes stand for the list at a moment; where the store failed in the first of these turns, for that or for what its step would have left
+abbrev pub IsMainBy : (List ℕ → List Transaction → Type 0) → Option TurnError → Moment → List FlaggedTurn → List ℕ → Type 0
 IsMainBy stands (Some StoreFault) m later bytes = IsListNext stands m later bytes
-IsMainBy stands _ m later bytes = stands bytes m.list
+IsMainBy stands _ m later bytes = stands bytes m.machine.list
 
-abbrev pub IsMainOf : Option TurnError → Machine → List FlaggedTurn → List ℕ → Type 0
+abbrev pub IsMainOf : Option TurnError → Moment → List FlaggedTurn → List ℕ → Type 0
 IsMainOf broke m later bytes = IsMainBy StandsForList broke m later bytes
 
 -- Unless the store failed, no call of the volume has failed but reads, and none of these unless a turn was answered that one did.
@@ -74,13 +73,13 @@ abbrev pub CountsLeft : Option TurnError → List TurnAnswer → Outside → Out
 CountsLeft (Some StoreFault) answers before after = Unit {0}
 CountsLeft _ answers before after = (after.write_faults ≡ before.write_faults) × (has_read_fault answers ≡ false → after.read_faults ≡ before.read_faults)
 
--- Bytes stand for the list at a moment that this run came by; or, where the turn that was taken then is a `finish` or packs, for what that would leave.
+-- Bytes stand for the list at a moment that this run came by, or for what the step of the turn that was taken then leaves of it.
 pub record IsOfRun (stands : List ℕ → List Transaction → Type 0) (m : Moment) (turns later : List FlaggedTurn) (answers : List TurnAnswer) (behind : Moment) (bytes : List ℕ) : Type 0 where
   pub given : List TurnAnswer
   pub more : List TurnAnswer
   pub parts : answers ≡ given ++ more
   pub came : CameBy stock m turns given more behind
-  pub list : IsListNext stands came.at.machine (came.rest ++ later) bytes
+  pub list : IsListNext stands came.at (came.rest ++ later) bytes
 
 -- the same of a run that came so far
 abbrev pub IsOfCame : {m : Moment} {turns : List Turn} {broke : Option TurnError} {now : Moment} → (List ℕ → List Transaction → Type 0) → Came m turns broke now → List ℕ → Type 0
@@ -111,8 +110,8 @@ pub record Reached (turns : List Turn) (broke : Option TurnError) (written : Lis
   pub reads_left : after.read_faults ≡ now.counts.reads
   pub faults_left : after.write_faults ≡ now.counts.others
   pub counts : CountsLeft broke came.answers before after
-  pub main : IsMainOf broke came.behind.machine came.later (main_of after)
-  pub images : Leaves Main (IsMainOf broke came.behind.machine came.later) after.log
+  pub main : IsMainOf broke came.behind came.later (main_of after)
+  pub images : Leaves Main (IsMainOf broke came.behind came.later) after.log
   pub acknowledged : HasCommitted stock (began list stamps before.read_faults before.write_faults) came.taken came.answers came.behind
   pub moments : IsCalm before → LeavesOnly Main (IsOfCameOrEmpty (main_of before) came) before.log after.log
 

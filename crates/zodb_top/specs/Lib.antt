@@ -18,3 +18,4 @@ pub mod Packs
 pub mod PackStores
 pub mod Table
 pub mod Telling
+pub mod Indexing

@@ -1,6 +1,7 @@
 -- What the program promises, whatever its words: one record, of which each field is a sentence. Own.
 use Rattle.std.specs.Prelude.{◌≡◌, ◌≢◌, ◌≤◌, ◌+◌, ℕ, List, [], Option, Some, None, IfSome, length}
 use Rattle.std.specs.Io.KnownBytes.{Consumes, IsAtEnd}
+use Rattle.file_store.specs.Hinting.{LeavesHonest}
 use Rattle.fs_records.specs.File.{StandsFor}
 use Rattle.fs_recovery.specs.Opens.{IsNoList}
 use Rattle.zb_base.specs.Counts.{Rose}
@@ -9,13 +10,15 @@ use Rattle.zb_script.specs.declared.limits.Limit.{Limit}
 use Rattle.zb_script.specs.declared.line.Turn.{Turn}
 use Rattle.zb_script.specs.Limits.{first_limit}
 use Rattle.zb_script.specs.Script.{IsBadLine}
-use Rattle.zb_volume.specs.declared.areas.Area.TheVariants.{Side}
+use Rattle.zb_volume.specs.declared.areas.Area.TheVariants.{Main, Side}
+use Rattle.zb_volume.specs.Disk.{IsSettled}
 use Rattle.zb_volume.specs.Moments.{StaysAs}
 use Rattle.zodb_top.specs.declared.command.Command.{Command}
-use Rattle.zodb_top.specs.declared.command.Command.TheVariants.{Ask, Pack, Run}
+use Rattle.zodb_top.specs.declared.command.Command.TheVariants.{Ask, Index, Pack, Run}
 use Rattle.zodb_top.specs.declared.status.Status.{Status}
 use Rattle.zodb_top.specs.declared.status.Status.TheVariants as status
 use Rattle.zodb_top.specs.Asked.{AskSays}
+use Rattle.zodb_top.specs.Indexing.{IndexSays}
 use Rattle.zodb_top.specs.Inputs.{most_bytes}
 use Rattle.zodb_top.specs.Opened.{IsLeft, IsUnopened}
 use Rattle.zodb_top.specs.Outside.{Outside, main_of}
@@ -47,8 +50,8 @@ pub record SaysUsage (s : Status) (before after : Outside) : Type 0 where
   pub unopened : IsUnopened before after
 
 -- Its cause, how far the command came, what was written, which stamps the clock gave, and what Main
--- stands for, as it is and whatever a crash leaves or left. A command that asks leaves the list as it
--- was, at every moment and whatever its status, and Main's bytes, but for a tail.
+-- stands for, as it is and whatever a crash leaves or left. A command that asks, and `index`, leaves
+-- the list as it was, at every moment and whatever its status, and Main's bytes, but for a tail.
 abbrev pub CommandSays : Option Command → Status → Type 0 → ProgramSeen → ProgramSeen → Type 0
 CommandSays None s told before after = SaysUsage s before.outside after.outside
 CommandSays (Some Run) s told before after =
@@ -59,6 +62,9 @@ CommandSays (Some (Ask asked)) s told before after =
     × (told → IsLeft told before.outside after.outside)
 CommandSays (Some (Pack pack)) s told before after =
     PackSays s pack told before.outside after.outside
+CommandSays (Some Index) s told before after =
+    IndexSays s told before.outside after.outside
+    × (told → IsLeft told before.outside after.outside)
 
 -- ---- what is read of the script
 
@@ -143,5 +149,8 @@ pub record Promise (told : Type 0) (command : Option Command) (s : Status)
   -- Main was empty, so that the file had to be made.
   pub side : told → KeepsSide command before.left → main_of before.outside ≢ []
       → StaysAs Side before.outside.log after.outside.log
+  -- Whatever a crash leaves behind the call is an honest index file, where nothing of Main was
+  -- pending.
+  pub hint : told → IsSettled before.outside.log Main → LeavesHonest after.outside.log
   -- The counts of faults never fall.
   pub later : AreLater before after

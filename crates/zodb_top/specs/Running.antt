@@ -77,7 +77,7 @@ pub record Stops {R F : Type 0} (lasts : Type 0) (stands : List ℕ → List Tra
   pub came : Came m turns broke now
   pub text : IsWrittenOf broke old new (answers_text came.answers)
   pub stands_for : StandsForMoment clients left now
-  pub around : broke ≡ Some turn_error.StoreFault → lasts → Leaves Main (IsListNext stands came.behind.machine came.later) clients.hub.store.log
+  pub around : broke ≡ Some turn_error.StoreFault → lasts → Leaves Main (IsListNext stands came.behind came.later) clients.hub.store.log
   pub moments : lasts → LeavesOnly Main (IsOfCame stands came) log clients.hub.store.log
 
 -- ---- a store
@@ -89,7 +89,7 @@ pub record RanOver (lasts : Type 0) (stands : List ℕ → List Transaction → 
   pub text : written (joined (cut_lines cut) ++ answers_text came.answers)
   pub stamps : left ≡ now.stamps
   pub counts : counts_of new ≡ now.counts
-  pub images : lasts → Leaves Main (IsMainBy stands broke came.behind.machine came.later) new.log
+  pub images : lasts → Leaves Main (IsMainBy stands broke came.behind came.later) new.log
   pub moments : lasts → LeavesOnly Main (IsOfCame stands came) old.log new.log
 
 pub record RanAllOver (lasts : Type 0) (stands : List ℕ → List Transaction → Type 0) (m : Moment) (cut : Option ℕ) (turns : List Turn) (written : List ℕ → Type 0) (old new : StoreState) (left : Option (List Stamp)) : Type 0 where

@@ -43,6 +43,10 @@ cut_lines (Some at) = line (codes "cut " ++ decimal at) ∷ []
 abbrev pub damage_line : ℕ → Field → List ℕ
 damage_line at field = line (codes "damaged " ++ (decimal at ++ 32 ∷ name_of field))
 
+-- up to where the index file goes
+abbrev pub indexed_line : ℕ → List ℕ
+indexed_line end = line (codes "indexed " ++ decimal end)
+
 -- an object that has no record
 abbrev pub missing_line : List ℕ
 missing_line = line (codes "missing")

@@ -23,7 +23,7 @@ is_path (b ∷ path) = not (b == 45)
 
 -- the commands that stand alone, those with one position, and those that may have a second one
 abbrev pub stands_alone : List ℕ → Bool
-stands_alone word = bytes_eq (codes "run") word || bytes_eq (codes "undolog") word
+stands_alone word = bytes_eq (codes "run") word || (bytes_eq (codes "undolog") word || bytes_eq (codes "index") word)
 
 abbrev pub has_position : List ℕ → Bool
 has_position word = bytes_eq (codes "history") word || (bytes_eq (codes "show") word || (bytes_eq (codes "digest") word || (bytes_eq (codes "pack") word || bytes_eq (codes "check") word)))
@@ -45,6 +45,7 @@ abbrev pub word_command : List ℕ → Option Command
 word_command word =
     if bytes_eq word (codes "run") then Some command.Run
     else if bytes_eq word (codes "undolog") then Some (command.Ask UndoLog)
+    else if bytes_eq word (codes "index") then Some command.Index
     else None
 
 -- what a name asks of an object

@@ -2,11 +2,12 @@
 
 ghost use Rattle.std.specs.Prelude.{◌≡◌, ◌++◌, ◌∷◌, ◌≤◌, [], None, OnErr, OnOk, false};
 ghost use Rattle.std.specs.Io.KnownBytes.{Appends};
+ghost use Rattle.file_store.specs.Hinting.{HasHonestHint, LeavesHonest};
 ghost use Rattle.fs_recovery.specs.Opens.{IsNoList};
 ghost use Rattle.zb_base.specs.Counts.{Rose};
 ghost use Rattle.zb_outside.specs.Written.{AppendsPrefix};
 ghost use Rattle.zb_volume.specs.declared.areas.Area.TheVariants.{Main};
-ghost use Rattle.zb_volume.specs.Disk.{seen};
+ghost use Rattle.zb_volume.specs.Disk.{IsSettled, seen};
 ghost use Rattle.zb_volume.specs.Moments.{Leaves};
 ghost use Rattle.zodb_core.specs.HubState.{counts_of};
 ghost use Rattle.zodb_core.specs.Outcomes.{AreLaterCounts};
@@ -96,6 +97,7 @@ pub(crate) fn answer_file<K: Sink, V: Volume + Drop, C: Clock>(
     volume: V,
     clock: &mut C,
 ) -> (Status, V)
+    requires { V.told → HasHonestHint (V.state volume).log }
     ensures outcome { AskSays result.0 asked V.told
         (outside (K.taken sink.old) (K.faults sink.old) (C.stamps clock.old) (V.state volume))
         (outside (K.taken sink.new) (K.faults sink.new) (C.stamps clock.new) (V.state result.1)) }
@@ -103,6 +105,7 @@ pub(crate) fn answer_file<K: Sink, V: Volume + Drop, C: Clock>(
         (outside (K.taken sink.old) (K.faults sink.old) (C.stamps clock.old) (V.state volume))
         (outside (K.taken sink.new) (K.faults sink.new) (C.stamps clock.new) (V.state result.1)) }
     ensures harmed { V.told → IsNoList (seen (V.state volume).log Main) → (V.state result.1).log ≡ (V.state volume).log }
+    ensures hint { V.told → IsSettled (V.state volume).log Main → LeavesHonest (V.state result.1).log }
     ensures others { ¬ (result.0 ≡ Status.StoreFault) → (V.state result.1).write_faults ≡ (V.state volume).write_faults }
     ensures sink_counted { K.faults sink.old ≤ K.faults sink.new }
     ensures read_counted { (V.state volume).read_faults ≤ (V.state result.1).read_faults }

@@ -58,6 +58,8 @@ pub enum Command {
         /// How.
         PackRequest,
     ),
+    /// The file's index file is to be written.
+    Index,
 }
 
 /// Whether a word is a path: it isn't empty and doesn't begin with a dash.
@@ -96,6 +98,9 @@ fn word_command(word: &str) -> Option<Command>
     }
     if word == "undolog" {
         return Some(Command::Ask(Asked::UndoLog));
+    }
+    if word == "index" {
+        return Some(Command::Index);
     }
     None
 }

@@ -8,6 +8,7 @@ mod asking;
 mod checking;
 mod command;
 mod entering;
+mod indexing;
 mod laws;
 mod packing;
 mod replying;

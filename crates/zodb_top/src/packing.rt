@@ -1,12 +1,13 @@
 //! The command `pack`: the list of the file in Main is packed in one step of a session.
 
 ghost use Rattle.std.specs.Prelude.{◌≡◌, ◌≢◌, ◌≤◌, [], ◌∷◌, ◌++◌, None, Option, List, ℕ, false, true};
+ghost use Rattle.file_store.specs.Hinting.{HasHonestHint, LeavesHonest};
 ghost use Rattle.fs_records.specs.File.{StandsFor};
 ghost use Rattle.fs_recovery.specs.Opens.{IsNoList};
 ghost use Rattle.zb_base.specs.Counts.{Rose};
 ghost use Rattle.zb_model.specs.declared.data.Transaction.{Transaction};
 ghost use Rattle.zb_volume.specs.declared.areas.Area.TheVariants.{Main};
-ghost use Rattle.zb_volume.specs.Disk.{seen};
+ghost use Rattle.zb_volume.specs.Disk.{IsSettled, seen};
 ghost use Rattle.zb_volume.specs.Moments.{Leaves, LeavesOnly};
 ghost use Rattle.zodb_core.specs.HubState.{IsCauseOf, StandsForMachine, counts_of};
 ghost use Rattle.zodb_core.specs.Machine.{machine_over};
@@ -113,7 +114,7 @@ fn told_of(reply: Reply) -> Told
 }
 
 /// Writes lines and a last one, and answers the status.
-fn tell<K: Sink>(sink: &mut K, lines: &[Text8], last: &[u8]) -> Status
+pub(crate) fn tell<K: Sink>(sink: &mut K, lines: &[Text8], last: &[u8]) -> Status
     ensures told { IsToldAs result (K.taken sink.old) (K.taken sink.new) (K.faults sink.old) (K.faults sink.new) (joined (lines.now ++ last.now ∷ [])) }
     ensures counted { K.faults sink.old ≤ K.faults sink.new }
 {
@@ -174,6 +175,7 @@ pub(crate) fn pack_file<K: Sink, V: Volume + Drop, C: Clock>(
     volume: V,
     clock: &mut C,
 ) -> (Status, V)
+    requires { V.told → HasHonestHint (V.state volume).log }
     ensures outcome { PackSays result.0 pack V.told
         (outside (K.taken sink.old) (K.faults sink.old) (C.stamps clock.old) (V.state volume))
         (outside (K.taken sink.new) (K.faults sink.new) (C.stamps clock.new) (V.state result.1)) }
@@ -182,6 +184,7 @@ pub(crate) fn pack_file<K: Sink, V: Volume + Drop, C: Clock>(
     ensures damaged { V.told → ¬ Rose (V.state volume).read_faults (V.state result.1).read_faults → ¬ Rose (V.state volume).write_faults (V.state result.1).write_faults
         → IsNoList (seen (V.state volume).log Main) → IsUnlessMemory result.0 Status.Damaged }
     ensures harmed { V.told → IsNoList (seen (V.state volume).log Main) → (V.state result.1).log ≡ (V.state volume).log }
+    ensures hint { V.told → IsSettled (V.state volume).log Main → LeavesHonest (V.state result.1).log }
     ensures others { ¬ (result.0 ≡ Status.StoreFault) → (V.state result.1).write_faults ≡ (V.state volume).write_faults }
     ensures sink_counted { K.faults sink.old ≤ K.faults sink.new }
     ensures read_counted { (V.state volume).read_faults ≤ (V.state result.1).read_faults }

@@ -54,7 +54,7 @@ fn reply<St: Store, K: Sink, C: Clock>(
     ensures err { St.told → (m : Moment) → StandsForMoment clients.old (C.stamps clock.old) m → IfErr result (λ e.
         LeadsTo (IsStopped e m turn.now is_last (K.taken sink.old) (K.taken sink.new)) clients.new (C.stamps clock.new)) }
     ensures moments { St.lasts → St.told → clients.old.hub.store.broken ≡ false → (m : Moment) → StandsForMoment clients.old (C.stamps clock.old) m →
-        LeavesOnly Main (IsListIn St.stands stock m.machine turn.now.line) clients.old.hub.store.log clients.new.hub.store.log }
+        LeavesOnly Main (IsListIn St.stands stock m turn.now) clients.old.hub.store.log clients.new.hub.store.log }
     ensures side { St.lasts → packs_list turn.now.line ≡ false → StaysAs Side clients.old.hub.store.log clients.new.hub.store.log }
     ensures sink_failed { IsErrOf result RunError.SinkFault → Rose (K.faults sink.old) (K.faults sink.new) }
     ensures store_failed { IsErrOf result (RunError.Turn StoreFault) → Rose clients.old.hub.store.faults clients.new.hub.store.faults }

@@ -2,13 +2,14 @@
 
 ghost use Rattle.std.specs.Prelude.{◌≡◌, ◌≢◌, ◌≤◌, ℕ, List, [], Option, None, false};
 ghost use Rattle.std.specs.List.{AllByRecursion};
+ghost use Rattle.file_store.specs.Hinting.{HasHonestHint, LeavesHonest};
 ghost use Rattle.fs_records.specs.File.{StandsFor};
 ghost use Rattle.fs_recovery.specs.Opens.{IsNoList};
 ghost use Rattle.zb_base.specs.Counts.{Rose};
 ghost use Rattle.zb_model.specs.declared.data.Transaction.{Transaction};
 ghost use Rattle.zb_volume.specs.declared.areas.Area.TheVariants.{Main, Side};
 ghost use Rattle.zb_volume.specs.Moments.{StaysAs};
-ghost use Rattle.zb_volume.specs.Disk.{seen};
+ghost use Rattle.zb_volume.specs.Disk.{IsSettled, seen};
 ghost use Rattle.client_turns.specs.Refusing.{IsFittingLine};
 ghost use Rattle.zodb_top.specs.Came.{began};
 ghost use Rattle.zodb_top.specs.Outside.{outside};
@@ -99,6 +100,7 @@ pub(crate) fn run_file<K: Sink, V: Volume + Drop, C: Clock>(
     clock: &mut C,
 ) -> (Status, V)
     requires fitting { AllByRecursion (λ t. IsFittingLine t.line) turns.now }
+    requires honest { V.told → HasHonestHint (V.state volume).log }
     ensures outcome { FileSays result.0 V.told turns.now
         (outside (K.taken sink.old) (K.faults sink.old) (C.stamps clock.old) (V.state volume))
         (outside (K.taken sink.new) (K.faults sink.new) (C.stamps clock.new) (V.state result.1)) }
@@ -107,6 +109,7 @@ pub(crate) fn run_file<K: Sink, V: Volume + Drop, C: Clock>(
     ensures damaged { V.told → ¬ Rose (V.state volume).read_faults (V.state result.1).read_faults → ¬ Rose (V.state volume).write_faults (V.state result.1).write_faults
         → IsNoList (seen (V.state volume).log Main) → IsUnlessMemory result.0 Status.Damaged }
     ensures harmed { V.told → IsNoList (seen (V.state volume).log Main) → (V.state result.1).log ≡ (V.state volume).log }
+    ensures hint { V.told → IsSettled (V.state volume).log Main → LeavesHonest (V.state result.1).log }
     ensures others { ¬ (result.0 ≡ Status.StoreFault) → (V.state result.1).write_faults ≡ (V.state volume).write_faults }
     ensures side { V.told → has_pack turns.now ≡ false → seen (V.state volume).log Main ≢ [] → StaysAs Side (V.state volume).log (V.state result.1).log }
     ensures sink_counted { K.faults sink.old ≤ K.faults sink.new }

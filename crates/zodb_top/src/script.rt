@@ -3,6 +3,7 @@
 ghost use Rattle.std.specs.Prelude.{◌≡◌, ◌≢◌, ◌≤◌, ◌+◌, ℕ, List, [], None, Option, Some, IfErr, IfOk, IfSome, IsErr, IsTrue, OnOk, length};
 ghost use Rattle.std.specs.List.{AllByRecursion};
 ghost use Rattle.std.specs.Io.KnownBytes.{Consumes, IsAtEnd};
+ghost use Rattle.file_store.specs.Hinting.{HasHonestHint, LeavesHonest};
 ghost use Rattle.fs_records.specs.File.{StandsFor};
 ghost use Rattle.fs_recovery.specs.Opens.{IsNoList};
 ghost use Rattle.zb_base.specs.Counts.{Rose};
@@ -13,7 +14,7 @@ ghost use Rattle.zb_script.specs.Limits.{first_limit};
 ghost use Rattle.zb_script.specs.Script.{IsBadLine, IsScript};
 ghost use Rattle.zb_volume.specs.declared.areas.Area.TheVariants.{Main, Side};
 ghost use Rattle.zb_volume.specs.Moments.{StaysAs};
-ghost use Rattle.zb_volume.specs.Disk.{seen};
+ghost use Rattle.zb_volume.specs.Disk.{IsSettled, seen};
 ghost use Rattle.client_turns.specs.Refusing.{IsFittingLine};
 ghost use Rattle.zodb_top.specs.Inputs.{InputSays, SaysBadLine, SaysLimit, most_bytes};
 ghost use Rattle.zodb_top.specs.Outside.{outside};
@@ -78,7 +79,7 @@ pub fn turns_of<K: Sink>(alloc: Global, input: &[u8], sink: &mut K) -> Result<Li
 
 /// Reads the script that the source has, to its end or past its limit, and runs it over the file in
 /// Main.
-#[tactic(auto, using(zb_model::specs::StayLaws::stays_same, crate::proofs::Sources::limit_unread, crate::proofs::Sources::fault_unread))]
+#[tactic(auto, using(zb_model::specs::StayLaws::stays_same, crate::proofs::Sources::limit_unread, crate::proofs::Sources::fault_unread, crate::proofs::Untouched::still_honest))]
 pub(crate) fn run_source<S: Source, K: Sink, V: Volume + Drop, C: Clock>(
     alloc: Global,
     source: &mut S,
@@ -86,6 +87,7 @@ pub(crate) fn run_source<S: Source, K: Sink, V: Volume + Drop, C: Clock>(
     volume: V,
     clock: &mut C,
 ) -> (Status, V)
+    requires { V.told → HasHonestHint (V.state volume).log }
     ensures outcome { RunSays result.0 V.told (Rose (S.faults source.old) (S.faults source.new)) (S.left source.old)
         (outside (K.taken sink.old) (K.faults sink.old) (C.stamps clock.old) (V.state volume))
         (outside (K.taken sink.new) (K.faults sink.new) (C.stamps clock.new) (V.state result.1)) }
@@ -102,6 +104,7 @@ pub(crate) fn run_source<S: Source, K: Sink, V: Volume + Drop, C: Clock>(
     ensures limit { IfSome (S.left source.old) (λ input. (l : WhichLimit) → first_limit input ≡ Some l
         → ¬ Rose (S.faults source.old) (S.faults source.new) → IsUnlessMemory result.0 Status.Limit) }
     ensures harmed { V.told → IsNoList (seen (V.state volume).log Main) → (V.state result.1).log ≡ (V.state volume).log }
+    ensures hint { V.told → IsSettled (V.state volume).log Main → LeavesHonest (V.state result.1).log }
     ensures others { ¬ (result.0 ≡ Status.StoreFault) → (V.state result.1).write_faults ≡ (V.state volume).write_faults }
     ensures side { V.told → PacksNothing (S.left source.old) → seen (V.state volume).log Main ≢ [] → StaysAs Side (V.state volume).log (V.state result.1).log }
     ensures source_counted { S.faults source.old ≤ S.faults source.new }

@@ -52,5 +52,6 @@ pub(crate) fn program<'a>(alloc: Global) -> Result<Command<'a>, AllocError>
         .subcommand(placed(alloc, "show")?)?
         .subcommand(placed(alloc, "digest")?)?
         .subcommand(placed_twice(alloc, "pack")?)?
-        .subcommand(placed(alloc, "check")?)
+        .subcommand(placed(alloc, "check")?)?
+        .subcommand(alone(alloc, "index"))
 }

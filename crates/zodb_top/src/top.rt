@@ -1,12 +1,14 @@
 //! The top call.
 
 ghost use Rattle.std.specs.Prelude.{map, string_bytes};
+ghost use Rattle.file_store.specs.Hinting.{HasHonestHint};
 ghost use Rattle.zodb_top.specs.Outside.{outside};
 ghost use Rattle.zodb_top.specs.Promise.{Promise, program_seen};
 ghost use Rattle.zodb_top.specs.Words.{command_of};
 
 use crate::answering::answer_file;
 use crate::command::{Command, command_of};
+use crate::indexing::index_file;
 use crate::packing::pack_file;
 use crate::saying::say;
 use crate::script::run_source;
@@ -22,8 +24,9 @@ use zb_volume::Volume;
 /// What it promises is one record, `Promise`, over what is seen outside at the call and at the
 /// return: what the source has left and its count of faults; what the sink has taken and its count;
 /// the clock's stamps; and of the volume its log and its counts of failed reads and of other failed
-/// calls. `docs/ARCHITECTURE.md` leads from there to the definition of a database.
-#[tactic(auto, using(zb_model::specs::StayLaws::stays_same))]
+/// calls. Where the volume tells, the index file in Hint has to say what Main has, or be none that is
+/// believed, as an empty one. `docs/ARCHITECTURE.md` leads from there to the definition of a database.
+#[tactic(auto, using(zb_model::specs::StayLaws::stays_same, crate::proofs::Untouched::still_honest))]
 pub fn zodb_main<S: Source, K: Sink, V: Volume + Drop, C: Clock>(
     alloc: Global,
     words: &[String],
@@ -32,6 +35,7 @@ pub fn zodb_main<S: Source, K: Sink, V: Volume + Drop, C: Clock>(
     volume: V,
     clock: &mut C,
 ) -> (Status, V)
+    requires honest { V.told → HasHonestHint (V.state volume).log }
     ensures promise { Promise V.told (command_of (map string_bytes words.now)) result.0
         (program_seen (S.left source.old) (S.faults source.old)
         (outside (K.taken sink.old) (K.faults sink.old) (C.stamps clock.old) (V.state volume)))
@@ -48,5 +52,6 @@ pub fn zodb_main<S: Source, K: Sink, V: Volume + Drop, C: Clock>(
         Command::Run => run_source(alloc, source, sink, volume, clock),
         Command::Ask(asked) => answer_file(alloc, asked, sink, volume, clock),
         Command::Pack(pack) => pack_file(alloc, pack, sink, volume, clock),
+        Command::Index => index_file(alloc, sink, volume, clock),
     }
 }

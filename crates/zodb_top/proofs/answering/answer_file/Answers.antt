@@ -12,6 +12,8 @@ use Rattle.zodb_top.proofs.Files.{opened_none, opens_as}
 use Rattle.zodb_top.proofs.Nexts.{unopened_other}
 use Rattle.zodb_top.proofs.Untouched.{makes_when}
 use Rattle.zodb_top.proofs.Volumes.{bytes_unless}
+use Rattle.zb_volume.specs.Runs.{along_now}
+use Rattle.file_store.specs.Hinting.{LeavesHonest}
 use Rattle.zodb_top.proofs.answering.answer_file.Goals as goal
 
 pub returns-in-Ok-clause-outcome : goal.returns-in-Ok-clause-outcome
@@ -127,3 +129,9 @@ returns-in-Ok-clause-others g c = λ other. c.into_volume.ensures.faults ∙ c.a
 
 pub returns-in-Err-clause-others : goal.returns-in-Err-clause-others
 returns-in-Err-clause-others g c = λ other. (c.in-Err.ensures.refused.cause.unfailed (unopened_other _ _ _ _ _ _ c.say_unopened.ensures.said other)).writes
+
+pub returns-in-Ok-clause-hint : goal.returns-in-Ok-clause-hint
+returns-in-Ok-clause-hint g c = λ told settled. c.into_volume.ensures.hint told
+
+pub returns-in-Err-clause-hint : goal.returns-in-Err-clause-hint
+returns-in-Err-clause-hint g c = λ told settled. along_now LeavesHonest _ _ (c.in-Err.ensures.hint_left told settled)

@@ -12,4 +12,5 @@ returns c =
     let show = c.in_ok-placed-2.ensures _ _ c.in_ok-subcommand-4.ensures ∙ ap (λ (x : App). with_subcommand x (placed (codes "show")).top) history in
     let digest = c.in_ok-placed-3.ensures _ _ c.in_ok-subcommand-5.ensures ∙ ap (λ (x : App). with_subcommand x (placed (codes "digest")).top) show in
     let pack = c.in_ok-placed_twice.ensures _ _ c.in_ok-subcommand-6.ensures ∙ ap (λ (x : App). with_subcommand x (placed_twice (codes "pack")).top) digest in
-    IfOk-weaker c.subcommand-7.result _ _ (λ r h. c.in_ok-placed-4.ensures _ _ h ∙ ap (λ (x : App). with_subcommand x (placed (codes "check")).top) pack) c.subcommand-7.ensures
+    let check = c.in_ok-placed-4.ensures _ _ c.in_ok-subcommand-7.ensures ∙ ap (λ (x : App). with_subcommand x (placed (codes "check")).top) pack in
+    IfOk-weaker c.subcommand-8.result _ _ (λ r h. c.alone-3.ensures _ _ h ∙ ap (λ (x : App). with_subcommand x (alone (codes "index")).top) check) c.subcommand-8.ensures

@@ -1,0 +1,161 @@
+use Rattle.std.proofs.Common.{List, refl, sym, subst, ◌∙◌}
+use Rattle.std.specs.Option.{option_map}
+use Rattle.fs_records.specs.Listed.{listed}
+use Rattle.pack_copy.specs.Copying.{copied_in}
+use Rattle.file_store.specs.Hinting.{LeavesHonest}
+use Rattle.file_store.specs.Kept.{StandsForList, voted_in}
+use Rattle.zb_model.specs.declared.data.Transaction.{Transaction}
+use Rattle.zb_model.specs.Stores.{StoreState}
+use Rattle.zb_volume.specs.declared.areas.Area.TheVariants.{Main, Side}
+use Rattle.zb_volume.specs.Disk.{seen}
+use Rattle.zb_volume.specs.Runs.{along_now}
+use Rattle.zodb_top.specs.Outside.{Outside, outside}
+use Rattle.zodb_top.proofs.Files.{opened_none, opens_as}
+use Rattle.zodb_top.proofs.Indexes.{IsHinting, index_left, indexes_file, unopened}
+use Rattle.zodb_top.proofs.Nexts.{unopened_other}
+use Rattle.zodb_top.proofs.Untouched.{makes_when}
+use Rattle.zodb_top.proofs.Volumes.{bytes_unless}
+use Rattle.zodb_top.proofs.indexing.index_file.Goals as goal
+
+pub returns-in-Ok-clause-outcome : goal.returns-in-Ok-clause-outcome
+returns-in-Ok-clause-outcome g c =
+    let V = g.V.Volume in
+    let K = g.K.Sink in
+    let C = g.C.Clock in
+    let before : Outside = outside (K.taken c.args.sink.now) (K.faults c.args.sink.now) (C.stamps c.args.clock.now) (V.state c.args.volume) in
+    let after : Outside = outside (K.taken c.write_index-status.new.sink) (K.faults c.write_index-status.new.sink) (C.stamps c.create_or_open.new.clock) (V.state c.into_volume.result) in
+    let s = c.in-Ok.store in
+    let t = c.write_index-status.new.store in
+    let state : StoreState = record {
+      list = listed (seen (V.state s.volume).log Main);
+      voted = option_map (λ x. voted_in x.tid s.index.end (seen (V.state s.volume).log Main)) s.index.staged;
+      begun = option_map (λ x. copied_in x.tid (seen (V.state s.volume).log Side)) s.copy;
+      newest = s.index.newest;
+      broken = s.broken;
+      log = (V.state s.volume).log;
+      faults = (V.state s.volume).write_faults;
+      read_faults = (V.state s.volume).read_faults;
+    } in
+    let state' : StoreState = record {
+      list = listed (seen (V.state t.volume).log Main);
+      voted = option_map (λ x. voted_in x.tid t.index.end (seen (V.state t.volume).log Main)) t.index.staged;
+      begun = option_map (λ x. copied_in x.tid (seen (V.state t.volume).log Side)) t.copy;
+      newest = t.index.newest;
+      broken = t.broken;
+      log = (V.state t.volume).log;
+      faults = (V.state t.volume).write_faults;
+      read_faults = (V.state t.volume).read_faults;
+    } in
+    let hinting : IsHinting V.told before after state state' (C.stamps c.create_or_open.new.clock) c.in-Ok.cut = record {
+      file = λ told. record {
+        opens = opens_as _ _ _ _ _ (λ some. ((c.in-Ok.ensures.store.main told).reopened some).opened) (λ empty. ((c.in-Ok.ensures.store.main told).anew empty).made) (c.in-Ok.ensures.clock.kept told) (c.in-Ok.ensures.clock.left told);
+        keeps = (c.in-Ok.ensures.store.moments told).keeps;
+        makes = makes_when _ _ _ (c.in-Ok.ensures.store.moments told).makes;
+        shown = g.met.V.Volume.seen_is_left c.into_volume.result Main told;
+        bytes = λ some. ((c.in-Ok.ensures.store.main told).reopened some).content;
+        new_file = λ empty. ((c.in-Ok.ensures.store.main told).anew empty).new_file;
+      };
+      given = c.in-Ok.ensures.clock.given;
+      kept = c.in-Ok.ensures.clock.kept;
+      side = λ here some. ((c.in-Ok.ensures.store.main here).reopened some).side;
+      others = c.write_index-status.ensures.stays;
+      makes = λ told. (c.in-Ok.ensures.store.moments told).makes;
+      stamps = refl;
+      log = c.into_volume.ensures.log;
+      first_reads = c.in-Ok.ensures.store.read_faults;
+      first_writes = c.in-Ok.ensures.store.faults;
+      reads = c.into_volume.ensures.read_faults;
+      writes = c.into_volume.ensures.faults;
+    } in
+    indexes_file V.told before after state state' (C.stamps c.create_or_open.new.clock) c.in-Ok.cut hinting c.write_index-status.result
+    (λ told other. subst (λ (list : List Transaction). StandsForList (seen (V.state c.into_volume.result).log Main) list) (c.write_index-status.ensures.list told) (c.into_volume.ensures.stands told (c.write_index-status.ensures.whole other)))
+    c.write_index-status.ensures.says
+
+pub returns-in-Ok-clause-left : goal.returns-in-Ok-clause-left
+returns-in-Ok-clause-left g c = λ told.
+    let V = g.V.Volume in
+    let K = g.K.Sink in
+    let C = g.C.Clock in
+    let before : Outside = outside (K.taken c.args.sink.now) (K.faults c.args.sink.now) (C.stamps c.args.clock.now) (V.state c.args.volume) in
+    let after : Outside = outside (K.taken c.write_index-status.new.sink) (K.faults c.write_index-status.new.sink) (C.stamps c.create_or_open.new.clock) (V.state c.into_volume.result) in
+    let s = c.in-Ok.store in
+    let t = c.write_index-status.new.store in
+    let state : StoreState = record {
+      list = listed (seen (V.state s.volume).log Main);
+      voted = option_map (λ x. voted_in x.tid s.index.end (seen (V.state s.volume).log Main)) s.index.staged;
+      begun = option_map (λ x. copied_in x.tid (seen (V.state s.volume).log Side)) s.copy;
+      newest = s.index.newest;
+      broken = s.broken;
+      log = (V.state s.volume).log;
+      faults = (V.state s.volume).write_faults;
+      read_faults = (V.state s.volume).read_faults;
+    } in
+    let state' : StoreState = record {
+      list = listed (seen (V.state t.volume).log Main);
+      voted = option_map (λ x. voted_in x.tid t.index.end (seen (V.state t.volume).log Main)) t.index.staged;
+      begun = option_map (λ x. copied_in x.tid (seen (V.state t.volume).log Side)) t.copy;
+      newest = t.index.newest;
+      broken = t.broken;
+      log = (V.state t.volume).log;
+      faults = (V.state t.volume).write_faults;
+      read_faults = (V.state t.volume).read_faults;
+    } in
+    let hinting : IsHinting V.told before after state state' (C.stamps c.create_or_open.new.clock) c.in-Ok.cut = record {
+      file = λ told. record {
+        opens = opens_as _ _ _ _ _ (λ some. ((c.in-Ok.ensures.store.main told).reopened some).opened) (λ empty. ((c.in-Ok.ensures.store.main told).anew empty).made) (c.in-Ok.ensures.clock.kept told) (c.in-Ok.ensures.clock.left told);
+        keeps = (c.in-Ok.ensures.store.moments told).keeps;
+        makes = makes_when _ _ _ (c.in-Ok.ensures.store.moments told).makes;
+        shown = g.met.V.Volume.seen_is_left c.into_volume.result Main told;
+        bytes = λ some. ((c.in-Ok.ensures.store.main told).reopened some).content;
+        new_file = λ empty. ((c.in-Ok.ensures.store.main told).anew empty).new_file;
+      };
+      given = c.in-Ok.ensures.clock.given;
+      kept = c.in-Ok.ensures.clock.kept;
+      side = λ here some. ((c.in-Ok.ensures.store.main here).reopened some).side;
+      others = c.write_index-status.ensures.stays;
+      makes = λ told. (c.in-Ok.ensures.store.moments told).makes;
+      stamps = refl;
+      log = c.into_volume.ensures.log;
+      first_reads = c.in-Ok.ensures.store.read_faults;
+      first_writes = c.in-Ok.ensures.store.faults;
+      reads = c.into_volume.ensures.read_faults;
+      writes = c.into_volume.ensures.faults;
+    } in
+    index_left V.told before after state state' (C.stamps c.create_or_open.new.clock) c.in-Ok.cut hinting
+
+pub returns-in-Ok-clause-harmed : goal.returns-in-Ok-clause-harmed
+returns-in-Ok-clause-harmed g c = λ told none. opened_none g.V.Volume.told _ _ _ c.in-Ok.cut (λ here some. ((c.in-Ok.ensures.store.main here).reopened some).opened) told none
+
+pub returns-in-Ok-clause-hint : goal.returns-in-Ok-clause-hint
+returns-in-Ok-clause-hint g c = λ told settled. c.into_volume.ensures.hint told
+
+pub returns-in-Ok-clause-others : goal.returns-in-Ok-clause-others
+returns-in-Ok-clause-others g c = λ other. c.into_volume.ensures.faults ∙ c.write_index-status.ensures.others other ∙ c.in-Ok.ensures.store.faults
+
+pub returns-in-Err-clause-outcome : goal.returns-in-Err-clause-outcome
+returns-in-Err-clause-outcome g c =
+    unopened c.say_unopened.result c.in-Err.error g.V.Volume.told _ _ c.say_unopened.ensures.said c.in-Err.ensures.refused.harm c.in-Err.ensures.refused.cause.fault c.in-Err.ensures.refused.untouched (λ other. let still = c.in-Err.ensures.refused.cause.unfailed other in (still.reads, still.writes))
+    (record {
+      stamps = c.in-Err.ensures.clock.given;
+      kept = c.in-Err.ensures.clock.kept;
+      bytes = λ told some. bytes_unless _ _ (c.in-Err.ensures.refused.unharmed told);
+      side = c.in-Err.ensures.refused.side;
+      keeps = λ told. (c.in-Err.ensures.refused.moments told).keeps;
+      makes = λ told. (c.in-Err.ensures.refused.moments told).makes;
+    })
+
+pub returns-in-Err-clause-left : goal.returns-in-Err-clause-left
+returns-in-Err-clause-left g c = λ told. record {
+  stamps = c.in-Err.ensures.clock.given;
+  kept = c.in-Err.ensures.clock.kept;
+  bytes = λ told some. bytes_unless _ _ (c.in-Err.ensures.refused.unharmed told);
+  side = c.in-Err.ensures.refused.side;
+  keeps = λ told. (c.in-Err.ensures.refused.moments told).keeps;
+  makes = λ told. (c.in-Err.ensures.refused.moments told).makes;
+}
+
+pub returns-in-Err-clause-hint : goal.returns-in-Err-clause-hint
+returns-in-Err-clause-hint g c = λ told settled. along_now LeavesHonest _ _ (c.in-Err.ensures.hint_left told settled)
+
+pub returns-in-Err-clause-others : goal.returns-in-Err-clause-others
+returns-in-Err-clause-others g c = λ other. (c.in-Err.ensures.refused.cause.unfailed (unopened_other _ _ _ _ _ _ c.say_unopened.ensures.said other)).writes
