@@ -13,7 +13,7 @@ use zb_outside::{Failed, Sink};
 /// that takes each piece whole has no other bytes between them. Where a write failed, the sink has taken
 /// some front of them.
 #[tactic(auto, using(zb_outside::specs::WrittenLaws::appends_more, zb_outside::specs::WrittenLaws::front_kept))]
-fn send_frame<O: Sink>(link_out: &mut O, bytes: &[u8]) -> Result<(), Failed>
+pub fn send_frame<O: Sink>(link_out: &mut O, bytes: &[u8]) -> Result<(), Failed>
     ensures ok { OnOk result (Appends (O.taken link_out.old) (O.taken link_out.new) bytes.now) }
     ensures err { OnErr result (AppendsPrefix (O.taken link_out.old) (O.taken link_out.new) bytes.now) }
     ensures cause { HasCause (O.faults link_out.old) (O.faults link_out.new) result }

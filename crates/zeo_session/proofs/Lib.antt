@@ -1,0 +1,5 @@
+pub mod Asked
+pub mod Links
+pub mod Over
+pub mod Serves
+pub mod Steps
