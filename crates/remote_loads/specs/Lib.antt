@@ -1,0 +1,4 @@
+pub mod Answers
+pub mod Carrying
+pub mod Causes
+pub mod Served

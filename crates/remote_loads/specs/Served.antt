@@ -1,0 +1,39 @@
+-- What a desk sends for one call. Own.
+use Rattle.std.specs.Prelude.{◌≡◌, ℕ, ◌<◌, ◌^◌, List, [], ◌∷◌, ◌++◌, Option, Some, None, true}
+use Rattle.zodb_core.specs.declared.reply.Reply.{Reply}
+use Rattle.zodb_core.specs.declared.request.Request.{Request}
+use Rattle.zeo_messages.specs.declared.call.Call.{Call}
+use Rattle.zeo_messages.specs.declared.message.Message.TheVariants.{Asked}
+use Rattle.zeo_messages.specs.Calls.{HoldsCall, fits_call}
+use Rattle.zeo_messages.specs.Messages.{payload_of}
+use Rattle.zeo_desk.specs.declared.asked.Asked.TheVariants as asked
+use Rattle.zeo_desk.specs.Answering.{reply_frames}
+use Rattle.zeo_desk.specs.declared.next.Next.{Next}
+use Rattle.zeo_desk.specs.declared.next.Next.TheVariants.{Step, Send}
+use Rattle.zeo_desk.specs.Desks.{DeskState, Turn, asks, called, replied, sends, taken}
+
+-- What is done next is done: steps of the session lead from one state to another, frames are sent, and the desk is left.
+pub data Does {S : Type 0} (steps : Request → Reply → S → S → Type 0) : DeskState → Next → S → List (List ℕ) → DeskState → S → Type 0 where
+  sent : (d : DeskState) (frames : List (List ℕ)) (s : S) → Does steps d (Send frames) s frames d s
+  asked_on : (d : DeskState) (request : Request) (reply : Reply) (s between behind : S) (frames : List (List ℕ)) (left : DeskState) → steps request reply s between
+      → Does steps (replied d reply).desk (replied d reply).next between frames left behind → Does steps d (Step request) s frames left behind
+
+-- Payloads one after another, each of a message of a client, and the frames that are sent for them.
+pub data Serves {S : Type 0} (steps : Request → Reply → S → S → Type 0) : DeskState → List (List ℕ) → S → List (List ℕ) → DeskState → S → Type 0 where
+  done : (d : DeskState) (s : S) → Serves steps d [] s [] d s
+  goes_on : (d between left : DeskState) (payload : List ℕ) (rest : List (List ℕ)) (turn : Turn) (s middle behind : S) (frames more : List (List ℕ)) → taken d payload ≡ Some turn
+      → Does steps turn.desk turn.next s frames between middle → Serves steps between rest middle more left behind → Serves steps d (payload ∷ rest) s (frames ++ more) left behind
+
+-- a step was made for a call, and the frames of its reply were sent
+pub record IsServedBy {S : Type 0} (steps : Request → Reply → S → S → Type 0) (d : DeskState) (number : ℕ) (request : Request) (before : S) (out : List (List ℕ)) (left : DeskState) (now : S) : Type 0 where
+  pub reply : Reply
+  pub step : steps request reply before now
+  pub sent : out ≡ reply_frames number asked.Other reply
+  pub desk : left ≡ record d { awaited = None }
+
+-- For a call of a client that has registered, which names one step, that step is made, and its reply is sent.
+abbrev pub OneCallIsServed : {S : Type 0} → (Request → Reply → S → S → Type 0) → Type 0
+OneCallIsServed {S} steps =
+    (d left : DeskState) (number : ℕ) (call : Call) (request : Request) (before now : S) (out : List (List ℕ))
+    → d.registered ≡ true → number < 2 ^ 31 → HoldsCall call → fits_call call ≡ true → called d number call ≡ asks d number asked.Other request
+    → Serves steps d (payload_of (Asked number call) ∷ []) before out left now → IsServedBy steps d number request before out left now

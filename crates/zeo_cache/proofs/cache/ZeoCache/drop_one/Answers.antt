@@ -1,0 +1,8 @@
+use Rattle.zeo_cache.proofs.Entries.{removed_gone, removed_other}
+use Rattle.zeo_cache.proofs.cache.ZeoCache.drop_one.Goals as goal
+
+pub returns-clause-gone : goal.returns-clause-gone
+returns-clause-gone c = rw (c.pop.ensures.entries, ← c.self.view_is) (record {
+  one = removed_gone c.args.oid c.self.inside.entries.entries c.are_distinct.ensures;
+  others = λ o ne. removed_other c.args.oid o c.self.inside.entries.entries ne;
+})

@@ -1,0 +1,11 @@
+pub mod CommitLaws
+pub mod Entries
+pub mod FrontLaws
+pub mod HoldLaws
+pub mod IntervalLaws
+pub mod KnowLaws
+pub mod Laws
+pub mod OtherLaws
+pub mod Serving
+pub mod ServingLaws
+pub mod VoteLaws
