@@ -2,4 +2,5 @@ pub mod Firsts
 pub mod Keeping
 pub mod Rows
 pub mod Sorting
+pub mod Tried
 pub mod Writables

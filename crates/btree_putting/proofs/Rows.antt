@@ -1,11 +1,15 @@
 -- Puts one after another.
-use Rattle.std.proofs.Common.{◌≡◌, ℕ, Bool, true, false, List, [], ◌∷◌, ◌++◌, Option, Some, None, refl, sym, ◌∙◌, ap, append_assoc, append-nil}
-use Rattle.std.specs.Prelude.{if◌then◌else◌, map}
+use Rattle.std.proofs.Common.{◌≡◌, ℕ, Bool, true, false, List, [], ◌∷◌, ◌++◌, Option, Some, None, refl, sym, ◌∙◌, ap, subst, append_assoc, append-nil, arith}
+use Rattle.std.specs.Prelude.{if◌then◌else◌, map, ◌==◌}
+use Rattle.std.proofs.lemmas.Grind.{common_steps}
 use Rattle.btree_family.specs.Classes.{Class}
 use Rattle.btree_shapes.specs.declared.space.Call.{Call}
 use Rattle.btree_shapes.specs.declared.space.Call.TheVariants.{Wrote}
+use Rattle.btree_shapes.specs.Nodes.{Holds, held_in}
 use Rattle.btree_shapes.specs.Spaces.{with_bytes}
 use Rattle.btree_putting.specs.declared.puts.Put.{Put}
+use Rattle.btree_putting.specs.declared.kept.Kept.{Kept}
+use Rattle.btree_putting.specs.Kept.{AreKept, IsKept, kept_put}
 use Rattle.btree_putting.specs.Puts.{keeps, all_keep, put_bytes, put_all}
 use Rattle.btree_putting.specs.Storing.{wrote, IsStored, IsStoredFront}
 
@@ -62,15 +66,24 @@ stored_front told class leaf puts left contents middle contents' log between log
   stored = record { kept = s.stored.kept; contents = c ∙ s.stored.contents; log = λ t. l t ∙ s.stored.log t };
 }
 
-when_all : (a b : Bool) → (if a then b else false) ≡ true → (a ≡ true) × (b ≡ true)
-when_all true b e = (refl, e)
-when_all false b e = cc
+-- ---- puts that were tried
 
-all_first : (class leaf : Class) (puts left : List Put) (put : Put) → all_keep class leaf puts ≡ true → puts ≡ put ∷ left → (keeps class leaf put ≡ true) × (all_keep class leaf left ≡ true)
-all_first class leaf puts left put k e = when_all (keeps class leaf put) (all_keep class leaf left) (sym (ap (all_keep class leaf) e) ∙ k)
+pub first_kept : (class leaf : Class) (left left' : List Kept) (one : Kept) → AreKept class leaf left → left ≡ one ∷ left' → IsKept class leaf one
+first_kept class leaf left left' one are l = (subst (AreKept class leaf) l are).0
 
-pub first_kept : (class leaf : Class) (puts left : List Put) (put : Put) → all_keep class leaf puts ≡ true → puts ≡ put ∷ left → keeps class leaf put ≡ true
-first_kept class leaf puts left put k e = (all_first class leaf puts left put k e).0
+pub rest_kept : (class leaf : Class) (left left' : List Kept) (one : Kept) → AreKept class leaf left → left ≡ one ∷ left' → AreKept class leaf left'
+rest_kept class leaf left left' one are l = (subst (AreKept class leaf) l are).1
 
-pub rest_kept : (class leaf : Class) (puts left : List Put) (put : Put) → all_keep class leaf puts ≡ true → puts ≡ put ∷ left → all_keep class leaf left ≡ true
-rest_kept class leaf puts left put k e = (all_first class leaf puts left put k e).1
+pub stored_next : (told : Type 0) (class leaf : Class) (puts : List Put) (left left' : List Kept) (one : Kept) (contents middle contents' : ℕ → Option (List ℕ)) (log between log' : List Call) → StoredSo told class leaf puts (map kept_put left) contents middle log between → left ≡ one ∷ left' → AreKept class leaf left → contents' ≡ with_bytes middle one.put.oid (put_bytes class leaf one.put) → (told → log' ≡ between ++ Wrote one.put.oid ∷ []) → StoredSo told class leaf puts (map kept_put left') contents contents' log log'
+stored_next told class leaf puts left left' one contents middle contents' log between log' s l are c w =
+    stored_step told class leaf puts (map kept_put left) (map kept_put left') one.put contents middle contents' log between log' s (ap (map kept_put) l) (first_kept class leaf left left' one are l).keeps_so c w
+
+with_there : (contents : ℕ → Option (List ℕ)) (o : ℕ) (bytes : List ℕ) → with_bytes contents o bytes o ≡ Some bytes
+with_there contents o bytes = grind (arith, common_steps)
+
+-- what was put holds what its bytes hold
+pub put_holds : (class leaf : Class) (kept : Kept) (contents contents' : ℕ → Option (List ℕ)) → IsKept class leaf kept → contents' ≡ with_bytes contents kept.put.oid kept.bytes → held_in (Some class) (contents' kept.put.oid) ≡ Holds kept.entry.class kept.entry.node
+put_holds class leaf kept contents contents' k c = ap (λ f. held_in (Some class) (f kept.put.oid)) c ∙ ap (held_in (Some class)) (with_there contents kept.put.oid kept.bytes) ∙ k.holds
+
+pub put_so : (class leaf : Class) (kept : Kept) (contents contents' : ℕ → Option (List ℕ)) → IsKept class leaf kept → contents' ≡ with_bytes contents kept.put.oid kept.bytes → contents' ≡ with_bytes contents kept.put.oid (put_bytes class leaf kept.put)
+put_so class leaf kept contents contents' k c = c ∙ ap (with_bytes contents kept.put.oid) k.bytes_are

@@ -1,5 +1,6 @@
 pub mod Firsts
 pub mod Items
+pub mod Kept
 pub mod Puts
 pub mod Storing
 pub mod Writing

@@ -5,13 +5,17 @@
 mod copying;
 mod first;
 mod items;
+mod kept;
 mod puts;
 mod storing;
+mod trying;
 mod writing;
 
 pub use copying::{copy_pickle, with_branches, with_items};
 pub use first::first_below;
 pub use items::{has_key, has_value};
+pub use kept::{Kept, KeptPuts};
 pub use puts::{Put, Puts, in_order};
-pub use storing::{all_keep, same_link, store_all};
+pub use storing::store_all;
+pub use trying::{keep_all, same_link};
 pub use writing::{Family, plain_class};

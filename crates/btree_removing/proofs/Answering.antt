@@ -20,6 +20,8 @@ use Rattle.btree_shapes.specs.Ways.{way_for, IsRefusal, family_key, reads, reads
 use Rattle.btree_shapes.specs.Steps.{above_root, root_bad_key}
 use Rattle.btree_putting.specs.declared.puts.Put.{Put}
 use Rattle.btree_putting.specs.Puts.{all_keep}
+use Rattle.btree_putting.specs.declared.kept.Kept.{Kept}
+use Rattle.btree_putting.specs.Kept.{AreTried, kept_put}
 use Rattle.btree_putting.specs.Storing.{IsFree, IsStored, IsStoredFront}
 use Rattle.btree_putting.specs.Writing.{has_leaf}
 use Rattle.btree_removing.specs.Plans.{plan_found, plan_by, family_leaf, fits_tree, remove_way, plan_under, oids_found, beside_by, met_beside, met_under, reads_by, reads_under}
@@ -33,12 +35,18 @@ untried told class leaf puts f log = inl (record { contents = refl; log = λ t. 
 pub unwritable : (told : Type 0) (class leaf : Class) (puts : List Put) (f : ℕ → Option (List ℕ)) (log : List Call) → all_keep class leaf puts ≡ false → Writes told class leaf puts f f log log (Err BadKey)
 unwritable told class leaf puts f log k = record { fails = k; contents = refl; log = λ t. refl }
 
-pub broken_off : (told : Type 0) (class leaf : Class) (puts : List Put) (f f' : ℕ → Option (List ℕ)) (log log' : List Call) (e : TreeError) → IsFree e → all_keep class leaf puts ≡ true → IsStoredFront told class leaf puts f f' log log' → Writes told class leaf puts f f' log log' (Err e)
+broken_off : (told : Type 0) (class leaf : Class) (puts : List Put) (f f' : ℕ → Option (List ℕ)) (log log' : List Call) (e : TreeError) → IsFree e → all_keep class leaf puts ≡ true → IsStoredFront told class leaf puts f f' log log' → Writes told class leaf puts f f' log log' (Err e)
 broken_off told class leaf puts f f' log log' (NotATree oid) free k s = absurd free
 broken_off told class leaf puts f f' log log' (NodeMissing oid) free k s = absurd free
 broken_off told class leaf puts f f' log log' BadKey free k s = absurd free
 broken_off told class leaf puts f f' log log' (Refused refusal) free k s = record { passes = k; stored = s }
 broken_off told class leaf puts f f' log log' Memory free k s = inr (record { passes = k; stored = s })
+
+pub all_stored : (told : Type 0) (class leaf : Class) (puts : List Put) (kept : List Kept) (f f' : ℕ → Option (List ℕ)) (log log' : List Call) → AreTried class leaf puts kept → IsStored told class leaf (map kept_put kept) f f' log log' → IsStored told class leaf puts f f' log log'
+all_stored told class leaf puts kept f f' log log' t s = subst (λ ps. IsStored told class leaf ps f f' log log') t.puts_are s
+
+pub some_stored : (told : Type 0) (class leaf : Class) (puts : List Put) (kept : List Kept) (f f' : ℕ → Option (List ℕ)) (log log' : List Call) (e : TreeError) → AreTried class leaf puts kept → IsFree e → IsStoredFront told class leaf (map kept_put kept) f f' log log' → Writes told class leaf puts f f' log log' (Err e)
+some_stored told class leaf puts kept f f' log log' e t free s = broken_off told class leaf puts f f' log log' e free t.all_so (subst (λ ps. IsStoredFront told class leaf ps f f' log log') t.puts_are s)
 
 -- ---- the way
 

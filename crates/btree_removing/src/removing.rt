@@ -11,7 +11,7 @@ ghost use Rattle.btree_removing.specs.Ends.{IsFinding, Writes, Removes};
 
 use crate::planning::plan;
 use btree_family::{Key, key_fits, leaf_of};
-use btree_putting::{Family, Puts, all_keep, store_all};
+use btree_putting::{Family, Puts, keep_all, store_all};
 use btree_shapes::{Space, TreeError, follow_root, read_root};
 use std::alloc::Global;
 use zb_ids::Oid;
@@ -60,7 +60,7 @@ fn find_puts<S: Space>(
 }
 
 /// Tries the records that a remove puts, and puts them.
-#[tactic(auto, using(crate::proofs::Answering::untried, crate::proofs::Answering::unwritable, crate::proofs::Answering::broken_off))]
+#[tactic(auto, using(crate::proofs::Answering::untried, crate::proofs::Answering::unwritable, crate::proofs::Answering::all_stored, crate::proofs::Answering::some_stored))]
 fn write<S: Space>(
     alloc: Global,
     space: &mut S,
@@ -72,10 +72,10 @@ fn write<S: Space>(
         (S.contents space.old) (S.contents space.new) (S.log space.old) (S.log space.new) result }
     ensures refusals { S.told → S.refusals space.new ≡ S.refusals space.old ++ handed_on result }
 {
-    if !all_keep(alloc, family, &puts)? {
+    let Some(kept) = keep_all(alloc, family, puts)? else {
         return Err(TreeError::BadKey);
-    }
-    store_all(alloc, space, family, puts)
+    };
+    store_all(space, family, kept)
 }
 
 /// Removes a key from the tree with this root, and answers whether it was there.

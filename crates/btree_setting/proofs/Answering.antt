@@ -1,5 +1,5 @@
 -- What a set answers.
-use Rattle.std.proofs.Common.{◌≡◌, ℕ, ◌<◌, ◌^◌, Bool, true, false, List, [], ◌∷◌, ◌++◌, Option, Some, None, Result, Ok, Err, refl, sym, ◌∙◌, ap, subst, append_assoc, append-nil, inl, inr, ◌⊎◌}
+use Rattle.std.proofs.Common.{◌≡◌, ℕ, ◌<◌, ◌^◌, Bool, true, false, List, [], ◌∷◌, ◌++◌, Option, Some, None, Result, Ok, Err, refl, sym, ◌∙◌, ap, subst, length, append_assoc, append-nil, inl, inr, ◌⊎◌}
 use Rattle.std.specs.Prelude.{◌&&◌, map}
 use Rattle.std.specs.Option.{option_map}
 use Rattle.pickle_graph.specs.Graph.{Graph}
@@ -23,13 +23,17 @@ use Rattle.btree_putting.specs.declared.puts.Put.{Put}
 use Rattle.btree_setting.specs.declared.growing.Terms.{Terms}
 use Rattle.btree_setting.specs.declared.preparing.Sizes.{Sizes}
 use Rattle.btree_setting.specs.declared.preparing.Task.{Task}
+use Rattle.btree_putting.specs.declared.kept.Kept.{Kept}
+use Rattle.btree_putting.specs.Kept.{AreTried, kept_put}
+use Rattle.btree_setting.specs.declared.setting.Trial.{Trial}
 use Rattle.btree_setting.specs.declared.setting.SetEnd.{SetEnd}
 use Rattle.btree_setting.specs.declared.setting.SetEnd.TheVariants.{Done, Lacks}
 use Rattle.btree_setting.specs.Values.{fits_class, family_value}
 use Rattle.btree_putting.specs.Writing.{has_leaf}
 use Rattle.btree_setting.specs.Tasks.{fits_tree, set_way, task_found, task_by, task_under, asked_found, beside_by, met_under, reads_by, reads_under}
 use Rattle.btree_putting.specs.Storing.{IsFree, IsStored, IsStoredFront}
-use Rattle.btree_setting.specs.Sets.{DrewOf, terms_of, Fails, Passes, IsPlan, IsShort, Plans, IsWritten, IsBrokenOff, IsUnwritable, Writes, WritesWithin}
+use Rattle.btree_setting.specs.Sets.{DrewOf, terms_of, Fails, IsTried, Passes, IsPlan, IsShort, Plans, IsWritten, IsBrokenOff, IsUnwritable, Writes, WritesWithin}
+use Rattle.btree_setting.proofs.Trying.{is_whole}
 use Rattle.btree_setting.specs.Ends.{HasTask, HasNone, IsLacking, IsRefusedBefore, Sets, SetsWithin}
 
 -- ---- writing
@@ -64,6 +68,37 @@ broken_off told class leaf sizes key task puts f f' log middle log' (NodeMissing
 broken_off told class leaf sizes key task puts f f' log middle log' BadKey free p s = absurd free
 broken_off told class leaf sizes key task puts f f' log middle log' (Refused refusal) free p s = inr (record { puts = puts; middle = middle; plan = p; stored = s })
 broken_off told class leaf sizes key task puts f f' log middle log' Memory free p s = inr (inr (record { puts = puts; middle = middle; plan = p; stored = s }))
+
+-- ---- what was tried is put
+
+whole_plans : (told : Type 0) (class leaf : Class) (sizes : Sizes) (key : Key) (task : Task) (terms : Terms) (trial : Trial) (log : List Call) → terms_of class leaf sizes key ≡ Some terms → IsTried class leaf terms task trial → trial.count ≡ 0 → length trial.olds ≡ 1 → Plans told class leaf sizes key task (map kept_put trial.olds) log log
+whole_plans told class leaf sizes key task terms trial log e t z o = plans told class leaf sizes key task terms trial.count (map kept_put trial.olds) log log e t.passes (is_whole told class leaf terms task trial log t z o)
+
+pub written_whole : (told : Type 0) (class leaf : Class) (sizes : Sizes) (key : Key) (task : Task) (terms : Terms) (trial : Trial) (f f' : ℕ → Option (List ℕ)) (log log' : List Call) → terms_of class leaf sizes key ≡ Some terms → IsTried class leaf terms task trial → trial.count ≡ 0 → length trial.olds ≡ 1 → IsStored told class leaf (map kept_put trial.olds) f f' log log' → Writes told class leaf sizes key task f f' log log' (Ok tt)
+written_whole told class leaf sizes key task terms trial f f' log log' e t z o s =
+    written told class leaf sizes key task (map kept_put trial.olds) f f' log log log' (whole_plans told class leaf sizes key task terms trial log e t z o) s
+
+pub broken_whole : (told : Type 0) (class leaf : Class) (sizes : Sizes) (key : Key) (task : Task) (terms : Terms) (trial : Trial) (f f' : ℕ → Option (List ℕ)) (log log' : List Call) (e : TreeError) → terms_of class leaf sizes key ≡ Some terms → IsTried class leaf terms task trial → trial.count ≡ 0 → length trial.olds ≡ 1 → IsFree e → IsStoredFront told class leaf (map kept_put trial.olds) f f' log log' → Writes told class leaf sizes key task f f' log log' (Err e)
+broken_whole told class leaf sizes key task terms trial f f' log log' e is t z o free s =
+    broken_off told class leaf sizes key task (map kept_put trial.olds) f f' log log log' e free (whole_plans told class leaf sizes key task terms trial log is t z o) s
+
+pub written_kept : (told : Type 0) (class leaf : Class) (sizes : Sizes) (key : Key) (task : Task) (terms : Terms) (count : ℕ) (puts : List Put) (kept : List Kept) (f f' : ℕ → Option (List ℕ)) (log middle log' : List Call) → terms_of class leaf sizes key ≡ Some terms → Passes class leaf terms task count → IsPlan told terms task puts log middle → AreTried class leaf puts kept → IsStored told class leaf (map kept_put kept) f f' middle log' → Writes told class leaf sizes key task f f' log log' (Ok tt)
+written_kept told class leaf sizes key task terms count puts kept f f' log middle log' e p i t s =
+    written told class leaf sizes key task puts f f' log middle log' (plans told class leaf sizes key task terms count puts log middle e p i) (subst (λ ps. IsStored told class leaf ps f f' middle log') t.puts_are s)
+
+pub broken_kept : (told : Type 0) (class leaf : Class) (sizes : Sizes) (key : Key) (task : Task) (terms : Terms) (count : ℕ) (puts : List Put) (kept : List Kept) (f f' : ℕ → Option (List ℕ)) (log middle log' : List Call) (e : TreeError) → terms_of class leaf sizes key ≡ Some terms → Passes class leaf terms task count → IsPlan told terms task puts log middle → AreTried class leaf puts kept → IsFree e → IsStoredFront told class leaf (map kept_put kept) f f' middle log' → Writes told class leaf sizes key task f f' log log' (Err e)
+broken_kept told class leaf sizes key task terms count puts kept f f' log middle log' e is p i t free s =
+    broken_off told class leaf sizes key task puts f f' log middle log' e free (plans told class leaf sizes key task terms count puts log middle is p i) (subst (λ ps. IsStoredFront told class leaf ps f f' middle log') t.puts_are s)
+
+-- there was no memory once all numbers were drawn
+pub none_put : (told : Type 0) (class leaf : Class) (sizes : Sizes) (key : Key) (task : Task) (terms : Terms) (count : ℕ) (puts : List Put) (f f' : ℕ → Option (List ℕ)) (log middle : List Call) → terms_of class leaf sizes key ≡ Some terms → Passes class leaf terms task count → IsPlan told terms task puts log middle → f' ≡ f → Writes told class leaf sizes key task f f' log middle (Err Memory)
+none_put told class leaf sizes key task terms count puts f f' log middle e p i c =
+    inr (inr (record {
+      puts = puts;
+      middle = middle;
+      plan = plans told class leaf sizes key task terms count puts log middle e p i;
+      stored = record { front = []; behind = puts; cut = refl; stored = record { kept = refl; contents = c; log = λ t. sym (append-nil middle) } };
+    }))
 
 -- there are fewer numbers than are needed
 pub is_short : (told : Type 0) (class leaf : Class) (sizes : Sizes) (key : Key) (task : Task) (terms : Terms) (count supply : ℕ) (f : ℕ → Option (List ℕ)) (log : List Call) → terms_of class leaf sizes key ≡ Some terms → Passes class leaf terms task count → supply < count → IsShort told class leaf sizes key task supply f f log log

@@ -1,6 +1,6 @@
 -- Trying the records of a set, and its numbers.
 use Rattle.std.proofs.Common.{◌≡◌, ℕ, ◌+◌, ◌-◌, ◌<◌, ◌≤◌, ◌^◌, true, false, List, [], ◌∷◌, ◌++◌, refl, arith, sym, ◌∙◌, ap, subst, length, suc, append-nil}
-use Rattle.std.specs.Prelude.{◌&&◌, map, Result, Ok, Err, IfErr}
+use Rattle.std.specs.Prelude.{◌&&◌, map, Option, Some, Result, Ok, Err, IfErr, MatchOption}
 use Rattle.pickle_graph.specs.Graph.{AllBelow}
 use Rattle.btree_family.specs.Classes.{Class}
 use Rattle.btree_shapes.specs.declared.space.Call.{Call}
@@ -12,9 +12,12 @@ use Rattle.btree_putting.specs.declared.puts.Put.{Put}
 use Rattle.btree_setting.specs.declared.change.Change.{Change}
 use Rattle.btree_setting.specs.declared.growing.Terms.{Terms}
 use Rattle.btree_setting.specs.declared.preparing.Task.{Task}
-use Rattle.btree_putting.specs.Puts.{put_oid, sort_puts, all_keep, AreSound}
+use Rattle.btree_putting.specs.Puts.{put_oid, sort_puts, all_keep}
+use Rattle.btree_putting.specs.declared.kept.Kept.{Kept}
+use Rattle.btree_putting.specs.Kept.{AreTried, kept_put}
+use Rattle.btree_setting.specs.declared.setting.Trial.{Trial}
 use Rattle.btree_setting.specs.Changes.{AreDrawn, IsRootSet}
-use Rattle.btree_setting.specs.Sets.{AreZero, DrewOf, IsTrial, Fails, Passes, CountsNews, IsPlan}
+use Rattle.btree_setting.specs.Sets.{AreZero, DrewOf, IsTrial, IsTried, Tried, Fails, CountsNews, IsPlan}
 
 pub zero_push : (oids : List ℕ) → AreZero oids → AreZero (oids ++ 0 ∷ [])
 zero_push [] z = (refl, tt)
@@ -30,21 +33,30 @@ zero_news oids news z d = zero_front (map put_oid news) d.rest (subst AreZero d.
 pub is_trial : (terms : Terms) (task : Task) (change : Change) (oids : List ℕ) → AreZero oids → AreDrawn oids change.news → IsRootSet terms task.bottom task.rungs change → IsTrial terms task change
 is_trial terms task change oids z d s = record { set = s; zero = zero_news oids change.news z d }
 
-pub trial_passes : (class leaf : Class) (terms : Terms) (task : Task) (change : Change) (count : ℕ) → IsTrial terms task change → all_keep class leaf change.news ≡ true → all_keep class leaf change.olds ≡ true → (all_keep class leaf change.news ≡ true → AreSound class leaf change.news) → (all_keep class leaf change.olds ≡ true → AreSound class leaf change.olds) → count ≡ length change.news → Passes class leaf terms task count
-trial_passes class leaf terms task change count t n o ns os c = record {
-  change = change;
-  trial = t;
-  kept = ap (λ b. b && all_keep class leaf change.olds) n ∙ o;
-  sound_news = ns n;
-  sound_olds = os o;
-  counted = c;
+pub is_tried : (class leaf : Class) (terms : Terms) (task : Task) (change : Change) (count : ℕ) (news olds : List Kept) → IsTrial terms task change → AreTried class leaf change.news news → AreTried class leaf change.olds olds → count ≡ length change.news → IsTried class leaf terms task (record { count = count; olds = olds })
+is_tried class leaf terms task change count news olds t n o c = record {
+  passes = record {
+    change = change;
+    trial = t;
+    kept = ap (λ b. b && all_keep class leaf change.olds) n.all_so ∙ o.all_so;
+    sound_news = n.sound;
+    sound_olds = o.sound;
+    counted = c;
+  };
+  olds = o;
 }
+
+pub some_case : {X : Type 0} (A : Type 0) (P : X → Type 0) (o : Option X) (x : X) → o ≡ Some x → MatchOption o A P → P x
+some_case A P o x e m = subst (λ p. MatchOption p A P) e m
+
+pub tried_some : (class leaf : Class) (terms : Terms) (task : Task) (o : Option Trial) (trial : Trial) → o ≡ Some trial → Tried class leaf terms task o → IsTried class leaf terms task trial
+tried_some class leaf terms task o trial e t = subst (Tried class leaf terms task) e t
 
 pub news_fail : (class leaf : Class) (terms : Terms) (task : Task) (change : Change) → IsTrial terms task change → all_keep class leaf change.news ≡ false → Fails class leaf terms task
 news_fail class leaf terms task change t n = record { change = change; trial = t; fails = ap (λ b. b && all_keep class leaf change.olds) n }
 
-pub olds_fail : (class leaf : Class) (terms : Terms) (task : Task) (change : Change) → IsTrial terms task change → all_keep class leaf change.news ≡ true → all_keep class leaf change.olds ≡ false → Fails class leaf terms task
-olds_fail class leaf terms task change t n o = record { change = change; trial = t; fails = ap (λ b. b && all_keep class leaf change.olds) n ∙ o }
+pub olds_fail : (class leaf : Class) (terms : Terms) (task : Task) (change : Change) (news : List Kept) → IsTrial terms task change → AreTried class leaf change.news news → all_keep class leaf change.olds ≡ false → Fails class leaf terms task
+olds_fail class leaf terms task change news t n o = record { change = change; trial = t; fails = ap (λ b. b && all_keep class leaf change.olds) n.all_so ∙ o }
 
 -- where as many were drawn as there are new objects, each has its own
 length_append : (xs ys : List ℕ) → length (xs ++ ys) ≡ length xs + length ys
@@ -75,6 +87,29 @@ is_plan told terms task change puts oids count log log' s p d n e b w l = record
   numbers = subst (AllBelow (2 ^ 64)) (all_drawn oids change.news d (n change s ∙ sym e)) b;
   drawn = λ t. l t ∙ ap (λ xs. log ++ map Drew xs) (all_drawn oids change.news d (n change s ∙ sym e));
 }
+
+no_news : (news : List Put) → length news ≡ 0 → news ≡ []
+no_news [] e = refl
+no_news (x ∷ xs) e = absurd (omega (arith, e))
+
+sort_one : (kept : List Kept) → length kept ≡ 1 → sort_puts (map kept_put kept) ≡ map kept_put kept
+sort_one [] e = absurd (omega (arith, e))
+sort_one (x ∷ []) e = refl
+sort_one (x ∷ y ∷ ys) e = absurd (omega (arith, e))
+
+-- where nothing is split, what was tried is the plan
+pub is_whole : (told : Type 0) (class leaf : Class) (terms : Terms) (task : Task) (trial : Trial) (log : List Call) → IsTried class leaf terms task trial → trial.count ≡ 0 → length trial.olds ≡ 1 → IsPlan told terms task (map kept_put trial.olds) log log
+is_whole told class leaf terms task trial log t z o =
+    let change : Change = t.passes.change in
+    let none : change.news ≡ [] = no_news change.news (sym t.passes.counted ∙ z) in
+    record {
+      change = change;
+      set = t.passes.trial.set;
+      puts_are = sym (sort_one trial.olds o) ∙ ap sort_puts t.olds.puts_are ∙ ap (λ ns. sort_puts (ns ++ change.olds)) (sym none);
+      few = let c = t.passes.counted in omega (arith, c, z);
+      numbers = subst (λ ns. AllBelow (2 ^ 64) (map put_oid ns)) (sym none) tt;
+      drawn = λ x. sym (ap (λ ns. log ++ map Drew (map put_oid ns)) none ∙ append-nil log);
+    }
 
 pub any_err : {X E : Type 0} (r : Result X E) (P : Type 0) → P → IfErr r (λ e. P)
 any_err (Ok x) P p = tt

@@ -15,7 +15,9 @@ use Rattle.btree_setting.specs.declared.preparing.Sizes.{Sizes}
 use Rattle.btree_setting.specs.declared.preparing.Task.{Task}
 use Rattle.btree_setting.specs.declared.setting.SetEnd.{SetEnd}
 use Rattle.btree_setting.specs.declared.setting.SetEnd.TheVariants.{Done, Lacks}
+use Rattle.btree_setting.specs.declared.setting.Trial.{Trial}
 use Rattle.btree_putting.specs.Writing.{plain_class}
+use Rattle.btree_putting.specs.Kept.{AreTried}
 use Rattle.btree_putting.specs.Puts.{put_oid, sort_puts, all_keep, AreSound}
 use Rattle.btree_putting.specs.Storing.{IsStored, IsStoredFront}
 use Rattle.btree_setting.specs.Changes.{IsRootSet}
@@ -83,9 +85,15 @@ pub record Passes (class leaf : Class) (terms : Terms) (task : Task) (count : �
 abbrev pub CountsNews : Terms → Task → ℕ → Type 0
 CountsNews terms task count = (change : Change) → IsRootSet terms task.bottom task.rungs change → length change.news ≡ count
 
-abbrev pub Tried : Class → Class → Terms → Task → Option ℕ → Type 0
+-- the same, with the records of changed objects
+pub record IsTried (class leaf : Class) (terms : Terms) (task : Task) (trial : Trial) : Type 0 where
+  pub passes : Passes class leaf terms task trial.count
+  pub olds : AreTried class leaf passes.change.olds trial.olds
+
+-- what trying the records of a set gives
+abbrev pub Tried : Class → Class → Terms → Task → Option Trial → Type 0
 Tried class leaf terms task None = Fails class leaf terms task
-Tried class leaf terms task (Some count) = Passes class leaf terms task count
+Tried class leaf terms task (Some trial) = IsTried class leaf terms task trial
 
 -- ---- a plan
 

@@ -1,8 +1,10 @@
 //! Setting what stands under a key.
 
-ghost use Rattle.std.specs.Prelude.{◌≡◌, ◌++◌, IfOk, IfErr, IfSome, OnErr};
+ghost use Rattle.std.specs.Prelude.{◌≡◌, ◌++◌, true, length, IfOk, IfErr, IfSome, OnErr};
 ghost use Rattle.btree_family.specs.Classes.{class_seen};
 ghost use Rattle.btree_shapes.specs.Spaces.{handed_on};
+ghost use Rattle.btree_putting.specs.Kept.{AreTried};
+ghost use Rattle.btree_putting.specs.Puts.{all_keep};
 ghost use Rattle.btree_putting.specs.Storing.{IsFree};
 ghost use Rattle.btree_setting.specs.Sets.{DrewOf, terms_of, CountsNews, Tried, IsPlan, WritesWithin};
 ghost use Rattle.btree_shapes.specs.Met.{ReadsFirst};
@@ -11,13 +13,14 @@ ghost use Rattle.btree_setting.specs.Tasks.{met_under, task_under, reads_under};
 ghost use Rattle.btree_setting.specs.Ends.{ChangesAreAlike, IsFinding, Sets, SetsWithin};
 ghost use Rattle.btree_putting.specs.Writing.{AreGlobal};
 
+use crate::change::Change;
 use crate::drawing::{draw_all, stand_ins};
 use crate::growing::{Plain, Terms};
 use crate::planning::plan;
 use crate::preparing::{Sizes, Task, prepare};
 use crate::value::fits_class;
 use btree_family::{Key, key_fits, leaf_of};
-use btree_putting::{Family, Puts, all_keep, in_order, plain_class, store_all};
+use btree_putting::{Family, KeptPuts, Puts, in_order, keep_all, plain_class, store_all};
 use btree_shapes::{Space, TreeError, follow_root, read_root};
 use bucket_state::{links_stand_apart, same_graphs_hold_the_same, written_objects_read_back};
 use std::alloc::{AllocError, Global};
@@ -48,25 +51,50 @@ fn terms_of(
     }))
 }
 
-/// How many numbers a set draws, where all records that it puts can be written and read back. They are tried with 0 for
-/// each number.
-#[tactic(auto, using(crate::proofs::Trying::is_trial, crate::proofs::Trying::trial_passes, crate::proofs::Trying::news_fail, crate::proofs::Trying::olds_fail))]
+/// What trying the records of a set gives: how many new objects there are, and the changed ones.
+#[derive(Drop)]
+struct Trial {
+    count: usize,
+    olds: KeptPuts,
+}
+
+/// Tries all records that a set puts, with 0 for each number: there is none where one can't be written or doesn't read
+/// back.
+#[tactic(auto, using(crate::proofs::Trying::is_trial, crate::proofs::Trying::is_tried, crate::proofs::Trying::news_fail, crate::proofs::Trying::olds_fail))]
 fn try_out(
     alloc: Global,
     family: &Family,
     terms: &Terms,
     task: &Task,
-) -> Result<Option<usize>, AllocError>
+) -> Result<Option<Trial>, AllocError>
     requires { AreGlobal family.now }
     ensures { IfOk result
         (Tried (class_seen family.now.row.now) (class_seen family.now.leaf.now) terms.now task.now) }
 {
     let oids = stand_ins(alloc, task.rungs.len())?;
-    let change = plan(alloc, terms, &task.bottom, &task.rungs, oids.as_slice())?;
-    if all_keep(alloc, family, &change.news)? && all_keep(alloc, family, &change.olds)? {
-        return Ok(Some(change.news.len()));
-    }
-    Ok(None)
+    let Change { news, olds, up: _ } = plan(
+        alloc,
+        terms,
+        &task.bottom,
+        &task.rungs,
+        oids.as_slice(),
+    )?;
+    let count = news.len();
+    let Some(_) = keep_all(alloc, family, news)? else {
+        return Ok(None);
+    };
+    let Some(olds) = keep_all(alloc, family, olds)? else {
+        return Ok(None);
+    };
+    Ok(Some(Trial { count, olds }))
+}
+
+/// Whether one object changes and none is new, so that what was tried is what is put.
+fn is_whole(trial: &Trial) -> bool
+    ensures none { result ≡ true → trial.now.count ≡ 0 }
+    ensures one { result ≡ true → length trial.now.olds ≡ 1 }
+{
+    trial.count == 0 && trial.olds.len() == 1
 }
 
 /// Draws so many numbers, and gives the puts of the change with these.
@@ -90,6 +118,18 @@ fn draw_and_plan<S: Space>(
     Ok(in_order(alloc, change.news, change.olds)?)
 }
 
+/// The puts of a plan, whose records can all be written and read back, with the bytes of these.
+fn keep_plan(alloc: Global, family: &Family, puts: Puts) -> Result<KeptPuts, AllocError>
+    requires global { AreGlobal family.now }
+    requires kept { all_keep (class_seen family.now.row.now) (class_seen family.now.leaf.now) puts ≡ true }
+    ensures { IfOk result (AreTried (class_seen family.now.row.now) (class_seen family.now.leaf.now) puts) }
+{
+    match keep_all(alloc, family, puts)? {
+        Some(kept) => Ok(kept),
+        None => Err(AllocError),
+    }
+}
+
 /// How a set ends that isn't refused.
 #[derive(Clone, Copy, Debug, PartialEq, Eq)]
 pub enum SetEnd {
@@ -100,7 +140,7 @@ pub enum SetEnd {
 }
 
 /// Tries the records that a set puts, draws the numbers of new objects, of which there are so many, and puts all.
-#[tactic(auto, using(crate::proofs::Counting::counts_news, crate::proofs::Rekept::plan_kept, crate::proofs::Answering::starved, crate::proofs::Answering::undrawn, crate::proofs::Answering::is_short))]
+#[tactic(auto, using(crate::proofs::Counting::counts_news, crate::proofs::Rekept::plan_kept, crate::proofs::Answering::starved, crate::proofs::Answering::undrawn, crate::proofs::Answering::is_short, crate::proofs::Answering::written_whole, crate::proofs::Answering::broken_whole, crate::proofs::Answering::written_kept, crate::proofs::Answering::broken_kept, crate::proofs::Answering::none_put))]
 fn write<S: Space>(
     alloc: Global,
     space: &mut S,
@@ -118,9 +158,14 @@ fn write<S: Space>(
     let Some(terms) = terms_of(alloc, family, sizes, key)? else {
         return Err(TreeError::BadKey);
     };
-    let Some(count) = try_out(alloc, family, &terms, task)? else {
+    let Some(trial) = try_out(alloc, family, &terms, task)? else {
         return Err(TreeError::BadKey);
     };
+    if is_whole(&trial) {
+        store_all(space, family, trial.olds)?;
+        return Ok(SetEnd::Done);
+    }
+    let count = trial.count;
     if supply < count {
         return Ok(SetEnd::Lacks);
     }
@@ -130,7 +175,10 @@ fn write<S: Space>(
     same_graphs_hold_the_same();
     links_stand_apart();
     written_objects_read_back();
-    store_all(alloc, space, family, puts)?;
+    let Ok(kept) = keep_plan(alloc, family, puts) else {
+        return Err(TreeError::Memory);
+    };
+    store_all(space, family, kept)?;
     Ok(SetEnd::Done)
 }
 

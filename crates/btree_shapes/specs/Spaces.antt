@@ -85,3 +85,10 @@ pub record IsStorable (class state : Graph) : Type 0 where
   pub class_copy : Graph
   pub state_copy : Graph
   pub reads : record_of text ≡ Ok (class_copy, state_copy)
+
+-- the bytes of a record that can be written, and reads back
+pub record IsRecordText (bytes : List ℕ) : Type 0 where
+  pub class : Graph
+  pub state : Graph
+  pub storable : IsStorable class state
+  pub bytes_are : bytes ≡ record_bytes class state

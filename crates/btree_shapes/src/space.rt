@@ -6,7 +6,7 @@ use crate::reading::Entry;
 use btree_family::ClassRow;
 use std::alloc::AllocError;
 use thiserror::Error;
-use zb_ids::Oid;
+use zb_ids::{Oid, Text8};
 use zb_model::Refusal;
 use zb_record::ObjectRecord;
 
@@ -53,7 +53,7 @@ pub trait Space {
     ghost use Rattle.zb_model.specs.declared.refusal.Refusal.{Refusal};
     ghost use Rattle.btree_shapes.specs.declared.space.Call.{Call};
     ghost use Rattle.btree_shapes.specs.declared.space.Call.TheVariants.{Drew, Read, Wrote};
-    ghost use Rattle.btree_shapes.specs.Spaces.{IsContentOf, IsLogged, lacked_memory, IsFault, refused, with_bytes, record_bytes, IsStorable};
+    ghost use Rattle.btree_shapes.specs.Spaces.{IsContentOf, IsLogged, lacked_memory, IsFault, refused, with_bytes, IsRecordText};
 
     /// The bytes that stand at each number.
     ghost contents: { Self → ℕ → Option (List ℕ) };
@@ -75,12 +75,11 @@ pub trait Space {
         ensures log { told → IsLogged oid (lacked_memory result) (log self.old) (log self.new) }
         ensures refusals { told → refusals self.new ≡ refusals self.old ++ refused result };
 
-    /// Gives an object this record. It is refused only by a refusal of the space, and for want of memory; then
-    /// nothing is changed.
-    fn put_node(&mut self, oid: Oid, entry: ObjectRecord) -> Result<(), SpaceError>
-        requires storable { IsStorable entry.class entry.state }
-        ensures ok { OnOk result
-            (contents self.new ≡ with_bytes (contents self.old) oid (record_bytes entry.class entry.state)) }
+    /// Gives an object these bytes, which are those of a record. It is refused only by a refusal of the space, and
+    /// for want of memory; then nothing is changed.
+    fn put_text(&mut self, oid: Oid, bytes: Text8) -> Result<(), SpaceError>
+        requires text { IsRecordText bytes }
+        ensures ok { OnOk result (contents self.new ≡ with_bytes (contents self.old) oid bytes) }
         ensures written { OnOk result (told → log self.new ≡ log self.old ++ Wrote oid ∷ []) }
         ensures err { OnErr result (contents self.new ≡ contents self.old) }
         ensures kept { OnErr result (told → log self.new ≡ log self.old) }

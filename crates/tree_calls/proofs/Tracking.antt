@@ -14,7 +14,7 @@ use Rattle.btree_shapes.specs.declared.space.Call.{Call}
 use Rattle.btree_shapes.specs.declared.space.Call.TheVariants.{Read, Drew, Wrote}
 use Rattle.btree_shapes.specs.declared.error.TreeError.{TreeError}
 use Rattle.btree_shapes.specs.declared.error.TreeError.TheVariants as error
-use Rattle.btree_shapes.specs.Spaces.{with_bytes}
+use Rattle.btree_shapes.specs.Spaces.{IsRecordText, text_or_none, with_bytes}
 use Rattle.btree_shapes.specs.Ways.{stands_in}
 use Rattle.btree_nodes.specs.Drawn.{drawn_in}
 use Rattle.tree_calls.specs.declared.attempt.Attempt.{Attempt}
@@ -155,8 +155,14 @@ spelled_filled (Err e) state text is = absurd cc
 spelled_filled (Ok class) (Err e) text is = absurd cc
 spelled_filled (Ok class) (Ok state) text is = subst (λ (t : List ℕ). 0 < length t) (same_text (128 ∷ 3 ∷ ((class ++ 46 ∷ []) ++ state)) text is) (omega arith)
 
-pub text_filled : (class state : Graph) (text : List ℕ) → object_text class state ≡ Ok text → 0 < length text
-text_filled class state text is = spelled_filled (spelling_of class.nodes class.root) (pickle_text state) text is
+record_filled : (class state : Graph) (text : List ℕ) → object_text class state ≡ Ok text → 0 < length text
+record_filled class state text is = spelled_filled (spelling_of class.nodes class.root) (pickle_text state) text is
+
+-- the bytes of a record are never none
+pub text_filled : (bytes : List ℕ) → IsRecordText bytes → 0 < length bytes
+text_filled bytes t =
+    let is : bytes ≡ t.storable.text = t.bytes_are ∙ ap text_or_none t.storable.written in
+    subst (λ (b : List ℕ). 0 < length b) (sym is) (record_filled t.class t.state t.storable.text t.storable.written)
 
 -- ---- what an attempt comes to
 

@@ -4,7 +4,7 @@ ghost use Rattle.std.specs.Prelude.{◌≡◌, ◌<◌, ◌++◌, ◌∷◌, [],
 ghost use Rattle.std.specs.Option.{option_map};
 ghost use Rattle.btree_nodes.specs.Drawn.{drawn_in};
 ghost use Rattle.btree_shapes.specs.declared.space.Call.TheVariants.{Read, Wrote};
-ghost use Rattle.btree_shapes.specs.Spaces.{IsContentOf, IsFault, IsStorable, record_bytes, refused};
+ghost use Rattle.btree_shapes.specs.Spaces.{IsContentOf, refused};
 ghost use Rattle.btree_shapes.specs.Ways.{stands_in};
 ghost use Rattle.tree_calls.specs.declared.known.Seen.{Seen};
 ghost use Rattle.tree_calls.specs.Known.{Agrees};
@@ -21,7 +21,7 @@ use btree_shapes::{Call, Entry, Recalled, Space, SpaceError};
 use std::alloc::{AllocError, Global};
 use std::marker::PhantomData;
 use zb_ids::{ListOf, Oid, Text8, Tid};
-use zb_record::{ObjectRecord, RecordError, read_record, write_record};
+use zb_record::{ObjectRecord, RecordError, read_record};
 
 /// The objects that are known, with what the call puts over them, and the numbers that it may give to new ones. Where an object
 /// isn't known, the call ends as for want of memory.
@@ -72,18 +72,27 @@ pub(crate) fn read_seen(alloc: Global, seen: &Option<Seen>) -> Result<ObjectReco
     }
 }
 
-/// The bytes that stand at an object that is known, where it has some and nothing is put yet.
-#[tactic(auto, using(crate::proofs::Recalled::bytes_stand))]
-fn bytes_standing<'a>(known: &'a Known, puts: &ListOf<TreePut>, oid: Oid) -> Option<&'a Text8>
+/// The bytes that stand at an object, where they are those of the last put, or it is known and nothing is put yet.
+#[tactic(auto, using(crate::proofs::Recalled::bytes_stand, crate::proofs::Recalled::bytes_put))]
+fn bytes_standing<'a>(known: &'a Known, puts: &'a ListOf<TreePut>, oid: Oid) -> Option<&'a Text8>
     ensures { (objects : ℕ → Option Seen) → Agrees known.now objects
         → IfSome result (λ bytes. contents_after puts.now (contents_of objects) oid ≡ Some bytes.now) }
 {
-    if !puts.is_empty() {
-        return None;
+    if puts.is_empty() {
+        return match known.find(oid) {
+            Some(Some(seen)) => Some(&seen.bytes),
+            _ => None,
+        };
     }
-    match known.find(oid) {
-        Some(Some(seen)) => Some(&seen.bytes),
-        _ => None,
+    match puts.as_slice().last() {
+        Some(put) => {
+            if put.oid == oid {
+                Some(&put.bytes)
+            } else {
+                None
+            }
+        }
+        None => None,
     }
 }
 
@@ -180,21 +189,6 @@ fn note_put(
     Err(AllocError)
 }
 
-/// The bytes of a record that can be written, which are never none.
-#[tactic(auto, using(crate::proofs::Tracking::text_filled))]
-fn record_text(alloc: Global, entry: &ObjectRecord) -> Result<Text8, SpaceError>
-    requires storable { IsStorable entry.now.class entry.now.state }
-    ensures bytes { IfOk result (λ bytes. bytes ≡ record_bytes entry.now.class entry.now.state) }
-    ensures filled { IfOk result (λ bytes. 0 < length bytes) }
-    ensures fault { IfErr result IsFault }
-    ensures own { refused result ≡ [] }
-{
-    match write_record(alloc, entry) {
-        Ok(bytes) => Ok(bytes),
-        Err(_) => Err(SpaceError::Memory),
-    }
-}
-
 impl<'a, B: Sight> Space for KnownSpace<'a, B> {
     ghost use Rattle.std.specs.Prelude.{[]};
     ghost use Rattle.tree_calls.specs.Calls.{contents_after, contents_of};
@@ -224,11 +218,11 @@ impl<'a, B: Sight> Space for KnownSpace<'a, B> {
         }
     }
 
-    fn put_node(&mut self, oid: Oid, entry: ObjectRecord) -> Result<(), SpaceError> {
+    #[tactic(auto, using(crate::proofs::Tracking::text_filled))]
+    fn put_text(&mut self, oid: Oid, bytes: Text8) -> Result<(), SpaceError> {
         let Some(base) = base_for(self.known, self.numbers, oid) else {
             return Err(SpaceError::Memory);
         };
-        let bytes = record_text(self.alloc, &entry)?;
         match note_put(
             &mut self.calls,
             &mut self.puts,

@@ -1,10 +1,9 @@
 -- An object is put.
 use Rattle.std.proofs.Common.{◌≡◌, ◌∙◌, ap, subst}
-use Rattle.btree_shapes.specs.Spaces.{with_bytes}
 use Rattle.tree_calls.specs.Calls.{contents_after, contents_of}
 use Rattle.tree_calls.specs.Puts.{based_on}
-use Rattle.tree_calls.proofs.Tracking.{contents_more}
-use Rattle.tree_calls.proofs.space.KnownSpaceSpace.put_node.Goals as goal
+use Rattle.tree_calls.proofs.Tracking.{contents_more, text_filled}
+use Rattle.tree_calls.proofs.space.KnownSpaceSpace.put_text.Goals as goal
 
 pub invariant_of-self : goal.invariant_of-self
 invariant_of-self g c = record {
@@ -14,11 +13,10 @@ invariant_of-self g c = record {
   written = c.note_put.ensures.written c.args.self.now.written;
   based = c.note_put.ensures.based (based_on g.B.Sight.numbers g.B.Sight.objects)
       (subst (λ ns. c.in-Some.base ≡ based_on ns g.B.Sight.objects c.args.oid) c.args.self.now.numbered (c.in-Some.ensures g.B.Sight.objects c.args.self.now.agrees)) c.args.self.now.based;
-  filled = c.note_put.ensures.filled c.in_ok-bytes.ensures.filled c.args.self.now.filled;
+  filled = c.note_put.ensures.filled (text_filled c.args.bytes c.requires.text) c.args.self.now.filled;
   lacking = c.note_put.ensures.lacked c.args.self.now.lacked c.args.self.now.lacking;
 }
 
 pub returns-in-Ok-clause-ok : goal.returns-in-Ok-clause-ok
 returns-in-Ok-clause-ok g c =
     ap (λ ps. contents_after ps (contents_of g.B.Sight.objects)) c.in-Ok.ensures.puts ∙ contents_more c.args.self.now.puts _ (contents_of g.B.Sight.objects)
-    ∙ ap (λ bytes. with_bytes (contents_after c.args.self.now.puts (contents_of g.B.Sight.objects)) c.args.oid bytes) c.in_ok-bytes.ensures.bytes
