@@ -7,3 +7,4 @@ pub mod LeafLaws
 pub mod TreeLaws
 pub mod AgainLaws
 pub mod Results
+pub mod Pieces

@@ -2,6 +2,7 @@
 #![tactic(auto)]
 
 mod characters;
+mod digits;
 mod error;
 mod exact;
 mod form;
@@ -10,6 +11,7 @@ mod numbers;
 mod reading;
 mod words;
 
+pub use digits::read_digits;
 pub use error::LiteralError;
 pub use exact::literals_are_exact;
 pub use reading::read_literal;

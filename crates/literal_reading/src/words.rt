@@ -6,10 +6,11 @@ ghost use Rattle.zb_ids.specs.Hex.{bytes_at};
 ghost use Rattle.literal_reading.specs.Reading;
 ghost use Rattle.literal_reading.specs.Reading.{ReadsLiteral, one_at, is_word_byte, word_of, rest_of_word};
 
+use crate::digits::read_digits;
 use crate::error::LiteralError;
 use std::alloc::Global;
 use std::str;
-use zb_ids::{Text8, read_hex_pair};
+use zb_ids::Text8;
 
 /// What stands behind a word, or `None` where another one stands first.
 #[tactic(auto, unfolding(crate::specs::Reading::rest_behind))]
@@ -74,19 +75,11 @@ pub(crate) fn is_text(bytes: &[u8]) -> bool
 }
 
 /// The bytes that digits spell, two for each.
-#[tactic(auto, using(zb_ids::specs::HexLaws::pair_read, zb_ids::specs::HexLaws::pair_refused, zb_ids::specs::HexLaws::all_read, zb_ids::specs::HexLaws::odd_refused))]
 pub(crate) fn bytes_of(alloc: Global, text: &[u8]) -> Result<Text8, LiteralError>
     ensures { ReadsLiteral (λ bytes. bytes) result (bytes_at text.now) }
 {
-    if text.len() % 2 != 0 {
-        return Err(LiteralError::NotLiteral);
+    match read_digits(alloc, text) {
+        Ok(bytes) => Ok(Text8::from_vec(bytes)),
+        Err(error) => Err(error),
     }
-    let mut bytes = Vec::new(alloc);
-    for i in 0..text.len() / 2 {
-        let Some(byte) = read_hex_pair(text[2 * i], text[2 * i + 1]) else {
-            return Err(LiteralError::NotLiteral);
-        };
-        bytes.push(byte)?;
-    }
-    Ok(Text8::from_vec(bytes))
 }

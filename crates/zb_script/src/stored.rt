@@ -8,31 +8,25 @@ ghost use Rattle.zb_script.specs.Reading.{ReadsAs, payload_at, payload_of_text, 
 
 use crate::errors::ReadError;
 use crate::payload::Payload;
-use literal_reading::{LiteralError, literals_are_exact, read_literal};
+use literal_reading::{LiteralError, literals_are_exact, read_digits, read_literal};
 use pickle_graph::{Pickle, is_class};
 use pickle_writing::WriteError;
 use std::alloc::Global;
-use zb_ids::{Text8, read_hex_pair};
+use zb_ids::Text8;
 use zb_record::{ObjectRecord, write_record};
 
 /// How many digits spell the bytes that a line stores, at most.
 const MOST_DIGITS: usize = 134_217_728;
 
-#[tactic(auto, using(zb_ids::specs::HexLaws::pair_read, zb_ids::specs::HexLaws::pair_refused, zb_ids::specs::HexLaws::all_read, zb_ids::specs::HexLaws::odd_refused))]
+/// The bytes that digits spell, two for each.
 fn bytes_of(alloc: Global, text: &[u8]) -> Result<Vec<u8>, ReadError>
     ensures { ReadsAs (λ bytes. bytes.items) result (bytes_at text.now) }
 {
-    if text.len() % 2 != 0 {
-        return Err(ReadError::Bad);
+    match read_digits(alloc, text) {
+        Ok(bytes) => Ok(bytes),
+        Err(LiteralError::NotLiteral) => Err(ReadError::Bad),
+        Err(LiteralError::Memory) => Err(ReadError::Memory),
     }
-    let mut bytes = Vec::with_capacity(alloc, text.len() / 2)?;
-    for i in 0..text.len() / 2 {
-        let Some(byte) = read_hex_pair(text[2 * i], text[2 * i + 1]) else {
-            return Err(ReadError::Bad);
-        };
-        bytes.push(byte)?;
-    }
-    Ok(bytes)
 }
 
 #[tactic(auto, unfolding(crate::specs::Reading::payload_at))]

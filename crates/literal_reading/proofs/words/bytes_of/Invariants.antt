@@ -1,7 +1,0 @@
-use Rattle.std.proofs.Common.{◌≡◌, ◌*◌, drop}
-use Rattle.zb_ids.specs.Hex.{bytes_at}
-use Rattle.zb_ids.specs.HexLaws.{behind_prefix}
-use Rattle.literal_reading.proofs.words.bytes_of.Given as goal
-
-abbrev pub invariant-loop-i : goal.invariant-loop-i
-invariant-loop-i l = behind_prefix l.bytes.items (bytes_at (drop (2 * l.i) l.text)) ≡ bytes_at l.text
