@@ -11,7 +11,7 @@ use Rattle.zb_volume.specs.Runs.{leaves_less}
 use Rattle.zb_model.specs.declared.data.Transaction.{Transaction}
 use Rattle.zb_model.specs.declared.new_transaction.NewTransaction.{NewTransaction}
 use Rattle.zb_base.specs.Bytes.{AreBytes}
-use Rattle.fs_records.specs.Blocks.{Reached, Begins}
+use Rattle.fs_records.specs.Blocks.{Reached, Begins, block_text}
 use Rattle.fs_records.specs.Indexed.{IsIndexOf}
 use Rattle.fs_index.specs.Places.{places_in, oids_placed}
 use Rattle.zb_model.specs.Voting.{IsVotable, voted_of}
@@ -29,6 +29,7 @@ use Rattle.file_store.specs.Staging.{StagedKept, IsWith}
 use Rattle.fs_records.specs.PlacingLaws.{length_placed}
 use Rattle.zb_volume.specs.Lasting.{written_end}
 use Rattle.file_store.proofs.Writes.{Voted, staged_for, voted_kept, finished_kept, aborted_kept}
+use Rattle.file_store.specs.Written.{IsAbortWritten, IsFinishWritten, IsVoteWritten}
 
 -- each byte of a slice is one
 pub are_bytes : (xs : List ℕ) → All (λ byte. byte < 256) xs → AreBytes xs
@@ -139,6 +140,27 @@ module _ (log : List Event) (index : StagedKept) (numbers : NumbersKept) (settle
       let v = voted_kept (seen log Main) text index now numbers are new kept free p next votable (are_bytes text all) end_same newest_same places starts tallies greatest point in
       let grown : seen new_log Main ≡ seen log Main ++ text = content ∙ ap (λ (b : List ℕ). written (seen log Main) end b) text_is ∙ written_end (seen log Main) text end (vote_within end free (end_is ∙ end_same)) in
       subst (λ (b : List ℕ). Voted (seen log Main) b now are (staged_for index new text) new) (sym grown) v
+
+  -- and its text is what stands behind Main
+  pub vote_written : (new_log : List Event) (now : StagedKept) (are : NumbersKept) (new : NewTransaction) (end : ℕ) (text bytes : List ℕ) → index.staged ≡ None → IsPrepared index now are new text → end ≡ index.end → bytes ≡ text
+      → seen new_log Main ≡ written (seen log Main) end bytes → IsVoteWritten log new_log new
+  vote_written new_log now are new end text bytes free p end_is text_is content =
+      let grown : seen new_log Main ≡ seen log Main ++ text = content ∙ ap (λ (b : List ℕ). written (seen log Main) end b) text_is ∙ written_end (seen log Main) text end (vote_within end free end_is) in
+      record {
+        index = index.kept;
+        is = record { records = kept.records; transactions = kept.starts };
+        text = grown ∙ ap (λ (b : List ℕ). seen log Main ++ b) (p.text_is ∙ ap (λ (n : ℕ). block_text n (block_of 99 index.kept.entries new)) (sym kept.end_is));
+      }
+
+  -- where a finish and an abort write is where the list ends
+  pub end_of_list : (end : ℕ) → end ≡ index.end → end ≡ (reached_in (seen log Main)).end
+  end_of_list end end_is = end_is ∙ sym kept.end_is
+
+  pub finish_written : (new : List Event) (end : ℕ) → end ≡ index.end → seen new Main ≡ done end (seen log Main) → IsFinishWritten log new
+  finish_written new end end_is content = content ∙ ap (λ (n : ℕ). done n (seen log Main)) (end_of_list end end_is)
+
+  pub abort_written : (new : List Event) (end : ℕ) → end ≡ index.end → seen new Main ≡ take end (seen log Main) → IsAbortWritten log new
+  abort_written new end end_is content = content ∙ ap (λ (n : ℕ). take n (seen log Main)) (end_of_list end end_is)
 
   -- a finish leaves the list with what was voted
   pub finished : (new : List Event) (now : StagedKept) (are : NumbersKept) (s : Staged) (end : ℕ) → index.staged ≡ Some s → IsVotedIn (seen log Main) s index → end ≡ index.end → seen new Main ≡ done end (seen log Main)

@@ -96,6 +96,9 @@ honest_of main hint is so = up_to_of main (entries_in hint) (is so)
 pub leaves_honest : (log : List Event) → LeavesOfFront log → LeavesHonest log
 leaves_honest log all main hint m h = honest_of main hint (all main hint m h)
 
+pub no_call_honest : (log : List Event) → LeavesOfFront log → StaysHonest log log
+no_call_honest log honest = here (leaves_honest log honest)
+
 pub stays_honest : (old new : List Event) → Along LeavesOfFront old new → StaysHonest old new
 stays_honest old new all = weaker LeavesOfFront LeavesHonest old new leaves_honest all
 

@@ -17,6 +17,7 @@ use Rattle.fs_records.specs.Listed.{listed, reading_in, reading_stands}
 use Rattle.fs_recovery.specs.declared.opening.Opened.{Opened}
 use Rattle.pack_copy.specs.Copying.{CopyKept, IsCopied, opened_of}
 use Rattle.file_store.specs.Packing.{IsPackedMain}
+use Rattle.file_store.proofs.Copies.{copy_kept}
 
 -- what bytes stand for is a database, or the empty list
 pub listed_database : (bytes : List ℕ) → IsDatabase (listed bytes)
@@ -45,4 +46,5 @@ switched mid new copy o list calls copied opened is =
       long = no_longer (length (seen mid Side)) copy.end copied.long;
       list_is = is;
       side = record { empty = refl; settled = refl };
+      full = (copy_kept (seen mid Side) copy copied).in_full;
     }))

@@ -9,3 +9,4 @@ pub mod Outcomes
 pub mod Packing
 pub mod Preparing
 pub mod Staging
+pub mod Written

@@ -1,16 +1,27 @@
 //! The store over a volume.
 
-ghost use Rattle.std.specs.Prelude.{◌≡◌, None, Some, false, length, option_map, IfErr, IfOk};
+ghost use Rattle.std.specs.Prelude.{◌≡◌, ◌<◌, ◌++◌, ◌∷◌, [], None, Some, false, length, option_map, IfErr, IfOk, IsSome, OnErr, OnOk};
 ghost use Rattle.std.specs.Option.{ForSome};
 ghost use Rattle.zb_volume.specs.declared.areas.Area.TheVariants.{Main, Side, Hint};
 ghost use Rattle.zb_volume.specs.Disk.{seen, IsSettled};
+ghost use Rattle.zb_volume.specs.declared.areas.Area.{Area};
+ghost use Rattle.zb_volume.specs.Moments.{LeavesOnly, StaysAs};
 ghost use Rattle.zb_volume.specs.States.{OthersStay};
-ghost use Rattle.zb_model.specs.Stores.{BreaksByFault, HasStoreCause};
+ghost use Rattle.zb_model.specs.Database.{newest_tid};
+ghost use Rattle.zb_model.specs.Packing.{packed_by};
+ghost use Rattle.zb_model.specs.Packs.{IsCopyOf, IsCopyTurn, IsPackCount, StandsForOneOfTwo};
+ghost use Rattle.zb_model.specs.Packs.{new_pack};
+ghost use Rattle.zb_model.specs.Stores.{AbortLeaves, BreaksByFault, CopyLeaves, FinishLeaves};
+ghost use Rattle.zb_model.specs.Stores.{HasStoreCause, MayBreak, SideIsEmpty, StandsForOneOf};
+ghost use Rattle.zb_model.specs.Stores.{SwitchLeaves, UnlessFault, VoteLeaves, tid_of_begun};
+ghost use Rattle.zb_model.specs.Voting.{IsVotable, IsWellFormed, voted_of};
 ghost use Rattle.file_store.specs.Hinting.{HasHonestHint, IsHintedUpTo, KeepsStore, IsHinted, LeavesHonest, StaysHonest};
 ghost use Rattle.file_store.specs.HintingLaws.{hinted_once};
 ghost use Rattle.file_store.specs.Kept.{HasRoomForTally, IsCopyKept, IsKept, IsVotedIn, StandsForList};
 ghost use Rattle.file_store.specs.KeptLaws.{copied_once, kept_once, voted_once};
 ghost use Rattle.file_store.specs.Outcomes.{AsksClock, IsOpenStore, IsRefusal};
+ghost use Rattle.file_store.specs.Written.{IsAbortWritten, IsFinishWritten, IsInFull};
+ghost use Rattle.file_store.specs.Written.{IsListPacked, IsVoteWritten, LeavesList, LeavesOneOfTwo};
 
 use crate::opening::{keep as keep_opened, open};
 use crate::packing::pack_file;
@@ -261,7 +272,34 @@ impl<V: Volume + Drop> Store for FileStore<V> {
         Ok(lines)
     }
 
-    fn vote(&mut self, alloc: Global, new: &NewTransaction) -> Result<(), StoreError> {
+    fn vote(&mut self, alloc: Global, new: &NewTransaction) -> Result<(), StoreError>
+        requires whole { (⟦<FileStore<V> as Store>⟧.state self.old).broken ≡ false }
+        requires free { (⟦<FileStore<V> as Store>⟧.state self.old).voted ≡ None }
+        requires later { (⟦<FileStore<V> as Store>⟧.state self.old).newest < new.now.tid }
+        requires well_formed { IsWellFormed new.now }
+        requires votable { V.told → IsVotable (⟦<FileStore<V> as Store>⟧.state self.old).list
+            new.now }
+        ensures some { OnOk result (IsSome (⟦<FileStore<V> as Store>⟧.state self.new).voted) }
+        ensures voted { V.told → OnOk result ((⟦<FileStore<V> as Store>⟧.state self.new).voted ≡
+            Some (voted_of (⟦<FileStore<V> as Store>⟧.state self.old).list new.now)) }
+        ensures tid { OnOk result (ForSome (⟦<FileStore<V> as Store>⟧.state self.new).voted (λ t.
+            t.tid ≡ new.now.tid)) }
+        ensures none { OnErr result ((⟦<FileStore<V> as Store>⟧.state self.new).voted ≡ None) }
+        ensures leaves { VoteLeaves V.told (⟦<FileStore<V> as Store>⟧.state self.old)
+            (⟦<FileStore<V> as Store>⟧.state self.new) result }
+        ensures fault { BreaksByFault (⟦<FileStore<V> as Store>⟧.state self.new) result }
+        ensures cause { HasStoreCause (⟦<FileStore<V> as Store>⟧.state self.old)
+            (⟦<FileStore<V> as Store>⟧.state self.new) result }
+        ensures any_moment { V.told → LeavesList (⟦<FileStore<V> as Store>⟧.state self.old)
+            (⟦<FileStore<V> as Store>⟧.state self.new) }
+        ensures side { V.told → StaysAs Area.Side (⟦<FileStore<V> as Store>⟧.state self.old).log
+            (⟦<FileStore<V> as Store>⟧.state self.new).log }
+        ensures text { V.told → OnOk result (IsVoteWritten
+            (⟦<FileStore<V> as Store>⟧.state self.old).log
+            (⟦<FileStore<V> as Store>⟧.state self.new).log new.now) }
+        ensures hint { V.told → StaysHonest (⟦<FileStore<V> as Store>⟧.state self.old).log
+            (⟦<FileStore<V> as Store>⟧.state self.new).log }
+    {
         let text = prepare(alloc, &mut self.index, &mut self.numbers, new)?;
         self.broken = true;
         match append::vote(&mut self.volume, self.index.end(), text.as_slice()) {
@@ -275,7 +313,33 @@ impl<V: Volume + Drop> Store for FileStore<V> {
         Ok(())
     }
 
-    fn finish(&mut self) -> Result<(), StoreFault> {
+    fn finish(&mut self) -> Result<(), StoreFault>
+        requires whole { (⟦<FileStore<V> as Store>⟧.state self.old).broken ≡ false }
+        requires voted { IsSome (⟦<FileStore<V> as Store>⟧.state self.old).voted }
+        ensures list { V.told → OnOk result (ForSome
+            (⟦<FileStore<V> as Store>⟧.state self.old).voted (λ t.
+            (⟦<FileStore<V> as Store>⟧.state self.new).list ≡
+            (⟦<FileStore<V> as Store>⟧.state self.old).list ++ t ∷ [])) }
+        ensures number { OnOk result (ForSome (⟦<FileStore<V> as Store>⟧.state self.old).voted (λ
+            t. (⟦<FileStore<V> as Store>⟧.state self.new).newest ≡ t.tid)) }
+        ensures voted { OnOk result ((⟦<FileStore<V> as Store>⟧.state self.new).voted ≡ None) }
+        ensures leaves { FinishLeaves V.told (⟦<FileStore<V> as Store>⟧.state self.old)
+            (⟦<FileStore<V> as Store>⟧.state self.new) }
+        ensures fault { MayBreak (⟦<FileStore<V> as Store>⟧.state self.old)
+            (⟦<FileStore<V> as Store>⟧.state self.new) result }
+        ensures any_moment { V.told → ForSome (⟦<FileStore<V> as Store>⟧.state self.old).voted (λ
+            t. LeavesOnly Area.Main (StandsForOneOf StandsForList
+            (⟦<FileStore<V> as Store>⟧.state self.old).list t)
+            (⟦<FileStore<V> as Store>⟧.state self.old).log
+            (⟦<FileStore<V> as Store>⟧.state self.new).log) }
+        ensures side { V.told → StaysAs Area.Side (⟦<FileStore<V> as Store>⟧.state self.old).log
+            (⟦<FileStore<V> as Store>⟧.state self.new).log }
+        ensures text { V.told → OnOk result (IsFinishWritten
+            (⟦<FileStore<V> as Store>⟧.state self.old).log
+            (⟦<FileStore<V> as Store>⟧.state self.new).log) }
+        ensures hint { V.told → StaysHonest (⟦<FileStore<V> as Store>⟧.state self.old).log
+            (⟦<FileStore<V> as Store>⟧.state self.new).log }
+    {
         self.broken = true;
         append::finish(&mut self.volume, self.index.end())?;
         count_staged(&mut self.numbers, &self.index);
@@ -284,7 +348,24 @@ impl<V: Volume + Drop> Store for FileStore<V> {
         Ok(())
     }
 
-    fn abort(&mut self) -> Result<(), StoreFault> {
+    fn abort(&mut self) -> Result<(), StoreFault>
+        requires whole { (⟦<FileStore<V> as Store>⟧.state self.old).broken ≡ false }
+        requires voted { IsSome (⟦<FileStore<V> as Store>⟧.state self.old).voted }
+        ensures voted { OnOk result ((⟦<FileStore<V> as Store>⟧.state self.new).voted ≡ None) }
+        ensures leaves { AbortLeaves V.told (⟦<FileStore<V> as Store>⟧.state self.old)
+            (⟦<FileStore<V> as Store>⟧.state self.new) result }
+        ensures fault { MayBreak (⟦<FileStore<V> as Store>⟧.state self.old)
+            (⟦<FileStore<V> as Store>⟧.state self.new) result }
+        ensures any_moment { V.told → LeavesList (⟦<FileStore<V> as Store>⟧.state self.old)
+            (⟦<FileStore<V> as Store>⟧.state self.new) }
+        ensures side { V.told → StaysAs Area.Side (⟦<FileStore<V> as Store>⟧.state self.old).log
+            (⟦<FileStore<V> as Store>⟧.state self.new).log }
+        ensures text { V.told → OnOk result (IsAbortWritten
+            (⟦<FileStore<V> as Store>⟧.state self.old).log
+            (⟦<FileStore<V> as Store>⟧.state self.new).log) }
+        ensures hint { V.told → StaysHonest (⟦<FileStore<V> as Store>⟧.state self.old).log
+            (⟦<FileStore<V> as Store>⟧.state self.new).log }
+    {
         self.broken = true;
         append::abort(&mut self.volume, self.index.end())?;
         self.index.take_back();
@@ -292,7 +373,24 @@ impl<V: Volume + Drop> Store for FileStore<V> {
         Ok(())
     }
 
-    fn pack_begin(&mut self, alloc: Global, tid: Tid) -> Result<(), StoreError> {
+    fn pack_begin(&mut self, alloc: Global, tid: Tid) -> Result<(), StoreError>
+        requires { (⟦<FileStore<V> as Store>⟧.state self.old).broken ≡ false }
+        ensures begun { V.told → OnOk result ((⟦<FileStore<V> as Store>⟧.state self.new).begun ≡
+            Some (new_pack tid)) }
+        ensures tid { OnOk result (tid_of_begun (⟦<FileStore<V> as Store>⟧.state self.new) ≡ Some
+            tid) }
+        ensures leaves { CopyLeaves V.told (⟦<FileStore<V> as Store>⟧.state self.old)
+            (⟦<FileStore<V> as Store>⟧.state self.new) result }
+        ensures fault { BreaksByFault (⟦<FileStore<V> as Store>⟧.state self.new) result }
+        ensures cause { HasStoreCause (⟦<FileStore<V> as Store>⟧.state self.old)
+            (⟦<FileStore<V> as Store>⟧.state self.new) result }
+        ensures main { V.told → StaysAs Area.Main (⟦<FileStore<V> as Store>⟧.state self.old).log
+            (⟦<FileStore<V> as Store>⟧.state self.new).log }
+        ensures text { V.told → OnOk result (IsInFull
+            (⟦<FileStore<V> as Store>⟧.state self.new).log Area.Side) }
+        ensures hint { V.told → StaysHonest (⟦<FileStore<V> as Store>⟧.state self.old).log
+            (⟦<FileStore<V> as Store>⟧.state self.new).log }
+    {
         self.copy = None;
         self.broken = true;
         match begin(alloc, &mut self.volume, tid) {
@@ -303,7 +401,29 @@ impl<V: Volume + Drop> Store for FileStore<V> {
         Ok(())
     }
 
-    fn pack_copy(&mut self, alloc: Global, keep: &OidSet) -> Result<Copied, StoreError> {
+    fn pack_copy(&mut self, alloc: Global, keep: &OidSet) -> Result<Copied, StoreError>
+        requires whole { (⟦<FileStore<V> as Store>⟧.state self.old).broken ≡ false }
+        requires begun { IsSome (⟦<FileStore<V> as Store>⟧.state self.old).begun }
+        requires copy { V.told → ForSome (⟦<FileStore<V> as Store>⟧.state self.old).begun (IsCopyOf
+            keep.now (⟦<FileStore<V> as Store>⟧.state self.old).list) }
+        ensures tid { OnOk result (tid_of_begun (⟦<FileStore<V> as Store>⟧.state self.new) ≡
+            tid_of_begun (⟦<FileStore<V> as Store>⟧.state self.old)) }
+        ensures copied { V.told → IfOk result (λ copied. ForSome
+            (⟦<FileStore<V> as Store>⟧.state self.old).begun (λ old. ForSome
+            (⟦<FileStore<V> as Store>⟧.state self.new).begun (λ new.
+            IsCopyTurn (packed_by old.tid keep.now (⟦<FileStore<V> as Store>⟧.state self.old).list) old new copied))) }
+        ensures leaves { CopyLeaves V.told (⟦<FileStore<V> as Store>⟧.state self.old)
+            (⟦<FileStore<V> as Store>⟧.state self.new) result }
+        ensures fault { BreaksByFault (⟦<FileStore<V> as Store>⟧.state self.new) result }
+        ensures cause { HasStoreCause (⟦<FileStore<V> as Store>⟧.state self.old)
+            (⟦<FileStore<V> as Store>⟧.state self.new) result }
+        ensures main { V.told → StaysAs Area.Main (⟦<FileStore<V> as Store>⟧.state self.old).log
+            (⟦<FileStore<V> as Store>⟧.state self.new).log }
+        ensures text { V.told → OnOk result (IsInFull
+            (⟦<FileStore<V> as Store>⟧.state self.new).log Area.Side) }
+        ensures hint { V.told → StaysHonest (⟦<FileStore<V> as Store>⟧.state self.old).log
+            (⟦<FileStore<V> as Store>⟧.state self.new).log }
+    {
         let Some(mut copy) = self.copy.take() else {
             return Err(StoreError::Memory);
         };
@@ -321,7 +441,36 @@ impl<V: Volume + Drop> Store for FileStore<V> {
         }
     }
 
-    fn pack_switch(&mut self, alloc: Global, keep: &OidSet) -> Result<Packed, StoreError> {
+    fn pack_switch(&mut self, alloc: Global, keep: &OidSet) -> Result<Packed, StoreError>
+        requires whole { (⟦<FileStore<V> as Store>⟧.state self.old).broken ≡ false }
+        requires free { (⟦<FileStore<V> as Store>⟧.state self.old).voted ≡ None }
+        requires begun { IsSome (⟦<FileStore<V> as Store>⟧.state self.old).begun }
+        requires copy { V.told → ForSome (⟦<FileStore<V> as Store>⟧.state self.old).begun (IsCopyOf
+            keep.now (⟦<FileStore<V> as Store>⟧.state self.old).list) }
+        ensures list { V.told → OnOk result (IsListPacked keep.now
+            (⟦<FileStore<V> as Store>⟧.state self.old) (⟦<FileStore<V> as Store>⟧.state self.new)) }
+        ensures number { V.told → OnOk result ((⟦<FileStore<V> as Store>⟧.state self.new).newest ≡
+            newest_tid (⟦<FileStore<V> as Store>⟧.state self.new).list) }
+        ensures counts { V.told → IfOk result (λ counts. IsPackCount
+            (⟦<FileStore<V> as Store>⟧.state self.old).list
+            (⟦<FileStore<V> as Store>⟧.state self.new).list counts) }
+        ensures leaves { SwitchLeaves V.told (⟦<FileStore<V> as Store>⟧.state self.old)
+            (⟦<FileStore<V> as Store>⟧.state self.new) result }
+        ensures fault { BreaksByFault (⟦<FileStore<V> as Store>⟧.state self.new) result }
+        ensures cause { HasStoreCause (⟦<FileStore<V> as Store>⟧.state self.old)
+            (⟦<FileStore<V> as Store>⟧.state self.new) result }
+        ensures main { V.told → OnErr result (UnlessFault result (StaysAs Area.Main
+            (⟦<FileStore<V> as Store>⟧.state self.old).log
+            (⟦<FileStore<V> as Store>⟧.state self.new).log)) }
+        ensures any_moment { V.told → LeavesOneOfTwo keep.now
+            (⟦<FileStore<V> as Store>⟧.state self.old) (⟦<FileStore<V> as Store>⟧.state self.new) }
+        ensures side { V.told → OnOk result (SideIsEmpty
+            (⟦<FileStore<V> as Store>⟧.state self.new).log) }
+        ensures text { V.told → OnOk result (IsInFull
+            (⟦<FileStore<V> as Store>⟧.state self.new).log Area.Main) }
+        ensures hint { V.told → StaysHonest (⟦<FileStore<V> as Store>⟧.state self.old).log
+            (⟦<FileStore<V> as Store>⟧.state self.new).log }
+    {
         let Some(copy) = self.copy.take() else {
             return Err(StoreError::Memory);
         };

@@ -6,8 +6,8 @@ use Rattle.file_store.specs.declared.staged.Staged.{Staged}
 use Rattle.file_store.specs.Kept.{IsVotedIn, HasRoomForTally}
 use Rattle.fs_index.specs.Places.{places_in}
 use Rattle.file_store.specs.Staging.{StagedKept}
-use Rattle.file_store.proofs.Commits.{staged_some, none_there, abort_moments, aborted}
-use Rattle.file_store.proofs.Hints.{at_last, fronts_stay, hinted_broken, hinted_on, whole_before}
+use Rattle.file_store.proofs.Commits.{staged_some, none_there, abort_moments, aborted, abort_written}
+use Rattle.file_store.proofs.Hints.{at_last, fronts_stay, hinted_broken, hinted_on, whole_before, stays_honest}
 use Rattle.file_store.proofs.Leaves.{abort_leaves, not_answered}
 use Rattle.file_store.proofs.Sides.{copied_stays, keeps_begun}
 use Rattle.file_store.proofs.store.FileStoreStore.abort.Goals as goal
@@ -104,3 +104,24 @@ returns-in_err-abort-clause-leaves g c =
     abort_leaves _ _ _ _ refl c.abort.ensures.write.read_faults
     (keeps_begun g.V.Volume.told (g.V.Volume.state c.args.self.now.volume).log (g.V.Volume.state c.abort.new.volume).log c.args.self.now.copy _ _ refl refl (λ told. c.abort.ensures.side told))
     (λ told. not_answered c.from_residual.result p.0 _ p.1)
+
+pub returns-in_err-abort-clause-hint : goal.returns-in_err-abort-clause-hint
+returns-in_err-abort-clause-hint g c = λ told.
+    let self = c.args.self.now in
+    let log = (g.V.Volume.state self.volume).log in
+    let new = (g.V.Volume.state c.abort.new.volume).log in
+    let was = whole_before log self.broken self.index.end c.requires.whole (self.hint told) in
+    stays_honest _ _ (fronts_stay log new self.index.end c.end.result (self.settled told c.requires.whole) was c.end.ensures.value (c.abort.ensures.front told) (c.abort.ensures.hint told))
+
+pub returns-clause-hint : goal.returns-clause-hint
+returns-clause-hint g c = λ told.
+    let self = c.args.self.now in
+    let log = (g.V.Volume.state self.volume).log in
+    let new = (g.V.Volume.state c.abort.new.volume).log in
+    let was = whole_before log self.broken self.index.end c.requires.whole (self.hint told) in
+    stays_honest _ _ (fronts_stay log new self.index.end c.end.result (self.settled told c.requires.whole) was c.end.ensures.value (c.abort.ensures.front told) (c.abort.ensures.hint told))
+
+pub returns-clause-text : goal.returns-clause-text
+returns-clause-text g c = λ told.
+    let self = c.args.self.now in
+    abort_written (g.V.Volume.state self.volume).log self.index self.numbers (self.settled told c.requires.whole) (self.kept told c.requires.whole) (g.V.Volume.state c.abort.new.volume).log c.end.result c.end.ensures.value (c.in_ok-abort.ensures.content told)

@@ -4,8 +4,8 @@ use Rattle.zb_volume.specs.Disk.{seen}
 use Rattle.zb_model.specs.declared.data.Transaction.{Transaction}
 use Rattle.file_store.specs.declared.staged.Staged.{Staged}
 use Rattle.file_store.specs.Kept.{IsVotedIn, HasRoomForTally}
-use Rattle.file_store.proofs.Commits.{staged_some, some_mapped, none_there, finish_moments, finished}
-use Rattle.file_store.proofs.Hints.{at_last, finishing, hinted_broken, hinted_on, whole_before}
+use Rattle.file_store.proofs.Commits.{staged_some, some_mapped, none_there, finish_moments, finished, finish_written}
+use Rattle.file_store.proofs.Hints.{at_last, finishing, hinted_broken, hinted_on, whole_before, stays_honest}
 use Rattle.file_store.proofs.Leaves.{finish_leaves}
 use Rattle.file_store.proofs.Sides.{copied_stays, keeps_begun}
 use Rattle.file_store.proofs.store.FileStoreStore.finish.Goals as goal
@@ -81,3 +81,24 @@ returns-clause-leaves g c = finish_leaves _ _ _ c.finish.ensures.write.read_faul
 pub returns-in_err-finish-clause-leaves : goal.returns-in_err-finish-clause-leaves
 returns-in_err-finish-clause-leaves g c = finish_leaves _ _ _ c.finish.ensures.write.read_faults
     (keeps_begun g.V.Volume.told (g.V.Volume.state c.args.self.now.volume).log (g.V.Volume.state c.finish.new.volume).log c.args.self.now.copy _ _ refl refl (λ told. c.finish.ensures.side told))
+
+pub returns-in_err-finish-clause-hint : goal.returns-in_err-finish-clause-hint
+returns-in_err-finish-clause-hint g c = λ told.
+    let self = c.args.self.now in
+    let log = (g.V.Volume.state self.volume).log in
+    let new = (g.V.Volume.state c.finish.new.volume).log in
+    let was = whole_before log self.broken self.index.end c.requires.whole (self.hint told) in
+    stays_honest _ _ (finishing log new self.index.end c.end.result (self.settled told c.requires.whole) was c.end.ensures.value (c.finish.ensures.any_moment told) (c.finish.ensures.hint told))
+
+pub returns-clause-hint : goal.returns-clause-hint
+returns-clause-hint g c = λ told.
+    let self = c.args.self.now in
+    let log = (g.V.Volume.state self.volume).log in
+    let new = (g.V.Volume.state c.finish.new.volume).log in
+    let was = whole_before log self.broken self.index.end c.requires.whole (self.hint told) in
+    stays_honest _ _ (finishing log new self.index.end c.end.result (self.settled told c.requires.whole) was c.end.ensures.value (c.finish.ensures.any_moment told) (c.finish.ensures.hint told))
+
+pub returns-clause-text : goal.returns-clause-text
+returns-clause-text g c = λ told.
+    let self = c.args.self.now in
+    finish_written (g.V.Volume.state self.volume).log self.index self.numbers (self.settled told c.requires.whole) (self.kept told c.requires.whole) (g.V.Volume.state c.finish.new.volume).log c.end.result c.end.ensures.value (c.in_ok-finish.ensures.content told)

@@ -1,8 +1,8 @@
 use Rattle.std.proofs.Common.{arith, refl}
 use Rattle.zb_volume.specs.declared.areas.Area.TheVariants.{Side}
 use Rattle.zb_volume.specs.Disk.{seen}
-use Rattle.file_store.proofs.Copies.{only_copy}
-use Rattle.file_store.proofs.Hints.{at_last, hinted_broken, hinted_on, keeps_both, whole_before}
+use Rattle.file_store.proofs.Copies.{only_copy, copy_kept}
+use Rattle.file_store.proofs.Hints.{at_last, hinted_broken, hinted_on, keeps_both, whole_before, stays_honest}
 use Rattle.file_store.proofs.Leaves.{copy_leaves}
 use Rattle.file_store.proofs.Sides.{keeps_voted, kept_stays, list_stays, settled_stays, voted_stays}
 use Rattle.file_store.proofs.store.FileStoreStore.pack_begin.Goals as goal
@@ -49,3 +49,22 @@ pub returns-clause-leaves : goal.returns-clause-leaves
 returns-clause-leaves g c = copy_leaves _ _ _ _ refl
     (keeps_voted g.V.Volume.told (g.V.Volume.state c.args.self.now.volume).log (g.V.Volume.state c.begin.new.volume).log c.args.self.now.index _ _ refl refl (λ told. c.begin.ensures.main told))
     (λ told. list_stays (g.V.Volume.state c.args.self.now.volume).log (g.V.Volume.state c.begin.new.volume).log (c.begin.ensures.main told)) tt
+
+pub returns-in-Err-clause-hint : goal.returns-in-Err-clause-hint
+returns-in-Err-clause-hint g c = λ told.
+    let self = c.args.self.now in
+    let log = (g.V.Volume.state self.volume).log in
+    let new = (g.V.Volume.state c.begin.new.volume).log in
+    let was = whole_before log self.broken self.index.end c.requires (self.hint told) in
+    stays_honest _ _ (keeps_both log new was.honest (c.begin.ensures.main told) (c.begin.ensures.hint told))
+
+pub returns-clause-hint : goal.returns-clause-hint
+returns-clause-hint g c = λ told.
+    let self = c.args.self.now in
+    let log = (g.V.Volume.state self.volume).log in
+    let new = (g.V.Volume.state c.begin.new.volume).log in
+    let was = whole_before log self.broken self.index.end c.requires (self.hint told) in
+    stays_honest _ _ (keeps_both log new was.honest (c.begin.ensures.main told) (c.begin.ensures.hint told))
+
+pub returns-clause-text : goal.returns-clause-text
+returns-clause-text g c = λ told. (copy_kept (seen (g.V.Volume.state c.begin.new.volume).log Side) c.in-Ok.copy (c.in-Ok.ensures.copied told)).in_full

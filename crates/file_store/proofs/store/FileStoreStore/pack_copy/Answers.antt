@@ -5,8 +5,8 @@ use Rattle.zb_model.specs.declared.packs.Copied.{Copied}
 use Rattle.pack_copy.specs.Copying.{CopyKept}
 use Rattle.file_store.specs.Kept.{IsCopyKept}
 use Rattle.file_store.proofs.Commits.{none_there}
-use Rattle.file_store.proofs.Copies.{copy_is, only_copy}
-use Rattle.file_store.proofs.Hints.{hinted_on, hinted_or, keeps_both, whole_before}
+use Rattle.file_store.proofs.Copies.{copy_is, only_copy, copy_kept}
+use Rattle.file_store.proofs.Hints.{hinted_on, hinted_or, keeps_both, whole_before, stays_honest}
 use Rattle.file_store.proofs.Leaves.{copy_leaves, unless_any}
 use Rattle.file_store.proofs.Sides.{begun_of, keeps_voted, kept_stays, list_stays, settled_stays, voted_stays}
 use Rattle.file_store.proofs.store.FileStoreStore.pack_copy.Goals as goal
@@ -58,3 +58,22 @@ returns-in-Err-clause-leaves g c = copy_leaves _ _ _ _ refl
     (keeps_voted g.V.Volume.told (g.V.Volume.state c.args.self.now.volume).log (g.V.Volume.state c.copy_turn.new.volume).log c.args.self.now.index _ _ refl refl (λ told. c.copy_turn.ensures.main told))
     (λ told. unless_any Copied c.in-Err.error _ (list_stays (g.V.Volume.state c.args.self.now.volume).log (g.V.Volume.state c.copy_turn.new.volume).log (c.copy_turn.ensures.main told)))
     (ap (λ (o : Option CopyKept). begun_of o (seen (g.V.Volume.state c.copy_turn.new.volume).log Side)) c.take.ensures.after)
+
+pub returns-in-Ok-clause-hint : goal.returns-in-Ok-clause-hint
+returns-in-Ok-clause-hint g c = λ told.
+    let self = c.args.self.now in
+    let log = (g.V.Volume.state self.volume).log in
+    let new = (g.V.Volume.state c.copy_turn.new.volume).log in
+    let was = whole_before log self.broken self.index.end c.requires.whole (self.hint told) in
+    stays_honest _ _ (keeps_both log new was.honest (c.copy_turn.ensures.main told) (c.copy_turn.ensures.hint told))
+
+pub returns-in-Err-clause-hint : goal.returns-in-Err-clause-hint
+returns-in-Err-clause-hint g c = λ told.
+    let self = c.args.self.now in
+    let log = (g.V.Volume.state self.volume).log in
+    let new = (g.V.Volume.state c.copy_turn.new.volume).log in
+    let was = whole_before log self.broken self.index.end c.requires.whole (self.hint told) in
+    stays_honest _ _ (keeps_both log new was.honest (c.copy_turn.ensures.main told) (c.copy_turn.ensures.hint told))
+
+pub returns-in-Ok-clause-text : goal.returns-in-Ok-clause-text
+returns-in-Ok-clause-text g c = λ told. (copy_kept (seen (g.V.Volume.state c.copy_turn.new.volume).log Side) c.copy_turn.new.to (c.in-Ok.ensures.copied told)).in_full

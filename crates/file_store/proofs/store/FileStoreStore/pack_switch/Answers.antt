@@ -12,7 +12,7 @@ use Rattle.file_store.proofs.Commits.{none_staged, none_there}
 use Rattle.file_store.proofs.Copies.{copy_is}
 use Rattle.file_store.proofs.Packs.{switched_list, unbroken, unless_less}
 use Rattle.file_store.proofs.Shown.{newest_is}
-use Rattle.file_store.proofs.Hints.{hinted_closed, hinted_or, whole_before}
+use Rattle.file_store.proofs.Hints.{hinted_closed, hinted_or, whole_before, stays_honest}
 use Rattle.file_store.proofs.Leaves.{switch_leaves}
 use Rattle.file_store.proofs.Sides.{begun_of, kept_stays, list_stays, settled_stays, voted_stays}
 use Rattle.file_store.proofs.store.FileStoreStore.pack_switch.Goals as goal
@@ -85,3 +85,22 @@ pub returns-in-Err-clause-leaves : goal.returns-in-Err-clause-leaves
 returns-in-Err-clause-leaves g c = switch_leaves _ _ _ _ (ap (option_map _) (none_staged c.args.self.now.index.staged _ c.requires.free) ∙ sym c.requires.free)
     (ap (λ (o : Option CopyKept). begun_of o (seen (g.V.Volume.state c.pack_file.new.volume).log Side)) c.take.ensures.after)
     (λ told. unless_less Switched Packed c.in-Err.error _ _ (λ stays. list_stays (g.V.Volume.state c.args.self.now.volume).log (g.V.Volume.state c.pack_file.new.volume).log stays) (c.in-Err.ensures.main told)) refl
+
+pub returns-in-Ok-clause-hint : goal.returns-in-Ok-clause-hint
+returns-in-Ok-clause-hint g c = λ told.
+    let self = c.args.self.now in
+    let log = (g.V.Volume.state self.volume).log in
+    let new = (g.V.Volume.state c.pack_file.new.volume).log in
+    let was = whole_before log self.broken self.index.end c.requires.whole (self.hint told) in
+    stays_honest _ _ (c.pack_file.ensures.hint told (was.settled refl) was.honest)
+
+pub returns-in-Err-clause-hint : goal.returns-in-Err-clause-hint
+returns-in-Err-clause-hint g c = λ told.
+    let self = c.args.self.now in
+    let log = (g.V.Volume.state self.volume).log in
+    let new = (g.V.Volume.state c.pack_file.new.volume).log in
+    let was = whole_before log self.broken self.index.end c.requires.whole (self.hint told) in
+    stays_honest _ _ (c.pack_file.ensures.hint told (was.settled refl) was.honest)
+
+pub returns-in-Ok-clause-text : goal.returns-in-Ok-clause-text
+returns-in-Ok-clause-text g c = λ told. (c.in-Ok.ensures.packed told).full

@@ -5,10 +5,10 @@ use Rattle.zb_volume.specs.Moments.{here}
 use Rattle.fs_records.specs.Listed.{reached_in}
 use Rattle.file_store.specs.declared.staged.Staged.{Staged}
 use Rattle.file_store.specs.Kept.{HasRoomForTally, IsVotedIn, voted_in}
-use Rattle.file_store.proofs.Commits.{unmoved, none_staged, none_there, some_same, room_for, vote_is, voted, moments}
+use Rattle.file_store.proofs.Commits.{unmoved, none_staged, none_there, some_same, room_for, vote_is, voted, moments, vote_written}
 use Rattle.file_store.proofs.Writes.{Voted, staged_for}
 use Rattle.file_store.specs.Staging.{StagedKept}
-use Rattle.file_store.proofs.Hints.{at_last, fronts_stay, hinted_broken, hinted_on, whole_before}
+use Rattle.file_store.proofs.Hints.{at_last, fronts_stay, hinted_broken, hinted_on, whole_before, no_call_honest, stays_honest}
 use Rattle.file_store.proofs.Leaves.{vote_leaves}
 use Rattle.file_store.proofs.Sides.{copied_stays, keeps_begun}
 use Rattle.file_store.proofs.store.FileStoreStore.vote.Goals as goal
@@ -105,3 +105,33 @@ returns-in-Err-clause-leaves g c = vote_leaves _ _ _ _ (ap (λ (i : StagedKept).
 
 pub returns-in_err-text-clause-side : goal.returns-in_err-text-clause-side
 returns-in_err-text-clause-side g c = λ told. here refl
+
+pub returns-in_err-text-clause-hint : goal.returns-in_err-text-clause-hint
+returns-in_err-text-clause-hint g c = λ told.
+    let self = c.args.self.now in
+    let log = (g.V.Volume.state self.volume).log in
+    let new = (g.V.Volume.state self.volume).log in
+    let was = whole_before log self.broken self.index.end c.requires.whole (self.hint told) in
+    no_call_honest log was.honest
+
+pub returns-in-Err-clause-hint : goal.returns-in-Err-clause-hint
+returns-in-Err-clause-hint g c = λ told.
+    let self = c.args.self.now in
+    let log = (g.V.Volume.state self.volume).log in
+    let new = (g.V.Volume.state c.vote.new.volume).log in
+    let was = whole_before log self.broken self.index.end c.requires.whole (self.hint told) in
+    stays_honest _ _ (fronts_stay log new self.index.end c.end.result (self.settled told c.requires.whole) was (c.end.ensures.value ∙ c.prepare.ensures.end) (c.vote.ensures.front told) (c.vote.ensures.hint told))
+
+pub returns-clause-hint : goal.returns-clause-hint
+returns-clause-hint g c = λ told.
+    let self = c.args.self.now in
+    let log = (g.V.Volume.state self.volume).log in
+    let new = (g.V.Volume.state c.vote.new.volume).log in
+    let was = whole_before log self.broken self.index.end c.requires.whole (self.hint told) in
+    stays_honest _ _ (fronts_stay log new self.index.end c.end.result (self.settled told c.requires.whole) was (c.end.ensures.value ∙ c.prepare.ensures.end) (c.vote.ensures.front told) (c.vote.ensures.hint told))
+
+pub returns-clause-text : goal.returns-clause-text
+returns-clause-text g c = λ told.
+    let self = c.args.self.now in
+    let free = none_staged self.index.staged _ c.requires.free in
+    vote_written (g.V.Volume.state self.volume).log self.index self.numbers (self.settled told c.requires.whole) (self.kept told c.requires.whole) (g.V.Volume.state c.vote.new.volume).log c.prepare.new.index c.prepare.new.numbers c.args.new.now c.end.result c.in_ok-text.text c.as_slice.result.now free c.in_ok-text.ensures.prepared (c.end.ensures.value ∙ c.prepare.ensures.end) c.as_slice.ensures.value (c.in-Ok.ensures.content told)
