@@ -31,12 +31,15 @@ use Rattle.connection_view.specs.Connections.{work_of}
 use Rattle.connection_view.specs.ViewLaws.{IsSeenFrom, later_later, seen_from}
 use Rattle.connection_view.specs.Views.{Later, view_of}
 use Rattle.local_loads.specs.LocalLaws.{view_whole}
-use Rattle.client_turns.specs.Trees.{Draws, IsAsked, IsDrawn, IsRaised, IsSeenIn, IsUncalled, MayDraw, NeedsMore, Sees, by_draw, by_read, by_tree, by_want}
+use Rattle.client_turns.specs.Trees.{AllCameWhole, CameWhole, Draws, IsAsked, IsDrawn, IsRaised, IsSeenIn, IsUncalled, MayDraw, NeedsMore, Sees, by_draw, by_read, by_tree, by_want}
 use Rattle.client_turns.proofs.Changing.{opened_work}
 use Rattle.client_turns.proofs.Framing.{calm_counts, calm_other, calm_whole}
 use Rattle.client_turns.proofs.Gathering.{draws_more, known_more, seen_kept, seen_over, seen_same}
 use Rattle.client_turns.proofs.Hubs.{open_whole}
 use Rattle.client_turns.proofs.Placing.{IsKeptAt, kept_at}
+use Rattle.client_turns.proofs.One.{near_open}
+use Rattle.btree_shapes.specs.declared.space.Call.{Call}
+use Rattle.commit_phases.specs.Pending.{pending_of}
 
 -- ---- what is done to the hub
 
@@ -87,6 +90,7 @@ none_drawn (n ∷ numbers) is_empty is holds = absurd (omega (arith, eqb-true (l
 pub starts : {R F : Type 0} (m : Moment) (at root : ℕ) (op : TreeOperation) (old : ClientsState R F) (before : Option (List Stamp)) → StandsForMoment old before m → MayReadAt m at → StandsGathering old before m at root op [] []
 starts m at root op old before stands may =
     let t : (u : OpenTransaction) × (may.0.transaction ≡ Some u) = some_there may.0.transaction may.3 in
+    let k : IsKeptAt old.hub old.clients at may.0 = kept_at old.hub old.clients m.clients at may.0 stands.clients may.1 in
     record {
       now = m;
       stands = stands;
@@ -94,6 +98,7 @@ starts m at root op old before stands may =
       there = may.1;
       transaction = t.0;
       begun = t.1;
+      near = near_open k.kept.connection k.is.told (work_of k.kept.connection) t.0 (subst (IsOpenAs k.kept.connection k.is.told (work_of k.kept.connection)) t.1 k.is.transaction);
       may = may.2;
       draws = refl;
       list = refl;
@@ -166,6 +171,7 @@ module _ {R F : Type 0} (m : Moment) (at root : ℕ) (op : TreeOperation) (old :
         there = g.there;
         transaction = g.transaction;
         begun = g.begun;
+        near = g.near;
         may = g.may;
         draws = g.draws;
         list = g.list;
@@ -192,7 +198,7 @@ module _ {R F : Type 0} (m : Moment) (at root : ℕ) (op : TreeOperation) (old :
       same a b e = cc
 
   unseen_by : (oid : ℕ) (why : Refusal) (now : Moment) → IsAskedOf m at root op oid → numbers ≡ [] → IsSightIn g.now (Some g.transaction) oid (Err why) now → IsUncalled m g.client.session g.transaction root op why now
-  unseen_by oid why now asked none (inl read) = by_read oid (asked_here oid asked) (subst (λ (b : Moment). IsReadAt b g.transaction.view oid (Err why) now) (at_start none) read.0) read.1
+  unseen_by oid why now asked none (inl read) = by_read oid (asked_here oid asked) (subst (λ (b : Moment). IsReadAt b g.transaction oid (Err why) now) (at_start none) read.0) read.1
   unseen_by oid why now asked none (inr starved) = by_want numbers g.may_draw (subst (Draws m g.client.session numbers) (sym starved.1) g.draws) starved.0
 
   pub unseen : (oid : ℕ) (why : Refusal) (new : ClientsState R F) (after : Option (List Stamp)) → IsAskedOf m at root op oid → numbers ≡ [] → LeadsTo (IsSightOf g.now at oid (Err why)) new after → LeadsTo (IsCallOf m at root op (Err why)) new after
@@ -214,6 +220,7 @@ module _ {R F : Type 0} (m : Moment) (at root : ℕ) (op : TreeOperation) (old :
         there = g.there;
         transaction = g.transaction;
         begun = g.begun;
+        near = g.near;
         may = ap (λ (x : Machine). is_open_in x.sessions g.client.session) raised.is ∙ g.may;
         draws = draws_more m g.client.session numbers oid g.now leads.now g.draws drawn;
         list = ap (λ (x : Machine). x.list) raised.is ∙ g.list;
@@ -250,15 +257,19 @@ module _ {R F : Type 0} (m : Moment) (at root : ℕ) (op : TreeOperation) (old :
       seen_over m.machine g.transaction oid (known_at known oid) (objects_of old.hub.store.list (work_of k) oid) (λ y is. g.sees oid y is)
       (seen_same g.now.machine m.machine g.transaction.view oid _ (objects_of old.hub.store.list (work_of k) oid) (sym g.list) (sym g.journal) over)
 
+  -- what a local client reads comes in no frame
+  whole_here : (objects : ℕ → Option Seen) (calls : List Call) → AllCameWhole g.transaction objects calls
+  whole_here objects calls oid among = subst (λ (far : Bool). CameWhole far (pending_of g.transaction.changes.pending.stores oid) (objects oid)) (sym g.near) tt
+
   pub made_on : (objects : ℕ → Option Seen) (made : Made) → Sees m.machine g.transaction objects → IsMade objects root op numbers made.answer made.puts × All (λ p. 0 < length p.bytes) made.puts → LeadsTo (IsCallOf m at root op (Ok made)) old before
   made_on objects made sees is = record {
     now = g.now;
-    holds = (g.client, g.there, g.transaction, g.begun, record { objects = objects; sees = sees; numbers = numbers; draws = g.draws; made = is.0; filled = is.1 });
+    holds = (g.client, g.there, g.transaction, g.begun, record { objects = objects; sees = sees; numbers = numbers; draws = g.draws; made = is.0; whole = whole_here objects is.0.calls; filled = is.1 });
     stands = g.stands;
   }
 
   pub refused_on : (objects : ℕ → Option Seen) (why : Refusal) → Sees m.machine g.transaction objects → IsRefused objects root op why × (numbers ≡ []) → LeadsTo (IsCallOf m at root op (Err why)) old before
-  refused_on objects why sees is = ends_at why old before g.now g.stands (by_tree objects sees is.0 (at_start is.1))
+  refused_on objects why sees is = ends_at why old before g.now g.stands (by_tree objects sees is.0 (whole_here objects is.0.calls) (at_start is.1))
 
 -- what a walk asks for, and what an attempt wants
 pub walk_asked : {R F : Type 0} (m : Moment) (at root : ℕ) (op : TreeOperation) (old : ClientsState R F) (before : Option (List Stamp)) (known : List (ℕ × Option Seen)) (numbers : List ℕ) → StandsGathering old before m at root op known numbers → is_walk op ≡ true

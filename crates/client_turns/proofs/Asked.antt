@@ -1,5 +1,5 @@
 -- What a client's connection reads over the hub.
-use Rattle.std.proofs.Common.{◌≡◌, ℕ, true, false, List, Option, Some, None, Result, Ok, Err, refl, sym, ap, subst, ◌∙◌, ◌⊎◌, arith, inl, inr}
+use Rattle.std.proofs.Common.{Bool, Err, List, None, Ok, Option, Result, Some, ap, arith, false, inl, inr, refl, subst, sym, true, ℕ, ◌∙◌, ◌≡◌, ◌⊎◌}
 use Rattle.std.specs.Option.{option_map}
 use Rattle.zb_ids.specs.declared.stamp.Stamp.{Stamp}
 use Rattle.zb_model.specs.declared.data.Transaction.{Transaction}
@@ -30,7 +30,7 @@ use Rattle.local_loads.specs.LocalLaws.{kept_behind, view_whole}
 use Rattle.local_loads.specs.Making.{IsHubStep, IsLocalCall, IsOneStep}
 use Rattle.client_turns.specs.declared.client.Client.{Client}
 use Rattle.client_turns.specs.Asking.{IsSameBut}
-use Rattle.client_turns.specs.Clients.{Changes, Moment, OpenTransaction, changes_of}
+use Rattle.client_turns.specs.Clients.{Changes, Moment, OpenTransaction}
 use Rattle.client_turns.specs.Clients as seen
 use Rattle.client_turns.specs.Lines.{data_of, object_of, request_of}
 use Rattle.client_turns.specs.Refusing.{line_refusal}
@@ -41,6 +41,7 @@ use Rattle.client_turns.specs.Views.{server_of}
 use Rattle.client_turns.proofs.Hubs.{open_whole}
 use Rattle.client_turns.proofs.Loading.{load_reads}
 use Rattle.client_turns.proofs.One.{StepsTo, client_kept, own_open, refused_open, set_there, starved_open, stays, steps_to, weaken_one, within_on, writes_on}
+use Rattle.client_turns.specs.Reads.{EndsReading}
 
 -- what there is at a client's end
 abbrev pub end_of_client : {R F : Type 0} → HubState R F → Option (List Stamp) → Client → LocalState R F
@@ -78,15 +79,17 @@ none_of k told wr r c is works = by_open c.transaction refl (subst (λ (x : Resu
 
 -- ---- a read
 
-cached_read : (m : Moment) (v : View) (s : Server) (oid : ℕ) (result : Result (ℕ × List ℕ) Refusal) → IsUnasked result → Reads v s oid result → IsReadAt m v oid result m
-cached_read m v s oid (Ok d) un reads = record { later = record { reads = omega arith; others = omega arith }; ends = reads; counts = refl; rest = refl }
-cached_read m v s oid (Err r) un reads =
-    subst (λ (w : Refusal). IsReadAt m v oid (Err w) m) (sym un) (record { later = record { reads = omega arith; others = omega arith }; ends = refl; counts = refl; rest = refl })
+cached_read : (m : Moment) (t : OpenTransaction) (s : Server) (oid : ℕ) (result : Result (ℕ × List ℕ) Refusal) → t.framed ≡ false → IsUnasked result → Reads t.view s oid result → IsReadAt m t oid result m
+cached_read m t s oid (Ok d) near un reads =
+    record { later = record { reads = omega arith; others = omega arith }; ends = subst (λ (far : Bool). EndsReading far m.machine t.view oid m.counts m.counts (Ok d)) (sym near) reads; counts = refl; rest = refl }
+cached_read m t s oid (Err r) near un reads =
+    subst (λ (w : Refusal). IsReadAt m t oid (Err w) m) (sym un)
+    (record { later = record { reads = omega arith; others = omega arith }; ends = subst (λ (far : Bool). EndsReading far m.machine t.view oid m.counts m.counts (Err refusal.Memory)) (sym near) refl; counts = refl; rest = refl })
 
 -- a read, and what there is behind it, but for the client
-pub record ReadsTo {R F : Type 0} (v : View) (oid : ℕ) (result : Result (ℕ × List ℕ) Refusal) (m : Moment) (h g : HubState R F) (x y : Client) (after : Option (List Stamp)) : Type 0 where
+pub record ReadsTo {R F : Type 0} (t : OpenTransaction) (oid : ℕ) (result : Result (ℕ × List ℕ) Refusal) (m : Moment) (h g : HubState R F) (x y : Client) (after : Option (List Stamp)) : Type 0 where
   pub now : Moment
-  pub read : IsReadAt m v oid result now
+  pub read : IsReadAt m t oid result now
   pub hub : StandsForMachine g now.machine
   pub vote : local.WritesLater now.machine.list now.machine.vote
   pub within : IsPackWithin now.machine.list now.machine.pack
@@ -132,11 +135,11 @@ module _ {R F S : Type 0} (told lasts : Type 0) (stands : List ℕ → List Tran
 
   -- a read in an open transaction
   pub read_to : (oid : ℕ) (result : Result (ℕ × List ℕ) Refusal) (w : Work) → work_of x.connection ≡ Ok w → (o : IsOpened x.connection mine.told w c)
-      → Reads o.transaction.view (local.server_of h) oid result → IsReadBy makes a b oid w.front w.switches result → ReadsTo o.transaction.view oid result m h g x y after
+      → Reads o.transaction.view (local.server_of h) oid result → IsReadBy makes a b oid w.front w.switches result → ReadsTo o.transaction oid result m h g x y after
   read_to oid result w works o reads (inl unasked) =
-      subst (λ (z : HubState R F). ReadsTo o.transaction.view oid result m h z x y after) (sym (same_hub unasked.0)) (record {
+      subst (λ (z : HubState R F). ReadsTo o.transaction oid result m h z x y after) (sym (same_hub unasked.0)) (record {
         now = m;
-        read = cached_read m o.transaction.view (local.server_of h) oid result unasked.1 reads;
+        read = cached_read m o.transaction (local.server_of h) oid result o.is.near unasked.1 reads;
         hub = takes.stands.hub;
         vote = takes.stands.vote;
         within = takes.stands.within;
@@ -153,7 +156,7 @@ module _ {R F S : Type 0} (told lasts : Type 0) (stands : List ℕ → List Tran
       steps_to told lasts stands rules_in named_in tells m x.session (request.LoadBefore oid w.front) made.reply h g before after made.step takes.stands.hub takes.stands.counts takes.stands.stamps in
       record {
         now = s.now;
-        read = load_reads (rules_of rules_in named_in h) m x.session oid v made.reply result s.now (later_now v w o.is.view works) session_open
+        read = load_reads (rules_of rules_in named_in h) m x.session oid o.transaction made.reply result s.now o.is.near (later_now v w o.is.view works) session_open
             (subst (λ (f : ℕ). IsStepAt (rules_of rules_in named_in h) m x.session (request.LoadBefore oid f) made.reply s.now) from.front s.holds)
             (subst (λ (k : ℕ). IsReadAnswered oid k (load_answer made.reply) result) from.switches (subst (λ (z : Result Loaded Refusal). IsReadAnswered oid w.switches z result) made.answer loaded.2));
         hub = s.hub;
@@ -165,7 +168,7 @@ module _ {R F S : Type 0} (told lasts : Type 0) (stands : List ℕ → List Tran
         others = λ last t known is. kept_behind told lasts stands rules_in named_in x.session (request.LoadBefore oid w.front) made.reply h g before after tells made.step last t known is;
       }
 
-  pub read_one : (oid : ℕ) (result : Result (ℕ × List ℕ) Refusal) (v : View) → ReadsTo v oid result m h g x y after
+  pub read_one : (oid : ℕ) (result : Result (ℕ × List ℕ) Refusal) (v : OpenTransaction) → ReadsTo v oid result m h g x y after
       → work_of y.connection ≡ work_of x.connection → ((u : View) → InView x.connection u mine.told → InView y.connection u mine.told) → (Between x.connection mine.told → Between y.connection mine.told)
       → OneLeadsTo (IsReadAt m v oid result) m at h g y after
   read_one oid result v r work view between = record {
@@ -193,8 +196,8 @@ module _ {R F S : Type 0} (told lasts : Type 0) (stands : List ℕ → List Tran
           (answers ∙ ap data_of (said.0 ∙ ap (λ (z : Refusal). Err z) none.0)) refl)
       by_work (Ok w) works =
           let o : IsOpened x.connection mine.told w c = opened_of x.connection mine.told (work_of x.connection) w c mine.transaction works in
-          weaken_one (read_one oid result o.transaction.view (read_to oid result w works o (reads o.transaction.view mine.told may o.is.view) (made w works)) work (λ u. view u mine.told may) (between mine.told))
-          (λ now read. own_open (rules_of rules_in named_in h) m at c (line.Load oid) reply now o.transaction o.begun (ap (λ (z : Option OpenTransaction). line_refusal (option_map (λ (t : OpenTransaction). t.changes) z) (line.Load oid)) o.begun) (ap (λ (z : Option OpenTransaction). request_of (option_map (λ (t : OpenTransaction). t.changes) z) (line.Load oid)) o.begun) (result, read, answers))
+          weaken_one (read_one oid result o.transaction (read_to oid result w works o (reads o.transaction.view mine.told may o.is.view) (made w works)) work (λ u. view u mine.told may) (between mine.told))
+          (λ now read. own_open (rules_of rules_in named_in h) m at c (line.Load oid) reply now o.transaction o.begun (ap (λ (z : Option OpenTransaction). line_refusal (option_map (λ (t : OpenTransaction). t.changes) z) (line.Load oid)) o.begun) (ap (λ (z : Option OpenTransaction). request_of c.standing (option_map (λ (t : OpenTransaction). t.changes) z) (line.Load oid)) o.begun) (result, read, answers))
 
   -- what a transaction has of an object
   pub get_leads : (oid : ℕ) (result : Result (ℕ × List ℕ) Refusal) → ((w : Work) (p : PendingStore) → work_of x.connection ≡ Ok w → pending_of w.pending.stores oid ≡ Some p → ((result ≡ waiting_read oid p) ⊎ (result ≡ Err refusal.Memory)) × (b ≡ a))
@@ -215,17 +218,17 @@ module _ {R F S : Type 0} (told lasts : Type 0) (stands : List ℕ → List Tran
           o : IsOpened x.connection mine.told w c
           o = opened_of x.connection mine.told (work_of x.connection) w c mine.transaction works
 
-          where_is : (p : Option PendingStore) → pending_of w.pending.stores oid ≡ p → (now : Moment) → IsGotAs m o.transaction.view oid p result now → IsGotWhere m c.transaction oid result now
+          where_is : (p : Option PendingStore) → pending_of w.pending.stores oid ≡ p → (now : Moment) → IsGotAs m o.transaction oid p result now → IsGotWhere m c.transaction oid result now
           where_is p is now got =
               subst (λ (z : Option OpenTransaction). IsGotWhere m z oid result now) (sym o.begun)
-              (subst (λ (z : Option PendingStore). IsGotAs m o.transaction.view oid z result now) (sym (ap (λ (ch : Changes). pending_of ch.pending.stores oid) o.is.changes ∙ is)) got)
+              (subst (λ (z : Option PendingStore). IsGotAs m o.transaction oid z result now) (sym (ap (λ (ch : Changes). pending_of ch.pending.stores oid) o.is.changes ∙ is)) got)
 
           by_pending : (p : Option PendingStore) → pending_of w.pending.stores oid ≡ p → OneLeadsTo (IsGotWhere m c.transaction oid result) m at h g y after
           by_pending (Some p) is =
               let said = waiting w p works is in
               stays _ m at h g x y c before after takes (same_hub said.1) (same_stamps said.1) (kept_same said.1 work (λ u. view u mine.told may) (between mine.told)) (where_is (Some p) is m (said.0, refl))
           by_pending None is =
-              weaken_one (read_one oid result o.transaction.view (read_to oid result w works o (reads w works is o.transaction.view mine.told may o.is.view) (made w works is)) work (λ u. view u mine.told may) (between mine.told)) (λ now read. where_is None is now read)
+              weaken_one (read_one oid result o.transaction (read_to oid result w works o (reads w works is o.transaction.view mine.told may o.is.view) (made w works is)) work (λ u. view u mine.told may) (between mine.told)) (λ now read. where_is None is now read)
 
 -- ---- what is got is answered
 
@@ -233,13 +236,13 @@ same_store : {a b : PendingStore} → Some a ≡ Some b → a ≡ b
 same_store e = cc
 
 got_open : (rules : Rules) (m : Moment) (at oid : ℕ) (c : seen.Client) (t : OpenTransaction) (result : Result (ℕ × List ℕ) Refusal) (reply : Answer) (now : Moment) (p : Option PendingStore) → c.transaction ≡ Some t → pending_of t.changes.pending.stores oid ≡ p
-    → reply ≡ object_of result → IsGotAs m t.view oid p result now → IsLineOpen rules m at c (line.Get oid) reply now
+    → reply ≡ object_of result → IsGotAs m t oid p result now → IsLineOpen rules m at c (line.Get oid) reply now
 got_open rules m at oid c t result reply now None begun is answers read =
-    own_open rules m at c (line.Get oid) reply now t begun (ap (λ (z : Option OpenTransaction). line_refusal (option_map (λ (u : OpenTransaction). u.changes) z) (line.Get oid)) begun) (ap (λ (z : Option OpenTransaction). request_of (option_map (λ (u : OpenTransaction). u.changes) z) (line.Get oid)) begun)
-    (subst (λ (z : Option PendingStore). IsGet m t.view oid z reply now) (sym is) (result, read, answers))
+    own_open rules m at c (line.Get oid) reply now t begun (ap (λ (z : Option OpenTransaction). line_refusal (option_map (λ (u : OpenTransaction). u.changes) z) (line.Get oid)) begun) (ap (λ (z : Option OpenTransaction). request_of c.standing (option_map (λ (u : OpenTransaction). u.changes) z) (line.Get oid)) begun)
+    (subst (λ (z : Option PendingStore). IsGet m t oid z reply now) (sym is) (result, read, answers))
 got_open rules m at oid c t result reply now (Some p) begun is answers (inl got, same) =
-    own_open rules m at c (line.Get oid) reply now t begun (ap (λ (z : Option OpenTransaction). line_refusal (option_map (λ (u : OpenTransaction). u.changes) z) (line.Get oid)) begun) (ap (λ (z : Option OpenTransaction). request_of (option_map (λ (u : OpenTransaction). u.changes) z) (line.Get oid)) begun)
-    (subst (λ (z : Option PendingStore). IsGet m t.view oid z reply now) (sym is) (answers ∙ ap object_of got, same))
+    own_open rules m at c (line.Get oid) reply now t begun (ap (λ (z : Option OpenTransaction). line_refusal (option_map (λ (u : OpenTransaction). u.changes) z) (line.Get oid)) begun) (ap (λ (z : Option OpenTransaction). request_of c.standing (option_map (λ (u : OpenTransaction). u.changes) z) (line.Get oid)) begun)
+    (subst (λ (z : Option PendingStore). IsGet m t oid z reply now) (sym is) (answers ∙ ap object_of got, same))
 got_open rules m at oid c t result reply now (Some p) begun is answers (inr starved, same) = starved_open rules m at c (line.Get oid) reply now (answers ∙ ap object_of starved) same
 
 got_where : (rules : Rules) (m : Moment) (at oid : ℕ) (c : seen.Client) (o : Option OpenTransaction) (result : Result (ℕ × List ℕ) Refusal) (reply : Answer) (now : Moment) → c.transaction ≡ o → reply ≡ object_of result → IsGotWhere m o oid result now

@@ -118,10 +118,11 @@ call_made {R} {F} m at root call op made told puts reply mid new between is tell
     y : (y : Client) × (new.clients ≡ slice_set mid.clients at y) × IsPutAll k.kept y told puts reply
     y = changed k.kept k.there
 
-    client : (z : Client) (d : seen.Client) (o : Option OpenTransaction) → IsSameBut k.kept z → d.name ≡ c.name → d.session ≡ c.session → d.transaction ≡ o → IsOpenAs z.connection k.is.told (work_of z.connection) o → IsClientOf mid.hub z d
-    client z d o but name session begun opened = record {
+    client : (z : Client) (d : seen.Client) (o : Option OpenTransaction) → IsSameBut k.kept z → d.name ≡ c.name → d.session ≡ c.session → d.standing ≡ c.standing → d.transaction ≡ o → IsOpenAs z.connection k.is.told (work_of z.connection) o → IsClientOf mid.hub z d
+    client z d o but name session near begun opened = record {
       name = name ∙ k.is.name ∙ sym but.name;
       session = session ∙ k.is.session ∙ sym but.session;
+      local = near ∙ k.is.local;
       told = k.is.told;
       may = subst (λ (l : Option Told). MayBeTold l mid.hub k.is.told.told k.is.told.known) (sym but.told) k.is.may;
       transaction = subst (IsOpenAs z.connection k.is.told (work_of z.connection)) (sym begun) opened;
@@ -130,7 +131,7 @@ call_made {R} {F} m at root call op made told puts reply mid new between is tell
     by_put : (z : Client) → IsPutAs k.kept z told puts reply k.is.told t → new.clients ≡ slice_set mid.clients at z → LeadsTo (OrStarved (IsOwnOf m at (line.Tree root call)) m reply) new between
     by_put z put clients = by_either put.put
       where
-        by_either : ((reply ≡ (all_stored t.changes told puts).answer) × IsOpenAs z.connection k.is.told (work_of z.connection) (Some (record { view = t.view; changes = (all_stored t.changes told puts).changes }))) ⊎ ((reply ≡ answer.Refused refusal.Memory) × IsOpenAs z.connection k.is.told (work_of z.connection) (Some t))
+        by_either : ((reply ≡ (all_stored t.changes told puts).answer) × IsOpenAs z.connection k.is.told (work_of z.connection) (Some (record { framed = t.framed; view = t.view; changes = (all_stored t.changes told puts).changes }))) ⊎ ((reply ≡ answer.Refused refusal.Memory) × IsOpenAs z.connection k.is.told (work_of z.connection) (Some t))
             → LeadsTo (OrStarved (IsOwnOf m at (line.Tree root call)) m reply) new between
         by_either (inl so) =
             let d : seen.Client = with_changes c t (all_stored t.changes told puts).changes in
@@ -140,13 +141,13 @@ call_made {R} {F} m at root call op made told puts reply mid new between is tell
             record {
               now = with_client b at d;
               holds = inl (c, leads.holds.1, line_at m b (with_client b at d) at root call c t op (Ok made) reply leads.holds.3 is leads.holds.4 (inl change));
-              stands = with_one b at d z mid new between leads.stands hub clients (client z d (Some (record { view = t.view; changes = (all_stored t.changes told puts).changes })) put.same refl refl refl so.1);
+              stands = with_one b at d z mid new between leads.stands hub clients (client z d (Some (record { framed = t.framed; view = t.view; changes = (all_stored t.changes told puts).changes })) put.same refl refl refl refl so.1);
             }
         by_either (inr starved) =
             record {
               now = with_client b at c;
               holds = inl (c, leads.holds.1, line_at m b (with_client b at c) at root call c t op (Ok made) reply leads.holds.3 is leads.holds.4 (inr (starved.0, same_moment b at c there)));
-              stands = with_one b at c z mid new between leads.stands hub clients (client z c (Some t) put.same refl refl leads.holds.3 starved.1);
+              stands = with_one b at c z mid new between leads.stands hub clients (client z c (Some t) put.same refl refl refl leads.holds.3 starved.1);
             }
 
 -- there was no memory for what it puts
@@ -198,7 +199,7 @@ own_tree : (rules : Rules) (m now : Moment) (at root : ℕ) (call : TreeCall) (c
 own_tree rules m now at root call c None a begun some own = absurd cc
 own_tree rules m now at root call c (Some t) a begun some own =
     own_open rules m at c (line.Tree root call) a now t begun (ap (λ (o : Option OpenTransaction). line_refusal (option_map (λ (t : OpenTransaction). t.changes) o) (line.Tree root call)) begun)
-    (ap (λ (o : Option OpenTransaction). request_of (option_map (λ (t : OpenTransaction). t.changes) o) (line.Tree root call)) begun) own
+    (ap (λ (o : Option OpenTransaction). request_of c.standing (option_map (λ (t : OpenTransaction). t.changes) o) (line.Tree root call)) begun) own
 
 pub open_line : {R F : Type 0} (rules : Rules) (m : Moment) (at root : ℕ) (call : TreeCall) (a : Answer) (new : ClientsState R F) (after : Option (List Stamp)) → MayReadAt m at
     → LeadsTo (OrStarved (IsOwnOf m at (line.Tree root call)) m a) new after → LeadsTo (IsOpenLineOf rules m at (line.Tree root call) a) new after

@@ -2,6 +2,7 @@
 use Rattle.std.proofs.Common.{◌≡◌, ℕ, false, Option, Some, None, refl, sym, ap, subst, ◌∙◌}
 use Rattle.zb_base.specs.Counts.{Rose}
 use Rattle.zb_model.specs.declared.refusal.Refusal.{Refusal}
+use Rattle.zb_model.specs.Stores.{StoreState}
 use Rattle.zb_model.specs.declared.refusal.Refusal.TheVariants as refusal
 use Rattle.zodb_core.specs.declared.reply.Reply.{Reply}
 use Rattle.zodb_core.specs.declared.reply.Reply.TheVariants as reply
@@ -74,3 +75,21 @@ closing_counts before mid now a error.StoreFault ended end none is cause ends co
 -- and one that doesn't
 pub whole_counts : (before mid now : FaultCounts) (a : Answer) (end : Option TurnError) → HasTurnCause before mid a → end ≡ None → IsCountedBy mid now (outcome_of_end end) → HasTurnCause before now a
 whole_counts before mid now a end cause none counts = subst (λ (k : FaultCounts). HasTurnCause before k a) (sym (subst (λ (e : Option TurnError). IsCountedBy mid now (outcome_of_end e)) none counts)) cause
+
+-- where an answer doesn't end the run, and neither does a closing, the store hasn't failed
+goes_whole : (why : Refusal) → end_in why ≡ None → is_store_failed (outcome_of_refusal why) ≡ false
+goes_whole refusal.StoreFault none = absurd cc
+goes_whole refusal.Memory none = absurd cc
+goes_whole refusal.ReadFault none = refl
+goes_whole _ none = refl
+
+answer_whole : (a : Answer) → end_of a ≡ None → is_store_failed (outcome_of_answer a) ≡ false
+answer_whole (answer.Refused why) none = goes_whole why none
+answer_whole _ none = refl
+
+pub stays_whole : (old mid new : StoreState) (a : Answer) (line end : Option TurnError) → line ≡ end_of a → None ≡ line
+    → (old.broken ≡ false → mid.broken ≡ is_store_failed (outcome_of_answer a)) → (mid.broken ≡ false → new.broken ≡ is_store_failed (outcome_of_end end))
+    → end ≡ None → old.broken ≡ false → new.broken ≡ false
+stays_whole old mid new a line end is none first second ended whole =
+    let between : mid.broken ≡ false = first whole ∙ answer_whole a (sym (none ∙ is)) in
+    second between ∙ ap (λ (e : Option TurnError). is_store_failed (outcome_of_end e)) ended

@@ -72,7 +72,7 @@ rolled_agrees number w = rolled_so w number (slice_get w.savepoints number)
 pub record TakesUnvoted (l : Line) : Type 0 where
   pub closed : line_refusal None l ≡ Some refusal.NoTransaction
   pub voted : (t : Changes) → line_refusal (Some t) l ≡ refuse_if t.is_voted refusal.Voted
-  pub asks : (t : Changes) → request_of (Some t) l ≡ None
+  pub asks : (s : seen.Standing) (t : Changes) → request_of s (Some t) l ≡ None
 
 -- which makes this change
 pub record IsChanging (l : Line) (change : Changes → Changed) : Type 0 where
@@ -87,14 +87,15 @@ module _ {R F : Type 0} (rules : Rules) (m : Moment) (at : ℕ) (x y : Client) (
   kept work = client_kept h h x y c mine but mine.may work view between
 
   -- the client with its transaction changed
-  changed : (t : OpenTransaction) (ch : Changes) (w : Work) → InView x.connection t.view mine.told → work_of y.connection ≡ Ok w → ch ≡ changes_kept w → IsClientOf h y (with_changes c t ch)
-  changed t ch w sees works is = record {
+  changed : (t : OpenTransaction) (ch : Changes) (w : Work) → t.framed ≡ false → InView x.connection t.view mine.told → work_of y.connection ≡ Ok w → ch ≡ changes_kept w → IsClientOf h y (with_changes c t ch)
+  changed t ch w near sees works is = record {
     name = mine.name ∙ sym but.name;
     session = mine.session ∙ sym but.session;
+    local = mine.local;
     told = mine.told;
     may = subst (λ l. MayBeTold l h mine.told.told mine.told.known) (sym but.told) mine.may;
-    transaction = subst (λ (wr : Result Work Refusal). IsOpenAs y.connection mine.told wr (Some (record { view = t.view; changes = ch }))) (sym works)
-        (let z : IsWorkOf y.connection mine.told w (record { view = t.view; changes = ch }) = record { changes = is; view = view t.view sees } in z);
+    transaction = subst (λ (wr : Result Work Refusal). IsOpenAs y.connection mine.told wr (Some (record { framed = t.framed; view = t.view; changes = ch }))) (sym works)
+        (let z : IsWorkOf y.connection mine.told w (record { framed = t.framed; view = t.view; changes = ch }) = record { changes = is; near = near; view = view t.view sees } in z);
   }
 
   -- where none is open
@@ -127,12 +128,12 @@ module _ {R F : Type 0} (rules : Rules) (m : Moment) (at : ℕ) (x y : Client) (
   made_to Q change reply w next o agrees (inl (v, ok, works, answers)) made =
       let to : v ≡ with_kept w (change (changes_kept w)).changes = subst (λ (z : Result Work Refusal). AgreesAs w z (change (changes_kept w))) ok agrees in
       let left : (change o.transaction.changes).changes ≡ changes_kept v = ap (λ (ch : Changes). (change ch).changes) o.is.changes ∙ ap changes_kept (sym to) in
-      changes_to Q m at h g x y c (with_changes c o.transaction (change o.transaction.changes).changes) before after takes same ticks (changed o.transaction (change o.transaction.changes).changes v o.is.view works left)
+      changes_to Q m at h g x y c (with_changes c o.transaction (change o.transaction.changes).changes) before after takes same ticks (changed o.transaction (change o.transaction.changes).changes v o.is.near o.is.view works left)
       (made (with_client m at (with_changes c o.transaction (change o.transaction.changes).changes)) (answers ∙ ap (λ (ch : Changes). (change ch).answer) (sym o.is.changes), refl))
   made_to Q change reply w next o agrees (inr (r, err, works, answers)) made =
       let so = subst (λ (z : Result Work Refusal). AgreesAs w z (change (changes_kept w))) err agrees in
       let left : (change o.transaction.changes).changes ≡ changes_kept w = ap (λ (ch : Changes). (change ch).changes) o.is.changes ∙ so.1 in
-      changes_to Q m at h g x y c (with_changes c o.transaction (change o.transaction.changes).changes) before after takes same ticks (changed o.transaction (change o.transaction.changes).changes w o.is.view works left)
+      changes_to Q m at h g x y c (with_changes c o.transaction (change o.transaction.changes).changes) before after takes same ticks (changed o.transaction (change o.transaction.changes).changes w o.is.near o.is.view works left)
       (made (with_client m at (with_changes c o.transaction (change o.transaction.changes).changes)) (answers ∙ sym so.0 ∙ ap (λ (ch : Changes). (change ch).answer) (sym o.is.changes), refl))
 
   same_refusal : {r s : Refusal} → (let z : Result Work Refusal = Err r in z) ≡ Err s → r ≡ s
@@ -193,26 +194,26 @@ module _ {R F : Type 0} (rules : Rules) (m : Moment) (at : ℕ) (x y : Client) (
           by_voted false unvoted =
               next_to (IsLineOpen rules m at c l reply) change reply w (f w) result o works (agrees w) (subst (λ (z : Result Work Refusal). LeavesWork z (work_of x.connection) (work_of y.connection) result) (next false unvoted) leaves)
               (λ z v said ok. done w v z works said ok) refused
-              (λ now change_is. own_open rules m at c l reply now o.transaction o.begun (unvoted_free l w is.unvoted o unvoted) (ap (λ (z : Option OpenTransaction). request_of (option_map (λ (t : OpenTransaction). t.changes) z) l) o.begun ∙ is.unvoted.asks o.transaction.changes)
+              (λ now change_is. own_open rules m at c l reply now o.transaction o.begun (unvoted_free l w is.unvoted o unvoted) (ap (λ (z : Option OpenTransaction). request_of c.standing (option_map (λ (t : OpenTransaction). t.changes) z) l) o.begun ∙ is.unvoted.asks c.standing o.transaction.changes)
               (is.within m at c o.transaction reply now change_is))
               (λ said starved. starved_open rules m at c l reply m starved refl)
 
 -- ---- the lines
 
 pub store_changes : (oid base : ℕ) (bytes : List ℕ) → IsChanging (line.Store oid base bytes) (λ t. lines.stored t (record { oid = oid; base = base; content = Held bytes }))
-store_changes oid base bytes = record { unvoted = record { closed = refl; voted = λ t. refl; asks = λ t. refl }; within = λ m at c t a now change. change }
+store_changes oid base bytes = record { unvoted = record { closed = refl; voted = λ t. refl; asks = λ s t. refl }; within = λ m at c t a now change. change }
 
 pub delete_changes : (oid base : ℕ) → IsChanging (line.Delete oid base) (λ t. lines.deleted t oid base)
-delete_changes oid base = record { unvoted = record { closed = refl; voted = λ t. refl; asks = λ t. refl }; within = λ m at c t a now change. change }
+delete_changes oid base = record { unvoted = record { closed = refl; voted = λ t. refl; asks = λ s t. refl }; within = λ m at c t a now change. change }
 
 pub check_changes : (oid serial : ℕ) → IsChanging (line.Check oid serial) (λ t. lines.checked t (record { oid = oid; serial = serial }))
-check_changes oid serial = record { unvoted = record { closed = refl; voted = λ t. refl; asks = λ t. refl }; within = λ m at c t a now change. change }
+check_changes oid serial = record { unvoted = record { closed = refl; voted = λ t. refl; asks = λ s t. refl }; within = λ m at c t a now change. change }
 
 pub save_changes : IsChanging line.Savepoint lines.saved
-save_changes = record { unvoted = record { closed = refl; voted = λ t. refl; asks = λ t. refl }; within = λ m at c t a now change. change }
+save_changes = record { unvoted = record { closed = refl; voted = λ t. refl; asks = λ s t. refl }; within = λ m at c t a now change. change }
 
 pub roll_changes : (number : ℕ) → IsChanging (line.Rollback number) (λ t. lines.rolled_back t number)
-roll_changes number = record { unvoted = record { closed = refl; voted = λ t. refl; asks = λ t. refl }; within = λ m at c t a now change. change }
+roll_changes number = record { unvoted = record { closed = refl; voted = λ t. refl; asks = λ s t. refl }; within = λ m at c t a now change. change }
 
 store_done : (t : Changes) (p : PendingStore) (w v : Work) (e : Option ℕ) → stored_unless w p e ≡ Ok v → (lines.store_unless t p e).answer ≡ answer.Stored
 store_done t p w v None ok = refl
@@ -250,15 +251,15 @@ all_so w a (Err n) = (refl, refl)
 
 -- a transaction that became another one, or was refused, as a line says
 pub changed_as : (k l : Connection) (told : views.Client) (w : Work) (t : OpenTransaction) (next : Result Work Refusal) (change : Changes → Changed) → IsWorkOf k told w t → InView l t.view told → AgreesAs w next (change (changes_kept w))
-    → ((v : Work) × (next ≡ Ok v) × (work_of l ≡ Ok v)) ⊎ ((r : Refusal) × (next ≡ Err r) × (work_of l ≡ Ok w)) → IsOpenAs l told (work_of l) (Some (record { view = t.view; changes = (change t.changes).changes }))
+    → ((v : Work) × (next ≡ Ok v) × (work_of l ≡ Ok v)) ⊎ ((r : Refusal) × (next ≡ Err r) × (work_of l ≡ Ok w)) → IsOpenAs l told (work_of l) (Some (record { framed = t.framed; view = t.view; changes = (change t.changes).changes }))
 changed_as k l told w t next change is view agrees (inl (v, ok, works)) =
     let to : v ≡ with_kept w (change (changes_kept w)).changes = subst (λ (z : Result Work Refusal). AgreesAs w z (change (changes_kept w))) ok agrees in
-    subst (λ (wr : Result Work Refusal). IsOpenAs l told wr (Some (record { view = t.view; changes = (change t.changes).changes }))) (sym works)
-    (let z : IsWorkOf l told v (record { view = t.view; changes = (change t.changes).changes }) = record { changes = ap (λ (ch : Changes). (change ch).changes) is.changes ∙ ap changes_kept (sym to); view = view } in z)
+    subst (λ (wr : Result Work Refusal). IsOpenAs l told wr (Some (record { framed = t.framed; view = t.view; changes = (change t.changes).changes }))) (sym works)
+    (let z : IsWorkOf l told v (record { framed = t.framed; view = t.view; changes = (change t.changes).changes }) = record { changes = ap (λ (ch : Changes). (change ch).changes) is.changes ∙ ap changes_kept (sym to); near = is.near; view = view } in z)
 changed_as k l told w t next change is view agrees (inr (r, err, works)) =
     let so = subst (λ (z : Result Work Refusal). AgreesAs w z (change (changes_kept w))) err agrees in
-    subst (λ (wr : Result Work Refusal). IsOpenAs l told wr (Some (record { view = t.view; changes = (change t.changes).changes }))) (sym works)
-    (let z : IsWorkOf l told w (record { view = t.view; changes = (change t.changes).changes }) = record { changes = ap (λ (ch : Changes). (change ch).changes) is.changes ∙ so.1; view = view } in z)
+    subst (λ (wr : Result Work Refusal). IsOpenAs l told wr (Some (record { framed = t.framed; view = t.view; changes = (change t.changes).changes }))) (sym works)
+    (let z : IsWorkOf l told w (record { framed = t.framed; view = t.view; changes = (change t.changes).changes }) = record { changes = ap (λ (ch : Changes). (change ch).changes) is.changes ∙ so.1; near = is.near; view = view } in z)
 
 -- a connection that has a transaction
 pub opened_work : (k : Connection) (told : views.Client) (wr : Result Work Refusal) (t : OpenTransaction) → IsOpenAs k told wr (Some t) → (w : Work) × (wr ≡ Ok w) × IsWorkOf k told w t
@@ -266,7 +267,7 @@ opened_work k told (Ok w) t is = (w, refl, is)
 opened_work k told (Err r) t is = absurd is
 
 kept_as : (k l : Connection) (told : views.Client) (w : Work) (t : OpenTransaction) → IsWorkOf k told w t → InView l t.view told → work_of l ≡ Ok w → IsOpenAs l told (work_of l) (Some t)
-kept_as k l told w t is view works = subst (λ (wr : Result Work Refusal). IsOpenAs l told wr (Some t)) (sym works) (let z : IsWorkOf l told w t = record { changes = is.changes; view = view } in z)
+kept_as k l told w t is view works = subst (λ (wr : Result Work Refusal). IsOpenAs l told wr (Some t)) (sym works) (let z : IsWorkOf l told w t = record { changes = is.changes; near = is.near; view = view } in z)
 
 module _ (x y : Client) (a : Answer) (p : PendingStore) (ps : List PendingStore) (but : IsSameBut x y) (view : (u : View) (v : views.Client) → InView x.connection u v → InView y.connection u v) where
   puts_in : (told : views.Client) (t : OpenTransaction) (w : Work) (reply : Answer) (result : Result (Unit {0}) Refusal) (b : Bool) → IsWorkOf x.connection told w t → work_of x.connection ≡ Ok w → w.is_voted ≡ b
@@ -282,7 +283,7 @@ module _ (x y : Client) (a : Answer) (p : PendingStore) (ps : List PendingStore)
         same = but;
         put = inl (
           answers ∙ ap (λ (z : Result Work Refusal). refused_in z) (sym so) ∙ ap (λ (ch : Changed). ch.answer) (sym refused),
-          subst (λ (ch : Changed). IsOpenAs y.connection told (work_of y.connection) (Some (record { view = t.view; changes = ch.changes }))) (sym refused) (kept_as x.connection y.connection told w t is (view t.view told is.view) (stayed ∙ works)),
+          subst (λ (ch : Changed). IsOpenAs y.connection told (work_of y.connection) (Some (record { framed = t.framed; view = t.view; changes = ch.changes }))) (sym refused) (kept_as x.connection y.connection told w t is (view t.view told is.view) (stayed ∙ works)),
         );
       }
     where
@@ -302,12 +303,12 @@ module _ (x y : Client) (a : Answer) (p : PendingStore) (ps : List PendingStore)
       agrees : AgreesAs w (stored_all (p ∷ ps) w) (change (changes_kept w))
       agrees = all_so w a (stores_after w.pending.stores (p ∷ ps))
 
-      put_so : (reply : Answer) → reply ≡ (change (changes_kept w)).answer → IsOpenAs y.connection told (work_of y.connection) (Some (record { view = t.view; changes = (change t.changes).changes })) → IsPutAs x y a (p ∷ ps) reply told t
+      put_so : (reply : Answer) → reply ≡ (change (changes_kept w)).answer → IsOpenAs y.connection told (work_of y.connection) (Some (record { framed = t.framed; view = t.view; changes = (change t.changes).changes })) → IsPutAs x y a (p ∷ ps) reply told t
       put_so reply answers open_as = record {
         same = but;
         put = inl (
           answers ∙ ap (λ (ch : Changes). (change ch).answer) (sym is.changes) ∙ ap (λ (ch : Changed). ch.answer) (sym free),
-          subst (λ (ch : Changed). IsOpenAs y.connection told (work_of y.connection) (Some (record { view = t.view; changes = ch.changes }))) (sym free) open_as,
+          subst (λ (ch : Changed). IsOpenAs y.connection told (work_of y.connection) (Some (record { framed = t.framed; view = t.view; changes = ch.changes }))) (sym free) open_as,
         );
       }
 

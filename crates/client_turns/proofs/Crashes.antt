@@ -1,5 +1,5 @@
 -- What a crash leaves in a step.
-use Rattle.std.proofs.Common.{◌≡◌, inl, inr, ℕ, Bool, true, false, not, List, [], Option, Some, None, Result, Ok, Err, refl, sym, ap, subst, ◌∙◌}
+use Rattle.std.proofs.Common.{Bool, Err, List, None, Ok, Option, Result, Some, [], ap, false, inl, inr, not, refl, subst, sym, true, ℕ, ◌∙◌, ◌≡◌}
 use Rattle.std.specs.Prelude.{slice_get}
 use Rattle.std.specs.Option.{option_map, option_or}
 use Rattle.zb_ids.specs.declared.stamp.Stamp.{Stamp}
@@ -30,12 +30,12 @@ use Rattle.client_turns.specs.declared.client.Client.{Client}
 use Rattle.client_turns.specs.Asking.{plain_request}
 use Rattle.client_turns.specs.Clients.{Changes, Moment, OpenTransaction, changes_of, client_found, client_named, place_of_client}
 use Rattle.client_turns.specs.Clients as clients
-use Rattle.client_turns.specs.Lines.{is_committed, pending_in, request_of}
+use Rattle.client_turns.specs.Lines.{asking_excess, is_committed, is_delivery, pending_in, request_of}
 use Rattle.client_turns.specs.Refusing.{connection_refusal, refusal_within}
 use Rattle.client_turns.specs.Steps.{IsRefusedAt, IsStepAt}
 use Rattle.client_turns.specs.ListLaws.{asked_kept, stepped_kept}
-use Rattle.client_turns.specs.TurnLaws.{IsListBehind, same_request, step_at_left, step_left}
-use Rattle.client_turns.specs.Turns.{IsLine, IsLineOf, IsLineTaken, IsLineUnless, IsStepLine, IsTold}
+use Rattle.client_turns.specs.TurnLaws.{IsListBehind, same_request, step_left, told_list}
+use Rattle.client_turns.specs.Turns.{IsLine, IsLineOf, IsLineTaken, IsLineUnless, IsStepLine, IsStepUnless, fronts_behind}
 use Rattle.client_turns.specs.Standing.{AreClientsOf, ClientsState, IsClientOf, IsEndListOf, IsFinishListOf, IsListAsked, IsListIn, IsListOf, IsListStepped, IsOpenAs, IsStepListOf, StandsForMoment, kept_found, kept_named, packs_list, request_unless}
 use Rattle.client_turns.proofs.Placing.{IsClientAt, client_at, same_place}
 
@@ -48,22 +48,10 @@ before_of stands rules m n q bytes same (inr behind) = subst (stands bytes) same
 
 -- no stamp changes the list that a step leaves
 stamp_free : (rules : Rules) (m : Machine) (n : ℕ) (q : Request) (s t : ℕ) → (step_of rules m n q s).machine.list ≡ (step_of rules m n q t).machine.list
-stamp_free rules m n request.Front s t = refl
-stamp_free rules m n (request.LoadBefore oid front) s t = refl
-stamp_free rules m n (request.NewOids count) s t = refl
 stamp_free rules m n (request.Vote user description extension pending) s t =
     step_left rules m n (request.Vote user description extension pending) s ∙ sym (step_left rules m n (request.Vote user description extension pending) t)
 stamp_free rules m n (request.Undo user description tids) s t = step_left rules m n (request.Undo user description tids) s ∙ sym (step_left rules m n (request.Undo user description tids) t)
-stamp_free rules m n request.Finish s t = refl
-stamp_free rules m n request.Abort s t = refl
-stamp_free rules m n (request.History oid) s t = refl
-stamp_free rules m n request.UndoLog s t = refl
-stamp_free rules m n (request.Pack tid collects) s t = refl
-stamp_free rules m n (request.PackBegin tid collects) s t = refl
-stamp_free rules m n request.PackTurn s t = refl
-stamp_free rules m n request.Last s t = refl
-stamp_free rules m n (request.Since tid changes) s t = refl
-stamp_free rules m n request.Close s t = refl
+stamp_free rules m n _ s t = refl
 
 -- a closed session's step leaves the list
 closed_step : (rules : Rules) (m : Machine) (n : ℕ) (q : Request) → is_open_in m.sessions n ≡ false → (step_of rules m n q 0).machine.list ≡ m.list
@@ -114,25 +102,7 @@ step_and_told P true old mid new step untold told = joined (Leaves Main P) old m
 -- a store that committed hasn't failed
 pub committed_whole : (r : Reply) → is_committed r ≡ true → is_store_failed (outcome_of r) ≡ false
 committed_whole (reply.Committed tid) is = refl
-committed_whole (reply.Front front news switches) is = absurd cc
-committed_whole (reply.Loaded serial bytes end upto) is = absurd cc
-committed_whole (reply.Nothing oid switches) is = absurd cc
-committed_whole (reply.Oids first count) is = absurd cc
-committed_whole reply.Voted is = absurd cc
-committed_whole reply.Empty is = absurd cc
-committed_whole reply.Aborted is = absurd cc
-committed_whole (reply.History list) is = absurd cc
-committed_whole (reply.UndoLog list) is = absurd cc
-committed_whole (reply.Packed stay gone) is = absurd cc
-committed_whole (reply.Packing tid) is = absurd cc
-committed_whole (reply.Marking count) is = absurd cc
-committed_whole (reply.Marked count) is = absurd cc
-committed_whole (reply.Copying count) is = absurd cc
-committed_whole (reply.Copied count) is = absurd cc
-committed_whole (reply.Last tid changes) is = absurd cc
-committed_whole (reply.Since keep commits) is = absurd cc
-committed_whole reply.Closed is = absurd cc
-committed_whole (reply.Refused why) is = absurd cc
+committed_whole _ is = absurd cc
 
 -- ---- by the line, of a client as it is kept
 
@@ -234,30 +204,30 @@ module _ {R F : Type 0} (stands : List ℕ → List Transaction → Type 0) (rul
 
 -- ---- the list behind a line
 
-told_list : (rules : Rules) (b t : Moment) (n : ℕ) (committed : Bool) → IsTold rules committed b n t → t.machine.list ≡ b.machine.list
-told_list rules b t n false told = ap (λ (x : Moment). x.machine.list) told
-told_list rules b t n true told = step_at_left rules b n request.Front told.0 t told.1
-
 module _ (stands : List ℕ → List Transaction → Type 0) (rules : Rules) (m : Moment) (l : Line) (a : Answer) (b : Moment) (bytes : List ℕ) (left : stands bytes b.machine.list) where
   refused_in : (c : Option clients.Client) (why : Refusal) → IsRefusedAt m why a b → IsListAsked stands rules m.machine c l bytes
   refused_in c why refused = asked_kept stands rules m.machine c l bytes (subst (stands bytes) (ap (λ (x : Moment). x.machine.list) refused.1) left)
 
-  behind_step : (at : ℕ) (c : clients.Client) (q : Request) → IsStepLine rules m at c q a b → IsBeforeOrBehind stands rules m.machine c.session q bytes
-  behind_step at c q step =
+  behind_step : (at : ℕ) (c : clients.Client) (d : Bool) (q : Request) → IsStepLine rules m at c d q a b → IsBeforeOrBehind stands rules m.machine c.session q bytes
+  behind_step at c d q step =
       seen_in stands rules m.machine c.session q step.behind.machine.list bytes (step_list rules m c.session q step.reply step.behind step.step)
-      (subst (stands bytes) (ap (λ (x : Moment). x.machine.list) step.left ∙ told_list rules step.behind step.told c.session (is_committed step.reply) step.front) left)
+      (subst (stands bytes) (ap (λ (x : Moment). x.machine.list) step.left ∙ told_list rules step.behind step.told c.session (fronts_behind (is_committed step.reply) c.standing) step.front) left)
+
+  behind_long : (at : ℕ) (c : clients.Client) (d : Bool) (q : Request) (e : Option ℕ) → IsStepUnless rules m at c d q e a b → IsBeforeOrBehind stands rules m.machine c.session q bytes
+  behind_long at c d q None step = behind_step at c d q step
+  behind_long at c d q (Some n) refused = inl (subst (stands bytes) (ap (λ (x : Moment). x.machine.list) refused.1) left)
 
   -- a line that makes a step, which its connection doesn't refuse
-  behind_taken : (at : ℕ) (c : clients.Client) (why : Option Refusal) (q : Request) → request_of (changes_of c) l ≡ Some q → IsLineUnless rules m at c l why a b → IsListStepped stands rules m.machine c.session (request_unless why (Some q)) bytes
+  behind_taken : (at : ℕ) (c : clients.Client) (why : Option Refusal) (q : Request) → request_of c.standing (changes_of c) l ≡ Some q → IsLineUnless rules m at c l why a b → IsListStepped stands rules m.machine c.session (request_unless why (Some q)) bytes
   behind_taken at c (Some why) q asks refused = subst (stands bytes) (ap (λ (x : Moment). x.machine.list) refused.1) left
-  behind_taken at c None q asks taken = behind_step at c q (subst (λ (o : Option Request). IsLineTaken rules m at c l o a b) asks taken)
+  behind_taken at c None q asks taken = behind_long at c (is_delivery l) q (asking_excess c.standing q) (subst (λ (o : Option Request). IsLineTaken rules m at c l o a b) asks taken)
 
-  behind_unless : (at : ℕ) (c : clients.Client) (q : Request) → request_of (changes_of c) l ≡ Some q → IsLineUnless rules m at c l (connection_refusal m.machine c l) a b → IsListAsked stands rules m.machine (Some c) l bytes
+  behind_unless : (at : ℕ) (c : clients.Client) (q : Request) → request_of c.standing (changes_of c) l ≡ Some q → IsLineUnless rules m at c l (connection_refusal m.machine c l) a b → IsListAsked stands rules m.machine (Some c) l bytes
   behind_unless at c q asks line =
       subst (λ (o : Option Request). IsListStepped stands rules m.machine c.session (request_unless (connection_refusal m.machine c l) o) bytes) (sym asks) (behind_taken at c (connection_refusal m.machine c l) q asks line)
 
   -- the line of a client by its name
-  behind_line : (at : Option ℕ) (q : Request) → ((c : clients.Client) → request_of (changes_of c) l ≡ Some q) → IsLineOf rules m at l a b → IsListAsked stands rules m.machine (client_found m.clients at) l bytes
+  behind_line : (at : Option ℕ) (q : Request) → ((c : clients.Client) → request_of c.standing (changes_of c) l ≡ Some q) → IsLineOf rules m at l a b → IsListAsked stands rules m.machine (client_found m.clients at) l bytes
   behind_line None q asks line = refused_in None refusal.NotOpen line
   behind_line (Some at) q asks line =
       subst (λ (c : Option clients.Client). IsListAsked stands rules m.machine c l bytes) (sym line.1) (behind_unless at line.0 q (asks line.0) line.2)
@@ -291,26 +261,16 @@ turn_moments stands rules m b t a old mid new line_only line is closing =
 -- ---- a line that packs
 
 -- no other line asks for a pack
-pub asked_no_pack : (ch : Option Changes) (l : Line) (q : Request) → Some q ≡ request_of ch l → packs_list l ≡ false → is_pack q ≡ false
-asked_no_pack ch line.Open q asks not = absurd cc
-asked_no_pack ch line.Begin q asks not = ap is_pack (same_request q request.Front asks)
-asked_no_pack ch (line.Load oid) q asks not = absurd cc
-asked_no_pack ch (line.Get oid) q asks not = absurd cc
-asked_no_pack ch (line.Store oid base bytes) q asks not = absurd cc
-asked_no_pack ch (line.Put oid bytes) q asks not = absurd cc
-asked_no_pack ch (line.Check oid serial) q asks not = absurd cc
-asked_no_pack ch (line.Delete oid base) q asks not = absurd cc
-asked_no_pack ch line.Savepoint q asks not = absurd cc
-asked_no_pack ch (line.Rollback number) q asks not = absurd cc
-asked_no_pack ch (line.Tree root call) q asks not = absurd cc
-asked_no_pack ch line.New q asks not = ap is_pack (same_request q (request.NewOids 1) asks)
-asked_no_pack ch (line.Vote user description) q asks not = ap is_pack (same_request q (request.Vote user description [] (pending_in ch)) asks)
-asked_no_pack ch (line.Undo user description tids) q asks not = ap is_pack (same_request q (request.Undo user description tids) asks)
-asked_no_pack ch line.Finish q asks not = ap is_pack (same_request q request.Finish asks)
-asked_no_pack ch line.Abort q asks not = ap is_pack (same_request q request.Abort asks)
-asked_no_pack ch (line.History oid) q asks not = ap is_pack (same_request q (request.History oid) asks)
-asked_no_pack ch line.UndoLog q asks not = ap is_pack (same_request q request.UndoLog asks)
-asked_no_pack ch (line.Pack tid collect) q asks not = absurd cc
-asked_no_pack ch (line.PackBegin tid collect) q asks not = absurd cc
-asked_no_pack ch line.PackTurn q asks not = absurd cc
-asked_no_pack ch line.Close q asks not = ap is_pack (same_request q request.Close asks)
+pub asked_no_pack : (s : clients.Standing) (ch : Option Changes) (l : Line) (q : Request) → Some q ≡ request_of s ch l → packs_list l ≡ false → is_pack q ≡ false
+asked_no_pack (clients.Linked known) ch line.Begin q asks not = absurd cc
+asked_no_pack clients.Local ch line.Begin q asks not = ap is_pack (same_request q request.Front asks)
+asked_no_pack s ch line.New q asks not = ap is_pack (same_request q (request.NewOids 1) asks)
+asked_no_pack s ch (line.Vote user description) q asks not = ap is_pack (same_request q (request.Vote user description [] (pending_in ch)) asks)
+asked_no_pack s ch (line.Undo user description tids) q asks not = ap is_pack (same_request q (request.Undo user description tids) asks)
+asked_no_pack s ch line.Finish q asks not = ap is_pack (same_request q request.Finish asks)
+asked_no_pack s ch line.Abort q asks not = ap is_pack (same_request q request.Abort asks)
+asked_no_pack s ch line.Deliver q asks not = ap is_pack (same_request q request.Front asks)
+asked_no_pack s ch (line.History oid) q asks not = ap is_pack (same_request q (request.History oid) asks)
+asked_no_pack s ch line.UndoLog q asks not = ap is_pack (same_request q request.UndoLog asks)
+asked_no_pack s ch line.Close q asks not = ap is_pack (same_request q request.Close asks)
+asked_no_pack s ch _ q asks not = absurd cc

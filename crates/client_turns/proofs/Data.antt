@@ -33,15 +33,15 @@ use Rattle.zodb_core.specs.Outcomes.{EndsFor, FaultCounts, is_pack, outcome_of}
 use Rattle.zodb_core.specs.StepCases.{PackCases, by_pack_step}
 use Rattle.zodb_core.specs.Steps.{Stepped, changes_in_journal, early_refusal, finish_gives, finish_step, journal_limit, replied_refusal, request_step, step_of, transaction_with, unless_early, vote_at, vote_counted, vote_step, with_vote}
 use Rattle.connection_view.specs.Connections.{waiting_read}
-use Rattle.client_turns.specs.Clients.{Changes, Client, Moment, OpenTransaction, changes_of, place_of_client}
+use Rattle.client_turns.specs.Clients.{Changes, Client, Linked, Local, Moment, OpenTransaction, Standing, changes_of, place_of_client}
 use Rattle.client_turns.specs.Laws.{IsHeldBelow, IsReadBelow}
-use Rattle.client_turns.specs.Lines.{answer_of, data_of, object_of, pending_in, put, request_of, rolled_to, store_unless}
+use Rattle.client_turns.specs.Lines.{answer_of, answer_to, asking_excess, data_of, is_delivery, object_of, put, request_of, rolled_to, step_answer, store_unless}
 use Rattle.client_turns.specs.Reads.{EndsReading}
 use Rattle.client_turns.specs.Refusing.{connection_refusal}
 use Rattle.client_turns.specs.DrawLaws.{tree_answer}
 use Rattle.client_turns.specs.Trees.{answer_told}
-use Rattle.client_turns.specs.TurnLaws.{by_name}
-use Rattle.client_turns.specs.Turns.{IsGet, IsLineOf, IsLineTaken, IsLineUnless, IsOpening, IsOwnLine, IsPut, IsStepLine, IsTurn, IsWithin, Opening}
+use Rattle.client_turns.specs.TurnLaws.{by_name, read_current, request_cases, step_cases}
+use Rattle.client_turns.specs.Turns.{IsGet, IsLineOf, IsLineTaken, IsLineUnless, IsOpening, IsOutside, IsOwnLine, IsPut, IsStepLine, IsStepUnless, IsTurn, IsWithin, Opening}
 use Rattle.connection_view.specs.Views.{View, read_as, read_from}
 
 -- ---- no line's request loads
@@ -99,23 +99,16 @@ AsksNoLoad (request.LoadBefore oid front) = ⊥
 AsksNoLoad _ = Unit {0}
 
 request_unread : (rules : Rules) (m : Machine) (n : ℕ) (q : Request) (stamp : ℕ) → AsksNoLoad q → is_pack q ≡ false → Unread (request_step rules m n q stamp)
-request_unread rules m n request.Front stamp not unpacked = refl
 request_unread rules m n (request.LoadBefore oid front) stamp not unpacked = absurd not
-request_unread rules m n (request.NewOids count) stamp not unpacked = refl
 request_unread rules m n (request.Vote user description extension pending) stamp not unpacked =
     vote_unread m n (record { user = user; description = description; extension = extension }) stamp (vote_decision rules.merging m.list pending)
 request_unread rules m n (request.Undo user description tids) stamp not unpacked =
     vote_unread m n (record { user = user; description = description; extension = [] }) stamp _
 request_unread rules m n request.Finish stamp not unpacked = finish_unread m n m.vote
-request_unread rules m n request.Abort stamp not unpacked = refl
-request_unread rules m n (request.History oid) stamp not unpacked = refl
-request_unread rules m n request.UndoLog stamp not unpacked = refl
 request_unread rules m n (request.Pack tid collects) stamp not unpacked = absurd cc
 request_unread rules m n (request.PackBegin tid collects) stamp not unpacked = absurd cc
 request_unread rules m n request.PackTurn stamp not unpacked = absurd cc
-request_unread rules m n request.Last stamp not unpacked = refl
-request_unread rules m n (request.Since tid changes) stamp not unpacked = refl
-request_unread rules m n request.Close stamp not unpacked = refl
+request_unread rules m n _ stamp not unpacked = refl
 
 unless_unread : (early : Option Refusal) (m : Machine) (made : Stepped) → Unread made → Unread (unless_early early m made)
 unless_unread None m made unread = unread
@@ -137,49 +130,10 @@ reply_data : (rules : Rules) (m : Machine) (n : ℕ) (q : Request) (stamp : ℕ)
     → EndsFor rules m n q stamp (record { reply = r; machine = left; ticks = ticks }) a b (outcome_of r) → is_data (answer_of r) ≡ false
 reply_data rules m n q stamp (reply.Loaded serial bytes end upto) left ticks a b not made =
     ap (λ (s : Stepped). is_loaded s.reply) made ∙ step_unread rules m n q stamp not
-reply_data rules m n q stamp (reply.Front front news switches) left ticks a b not made = refl
-reply_data rules m n q stamp (reply.Nothing oid switches) left ticks a b not made = refl
-reply_data rules m n q stamp (reply.Oids first count) left ticks a b not made = refl
-reply_data rules m n q stamp reply.Voted left ticks a b not made = refl
-reply_data rules m n q stamp (reply.Committed tid) left ticks a b not made = refl
-reply_data rules m n q stamp reply.Empty left ticks a b not made = refl
-reply_data rules m n q stamp reply.Aborted left ticks a b not made = refl
-reply_data rules m n q stamp (reply.History list) left ticks a b not made = refl
-reply_data rules m n q stamp (reply.UndoLog list) left ticks a b not made = refl
-reply_data rules m n q stamp (reply.Packed kept dropped) left ticks a b not made = refl
-reply_data rules m n q stamp (reply.Packing tid) left ticks a b not made = refl
-reply_data rules m n q stamp (reply.Marking count) left ticks a b not made = refl
-reply_data rules m n q stamp (reply.Marked count) left ticks a b not made = refl
-reply_data rules m n q stamp (reply.Copying count) left ticks a b not made = refl
-reply_data rules m n q stamp (reply.Copied count) left ticks a b not made = refl
-reply_data rules m n q stamp (reply.Last tid changes) left ticks a b not made = refl
-reply_data rules m n q stamp (reply.Since keep commits) left ticks a b not made = refl
-reply_data rules m n q stamp reply.Closed left ticks a b not made = refl
-reply_data rules m n q stamp (reply.Refused why) left ticks a b not made = refl
+reply_data rules m n q stamp _ left ticks a b not made = refl
 
-pub asks_no_load : (ch : Option Changes) (l : Line) (q : Request) → request_of ch l ≡ Some q → AsksNoLoad q
-asks_no_load ch line.Open q is = absurd cc
-asks_no_load ch line.Begin q is = subst AsksNoLoad (same_Some request.Front q is) tt
-asks_no_load ch (line.Load oid) q is = absurd cc
-asks_no_load ch (line.Get oid) q is = absurd cc
-asks_no_load ch (line.Store oid base bytes) q is = absurd cc
-asks_no_load ch (line.Put oid bytes) q is = absurd cc
-asks_no_load ch (line.Check oid serial) q is = absurd cc
-asks_no_load ch (line.Delete oid base) q is = absurd cc
-asks_no_load ch line.Savepoint q is = absurd cc
-asks_no_load ch (line.Rollback number) q is = absurd cc
-asks_no_load ch (line.Tree root call) q is = absurd cc
-asks_no_load ch line.New q is = subst AsksNoLoad (same_Some (request.NewOids 1) q is) tt
-asks_no_load ch (line.Vote user description) q is = subst AsksNoLoad (same_Some (request.Vote user description [] (pending_in ch)) q is) tt
-asks_no_load ch (line.Undo user description tids) q is = subst AsksNoLoad (same_Some (request.Undo user description tids) q is) tt
-asks_no_load ch line.Finish q is = subst AsksNoLoad (same_Some request.Finish q is) tt
-asks_no_load ch line.Abort q is = subst AsksNoLoad (same_Some request.Abort q is) tt
-asks_no_load ch (line.History oid) q is = subst AsksNoLoad (same_Some (request.History oid) q is) tt
-asks_no_load ch line.UndoLog q is = subst AsksNoLoad (same_Some request.UndoLog q is) tt
-asks_no_load ch (line.Pack tid collect) q is = subst AsksNoLoad (same_Some (request.Pack tid collect) q is) tt
-asks_no_load ch (line.PackBegin tid collect) q is = subst AsksNoLoad (same_Some (request.PackBegin tid collect) q is) tt
-asks_no_load ch line.PackTurn q is = subst AsksNoLoad (same_Some request.PackTurn q is) tt
-asks_no_load ch line.Close q is = subst AsksNoLoad (same_Some request.Close q is) tt
+pub asks_no_load : (s : Standing) (ch : Option Changes) (l : Line) (q : Request) → request_of s ch l ≡ Some q → AsksNoLoad q
+asks_no_load s ch l q is = request_cases AsksNoLoad s ch l q tt tt (λ user description. tt) (λ user description tids. tt) tt tt (λ oid. tt) tt (λ tid collect. tt) (λ tid collect. tt) tt tt is
 
 store_data : (t : Changes) (p : PendingStore) (o : Option ℕ) → is_data (store_unless t p o).answer ≡ false
 store_data t p None = refl
@@ -201,50 +155,14 @@ object_data : (r : Result (ℕ × List ℕ) Refusal) → is_data (object_of r) �
 object_data (Ok got) = refl
 object_data (Err why) = refl
 
-get_data : (m now : Moment) (v : View) (oid : ℕ) (o : Option PendingStore) (a : Answer) → IsGet m v oid o a now → is_data a ≡ false
+get_data : (m now : Moment) (v : OpenTransaction) (oid : ℕ) (o : Option PendingStore) (a : Answer) → IsGet m v oid o a now → is_data a ≡ false
 get_data m now v oid None a is = ap is_data is.2 ∙ object_data is.0
 get_data m now v oid (Some p) a is = ap is_data is.0 ∙ object_data (waiting_read oid p)
 
 put_data : (t : Changes) (oid : ℕ) (bytes : List ℕ) (read : Result (ℕ × List ℕ) Refusal) → is_data (put t oid bytes read).answer ≡ false
 put_data t oid bytes (Ok got) = store_data t (record { oid = oid; base = got.0; content = Held bytes }) (excess_with t.pending.stores (record { oid = oid; base = got.0; content = Held bytes }))
-put_data t oid bytes (Err refusal.TidsSpent) = refl
-put_data t oid bytes (Err refusal.StoreFault) = refl
-put_data t oid bytes (Err (refusal.Conflict a0 a1 a2 a3)) = refl
-put_data t oid bytes (Err (refusal.ReadConflict a0 a1 a2)) = refl
-put_data t oid bytes (Err (refusal.TooLong a0)) = refl
-put_data t oid bytes (Err (refusal.UndoUnknown a0)) = refl
-put_data t oid bytes (Err (refusal.UndoPacked a0)) = refl
-put_data t oid bytes (Err (refusal.UndoConflict a0 a1)) = refl
-put_data t oid bytes (Err (refusal.Overtaken a0 a1)) = refl
-put_data t oid bytes (Err (refusal.Unreadable a0 a1)) = refl
-put_data t oid bytes (Err (refusal.PackedAlready a0)) = refl
 put_data t oid bytes (Err (refusal.Missing a0 false)) = store_data t (record { oid = oid; base = 0; content = Held bytes }) (excess_with t.pending.stores (record { oid = oid; base = 0; content = Held bytes }))
-put_data t oid bytes (Err (refusal.Missing a0 true)) = refl
-put_data t oid bytes (Err refusal.NoTransaction) = refl
-put_data t oid bytes (Err refusal.InTransaction) = refl
-put_data t oid bytes (Err refusal.NotVoted) = refl
-put_data t oid bytes (Err refusal.Voted) = refl
-put_data t oid bytes (Err (refusal.Busy a0)) = refl
-put_data t oid bytes (Err (refusal.PackRunning a0)) = refl
-put_data t oid bytes (Err refusal.OidsSpent) = refl
-put_data t oid bytes (Err (refusal.JournalFull a0)) = refl
-put_data t oid bytes (Err (refusal.TooManySessions a0)) = refl
-put_data t oid bytes (Err refusal.NotOpen) = refl
-put_data t oid bytes (Err (refusal.NoSavepoint a0)) = refl
-put_data t oid bytes (Err (refusal.FrameTooLong a0)) = refl
-put_data t oid bytes (Err refusal.BadMessage) = refl
-put_data t oid bytes (Err refusal.LinkFault) = refl
-put_data t oid bytes (Err refusal.Closed) = refl
-put_data t oid bytes (Err (refusal.Mixed a0)) = refl
-put_data t oid bytes (Err refusal.NoPack) = refl
-put_data t oid bytes (Err (refusal.NotATree a0)) = refl
-put_data t oid bytes (Err (refusal.NodeMissing a0)) = refl
-put_data t oid bytes (Err refusal.BadKey) = refl
-put_data t oid bytes (Err refusal.ReadFault) = refl
-put_data t oid bytes (Err (refusal.NothingToDelete a0 a1)) = refl
-put_data t oid bytes (Err (refusal.Connected a0)) = refl
-put_data t oid bytes (Err refusal.StepsSpent) = refl
-put_data t oid bytes (Err refusal.Memory) = refl
+put_data t oid bytes (Err _) = refl
 
 putting_data : (m now : Moment) (at : ℕ) (c : Client) (t : OpenTransaction) (oid : ℕ) (bytes : List ℕ) (o : Option PendingStore) (a : Answer) → IsPut m at c t oid bytes o a now → is_data a ≡ false
 putting_data m now at c t oid bytes None a is = ap is_data is.3.0 ∙ put_data t.changes oid bytes is.0
@@ -279,10 +197,10 @@ held_is oid front list (Some r) got there is =
       revision = there ∙ ap (λ (x : ObjectRevision). Some x) revision;
     }
 
-below_read : (m : Machine) (v : View) (oid serial : ℕ) (bytes : List ℕ) (a b : FaultCounts) (result : Result (ℕ × List ℕ) Refusal) → EndsReading m v oid a b result → answer.Data serial bytes ≡ data_of result → IsHeldBelow oid v.front v.list serial bytes
-below_read m v oid serial bytes a b (Err why) ends is = absurd cc
-below_read m v oid serial bytes a b (Ok got) ends is =
-    let held : IsHeldBelow oid v.front v.list got.0 got.1 = held_is oid v.front v.list (revision_below oid v.front v.list) got refl ends in
+below_read : (far : Bool) (m : Machine) (v : View) (oid serial : ℕ) (bytes : List ℕ) (a b : FaultCounts) (result : Result (ℕ × List ℕ) Refusal) → EndsReading far m v oid a b result → answer.Data serial bytes ≡ data_of result → IsHeldBelow oid v.front v.list serial bytes
+below_read far m v oid serial bytes a b (Err why) ends is = absurd cc
+below_read far m v oid serial bytes a b (Ok got) ends is =
+    let held : IsHeldBelow oid v.front v.list got.0 got.1 = held_is oid v.front v.list (revision_below oid v.front v.list) got refl (read_current far m v oid a b got ends) in
     let serials : serial ≡ got.0 = ap serial_in is in
     let texts : bytes ≡ got.1 = ap bytes_in is in
     subst (λ (x : ℕ). IsHeldBelow oid v.front v.list x bytes) (sym serials) (subst (λ (x : List ℕ). IsHeldBelow oid v.front v.list got.0 x) (sym texts) held)
@@ -308,34 +226,19 @@ not_data X a is not = absurd cc
 
 within_reads : (m now : Moment) (at : ℕ) (c : Client) (t : OpenTransaction) (l : Line) (serial : ℕ) (bytes : List ℕ) → IsWithin m at c t l (answer.Data serial bytes) now → ReadsWithin t l serial bytes
 within_reads m now at c t (line.Load oid) serial bytes is =
-    record { oid = oid; line = refl; held = below_read m.machine t.view oid serial bytes m.counts now.counts is.0 is.1.ends is.2 }
+    record { oid = oid; line = refl; held = below_read t.framed m.machine t.view oid serial bytes m.counts now.counts is.0 is.1.ends is.2 }
 within_reads m now at c t (line.Get oid) serial bytes is =
-    not_data (ReadsWithin t (line.Get oid) serial bytes) (answer.Data serial bytes) refl (get_data m now t.view oid (pending_of t.changes.pending.stores oid) (answer.Data serial bytes) is)
+    not_data (ReadsWithin t (line.Get oid) serial bytes) (answer.Data serial bytes) refl (get_data m now t oid (pending_of t.changes.pending.stores oid) (answer.Data serial bytes) is)
 within_reads m now at c t (line.Store oid base new) serial bytes is =
     not_data (ReadsWithin t (line.Store oid base new) serial bytes) (answer.Data serial bytes) refl
     (ap is_data is.0 ∙ store_data t.changes (record { oid = oid; base = base; content = Held new }) (excess_with t.changes.pending.stores (record { oid = oid; base = base; content = Held new })))
 within_reads m now at c t (line.Put oid new) serial bytes is =
     not_data (ReadsWithin t (line.Put oid new) serial bytes) (answer.Data serial bytes) refl (putting_data m now at c t oid new (pending_of t.changes.pending.stores oid) (answer.Data serial bytes) is)
-within_reads m now at c t (line.Check oid seen) serial bytes is = not_data (ReadsWithin t (line.Check oid seen) serial bytes) (answer.Data serial bytes) refl (ap is_data is.0)
-within_reads m now at c t (line.Delete oid base) serial bytes is = not_data (ReadsWithin t (line.Delete oid base) serial bytes) (answer.Data serial bytes) refl (ap is_data is.0)
-within_reads m now at c t line.Savepoint serial bytes is = not_data (ReadsWithin t line.Savepoint serial bytes) (answer.Data serial bytes) refl (ap is_data is.0)
 within_reads m now at c t (line.Rollback number) serial bytes is =
     not_data (ReadsWithin t (line.Rollback number) serial bytes) (answer.Data serial bytes) refl (ap is_data is.0 ∙ rolled_data t.changes number (slice_get t.changes.savepoints number))
 within_reads m now at c t (line.Tree root call) serial bytes is =
     not_data (ReadsWithin t (line.Tree root call) serial bytes) (answer.Data serial bytes) refl (tree_answer (λ a. is_data a ≡ false) m at c t root call (answer.Data serial bytes) now told_data (λ why. refl) is)
-within_reads m now at c t line.Open serial bytes is = not_data (ReadsWithin t line.Open serial bytes) (answer.Data serial bytes) refl (ap is_data is.0)
-within_reads m now at c t line.Begin serial bytes is = not_data (ReadsWithin t line.Begin serial bytes) (answer.Data serial bytes) refl (ap is_data is.0)
-within_reads m now at c t line.New serial bytes is = not_data (ReadsWithin t line.New serial bytes) (answer.Data serial bytes) refl (ap is_data is.0)
-within_reads m now at c t (line.Vote user description) serial bytes is = not_data (ReadsWithin t (line.Vote user description) serial bytes) (answer.Data serial bytes) refl (ap is_data is.0)
-within_reads m now at c t (line.Undo user description tids) serial bytes is = not_data (ReadsWithin t (line.Undo user description tids) serial bytes) (answer.Data serial bytes) refl (ap is_data is.0)
-within_reads m now at c t line.Finish serial bytes is = not_data (ReadsWithin t line.Finish serial bytes) (answer.Data serial bytes) refl (ap is_data is.0)
-within_reads m now at c t line.Abort serial bytes is = not_data (ReadsWithin t line.Abort serial bytes) (answer.Data serial bytes) refl (ap is_data is.0)
-within_reads m now at c t (line.History oid) serial bytes is = not_data (ReadsWithin t (line.History oid) serial bytes) (answer.Data serial bytes) refl (ap is_data is.0)
-within_reads m now at c t line.UndoLog serial bytes is = not_data (ReadsWithin t line.UndoLog serial bytes) (answer.Data serial bytes) refl (ap is_data is.0)
-within_reads m now at c t (line.Pack tid collect) serial bytes is = not_data (ReadsWithin t (line.Pack tid collect) serial bytes) (answer.Data serial bytes) refl (ap is_data is.0)
-within_reads m now at c t (line.PackBegin tid collect) serial bytes is = not_data (ReadsWithin t (line.PackBegin tid collect) serial bytes) (answer.Data serial bytes) refl (ap is_data is.0)
-within_reads m now at c t line.PackTurn serial bytes is = not_data (ReadsWithin t line.PackTurn serial bytes) (answer.Data serial bytes) refl (ap is_data is.0)
-within_reads m now at c t line.Close serial bytes is = not_data (ReadsWithin t line.Close serial bytes) (answer.Data serial bytes) refl (ap is_data is.0)
+within_reads m now at c t w serial bytes is = not_data (ReadsWithin t w serial bytes) (answer.Data serial bytes) refl (ap is_data is.0)
 
 -- what a client's line reads
 pub record ReadsAs (c : Client) (l : Line) (serial : ℕ) (bytes : List ℕ) : Type 0 where
@@ -343,22 +246,38 @@ pub record ReadsAs (c : Client) (l : Line) (serial : ℕ) (bytes : List ℕ) : T
   pub begun : c.transaction ≡ Some transaction
   pub reads : ReadsWithin transaction l serial bytes
 
+outside_reads : (m now : Moment) (at : ℕ) (c : Client) (s : Standing) (l : Line) (serial : ℕ) (bytes : List ℕ) → IsOutside m at c s (answer.Data serial bytes) now → ReadsAs c l serial bytes
+outside_reads m now at c Local l serial bytes is = not_data (ReadsAs c l serial bytes) (answer.Data serial bytes) refl (ap is_data is.0)
+outside_reads m now at c (Linked known) l serial bytes is = not_data (ReadsAs c l serial bytes) (answer.Data serial bytes) refl (ap is_data is.0)
+
 own_reads : (m now : Moment) (at : ℕ) (c : Client) (t : Option OpenTransaction) (l : Line) (serial : ℕ) (bytes : List ℕ) → c.transaction ≡ t → IsOwnLine m at c t l (answer.Data serial bytes) now → ReadsAs c l serial bytes
-own_reads m now at c None l serial bytes begun is = not_data (ReadsAs c l serial bytes) (answer.Data serial bytes) refl (ap is_data is.0)
+own_reads m now at c None l serial bytes begun is = outside_reads m now at c c.standing l serial bytes is
 own_reads m now at c (Some t) l serial bytes begun is = record { transaction = t; begun = begun; reads = within_reads m now at c t l serial bytes is }
 
-step_reads : (rules : Rules) (m now : Moment) (at : ℕ) (c : Client) (q : Request) (l : Line) (serial : ℕ) (bytes : List ℕ) → AsksNoLoad q → IsStepLine rules m at c q (answer.Data serial bytes) now → ReadsAs c l serial bytes
-step_reads rules m now at c q l serial bytes not is =
-    not_data (ReadsAs c l serial bytes) (answer.Data serial bytes) refl
-    (ap is_data is.answer ∙ reply_data rules m.machine c.session q is.step.stamp is.reply is.behind.machine is.step.ticks m.counts is.behind.counts not is.step.made.cause)
+delivered_data : (d : Bool) (r : Reply) → is_data (answer_to d r) ≡ is_data (answer_of r)
+delivered_data false r = refl
+delivered_data true (reply.Front front news switches) = refl
+delivered_data true _ = refl
 
-taken_reads : (rules : Rules) (m now : Moment) (at : ℕ) (c : Client) (l : Line) (q : Option Request) (serial : ℕ) (bytes : List ℕ) → request_of (changes_of c) l ≡ q → IsLineTaken rules m at c l q (answer.Data serial bytes) now → ReadsAs c l serial bytes
-taken_reads rules m now at c l (Some q) serial bytes asks is = step_reads rules m now at c q l serial bytes (asks_no_load (changes_of c) l q asks) is
+step_data : (s : Standing) (d : Bool) (r : Reply) → is_data (answer_of r) ≡ false → is_data (step_answer s d r) ≡ false
+step_data s d r not = step_cases (λ a. is_data a ≡ false) s d r (λ n long. refl) (delivered_data d r ∙ not)
+
+step_reads : (rules : Rules) (m now : Moment) (at : ℕ) (c : Client) (d : Bool) (q : Request) (l : Line) (serial : ℕ) (bytes : List ℕ) → AsksNoLoad q → IsStepLine rules m at c d q (answer.Data serial bytes) now → ReadsAs c l serial bytes
+step_reads rules m now at c d q l serial bytes not is =
+    not_data (ReadsAs c l serial bytes) (answer.Data serial bytes) refl
+    (ap is_data is.answer ∙ step_data c.standing d is.reply (reply_data rules m.machine c.session q is.step.stamp is.reply is.behind.machine is.step.ticks m.counts is.behind.counts not is.step.made.cause))
+
+long_reads : (rules : Rules) (m now : Moment) (at : ℕ) (c : Client) (d : Bool) (q : Request) (e : Option ℕ) (l : Line) (serial : ℕ) (bytes : List ℕ) → AsksNoLoad q → IsStepUnless rules m at c d q e (answer.Data serial bytes) now → ReadsAs c l serial bytes
+long_reads rules m now at c d q None l serial bytes not is = step_reads rules m now at c d q l serial bytes not is
+long_reads rules m now at c d q (Some n) l serial bytes not is = not_data (ReadsAs c l serial bytes) (answer.Data serial bytes) refl (ap is_data is.0)
+
+taken_reads : (rules : Rules) (m now : Moment) (at : ℕ) (c : Client) (l : Line) (q : Option Request) (serial : ℕ) (bytes : List ℕ) → request_of c.standing (changes_of c) l ≡ q → IsLineTaken rules m at c l q (answer.Data serial bytes) now → ReadsAs c l serial bytes
+taken_reads rules m now at c l (Some q) serial bytes asks is = long_reads rules m now at c (is_delivery l) q (asking_excess c.standing q) l serial bytes (asks_no_load c.standing (changes_of c) l q asks) is
 taken_reads rules m now at c l None serial bytes asks is = own_reads m now at c c.transaction l serial bytes refl is
 
 unless_reads : (rules : Rules) (m now : Moment) (at : ℕ) (c : Client) (l : Line) (r : Option Refusal) (serial : ℕ) (bytes : List ℕ) → IsLineUnless rules m at c l r (answer.Data serial bytes) now → ReadsAs c l serial bytes
 unless_reads rules m now at c l (Some why) serial bytes is = not_data (ReadsAs c l serial bytes) (answer.Data serial bytes) refl (ap is_data is.0)
-unless_reads rules m now at c l None serial bytes is = taken_reads rules m now at c l (request_of (changes_of c) l) serial bytes refl is
+unless_reads rules m now at c l None serial bytes is = taken_reads rules m now at c l (request_of c.standing (changes_of c) l) serial bytes refl is
 
 read_below_front : (m : Moment) (t : Turn) (at : ℕ) (c : Client) (serial : ℕ) (bytes : List ℕ) → place_of_client t.client m.clients ≡ Some at → slice_get m.clients at ≡ Some c → ReadsAs c t.line serial bytes → IsReadBelow m t serial bytes
 read_below_front m t at c serial bytes place there reads = record {
@@ -374,7 +293,7 @@ line_of_reads rules m now None t serial bytes place is = not_data (IsReadBelow m
 line_of_reads rules m now (Some at) t serial bytes place is =
     read_below_front m t at is.0 serial bytes place is.1 (unless_reads rules m now at is.0 t.line (connection_refusal m.machine is.0 t.line) serial bytes is.2)
 
-opened_data : (m : Moment) (name : List ℕ) (b : Bool) → is_data (if b then (let o : Opening = record { answer = answer.Opened (length m.machine.sessions); moment = record { machine = with_session m.machine; clients = m.clients ++ record { name = name; session = length m.machine.sessions; transaction = None } ∷ []; stamps = m.stamps; counts = m.counts } } in o)
+opened_data : (m : Moment) (name : List ℕ) (b : Bool) → is_data (if b then (let o : Opening = record { answer = answer.Opened (length m.machine.sessions); moment = record { machine = with_session m.machine; clients = m.clients ++ record { name = name; session = length m.machine.sessions; transaction = None; standing = Local } ∷ []; stamps = m.stamps; counts = m.counts } } in o)
     else (let o : Opening = record { answer = answer.Refused (refusal.TooManySessions (length m.machine.sessions)); moment = m } in o)).answer ≡ false
 opened_data m name true = refl
 opened_data m name false = refl

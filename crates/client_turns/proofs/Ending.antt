@@ -26,7 +26,7 @@ use Rattle.zodb_core.specs.Outcomes.{Answered, NoMemory, ReadingFailed, StepOutc
 use Rattle.zodb_core.specs.Steps.{early_refusal, front_step, refuse_if, unless_early}
 use Rattle.connection_view.specs.declared.connection.Connection.{Connection}
 use Rattle.connection_view.specs.Works.{Work}
-use Rattle.connection_view.specs.Connections.{Between, InView, IsCallMade, IsFrontBy, IsNewWork, begin_refusal, changeable, followed_by, unmixed, unvoted_work, waiting_count, work_of}
+use Rattle.connection_view.specs.Connections.{Between, InView, IsCallMade, IsFrontBy, IsNewWork, begin_refusal, changeable, followed_by, unmixed, waiting_count, work_of}
 use Rattle.connection_view.specs.Connections as connections
 use Rattle.connection_view.specs.Loading.{Abort, Finish, Front, LoadsCall, Undo, Vote}
 use Rattle.connection_view.specs.Views.{View, committed, each_object, renewed, stored_in, unvoted, view_of, voting}
@@ -38,10 +38,10 @@ use Rattle.local_loads.specs.Local.{LocalState, MayBeTold}
 use Rattle.local_loads.specs.LocalLaws.{kept_behind, view_whole}
 use Rattle.local_loads.specs.Making.{IsFinishStep, IsFrontBehind, IsFrontStep, IsHubStep, IsLocalCall, IsOneStep, IsStarved}
 use Rattle.client_turns.specs.declared.client.Client.{Client}
-use Rattle.client_turns.specs.Asking.{answered, begun_as, finished_as}
+use Rattle.client_turns.specs.Asking.{answered, begun_as, delivered_with, finished_as}
 use Rattle.client_turns.specs.Clients.{Changes, Moment, OpenTransaction, begun, changes_of, no_changes, with_client}
 use Rattle.client_turns.specs.Clients as seen
-use Rattle.client_turns.specs.Lines.{answer_of, as_voted, client_left, is_committed, request_of}
+use Rattle.client_turns.specs.Lines.{answer_of, answer_to, as_voted, begin_request, client_left, is_committed, is_delivery, request_of}
 use Rattle.client_turns.specs.Refusing.{line_refusal, mixed}
 use Rattle.client_turns.specs.Standing.{IsClientOf, IsLineOpen, IsOpenAs, IsWorkOf, MayTakeAt, OneLeadsTo, changes_kept}
 use Rattle.client_turns.specs.Steps.{IsStepAt}
@@ -49,7 +49,7 @@ use Rattle.client_turns.specs.Turns.{IsStepLine}
 use Rattle.client_turns.specs.Views.{server_of}
 use Rattle.client_turns.proofs.Hubs.{open_whole}
 use Rattle.client_turns.proofs.Asked.{IsOpened, MayStand, end_of_client, none_of, opened_of}
-use Rattle.client_turns.proofs.One.{BehindIt, StepsTo, client_kept, front_behind, refused_open, starved_open, stays, step_alone, step_one, step_open, steps_to, within_on, writes_on}
+use Rattle.client_turns.proofs.One.{BehindIt, StepsTo, client_kept, front_behind, not_closed, opened_to, refused_open, starved_open, stays, step_alone, step_one, step_open, steps_to, within_on, writes_on}
 use Rattle.client_turns.proofs.Served.{Fits, fits_at}
 
 -- ---- answers, by the replies
@@ -109,8 +109,8 @@ rules_same {R} {F} rules named old new resolver refs =
 taken_refusal : (l : Line) (c : seen.Client) (o : Option OpenTransaction) → c.transaction ≡ o → line_refusal (changes_of c) l ≡ line_refusal (option_map (λ (t : OpenTransaction). t.changes) o) l
 taken_refusal l c o is = ap (λ (z : Option OpenTransaction). line_refusal (option_map (λ (t : OpenTransaction). t.changes) z) l) is
 
-taken_request : (l : Line) (c : seen.Client) (o : Option OpenTransaction) → c.transaction ≡ o → request_of (changes_of c) l ≡ request_of (option_map (λ (t : OpenTransaction). t.changes) o) l
-taken_request l c o is = ap (λ (z : Option OpenTransaction). request_of (option_map (λ (t : OpenTransaction). t.changes) z) l) is
+taken_request : (l : Line) (c : seen.Client) (o : Option OpenTransaction) → c.transaction ≡ o → request_of c.standing (changes_of c) l ≡ request_of c.standing (option_map (λ (t : OpenTransaction). t.changes) o) l
+taken_request l c o is = ap (λ (z : Option OpenTransaction). request_of c.standing (option_map (λ (t : OpenTransaction). t.changes) z) l) is
 
 never_zero : (n : ℕ) → (suc n == 0) ≡ false
 never_zero n = eqb-suc-zero n
@@ -158,24 +158,26 @@ module _ {R F S : Type 0} (told lasts : Type 0) (stands : List ℕ → List Tran
 
   -- the client with its open transaction, for what it may have been told by now
   open_client : (hub : HubState R F) (w v : Work) (o : IsOpened x.connection mine.told w c) (k : views.Client) (ch : Changes) → MayBeTold y.told hub k.told k.known → InView y.connection o.transaction.view k → work_of y.connection ≡ Ok v → ch ≡ changes_kept v
-      → IsClientOf hub y (record c { transaction = Some (record { view = o.transaction.view; changes = ch }) })
+      → IsClientOf hub y (record c { transaction = Some (record { framed = o.transaction.framed; view = o.transaction.view; changes = ch }) })
   open_client hub w v o k ch be view works is = record {
     name = mine.name ∙ sym name;
     session = mine.session ∙ sym session;
+    local = mine.local;
     told = k;
     may = be;
-    transaction = subst (λ (wr : Result Work Refusal). IsOpenAs y.connection k wr (Some (record { view = o.transaction.view; changes = ch }))) (sym works)
-        (let z : IsWorkOf y.connection k v (record { view = o.transaction.view; changes = ch }) = record { changes = is; view = view } in z);
+    transaction = subst (λ (wr : Result Work Refusal). IsOpenAs y.connection k wr (Some (record { framed = o.transaction.framed; view = o.transaction.view; changes = ch }))) (sym works)
+        (let z : IsWorkOf y.connection k v (record { framed = o.transaction.framed; view = o.transaction.view; changes = ch }) = record { changes = is; near = o.is.near; view = view } in z);
   }
 
   same_opened : (hub : HubState R F) (w : Work) (o : IsOpened x.connection mine.told w c) (k : views.Client) → MayBeTold y.told hub k.told k.known → InView y.connection o.transaction.view k → work_of y.connection ≡ Ok w → IsClientOf hub y c
   same_opened hub w o k be view works = record {
     name = mine.name ∙ sym name;
     session = mine.session ∙ sym session;
+    local = mine.local;
     told = k;
     may = be;
     transaction = subst (λ (z : Option OpenTransaction). IsOpenAs y.connection k (work_of y.connection) z) (sym o.begun) (subst (λ (wr : Result Work Refusal). IsOpenAs y.connection k wr (Some o.transaction)) (sym works)
-        (let z : IsWorkOf y.connection k w o.transaction = record { changes = o.is.changes; view = view } in z));
+        (let z : IsWorkOf y.connection k w o.transaction = record { changes = o.is.changes; near = o.is.near; view = view } in z));
   }
 
   -- the client without one
@@ -183,6 +185,7 @@ module _ {R F S : Type 0} (told lasts : Type 0) (stands : List ℕ → List Tran
   closed_client hub k be none works = record {
     name = mine.name ∙ sym name;
     session = mine.session ∙ sym session;
+    local = mine.local;
     told = k;
     may = be;
     transaction = subst (λ (wr : Result Work Refusal). IsOpenAs y.connection k wr None) (sym works) (refl, none);
@@ -198,7 +201,7 @@ module _ {R F S : Type 0} (told lasts : Type 0) (stands : List ℕ → List Tran
     pub voted : OnOk result (work_of y.connection ≡ Ok (record w { is_voted = true }))
     pub err : OnErr result (work_of y.connection ≡ Ok w)
 
-  voted_client : (n : Machine) (w : Work) (o : IsOpened x.connection mine.told w c) (result : Result (Unit {0}) Refusal) (r : Reply) → LeavesVote w o result → FitsVoted r → result ≡ vote_answer r → IsClientOf g y (client_left n c r)
+  voted_client : (n : Machine) (w : Work) (o : IsOpened x.connection mine.told w c) (result : Result (Unit {0}) Refusal) (r : Reply) → LeavesVote w o result → FitsVoted r → result ≡ vote_answer r → IsClientOf g y (client_left false n c r)
   voted_client n w o result reply.Voted left fits is =
       let works : work_of y.connection ≡ Ok (record w { is_voted = true }) = subst (λ (z : Result (Unit {0}) Refusal). OnOk z (work_of y.connection ≡ Ok (record w { is_voted = true }))) is left.voted in
       subst (λ (z : Option OpenTransaction). IsClientOf g y (record c { transaction = option_map as_voted z })) (sym o.begun)
@@ -209,21 +212,21 @@ module _ {R F S : Type 0} (told lasts : Type 0) (stands : List ℕ → List Tran
 
   -- it was asked of the hub, or there was no memory for it
   voted_by : (l : Line) (q : Request) (result : Result (Unit {0}) Refusal) (w : Work) (o : IsOpened x.connection mine.told w c) (given : Answer) → LeavesVote w o result → ((r : Reply) → Fits r q → FitsVoted r)
-      → line_refusal (changes_of c) l ≡ None → request_of (changes_of c) l ≡ Some q → given ≡ answered result answer.Voted
+      → is_delivery l ≡ false → line_refusal (changes_of c) l ≡ None → request_of c.standing (changes_of c) l ≡ Some q → given ≡ answered result answer.Voted
       → IsStarved (end_of_client h before x) (end_of_client g after y) result ⊎ IsOneStep (IsHubStep told lasts stands rules_in named_in x.session) q vote_answer (end_of_client h before x) (end_of_client g after y) result
       → OneLeadsTo (IsLineOpen (rules_of rules_in named_in h) m at c l given) m at h g y after
-  voted_by l q result w o given left fit free asks answers (inl (nothing, starved)) =
+  voted_by l q result w o given left fit plainly free asks answers (inl (nothing, starved)) =
       let gone : g ≡ h = ap (λ (z : LocalState R F). z.hub) nothing in
       stays _ m at h g x y c before after takes gone (ap (λ (z : LocalState R F). z.stamps) nothing)
       (subst (λ (hub : HubState R F). IsClientOf hub y c) gone (same_opened g w o left.told_as left.be.1 left.view (subst (λ (z : Result (Unit {0}) Refusal). OnErr z (work_of y.connection ≡ Ok w)) starved left.err)))
       (starved_open (rules_of rules_in named_in h) m at c l given m (answers ∙ ap (λ (z : Result (Unit {0}) Refusal). answered z answer.Voted) starved) refl)
-  voted_by l q result w o given left fit free asks answers (inr one) =
+  voted_by l q result w o given left fit plainly free asks answers (inr one) =
       let s : StepsTo (rules_of rules_in named_in h) m x.session q one.reply g after = steps_to told lasts stands rules_in named_in tells m x.session q one.reply h g before after one.step takes.stands.hub takes.stands.counts takes.stands.stamps in
       let fits : FitsVoted one.reply = fit one.reply (fits_at (rules_of rules_in named_in h) m x.session q one.reply s.now s.holds) in
-      step_alone told lasts stands rules_in named_in tells _ m at x y c q one.reply given h g before after takes one.step s (vote_uncommitted one.reply fits)
+      step_alone told lasts stands rules_in named_in tells _ m at x y c false q one.reply given h g before after takes one.step s (vote_uncommitted one.reply fits)
       (vote_told one.reply given fits (answers ∙ ap (λ (z : Result (Unit {0}) Refusal). answered z answer.Voted) one.answer))
       (voted_client s.now.machine w o result one.reply left fits one.answer)
-      (λ is. step_open (rules_of rules_in named_in h) m at c l given _ q free asks is)
+      (λ is. step_open (rules_of rules_in named_in h) m at c l given _ q mine.local free asks (subst (λ (d : Bool). IsStepLine (rules_of rules_in named_in h) m at c d q given (with_client s.now at (client_left false s.now.machine c one.reply))) (sym plainly) is))
 
   on_err : {T : Type 0} {P : Type 0} (result : Result T Refusal) (r : Refusal) → result ≡ Err r → OnErr result P → P
   on_err {T} {P} result r is err = subst (λ (z : Result T Refusal). OnErr z P) is err
@@ -279,12 +282,12 @@ module _ {R F S : Type 0} (told lasts : Type 0) (stands : List ℕ → List Tran
                 err = err_with result (λ e. e ∙ works) err;
               }
 
-              asks : request_of (changes_of c) (line.Vote user description) ≡ Some q
+              asks : request_of c.standing (changes_of c) (line.Vote user description) ≡ Some q
               asks = taken_request (line.Vote user description) c (Some o.transaction) o.begun ∙ ap (λ (ch : Changes). let z : Option Request = Some (request.Vote user description [] ch.pending) in z) o.is.changes
 
               by_call : IsCallMade makes a b (Vote user description w.pending.stores w.pending.checks result) result → OneLeadsTo (IsLineOpen (rules_of rules_in named_in h) m at c (line.Vote user description) given) m at h g y after
-              by_call (inl call) = voted_by (line.Vote user description) q result w o given left (of_vote user description [] (record { stores = w.pending.stores; checks = w.pending.checks })) (refuses false is) asks answers (calls (Vote user description w.pending.stores w.pending.checks result) call)
-              by_call (inr (nothing, starved)) = voted_by (line.Vote user description) q result w o given left (of_vote user description [] (record { stores = w.pending.stores; checks = w.pending.checks })) (refuses false is) asks answers (inl (same nothing, starved))
+              by_call (inl call) = voted_by (line.Vote user description) q result w o given left (of_vote user description [] (record { stores = w.pending.stores; checks = w.pending.checks })) refl (refuses false is) asks answers (calls (Vote user description w.pending.stores w.pending.checks result) call)
+              by_call (inr (nothing, starved)) = voted_by (line.Vote user description) q result w o given left (of_vote user description [] (record { stores = w.pending.stores; checks = w.pending.checks })) refl (refuses false is) asks answers (inl (same nothing, starved))
 
   -- `undo`
   pub undo_leads : (user description : List ℕ) (tids : List ℕ) (result : Result (Unit {0}) Refusal) → OnOk result ((w : Work) → work_of x.connection ≡ Ok w → work_of y.connection ≡ Ok (record w { is_voted = true })) → OnErr result (work_of y.connection ≡ work_of x.connection)
@@ -334,7 +337,7 @@ module _ {R F S : Type 0} (told lasts : Type 0) (stands : List ℕ → List Tran
                   let ok : IsOk (followed_by (changeable (work_of x.connection)) unmixed) = subst IsOk (sym (free ∙ alone)) refl in
                   let seen_by = view o.transaction.view mine.told ok may o.is.view in
                   let left : LeavesVote w o result = record { told_as = voting each_object mine.told; be = seen_by.0; view = seen_by.1; voted = ok_with result (λ f. f w works) voted; err = err_with result (λ e. e ∙ works) err } in
-                  voted_by (line.Undo user description tids) (request.Undo user description tids) result w o given left (of_undo user description tids) (refuses false is ∙ ap (λ (k : ℕ). refuse_if (nat_lt 0 k) (refusal.Mixed k)) count)
+                  voted_by (line.Undo user description tids) (request.Undo user description tids) result w o given left (of_undo user description tids) refl (refuses false is ∙ ap (λ (k : ℕ). refuse_if (nat_lt 0 k) (refusal.Mixed k)) count)
                   (taken_request (line.Undo user description tids) c (Some o.transaction) o.begun) answers (calls (Undo user description tids result) (made ok))
 
   -- ---- an abort
@@ -365,10 +368,10 @@ module _ {R F S : Type 0} (told lasts : Type 0) (stands : List ℕ → List Tran
           s = steps_to told lasts stands rules_in named_in tells m x.session request.Abort one.reply h g before after one.step takes.stands.hub takes.stands.counts takes.stands.stamps
 
           done : (r : Reply) → IsHubStep told lasts stands rules_in named_in x.session request.Abort r h g before after → (s : StepsTo (rules_of rules_in named_in h) m x.session request.Abort r g after) → is_committed r ≡ false → given ≡ answer_of r
-              → IsClientOf g y (client_left s.now.machine c r) → OneLeadsTo (IsLineOpen (rules_of rules_in named_in h) m at c line.Abort given) m at h g y after
+              → IsClientOf g y (client_left false s.now.machine c r) → OneLeadsTo (IsLineOpen (rules_of rules_in named_in h) m at c line.Abort given) m at h g y after
           done r step s uncommitted told_so client =
-              step_alone told lasts stands rules_in named_in tells _ m at x y c request.Abort r given h g before after takes step s uncommitted told_so client
-              (λ is. step_open (rules_of rules_in named_in h) m at c line.Abort given _ request.Abort (taken_refusal line.Abort c (Some o.transaction) o.begun) (taken_request line.Abort c (Some o.transaction) o.begun) is)
+              step_alone told lasts stands rules_in named_in tells _ m at x y c false request.Abort r given h g before after takes step s uncommitted told_so client
+              (λ is. step_open (rules_of rules_in named_in h) m at c line.Abort given _ request.Abort mine.local (taken_refusal line.Abort c (Some o.transaction) o.begun) (taken_request line.Abort c (Some o.transaction) o.begun) is)
 
           by_reply : (r : Reply) → IsHubStep told lasts stands rules_in named_in x.session request.Abort r h g before after → (s : StepsTo (rules_of rules_in named_in h) m x.session request.Abort r g after) → Fits r request.Abort → result ≡ abort_answer r
               → OneLeadsTo (IsLineOpen (rules_of rules_in named_in h) m at c line.Abort given) m at h g y after
@@ -408,19 +411,19 @@ module _ {R F S : Type 0} (told lasts : Type 0) (stands : List ℕ → List Tran
           s : StepsTo (rules_of rules_in named_in h) m x.session request.Finish one.reply one.behind one.left
           s = steps_to told lasts stands rules_in named_in tells m x.session request.Finish one.reply h one.behind before one.left one.step takes.stands.hub takes.stands.counts takes.stands.stamps
 
-          taken : (a' : Answer) (now : Moment) → IsStepLine (rules_of rules_in named_in h) m at c request.Finish a' now → IsLineOpen (rules_of rules_in named_in h) m at c line.Finish a' now
-          taken a' now is = step_open (rules_of rules_in named_in h) m at c line.Finish a' now request.Finish (taken_refusal line.Finish c (Some o.transaction) o.begun) (taken_request line.Finish c (Some o.transaction) o.begun) is
+          taken : (a' : Answer) (now : Moment) → IsStepLine (rules_of rules_in named_in h) m at c false request.Finish a' now → IsLineOpen (rules_of rules_in named_in h) m at c line.Finish a' now
+          taken a' now is = step_open (rules_of rules_in named_in h) m at c line.Finish a' now request.Finish mine.local (taken_refusal line.Finish c (Some o.transaction) o.begun) (taken_request line.Finish c (Some o.transaction) o.begun) is
 
           -- nothing was committed, and no front followed
           alone : (r : Reply) → IsHubStep told lasts stands rules_in named_in x.session request.Finish r h one.behind before one.left → g ≡ one.behind → after ≡ one.left → is_committed r ≡ false → given ≡ answer_of r
-              → ((n : Machine) → IsHubStep told lasts stands rules_in named_in x.session request.Finish r h g before after → IsClientOf g y (client_left n c r)) → OneLeadsTo (IsLineOpen (rules_of rules_in named_in h) m at c line.Finish given) m at h g y after
+              → ((n : Machine) → IsHubStep told lasts stands rules_in named_in x.session request.Finish r h g before after → IsClientOf g y (client_left false n c r)) → OneLeadsTo (IsLineOpen (rules_of rules_in named_in h) m at c line.Finish given) m at h g y after
           alone r step none still uncommitted told_so client =
               let here : IsHubStep told lasts stands rules_in named_in x.session request.Finish r h g before after =
               subst (λ (z : HubState R F). IsHubStep told lasts stands rules_in named_in x.session request.Finish r h z before after) (sym none)
               (subst (λ (z : Option (List Stamp)). IsHubStep told lasts stands rules_in named_in x.session request.Finish r h one.behind before z) (sym still) step) in
               let to : StepsTo (rules_of rules_in named_in h) m x.session request.Finish r g after =
               steps_to told lasts stands rules_in named_in tells m x.session request.Finish r h g before after here takes.stands.hub takes.stands.counts takes.stands.stamps in
-              step_alone told lasts stands rules_in named_in tells _ m at x y c request.Finish r given h g before after takes here to uncommitted told_so (client to.now.machine here) (λ is. taken given _ is)
+              step_alone told lasts stands rules_in named_in tells _ m at x y c false request.Finish r given h g before after takes here to uncommitted told_so (client to.now.machine here) (λ is. taken given _ is)
 
           by_reply : (r : Reply) → IsHubStep told lasts stands rules_in named_in x.session request.Finish r h one.behind before one.left → IsFrontBehind (IsHubStep told lasts stands rules_in named_in x.session) (local_answers.is_committed r) one.behind g one.left after
               → (s : StepsTo (rules_of rules_in named_in h) m x.session request.Finish r one.behind one.left) → Fits r request.Finish → result ≡ finish_answer r → OneLeadsTo (IsLineOpen (rules_of rules_in named_in h) m at c line.Finish given) m at h g y after
@@ -474,10 +477,10 @@ module _ {R F S : Type 0} (told lasts : Type 0) (stands : List ℕ → List Tran
           s = steps_to told lasts stands rules_in named_in tells m x.session request.Front front.reply h g before after front.step takes.stands.hub takes.stands.counts takes.stands.stamps
 
           done : (r : Reply) → IsHubStep told lasts stands rules_in named_in x.session request.Front r h g before after → (s : StepsTo (rules_of rules_in named_in h) m x.session request.Front r g after) → is_committed r ≡ false → given ≡ answer_of r
-              → IsClientOf g y (client_left s.now.machine c r) → OneLeadsTo (IsLineOpen (rules_of rules_in named_in h) m at c line.Begin given) m at h g y after
+              → IsClientOf g y (client_left false s.now.machine c r) → OneLeadsTo (IsLineOpen (rules_of rules_in named_in h) m at c line.Begin given) m at h g y after
           done r step s uncommitted told_so client =
-              step_alone told lasts stands rules_in named_in tells _ m at x y c request.Front r given h g before after takes step s uncommitted told_so client
-              (λ is. step_open (rules_of rules_in named_in h) m at c line.Begin given _ request.Front (taken_refusal line.Begin c None none.1) (taken_request line.Begin c None none.1) is)
+              step_alone told lasts stands rules_in named_in tells _ m at x y c false request.Front r given h g before after takes step s uncommitted told_so client
+              (λ is. step_open (rules_of rules_in named_in h) m at c line.Begin given _ request.Front mine.local (taken_refusal line.Begin c None none.1) (taken_request line.Begin c None none.1 ∙ ap begin_request mine.local) is)
 
           new_changes : (w : Work) (front : ℕ) → IsNewWork front w → no_changes ≡ changes_kept w
           new_changes w front new =
@@ -497,13 +500,62 @@ module _ {R F S : Type 0} (told lasts : Type 0) (stands : List ℕ → List Tran
               let client : IsClientOf g y (record c { transaction = Some (begun (view_of (server_of s.now.machine))) }) = record {
                 name = mine.name ∙ sym name;
                 session = mine.session ∙ sym session;
+                local = mine.local;
                 told = renewed fresh mine.told;
                 may = stays_so.1;
                 transaction = subst (λ (wr : Result Work Refusal). IsOpenAs y.connection (renewed fresh mine.told) wr (Some (begun (view_of (server_of s.now.machine))))) (sym work.1)
-                    (let z : IsWorkOf y.connection (renewed fresh mine.told) work.0 (begun (view_of (server_of s.now.machine))) = record { changes = new_changes work.0 number work.2; view = subst (λ (v : View). InView y.connection v (renewed fresh mine.told)) now_is sees } in z);
+                    (let z : IsWorkOf y.connection (renewed fresh mine.told) work.0 (begun (view_of (server_of s.now.machine))) = record { changes = new_changes work.0 number work.2; near = refl; view = subst (λ (v : View). InView y.connection v (renewed fresh mine.told)) now_is sees } in z);
               } in
               done (reply.Front number news switches) step s refl (answers ∙ ap begun_as is) client
           by_reply (reply.Refused why) step s last fits is =
               done (reply.Refused why) step s refl (answers ∙ ap begun_as is ∙ handed why fits)
               (as_it_was g last (kept_behind told lasts stands rules_in named_in x.session request.Front (reply.Refused why) h g before after tells step x.told mine.told.told mine.told.known mine.may) (on_err result (server_refusal why) is err))
           by_reply _ step s last fits is = absurd fits
+
+  -- ---- a delivery
+
+  -- `deliver`: the client is told, and what it has open stays
+  pub deliver_leads : (result : Result ℕ Refusal)
+      → OnOk result ((u : View) (v : views.Client) → MayStand told h x v → InView x.connection u v → InView y.connection u (renewed (view_of (local.server_of h)) v))
+      → OnOk result ((v : views.Client) → MayStand told h x v → Between x.connection v → Between y.connection (renewed (view_of (local.server_of h)) v))
+      → OnOk result ((v : views.Client) → MayStand told h x v → MayStand told g y (renewed (view_of (local.server_of h)) v))
+      → ((work_of x.connection ≡ Err refusal.NotOpen → ⊥) → IsFrontBy makes a b result) → work_of y.connection ≡ work_of x.connection → OnErr result (y.connection ≡ x.connection)
+      → (given : Answer) → given ≡ delivered_with result → OneLeadsTo (IsLineOpen (rules_of rules_in named_in h) m at c line.Deliver given) m at h g y after
+  deliver_leads result view between be made work err given answers = by_reply front.reply front.step s front.last (fits_at (rules_of rules_in named_in h) m x.session request.Front front.reply s.now s.holds) (told_by.2 ∙ ap connections.front_answer front.answer)
+    where
+      told_by : IsFrontBy makes a b result
+      told_by = made (not_closed x.connection mine.told (work_of x.connection) c.transaction mine.transaction)
+
+      front : IsFrontStep (IsHubStep told lasts stands rules_in named_in x.session) (end_of_client h before x) (end_of_client g after y) told_by.0
+      front = calls (Front told_by.0) told_by.1
+
+      s : StepsTo (rules_of rules_in named_in h) m x.session request.Front front.reply g after
+      s = steps_to told lasts stands rules_in named_in tells m x.session request.Front front.reply h g before after front.step takes.stands.hub takes.stands.counts takes.stands.stamps
+
+      done : (r : Reply) → IsHubStep told lasts stands rules_in named_in x.session request.Front r h g before after → (s : StepsTo (rules_of rules_in named_in h) m x.session request.Front r g after) → is_committed r ≡ false → given ≡ answer_to true r
+          → IsClientOf g y c → OneLeadsTo (IsLineOpen (rules_of rules_in named_in h) m at c line.Deliver given) m at h g y after
+      done r step s uncommitted told_so client =
+          step_alone told lasts stands rules_in named_in tells _ m at x y c true request.Front r given h g before after takes step s uncommitted told_so client
+          (λ is. step_open (rules_of rules_in named_in h) m at c line.Deliver given _ request.Front mine.local refl refl is)
+
+      by_reply : (r : Reply) → IsHubStep told lasts stands rules_in named_in x.session request.Front r h g before after → (s : StepsTo (rules_of rules_in named_in h) m x.session request.Front r g after) → y.told ≡ told_after x.told r → Fits r request.Front
+          → result ≡ connections.front_answer (front_answer x.told r) → OneLeadsTo (IsLineOpen (rules_of rules_in named_in h) m at c line.Deliver given) m at h g y after
+      by_reply (reply.Front number news switches) step s last fits is =
+          let fresh : View = view_of (local.server_of h) in
+          let sees = subst (λ (z : Result ℕ Refusal). OnOk z ((u : View) (v : views.Client) → MayStand told h x v → InView x.connection u v → InView y.connection u (renewed (view_of (local.server_of h)) v))) is view in
+          let waits = subst (λ (z : Result ℕ Refusal). OnOk z ((v : views.Client) → MayStand told h x v → Between x.connection v → Between y.connection (renewed (view_of (local.server_of h)) v))) is between in
+          let stays_so = subst (λ (z : Result ℕ Refusal). OnOk z ((v : views.Client) → MayStand told h x v → MayStand told g y (renewed (view_of (local.server_of h)) v))) is be mine.told may in
+          let client : IsClientOf g y c = record {
+            name = mine.name ∙ sym name;
+            session = mine.session ∙ sym session;
+            local = mine.local;
+            told = renewed fresh mine.told;
+            may = stays_so.1;
+            transaction = subst (λ (wr : Result Work Refusal). IsOpenAs y.connection (renewed fresh mine.told) wr c.transaction) (sym work)
+                (opened_to x.connection y.connection mine.told (renewed fresh mine.told) (λ u seen. sees u mine.told may seen) (λ none. waits mine.told may none) (work_of x.connection) c.transaction mine.transaction);
+          } in
+          done (reply.Front number news switches) step s refl (answers ∙ ap delivered_with is) client
+      by_reply (reply.Refused why) step s last fits is =
+          done (reply.Refused why) step s refl (answers ∙ ap delivered_with is ∙ handed why fits)
+          (as_it_was g last (kept_behind told lasts stands rules_in named_in x.session request.Front (reply.Refused why) h g before after tells step x.told mine.told.told mine.told.known mine.may) (on_err result (server_refusal why) is err))
+      by_reply _ step s last fits is = absurd fits

@@ -1,5 +1,5 @@
 -- Turns keep a moment sound, and its list only grows and is packed.
-use Rattle.std.proofs.Common.{◌≡◌, ℕ, zero, suc, Bool, true, false, List, [], ◌∷◌, ◌++◌, length, ◌<◌, Option, Some, None, Result, Ok, Err, if◌then◌else◌, nat_lt, ◌+◌, refl, sym, ap, subst, ◌∙◌, arith, inl, inr}
+use Rattle.std.proofs.Common.{Bool, Err, List, None, Ok, Option, Result, Some, [], ap, arith, false, if◌then◌else◌, inl, inr, length, nat_lt, refl, subst, suc, sym, true, zero, ℕ, ◌++◌, ◌+◌, ◌<◌, ◌∙◌, ◌∷◌, ◌≡◌}
 use Rattle.std.specs.Prelude.{All, IfSome, nat_eq, slice_get, slice_set, take}
 use Rattle.std.specs.List.{AllByRecursion, IsDistinct}
 use Rattle.std.specs.Option.{option_map}
@@ -30,16 +30,15 @@ use Rattle.zodb_core.specs.Machine.{Machine, Rules, with_session}
 use Rattle.zodb_core.specs.Outcomes.{machine_left, outcome_of}
 use Rattle.zodb_core.specs.Sound.{AreWellFormedStores, GoesOnTo, IsWellFormedRequest, IsSoundMachine, moved, unmoved}
 use Rattle.zodb_core.specs.SoundLaws.{comes_twice, grows_not, grows_to, grows_twice, left_goes_on, left_sound, opened_sound, sound_later}
-use Rattle.client_turns.specs.Clients.{Changes, Client, Moment, OpenTransaction, changes_of, place_of_client}
-use Rattle.client_turns.specs.Laws.{AreFormed, Follows, IsFormedClient, IsFormedPending, IsSoundMoment}
-use Rattle.client_turns.specs.Lines.{Changed, checked, client_left, deleted, is_committed, outcome_of_result, put, request_of, rolled_back, rolled_to, saved, store_unless, stored, transaction_left, with_changes}
+use Rattle.client_turns.specs.Clients.{Changes, Client, Linked, Local, Moment, OpenTransaction, Standing, changes_of, place_of_client}
+use Rattle.client_turns.specs.Laws.{AreFormed, Follows, IsFormedPending, IsLocal, IsSoundClient, IsSoundMoment}
+use Rattle.client_turns.specs.Lines.{Changed, asking_excess, checked, client_left, client_told, deleted, is_committed, is_delivery, outcome_of_result, pending_in, put, request_of, rolled_back, rolled_to, saved, standing_behind, store_unless, stored, transaction_left, with_changes}
 use Rattle.client_turns.specs.Refusing.{IsFittingLine, connection_refusal}
 use Rattle.client_turns.specs.DrawLaws.{LeavesCall, call_leaves}
 use Rattle.client_turns.specs.Trees.{CallEnds, IsRaised, IsTreeEnd, IsTreeLine, all_stored, answer_told, operation_of, puts_stored, stores_put}
-use Rattle.client_turns.specs.TurnLaws.{by_name, own_raised}
+use Rattle.client_turns.specs.TurnLaws.{by_name, own_raised, request_cases}
 use Rattle.client_turns.specs.Steps.{IsChange, IsStepAt}
-use Rattle.client_turns.specs.Turns.{IsAnswered, IsClosed, IsClosing, IsGet, IsLine, IsLineOf, IsLineTaken, IsLineUnless, IsOpening, IsOwnLine, IsPut, IsStepLine, IsTold, IsWithin, Opening}
-use Rattle.connection_view.specs.Views.{View}
+use Rattle.client_turns.specs.Turns.{IsAnswered, IsClosed, IsClosing, IsGet, IsLine, IsLineOf, IsLineTaken, IsLineUnless, IsOpening, IsOutside, IsOwnLine, IsPut, IsStepLine, IsStepUnless, IsTold, IsWithin, Opening, fronts_behind}
 
 -- ---- machines that steps lead to
 
@@ -70,9 +69,11 @@ step_follows rules m n q r now sound formed step =
       greatest = left_greatest rules m.machine n q step.stamp (outcome_of r);
     })
 
-told_follows : (rules : Rules) (b t : Moment) (n : ℕ) (committed : Bool) → IsSoundMachine b.machine → IsTold rules committed b n t → Follows b.machine t.machine
-told_follows rules b t n false sound told = follows_as b.machine t.machine sound (ap (λ (x : Moment). x.machine) told)
-told_follows rules b t n true sound told = step_follows rules b n request.Front told.0 t sound tt told.1
+told_follows : (rules : Rules) (b t : Moment) (n count : ℕ) → IsSoundMachine b.machine → IsTold rules count b n t → Follows b.machine t.machine
+told_follows rules b t n zero sound told = follows_as b.machine t.machine sound (ap (λ (x : Moment). x.machine) told)
+told_follows rules b t n (suc count) sound (r, next, step, rest) =
+    let first : Follows b.machine next.machine = step_follows rules b n request.Front r next sound tt step in
+    follows_twice b.machine next.machine t.machine first (told_follows rules next t n count first.sound rest)
 
 opened_follows : (m : Machine) → IsSoundMachine m → Follows m (with_session m)
 opened_follows m sound = record { sound = opened_sound m sound; comes = unmoved; switches = omega arith; grows = λ _. grows_not m.list; greatest = omega arith }
@@ -97,20 +98,7 @@ left_formed m t (reply.Committed tid) formed = tt
 left_formed m t reply.Empty formed = tt
 left_formed m t reply.Aborted formed = tt
 left_formed m t reply.Closed formed = tt
-left_formed m t (reply.Loaded serial bytes end upto) formed = formed
-left_formed m t (reply.Nothing oid switches) formed = formed
-left_formed m t (reply.Oids first count) formed = formed
-left_formed m t (reply.History list) formed = formed
-left_formed m t (reply.UndoLog list) formed = formed
-left_formed m t (reply.Packed kept dropped) formed = formed
-left_formed m t (reply.Packing tid) formed = formed
-left_formed m t (reply.Marking count) formed = formed
-left_formed m t (reply.Marked count) formed = formed
-left_formed m t (reply.Copying count) formed = formed
-left_formed m t (reply.Copied count) formed = formed
-left_formed m t (reply.Last tid changes) formed = formed
-left_formed m t (reply.Since keep commits) formed = formed
-left_formed m t (reply.Refused why) formed = formed
+left_formed m t _ formed = formed
 
 stored_formed : (t : Changes) (p : PendingStore) (o : Option ℕ) → IsRecord p.content → AreFormed t → AreFormed (store_unless t p o).changes
 stored_formed t p None some formed = (pending_formed t.pending.stores p formed.0 some, formed.1)
@@ -118,44 +106,8 @@ stored_formed t p (Some n) some formed = formed
 
 put_formed : (t : Changes) (oid : ℕ) (bytes : List ℕ) (read : Result (ℕ × List ℕ) Refusal) → 0 < length bytes → AreFormed t → AreFormed (put t oid bytes read).changes
 put_formed t oid bytes (Ok got) some formed = stored_formed t (record { oid = oid; base = got.0; content = Held bytes }) (excess_with t.pending.stores (record { oid = oid; base = got.0; content = Held bytes })) some formed
-put_formed t oid bytes (Err refusal.TidsSpent) some formed = formed
-put_formed t oid bytes (Err refusal.StoreFault) some formed = formed
-put_formed t oid bytes (Err (refusal.Conflict a0 a1 a2 a3)) some formed = formed
-put_formed t oid bytes (Err (refusal.ReadConflict a0 a1 a2)) some formed = formed
-put_formed t oid bytes (Err (refusal.TooLong a0)) some formed = formed
-put_formed t oid bytes (Err (refusal.UndoUnknown a0)) some formed = formed
-put_formed t oid bytes (Err (refusal.UndoPacked a0)) some formed = formed
-put_formed t oid bytes (Err (refusal.UndoConflict a0 a1)) some formed = formed
-put_formed t oid bytes (Err (refusal.Overtaken a0 a1)) some formed = formed
-put_formed t oid bytes (Err (refusal.Unreadable a0 a1)) some formed = formed
-put_formed t oid bytes (Err (refusal.PackedAlready a0)) some formed = formed
 put_formed t oid bytes (Err (refusal.Missing a0 false)) some formed = stored_formed t (record { oid = oid; base = 0; content = Held bytes }) (excess_with t.pending.stores (record { oid = oid; base = 0; content = Held bytes })) some formed
-put_formed t oid bytes (Err (refusal.Missing a0 true)) some formed = formed
-put_formed t oid bytes (Err refusal.NoTransaction) some formed = formed
-put_formed t oid bytes (Err refusal.InTransaction) some formed = formed
-put_formed t oid bytes (Err refusal.NotVoted) some formed = formed
-put_formed t oid bytes (Err refusal.Voted) some formed = formed
-put_formed t oid bytes (Err (refusal.Busy a0)) some formed = formed
-put_formed t oid bytes (Err (refusal.PackRunning a0)) some formed = formed
-put_formed t oid bytes (Err refusal.OidsSpent) some formed = formed
-put_formed t oid bytes (Err (refusal.JournalFull a0)) some formed = formed
-put_formed t oid bytes (Err (refusal.TooManySessions a0)) some formed = formed
-put_formed t oid bytes (Err refusal.NotOpen) some formed = formed
-put_formed t oid bytes (Err (refusal.NoSavepoint a0)) some formed = formed
-put_formed t oid bytes (Err (refusal.FrameTooLong a0)) some formed = formed
-put_formed t oid bytes (Err refusal.BadMessage) some formed = formed
-put_formed t oid bytes (Err refusal.LinkFault) some formed = formed
-put_formed t oid bytes (Err refusal.Closed) some formed = formed
-put_formed t oid bytes (Err (refusal.Mixed a0)) some formed = formed
-put_formed t oid bytes (Err refusal.NoPack) some formed = formed
-put_formed t oid bytes (Err (refusal.NotATree a0)) some formed = formed
-put_formed t oid bytes (Err (refusal.NodeMissing a0)) some formed = formed
-put_formed t oid bytes (Err refusal.BadKey) some formed = formed
-put_formed t oid bytes (Err refusal.ReadFault) some formed = formed
-put_formed t oid bytes (Err (refusal.NothingToDelete a0 a1)) some formed = formed
-put_formed t oid bytes (Err (refusal.Connected a0)) some formed = formed
-put_formed t oid bytes (Err refusal.StepsSpent) some formed = formed
-put_formed t oid bytes (Err refusal.Memory) some formed = formed
+put_formed t oid bytes (Err _) some formed = formed
 
 -- what waited at savepoints
 saved_formed : (t : Changes) → AreFormed t → AreFormed (saved t).changes
@@ -218,14 +170,14 @@ put_bytes : (m : Moment) (n : ℕ) (t : OpenTransaction) (root : ℕ) (op : Tree
 put_bytes m n t root op (Ok made) now ends = ends.filled
 put_bytes m n t root op (Err why) now ends = tt
 
-set_formed : (cs : List Client) (at : ℕ) (c : Client) → AllByRecursion IsFormedClient cs → IsFormedClient c → AllByRecursion IsFormedClient (slice_set cs at c)
+set_formed : (cs : List Client) (at : ℕ) (c : Client) → AllByRecursion IsSoundClient cs → IsSoundClient c → AllByRecursion IsSoundClient (slice_set cs at c)
 set_formed [] at c all formed = tt
 set_formed (d ∷ cs) zero c all formed = (formed, all.1)
 set_formed (d ∷ cs) (suc at) c all formed = (all.0, set_formed cs at c all.1 formed)
 
-at_formed : (cs : List Client) (at : ℕ) (c : Client) → AllByRecursion IsFormedClient cs → slice_get cs at ≡ Some c → IsFormedClient c
+pub at_formed : (cs : List Client) (at : ℕ) (c : Client) → AllByRecursion IsSoundClient cs → slice_get cs at ≡ Some c → IsSoundClient c
 at_formed [] at c all there = absurd cc
-at_formed (d ∷ cs) zero c all there = subst IsFormedClient (same_client d c there) all.0
+at_formed (d ∷ cs) zero c all there = subst IsSoundClient (same_client d c there) all.0
   where
     same_client : (a b : Client) → Some a ≡ Some b → a ≡ b
     same_client a b e = cc
@@ -235,43 +187,26 @@ same_request : (a b : Request) → Some a ≡ Some b → a ≡ b
 same_request a b e = cc
 
 -- the request of a line
-asked_formed : (ch : Option Changes) (l : Line) (q : Request) → IfSome ch AreFormed → request_of ch l ≡ Some q → IsWellFormedRequest q
-asked_formed ch line.Open q formed is = absurd cc
-asked_formed ch line.Begin q formed is = subst IsWellFormedRequest (same_request request.Front q is) tt
-asked_formed ch (line.Load oid) q formed is = absurd cc
-asked_formed ch (line.Get oid) q formed is = absurd cc
-asked_formed ch (line.Store oid base bytes) q formed is = absurd cc
-asked_formed ch (line.Put oid bytes) q formed is = absurd cc
-asked_formed ch (line.Check oid serial) q formed is = absurd cc
-asked_formed ch (line.Delete oid base) q formed is = absurd cc
-asked_formed ch line.Savepoint q formed is = absurd cc
-asked_formed ch (line.Rollback number) q formed is = absurd cc
-asked_formed ch (line.Tree root call) q formed is = absurd cc
-asked_formed ch line.New q formed is = subst IsWellFormedRequest (same_request (request.NewOids 1) q is) tt
-asked_formed ch (line.Undo user description tids) q formed is = subst IsWellFormedRequest (same_request (request.Undo user description tids) q is) tt
-asked_formed ch line.Finish q formed is = subst IsWellFormedRequest (same_request request.Finish q is) tt
-asked_formed ch line.Abort q formed is = subst IsWellFormedRequest (same_request request.Abort q is) tt
-asked_formed ch (line.History oid) q formed is = subst IsWellFormedRequest (same_request (request.History oid) q is) tt
-asked_formed ch line.UndoLog q formed is = subst IsWellFormedRequest (same_request request.UndoLog q is) tt
-asked_formed ch (line.Pack tid collect) q formed is = subst IsWellFormedRequest (same_request (request.Pack tid collect) q is) tt
-asked_formed ch (line.PackBegin tid collect) q formed is = subst IsWellFormedRequest (same_request (request.PackBegin tid collect) q is) tt
-asked_formed ch line.PackTurn q formed is = subst IsWellFormedRequest (same_request request.PackTurn q is) tt
-asked_formed ch line.Close q formed is = subst IsWellFormedRequest (same_request request.Close q is) tt
-asked_formed None (line.Vote user description) q formed is = subst IsWellFormedRequest (same_request (request.Vote user description [] (record { stores = []; checks = [] })) q is) none_formed
-asked_formed (Some t) (line.Vote user description) q formed is = subst IsWellFormedRequest (same_request (request.Vote user description [] t.pending) q is) formed.0
+asked_formed : (s : Standing) (ch : Option Changes) (l : Line) (q : Request) → IfSome ch AreFormed → request_of s ch l ≡ Some q → IsWellFormedRequest q
+asked_formed s ch l q formed is =
+    request_cases IsWellFormedRequest s ch l q tt tt (λ user description. waiting_formed ch formed) (λ user description tids. tt) tt tt (λ oid. tt) tt (λ tid collect. tt) (λ tid collect. tt) tt tt is
+  where
+    waiting_formed : (ch : Option Changes) → IfSome ch AreFormed → AreWellFormedStores (pending_in ch).stores
+    waiting_formed None formed = none_formed
+    waiting_formed (Some t) formed = formed.0
 
 -- ---- lines
 
 -- a moment that a sound one led to
 pub record FollowsMoment (m now : Moment) : Type 0 where
   pub machine : Follows m.machine now.machine
-  pub formed : AllByRecursion IsFormedClient now.clients
+  pub formed : AllByRecursion IsSoundClient now.clients
 
 pub moment_follows : (m now : Moment) → IsSoundMoment m → now ≡ m → FollowsMoment m now
 moment_follows m now sound is = subst (FollowsMoment m) (sym is) (record { machine = follows_same m.machine sound.machine; formed = sound.formed })
 
 -- the clients stay, or the one at a place has other changes
-same_clients : (m now : Moment) → Follows m.machine now.machine → AllByRecursion IsFormedClient now.clients → FollowsMoment m now
+same_clients : (m now : Moment) → Follows m.machine now.machine → AllByRecursion IsSoundClient now.clients → FollowsMoment m now
 same_clients m now follows formed = record { machine = follows; formed = formed }
 
 -- a machine with a greatest number that isn't lower
@@ -284,101 +219,105 @@ raised_follows m now sound raised = subst (Follows m) (sym raised.is) (record {
   greatest = raised.up;
 })
 
-change_formed : (m now : Moment) (at : ℕ) (c : Client) (t : OpenTransaction) (w : Changed) (a : Answer) → AllByRecursion IsFormedClient m.clients → AreFormed w.changes → IsChange m at c t w a now → AllByRecursion IsFormedClient now.clients
-change_formed m now at c t w a all formed is =
-    subst (AllByRecursion IsFormedClient) (sym (ap (λ (x : Moment). x.clients) is.1)) (set_formed m.clients at (with_changes c t w.changes) all formed)
+change_formed : (m now : Moment) (at : ℕ) (c : Client) (t : OpenTransaction) (w : Changed) (a : Answer) → AllByRecursion IsSoundClient m.clients → IsLocal c → AreFormed w.changes → IsChange m at c t w a now → AllByRecursion IsSoundClient now.clients
+change_formed m now at c t w a all near formed is =
+    subst (AllByRecursion IsSoundClient) (sym (ap (λ (x : Moment). x.clients) is.1)) (set_formed m.clients at (with_changes c t w.changes) all (formed, near))
 
-get_formed : (m now : Moment) (v : View) (oid : ℕ) (o : Option PendingStore) (a : Answer) → AllByRecursion IsFormedClient m.clients → IsGet m v oid o a now → AllByRecursion IsFormedClient now.clients
-get_formed m now v oid None a all is = subst (AllByRecursion IsFormedClient) (sym (ap (λ (x : Moment). x.clients) is.1.rest)) all
-get_formed m now v oid (Some p) a all is = subst (AllByRecursion IsFormedClient) (sym (ap (λ (x : Moment). x.clients) is.1)) all
+get_formed : (m now : Moment) (v : OpenTransaction) (oid : ℕ) (o : Option PendingStore) (a : Answer) → AllByRecursion IsSoundClient m.clients → IsGet m v oid o a now → AllByRecursion IsSoundClient now.clients
+get_formed m now v oid None a all is = subst (AllByRecursion IsSoundClient) (sym (ap (λ (x : Moment). x.clients) is.1.rest)) all
+get_formed m now v oid (Some p) a all is = subst (AllByRecursion IsSoundClient) (sym (ap (λ (x : Moment). x.clients) is.1)) all
 
-putting_formed : (m now : Moment) (at : ℕ) (c : Client) (t : OpenTransaction) (oid : ℕ) (bytes : List ℕ) (o : Option PendingStore) (a : Answer) → AllByRecursion IsFormedClient m.clients → AreFormed t.changes
-    → 0 < length bytes → IsPut m at c t oid bytes o a now → AllByRecursion IsFormedClient now.clients
-putting_formed m now at c t oid bytes None a all formed some is =
-    change_formed is.1 now at c t (put t.changes oid bytes is.0) a (subst (AllByRecursion IsFormedClient) (sym (ap (λ (x : Moment). x.clients) is.2.rest)) all) (put_formed t.changes oid bytes is.0 some formed) is.3
-putting_formed m now at c t oid bytes (Some p) a all formed some is =
-    change_formed m now at c t (stored t.changes (record { oid = oid; base = p.base; content = Held bytes })) a all
+putting_formed : (m now : Moment) (at : ℕ) (c : Client) (t : OpenTransaction) (oid : ℕ) (bytes : List ℕ) (o : Option PendingStore) (a : Answer) → AllByRecursion IsSoundClient m.clients → IsLocal c → AreFormed t.changes
+    → 0 < length bytes → IsPut m at c t oid bytes o a now → AllByRecursion IsSoundClient now.clients
+putting_formed m now at c t oid bytes None a all near formed some is =
+    change_formed is.1 now at c t (put t.changes oid bytes is.0) a (subst (AllByRecursion IsSoundClient) (sym (ap (λ (x : Moment). x.clients) is.2.rest)) all) near (put_formed t.changes oid bytes is.0 some formed) is.3
+putting_formed m now at c t oid bytes (Some p) a all near formed some is =
+    change_formed m now at c t (stored t.changes (record { oid = oid; base = p.base; content = Held bytes })) a all near
     (stored_formed t.changes (record { oid = oid; base = p.base; content = Held bytes }) (excess_with t.changes.pending.stores (record { oid = oid; base = p.base; content = Held bytes })) some formed) is
 
-tree_end_formed : (b now : Moment) (at : ℕ) (c : Client) (t : OpenTransaction) (result : Result Made Refusal) (a : Answer) → AllByRecursion IsFormedClient b.clients → AreFormed t.changes → HasPutBytes result → IsTreeEnd b at c t result a now
-    → AllByRecursion IsFormedClient now.clients
-tree_end_formed b now at c t (Ok made) a all formed some (inl change) =
-    change_formed b now at c t (all_stored t.changes (answer_told made.answer) (stores_put made.puts)) a all
+tree_end_formed : (b now : Moment) (at : ℕ) (c : Client) (t : OpenTransaction) (result : Result Made Refusal) (a : Answer) → AllByRecursion IsSoundClient b.clients → IsLocal c → AreFormed t.changes → HasPutBytes result → IsTreeEnd b at c t result a now
+    → AllByRecursion IsSoundClient now.clients
+tree_end_formed b now at c t (Ok made) a all near formed some (inl change) =
+    change_formed b now at c t (all_stored t.changes (answer_told made.answer) (stores_put made.puts)) a all near
     (all_formed t.changes (answer_told made.answer) (stores_put made.puts) (records_put made.puts (recursion_from_All (λ (p : TreePut). 0 < length p.bytes) made.puts some)) formed) change
-tree_end_formed b now at c t (Ok made) a all formed some (inr starved) = subst (AllByRecursion IsFormedClient) (sym (ap (λ (x : Moment). x.clients) starved.1)) all
-tree_end_formed b now at c t (Err why) a all formed some refused = subst (AllByRecursion IsFormedClient) (sym (ap (λ (x : Moment). x.clients) refused.1)) all
+tree_end_formed b now at c t (Ok made) a all near formed some (inr starved) = subst (AllByRecursion IsSoundClient) (sym (ap (λ (x : Moment). x.clients) starved.1)) all
+tree_end_formed b now at c t (Err why) a all near formed some refused = subst (AllByRecursion IsSoundClient) (sym (ap (λ (x : Moment). x.clients) refused.1)) all
 
-tree_formed : (m now : Moment) (at : ℕ) (c : Client) (t : OpenTransaction) (root : ℕ) (call : TreeCall) (a : Answer) → AllByRecursion IsFormedClient m.clients → AreFormed t.changes → IsTreeLine m at c t root call a now
-    → AllByRecursion IsFormedClient now.clients
-tree_formed m now at c t root call a all formed is =
+tree_formed : (m now : Moment) (at : ℕ) (c : Client) (t : OpenTransaction) (root : ℕ) (call : TreeCall) (a : Answer) → AllByRecursion IsSoundClient m.clients → IsLocal c → AreFormed t.changes → IsTreeLine m at c t root call a now
+    → AllByRecursion IsSoundClient now.clients
+tree_formed m now at c t root call a all near formed is =
     let leaves : LeavesCall m (outcome_of_result is.result) is.behind = call_leaves m c.session t root (operation_of call) is.result is.behind is.ends in
-    tree_end_formed is.behind now at c t is.result a (subst (AllByRecursion IsFormedClient) (sym leaves.clients) all) formed (put_bytes m c.session t root (operation_of call) is.result is.behind is.ends) is.end
+    tree_end_formed is.behind now at c t is.result a (subst (AllByRecursion IsSoundClient) (sym leaves.clients) all) near formed (put_bytes m c.session t root (operation_of call) is.result is.behind is.ends) is.end
 
-within_formed : (m now : Moment) (at : ℕ) (c : Client) (t : OpenTransaction) (l : Line) (a : Answer) → AllByRecursion IsFormedClient m.clients → AreFormed t.changes → IsFittingLine l → IsWithin m at c t l a now → AllByRecursion IsFormedClient now.clients
-within_formed m now at c t (line.Load oid) a all formed fits is = subst (AllByRecursion IsFormedClient) (sym (ap (λ (x : Moment). x.clients) is.1.rest)) all
-within_formed m now at c t (line.Get oid) a all formed fits is = get_formed m now t.view oid (pending_of t.changes.pending.stores oid) a all is
-within_formed m now at c t (line.Store oid base bytes) a all formed fits is =
-    change_formed m now at c t (stored t.changes (record { oid = oid; base = base; content = Held bytes })) a all
+within_formed : (m now : Moment) (at : ℕ) (c : Client) (t : OpenTransaction) (l : Line) (a : Answer) → AllByRecursion IsSoundClient m.clients → IsLocal c → AreFormed t.changes → IsFittingLine l → IsWithin m at c t l a now → AllByRecursion IsSoundClient now.clients
+within_formed m now at c t (line.Load oid) a all near formed fits is = subst (AllByRecursion IsSoundClient) (sym (ap (λ (x : Moment). x.clients) is.1.rest)) all
+within_formed m now at c t (line.Get oid) a all near formed fits is = get_formed m now t oid (pending_of t.changes.pending.stores oid) a all is
+within_formed m now at c t (line.Store oid base bytes) a all near formed fits is =
+    change_formed m now at c t (stored t.changes (record { oid = oid; base = base; content = Held bytes })) a all near
     (stored_formed t.changes (record { oid = oid; base = base; content = Held bytes }) (excess_with t.changes.pending.stores (record { oid = oid; base = base; content = Held bytes })) fits formed) is
-within_formed m now at c t (line.Put oid bytes) a all formed fits is = putting_formed m now at c t oid bytes (pending_of t.changes.pending.stores oid) a all formed fits is
-within_formed m now at c t (line.Check oid serial) a all formed fits is = change_formed m now at c t (checked t.changes (record { oid = oid; serial = serial })) a all formed is
-within_formed m now at c t (line.Delete oid base) a all formed fits is = change_formed m now at c t (deleted t.changes oid base) a all (pending_formed t.changes.pending.stores (record { oid = oid; base = base; content = Absent }) formed.0 tt, formed.1) is
-within_formed m now at c t line.Savepoint a all formed fits is = change_formed m now at c t (saved t.changes) a all (saved_formed t.changes formed) is
-within_formed m now at c t (line.Rollback number) a all formed fits is = change_formed m now at c t (rolled_back t.changes number) a all (rolled_formed t.changes number formed) is
-within_formed m now at c t (line.Tree root call) a all formed fits is = tree_formed m now at c t root call a all formed is
-within_formed m now at c t line.Open a all formed fits is = subst (AllByRecursion IsFormedClient) (sym (ap (λ (x : Moment). x.clients) is.1)) all
-within_formed m now at c t line.Begin a all formed fits is = subst (AllByRecursion IsFormedClient) (sym (ap (λ (x : Moment). x.clients) is.1)) all
-within_formed m now at c t line.New a all formed fits is = subst (AllByRecursion IsFormedClient) (sym (ap (λ (x : Moment). x.clients) is.1)) all
-within_formed m now at c t (line.Vote user description) a all formed fits is = subst (AllByRecursion IsFormedClient) (sym (ap (λ (x : Moment). x.clients) is.1)) all
-within_formed m now at c t (line.Undo user description tids) a all formed fits is = subst (AllByRecursion IsFormedClient) (sym (ap (λ (x : Moment). x.clients) is.1)) all
-within_formed m now at c t line.Finish a all formed fits is = subst (AllByRecursion IsFormedClient) (sym (ap (λ (x : Moment). x.clients) is.1)) all
-within_formed m now at c t line.Abort a all formed fits is = subst (AllByRecursion IsFormedClient) (sym (ap (λ (x : Moment). x.clients) is.1)) all
-within_formed m now at c t (line.History oid) a all formed fits is = subst (AllByRecursion IsFormedClient) (sym (ap (λ (x : Moment). x.clients) is.1)) all
-within_formed m now at c t line.UndoLog a all formed fits is = subst (AllByRecursion IsFormedClient) (sym (ap (λ (x : Moment). x.clients) is.1)) all
-within_formed m now at c t (line.Pack tid collect) a all formed fits is = subst (AllByRecursion IsFormedClient) (sym (ap (λ (x : Moment). x.clients) is.1)) all
-within_formed m now at c t (line.PackBegin tid collect) a all formed fits is = subst (AllByRecursion IsFormedClient) (sym (ap (λ (x : Moment). x.clients) is.1)) all
-within_formed m now at c t line.PackTurn a all formed fits is = subst (AllByRecursion IsFormedClient) (sym (ap (λ (x : Moment). x.clients) is.1)) all
-within_formed m now at c t line.Close a all formed fits is = subst (AllByRecursion IsFormedClient) (sym (ap (λ (x : Moment). x.clients) is.1)) all
+within_formed m now at c t (line.Put oid bytes) a all near formed fits is = putting_formed m now at c t oid bytes (pending_of t.changes.pending.stores oid) a all near formed fits is
+within_formed m now at c t (line.Check oid serial) a all near formed fits is = change_formed m now at c t (checked t.changes (record { oid = oid; serial = serial })) a all near formed is
+within_formed m now at c t (line.Delete oid base) a all near formed fits is = change_formed m now at c t (deleted t.changes oid base) a all near (pending_formed t.changes.pending.stores (record { oid = oid; base = base; content = Absent }) formed.0 tt, formed.1) is
+within_formed m now at c t line.Savepoint a all near formed fits is = change_formed m now at c t (saved t.changes) a all near (saved_formed t.changes formed) is
+within_formed m now at c t (line.Rollback number) a all near formed fits is = change_formed m now at c t (rolled_back t.changes number) a all near (rolled_formed t.changes number formed) is
+within_formed m now at c t (line.Tree root call) a all near formed fits is = tree_formed m now at c t root call a all near formed is
+within_formed m now at c t _ a all near formed fits is = subst (AllByRecursion IsSoundClient) (sym (ap (λ (x : Moment). x.clients) is.1)) all
 
-own_formed : (m now : Moment) (at : ℕ) (c : Client) (t : Option OpenTransaction) (l : Line) (a : Answer) → AllByRecursion IsFormedClient m.clients → FormedIfSome t → IsFittingLine l → IsOwnLine m at c t l a now → AllByRecursion IsFormedClient now.clients
-own_formed m now at c None l a all formed fits is = subst (AllByRecursion IsFormedClient) (sym (ap (λ (x : Moment). x.clients) is.1)) all
-own_formed m now at c (Some t) l a all formed fits is = within_formed m now at c t l a all formed fits is
+outside_formed : (m now : Moment) (at : ℕ) (c : Client) (s : Standing) (a : Answer) → AllByRecursion IsSoundClient m.clients → s ≡ Local → IsOutside m at c s a now → AllByRecursion IsSoundClient now.clients
+outside_formed m now at c Local a all near is = subst (AllByRecursion IsSoundClient) (sym (ap (λ (x : Moment). x.clients) is.1)) all
+outside_formed m now at c (Linked known) a all near is = absurd cc
 
-told_same : (rules : Rules) (b t : Moment) (n : ℕ) (committed : Bool) → IsTold rules committed b n t → t.clients ≡ b.clients
-told_same rules b t n false told = ap (λ (x : Moment). x.clients) told
-told_same rules b t n true told = told.1.clients
+own_formed : (m now : Moment) (at : ℕ) (c : Client) (t : Option OpenTransaction) (l : Line) (a : Answer) → AllByRecursion IsSoundClient m.clients → IsLocal c → FormedIfSome t → IsFittingLine l → IsOwnLine m at c t l a now → AllByRecursion IsSoundClient now.clients
+own_formed m now at c None l a all near formed fits is = outside_formed m now at c c.standing a all near is
+own_formed m now at c (Some t) l a all near formed fits is = within_formed m now at c t l a all near formed fits is
 
-step_line_follows : (rules : Rules) (m now : Moment) (at : ℕ) (c : Client) (q : Request) (a : Answer) → IsSoundMoment m → slice_get m.clients at ≡ Some c → IsWellFormedRequest q → IsStepLine rules m at c q a now → FollowsMoment m now
-step_line_follows rules m now at c q a sound there formed is =
+told_same : (rules : Rules) (b t : Moment) (n count : ℕ) → IsTold rules count b n t → t.clients ≡ b.clients
+told_same rules b t n zero told = ap (λ (x : Moment). x.clients) told
+told_same rules b t n (suc count) (r, next, step, rest) = told_same rules next t n count rest ∙ step.clients
+
+local_behind : (m : Machine) (s : Standing) (r : Reply) → s ≡ Local → standing_behind m s r ≡ Local
+local_behind m Local r near = refl
+local_behind m (Linked known) r near = absurd cc
+
+client_formed : (d : Bool) (m : Machine) (c : Client) (r : Reply) → IsSoundClient c → IsSoundClient (client_told m r (client_left d m c r))
+client_formed false m c r formed = (left_formed m c.transaction r formed.0, local_behind m c.standing r formed.1)
+client_formed true m c r formed = (formed.0, local_behind m c.standing r formed.1)
+
+step_line_follows : (rules : Rules) (m now : Moment) (at : ℕ) (c : Client) (d : Bool) (q : Request) (a : Answer) → IsSoundMoment m → slice_get m.clients at ≡ Some c → IsWellFormedRequest q → IsStepLine rules m at c d q a now → FollowsMoment m now
+step_line_follows rules m now at c d q a sound there formed is =
     let first : Follows m.machine is.behind.machine = step_follows rules m c.session q is.reply is.behind sound.machine formed is.step in
-    let second : Follows is.behind.machine is.told.machine = told_follows rules is.behind is.told c.session (is_committed is.reply) first.sound is.front in
-    let clients : is.told.clients ≡ m.clients = told_same rules is.behind is.told c.session (is_committed is.reply) is.front ∙ is.step.clients in
+    let second : Follows is.behind.machine is.told.machine = told_follows rules is.behind is.told c.session (fronts_behind (is_committed is.reply) c.standing) first.sound is.front in
+    let clients : is.told.clients ≡ m.clients = told_same rules is.behind is.told c.session (fronts_behind (is_committed is.reply) c.standing) is.front ∙ is.step.clients in
     record {
       machine = subst (Follows m.machine) (sym (ap (λ (x : Moment). x.machine) is.left)) (follows_twice m.machine is.behind.machine is.told.machine first second);
-      formed = subst (AllByRecursion IsFormedClient) (sym (ap (λ (x : Moment). x.clients) is.left))
-          (set_formed is.told.clients at (client_left is.told.machine c is.reply) (subst (AllByRecursion IsFormedClient) (sym clients) sound.formed)
-          (left_formed is.told.machine c.transaction is.reply (at_formed m.clients at c sound.formed there)));
+      formed = subst (AllByRecursion IsSoundClient) (sym (ap (λ (x : Moment). x.clients) is.left))
+          (set_formed is.told.clients at (client_told is.told.machine is.reply (client_left d is.told.machine c is.reply)) (subst (AllByRecursion IsSoundClient) (sym clients) sound.formed)
+          (client_formed d is.told.machine c is.reply (at_formed m.clients at c sound.formed there)));
     }
 
-taken_follows : (rules : Rules) (m now : Moment) (at : ℕ) (c : Client) (l : Line) (q : Option Request) (a : Answer) → IsSoundMoment m → slice_get m.clients at ≡ Some c → request_of (changes_of c) l ≡ q
+long_follows : (rules : Rules) (m now : Moment) (at : ℕ) (c : Client) (d : Bool) (q : Request) (e : Option ℕ) (a : Answer) → IsSoundMoment m → slice_get m.clients at ≡ Some c → IsWellFormedRequest q → IsStepUnless rules m at c d q e a now → FollowsMoment m now
+long_follows rules m now at c d q None a sound there formed is = step_line_follows rules m now at c d q a sound there formed is
+long_follows rules m now at c d q (Some n) a sound there formed is = moment_follows m now sound is.1
+
+taken_follows : (rules : Rules) (m now : Moment) (at : ℕ) (c : Client) (l : Line) (q : Option Request) (a : Answer) → IsSoundMoment m → slice_get m.clients at ≡ Some c → request_of c.standing (changes_of c) l ≡ q
     → IsFittingLine l → IsLineTaken rules m at c l q a now → FollowsMoment m now
-taken_follows rules m now at c l (Some q) a sound there asks fits is = step_line_follows rules m now at c q a sound there (asked_formed (changes_of c) l q (at_formed m.clients at c sound.formed there) asks) is
+taken_follows rules m now at c l (Some q) a sound there asks fits is = long_follows rules m now at c (is_delivery l) q (asking_excess c.standing q) a sound there (asked_formed c.standing (changes_of c) l q (at_formed m.clients at c sound.formed there).0 asks) is
 taken_follows rules m now at c l None a sound there asks fits is =
-    same_clients m now (raised_follows m.machine now.machine sound.machine (own_raised m now at c c.transaction l a is)) (own_formed m now at c c.transaction l a sound.formed (at_formed m.clients at c sound.formed there) fits is)
+    same_clients m now (raised_follows m.machine now.machine sound.machine (own_raised m now at c c.transaction l a is)) (let client : IsSoundClient c = at_formed m.clients at c sound.formed there in own_formed m now at c c.transaction l a sound.formed client.1 client.0 fits is)
 
 unless_follows : (rules : Rules) (m now : Moment) (at : ℕ) (c : Client) (l : Line) (r : Option Refusal) (a : Answer) → IsSoundMoment m → slice_get m.clients at ≡ Some c → IsFittingLine l → IsLineUnless rules m at c l r a now → FollowsMoment m now
 unless_follows rules m now at c l (Some why) a sound there fits is = moment_follows m now sound is.1
-unless_follows rules m now at c l None a sound there fits is = taken_follows rules m now at c l (request_of (changes_of c) l) a sound there refl fits is
+unless_follows rules m now at c l None a sound there fits is = taken_follows rules m now at c l (request_of c.standing (changes_of c) l) a sound there refl fits is
 
 line_of_follows : (rules : Rules) (m now : Moment) (at : Option ℕ) (l : Line) (a : Answer) → IsSoundMoment m → IsFittingLine l → IsLineOf rules m at l a now → FollowsMoment m now
 line_of_follows rules m now None l a sound fits is = moment_follows m now sound is.1
 line_of_follows rules m now (Some at) l a sound fits is = unless_follows rules m now at is.0 l (connection_refusal m.machine is.0 l) a sound is.1 fits is.2
 
-opened_moment : (m : Moment) (name : List ℕ) (b : Bool) → IsSoundMoment m → FollowsMoment m (if b then (let o : Opening = record { answer = answer.Opened (length m.machine.sessions); moment = record { machine = with_session m.machine; clients = m.clients ++ record { name = name; session = length m.machine.sessions; transaction = None } ∷ []; stamps = m.stamps; counts = m.counts } } in o)
+opened_moment : (m : Moment) (name : List ℕ) (b : Bool) → IsSoundMoment m → FollowsMoment m (if b then (let o : Opening = record { answer = answer.Opened (length m.machine.sessions); moment = record { machine = with_session m.machine; clients = m.clients ++ record { name = name; session = length m.machine.sessions; transaction = None; standing = Local } ∷ []; stamps = m.stamps; counts = m.counts } } in o)
     else (let o : Opening = record { answer = answer.Refused (refusal.TooManySessions (length m.machine.sessions)); moment = m } in o)).moment
 opened_moment m name true sound = record {
   machine = opened_follows m.machine sound.machine;
-  formed = each_more IsFormedClient m.clients (record { name = name; session = length m.machine.sessions; transaction = None }) sound.formed tt;
+  formed = each_more IsSoundClient m.clients (record { name = name; session = length m.machine.sessions; transaction = None; standing = Local }) sound.formed (tt, refl);
 }
 opened_moment m name false sound = record { machine = follows_same m.machine sound.machine; formed = sound.formed }
 
@@ -394,7 +333,7 @@ closed_follows : (rules : Rules) (m now : Moment) (at : Option ℕ) → IsSoundM
 closed_follows rules m now None sound is = moment_follows m now sound is
 closed_follows rules m now (Some at) sound is = record {
   machine = step_follows rules m is.1.0.session request.Close is.0 now sound.machine tt is.1.2;
-  formed = subst (AllByRecursion IsFormedClient) (sym is.1.2.clients) sound.formed;
+  formed = subst (AllByRecursion IsSoundClient) (sym is.1.2.clients) sound.formed;
 }
 
 pub closing_follows : (rules : Rules) (m now : Moment) (name : List ℕ) (last : Bool) → IsSoundMoment m → IsClosing rules m name last now → FollowsMoment m now

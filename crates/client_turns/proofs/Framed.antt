@@ -25,10 +25,10 @@ use Rattle.connection_view.specs.Views as views
 use Rattle.local_loads.specs.Local.{LocalState}
 use Rattle.local_loads.specs.Making.{IsHubStep, IsLocalCall}
 use Rattle.client_turns.specs.declared.client.Client.{Client}
-use Rattle.client_turns.specs.Asking.{IsCalm, answered, begun_as, finished_as, saved_as}
+use Rattle.client_turns.specs.Asking.{IsCalm, answered, begun_as, delivered_with, finished_as, saved_as}
 use Rattle.client_turns.specs.Lines.{data_of, object_of, outcome_of_answer, outcome_of_read, outcome_of_result}
 use Rattle.client_turns.specs.Standing.{LeavesHub, ReadsHub}
-use Rattle.client_turns.proofs.Framing.{abort_hub, begin_hub, finish_hub, get_any, leaves_calm, none_leaves, put_hub, read_any, stored_calm, undo_hub, vote_hub}
+use Rattle.client_turns.proofs.Framing.{abort_hub, begin_hub, deliver_hub, finish_hub, get_any, leaves_calm, none_leaves, put_hub, read_any, stored_calm, undo_hub, vote_hub}
 
 -- ---- how answers end
 
@@ -157,6 +157,12 @@ module _ {R F S : Type 0} (told lasts : Type 0) (stands : List ℕ → List Tran
       → (reply : Answer) → reply ≡ begun_as result → LeavesHub told lasts stands (rules_of rules_in named_in h) (Some x) line.Begin (outcome_of_answer reply) h g
   begin_framed result refused made reply answers =
       over line.Begin (outcome_of_answer reply) (begin_hub told lasts stands rules_in named_in (number a) x (state a) (state b) Made a b (λ call make. make) (λ e. ap state e) x.connection result reply refused made answers)
+
+  -- `deliver`
+  pub deliver_framed : (result : Result ℕ Refusal) → (work_of x.connection ≡ Err refusal.NotOpen → (result ≡ Err refusal.NotOpen) × (b ≡ a)) → ((work_of x.connection ≡ Err refusal.NotOpen → ⊥) → IsFrontBy Made a b result)
+      → (reply : Answer) → reply ≡ delivered_with result → LeavesHub told lasts stands (rules_of rules_in named_in h) (Some x) line.Deliver (outcome_of_answer reply) h g
+  deliver_framed result refused made reply answers =
+      over line.Deliver (outcome_of_answer reply) (deliver_hub told lasts stands rules_in named_in (number a) x (state a) (state b) Made a b (λ call make. make) (λ e. ap state e) x.connection result reply refused made answers)
 
   -- `put`
   pub put_framed : (views_at : views.Client → Type 0) (server : Server) (oid : ℕ) (bytes : List ℕ) (result : Result (Unit {0}) Refusal)

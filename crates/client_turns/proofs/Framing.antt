@@ -29,7 +29,7 @@ use Rattle.zodb_core.specs.Outcomes.{Answered, AreLaterCounts, FaultCounts, NoMe
 use Rattle.connection_view.specs.declared.connection.Connection.{Connection}
 use Rattle.connection_view.specs.declared.loads.Loaded.{Loaded}
 use Rattle.connection_view.specs.Works.{Work}
-use Rattle.connection_view.specs.Connections.{IsCallMade, IsFrontBy, IsPutAsRead, IsReadAnswered, IsReadBy, IsUnasked, LeavesWork, base_read, begin_refusal, changeable, followed_by, stored_in_work, stored_unless, unmixed, waiting_count, waiting_read, work_of}
+use Rattle.connection_view.specs.Connections.{IsCallMade, IsFrontBy, IsPutAsRead, IsReadAnswered, IsReadBy, IsUnasked, LeavesWork, base_read, begin_refusal, changeable, followed_by, open_work, stored_in_work, stored_unless, unmixed, waiting_count, waiting_read, work_of}
 use Rattle.connection_view.specs.Connections as connections
 use Rattle.connection_view.specs.Loading.{Abort, Finish, Front, Load, LoadsCall, Undo, Vote}
 use Rattle.connection_view.specs.Views.{Server}
@@ -41,8 +41,8 @@ use Rattle.local_loads.specs.Answers as locals
 use Rattle.local_loads.specs.LocalLaws.{machine_of, stands_for}
 use Rattle.local_loads.specs.Local.{LocalState}
 use Rattle.local_loads.specs.Making.{IsFinishStep, IsFrontBehind, IsFrontStep, IsHubStep, IsLocalCall, IsOneStep, IsStarved}
-use Rattle.client_turns.specs.Asking.{IsCalm, answered, begun_as, finished_as, plain_request}
-use Rattle.client_turns.specs.Clients.{Moment}
+use Rattle.client_turns.specs.Asking.{IsCalm, answered, begun_as, delivered_with, finished_as, plain_request}
+use Rattle.client_turns.specs.Clients.{Local, Moment}
 use Rattle.client_turns.specs.CountLaws.{waiting_outcome}
 use Rattle.client_turns.specs.declared.errors.TurnError.{TurnError}
 use Rattle.client_turns.specs.Lines.{IsCountedBy, answer_of, end_in, end_of, outcome_of_answer, outcome_of_end, outcome_of_read, outcome_of_result, request_of}
@@ -320,7 +320,7 @@ answer_outcome (reply.Refused why) = refl
 answer_outcome (reply.Nothing oid switches) = refl
 answer_outcome _ = refl
 
-plain_asks : (l : Line) (q : Request) → Some q ≡ plain_request l → Some q ≡ request_of None l
+plain_asks : (l : Line) (q : Request) → Some q ≡ plain_request l → Some q ≡ request_of Local None l
 plain_asks line.New q is = is
 plain_asks (line.History oid) q is = is
 plain_asks line.UndoLog q is = is
@@ -351,7 +351,7 @@ module _ {R F : Type 0} (told lasts : Type 0) (stands : List ℕ → List Transa
     later = keeps.later;
     cause = keeps.cause;
     broken = keeps.broken;
-    side = λ on packs. keeps.side on (asked_no_pack None l q (plain_asks l q asks) packs);
+    side = λ on packs. keeps.side on (asked_no_pack Local None l q (plain_asks l q asks) packs);
     moments = λ on tells whole m stands_for leaves. in_step stands rules x l q m h.store.log g.store.log asks (keeps.moments on tells whole m stands_for leaves);
   }
 
@@ -448,6 +448,10 @@ begun_outcome t (reply.Front front news switches) = refl
 begun_outcome t (reply.Refused why) = server_outcome why
 begun_outcome t _ = refl
 
+told_alike : (r : Result ℕ Refusal) → outcome_of_answer (delivered_with r) ≡ outcome_of_answer (begun_as r)
+told_alike (Ok front) = refl
+told_alike (Err why) = refl
+
 voted_outcome : (r : Reply) → outcome_of_answer (answered (locals.vote_answer r) answer.Voted) ≡ outcome_of r
 voted_outcome reply.Voted = refl
 voted_outcome (reply.Refused why) = server_outcome why
@@ -538,6 +542,26 @@ module _ {R F S : Type 0} (told lasts : Type 0) (stands : List ℕ → List Tran
           let f = made is in
           let one : IsFrontStep (IsHubStep told lasts stands rules_in named_in n) old new f.0 = calls (Front f.0) f.1 in
           step_left_as line.Begin said (outcome_of one.reply) (ap outcome_of_answer (answers ∙ ap begun_as (f.2 ∙ ap connections.front_answer one.answer)) ∙ begun_outcome old.last one.reply)
+          (front_reads told lasts stands rules_in named_in n one.reply old.hub new.hub old.stamps new.stamps one.step).keeps
+
+  -- `deliver`
+  pub deliver_hub : (k : Connection) (result : Result ℕ Refusal) (said : Answer) → (work_of k ≡ Err refusal.NotOpen → (result ≡ Err refusal.NotOpen) × (b ≡ a)) → ((work_of k ≡ Err refusal.NotOpen → ⊥) → IsFrontBy makes a b result)
+      → said ≡ delivered_with result → LeavesHub told lasts stands (rules_of rules_in named_in old.hub) (Some x) line.Deliver (outcome_of_answer said) old.hub new.hub
+  deliver_hub k result said refused made answers = by_open k.is_open refl
+    where
+      not_so : (w : Option Work) → open_work true w ≡ Err refusal.NotOpen → ⊥
+      not_so None e = absurd cc
+      not_so (Some w) e = absurd cc
+
+      by_open : (open_as : Bool) → k.is_open ≡ open_as → Left line.Deliver said
+      by_open false is =
+          let so = refused (ap (λ (z : Bool). open_work z k.work) is) in
+          refused_left line.Deliver delivered_with result refusal.NotOpen said refl answers so.0 (inl refl) (same so.1)
+      by_open true is =
+          let f = made (λ e. not_so k.work (sym (ap (λ (z : Bool). open_work z k.work) is) ∙ e)) in
+          let one : IsFrontStep (IsHubStep told lasts stands rules_in named_in n) old new f.0 = calls (Front f.0) f.1 in
+          step_left_as line.Deliver said (outcome_of one.reply)
+          (ap outcome_of_answer (answers ∙ ap delivered_with (f.2 ∙ ap connections.front_answer one.answer)) ∙ told_alike (connections.front_answer (locals.front_answer old.last one.reply)) ∙ begun_outcome old.last one.reply)
           (front_reads told lasts stands rules_in named_in n one.reply old.hub new.hub old.stamps new.stamps one.step).keeps
 
   -- `vote`

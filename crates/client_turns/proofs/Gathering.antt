@@ -39,6 +39,7 @@ use Rattle.connection_view.specs.Views as views
 use Rattle.client_turns.specs.Views.{server_of}
 use Rattle.client_turns.proofs.Hubs.{counts_same}
 use Rattle.client_turns.proofs.Placing.{IsClientAt, client_at, there_at}
+use Rattle.client_turns.specs.TurnLaws.{read_current, read_missing}
 
 -- ---- what is known
 
@@ -99,11 +100,11 @@ seen_same a b v oid None x list journal is = in_same a b v oid x list journal is
 
 -- ---- sights
 
-read_sight : (m now : Moment) (t : OpenTransaction) (oid : ℕ) (read : Result (ℕ × List ℕ) Refusal) → pending_of t.changes.pending.stores oid ≡ None → IsReadAt m t.view oid read now → IsSightIn m (Some t) oid (seen_read read) now
+read_sight : (m now : Moment) (t : OpenTransaction) (oid : ℕ) (read : Result (ℕ × List ℕ) Refusal) → pending_of t.changes.pending.stores oid ≡ None → IsReadAt m t oid read now → IsSightIn m (Some t) oid (seen_read read) now
 read_sight m now t oid (Ok got) none read =
-    (counts_same m now read.counts read.rest, subst (λ (p : Option PendingStore). IsSeen m.machine t.view oid p (Some (seen_as got))) (sym none) read.ends)
+    (counts_same m now read.counts read.rest, subst (λ (p : Option PendingStore). IsSeen m.machine t.view oid p (Some (seen_as got))) (sym none) (read_current t.framed m.machine t.view oid m.counts now.counts got read.ends))
 read_sight m now t oid (Err (refusal.Missing o packed)) none read =
-    (counts_same m now read.counts read.rest, subst (λ (p : Option PendingStore). IsSeen m.machine t.view oid p None) (sym none) (packed, read.ends.1))
+    (counts_same m now read.counts read.rest, subst (λ (p : Option PendingStore). IsSeen m.machine t.view oid p None) (sym none) (packed, (read_missing t.framed m.machine t.view oid m.counts now.counts o packed read.ends).1))
 read_sight m now t oid (Err _) none read = inl (read, refl)
 
 seen_got : (oid base : ℕ) (content : Content) → seen_read (waiting_as oid base content) ≡ Ok (seen_waiting base content)
@@ -111,7 +112,7 @@ seen_got oid base (Held bytes) = refl
 seen_got oid base Absent = refl
 
 -- what the transaction has, as a call on a tree wants it
-got_sight : (m now : Moment) (t : OpenTransaction) (oid : ℕ) (got : Result (ℕ × List ℕ) Refusal) (p : Option PendingStore) → pending_of t.changes.pending.stores oid ≡ p → IsGotAs m t.view oid p got now → IsSightIn m (Some t) oid (seen_read got) now
+got_sight : (m now : Moment) (t : OpenTransaction) (oid : ℕ) (got : Result (ℕ × List ℕ) Refusal) (p : Option PendingStore) → pending_of t.changes.pending.stores oid ≡ p → IsGotAs m t oid p got now → IsSightIn m (Some t) oid (seen_read got) now
 got_sight m now t oid got None is read = read_sight m now t oid got is read
 got_sight m now t oid got (Some p) is (inl so, same) =
     subst (λ (z : Result (Option Seen) Refusal). IsSightIn m (Some t) oid z now) (sym (ap seen_read so ∙ seen_got oid p.base p.content))

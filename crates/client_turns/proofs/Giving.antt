@@ -1,5 +1,5 @@
 -- What answers give: fronts of the list, and numbers behind the greatest.
-use Rattle.std.proofs.Common.{◌≡◌, ℕ, ◌+◌, ◌-◌, ◌^◌, ◌≤◌, Bool, true, false, List, [], ◌∷◌, ◌++◌, length, Option, Some, None, Result, Ok, Err, cond, refl, sym, ap, subst, ◌∙◌, arith, nat_lt, if◌then◌else◌, ⊎_elim}
+use Rattle.std.proofs.Common.{Bool, Err, List, None, Ok, Option, Result, Some, [], ap, arith, cond, false, if◌then◌else◌, length, nat_lt, refl, subst, suc, sym, true, zero, ℕ, ⊎_elim, ◌++◌, ◌+◌, ◌-◌, ◌^◌, ◌∙◌, ◌∷◌, ◌≡◌, ◌≤◌}
 use Rattle.std.specs.Prelude.{slice_get}
 use Rattle.std.proofs.lemmas.Bool.{cases_Bool}
 use Rattle.std.proofs.lemmas.Option.{same_Some}
@@ -34,16 +34,15 @@ use Rattle.zodb_core.specs.Outcomes.{EndsFor, FaultCounts, is_pack, outcome_of}
 use Rattle.zodb_core.specs.StepCases.{PackCases, by_pack_step}
 use Rattle.zodb_core.specs.Steps.{Stepped, changes_in_journal, early_refusal, finish_gives, finish_step, journal_limit, loaded, replied_refusal, request_step, step_of, transaction_with, unless_early, vote_at, vote_counted, vote_step, with_vote}
 use Rattle.connection_view.specs.Connections.{waiting_read}
-use Rattle.client_turns.specs.Clients.{Changes, Client, Moment, OpenTransaction, changes_of, place_of_client}
-use Rattle.client_turns.specs.Laws.{front_given}
+use Rattle.client_turns.specs.Clients.{Changes, Client, Linked, Local, Moment, OpenTransaction, Standing, changes_of, place_of_client}
+use Rattle.client_turns.specs.Laws.{IsLocal, front_given}
 use Rattle.client_turns.specs.Numbers.{number_given}
-use Rattle.client_turns.specs.Lines.{answer_of, data_of, is_committed, object_of, pending_in, put, request_of, rolled_back, rolled_to, saved, store_unless, stored}
+use Rattle.client_turns.specs.Lines.{answer_of, answer_to, asking_excess, data_of, is_committed, is_delivery, object_of, put, request_of, rolled_back, rolled_to, saved, step_answer, store_unless, stored}
 use Rattle.client_turns.specs.Refusing.{connection_refusal}
 use Rattle.client_turns.specs.DrawLaws.{tree_answer}
 use Rattle.client_turns.specs.Trees.{answer_told}
-use Rattle.client_turns.specs.TurnLaws.{by_name}
-use Rattle.client_turns.specs.Turns.{IsGet, IsLine, IsLineOf, IsLineTaken, IsLineUnless, IsOpening, IsOwnLine, IsPut, IsStepLine, IsTold, IsWithin, Opening}
-use Rattle.connection_view.specs.Views.{View}
+use Rattle.client_turns.specs.TurnLaws.{by_name, request_cases, step_cases}
+use Rattle.client_turns.specs.Turns.{IsGet, IsLine, IsLineOf, IsLineTaken, IsLineUnless, IsOpening, IsOutside, IsOwnLine, IsPut, IsStepLine, IsStepUnless, IsTold, IsWithin, Opening, fronts_behind}
 
 -- ---- one number at a time
 
@@ -107,7 +106,6 @@ pack_single named m n q = record {
 }
 
 request_single : (rules : Rules) (m : Machine) (n : ℕ) (q : Request) (stamp : ℕ) → AsksOne q → is_pack q ≡ false → Single (request_step rules m n q stamp)
-request_single rules m n request.Front stamp one not = λ range e. absurd cc
 request_single rules m n (request.LoadBefore oid front) stamp one not = found_single m oid (found_below oid front m.list)
 request_single rules m n (request.NewOids count) stamp one not = λ range e. new_single m count range one e
 request_single rules m n (request.Vote user description extension pending) stamp one not =
@@ -115,15 +113,10 @@ request_single rules m n (request.Vote user description extension pending) stamp
 request_single rules m n (request.Undo user description tids) stamp one not =
     vote_single m n (record { user = user; description = description; extension = [] }) stamp _
 request_single rules m n request.Finish stamp one not = finish_single m n m.vote
-request_single rules m n request.Abort stamp one not = λ range e. absurd cc
-request_single rules m n (request.History oid) stamp one not = λ range e. absurd cc
-request_single rules m n request.UndoLog stamp one not = λ range e. absurd cc
 request_single rules m n (request.Pack tid collects) stamp one not = absurd cc
 request_single rules m n (request.PackBegin tid collects) stamp one not = absurd cc
 request_single rules m n request.PackTurn stamp one not = absurd cc
-request_single rules m n request.Last stamp one not = λ range e. absurd cc
-request_single rules m n (request.Since tid changes) stamp one not = λ range e. absurd cc
-request_single rules m n request.Close stamp one not = λ range e. absurd cc
+request_single rules m n _ stamp one not = λ range e. absurd cc
 
 unless_single : (early : Option Refusal) (m : Machine) (made : Stepped) → Single made → Single (unless_early early m made)
 unless_single None m made single = single
@@ -151,25 +144,7 @@ MadeFor rules m n q stamp r left ticks a b = EndsFor rules m n q stamp (record {
 reply_front : (rules : Rules) (m : Machine) (n : ℕ) (q : Request) (stamp : ℕ) (r : Reply) (left : Machine) (ticks : Bool) (a b : FaultCounts) (f : ℕ) → MadeFor rules m n q stamp r left ticks a b
     → front_given (answer_of r) ≡ Some f → f ≡ front_of m.list
 reply_front rules m n q stamp (reply.Front front news switches) left ticks a b f made is = step_front rules m n q stamp f (sym (ap (λ (s : Stepped). front_in s.reply) made) ∙ is)
-reply_front rules m n q stamp (reply.Loaded serial bytes end upto) left ticks a b f made is = absurd cc
-reply_front rules m n q stamp (reply.Nothing oid switches) left ticks a b f made is = absurd cc
-reply_front rules m n q stamp (reply.Oids first count) left ticks a b f made is = absurd cc
-reply_front rules m n q stamp reply.Voted left ticks a b f made is = absurd cc
-reply_front rules m n q stamp (reply.Committed tid) left ticks a b f made is = absurd cc
-reply_front rules m n q stamp reply.Empty left ticks a b f made is = absurd cc
-reply_front rules m n q stamp reply.Aborted left ticks a b f made is = absurd cc
-reply_front rules m n q stamp (reply.History list) left ticks a b f made is = absurd cc
-reply_front rules m n q stamp (reply.UndoLog list) left ticks a b f made is = absurd cc
-reply_front rules m n q stamp (reply.Packed kept dropped) left ticks a b f made is = absurd cc
-reply_front rules m n q stamp (reply.Packing tid) left ticks a b f made is = absurd cc
-reply_front rules m n q stamp (reply.Marking count) left ticks a b f made is = absurd cc
-reply_front rules m n q stamp (reply.Marked count) left ticks a b f made is = absurd cc
-reply_front rules m n q stamp (reply.Copying count) left ticks a b f made is = absurd cc
-reply_front rules m n q stamp (reply.Copied count) left ticks a b f made is = absurd cc
-reply_front rules m n q stamp (reply.Last tid changes) left ticks a b f made is = absurd cc
-reply_front rules m n q stamp (reply.Since keep commits) left ticks a b f made is = absurd cc
-reply_front rules m n q stamp reply.Closed left ticks a b f made is = absurd cc
-reply_front rules m n q stamp (reply.Refused why) left ticks a b f made is = absurd cc
+reply_front rules m n q stamp _ left ticks a b f made is = absurd cc
 
 pub oids_given : (rules : Rules) (m : Machine) (n : ℕ) (q : Request) (stamp : ℕ) (first count : ℕ) (left : Machine) (ticks : Bool) (x : ℕ) → AsksOne q
     → record { reply = reply.Oids first count; machine = left; ticks = ticks } ≡ step_of rules m n q stamp → Some first ≡ Some x → (x ≡ m.greatest + 1) × (x ≤ left.greatest)
@@ -183,37 +158,37 @@ oids_given rules m n q stamp first count left ticks x one made is =
 
 reply_number : (rules : Rules) (m : Machine) (n : ℕ) (q : Request) (stamp : ℕ) (r : Reply) (left : Machine) (ticks : Bool) (a b : FaultCounts) (x : ℕ) → AsksOne q → MadeFor rules m n q stamp r left ticks a b
     → number_given (answer_of r) ≡ Some x → (x ≡ m.greatest + 1) × (x ≤ left.greatest)
-reply_number rules m n q stamp (reply.Front front news switches) left ticks a b x one made is = absurd cc
-reply_number rules m n q stamp (reply.Loaded serial bytes end upto) left ticks a b x one made is = absurd cc
-reply_number rules m n q stamp (reply.Nothing oid switches) left ticks a b x one made is = absurd cc
 reply_number rules m n q stamp (reply.Oids first count) left ticks a b x one made is = oids_given rules m n q stamp first count left ticks x one made is
-reply_number rules m n q stamp reply.Voted left ticks a b x one made is = absurd cc
-reply_number rules m n q stamp (reply.Committed tid) left ticks a b x one made is = absurd cc
-reply_number rules m n q stamp reply.Empty left ticks a b x one made is = absurd cc
-reply_number rules m n q stamp reply.Aborted left ticks a b x one made is = absurd cc
-reply_number rules m n q stamp (reply.History list) left ticks a b x one made is = absurd cc
-reply_number rules m n q stamp (reply.UndoLog list) left ticks a b x one made is = absurd cc
-reply_number rules m n q stamp (reply.Packed kept dropped) left ticks a b x one made is = absurd cc
-reply_number rules m n q stamp (reply.Packing tid) left ticks a b x one made is = absurd cc
-reply_number rules m n q stamp (reply.Marking count) left ticks a b x one made is = absurd cc
-reply_number rules m n q stamp (reply.Marked count) left ticks a b x one made is = absurd cc
-reply_number rules m n q stamp (reply.Copying count) left ticks a b x one made is = absurd cc
-reply_number rules m n q stamp (reply.Copied count) left ticks a b x one made is = absurd cc
-reply_number rules m n q stamp (reply.Last tid changes) left ticks a b x one made is = absurd cc
-reply_number rules m n q stamp (reply.Since keep commits) left ticks a b x one made is = absurd cc
-reply_number rules m n q stamp reply.Closed left ticks a b x one made is = absurd cc
-reply_number rules m n q stamp (reply.Refused why) left ticks a b x one made is = absurd cc
+reply_number rules m n q stamp _ left ticks a b x one made is = absurd cc
+
+-- a delivery gives the same
+delivered_front : (d : Bool) (r : Reply) → front_given (answer_to d r) ≡ front_given (answer_of r)
+delivered_front false r = refl
+delivered_front true (reply.Front front news switches) = refl
+delivered_front true _ = refl
+
+delivered_number : (d : Bool) (r : Reply) → number_given (answer_to d r) ≡ number_given (answer_of r)
+delivered_number false r = refl
+delivered_number true (reply.Front front news switches) = refl
+delivered_number true _ = refl
+
+-- and one that is too long gives nothing
+told_front : (s : Standing) (d : Bool) (r : Reply) (f : ℕ) → front_given (step_answer s d r) ≡ Some f → front_given (answer_of r) ≡ Some f
+told_front s d r f = step_cases (λ a. front_given a ≡ Some f → front_given (answer_of r) ≡ Some f) s d r (λ n long is. absurd cc) (λ is. sym (delivered_front d r) ∙ is)
+
+told_number : (s : Standing) (d : Bool) (r : Reply) (x : ℕ) → number_given (step_answer s d r) ≡ Some x → number_given (answer_of r) ≡ Some x
+told_number s d r x = step_cases (λ a. number_given a ≡ Some x → number_given (answer_of r) ≡ Some x) s d r (λ n long is. absurd cc) (λ is. sym (delivered_number d r) ∙ is)
 
 -- ---- lines
 
 -- the told step behind a commit doesn't lower the greatest number
-step_line_gives : (rules : Rules) (m now : Moment) (at : ℕ) (c : Client) (q : Request) (a : Answer) → AsksOne q → (is : IsStepLine rules m at c q a now) → is.behind.machine.greatest ≤ is.told.machine.greatest → Gives m.machine now.machine a
-step_line_gives rules m now at c q a one is up = record {
+step_line_gives : (rules : Rules) (m now : Moment) (at : ℕ) (c : Client) (d : Bool) (q : Request) (a : Answer) → AsksOne q → (is : IsStepLine rules m at c d q a now) → is.behind.machine.greatest ≤ is.told.machine.greatest → Gives m.machine now.machine a
+step_line_gives rules m now at c d q a one is up = record {
   front = λ f given.
-      reply_front rules m.machine c.session q is.step.stamp is.reply is.behind.machine is.step.ticks m.counts is.behind.counts f is.step.made.cause (sym (ap front_given is.answer) ∙ given);
+      reply_front rules m.machine c.session q is.step.stamp is.reply is.behind.machine is.step.ticks m.counts is.behind.counts f is.step.made.cause (told_front c.standing d is.reply f (sym (ap front_given is.answer) ∙ given));
   number = λ n given.
       let both : (n ≡ m.machine.greatest + 1) × (n ≤ is.behind.machine.greatest) =
-      reply_number rules m.machine c.session q is.step.stamp is.reply is.behind.machine is.step.ticks m.counts is.behind.counts n one is.step.made.cause (sym (ap number_given is.answer) ∙ given) in
+      reply_number rules m.machine c.session q is.step.stamp is.reply is.behind.machine is.step.ticks m.counts is.behind.counts n one is.step.made.cause (told_number c.standing d is.reply n (sym (ap number_given is.answer) ∙ given)) in
       (both.0, omega (arith, both.1, up, ap (λ (x : Moment). x.machine.greatest) is.left));
 }
 
@@ -235,50 +210,14 @@ object_quiet : (m now : Machine) (r : Result (ℕ × List ℕ) Refusal) → Give
 object_quiet m now (Ok got) = quiet m now (answer.Object got.0 got.1) refl refl
 object_quiet m now (Err why) = quiet m now (answer.Refused why) refl refl
 
-get_gives : (m now : Moment) (v : View) (oid : ℕ) (o : Option PendingStore) (a : Answer) → IsGet m v oid o a now → Gives m.machine now.machine a
+get_gives : (m now : Moment) (v : OpenTransaction) (oid : ℕ) (o : Option PendingStore) (a : Answer) → IsGet m v oid o a now → Gives m.machine now.machine a
 get_gives m now v oid None a is = as_quiet m.machine now.machine a (object_of is.0) is.2 (object_quiet m.machine now.machine is.0)
 get_gives m now v oid (Some p) a is = as_quiet m.machine now.machine a (object_of (waiting_read oid p)) is.0 (object_quiet m.machine now.machine (waiting_read oid p))
 
 put_quiet : (m now : Machine) (t : Changes) (oid : ℕ) (bytes : List ℕ) (read : Result (ℕ × List ℕ) Refusal) → Gives m now (put t oid bytes read).answer
 put_quiet m now t oid bytes (Ok got) = store_quiet m now t (record { oid = oid; base = got.0; content = Held bytes }) (excess_with t.pending.stores (record { oid = oid; base = got.0; content = Held bytes }))
-put_quiet m now t oid bytes (Err refusal.TidsSpent) = refused_gives m now (answer.Refused refusal.TidsSpent) refusal.TidsSpent refl
-put_quiet m now t oid bytes (Err refusal.StoreFault) = refused_gives m now (answer.Refused refusal.StoreFault) refusal.StoreFault refl
-put_quiet m now t oid bytes (Err (refusal.Conflict a0 a1 a2 a3)) = refused_gives m now (answer.Refused (refusal.Conflict a0 a1 a2 a3)) (refusal.Conflict a0 a1 a2 a3) refl
-put_quiet m now t oid bytes (Err (refusal.ReadConflict a0 a1 a2)) = refused_gives m now (answer.Refused (refusal.ReadConflict a0 a1 a2)) (refusal.ReadConflict a0 a1 a2) refl
-put_quiet m now t oid bytes (Err (refusal.TooLong a0)) = refused_gives m now (answer.Refused (refusal.TooLong a0)) (refusal.TooLong a0) refl
-put_quiet m now t oid bytes (Err (refusal.UndoUnknown a0)) = refused_gives m now (answer.Refused (refusal.UndoUnknown a0)) (refusal.UndoUnknown a0) refl
-put_quiet m now t oid bytes (Err (refusal.UndoPacked a0)) = refused_gives m now (answer.Refused (refusal.UndoPacked a0)) (refusal.UndoPacked a0) refl
-put_quiet m now t oid bytes (Err (refusal.UndoConflict a0 a1)) = refused_gives m now (answer.Refused (refusal.UndoConflict a0 a1)) (refusal.UndoConflict a0 a1) refl
-put_quiet m now t oid bytes (Err (refusal.Overtaken a0 a1)) = refused_gives m now (answer.Refused (refusal.Overtaken a0 a1)) (refusal.Overtaken a0 a1) refl
-put_quiet m now t oid bytes (Err (refusal.Unreadable a0 a1)) = refused_gives m now (answer.Refused (refusal.Unreadable a0 a1)) (refusal.Unreadable a0 a1) refl
-put_quiet m now t oid bytes (Err (refusal.PackedAlready a0)) = refused_gives m now (answer.Refused (refusal.PackedAlready a0)) (refusal.PackedAlready a0) refl
 put_quiet m now t oid bytes (Err (refusal.Missing a0 false)) = store_quiet m now t (record { oid = oid; base = 0; content = Held bytes }) (excess_with t.pending.stores (record { oid = oid; base = 0; content = Held bytes }))
-put_quiet m now t oid bytes (Err (refusal.Missing a0 true)) = refused_gives m now (answer.Refused (refusal.Missing a0 true)) (refusal.Missing a0 true) refl
-put_quiet m now t oid bytes (Err refusal.NoTransaction) = refused_gives m now (answer.Refused refusal.NoTransaction) refusal.NoTransaction refl
-put_quiet m now t oid bytes (Err refusal.InTransaction) = refused_gives m now (answer.Refused refusal.InTransaction) refusal.InTransaction refl
-put_quiet m now t oid bytes (Err refusal.NotVoted) = refused_gives m now (answer.Refused refusal.NotVoted) refusal.NotVoted refl
-put_quiet m now t oid bytes (Err refusal.Voted) = refused_gives m now (answer.Refused refusal.Voted) refusal.Voted refl
-put_quiet m now t oid bytes (Err (refusal.Busy a0)) = refused_gives m now (answer.Refused (refusal.Busy a0)) (refusal.Busy a0) refl
-put_quiet m now t oid bytes (Err (refusal.PackRunning a0)) = refused_gives m now (answer.Refused (refusal.PackRunning a0)) (refusal.PackRunning a0) refl
-put_quiet m now t oid bytes (Err refusal.OidsSpent) = refused_gives m now (answer.Refused refusal.OidsSpent) refusal.OidsSpent refl
-put_quiet m now t oid bytes (Err (refusal.JournalFull a0)) = refused_gives m now (answer.Refused (refusal.JournalFull a0)) (refusal.JournalFull a0) refl
-put_quiet m now t oid bytes (Err (refusal.TooManySessions a0)) = refused_gives m now (answer.Refused (refusal.TooManySessions a0)) (refusal.TooManySessions a0) refl
-put_quiet m now t oid bytes (Err refusal.NotOpen) = refused_gives m now (answer.Refused refusal.NotOpen) refusal.NotOpen refl
-put_quiet m now t oid bytes (Err (refusal.NoSavepoint a0)) = refused_gives m now (answer.Refused (refusal.NoSavepoint a0)) (refusal.NoSavepoint a0) refl
-put_quiet m now t oid bytes (Err (refusal.FrameTooLong a0)) = refused_gives m now (answer.Refused (refusal.FrameTooLong a0)) (refusal.FrameTooLong a0) refl
-put_quiet m now t oid bytes (Err refusal.BadMessage) = refused_gives m now (answer.Refused refusal.BadMessage) refusal.BadMessage refl
-put_quiet m now t oid bytes (Err refusal.LinkFault) = refused_gives m now (answer.Refused refusal.LinkFault) refusal.LinkFault refl
-put_quiet m now t oid bytes (Err refusal.Closed) = refused_gives m now (answer.Refused refusal.Closed) refusal.Closed refl
-put_quiet m now t oid bytes (Err (refusal.Mixed a0)) = refused_gives m now (answer.Refused (refusal.Mixed a0)) (refusal.Mixed a0) refl
-put_quiet m now t oid bytes (Err refusal.NoPack) = refused_gives m now (answer.Refused refusal.NoPack) refusal.NoPack refl
-put_quiet m now t oid bytes (Err (refusal.NotATree a0)) = refused_gives m now (answer.Refused (refusal.NotATree a0)) (refusal.NotATree a0) refl
-put_quiet m now t oid bytes (Err (refusal.NodeMissing a0)) = refused_gives m now (answer.Refused (refusal.NodeMissing a0)) (refusal.NodeMissing a0) refl
-put_quiet m now t oid bytes (Err refusal.BadKey) = refused_gives m now (answer.Refused refusal.BadKey) refusal.BadKey refl
-put_quiet m now t oid bytes (Err refusal.ReadFault) = refused_gives m now (answer.Refused refusal.ReadFault) refusal.ReadFault refl
-put_quiet m now t oid bytes (Err (refusal.NothingToDelete a0 a1)) = refused_gives m now (answer.Refused (refusal.NothingToDelete a0 a1)) (refusal.NothingToDelete a0 a1) refl
-put_quiet m now t oid bytes (Err (refusal.Connected a0)) = refused_gives m now (answer.Refused (refusal.Connected a0)) (refusal.Connected a0) refl
-put_quiet m now t oid bytes (Err refusal.StepsSpent) = refused_gives m now (answer.Refused refusal.StepsSpent) refusal.StepsSpent refl
-put_quiet m now t oid bytes (Err refusal.Memory) = refused_gives m now (answer.Refused refusal.Memory) refusal.Memory refl
+put_quiet m now t oid bytes (Err w) = refused_gives m now (answer.Refused w) w refl
 
 put_gives : (m now : Moment) (at : ℕ) (c : Client) (t : OpenTransaction) (oid : ℕ) (bytes : List ℕ) (o : Option PendingStore) (a : Answer) → IsPut m at c t oid bytes o a now → Gives m.machine now.machine a
 put_gives m now at c t oid bytes None a is = as_quiet m.machine now.machine a (put t.changes oid bytes is.0).answer is.3.0 (put_quiet m.machine now.machine t.changes oid bytes is.0)
@@ -300,7 +239,7 @@ tree_quiet m now (answered.Items list is_set) = quiet m now (answer.Items list i
 
 within_gives : (m now : Moment) (at : ℕ) (c : Client) (t : OpenTransaction) (l : Line) (a : Answer) → IsWithin m at c t l a now → Gives m.machine now.machine a
 within_gives m now at c t (line.Load oid) a is = as_quiet m.machine now.machine a (data_of is.0) is.2 (data_quiet m.machine now.machine is.0)
-within_gives m now at c t (line.Get oid) a is = get_gives m now t.view oid (pending_of t.changes.pending.stores oid) a is
+within_gives m now at c t (line.Get oid) a is = get_gives m now t oid (pending_of t.changes.pending.stores oid) a is
 within_gives m now at c t (line.Store oid base bytes) a is =
     as_quiet m.machine now.machine a (stored t.changes (record { oid = oid; base = base; content = Held bytes })).answer is.0
     (store_quiet m.machine now.machine t.changes (record { oid = oid; base = base; content = Held bytes }) (excess_with t.changes.pending.stores (record { oid = oid; base = base; content = Held bytes })))
@@ -312,68 +251,42 @@ within_gives m now at c t (line.Rollback number) a is =
     as_quiet m.machine now.machine a (rolled_back t.changes number).answer is.0 (rolled_quiet m.machine now.machine t.changes number (slice_get t.changes.savepoints number))
 within_gives m now at c t (line.Tree root call) a is =
     tree_answer (Gives m.machine now.machine) m at c t root call a now (tree_quiet m.machine now.machine) (λ why. refused_gives m.machine now.machine (answer.Refused why) why refl) is
-within_gives m now at c t line.Open a is = refused_gives m.machine now.machine a refusal.NoTransaction is.0
-within_gives m now at c t line.Begin a is = refused_gives m.machine now.machine a refusal.NoTransaction is.0
-within_gives m now at c t line.New a is = refused_gives m.machine now.machine a refusal.NoTransaction is.0
-within_gives m now at c t (line.Vote user description) a is = refused_gives m.machine now.machine a refusal.NoTransaction is.0
-within_gives m now at c t (line.Undo user description tids) a is = refused_gives m.machine now.machine a refusal.NoTransaction is.0
-within_gives m now at c t line.Finish a is = refused_gives m.machine now.machine a refusal.NoTransaction is.0
-within_gives m now at c t line.Abort a is = refused_gives m.machine now.machine a refusal.NoTransaction is.0
-within_gives m now at c t (line.History oid) a is = refused_gives m.machine now.machine a refusal.NoTransaction is.0
-within_gives m now at c t line.UndoLog a is = refused_gives m.machine now.machine a refusal.NoTransaction is.0
-within_gives m now at c t (line.Pack tid collect) a is = refused_gives m.machine now.machine a refusal.NoTransaction is.0
-within_gives m now at c t (line.PackBegin tid collect) a is = refused_gives m.machine now.machine a refusal.NoTransaction is.0
-within_gives m now at c t line.PackTurn a is = refused_gives m.machine now.machine a refusal.NoTransaction is.0
-within_gives m now at c t line.Close a is = refused_gives m.machine now.machine a refusal.NoTransaction is.0
+within_gives m now at c t _ a is = refused_gives m.machine now.machine a refusal.NoTransaction is.0
 
-own_gives : (m now : Moment) (at : ℕ) (c : Client) (t : Option OpenTransaction) (l : Line) (a : Answer) → IsOwnLine m at c t l a now → Gives m.machine now.machine a
-own_gives m now at c None l a is = refused_gives m.machine now.machine a refusal.NoTransaction is.0
-own_gives m now at c (Some t) l a is = within_gives m now at c t l a is
+outside_gives : (m now : Moment) (at : ℕ) (c : Client) (s : Standing) (a : Answer) → s ≡ Local → IsOutside m at c s a now → Gives m.machine now.machine a
+outside_gives m now at c Local a near is = refused_gives m.machine now.machine a refusal.NoTransaction is.0
+outside_gives m now at c (Linked known) a near is = absurd cc
+
+own_gives : (m now : Moment) (at : ℕ) (c : Client) (t : Option OpenTransaction) (l : Line) (a : Answer) → IsLocal c → IsOwnLine m at c t l a now → Gives m.machine now.machine a
+own_gives m now at c None l a near is = outside_gives m now at c c.standing a near is
+own_gives m now at c (Some t) l a near is = within_gives m now at c t l a is
 
 -- the request of a line asks for one number at most
-asks_one : (ch : Option Changes) (l : Line) (q : Request) → request_of ch l ≡ Some q → AsksOne q
-asks_one ch line.Open q is = absurd cc
-asks_one ch line.Begin q is = subst AsksOne (same_Some request.Front q is) tt
-asks_one ch (line.Load oid) q is = absurd cc
-asks_one ch (line.Get oid) q is = absurd cc
-asks_one ch (line.Store oid base bytes) q is = absurd cc
-asks_one ch (line.Put oid bytes) q is = absurd cc
-asks_one ch (line.Check oid serial) q is = absurd cc
-asks_one ch (line.Delete oid base) q is = absurd cc
-asks_one ch line.Savepoint q is = absurd cc
-asks_one ch (line.Rollback number) q is = absurd cc
-asks_one ch (line.Tree root call) q is = absurd cc
-asks_one ch line.New q is = subst AsksOne (same_Some (request.NewOids 1) q is) refl
-asks_one ch (line.Vote user description) q is = subst AsksOne (same_Some (request.Vote user description [] (pending_in ch)) q is) tt
-asks_one ch (line.Undo user description tids) q is = subst AsksOne (same_Some (request.Undo user description tids) q is) tt
-asks_one ch line.Finish q is = subst AsksOne (same_Some request.Finish q is) tt
-asks_one ch line.Abort q is = subst AsksOne (same_Some request.Abort q is) tt
-asks_one ch (line.History oid) q is = subst AsksOne (same_Some (request.History oid) q is) tt
-asks_one ch line.UndoLog q is = subst AsksOne (same_Some request.UndoLog q is) tt
-asks_one ch (line.Pack tid collect) q is = subst AsksOne (same_Some (request.Pack tid collect) q is) tt
-asks_one ch (line.PackBegin tid collect) q is = subst AsksOne (same_Some (request.PackBegin tid collect) q is) tt
-asks_one ch line.PackTurn q is = subst AsksOne (same_Some request.PackTurn q is) tt
-asks_one ch line.Close q is = subst AsksOne (same_Some request.Close q is) tt
+asks_one : (s : Standing) (ch : Option Changes) (l : Line) (q : Request) → request_of s ch l ≡ Some q → AsksOne q
+asks_one s ch l q is = request_cases AsksOne s ch l q tt refl (λ user description. tt) (λ user description tids. tt) tt tt (λ oid. tt) tt (λ tid collect. tt) (λ tid collect. tt) tt tt is
 
-told_up : (rules : Rules) (b t : Moment) (n : ℕ) (committed : Bool) → IsTold rules committed b n t → b.machine.greatest ≤ t.machine.greatest
-told_up rules b t n false told = omega (arith, ap (λ (x : Moment). x.machine.greatest) told)
-told_up rules b t n true told =
-    omega (arith, ap (λ (x : Machine). x.greatest) told.1.made.left, left_greatest rules b.machine n request.Front told.1.stamp (outcome_of told.0))
+told_up : (rules : Rules) (b t : Moment) (n count : ℕ) → IsTold rules count b n t → b.machine.greatest ≤ t.machine.greatest
+told_up rules b t n zero told = omega (arith, ap (λ (x : Moment). x.machine.greatest) told)
+told_up rules b t n (suc count) (r, next, step, rest) =
+    omega (arith, told_up rules next t n count rest, ap (λ (x : Machine). x.greatest) step.made.left, left_greatest rules b.machine n request.Front step.stamp (outcome_of r))
 
-taken_gives : (rules : Rules) (m now : Moment) (at : ℕ) (c : Client) (l : Line) (q : Option Request) (a : Answer) → request_of (changes_of c) l ≡ q → IsLineTaken rules m at c l q a now → Gives m.machine now.machine a
-taken_gives rules m now at c l (Some q) a asks is =
-    step_line_gives rules m now at c q a (asks_one (changes_of c) l q asks) is (told_up rules is.behind is.told c.session (is_committed is.reply) is.front)
-taken_gives rules m now at c l None a asks is = own_gives m now at c c.transaction l a is
+long_gives : (rules : Rules) (m now : Moment) (at : ℕ) (c : Client) (d : Bool) (q : Request) (e : Option ℕ) (a : Answer) → AsksOne q → IsStepUnless rules m at c d q e a now → Gives m.machine now.machine a
+long_gives rules m now at c d q None a one is = step_line_gives rules m now at c d q a one is (told_up rules is.behind is.told c.session (fronts_behind (is_committed is.reply) c.standing) is.front)
+long_gives rules m now at c d q (Some n) a one is = refused_gives m.machine now.machine a (refusal.TooLong n) is.0
 
-unless_gives : (rules : Rules) (m now : Moment) (at : ℕ) (c : Client) (l : Line) (r : Option Refusal) (a : Answer) → IsLineUnless rules m at c l r a now → Gives m.machine now.machine a
-unless_gives rules m now at c l (Some why) a is = refused_gives m.machine now.machine a why is.0
-unless_gives rules m now at c l None a is = taken_gives rules m now at c l (request_of (changes_of c) l) a refl is
+taken_gives : (rules : Rules) (m now : Moment) (at : ℕ) (c : Client) (l : Line) (q : Option Request) (a : Answer) → IsLocal c → request_of c.standing (changes_of c) l ≡ q → IsLineTaken rules m at c l q a now → Gives m.machine now.machine a
+taken_gives rules m now at c l (Some q) a near asks is = long_gives rules m now at c (is_delivery l) q (asking_excess c.standing q) a (asks_one c.standing (changes_of c) l q asks) is
+taken_gives rules m now at c l None a near asks is = own_gives m now at c c.transaction l a near is
 
-line_of_gives : (rules : Rules) (m now : Moment) (at : Option ℕ) (l : Line) (a : Answer) → IsLineOf rules m at l a now → Gives m.machine now.machine a
-line_of_gives rules m now None l a is = refused_gives m.machine now.machine a refusal.NotOpen is.0
-line_of_gives rules m now (Some at) l a is = unless_gives rules m now at is.0 l (connection_refusal m.machine is.0 l) a is.2
+unless_gives : (rules : Rules) (m now : Moment) (at : ℕ) (c : Client) (l : Line) (r : Option Refusal) (a : Answer) → IsLocal c → IsLineUnless rules m at c l r a now → Gives m.machine now.machine a
+unless_gives rules m now at c l (Some why) a near is = refused_gives m.machine now.machine a why is.0
+unless_gives rules m now at c l None a near is = taken_gives rules m now at c l (request_of c.standing (changes_of c) l) a near refl is
 
-opened_gives : (m : Moment) (now : Machine) (name : List ℕ) (b : Bool) → Gives m.machine now (if b then (let o : Opening = record { answer = answer.Opened (length m.machine.sessions); moment = record { machine = with_session m.machine; clients = m.clients ++ record { name = name; session = length m.machine.sessions; transaction = None } ∷ []; stamps = m.stamps; counts = m.counts } } in o)
+line_of_gives : (rules : Rules) (m now : Moment) (at : Option ℕ) (l : Line) (a : Answer) → ((at : ℕ) (c : Client) → slice_get m.clients at ≡ Some c → IsLocal c) → IsLineOf rules m at l a now → Gives m.machine now.machine a
+line_of_gives rules m now None l a near is = refused_gives m.machine now.machine a refusal.NotOpen is.0
+line_of_gives rules m now (Some at) l a near is = unless_gives rules m now at is.0 l (connection_refusal m.machine is.0 l) a (near at is.0 is.1) is.2
+
+opened_gives : (m : Moment) (now : Machine) (name : List ℕ) (b : Bool) → Gives m.machine now (if b then (let o : Opening = record { answer = answer.Opened (length m.machine.sessions); moment = record { machine = with_session m.machine; clients = m.clients ++ record { name = name; session = length m.machine.sessions; transaction = None; standing = Local } ∷ []; stamps = m.stamps; counts = m.counts } } in o)
     else (let o : Opening = record { answer = answer.Refused (refusal.TooManySessions (length m.machine.sessions)); moment = m } in o)).answer
 opened_gives m now name true = quiet m.machine now (answer.Opened (length m.machine.sessions)) refl refl
 opened_gives m now name false = quiet m.machine now (answer.Refused (refusal.TooManySessions (length m.machine.sessions))) refl refl
@@ -381,5 +294,5 @@ opened_gives m now name false = quiet m.machine now (answer.Refused (refusal.Too
 opening_gives : (m now : Moment) (name : List ℕ) (a : Answer) → IsOpening m name a now → Gives m.machine now.machine a
 opening_gives m now name a is = subst (Gives m.machine now.machine) (sym (ap (λ (o : Opening). o.answer) is)) (opened_gives m now.machine name (nat_lt (length m.machine.sessions) 64))
 
-pub line_gives : (rules : Rules) (m now : Moment) (name : List ℕ) (l : Line) (a : Answer) → IsLine rules m name l a now → Gives m.machine now.machine a
-line_gives rules m now name l a is = by_name rules m now name l a (Gives m.machine now.machine a) (opening_gives m now name a) (line_of_gives rules m now (place_of_client name m.clients) l a) is
+pub line_gives : (rules : Rules) (m now : Moment) (name : List ℕ) (l : Line) (a : Answer) → ((at : ℕ) (c : Client) → slice_get m.clients at ≡ Some c → IsLocal c) → IsLine rules m name l a now → Gives m.machine now.machine a
+line_gives rules m now name l a near is = by_name rules m now name l a (Gives m.machine now.machine a) (opening_gives m now name a) (line_of_gives rules m now (place_of_client name m.clients) l a near) is

@@ -1,5 +1,5 @@
 -- Laws of turns.
-use Rattle.std.proofs.Common.{◌≡◌, ℕ, ◌+◌, ◌<◌, ◌≤◌, Bool, List, [], ◌∷◌, ◌++◌, Option, Some, None, refl, ap, arith}
+use Rattle.std.proofs.Common.{◌≡◌, ℕ, ◌+◌, ◌<◌, ◌≤◌, Bool, List, [], ◌∷◌, Option, Some, None, refl, ap, arith}
 use Rattle.std.specs.List.{AllByRecursion, AllPairs, filter_map}
 use Rattle.std.proofs.lemmas.List.Elements.{All-from_recursion}
 use Rattle.std.proofs.lemmas.List.Kept.{AllPairs-cons}
@@ -19,7 +19,7 @@ use Rattle.client_turns.specs.Laws.{FrontsNeverFall, IsSoundMoment, NumbersAreNe
 use Rattle.client_turns.specs.Numbers.{given_in_line, number_given, number_listed, numbers_given}
 use Rattle.client_turns.specs.Output.{FlaggedTurn, Out, TurnAnswer}
 use Rattle.client_turns.specs.Turns.{IsAnswered, IsLine}
-use Rattle.client_turns.proofs.Following.{FollowsMoment, closing_follows, follows_twice, line_follows, moment_follows, sound_of, turn_follows}
+use Rattle.client_turns.proofs.Following.{FollowsMoment, at_formed, closing_follows, follows_twice, line_follows, moment_follows, sound_of, turn_follows}
 use Rattle.client_turns.proofs.Giving.{Gives, line_gives}
 use Rattle.client_turns.proofs.Numbering.{Rises, all_above, at_rises, rises_from, rises_joined, rising_pairs}
 
@@ -45,7 +45,7 @@ list_stays rules list stamps counts turns out now is output =
 -- an answer gives the front of the list that the turn found, or a number behind its greatest, which the machine has then reached
 turn_gives : (rules : Rules) (m now : Moment) (t : Turn) (last : Bool) (a : Answer) → IsSoundMoment m → IsAnswered rules m t last a now → Gives m.machine now.machine a
 turn_gives rules m now t last a sound is =
-    let gives : Gives m.machine is.behind.machine a = line_gives rules m is.behind t.client t.line a is.line in
+    let gives : Gives m.machine is.behind.machine a = line_gives rules m is.behind t.client t.line a (λ at c there. (at_formed m.clients at c sound.formed there).1) is.line in
     let line : FollowsMoment m is.behind = line_follows rules m is.behind t.client t.line a sound is.fits is.line in
     let closing : FollowsMoment is.behind now = closing_follows rules is.behind now t.client last (sound_of m is.behind line) is.closing in
     record { front = gives.front; number = λ n given. ((gives.number n given).0, omega (arith, (gives.number n given).1, closing.machine.greatest)) }
@@ -114,7 +114,7 @@ numbers_rise rules m now (t ∷ turns) (o ∷ out) sound is =
     let line : FollowsMoment m turn.behind = line_follows rules m turn.behind t.turn.client t.turn.line o.answer sound turn.fits turn.line in
     let closing : FollowsMoment turn.behind is.0 = closing_follows rules turn.behind is.0 t.turn.client t.is_last (sound_of m turn.behind line) turn.closing in
     rises_joined m.machine.greatest turn.behind.machine.greatest now.machine.greatest (given_in_line rules m t.turn.client t.turn.line o.answer turn.behind turn.line) (numbers_given rules is.0 turns out now is.3)
-    (line_rises rules m turn.behind t.turn.client t.turn.line o.answer turn.line line.machine.greatest (line_gives rules m turn.behind t.turn.client t.turn.line o.answer turn.line))
+    (line_rises rules m turn.behind t.turn.client t.turn.line o.answer turn.line line.machine.greatest (line_gives rules m turn.behind t.turn.client t.turn.line o.answer (λ at c there. (at_formed m.clients at c sound.formed there).1) turn.line))
     (rises_from turn.behind.machine.greatest is.0.machine.greatest now.machine.greatest (numbers_given rules is.0 turns out now is.3) closing.machine.greatest
     (numbers_rise rules is.0 now turns out (sound_of m is.0 first) is.3))
 

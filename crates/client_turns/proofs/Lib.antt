@@ -26,3 +26,4 @@ pub mod Putting
 pub mod Served
 pub mod Stepping
 pub mod Taking
+pub mod FreeVotes

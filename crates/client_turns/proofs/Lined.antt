@@ -26,13 +26,13 @@ use Rattle.local_loads.specs.Local as local
 use Rattle.local_loads.specs.Local.{LocalState, MayBeTold}
 use Rattle.local_loads.specs.Making.{IsHubStep, IsLocalCall}
 use Rattle.client_turns.specs.declared.client.Client.{Client}
-use Rattle.client_turns.specs.Asking.{TakesLine, TakesRead, answered, begun_as, finished_as, saved_as}
+use Rattle.client_turns.specs.Asking.{TakesLine, TakesRead, answered, begun_as, delivered_with, finished_as, saved_as}
 use Rattle.client_turns.specs.Clients.{Changes}
 use Rattle.client_turns.specs.Lines.{Changed, data_of}
 use Rattle.client_turns.specs.Standing.{IsGotWhere, changes_kept}
 use Rattle.client_turns.proofs.Asked.{end_of_client, get_leads, load_leads}
 use Rattle.client_turns.proofs.Changing.{AgreesAs, IsChanging, change_leads, check_changes, checked_agrees, delete_changes, deleted_agrees, roll_changes, rolled_agrees, rolled_done, save_changes, saved_agrees, store_changes, stored_agrees, stored_done}
-use Rattle.client_turns.proofs.Ending.{abort_leads, begin_leads, finish_leads, undo_leads, vote_leads}
+use Rattle.client_turns.proofs.Ending.{abort_leads, begin_leads, deliver_leads, finish_leads, undo_leads, vote_leads}
 use Rattle.client_turns.proofs.One.{starved_open, stays}
 use Rattle.client_turns.proofs.Putting.{put_leads}
 
@@ -221,6 +221,21 @@ module _ {R F S : Type 0} (told lasts : Type 0) (stands : List ℕ → List Tran
       (subst (λ (t : LocalState R F). OnOk result ((v : views.Client) → At (end_of_client h before x) v → At t (renewed (view_of (local.server_of h)) v))) ends
       (subst (λ (s : LocalState R F). OnOk result ((v : views.Client) → At s v → Stands b (renewed (view_of (local.server_of s.hub)) v))) begins be))
       refused made err reply answers
+
+  -- `deliver`
+  pub deliver_over : (result : Result ℕ Refusal)
+      → OnOk result ((u : View) (v : views.Client) → Stands a v → InView x.connection u v → InView y.connection u (renewed (view_of (local.server_of (state a).hub)) v))
+      → OnOk result ((v : views.Client) → Stands a v → Between x.connection v → Between y.connection (renewed (view_of (local.server_of (state a).hub)) v))
+      → OnOk result ((v : views.Client) → Stands a v → Stands b (renewed (view_of (local.server_of (state a).hub)) v))
+      → ((work_of x.connection ≡ Err refusal.NotOpen → ⊥) → IsFrontBy Makes a b result) → work_of y.connection ≡ work_of x.connection → OnErr result (y.connection ≡ x.connection)
+      → (reply : Answer) → reply ≡ delivered_with result → TakesLine told (rules_of rules_in named_in h) line.Deliver reply h g x y before after
+  deliver_over result view between be made work err reply answers tells m at c takes =
+      deliver_leads told lasts stands rules_in named_in tells m at x y c h g before after takes Makes a b calls_over same_over name session result
+      (subst (λ (s : LocalState R F). OnOk result ((u : View) (v : views.Client) → At s v → InView x.connection u v → InView y.connection u (renewed (view_of (local.server_of s.hub)) v))) begins view)
+      (subst (λ (s : LocalState R F). OnOk result ((v : views.Client) → At s v → Between x.connection v → Between y.connection (renewed (view_of (local.server_of s.hub)) v))) begins between)
+      (subst (λ (t : LocalState R F). OnOk result ((v : views.Client) → At (end_of_client h before x) v → At t (renewed (view_of (local.server_of h)) v))) ends
+      (subst (λ (s : LocalState R F). OnOk result ((v : views.Client) → At s v → Stands b (renewed (view_of (local.server_of s.hub)) v))) begins be))
+      made work err reply answers
 
 -- a line for which there was no memory
 pub starved_takes : {R F : Type 0} (told : Type 0) (rules : Rules) (l : Line) (h : HubState R F) (x : Client) (stamps : Option (List Stamp)) → TakesLine told rules l (answer.Refused refusal.Memory) h h x x stamps stamps

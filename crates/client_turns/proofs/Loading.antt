@@ -1,5 +1,5 @@
 -- How a load of the hub is a read in a view.
-use Rattle.std.proofs.Common.{◌≡◌, ℕ, Bool, true, false, not, ◌==◌, List, Option, Some, None, Result, Err, refl, sym, ap, subst, ◌∙◌, ◌≤◌, ◌<◌, arith, IsTrue, inl, inr}
+use Rattle.std.proofs.Common.{Bool, Err, IsTrue, List, None, Option, Result, Some, ap, arith, false, inl, inr, not, refl, subst, sym, true, ℕ, ◌<◌, ◌==◌, ◌∙◌, ◌≡◌, ◌≤◌}
 use Rattle.std.specs.Option.{option_and_then, option_or}
 use Rattle.std.proofs.lemmas.Bool.{eqb-true, eqb-false}
 use Rattle.zb_base.specs.Counts.{Rose}
@@ -21,10 +21,10 @@ use Rattle.connection_view.specs.Connections.{IsReadAnswered}
 use Rattle.connection_view.specs.Loading.{IsMissing}
 use Rattle.connection_view.specs.Views.{Later, View, read_as, read_from, view_of}
 use Rattle.local_loads.specs.Answers.{load_answer, server_refusal}
-use Rattle.client_turns.specs.Clients.{Moment}
+use Rattle.client_turns.specs.Clients.{Moment, OpenTransaction}
 use Rattle.client_turns.specs.Clients as clients
 use Rattle.client_turns.specs.Lines.{IsCountedBy, outcome_of_read}
-use Rattle.client_turns.specs.Reads.{EndsReading}
+use Rattle.client_turns.specs.Reads.{EndsNear, EndsReading}
 use Rattle.client_turns.specs.Steps.{IsReadAt, IsStepAt}
 use Rattle.client_turns.specs.Views.{server_of}
 
@@ -78,7 +78,7 @@ each_load m oid (Some r) e P held none = no_content m oid r.serial r.content e P
 
 -- how a read ends, and what it does to the counts
 pub record EndsSo (m : Machine) (v : View) (oid : ℕ) (before now : FaultCounts) (result : Result (ℕ × List ℕ) Refusal) : Type 0 where
-  pub ends : EndsReading m v oid before now result
+  pub ends : EndsNear m v oid before now result
   pub counts : IsCountedBy before now (outcome_of_read result)
 
 missing_as : (m : Machine) (v : View) (oid o packed : ℕ) (b : Bool) → (packed == v.switches) ≡ b → Later v (view_of (server_of m)) → IsNothing m oid o packed (revision_below oid v.front m.list)
@@ -155,23 +155,7 @@ module _ (rules : Rules) (m : Moment) (n oid stamp : ℕ) (v : View) (made : Ste
   reply_so (reply.Refused why) result is counts ends so =
       subst (EndsSo m.machine v oid m.counts now) (sym so.0)
       (refused_so m.machine v oid m.counts now why (λ o. never_answered why (outcome_of_refusal why) is o ends) (λ o. failed_rose (outcome_of_refusal why) o ends) (λ o. never_broke (outcome_of_refusal why) o ends) counts)
-  reply_so (reply.Front front news switches) result is counts ends so = absurd (other_reply _ (λ serial bytes end upto e. absurd cc) (λ o packed e. absurd cc) is ends)
-  reply_so (reply.Oids first count) result is counts ends so = absurd (other_reply _ (λ serial bytes end upto e. absurd cc) (λ o packed e. absurd cc) is ends)
-  reply_so reply.Voted result is counts ends so = absurd (other_reply _ (λ serial bytes end upto e. absurd cc) (λ o packed e. absurd cc) is ends)
-  reply_so (reply.Committed tid) result is counts ends so = absurd (other_reply _ (λ serial bytes end upto e. absurd cc) (λ o packed e. absurd cc) is ends)
-  reply_so reply.Empty result is counts ends so = absurd (other_reply _ (λ serial bytes end upto e. absurd cc) (λ o packed e. absurd cc) is ends)
-  reply_so reply.Aborted result is counts ends so = absurd (other_reply _ (λ serial bytes end upto e. absurd cc) (λ o packed e. absurd cc) is ends)
-  reply_so (reply.History list) result is counts ends so = absurd (other_reply _ (λ serial bytes end upto e. absurd cc) (λ o packed e. absurd cc) is ends)
-  reply_so (reply.UndoLog list) result is counts ends so = absurd (other_reply _ (λ serial bytes end upto e. absurd cc) (λ o packed e. absurd cc) is ends)
-  reply_so (reply.Packed kept dropped) result is counts ends so = absurd (other_reply _ (λ serial bytes end upto e. absurd cc) (λ o packed e. absurd cc) is ends)
-  reply_so (reply.Packing tid) result is counts ends so = absurd (other_reply _ (λ serial bytes end upto e. absurd cc) (λ o packed e. absurd cc) is ends)
-  reply_so (reply.Marking count) result is counts ends so = absurd (other_reply _ (λ serial bytes end upto e. absurd cc) (λ o packed e. absurd cc) is ends)
-  reply_so (reply.Marked count) result is counts ends so = absurd (other_reply _ (λ serial bytes end upto e. absurd cc) (λ o packed e. absurd cc) is ends)
-  reply_so (reply.Copying count) result is counts ends so = absurd (other_reply _ (λ serial bytes end upto e. absurd cc) (λ o packed e. absurd cc) is ends)
-  reply_so (reply.Copied count) result is counts ends so = absurd (other_reply _ (λ serial bytes end upto e. absurd cc) (λ o packed e. absurd cc) is ends)
-  reply_so (reply.Last tid changes) result is counts ends so = absurd (other_reply _ (λ serial bytes end upto e. absurd cc) (λ o packed e. absurd cc) is ends)
-  reply_so (reply.Since keep commits) result is counts ends so = absurd (other_reply _ (λ serial bytes end upto e. absurd cc) (λ o packed e. absurd cc) is ends)
-  reply_so reply.Closed result is counts ends so = absurd (other_reply _ (λ serial bytes end upto e. absurd cc) (λ o packed e. absurd cc) is ends)
+  reply_so _ result is counts ends so = absurd (other_reply _ (λ serial bytes end upto e. absurd cc) (λ o packed e. absurd cc) is ends)
 
 -- the machine is as it was
 load_left : (rules : Rules) (m : Machine) (n oid front stamp : ℕ) (made : Stepped) (before now : FaultCounts) (o : StepOutcome) → is_open_in m.sessions n ≡ true
@@ -201,18 +185,18 @@ moment_is m now machine others stamps =
     ∙ ap (λ (x : List clients.Client). let n : Moment = record { machine = m.machine; clients = x; stamps = now.stamps; counts = now.counts } in n) others
     ∙ ap (λ (x : Option (List Stamp)). let n : Moment = record { machine = m.machine; clients = m.clients; stamps = x; counts = now.counts } in n) stamps
 
--- a load in an open session is a read in a view of which the list came
-pub load_reads : (rules : Rules) (m : Moment) (n oid : ℕ) (v : View) (r : Reply) (result : Result (ℕ × List ℕ) Refusal) (now : Moment) → Later v (view_of (server_of m.machine)) → is_open_in m.machine.sessions n ≡ true
-    → IsStepAt rules m n (request.LoadBefore oid v.front) r now → IsReadAnswered oid v.switches (load_answer r) result → IsReadAt m v oid result now
-load_reads rules m n oid v r result now later is_open step answered =
-    let so : EndsSo m.machine v oid m.counts now.counts result =
-    reply_so rules m n oid step.stamp v (record { reply = r; machine = now.machine; ticks = step.ticks }) now.counts later is_open r result refl step.counts step.made.cause answered in
+-- a load in an open session is a read of a local client, in a view of which the list came
+pub load_reads : (rules : Rules) (m : Moment) (n oid : ℕ) (t : OpenTransaction) (r : Reply) (result : Result (ℕ × List ℕ) Refusal) (now : Moment) → t.framed ≡ false → Later t.view (view_of (server_of m.machine)) → is_open_in m.machine.sessions n ≡ true
+    → IsStepAt rules m n (request.LoadBefore oid t.view.front) r now → IsReadAnswered oid t.view.switches (load_answer r) result → IsReadAt m t oid result now
+load_reads rules m n oid t r result now near later is_open step answered =
+    let so : EndsSo m.machine t.view oid m.counts now.counts result =
+    reply_so rules m n oid step.stamp t.view (record { reply = r; machine = now.machine; ticks = step.ticks }) now.counts later is_open r result refl step.counts step.made.cause answered in
     record {
       later = step.made.later;
-      ends = so.ends;
+      ends = subst (λ (far : Bool). EndsReading far m.machine t.view oid m.counts now.counts result) (sym near) so.ends;
       counts = so.counts;
       rest = moment_is m now
-          (step.made.left ∙ load_left rules m.machine n oid v.front step.stamp (record { reply = r; machine = now.machine; ticks = step.ticks }) m.counts now.counts (outcome_of r) is_open step.made.cause)
+          (step.made.left ∙ load_left rules m.machine n oid t.view.front step.stamp (record { reply = r; machine = now.machine; ticks = step.ticks }) m.counts now.counts (outcome_of r) is_open step.made.cause)
           step.clients
-          (unread_clock step.ticks step.stamp m.stamps now.stamps (λ t. load_quiet rules m.machine n oid v.front step.stamp is_open (step.made.ticks t)) step.clock);
+          (unread_clock step.ticks step.stamp m.stamps now.stamps (λ ticks. load_quiet rules m.machine n oid t.view.front step.stamp is_open (step.made.ticks ticks)) step.clock);
     }

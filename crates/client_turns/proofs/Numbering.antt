@@ -19,6 +19,7 @@ use Rattle.client_turns.specs.Refusing.{connection_refusal}
 use Rattle.client_turns.specs.Trees.{CallEnds, Draws, IsDrawn, IsRaised, IsTreeLine, IsUncalled, by_draw, by_read, by_tree, by_want, operation_of}
 use Rattle.client_turns.specs.Turns.{IsLineOf, IsLineUnless, IsOwnLine}
 use Rattle.client_turns.proofs.Giving.{oids_given}
+use Rattle.client_turns.specs.TurnLaws.{outside_machine}
 
 -- ---- numbers that rise
 
@@ -66,7 +67,7 @@ same_up : (m now : Moment) → now ≡ m → m.machine.greatest ≤ now.machine.
 same_up m now is = omega (arith, ap (λ (x : Moment). x.machine.greatest) is)
 
 uncalled_rises : (m : Moment) (n : ℕ) (t : OpenTransaction) (root : ℕ) (op : TreeOperation) (why : Refusal) (now : Moment) → (is : IsUncalled m n t root op why now) → Rises m.machine.greatest now.machine.greatest (drawn_uncalled is)
-uncalled_rises m n t root op why now (by_tree objects sees refused same) = same_up m now same
+uncalled_rises m n t root op why now (by_tree objects sees refused whole same) = same_up m now same
 uncalled_rises m n t root op why now (by_read oid asked read found) = omega (arith, ap (λ (x : Moment). x.machine.greatest) read.rest)
 uncalled_rises m n t root op why now (by_draw numbers behind lacks draws (rules, step)) =
     rises_to m.machine.greatest behind.machine.greatest now.machine.greatest numbers (raised_up behind.machine now.machine (new_raised rules behind n (reply.Refused why) now step)) (draws_rise m n numbers behind draws)
@@ -84,7 +85,7 @@ within_rises m now at c t root call a is =
     (call_rises m c.session t root (operation_of call) is.result is.behind is.ends)
 
 own_rises : (m now : Moment) (at : ℕ) (c : Client) (t : Option OpenTransaction) (root : ℕ) (call : TreeCall) (a : Answer) → (is : IsOwnLine m at c t (line.Tree root call) a now) → Rises m.machine.greatest now.machine.greatest (drawn_within m at c t root call a now is)
-own_rises m now at c None root call a is = same_up m now is.1
+own_rises m now at c None root call a is = omega (arith, ap (λ (x : Machine). x.greatest) (outside_machine m now at c c.standing a is))
 own_rises m now at c (Some t) root call a is = within_rises m now at c t root call a is
 
 unless_rises : (rules : Rules) (m now : Moment) (at : ℕ) (c : Client) (why : Option Refusal) (root : ℕ) (call : TreeCall) (a : Answer) → (is : IsLineUnless rules m at c (line.Tree root call) why a now)

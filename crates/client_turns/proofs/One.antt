@@ -31,11 +31,11 @@ use Rattle.client_turns.specs.declared.client.Client.{Client}
 use Rattle.client_turns.specs.Asking.{IsSameBut}
 use Rattle.client_turns.specs.Clients.{Moment, OpenTransaction, changes_of, with_client}
 use Rattle.client_turns.specs.Clients as seen
-use Rattle.client_turns.specs.Lines.{IsCountedBy, answer_of, client_left, is_committed, request_of}
+use Rattle.client_turns.specs.Lines.{IsCountedBy, answer_of, answer_to, asking_excess, client_left, client_told, is_committed, is_delivery, request_of, standing_behind, step_answer}
 use Rattle.client_turns.specs.Refusing.{line_refusal}
 use Rattle.client_turns.specs.Standing.{AreClientsOf, ClientsState, IsClientOf, IsLineOpen, IsOpenAs, LeadsTo, MayTakeAt, OneLeadsTo, StandsForMoment}
 use Rattle.client_turns.specs.Steps.{IsStepAt}
-use Rattle.client_turns.specs.Turns.{IsLineTaken, IsLineUnless, IsOwnLine, IsStepLine, IsTold, IsWithin}
+use Rattle.client_turns.specs.Turns.{IsLineTaken, IsLineUnless, IsOwnLine, IsStepLine, IsStepUnless, IsTold, IsWithin, fronts_behind}
 use Rattle.client_turns.proofs.Causes.{counted_of}
 use Rattle.client_turns.proofs.Placing.{set_at}
 
@@ -88,7 +88,7 @@ clients_later old new others [] [] are = tt
 clients_later old new others [] (c ∷ cs) are = absurd are
 clients_later old new others (x ∷ xs) [] are = absurd are
 clients_later old new others (x ∷ xs) (c ∷ cs) are =
-    (record { name = are.0.name; session = are.0.session; told = are.0.told; may = others x.told are.0.told.told are.0.told.known are.0.may; transaction = are.0.transaction }, clients_later old new others xs cs are.1)
+    (record { name = are.0.name; session = are.0.session; local = are.0.local; told = are.0.told; may = others x.told are.0.told.told are.0.told.known are.0.may; transaction = are.0.transaction }, clients_later old new others xs cs are.1)
 
 pub set_there : (cs : List seen.Client) (at : ℕ) (c : seen.Client) → slice_get cs at ≡ Some c → cs ≡ slice_set cs at c
 set_there [] at c is = absurd cc
@@ -117,27 +117,40 @@ lift Q m at old new y before after stands leads is = record {
 
 -- ---- one client
 
--- the client with another connection, which has the same transaction
+-- a client's connection is open
+pub not_closed : (k : Connection) (told : views.Client) (w : Result Work Refusal) (o : Option OpenTransaction) → IsOpenAs k told w o → w ≡ Err refusal.NotOpen → ⊥
+not_closed k told (Ok w) o is e = absurd cc
+not_closed k told (Err r) (Some t) is e = absurd is
+not_closed k told (Err r) None is e = other (ap (λ (s : Refusal). let x : Result Work Refusal = Err s in x) (sym is.0) ∙ e)
+  where
+    other : (let x : Result Work Refusal = Err refusal.NoTransaction in x) ≡ Err refusal.NotOpen → ⊥
+    other e = absurd cc
+
+-- the client with another connection, which has the same transaction, for what it may have been told by now
+pub opened_to : (k l : Connection) (told known : views.Client) → ((u : View) → InView k u told → InView l u known) → (Between k told → Between l known) → (w : Result Work Refusal) (t : Option OpenTransaction) → IsOpenAs k told w t → IsOpenAs l known w t
+opened_to k l told known view between (Ok w) (Some t) is = record { changes = is.changes; near = is.near; view = view t.view is.view }
+opened_to k l told known view between (Ok w) None is = absurd is
+opened_to k l told known view between (Err r) (Some t) is = absurd is
+opened_to k l told known view between (Err r) None is = (is.0, between is.1)
+
 pub opened_as : (k l : Connection) (told : views.Client) → ((u : View) → InView k u told → InView l u told) → (Between k told → Between l told) → (w : Result Work Refusal) (t : Option OpenTransaction) → IsOpenAs k told w t → IsOpenAs l told w t
-opened_as k l told view between (Ok w) (Some t) is = record { changes = is.changes; view = view t.view is.view }
-opened_as k l told view between (Ok w) None is = absurd is
-opened_as k l told view between (Err r) (Some t) is = absurd is
-opened_as k l told view between (Err r) None is = (is.0, between is.1)
+opened_as k l told view between w t is = opened_to k l told told view between w t is
 
 abbrev pub client_kept : {R F : Type 0} (old new : HubState R F) (x y : Client) (c : seen.Client) → (is : IsClientOf old x c) → IsSameBut x y → MayBeTold x.told new is.told.told is.told.known → work_of y.connection ≡ work_of x.connection
     → ((u : View) → InView x.connection u is.told → InView y.connection u is.told) → (Between x.connection is.told → Between y.connection is.told) → IsClientOf new y c
 client_kept old new x y c is same may work view between = record {
   name = is.name ∙ sym same.name;
   session = is.session ∙ sym same.session;
+  local = is.local;
   told = is.told;
   may = subst (λ (l : Option Told). MayBeTold l new is.told.told is.told.known) (sym same.told) may;
   transaction = subst (λ (w : Result Work Refusal). IsOpenAs y.connection is.told w c.transaction) (sym work) (opened_as x.connection y.connection is.told view between (work_of x.connection) c.transaction is.transaction);
 }
 
 -- the same with another transaction
-pub client_with : {R F : Type 0} (new : HubState R F) (x y : Client) (c : seen.Client) (told : views.Client) (o : Option OpenTransaction) → c.name ≡ x.name → c.session ≡ x.session → y.name ≡ x.name → y.session ≡ x.session → MayBeTold y.told new told.told told.known
+pub client_with : {R F : Type 0} (new : HubState R F) (x y : Client) (c : seen.Client) (told : views.Client) (o : Option OpenTransaction) → c.name ≡ x.name → c.session ≡ x.session → c.standing ≡ seen.Local → y.name ≡ x.name → y.session ≡ x.session → MayBeTold y.told new told.told told.known
     → IsOpenAs y.connection told (work_of y.connection) o → IsClientOf new y (record c { transaction = o })
-client_with new x y c told o name session same also may is = record { name = name ∙ sym same; session = session ∙ sym also; told = told; may = may; transaction = is }
+client_with new x y c told o name session near same also may is = record { name = name ∙ sym same; session = session ∙ sym also; local = near; told = told; may = may; transaction = is }
 
 -- nothing was done, but what the client keeps may be another
 pub stays : {R F : Type 0} (Q : Moment → Type 0) (m : Moment) (at : ℕ) (old new : HubState R F) (x y : Client) (c : seen.Client) (before after : Option (List Stamp)) → MayTakeAt old before m at x c → new ≡ old → after ≡ before
@@ -169,6 +182,34 @@ changes_to {R} {F} Q m at old new x y c d before after takes same ticks client h
 pub weaken_one : {R F : Type 0} {P Q : Moment → Type 0} {m : Moment} {at : ℕ} {old new : HubState R F} {y : Client} {left : Option (List Stamp)} → OneLeadsTo P m at old new y left → ((now : Moment) → P now → Q now) → OneLeadsTo Q m at old new y left
 weaken_one leads less = record { now = leads.now; holds = less leads.now leads.holds; client = leads.client; placed = leads.placed; stands = leads.stands; others = leads.others }
 
+-- ---- of a local client
+
+near_asks : (s : seen.Standing) (q : Request) → s ≡ seen.Local → asking_excess s q ≡ None
+near_asks seen.Local q near = refl
+near_asks (seen.Linked known) q near = absurd cc
+
+-- it is answered as its step is
+pub near_answer : (s : seen.Standing) (d : Bool) (r : Reply) → s ≡ seen.Local → step_answer s d r ≡ answer_to d r
+near_answer seen.Local d r near = refl
+near_answer (seen.Linked known) d r near = absurd cc
+
+-- and stands as before
+near_behind : (m : Machine) (s : seen.Standing) (r : Reply) → s ≡ seen.Local → standing_behind m s r ≡ s
+near_behind m seen.Local r near = refl
+near_behind m (seen.Linked known) r near = absurd cc
+
+pub near_told : (m : Machine) (r : Reply) (d : seen.Client) → d.standing ≡ seen.Local → client_told m r d ≡ d
+near_told m r d near = ap (λ (s : seen.Standing). let z : seen.Client = record { name = d.name; session = d.session; transaction = d.transaction; standing = s } in z) (near_behind m d.standing r near)
+
+pub left_standing : (d : Bool) (m : Machine) (c : seen.Client) (r : Reply) → (client_left d m c r).standing ≡ c.standing
+left_standing false m c r = refl
+left_standing true m c r = refl
+
+-- a transaction that is kept is one
+pub near_open : (k : Connection) (told : views.Client) (w : Result Work Refusal) (t : OpenTransaction) → IsOpenAs k told w (Some t) → t.framed ≡ false
+near_open k told (Ok w) t is = is.near
+near_open k told (Err r) t is = absurd is
+
 -- ---- what a line of an open session is
 
 module _ (rules : Rules) (m : Moment) (at : ℕ) (c : seen.Client) (l : Line) (a : Answer) (now : Moment) where
@@ -181,11 +222,12 @@ module _ (rules : Rules) (m : Moment) (at : ℕ) (c : seen.Client) (l : Line) (a
   starved_open answers same = inr (answers, same)
 
   -- it is a step, or none
-  pub step_open : (q : Request) → line_refusal (changes_of c) l ≡ None → request_of (changes_of c) l ≡ Some q → IsStepLine rules m at c q a now → IsLineOpen rules m at c l a now
-  step_open q free asks line =
-      inl (subst (λ (o : Option Refusal). IsLineUnless rules m at c l o a now) (sym free) (subst (λ (o : Option Request). IsLineTaken rules m at c l o a now) (sym asks) line))
+  pub step_open : (q : Request) → c.standing ≡ seen.Local → line_refusal (changes_of c) l ≡ None → request_of c.standing (changes_of c) l ≡ Some q → IsStepLine rules m at c (is_delivery l) q a now → IsLineOpen rules m at c l a now
+  step_open q near free asks line =
+      inl (subst (λ (o : Option Refusal). IsLineUnless rules m at c l o a now) (sym free) (subst (λ (o : Option Request). IsLineTaken rules m at c l o a now) (sym asks)
+      (subst (λ (e : Option ℕ). IsStepUnless rules m at c (is_delivery l) q e a now) (sym (near_asks c.standing q near)) line)))
 
-  pub own_open : (t : OpenTransaction) → c.transaction ≡ Some t → line_refusal (changes_of c) l ≡ None → request_of (changes_of c) l ≡ None → IsWithin m at c t l a now → IsLineOpen rules m at c l a now
+  pub own_open : (t : OpenTransaction) → c.transaction ≡ Some t → line_refusal (changes_of c) l ≡ None → request_of c.standing (changes_of c) l ≡ None → IsWithin m at c t l a now → IsLineOpen rules m at c l a now
   own_open t begun free asks within =
       inl (subst (λ (o : Option Refusal). IsLineUnless rules m at c l o a now) (sym free) (subst (λ (o : Option Request). IsLineTaken rules m at c l o a now) (sym asks)
       (subst (λ (o : Option OpenTransaction). IsOwnLine m at c o l a now) (sym begun) within)))
@@ -194,7 +236,7 @@ module _ (rules : Rules) (m : Moment) (at : ℕ) (c : seen.Client) (l : Line) (a
 
 pub record BehindIt {R F : Type 0} (rules : Rules) (b : Bool) (m : Moment) (n : ℕ) (old new : HubState R F) (after : Option (List Stamp)) : Type 0 where
   pub now : Moment
-  pub told : IsTold rules b m n now
+  pub told : IsTold rules (fronts_behind b seen.Local) m n now
   pub hub : StandsForMachine new now.machine
   pub vote : WritesLater now.machine.list now.machine.vote
   pub within : IsPackWithin now.machine.list now.machine.pack
@@ -216,7 +258,7 @@ module _ {R F : Type 0} (told lasts : Type 0) (stands : List ℕ → List Transa
       let s : StepsTo (rules_of rules_in named_in old) m n request.Front r new after = steps_to told lasts stands rules_in named_in tells m n request.Front r old new before after step hub counts stamps in
       record {
         now = s.now;
-        told = (r, subst (λ (x : Rules). IsStepAt x m n request.Front r s.now) (sym same) s.holds);
+        told = (r, s.now, subst (λ (x : Rules). IsStepAt x m n request.Front r s.now) (sym same) s.holds, refl);
         hub = s.hub;
         vote = writes_on _ m n request.Front r s.now s.holds vote;
         within = within_on _ m n request.Front r s.now s.holds vote within;
@@ -231,11 +273,12 @@ module _ {R F : Type 0} (told lasts : Type 0) (stands : List ℕ → List Transa
       → MayTakeAt old before m at x c → IsHubStep told lasts stands rules_in named_in x.session q r old mid before between
       → (s : StepsTo (rules_of rules_in named_in old) m x.session q r mid between)
       → (b : BehindIt (rules_of rules_in named_in old) (is_committed r) s.now x.session mid new after)
-      → a ≡ answer_of r → d ≡ client_left b.now.machine c r → IsClientOf new y d
-      → (IsStepLine (rules_of rules_in named_in old) m at c q a (with_client b.now at d) → Q (with_client b.now at d))
+      → a ≡ answer_of r → d ≡ client_left false b.now.machine c r → IsClientOf new y d
+      → (IsStepLine (rules_of rules_in named_in old) m at c false q a (with_client b.now at d) → Q (with_client b.now at d))
       → OneLeadsTo Q m at old new y after
   step_one Q m at x y c d q r a old mid new before between after takes step s b answers left client holds =
       let number : x.session ≡ c.session = sym takes.stands.client.session in
+      let near : c.standing ≡ seen.Local = takes.stands.client.local in
       record {
         now = with_client b.now at d;
         holds = holds (record {
@@ -243,9 +286,10 @@ module _ {R F : Type 0} (told lasts : Type 0) (stands : List ℕ → List Transa
           behind = s.now;
           told = b.now;
           step = subst (λ (k : ℕ). IsStepAt (rules_of rules_in named_in old) m k q r s.now) number s.holds;
-          front = subst (λ (k : ℕ). IsTold (rules_of rules_in named_in old) (is_committed r) s.now k b.now) number b.told;
-          answer = answers;
-          left = ap (λ (z : seen.Client). with_client b.now at z) left;
+          front = subst (λ (z : seen.Standing). IsTold (rules_of rules_in named_in old) (fronts_behind (is_committed r) z) s.now c.session b.now) (sym near)
+              (subst (λ (k : ℕ). IsTold (rules_of rules_in named_in old) (fronts_behind (is_committed r) seen.Local) s.now k b.now) number b.told);
+          answer = answers ∙ sym (near_answer c.standing false r near);
+          left = ap (λ (z : seen.Client). with_client b.now at z) (left ∙ sym (near_told b.now.machine r (client_left false b.now.machine c r) near));
         });
         client = d;
         placed = ap (λ (cs : List seen.Client). slice_set cs at d) (b.clients ∙ s.holds.clients);
@@ -254,26 +298,27 @@ module _ {R F : Type 0} (told lasts : Type 0) (stands : List ℕ → List Transa
       }
 
   -- the line, by its step alone
-  pub step_alone : (Q : Moment → Type 0) (m : Moment) (at : ℕ) (x y : Client) (c : seen.Client) (q : Request) (r : Reply) (a : Answer) (old new : HubState R F) (before after : Option (List Stamp))
+  pub step_alone : (Q : Moment → Type 0) (m : Moment) (at : ℕ) (x y : Client) (c : seen.Client) (d : Bool) (q : Request) (r : Reply) (a : Answer) (old new : HubState R F) (before after : Option (List Stamp))
       → MayTakeAt old before m at x c → IsHubStep told lasts stands rules_in named_in x.session q r old new before after → (s : StepsTo (rules_of rules_in named_in old) m x.session q r new after)
-      → is_committed r ≡ false → a ≡ answer_of r → IsClientOf new y (client_left s.now.machine c r)
-      → (IsStepLine (rules_of rules_in named_in old) m at c q a (with_client s.now at (client_left s.now.machine c r)) → Q (with_client s.now at (client_left s.now.machine c r)))
+      → is_committed r ≡ false → a ≡ answer_to d r → IsClientOf new y (client_left d s.now.machine c r)
+      → (IsStepLine (rules_of rules_in named_in old) m at c d q a (with_client s.now at (client_left d s.now.machine c r)) → Q (with_client s.now at (client_left d s.now.machine c r)))
       → OneLeadsTo Q m at old new y after
-  step_alone Q m at x y c q r a old new before after takes step s uncommitted answers client holds =
+  step_alone Q m at x y c d q r a old new before after takes step s uncommitted answers client holds =
       let number : x.session ≡ c.session = sym takes.stands.client.session in
+      let near : c.standing ≡ seen.Local = takes.stands.client.local in
       record {
-        now = with_client s.now at (client_left s.now.machine c r);
+        now = with_client s.now at (client_left d s.now.machine c r);
         holds = holds (record {
           reply = r;
           behind = s.now;
           told = s.now;
           step = subst (λ (k : ℕ). IsStepAt (rules_of rules_in named_in old) m k q r s.now) number s.holds;
-          front = subst (λ (b : Bool). IsTold (rules_of rules_in named_in old) b s.now c.session s.now) (sym uncommitted) refl;
-          answer = answers;
-          left = refl;
+          front = subst (λ (b : Bool). IsTold (rules_of rules_in named_in old) (fronts_behind b c.standing) s.now c.session s.now) (sym uncommitted) refl;
+          answer = answers ∙ sym (near_answer c.standing d r near);
+          left = ap (λ (z : seen.Client). with_client s.now at z) (sym (near_told s.now.machine r (client_left d s.now.machine c r) (left_standing d s.now.machine c r ∙ near)));
         });
-        client = client_left s.now.machine c r;
-        placed = ap (λ (cs : List seen.Client). slice_set cs at (client_left s.now.machine c r)) s.holds.clients;
+        client = client_left d s.now.machine c r;
+        placed = ap (λ (cs : List seen.Client). slice_set cs at (client_left d s.now.machine c r)) s.holds.clients;
         stands = record { hub = s.hub; vote = writes_on _ m x.session q r s.now s.holds takes.stands.vote; within = within_on _ m x.session q r s.now s.holds takes.stands.vote takes.stands.within; counts = s.counts; stamps = s.stamps; client = client };
         others = λ last v known may. kept_behind told lasts stands rules_in named_in x.session q r old new before after tells step last v known may;
       }

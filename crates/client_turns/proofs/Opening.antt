@@ -27,7 +27,7 @@ use Rattle.local_loads.specs.Local.{MayBeTold, WritesLater, first_view}
 use Rattle.local_loads.specs.LocalLaws.{opened_may}
 use Rattle.client_turns.specs.declared.client.Client.{Client}
 use Rattle.client_turns.specs.declared.errors.TurnError.{TurnError}
-use Rattle.client_turns.specs.Clients.{Moment, place_of_client}
+use Rattle.client_turns.specs.Clients.{Local, Moment, place_of_client}
 use Rattle.client_turns.specs.Lines.{answer_of, end_of}
 use Rattle.client_turns.specs.Standing.{AreClientsOf, ClientsState, ClosesAs, IsOpenAs, LeadsTo, OrStarved, StandsForMoment}
 use Rattle.client_turns.specs.Steps.{IsStepAt}
@@ -44,19 +44,19 @@ sessions_of : {R F : Type 0} (hub : HubState R F) (m : Machine) → StandsForMac
 sessions_of hub m stands = ap length stands.sessions ∙ sessions_counted hub.store.broken hub.sessions
 
 pub too_many : {R F : Type 0} (seen : ClientsState R F) (left : Option (List Stamp)) (m : Moment) (name : List ℕ) (count : ℕ) → StandsForMoment seen left m → count ≡ 64 → length seen.hub.sessions ≡ 64
-    → record { answer = answer.Refused (refusal.TooManySessions count); moment = m } ≡ opened m name
+    → record { answer = answer.Refused (refusal.TooManySessions count); moment = m } ≡ opened m name Local
 too_many seen left m name count stands full none =
     let n : length m.machine.sessions ≡ 64 = sessions_of seen.hub m.machine stands.hub ∙ none in
     let never : nat_lt (length m.machine.sessions) 64 ≡ false = le-ltb (length m.machine.sessions) 64 (omega (arith, n)) in
     ap (λ (k : ℕ). let o : Opening = record { answer = answer.Refused (refusal.TooManySessions k); moment = m } in o) (full ∙ sym n)
-    ∙ sym (ap (λ (b : Bool). if b then (let o : Opening = record { answer = answer.Opened (length m.machine.sessions); moment = record { machine = with_session m.machine; clients = m.clients ++ record { name = name; session = length m.machine.sessions; transaction = None } ∷ []; stamps = m.stamps; counts = m.counts } } in o)
+    ∙ sym (ap (λ (b : Bool). if b then (let o : Opening = record { answer = answer.Opened (length m.machine.sessions); moment = record { machine = with_session m.machine; clients = m.clients ++ record { name = name; session = length m.machine.sessions; transaction = None; standing = Local } ∷ []; stamps = m.stamps; counts = m.counts } } in o)
     else (let o : Opening = record { answer = answer.Refused (refusal.TooManySessions (length m.machine.sessions)); moment = m } in o)) never)
 
 opens : (m : Moment) (name : List ℕ) (n : ℕ) → n ≡ length m.machine.sessions → length m.machine.sessions < 64
-    → IsOpening m name (answer.Opened n) (record { machine = with_session m.machine; clients = m.clients ++ record { name = name; session = n; transaction = None } ∷ []; stamps = m.stamps; counts = m.counts })
+    → IsOpening m name (answer.Opened n) (record { machine = with_session m.machine; clients = m.clients ++ record { name = name; session = n; transaction = None; standing = Local } ∷ []; stamps = m.stamps; counts = m.counts })
 opens m name n number room =
-    ap (λ (k : ℕ). let o : Opening = record { answer = answer.Opened k; moment = record { machine = with_session m.machine; clients = m.clients ++ record { name = name; session = k; transaction = None } ∷ []; stamps = m.stamps; counts = m.counts } } in o) number
-    ∙ sym (ap (λ (b : Bool). if b then (let o : Opening = record { answer = answer.Opened (length m.machine.sessions); moment = record { machine = with_session m.machine; clients = m.clients ++ record { name = name; session = length m.machine.sessions; transaction = None } ∷ []; stamps = m.stamps; counts = m.counts } } in o)
+    ap (λ (k : ℕ). let o : Opening = record { answer = answer.Opened k; moment = record { machine = with_session m.machine; clients = m.clients ++ record { name = name; session = k; transaction = None; standing = Local } ∷ []; stamps = m.stamps; counts = m.counts } } in o) number
+    ∙ sym (ap (λ (b : Bool). if b then (let o : Opening = record { answer = answer.Opened (length m.machine.sessions); moment = record { machine = with_session m.machine; clients = m.clients ++ record { name = name; session = length m.machine.sessions; transaction = None; standing = Local } ∷ []; stamps = m.stamps; counts = m.counts } } in o)
     else (let o : Opening = record { answer = answer.Refused (refusal.TooManySessions (length m.machine.sessions)); moment = m } in o)) (lt-ltb (length m.machine.sessions) 64 room))
 
 pub open_leads : {R F : Type 0} (m : Moment) (name : List ℕ) (n : ℕ) (x : Client) (old new : ClientsState R F) (left : Option (List Stamp)) → StandsForMoment old left m → n ≡ length old.hub.sessions → length old.hub.sessions < 64
@@ -74,18 +74,19 @@ open_leads {R} {F} m name n x old new left stands number room hub store pushed n
     λ last told known may. may_stay last old.hub new.hub told known (ap (λ (s : StoreState). s.broken) store) (server_stays old.hub new.hub m.machine store (sym stands.hub.journal ∙ stood.journal) (sym stands.hub.greatest ∙ stood.greatest)) votes within may in
     let told : views.Client = record { told = first_view; own = no_object; voted = no_object; known = view_of (local.server_of new.hub) } in
     record {
-      now = record { machine = with_session m.machine; clients = m.clients ++ record { name = name; session = n; transaction = None } ∷ []; stamps = m.stamps; counts = m.counts };
+      now = record { machine = with_session m.machine; clients = m.clients ++ record { name = name; session = n; transaction = None; standing = Local } ∷ []; stamps = m.stamps; counts = m.counts };
       holds = inl (opens m name n (number ∙ sym all) (omega (arith, all, room)));
       stands = record {
         hub = stood;
         vote = stands.vote;
         within = stands.within;
-        clients = subst (λ (xs : List Client). AreClientsOf new.hub xs (m.clients ++ record { name = name; session = n; transaction = None } ∷ [])) (sym pushed)
-            (push_at new.hub old.clients m.clients x (record { name = name; session = n; transaction = None })
+        clients = subst (λ (xs : List Client). AreClientsOf new.hub xs (m.clients ++ record { name = name; session = n; transaction = None; standing = Local } ∷ [])) (sym pushed)
+            (push_at new.hub old.clients m.clients x (record { name = name; session = n; transaction = None; standing = Local })
             (clients_later old.hub new.hub others old.clients m.clients stands.clients)
             (record {
               name = sym named;
               session = sym numbered;
+              local = refl;
               told = told;
               may = subst (λ (l : Option Told). MayBeTold l new.hub first_view (view_of (local.server_of new.hub))) (sym untold) (opened_may new.hub votes within);
               transaction = subst (λ (w : Result Work Refusal). IsOpenAs x.connection told w None) (sym none) (refl, between told (λ oid. refl));

@@ -21,11 +21,11 @@ use Rattle.connection_view.specs.Loading.{LoadsCall}
 use Rattle.connection_view.specs.Views.{View}
 use Rattle.connection_view.specs.Views as views
 use Rattle.local_loads.specs.Local as local
-use Rattle.local_loads.specs.Local.{LocalState, MayBeTold}
+use Rattle.local_loads.specs.Local.{LocalState}
 use Rattle.local_loads.specs.Making.{IsHubStep, IsLocalCall}
 use Rattle.client_turns.specs.declared.client.Client.{Client}
 use Rattle.client_turns.specs.Asking.{IsSameBut, answered}
-use Rattle.client_turns.specs.Clients.{Changes, Moment, OpenTransaction, changes_of}
+use Rattle.client_turns.specs.Clients.{Changes, Moment, OpenTransaction}
 use Rattle.client_turns.specs.Clients as seen
 use Rattle.client_turns.specs.Lines as lines
 use Rattle.client_turns.specs.Lines.{request_of}
@@ -38,10 +38,10 @@ use Rattle.client_turns.proofs.Hubs.{counts_same}
 use Rattle.client_turns.proofs.One.{client_kept, own_open, starved_open}
 
 put_takes : (oid : ℕ) (bytes : List ℕ) → TakesUnvoted (line.Put oid bytes)
-put_takes oid bytes = record { closed = refl; voted = λ t. refl; asks = λ t. refl }
+put_takes oid bytes = record { closed = refl; voted = λ t. refl; asks = λ s t. refl }
 
 -- a put that found no memory behind its read: the read moved no count
-calm_put : (m now : Moment) (v : View) (oid : ℕ) (read : Result (ℕ × List ℕ) Refusal) (result : Result (Unit {0}) Refusal) → ((r : Refusal) → base_read read ≡ Err r → result ≡ Err r) → result ≡ Err refusal.Memory → IsReadAt m v oid read now → now ≡ m
+calm_put : (m now : Moment) (v : OpenTransaction) (oid : ℕ) (read : Result (ℕ × List ℕ) Refusal) (result : Result (Unit {0}) Refusal) → ((r : Refusal) → base_read read ≡ Err r → result ≡ Err r) → result ≡ Err refusal.Memory → IsReadAt m v oid read now → now ≡ m
 calm_put m now v oid (Ok d) result refused starved is = counts_same m now is.counts is.rest
 calm_put m now v oid (Err refusal.ReadFault) result refused starved is = absurd (other (sym (refused refusal.ReadFault refl) ∙ starved))
   where
@@ -78,7 +78,7 @@ module _ {R F S : Type 0} (told lasts : Type 0) (stands : List ℕ → List Tran
       → reply ≡ answered result answer.Stored → OneLeadsTo (IsLineOpen (rules_of rules_in named_in h) m at c (line.Put oid bytes) reply) m at h g y after
   put_behind oid bytes w o result reply works unvoted none p view between answers =
       let t : OpenTransaction = o.transaction in
-      let rd : ReadsTo t.view oid p.read m h g x y after =
+      let rd : ReadsTo t oid p.read m h g x y after =
       read_to told lasts stands rules_in named_in tells m at x y c h g before after takes makes a b calls same name session oid p.read w works o (p.reads t.view mine.told may o.is.view) p.made in
       let ready : MayTakeAt g after rd.now at x c = record {
         stands = record {
@@ -99,9 +99,9 @@ module _ {R F S : Type 0} (told lasts : Type 0) (stands : List ℕ → List Tran
       (λ r said. answers ∙ ap (λ (e : Result (Unit {0}) Refusal). answered e answer.Stored) said)
       (λ now change. own_open (rules_of rules_in named_in h) m at c (line.Put oid bytes) reply now t o.begun
       (unvoted_free (rules_of rules_in named_in h) m at x x c h h before before takes refl refl (record { name = refl; session = refl; told = refl }) (λ u z. z) (λ z. z) (line.Put oid bytes) w (put_takes oid bytes) o unvoted)
-      (ap (λ (z : Option OpenTransaction). request_of (option_map (λ (u : OpenTransaction). u.changes) z) (line.Put oid bytes)) o.begun)
+      (ap (λ (z : Option OpenTransaction). request_of c.standing (option_map (λ (u : OpenTransaction). u.changes) z) (line.Put oid bytes)) o.begun)
       (subst (λ (z : Option PendingStore). IsPut m at c t oid bytes z reply now) (sym (ap (λ (ch : Changes). pending_of ch.pending.stores oid) o.is.changes ∙ none)) (p.read, rd.now, rd.read, change)))
-      (λ said starved. starved_open (rules_of rules_in named_in h) m at c (line.Put oid bytes) reply rd.now starved (calm_put m rd.now t.view oid p.read result p.refused said rd.read)) in
+      (λ said starved. starved_open (rules_of rules_in named_in h) m at c (line.Put oid bytes) reply rd.now starved (calm_put m rd.now t oid p.read result p.refused said rd.read)) in
       record {
         now = leads.now;
         holds = leads.holds;
@@ -149,6 +149,6 @@ module _ {R F S : Type 0} (told lasts : Type 0) (stands : List ℕ → List Tran
                   (λ r done. answers ∙ ap (λ (e : Result (Unit {0}) Refusal). answered e answer.Stored) done)
                   (λ now change. own_open (rules_of rules_in named_in h) m at c (line.Put oid bytes) reply now o.transaction o.begun
                   (unvoted_free (rules_of rules_in named_in h) m at x x c h h before before takes refl refl (record { name = refl; session = refl; told = refl }) (λ u z. z) (λ z. z) (line.Put oid bytes) w (put_takes oid bytes) o unvoted)
-                  (ap (λ (z : Option OpenTransaction). request_of (option_map (λ (u : OpenTransaction). u.changes) z) (line.Put oid bytes)) o.begun)
+                  (ap (λ (z : Option OpenTransaction). request_of c.standing (option_map (λ (u : OpenTransaction). u.changes) z) (line.Put oid bytes)) o.begun)
                   (subst (λ (z : Option PendingStore). IsPut m at c o.transaction oid bytes z reply now) (sym (ap (λ (ch : Changes). pending_of ch.pending.stores oid) o.is.changes ∙ is)) change))
                   (λ done starved. starved_open (rules_of rules_in named_in h) m at c (line.Put oid bytes) reply m starved refl)

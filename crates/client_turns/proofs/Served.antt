@@ -96,21 +96,14 @@ turn_on m n (Some p) =
     (on_if (not (p.session == n)) (refusal.PackRunning p.session) refl) (next_on (switches_next p) m.vote)
 
 request_on : (m : Machine) (n : ℕ) (q : Request) → OnIfSome (request_refusal m n q)
-request_on m n request.Front = tt
-request_on m n (request.LoadBefore oid front) = tt
 request_on m n (request.NewOids count) = on_if (nat_lt (2 ^ 64 - 1) (m.greatest + count)) refusal.OidsSpent refl
 request_on m n (request.Vote user description extension pending) = vote_on n m.vote
 request_on m n (request.Undo user description tids) = vote_on n m.vote
 request_on m n request.Finish = on_if (not (holds_vote n m.vote)) refusal.NotVoted refl
-request_on m n request.Abort = tt
-request_on m n (request.History oid) = tt
-request_on m n request.UndoLog = tt
 request_on m n (request.Pack tid collects) = pack_on m tid
 request_on m n (request.PackBegin tid collects) = begin_on m tid
 request_on m n request.PackTurn = turn_on m n m.pack
-request_on m n request.Last = tt
-request_on m n (request.Since tid changes) = tt
-request_on m n request.Close = tt
+request_on m n _ = tt
 
 early_on : (m : Machine) (n : ℕ) (q : Request) → OnIfSome (early_refusal m n q)
 early_on m n q =
@@ -294,9 +287,7 @@ turns_fit = record {
 }
 
 request_fits : (rules : Rules) (m : Machine) (n : ℕ) (q : Request) (stamp : ℕ) → Fits (request_step rules m n q stamp).reply q
-request_fits rules m n request.Front stamp = tt
 request_fits rules m n (request.LoadBefore oid front) stamp = found_fits m oid front (found_below oid front m.list)
-request_fits rules m n (request.NewOids count) stamp = tt
 request_fits rules m n (request.Vote user description extension pending) stamp =
     vote_fits m n (record { user = user; description = description; extension = extension }) stamp (vote_decision rules.merging m.list pending) (decision_on rules.merging m.list pending)
     (request.Vote user description extension pending) tt
@@ -304,17 +295,11 @@ request_fits rules m n (request.Undo user description tids) stamp =
     vote_fits m n (record { user = user; description = description; extension = [] }) stamp (changes_undone m.list (undone_of rules.merging m.list tids))
     (written_on m.list (undone_of rules.merging m.list tids) (undone_on rules.merging m.list tids)) (request.Undo user description tids) tt
 request_fits rules m n request.Finish stamp = finish_fits m n m.vote
-request_fits rules m n request.Abort stamp = tt
-request_fits rules m n (request.History oid) stamp = tt
-request_fits rules m n request.UndoLog stamp = tt
 request_fits rules m n (request.Pack tid collects) stamp =
     let t = pack_tid tid m.list in
     by_unread (λ r. Fits r (request.Pack tid collects)) m (unread collects rules.named t m.list) (switched m t (packed collects rules.named t m.list)) (λ oid at. refl) tt
-request_fits rules m n (request.PackBegin tid collects) stamp = tt
 request_fits rules m n request.PackTurn stamp = by_turn (λ r. Fits r request.PackTurn) rules.named m m.pack turns_fit
-request_fits rules m n request.Last stamp = tt
-request_fits rules m n (request.Since tid changes) stamp = tt
-request_fits rules m n request.Close stamp = tt
+request_fits rules m n _ stamp = tt
 
 unless_fits : (early : Option Refusal) (m : Machine) (made : Stepped) (q : Request) → OnIfSome early → Fits made.reply q → Fits (unless_early early m made).reply q
 unless_fits None m made q on fits = fits

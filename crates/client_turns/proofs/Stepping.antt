@@ -1,10 +1,9 @@
 -- How the clients stand for moments.
-use Rattle.std.proofs.Common.{◌≡◌, ℕ, ◌<◌, Bool, false, List, [], length, Option, Some, None, Result, Ok, Err, refl, sym, ap, subst, ◌∙◌}
+use Rattle.std.proofs.Common.{◌≡◌, ℕ, ◌<◌, Bool, false, List, [], length, Option, Some, None, Result, refl, sym, ap, subst, ◌∙◌}
 use Rattle.std.specs.Prelude.{slice_get, slice_set}
 use Rattle.zb_ids.specs.declared.stamp.Stamp.{Stamp}
 use Rattle.zb_model.specs.declared.data.Transaction.{Transaction}
 use Rattle.zb_model.specs.declared.refusal.Refusal.{Refusal}
-use Rattle.zb_model.specs.declared.refusal.Refusal.TheVariants as refusal
 use Rattle.zb_model.specs.Rules.{MergeRules}
 use Rattle.zb_answers.specs.declared.answer.Answer.{Answer}
 use Rattle.zodb_core.specs.declared.reply.Reply.{Reply}
@@ -13,7 +12,6 @@ use Rattle.zodb_core.specs.declared.request.Request.{Request}
 use Rattle.zodb_core.specs.declared.request.Request.TheVariants as request
 use Rattle.zodb_core.specs.HubState.{HubState, StandsForMachine, counts_of, rules_of}
 use Rattle.zodb_core.specs.Machine.{Machine, Rules, machine_over}
-use Rattle.connection_view.specs.declared.connection.Connection.{Connection}
 use Rattle.connection_view.specs.Works.{Work}
 use Rattle.connection_view.specs.Connections.{work_of}
 use Rattle.connection_view.specs.Views as views
@@ -23,13 +21,13 @@ use Rattle.local_loads.specs.LocalLaws.{kept_behind}
 use Rattle.local_loads.specs.Making.{IsHubStep}
 use Rattle.client_turns.specs.declared.client.Client.{Client}
 use Rattle.client_turns.specs.Asking.{IsLeftBy, IsPlain}
-use Rattle.client_turns.specs.Clients.{Moment, OpenTransaction, first_moment, with_client}
+use Rattle.client_turns.specs.Clients.{Moment, first_moment, with_client}
 use Rattle.client_turns.specs.Clients as seen
 use Rattle.client_turns.specs.Lines.{answer_of, client_left, is_committed}
 use Rattle.client_turns.specs.Standing.{AreClientsOf, ClientsState, IsClientOf, IsOpenAs, IsStepOf, LeadsTo, MayAskAt, MayTakeAt, OneLeadsTo, StandsForMoment}
 use Rattle.client_turns.specs.Steps.{IsStepAt}
-use Rattle.client_turns.specs.Turns.{IsTold}
-use Rattle.client_turns.proofs.One.{StepsTo, client_with, clients_later, lift, steps_to, within_on, writes_on}
+use Rattle.client_turns.specs.Turns.{IsTold, fronts_behind}
+use Rattle.client_turns.proofs.One.{StepsTo, client_with, clients_later, lift, near_answer, near_told, not_closed, steps_to, within_on, writes_on}
 use Rattle.client_turns.proofs.Placing.{IsClientAt, IsKeptAt, client_at, kept_at, set_at, there_at}
 use Rattle.client_turns.proofs.Served.{Fits, fits_at}
 
@@ -156,20 +154,11 @@ uncommitted : (r : Reply) → IsPlainReply r → is_committed r ≡ false
 uncommitted (reply.Committed tid) plain = absurd plain
 uncommitted _ plain = refl
 
--- a client's connection is open
-not_closed : (k : Connection) (told : views.Client) (w : Result Work Refusal) (o : Option OpenTransaction) → IsOpenAs k told w o → w ≡ Err refusal.NotOpen → ⊥
-not_closed k told (Ok w) o is e = absurd cc
-not_closed k told (Err r) (Some t) is e = absurd is
-not_closed k told (Err r) None is e = other (ap (λ (s : Refusal). let x : Result Work Refusal = Err s in x) (sym is.0) ∙ e)
-  where
-    other : (let x : Result Work Refusal = Err refusal.NoTransaction in x) ≡ Err refusal.NotOpen → ⊥
-    other e = absurd cc
-
 -- the client behind its step
-client_behind : {R F : Type 0} (hub : HubState R F) (m : Machine) (x y : Client) (c : seen.Client) (r : Reply) → IsPlainReply r → IsClientOf hub x c → IsLeftBy x y r → IsClientOf hub y (client_left m c r)
+client_behind : {R F : Type 0} (hub : HubState R F) (m : Machine) (x y : Client) (c : seen.Client) (r : Reply) → IsPlainReply r → IsClientOf hub x c → IsLeftBy x y r → IsClientOf hub y (client_left false m c r)
 client_behind hub m x y c reply.Closed plain is left =
     let told : views.Client = views.unvoted is.told in
-    client_with hub x y c told None is.name is.session left.0.name left.0.session
+    client_with hub x y c told None is.name is.session is.local left.0.name left.0.session
     (subst (λ (l : Option Told). MayBeTold l hub told.told told.known) (sym left.0.told) is.may)
     (subst (λ (w : Result Work Refusal). IsOpenAs y.connection told w None) (sym (left.1 (not_closed x.connection is.told (work_of x.connection) c.transaction is.transaction))) (refl, left.2 told (λ oid. refl)))
 client_behind hub m x y c (reply.Oids first count) plain is left = subst (λ (z : Client). IsClientOf hub z c) (sym left) is
@@ -193,7 +182,7 @@ plain_leads {R} {F} rules m at n q r a old mid new after within plain session le
     let c : IsClientAt mid.hub leads.now.clients at x.0 = client_at mid.hub mid.clients leads.now.clients at x.0 leads.stands.clients there in
     let y = left x.0 x.1 in
     let plainly : IsPlainReply r = plain_reply q r plain (fits_at rules m n q r leads.now leads.holds) in
-    let d : seen.Client = client_left leads.now.machine c.client r in
+    let d : seen.Client = client_left false leads.now.machine c.client r in
     let number : n ≡ c.client.session = session x.0 x.1 ∙ sym c.is.session in
     let placed : new.clients ≡ slice_set mid.clients at y.0 = y.1 ∙ ap (λ (xs : List Client). slice_set xs at y.0) (sym same) in
     let set : AreClientsOf mid.hub (slice_set mid.clients at y.0) (slice_set leads.now.clients at d) = set_at mid.hub mid.clients leads.now.clients at y.0 d leads.stands.clients (client_behind mid.hub leads.now.machine x.0 y.0 c.client r plainly c.is y.2) in
@@ -202,14 +191,15 @@ plain_leads {R} {F} rules m at n q r a old mid new after within plain session le
       holds = (
         c.client,
         ap (λ (cs : List seen.Client). slice_get cs at) (sym leads.holds.clients) ∙ c.there,
+        c.is.local,
         record {
           reply = r;
           behind = leads.now;
           told = leads.now;
           step = subst (λ (k : ℕ). IsStepAt rules m k q r leads.now) number leads.holds;
-          front = subst (λ (b : Bool). IsTold rules b leads.now c.client.session leads.now) (sym (uncommitted r plainly)) refl;
-          answer = answers;
-          left = refl;
+          front = subst (λ (b : Bool). IsTold rules (fronts_behind b c.client.standing) leads.now c.client.session leads.now) (sym (uncommitted r plainly)) refl;
+          answer = answers ∙ sym (near_answer c.client.standing false r c.is.local);
+          left = ap (λ (z : seen.Client). with_client leads.now at z) (sym (near_told leads.now.machine r d c.is.local));
         },
       );
       stands = record {

@@ -25,11 +25,11 @@ use Rattle.client_turns.specs.declared.errors.TurnError.{TurnError}
 use Rattle.client_turns.specs.declared.errors.TurnError.TheVariants as error
 use Rattle.client_turns.specs.Clients.{Changes, Moment, OpenTransaction, changes_of, place_of_client}
 use Rattle.client_turns.specs.Clients as seen
-use Rattle.client_turns.specs.Lines.{end_of, request_of}
+use Rattle.client_turns.specs.Lines.{end_of, is_delivery, request_of}
 use Rattle.client_turns.specs.Refusing.{IsFittingLine, connection_refusal, line_refusal, opens_session}
 use Rattle.client_turns.specs.Asking.{plain_request}
 use Rattle.client_turns.specs.Standing.{ClientsState, ClosesAs, ClosesIf, IsLineOpen, IsOpenAs, IsOpenLineOf, IsOwnOf, IsStepOf, LeadsTo, MayAskAt, MayReadAt, OrStarved, StandsForMoment}
-use Rattle.client_turns.specs.Turns.{IsBroken, IsClosed, IsClosing, IsLine, IsLineAt, IsLineOf, IsLineUnless, IsOpening, IsOwnLine, IsTurn, IsWithin, by_closing, by_line, by_memory}
+use Rattle.client_turns.specs.Turns.{IsBroken, IsClosed, IsClosing, IsLine, IsLineAt, IsLineNamed, IsLineOf, IsLineUnless, IsOpening, IsOwnLine, IsStepLine, IsTurn, IsWithin, by_closing, by_line, by_memory}
 use Rattle.client_turns.proofs.Asked.{IsOpened, none_of, opened_of}
 use Rattle.client_turns.proofs.One.{own_open, refused_open, step_open}
 use Rattle.client_turns.proofs.Placing.{IsClientAt, IsKeptAt, client_at, kept_at, same_place, there_at}
@@ -97,20 +97,20 @@ may_ask m at n old before stood within session is =
 
 -- ---- a line of an open session that its connection doesn't answer
 
-plain_free : (l : Line) (q : Request) (ch : Option Changes) → plain_request l ≡ Some q → (line_refusal ch l ≡ None) × (request_of ch l ≡ Some q)
-plain_free line.New q ch is = (refl, is)
-plain_free (line.History oid) q ch is = (refl, is)
-plain_free line.UndoLog q ch is = (refl, is)
-plain_free (line.Pack tid collect) q ch is = (refl, is)
-plain_free (line.PackBegin tid collect) q ch is = (refl, is)
-plain_free line.PackTurn q ch is = (refl, is)
-plain_free line.Close q ch is = (refl, is)
-plain_free _ q ch is = absurd cc
+plain_free : (l : Line) (q : Request) (s : seen.Standing) (ch : Option Changes) → plain_request l ≡ Some q → (line_refusal ch l ≡ None) × (request_of s ch l ≡ Some q) × (is_delivery l ≡ false)
+plain_free line.New q s ch is = (refl, is, refl)
+plain_free (line.History oid) q s ch is = (refl, is, refl)
+plain_free line.UndoLog q s ch is = (refl, is, refl)
+plain_free (line.Pack tid collect) q s ch is = (refl, is, refl)
+plain_free (line.PackBegin tid collect) q s ch is = (refl, is, refl)
+plain_free line.PackTurn q s ch is = (refl, is, refl)
+plain_free line.Close q s ch is = (refl, is, refl)
+plain_free _ q s ch is = absurd cc
 
 pub line_step : {R F : Type 0} (rules : Rules) (m : Moment) (at : ℕ) (l : Line) (q : Request) (a : Answer) (new : ClientsState R F) (after : Option (List Stamp)) → Some q ≡ plain_request l → LeadsTo (IsStepOf rules m at q a) new after → LeadsTo (IsOpenLineOf rules m at l a) new after
 line_step rules m at l q a new after is leads =
-    let free = plain_free l q (changes_of leads.holds.0) (sym is) in
-    record { now = leads.now; holds = (leads.holds.0, leads.holds.1, step_open rules m at leads.holds.0 l a leads.now q free.0 free.1 leads.holds.2); stands = leads.stands }
+    let free = plain_free l q leads.holds.0.standing (changes_of leads.holds.0) (sym is) in
+    record { now = leads.now; holds = (leads.holds.0, leads.holds.1, step_open rules m at leads.holds.0 l a leads.now q leads.holds.2 free.0 free.1 (subst (λ (d : Bool). IsStepLine rules m at leads.holds.0 d q a leads.now) (sym free.2) leads.holds.3)); stands = leads.stands }
 
 -- what the connection of the client at a place has open
 connection_there : {R F : Type 0} (m : Moment) (at : ℕ) (old : ClientsState R F) (before : Option (List Stamp)) → StandsForMoment old before m → (may : MayAskAt m at) → (k : Connection) → ((x : Client) → slice_get old.clients at ≡ Some x → k ≡ x.connection)
@@ -157,7 +157,7 @@ line_tree {R} {F} rules m at root call a new after may leads = by_either leads.h
         subst (λ (o : Option OpenTransaction). IsOwnLine m at may.0 o (line.Tree root call) a leads.now) t.1 (subst (λ (c : seen.Client). IsOwnLine m at c c.transaction (line.Tree root call) a leads.now) alike own.2) in
         record {
           now = leads.now;
-          holds = (may.0, may.1, own_open rules m at may.0 (line.Tree root call) a leads.now t.0 t.1 (ap (λ (o : Option OpenTransaction). line_refusal (option_map (λ (u : OpenTransaction). u.changes) o) (line.Tree root call)) t.1) (ap (λ (o : Option OpenTransaction). request_of (option_map (λ (u : OpenTransaction). u.changes) o) (line.Tree root call)) t.1) within);
+          holds = (may.0, may.1, own_open rules m at may.0 (line.Tree root call) a leads.now t.0 t.1 (ap (λ (o : Option OpenTransaction). line_refusal (option_map (λ (u : OpenTransaction). u.changes) o) (line.Tree root call)) t.1) (ap (λ (o : Option OpenTransaction). request_of may.0.standing (option_map (λ (u : OpenTransaction). u.changes) o) (line.Tree root call)) t.1) within);
           stands = leads.stands;
         }
     by_either (inr starved) = record { now = leads.now; holds = (may.0, may.1, inr starved); stands = leads.stands }
@@ -165,28 +165,7 @@ line_tree {R} {F} rules m at root call a new after may leads = by_either leads.h
 -- ---- a line of a client, by its name
 
 line_by_name : (rules : Rules) (m : Moment) (name : List ℕ) (l : Line) (a : Answer) (now : Moment) → opens_session l ≡ false → IsLineOf rules m (place_of_client name m.clients) l a now → IsLine rules m name l a now
-line_by_name rules m name line.Open a now opened is = absurd cc
-line_by_name rules m name line.Begin a now opened is = is
-line_by_name rules m name (line.Load oid) a now opened is = is
-line_by_name rules m name (line.Get oid) a now opened is = is
-line_by_name rules m name (line.Store oid base bytes) a now opened is = is
-line_by_name rules m name (line.Put oid bytes) a now opened is = is
-line_by_name rules m name (line.Check oid serial) a now opened is = is
-line_by_name rules m name (line.Delete oid base) a now opened is = is
-line_by_name rules m name line.Savepoint a now opened is = is
-line_by_name rules m name (line.Rollback number) a now opened is = is
-line_by_name rules m name (line.Tree root call) a now opened is = is
-line_by_name rules m name line.New a now opened is = is
-line_by_name rules m name (line.Vote user description) a now opened is = is
-line_by_name rules m name (line.Undo user description tids) a now opened is = is
-line_by_name rules m name line.Finish a now opened is = is
-line_by_name rules m name line.Abort a now opened is = is
-line_by_name rules m name (line.History oid) a now opened is = is
-line_by_name rules m name line.UndoLog a now opened is = is
-line_by_name rules m name (line.Pack tid collect) a now opened is = is
-line_by_name rules m name (line.PackBegin tid collect) a now opened is = is
-line_by_name rules m name line.PackTurn a now opened is = is
-line_by_name rules m name line.Close a now opened is = is
+line_by_name rules m name l a now opened is = subst (λ (opens : Bool). IsLineNamed opens rules m name l a now) (sym opened) is
 
 named_result : (rules : Rules) (m : Moment) (name : List ℕ) (at : ℕ) (l : Line) (a : Answer) (now : Moment) → opens_session l ≡ false → Some at ≡ place_of_client name m.clients
     → OrStarved (IsLineAt rules m at l) m a now → OrStarved (IsLine rules m name l) m a now
@@ -210,35 +189,15 @@ line_missing rules m name l old before stands opened place = record {
   stands = stands;
 }
 
-opens_is : (l : Line) → opens_session l ≡ true → l ≡ line.Open
-opens_is line.Open is = refl
-opens_is (line.Load oid) is = absurd cc
-opens_is (line.Get oid) is = absurd cc
-opens_is (line.Store oid base bytes) is = absurd cc
-opens_is (line.Put oid bytes) is = absurd cc
-opens_is (line.Check oid serial) is = absurd cc
-opens_is (line.Delete oid base) is = absurd cc
-opens_is line.Savepoint is = absurd cc
-opens_is (line.Rollback number) is = absurd cc
-opens_is (line.Tree root call) is = absurd cc
-opens_is line.New is = absurd cc
-opens_is (line.Vote user description) is = absurd cc
-opens_is (line.Undo user description tids) is = absurd cc
-opens_is line.Finish is = absurd cc
-opens_is line.Abort is = absurd cc
-opens_is (line.History oid) is = absurd cc
-opens_is line.UndoLog is = absurd cc
-opens_is (line.Pack tid collect) is = absurd cc
-opens_is (line.PackBegin tid collect) is = absurd cc
-opens_is line.PackTurn is = absurd cc
-opens_is line.Close is = absurd cc
-opens_is line.Begin is = absurd cc
+line_opened_by : (rules : Rules) (m : Moment) (name : List ℕ) (l : Line) (a : Answer) (now : Moment) → opens_session l ≡ true → OrStarved (IsOpening m name) m a now → OrStarved (IsLine rules m name l) m a now
+line_opened_by rules m name l a now opened (inl is) = inl (subst (λ (opens : Bool). IsLineNamed opens rules m name l a now) (sym opened) is)
+line_opened_by rules m name l a now opened (inr starved) = inr starved
 
 pub line_opens : {R F : Type 0} (rules : Rules) (m : Moment) (name : List ℕ) (l : Line) (result : Answer) (new : ClientsState R F) (left : Option (List Stamp)) → opens_session l ≡ true
     → LeadsTo (OrStarved (IsOpening m name) m result) new left → LeadsTo (OrStarved (IsLine rules m name l) m result) new left
 line_opens rules m name l result new left is leads = record {
   now = leads.now;
-  holds = subst (λ (k : Line). OrStarved (IsLine rules m name k) m result leads.now) (sym (opens_is l is)) leads.holds;
+  holds = line_opened_by rules m name l result leads.now is leads.holds;
   stands = leads.stands;
 }
 

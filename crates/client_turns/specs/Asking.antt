@@ -38,6 +38,7 @@ is_of_connection (line.Vote user description) = true
 is_of_connection (line.Undo user description tids) = true
 is_of_connection line.Finish = true
 is_of_connection line.Abort = true
+is_of_connection line.Deliver = true
 is_of_connection _ = false
 
 -- the request of a line that asks nothing of the connection
@@ -72,6 +73,10 @@ answered (Err why) a = answer.Refused why
 abbrev pub begun_as : Result ℕ Refusal → Answer
 begun_as (Ok front) = answer.Begun front
 begun_as (Err why) = answer.Refused why
+
+abbrev pub delivered_with : Result ℕ Refusal → Answer
+delivered_with (Ok front) = answer.Delivered front
+delivered_with (Err why) = answer.Refused why
 
 abbrev pub saved_as : Result ℕ Refusal → Answer
 saved_as (Ok number) = answer.Savepoint number
@@ -116,7 +121,7 @@ IsCalm o = (o ≡ Answered) ⊎ (o ≡ NoMemory)
 -- What a call puts waits for the vote of a client's transaction, all of it or nothing; memory is free to run out.
 pub record IsPutAs (x y : Client) (a : Answer) (puts : List PendingStore) (result : Answer) (told : views.Client) (t : OpenTransaction) : Type 0 where
   pub same : IsSameBut x y
-  pub put : ((result ≡ (all_stored t.changes a puts).answer) × IsOpenAs y.connection told (work_of y.connection) (Some (record { view = t.view; changes = (all_stored t.changes a puts).changes })))
+  pub put : ((result ≡ (all_stored t.changes a puts).answer) × IsOpenAs y.connection told (work_of y.connection) (Some (record t { changes = (all_stored t.changes a puts).changes })))
       ⊎ ((result ≡ answer.Refused refusal.Memory) × IsOpenAs y.connection told (work_of y.connection) (Some t))
 
 abbrev pub IsPutAll : Client → Client → Answer → List PendingStore → Answer → Type 0

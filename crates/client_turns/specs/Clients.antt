@@ -1,5 +1,5 @@
 -- What a client remembers between its lines, and what there is at a moment. Source: connections and transactions of ZODB.
-use Rattle.std.specs.Prelude.{ℕ, List, [], Option, Some, None, Bool, false, bytes_eq, slice_get, slice_set}
+use Rattle.std.specs.Prelude.{Bool, List, None, Option, Some, [], bytes_eq, false, slice_get, slice_set, true, ℕ}
 use Rattle.std.specs.List.{position}
 use Rattle.std.specs.Option.{option_map}
 use Rattle.zb_ids.specs.declared.stamp.Stamp.{Stamp}
@@ -16,16 +16,23 @@ pub record Changes : Type 0 where
   pub savepoints : List PendingChanges
   pub is_voted : Bool
 
--- an open transaction: its view, and what it would change
+-- an open transaction: its view, what it would change, and whether its reads come in frames, over a link
 pub record OpenTransaction : Type 0 where
   pub view : View
   pub changes : Changes
+  pub framed : Bool
 
--- a client: its name, the number of its session, and its open transaction, if any
+-- How a client stands to its session: in the same program, or behind a link, with the view that is known there.
+pub data Standing : Type 0 where
+  Local : Standing
+  Linked : View → Standing
+
+-- a client: its name, the number of its session, its open transaction, if any, and how it stands
 pub record Client : Type 0 where
   pub name : List ℕ
   pub session : ℕ
   pub transaction : Option OpenTransaction
+  pub standing : Standing
 
 -- what there is at a moment: the machine, the clients in the order of their openings, what the clock has still to give, where it tells, and the
 -- counts of faults
@@ -46,9 +53,12 @@ nothing_pending = record { stores = []; checks = [] }
 abbrev pub no_changes : Changes
 no_changes = record { pending = nothing_pending; savepoints = []; is_voted = false }
 
--- a transaction that sees this
+-- a transaction that sees this, of a local client, and of one with a link
 abbrev pub begun : View → OpenTransaction
-begun v = record { view = v; changes = no_changes }
+begun v = record { view = v; changes = no_changes; framed = false }
+
+abbrev pub begun_far : View → OpenTransaction
+begun_far v = record { view = v; changes = no_changes; framed = true }
 
 -- what the client's open transaction would change
 abbrev pub changes_of : Client → Option Changes

@@ -1,5 +1,5 @@
 -- What turns leave of the counts of faults. For the proofs of those who follow turns.
-use Rattle.std.proofs.Common.{◌≡◌, ℕ, Bool, true, false, not, ◌||◌, List, [], ◌∷◌, ◌++◌, length, Option, Some, None, Result, Ok, Err, if◌then◌else◌, nat_lt, refl, sym, ap, subst, ◌∙◌}
+use Rattle.std.proofs.Common.{Bool, Err, List, None, Ok, Option, Result, Some, [], ap, false, if◌then◌else◌, length, nat_lt, not, refl, subst, suc, sym, true, zero, ℕ, ◌++◌, ◌||◌, ◌∙◌, ◌∷◌, ◌≡◌}
 use Rattle.std.specs.Prelude.{IfOk, IsErrOf, slice_get}
 use Rattle.zb_model.specs.declared.data.Content.TheVariants.{Held, Absent}
 use Rattle.zb_model.specs.declared.data.Content.{Content}
@@ -23,15 +23,14 @@ use Rattle.zodb_core.specs.Steps.{Stepped, refuse_if}
 use Rattle.connection_view.specs.Connections.{waiting_as, waiting_read}
 use Rattle.client_turns.specs.declared.errors.TurnError.{TurnError}
 use Rattle.client_turns.specs.declared.errors.TurnError.TheVariants as error
-use Rattle.client_turns.specs.Clients.{Changes, Client, Moment, OpenTransaction, changes_of, place_of_client}
-use Rattle.client_turns.specs.Lines.{Changed, IsCountedBy, answer_of, data_of, end_in, end_of, is_committed, object_of, outcome_of_answer, outcome_of_read, outcome_of_turn, put, request_of, rolled_back, rolled_to, saved, store_unless, stored}
-use Rattle.client_turns.specs.Output.{FlaggedTurn, Out, TurnAnswer, has_read_fault, is_last, is_read_fault}
+use Rattle.client_turns.specs.Clients.{Changes, Client, Linked, Local, Moment, OpenTransaction, Standing, changes_of, place_of_client}
+use Rattle.client_turns.specs.Lines.{Changed, IsCountedBy, answer_of, answer_to, asking_excess, data_of, end_in, end_of, is_committed, is_delivery, object_of, outcome_of_answer, outcome_of_read, outcome_of_turn, put, request_of, rolled_back, rolled_to, saved, step_answer, store_unless, stored}
+use Rattle.client_turns.specs.Output.{FlaggedTurn, Out, TurnAnswer, has_read_fault, is_read_fault}
 use Rattle.client_turns.specs.Refusing.{connection_refusal, line_refusal, mixed, pending_count, refusal_within, transaction_refusal}
 use Rattle.client_turns.specs.Steps.{IsChange, IsStepAt}
-use Rattle.client_turns.specs.Turns.{IsAnswered, IsBroken, IsClosed, IsClosing, IsGet, IsLine, IsLineOf, IsLineTaken, IsLineUnless, IsOpening, IsOwnLine, IsPut, IsStepLine, IsTold, IsWithin, Opening, by_closing, by_line, by_memory}
+use Rattle.client_turns.specs.Turns.{IsAnswered, IsBroken, IsClosed, IsClosing, IsGet, IsLine, IsLineOf, IsLineTaken, IsLineUnless, IsOpening, IsOutside, IsOwnLine, IsPut, IsStepLine, IsStepUnless, IsTold, IsWithin, Opening, by_closing, by_line, by_memory, fronts_behind}
 use Rattle.client_turns.specs.DrawLaws.{tree_counts}
-use Rattle.client_turns.specs.TurnLaws.{by_name, reply_fine, starved_so}
-use Rattle.connection_view.specs.Views.{View}
+use Rattle.client_turns.specs.TurnLaws.{step_cases, by_name, excess_answered, reply_fine, starved_so}
 
 -- ---- steps beside a line
 
@@ -45,9 +44,10 @@ calm_front rules m n stamp made before now NoMemory ends cause = cause
 calm_front rules m n stamp made before now ReadingFailed ends cause = absurd (false_true ends.0.one)
 calm_front rules m n stamp made before now StoreFailed ends cause = absurd (false_true ends.0.one)
 
-told_calm : (rules : Rules) (b t : Moment) (n : ℕ) (committed : Bool) → IsTold rules committed b n t → t.counts ≡ b.counts
-told_calm rules b t n false told = ap (λ (x : Moment). x.counts) told
-told_calm rules b t n true told = calm_front rules b.machine n told.1.stamp _ b.counts t.counts (outcome_of told.0) told.1.made.cause told.1.counts
+told_calm : (rules : Rules) (b t : Moment) (n count : ℕ) → IsTold rules count b n t → t.counts ≡ b.counts
+told_calm rules b t n zero told = ap (λ (x : Moment). x.counts) told
+told_calm rules b t n (suc count) (r, next, step, rest) =
+    told_calm rules next t n count rest ∙ calm_front rules b.machine n step.stamp _ b.counts next.counts (outcome_of r) step.made.cause step.counts
 
 -- a closing that doesn't end the run moves none
 calm_close : (rules : Rules) (m : Machine) (n stamp : ℕ) (made : Stepped) (before now : FaultCounts) (o : StepOutcome) → EndsFor rules m n request.Close stamp made before now o → IsCountedBy before now o → ¬ (o ≡ StoreFailed) → now ≡ before
@@ -96,25 +96,14 @@ line_answers t line.Open = tt
 line_answers None line.Begin = tt
 line_answers (Some t) line.Begin = (refl, refl, refl, refl)
 line_answers t line.New = tt
+line_answers t line.Deliver = tt
 line_answers t (line.History oid) = tt
 line_answers t line.UndoLog = tt
 line_answers t (line.Pack tid collect) = tt
 line_answers t (line.PackBegin tid collect) = tt
 line_answers t line.PackTurn = tt
 line_answers t line.Close = tt
-line_answers t (line.Load oid) = within_answers t (line.Load oid)
-line_answers t (line.Get oid) = within_answers t (line.Get oid)
-line_answers t (line.Store oid base bytes) = within_answers t (line.Store oid base bytes)
-line_answers t (line.Put oid bytes) = within_answers t (line.Put oid bytes)
-line_answers t (line.Check oid serial) = within_answers t (line.Check oid serial)
-line_answers t (line.Delete oid base) = within_answers t (line.Delete oid base)
-line_answers t line.Savepoint = within_answers t line.Savepoint
-line_answers t (line.Rollback number) = within_answers t (line.Rollback number)
-line_answers t (line.Tree root call) = within_answers t (line.Tree root call)
-line_answers t (line.Vote user description) = within_answers t (line.Vote user description)
-line_answers t (line.Undo user description tids) = within_answers t (line.Undo user description tids)
-line_answers t line.Finish = within_answers t line.Finish
-line_answers t line.Abort = within_answers t line.Abort
+line_answers t w = within_answers t w
 
 connection_answers : (m : Machine) (c : Client) (l : Line) → AnswersIfSome (connection_refusal m c l)
 connection_answers m c l =
@@ -135,30 +124,20 @@ refused_by m why a now answered is = calm_by m a (answer.Refused why) now is.0 a
 
 pub answer_outcome : (r : Reply) → outcome_of_answer (answer_of r) ≡ outcome_of r
 answer_outcome (reply.Front front news switches) = refl
-answer_outcome (reply.Loaded serial bytes end upto) = refl
-answer_outcome (reply.Nothing oid switches) = refl
-answer_outcome (reply.Oids first count) = refl
-answer_outcome reply.Voted = refl
-answer_outcome (reply.Committed tid) = refl
-answer_outcome reply.Empty = refl
-answer_outcome reply.Aborted = refl
-answer_outcome (reply.History list) = refl
-answer_outcome (reply.UndoLog list) = refl
-answer_outcome (reply.Packed kept dropped) = refl
-answer_outcome (reply.Packing tid) = refl
-answer_outcome (reply.Marking count) = refl
-answer_outcome (reply.Marked count) = refl
-answer_outcome (reply.Copying count) = refl
-answer_outcome (reply.Copied count) = refl
-answer_outcome (reply.Last tid changes) = refl
-answer_outcome (reply.Since keep commits) = refl
-answer_outcome reply.Closed = refl
-answer_outcome (reply.Refused why) = refl
+answer_outcome _ = refl
 
-step_by : (rules : Rules) (m now : Moment) (at : ℕ) (c : Client) (q : Request) (a : Answer) → IsStepLine rules m at c q a now → CountsBy m a now
-step_by rules m now at c q a is =
-    subst (λ (k : FaultCounts). IsCountedBy m.counts k (outcome_of_answer a)) (sym (ap (λ (x : Moment). x.counts) is.left ∙ told_calm rules is.behind is.told c.session (is_committed is.reply) is.front))
-    (subst (λ (o : StepOutcome). IsCountedBy m.counts is.behind.counts o) (sym (ap outcome_of_answer is.answer ∙ answer_outcome is.reply)) is.step.counts)
+delivered_outcome : (d : Bool) (r : Reply) → outcome_of_answer (answer_to d r) ≡ outcome_of r
+delivered_outcome false r = answer_outcome r
+delivered_outcome true (reply.Front front news switches) = refl
+delivered_outcome true r = answer_outcome r
+
+told_outcome : (s : Standing) (d : Bool) (r : Reply) → outcome_of_answer (step_answer s d r) ≡ outcome_of r
+told_outcome s d r = step_cases (λ a. outcome_of_answer a ≡ outcome_of r) s d r (λ n is. sym (excess_answered s r n is).0) (delivered_outcome d r)
+
+step_by : (rules : Rules) (m now : Moment) (at : ℕ) (c : Client) (d : Bool) (q : Request) (a : Answer) → IsStepLine rules m at c d q a now → CountsBy m a now
+step_by rules m now at c d q a is =
+    subst (λ (k : FaultCounts). IsCountedBy m.counts k (outcome_of_answer a)) (sym (ap (λ (x : Moment). x.counts) is.left ∙ told_calm rules is.behind is.told c.session (fronts_behind (is_committed is.reply) c.standing) is.front))
+    (subst (λ (o : StepOutcome). IsCountedBy m.counts is.behind.counts o) (sym (ap outcome_of_answer is.answer ∙ told_outcome c.standing d is.reply)) is.step.counts)
 
 data_outcome : (r : Result (ℕ × List ℕ) Refusal) → outcome_of_answer (data_of r) ≡ outcome_of_read r
 data_outcome (Ok got) = refl
@@ -186,7 +165,7 @@ pub waiting_outcome : (oid base : ℕ) (content : Content) → outcome_of_read (
 waiting_outcome oid base (Held bytes) = refl
 waiting_outcome oid base Absent = refl
 
-get_by : (m now : Moment) (v : View) (oid : ℕ) (o : Option PendingStore) (a : Answer) → IsGet m v oid o a now → CountsBy m a now
+get_by : (m now : Moment) (v : OpenTransaction) (oid : ℕ) (o : Option PendingStore) (a : Answer) → IsGet m v oid o a now → CountsBy m a now
 get_by m now v oid (Some p) a is = calm_by m a _ now is.0 (object_outcome (waiting_read oid p) ∙ waiting_outcome oid p.base p.content) (ap (λ (x : Moment). x.counts) is.1)
 get_by m now v oid None a is = read_by m a (object_of is.0) is.0 now is.2 (object_outcome is.0) is.1.counts
 
@@ -207,7 +186,7 @@ rolled_outcome t number (Some pending) = refl
 
 within_by : (m now : Moment) (at : ℕ) (c : Client) (t : OpenTransaction) (l : Line) (a : Answer) → IsWithin m at c t l a now → CountsBy m a now
 within_by m now at c t (line.Load oid) a is = read_by m a (data_of is.0) is.0 now is.2 (data_outcome is.0) is.1.counts
-within_by m now at c t (line.Get oid) a is = get_by m now t.view oid (pending_of t.changes.pending.stores oid) a is
+within_by m now at c t (line.Get oid) a is = get_by m now t oid (pending_of t.changes.pending.stores oid) a is
 within_by m now at c t (line.Store oid base bytes) a is =
     change_by m now at c t (stored t.changes (record { oid = oid; base = base; content = Held bytes })) a
     (store_outcome t.changes (record { oid = oid; base = base; content = Held bytes }) (excess_with t.changes.pending.stores (record { oid = oid; base = base; content = Held bytes }))) is
@@ -219,23 +198,31 @@ within_by m now at c t (line.Rollback number) a is = calm_by m a (rolled_back t.
 within_by m now at c t (line.Tree root call) a is = tree_counts m at c t root call a now is
 within_by m now at c t _ a is = refused_by m refusal.NoTransaction a now refl is
 
+outside_by : (m now : Moment) (at : ℕ) (c : Client) (s : Standing) (a : Answer) → IsOutside m at c s a now → CountsBy m a now
+outside_by m now at c Local a is = refused_by m refusal.NoTransaction a now refl is
+outside_by m now at c (Linked known) a is = calm_by m a (answer.Begun known.front) now is.0 refl (ap (λ (x : Moment). x.counts) is.1)
+
 own_by : (m now : Moment) (at : ℕ) (c : Client) (t : Option OpenTransaction) (l : Line) (a : Answer) → IsOwnLine m at c t l a now → CountsBy m a now
-own_by m now at c None l a is = refused_by m refusal.NoTransaction a now refl is
+own_by m now at c None l a is = outside_by m now at c c.standing a is
 own_by m now at c (Some t) l a is = within_by m now at c t l a is
 
+unless_long_by : (rules : Rules) (m now : Moment) (at : ℕ) (c : Client) (d : Bool) (q : Request) (e : Option ℕ) (a : Answer) → IsStepUnless rules m at c d q e a now → CountsBy m a now
+unless_long_by rules m now at c d q None a is = step_by rules m now at c d q a is
+unless_long_by rules m now at c d q (Some n) a is = refused_by m (refusal.TooLong n) a now refl is
+
 taken_by : (rules : Rules) (m now : Moment) (at : ℕ) (c : Client) (l : Line) (q : Option Request) (a : Answer) → IsLineTaken rules m at c l q a now → CountsBy m a now
-taken_by rules m now at c l (Some q) a is = step_by rules m now at c q a is
+taken_by rules m now at c l (Some q) a is = unless_long_by rules m now at c (is_delivery l) q (asking_excess c.standing q) a is
 taken_by rules m now at c l None a is = own_by m now at c c.transaction l a is
 
 unless_by : (rules : Rules) (m now : Moment) (at : ℕ) (c : Client) (l : Line) (r : Option Refusal) (a : Answer) → AnswersIfSome r → IsLineUnless rules m at c l r a now → CountsBy m a now
 unless_by rules m now at c l (Some why) a answers is = refused_by m why a now answers.0 is
-unless_by rules m now at c l None a answers is = taken_by rules m now at c l (request_of (changes_of c) l) a is
+unless_by rules m now at c l None a answers is = taken_by rules m now at c l (request_of c.standing (changes_of c) l) a is
 
 line_of_by : (rules : Rules) (m now : Moment) (at : Option ℕ) (l : Line) (a : Answer) → IsLineOf rules m at l a now → CountsBy m a now
 line_of_by rules m now None l a is = refused_by m refusal.NotOpen a now refl is
 line_of_by rules m now (Some at) l a is = unless_by rules m now at is.0 l (connection_refusal m.machine is.0 l) a (connection_answers m.machine is.0 l) is.2
 
-opened_by : (m : Moment) (name : List ℕ) (b : Bool) → (o : Opening) → o ≡ (if b then (let x : Opening = record { answer = answer.Opened (length m.machine.sessions); moment = record { machine = with_session m.machine; clients = m.clients ++ record { name = name; session = length m.machine.sessions; transaction = None } ∷ []; stamps = m.stamps; counts = m.counts } } in x)
+opened_by : (m : Moment) (name : List ℕ) (b : Bool) → (o : Opening) → o ≡ (if b then (let x : Opening = record { answer = answer.Opened (length m.machine.sessions); moment = record { machine = with_session m.machine; clients = m.clients ++ record { name = name; session = length m.machine.sessions; transaction = None; standing = Local } ∷ []; stamps = m.stamps; counts = m.counts } } in x)
     else (let x : Opening = record { answer = answer.Refused (refusal.TooManySessions (length m.machine.sessions)); moment = m } in x)) → CountsBy m o.answer o.moment
 opened_by m name true o is = calm_by m o.answer (answer.Opened (length m.machine.sessions)) o.moment (ap (λ (x : Opening). x.answer) is) refl (ap (λ (x : Opening). x.moment.counts) is)
 opened_by m name false o is = calm_by m o.answer (answer.Refused (refusal.TooManySessions (length m.machine.sessions))) o.moment (ap (λ (x : Opening). x.answer) is) refl (ap (λ (x : Opening). x.moment.counts) is)

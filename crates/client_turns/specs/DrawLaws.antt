@@ -124,7 +124,7 @@ read_leaves m b now o drawn rest counts = record {
 }
 
 uncalled_leaves : (m : Moment) (n : ℕ) (t : OpenTransaction) (root : ℕ) (op : TreeOperation) (why : Refusal) (now : Moment) → IsUncalled m n t root op why now → LeavesCall m (outcome_of_refusal why) now
-uncalled_leaves m n t root op why now (by_tree objects sees refused same) = drawn_leaves m now (outcome_of_refusal why) (refused_answers objects root op why refused) (drawn_same m now same)
+uncalled_leaves m n t root op why now (by_tree objects sees refused whole same) = drawn_leaves m now (outcome_of_refusal why) (refused_answers objects root op why refused) (drawn_same m now same)
 uncalled_leaves m n t root op why now (by_read oid asked read found) = read_leaves m m now (outcome_of_refusal why) (drawn_same m m refl) read.rest read.counts
 uncalled_leaves m n t root op why now (by_draw numbers behind lacks draws (rules, step)) =
     drawn_leaves m now (outcome_of_refusal why) (new_answered rules behind n (reply.Refused why) now step) (drawn_twice m behind now (draws_drawn m n numbers behind draws) (new_drawn rules behind n (reply.Refused why) now step))

@@ -1,5 +1,5 @@
 -- What a call on a tree gathers before it is answered. Own.
-use Rattle.std.specs.Prelude.{◌≡◌, ℕ, List, Option, Some, None, Result, Ok, Err, true, false, slice_get, ◌⊎◌, ◌+◌, ◌<◌, All, length}
+use Rattle.std.specs.Prelude.{All, Err, List, None, Ok, Option, Result, Some, false, length, slice_get, true, ℕ, ◌+◌, ◌<◌, ◌≡◌, ◌⊎◌}
 use Rattle.std.specs.Option.{option_map}
 use Rattle.zb_ids.specs.declared.stamp.Stamp.{Stamp}
 use Rattle.zb_model.specs.declared.data.Transaction.{Transaction}
@@ -67,7 +67,7 @@ number_in _ = Err refusal.NotOpen
 abbrev pub IsSightIn : Moment → Option OpenTransaction → ℕ → Result (Option Seen) Refusal → Moment → Type 0
 IsSightIn m None oid result now = ⊥
 IsSightIn m (Some t) oid (Ok x) now = (now ≡ m) × IsSeenIn m.machine t oid x
-IsSightIn m (Some t) oid (Err why) now = (IsReadAt m t.view oid (Err why) now × (is_missing why ≡ false)) ⊎ ((why ≡ refusal.Memory) × (now ≡ m))
+IsSightIn m (Some t) oid (Err why) now = (IsReadAt m t oid (Err why) now × (is_missing why ≡ false)) ⊎ ((why ≡ refusal.Memory) × (now ≡ m))
 
 -- what the transaction of the client at a place has of an object
 abbrev pub IsSightOf : Moment → ℕ → ℕ → Result (Option Seen) Refusal → Moment → Type 0
@@ -101,6 +101,7 @@ pub record StandsGathering {R F : Type 0} (seen : ClientsState R F) (left : Opti
   pub there : slice_get m.clients at ≡ Some client
   pub transaction : OpenTransaction
   pub begun : client.transaction ≡ Some transaction
+  pub near : transaction.framed ≡ false
   pub may : is_open_in now.machine.sessions client.session ≡ true
   pub draws : Draws m client.session numbers now
   pub list : now.machine.list ≡ m.machine.list

@@ -1,5 +1,5 @@
 -- Laws of turns: what holds of all that scripts are answered, over whatever rules, stamps and faults. Own.
-use Rattle.std.specs.Prelude.{◌≡◌, ◌⊎◌, ℕ, ◌<◌, ◌≤◌, List, ◌∷◌, ◌++◌, Option, Some, None, Ok, Err, length, All, IfSome, slice_get, Bool, true, false}
+use Rattle.std.specs.Prelude.{◌≡◌, ◌⊎◌, ℕ, ◌<◌, ◌≤◌, List, ◌∷◌, Option, Some, None, Ok, Err, length, All, IfSome, slice_get, Bool, true, false}
 use Rattle.std.specs.List.{AllByRecursion, AllPairs, filter_map}
 use Rattle.zb_base.specs.Counts.{Rose}
 use Rattle.zb_ids.specs.declared.stamp.Stamp.{Stamp}
@@ -27,8 +27,8 @@ use Rattle.zodb_core.specs.Machine.{Machine, Rules, session_limit, switches_of}
 use Rattle.zodb_core.specs.Outcomes.{FaultCounts}
 use Rattle.zodb_core.specs.Sound.{AreWellFormedStores, ComesTo, GrowsTo, IsSoundMachine}
 use Rattle.zodb_core.specs.Steps.{step_of}
-use Rattle.client_turns.specs.Clients.{Changes, Client, Moment, OpenTransaction, changes_of, first_moment, place_of_client}
-use Rattle.client_turns.specs.Lines.{request_of, waiting, with_changes}
+use Rattle.client_turns.specs.Clients.{Changes, Client, Local, Moment, OpenTransaction, changes_of, first_moment, place_of_client}
+use Rattle.client_turns.specs.Lines.{answering_excess, asking_excess, request_of, waiting, with_changes}
 use Rattle.client_turns.specs.Numbers.{numbers_given}
 use Rattle.client_turns.specs.Output.{FlaggedTurn, Out, TurnAnswer}
 use Rattle.client_turns.specs.Reads.{IsMissedFor}
@@ -38,6 +38,7 @@ use Rattle.client_turns.specs.Turns.{IsTurn}
 use Rattle.client_turns.specs.Views.{server_of}
 use Rattle.connection_view.specs.Loading.{IsMissing}
 use Rattle.connection_view.specs.Views.{View}
+use Rattle.client_turns.specs.Frames.{IsPastFrame}
 
 -- ---- words
 
@@ -49,13 +50,21 @@ IsFormedPending pending = AreWellFormedStores pending.stores
 abbrev pub AreFormed : Changes → Type 0
 AreFormed ch = IsFormedPending ch.pending × AllByRecursion IsFormedPending ch.savepoints
 
+-- and what waits in a client's transaction
 abbrev pub IsFormedClient : Client → Type 0
 IsFormedClient c = IfSome (changes_of c) AreFormed
 
--- the machine is sound, and so are the stores that wait
+-- a client of the same program
+abbrev pub IsLocal : Client → Type 0
+IsLocal c = c.standing ≡ Local
+
+abbrev pub IsSoundClient : Client → Type 0
+IsSoundClient c = IsFormedClient c × IsLocal c
+
+-- the machine is sound, and so are the stores that wait; and each client is a local one, since no line opens another
 pub record IsSoundMoment (m : Moment) : Type 0 where
   pub machine : IsSoundMachine m.machine
-  pub formed : AllByRecursion IsFormedClient m.clients
+  pub formed : AllByRecursion IsSoundClient m.clients
 
 -- A machine that steps led to: its list has only grown, by later transactions, or was packed; neither the number of packs nor the greatest number fell; and where
 -- there was no pack, the list has only grown.
@@ -69,6 +78,7 @@ pub record Follows (m now : Machine) : Type 0 where
 -- the front that an answer gives, if it gives one
 abbrev pub front_given : Answer → Option ℕ
 front_given (answer.Begun front) = Some front
+front_given (answer.Delivered front) = Some front
 front_given _ = None
 
 -- the fronts that turns were given, in their order
@@ -194,19 +204,23 @@ abbrev pub WouldPut : Moment → OpenTransaction → ℕ → TreeCall → List P
 WouldPut m o root call puts = (objects : ℕ → Option Seen) × (numbers : List ℕ) × (x : TreeAnswer) × (made : List TreePut) × (puts ≡ stores_put made) × Sees m.machine o objects × IsMade objects root (operation_of call) numbers x made
 
 -- Why a turn was refused so: the client never opened a session; too many are open; its connection refuses the line; the machine refuses the line's step; the
--- view hasn't got the object, or the transaction is to delete it; what would wait is too long; a tree refuses the call, over what the transaction has; the machine
+-- view hasn't got the object, or the transaction is to delete it; what would wait is too long, or what is asked for, answered or read doesn't fit a frame; a tree refuses the call, over what the transaction has; the machine
 -- refuses a number that the call needs, over what the transaction has, once fewer were drawn; a call would put something once the transaction is voted; there is no
 -- such savepoint; or reading failed, and the count of failed reads rose.
 pub data IsRefusedFor (rules : Rules) (m : Moment) (t : Turn) (why : Refusal) (now : Moment) : Type 0 where
   unnamed : place_of_client t.client m.clients ≡ None → why ≡ refusal.NotOpen → IsRefusedFor rules m t why now
   crowded : session_limit ≤ length m.machine.sessions → why ≡ refusal.TooManySessions (length m.machine.sessions) → IsRefusedFor rules m t why now
   by_connection : (c : Client) → IsNamed m t.client c → connection_refusal m.machine c t.line ≡ Some why → IsRefusedFor rules m t why now
-  by_step : (c : Client) (q : Request) (stamp : ℕ) → IsNamed m t.client c → request_of (changes_of c) t.line ≡ Some q
+  by_step : (c : Client) (q : Request) (stamp : ℕ) → IsNamed m t.client c → request_of c.standing (changes_of c) t.line ≡ Some q
       → (step_of rules m.machine c.session q stamp).reply ≡ reply.Refused why → IsRefusedFor rules m t why now
   by_view : (o : OpenTransaction) (oid : ℕ) → HasOpen m t.client o → IsMissedFor m.machine o.view oid why → IsRefusedFor rules m t why now
   by_delete : (o : OpenTransaction) (oid : ℕ) (p : PendingStore) → HasOpen m t.client o → t.line ≡ line.Get oid → pending_of o.changes.pending.stores oid ≡ Some p → p.content ≡ Absent → why ≡ refusal.Missing oid false
       → IsRefusedFor rules m t why now
   by_length : (o : OpenTransaction) (p : PendingStore) (n : ℕ) → HasOpen m t.client o → excess_with o.changes.pending.stores p ≡ Some n → why ≡ refusal.TooLong n → IsRefusedFor rules m t why now
+  by_asking : (c : Client) (q : Request) (n : ℕ) → IsNamed m t.client c → request_of c.standing (changes_of c) t.line ≡ Some q → asking_excess c.standing q ≡ Some n → why ≡ refusal.TooLong n → IsRefusedFor rules m t why now
+  by_answer : (c : Client) (q : Request) (stamp n : ℕ) → IsNamed m t.client c → request_of c.standing (changes_of c) t.line ≡ Some q → answering_excess c.standing (step_of rules m.machine c.session q stamp).reply ≡ Some n → why ≡ refusal.TooLong n
+      → IsRefusedFor rules m t why now
+  by_frame : (o : OpenTransaction) (oid n : ℕ) → HasOpen m t.client o → o.framed ≡ true → IsPastFrame m.machine oid o.view.front n → why ≡ refusal.TooLong n → IsRefusedFor rules m t why now
   by_call : (o : OpenTransaction) (objects : ℕ → Option Seen) (root : ℕ) (call : TreeCall) → HasOpen m t.client o → t.line ≡ line.Tree root call → Sees m.machine o objects
       → IsRefused objects root (operation_of call) why → IsRefusedFor rules m t why now
   by_number : (c : Client) (o : OpenTransaction) (root : ℕ) (call : TreeCall) (numbers : List ℕ) (behind : Moment) (rules' : Rules) (stamp : ℕ) → IsNamed m t.client c → HasOpen m t.client o → t.line ≡ line.Tree root call

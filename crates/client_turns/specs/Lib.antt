@@ -1,4 +1,5 @@
 pub mod Views
+pub mod Frames
 pub mod Reads
 pub mod Clients
 pub mod Refusing
@@ -16,3 +17,4 @@ pub mod DrawLaws
 pub mod ListLaws
 pub mod TurnLaws
 pub mod CountLaws
+pub mod Waiting

@@ -20,9 +20,10 @@ use Rattle.zodb_core.specs.Machine.{Machine}
 use Rattle.zodb_core.specs.Outcomes.{Answered, FaultCounts, NoMemory, ReadingFailed, StepOutcome, StoreFailed, outcome_of_refusal}
 use Rattle.client_turns.specs.declared.errors.TurnError.{TurnError}
 use Rattle.client_turns.specs.declared.errors.TurnError.TheVariants as error
-use Rattle.client_turns.specs.Clients.{Changes, Client, OpenTransaction, begun, nothing_pending, with_transaction}
+use Rattle.client_turns.specs.Clients.{Changes, Client, Linked, Local, OpenTransaction, Standing, begun, nothing_pending, with_transaction}
 use Rattle.client_turns.specs.Views.{server_of}
-use Rattle.connection_view.specs.Views.{view_of}
+use Rattle.connection_view.specs.Views.{View, view_of}
+use Rattle.client_turns.specs.Frames.{call_excess, reply_excess}
 
 -- ---- lines that are one step
 
@@ -30,23 +31,34 @@ use Rattle.connection_view.specs.Views.{view_of}
 abbrev pub pending_in : Option Changes → PendingChanges
 pending_in changes = option_map_or (λ t. t.pending) changes nothing_pending
 
--- the request of a line that is one step, with these changes in the transaction, where one is open
-abbrev pub request_of : Option Changes → Line → Option Request
-request_of changes line.Begin = Some request.Front
-request_of changes line.New = Some (request.NewOids 1)
-request_of changes (line.Vote user description) = Some (request.Vote user description [] (pending_in changes))
-request_of changes (line.Undo user description tids) = Some (request.Undo user description tids)
-request_of changes line.Finish = Some request.Finish
-request_of changes line.Abort = Some request.Abort
-request_of changes (line.History oid) = Some (request.History oid)
-request_of changes line.UndoLog = Some request.UndoLog
-request_of changes (line.Pack tid collect) = Some (request.Pack tid collect)
-request_of changes (line.PackBegin tid collect) = Some (request.PackBegin tid collect)
-request_of changes line.PackTurn = Some request.PackTurn
-request_of changes line.Close = Some request.Close
-request_of changes _ = None
+-- a transaction of a local client begins with a step, and one behind a link with none
+abbrev pub begin_request : Standing → Option Request
+begin_request Local = Some request.Front
+begin_request (Linked known) = None
 
--- what the line is answered; none of them asks for a load, or for what was committed
+-- the request of a line that is one step, of a client that stands so, with these changes in the transaction, where one is open
+abbrev pub request_of : Standing → Option Changes → Line → Option Request
+request_of s changes line.Begin = begin_request s
+request_of s changes line.New = Some (request.NewOids 1)
+request_of s changes (line.Vote user description) = Some (request.Vote user description [] (pending_in changes))
+request_of s changes (line.Undo user description tids) = Some (request.Undo user description tids)
+request_of s changes line.Finish = Some request.Finish
+request_of s changes line.Abort = Some request.Abort
+request_of s changes line.Deliver = Some request.Front
+request_of s changes (line.History oid) = Some (request.History oid)
+request_of s changes line.UndoLog = Some request.UndoLog
+request_of s changes (line.Pack tid collect) = Some (request.Pack tid collect)
+request_of s changes (line.PackBegin tid collect) = Some (request.PackBegin tid collect)
+request_of s changes line.PackTurn = Some request.PackTurn
+request_of s changes line.Close = Some request.Close
+request_of s changes _ = None
+
+-- a line whose front begins no transaction
+abbrev pub is_delivery : Line → Bool
+is_delivery line.Deliver = true
+is_delivery _ = false
+
+-- what the line is answered whose front begins one; none of them asks for a load, or for what was committed
 abbrev pub answer_of : Reply → Answer
 answer_of (reply.Front front news switches) = answer.Begun front
 answer_of (reply.Loaded serial bytes end upto) = answer.Data serial bytes
@@ -69,9 +81,37 @@ answer_of (reply.Since keep commits) = answer.Empty
 answer_of reply.Closed = answer.Closed
 answer_of (reply.Refused why) = answer.Refused why
 
+-- what a delivery is answered
+abbrev pub delivered_as : Reply → Answer
+delivered_as (reply.Front front news switches) = answer.Delivered front
+delivered_as r = answer_of r
+
+-- what a line is answered, by whether it is a delivery
+abbrev pub answer_to : Bool → Reply → Answer
+answer_to false r = answer_of r
+answer_to true r = delivered_as r
+
+-- how long what a client would ask for is, or what it would be answered, where that doesn't fit a frame: a local client needs none
+abbrev pub asking_excess : Standing → Request → Option ℕ
+asking_excess Local q = None
+asking_excess (Linked known) q = call_excess q
+
+abbrev pub answering_excess : Standing → Reply → Option ℕ
+answering_excess Local r = None
+answering_excess (Linked known) r = reply_excess r
+
+-- an answer, unless it is too long
+abbrev pub unless_long : Option ℕ → Answer → Answer
+unless_long None a = a
+unless_long (Some n) a = answer.Refused (refusal.TooLong n)
+
+-- what the line of a client that stands so is answered
+abbrev pub step_answer : Standing → Bool → Reply → Answer
+step_answer s delivers r = unless_long (answering_excess s r) (answer_to delivers r)
+
 -- the open transaction is voted
 abbrev pub as_voted : OpenTransaction → OpenTransaction
-as_voted t = record { view = t.view; changes = record t.changes { is_voted = true } }
+as_voted t = record t { changes = record t.changes { is_voted = true } }
 
 -- what is left of the open transaction, in the machine behind the step: a front begins one, a vote is kept, and what ends it drops it
 abbrev pub transaction_left : Machine → Option OpenTransaction → Reply → Option OpenTransaction
@@ -83,8 +123,24 @@ transaction_left m t reply.Aborted = None
 transaction_left m t reply.Closed = None
 transaction_left m t _ = t
 
-abbrev pub client_left : Machine → Client → Reply → Client
-client_left m c r = record c { transaction = transaction_left m c.transaction r }
+-- what is left of a client; a delivery leaves its transaction
+abbrev pub client_left : Bool → Machine → Client → Reply → Client
+client_left false m c r = record c { transaction = transaction_left m c.transaction r }
+client_left true m c r = c
+
+-- what is known behind a link: after a front, and after a commit of its own, the list as it stands
+abbrev pub known_behind : Machine → View → Reply → View
+known_behind m known (reply.Front front news switches) = view_of (server_of m)
+known_behind m known (reply.Committed tid) = view_of (server_of m)
+known_behind m known _ = known
+
+abbrev pub standing_behind : Machine → Standing → Reply → Standing
+standing_behind m Local r = Local
+standing_behind m (Linked known) r = Linked (known_behind m known r)
+
+-- the client that stands so behind a step
+abbrev pub client_told : Machine → Reply → Client → Client
+client_told m r c = record c { standing = standing_behind m c.standing r }
 
 abbrev pub is_committed : Reply → Bool
 is_committed (reply.Committed tid) = true
@@ -139,7 +195,7 @@ outcome_of_end (Some why) = outcome_of_error why
 
 -- the client whose transaction has these changes
 abbrev pub with_changes : Client → OpenTransaction → Changes → Client
-with_changes c t changes = with_transaction c (record { view = t.view; changes = changes })
+with_changes c t changes = with_transaction c (record t { changes = changes })
 
 -- what a line is answered, and the changes that it leaves
 pub record Changed : Type 0 where

@@ -17,7 +17,7 @@ stepped_kept stands rules m n (Some q) bytes left = inl left
 
 pub asked_kept : (stands : List ℕ → List Transaction → Type 0) (rules : Rules) (m : Machine) (c : Option clients.Client) (l : Line) (bytes : List ℕ) → stands bytes m.list → IsListAsked stands rules m c l bytes
 asked_kept stands rules m None l bytes left = left
-asked_kept stands rules m (Some c) l bytes left = stepped_kept stands rules m c.session (request_unless (connection_refusal m c l) (request_of (changes_of c) l)) bytes left
+asked_kept stands rules m (Some c) l bytes left = stepped_kept stands rules m c.session (request_unless (connection_refusal m c l) (request_of c.standing (changes_of c) l)) bytes left
 
 -- a list that only was as it was may be seen in each turn
 pub turn_kept : (stands : List ℕ → List Transaction → Type 0) (rules : Rules) (m : Moment) (t : Turn) (bytes : List ℕ) → stands bytes m.machine.list → IsListIn stands rules m t bytes

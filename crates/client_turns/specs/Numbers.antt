@@ -17,7 +17,7 @@ use Rattle.client_turns.specs.Turns.{IsLine, IsLineOf, IsLineUnless, IsOwnLine}
 
 -- what a call drew that isn't answered: nothing, where its tree refused it or a read failed
 abbrev pub drawn_uncalled : {m : Moment} {n : ℕ} {t : OpenTransaction} {root : ℕ} {op : TreeOperation} {why : Refusal} {now : Moment} → IsUncalled m n t root op why now → List ℕ
-drawn_uncalled (by_tree objects sees refused same) = []
+drawn_uncalled (by_tree objects sees refused whole same) = []
 drawn_uncalled (by_read oid asked read found) = []
 drawn_uncalled (by_draw numbers behind lacks draws refused) = numbers
 drawn_uncalled (by_want numbers may draws is) = numbers
@@ -29,7 +29,7 @@ drawn_by_call m n t root op (Err why) now ends = drawn_uncalled ends
 
 -- and so a line of a tree: nothing, where it is refused before
 abbrev pub drawn_within : (m : Moment) (at : ℕ) (c : Client) (t : Option OpenTransaction) (root : ℕ) (call : TreeCall) (a : Answer) (now : Moment) → IsOwnLine m at c t (line.Tree root call) a now → List ℕ
-drawn_within m at c None root call a now refused = []
+drawn_within m at c None root call a now outside = []
 drawn_within m at c (Some t) root call a now called = drawn_by_call m c.session t root (operation_of call) called.result called.behind called.ends
 
 abbrev pub drawn_unless : (rules : Rules) (m : Moment) (at : ℕ) (c : Client) (why : Option Refusal) (root : ℕ) (call : TreeCall) (a : Answer) (now : Moment) → IsLineUnless rules m at c (line.Tree root call) why a now → List ℕ

@@ -40,6 +40,7 @@ abbrev pub line_refusal : Option Changes → Line → Option Refusal
 line_refusal t line.Open = None
 line_refusal t line.Begin = refuse_if (is_some t) refusal.InTransaction
 line_refusal t line.New = None
+line_refusal t line.Deliver = None
 line_refusal t (line.History oid) = None
 line_refusal t line.UndoLog = None
 line_refusal t (line.Pack tid collect) = None

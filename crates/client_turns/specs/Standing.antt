@@ -50,9 +50,10 @@ changes_kept w = record { pending = w.pending; savepoints = w.savepoints; is_vot
 abbrev pub with_kept : Work → Changes → Work
 with_kept w ch = record { front = w.front; switches = w.switches; pending = ch.pending; savepoints = ch.savepoints; is_voted = ch.is_voted }
 
--- a transaction that is kept by a connection which has it: what it would change is the same, and what is read in it is its view
+-- a transaction of a local client that is kept by a connection which has it: what it would change is the same, and what is read in it is its view
 pub record IsWorkOf (k : Connection) (told : views.Client) (w : Work) (t : OpenTransaction) : Type 0 where
   pub changes : t.changes ≡ changes_kept w
+  pub near : t.framed ≡ false
   pub view : InView k t.view told
 
 -- the open transaction of a connection, or that none is open
@@ -61,10 +62,11 @@ IsOpenAs k told (Ok w) (Some t) = IsWorkOf k told w t
 IsOpenAs k told (Err r) None = (r ≡ refusal.NoTransaction) × Between k told
 IsOpenAs k told _ _ = ⊥
 
--- A client as it is kept, over a hub. What its session told it, and what its connection may have cached, is right for one of those that may be at its session.
+-- A local client as it is kept, over a hub. What its session told it, and what its connection may have cached, is right for one of those that may be at its session.
 pub record IsClientOf {R F : Type 0} (hub : HubState R F) (x : Client) (c : clients.Client) : Type 0 where
   pub name : c.name ≡ x.name
   pub session : c.session ≡ x.session
+  pub local : c.standing ≡ clients.Local
   pub told : views.Client
   pub may : MayBeTold x.told hub told.told told.known
   pub transaction : IsOpenAs x.connection told (work_of x.connection) c.transaction
@@ -106,9 +108,9 @@ IsLineOpen rules m at c l = OrStarved (IsLineUnless rules m at c l (line_refusal
 abbrev pub IsOpenLineOf : Rules → Moment → ℕ → Line → Answer → Moment → Type 0
 IsOpenLineOf rules m at l a now = (c : clients.Client) × (slice_get m.clients at ≡ Some c) × IsLineOpen rules m at c l a now
 
--- a line that is one step, of the client at a place
+-- a line that is one step and no delivery, of the client at a place, a local one
 abbrev pub IsStepOf : Rules → Moment → ℕ → Request → Answer → Moment → Type 0
-IsStepOf rules m at q a now = (c : clients.Client) × (slice_get m.clients at ≡ Some c) × IsStepLine rules m at c q a now
+IsStepOf rules m at q a now = (c : clients.Client) × (slice_get m.clients at ≡ Some c) × (c.standing ≡ clients.Local) × IsStepLine rules m at c false q a now
 
 -- a line that is none, of the client at a place
 abbrev pub IsOwnOf : Moment → ℕ → Line → Answer → Moment → Type 0
@@ -156,16 +158,16 @@ pub record OneLeadsTo {R F : Type 0} (Q : Moment → Type 0) (m : Moment) (at : 
 -- a read in an open transaction, or that none is open
 abbrev pub IsReadWhere : Moment → Option OpenTransaction → ℕ → Result (ℕ × List ℕ) Refusal → Moment → Type 0
 IsReadWhere m None oid result now = (result ≡ Err refusal.NoTransaction) × (now ≡ m)
-IsReadWhere m (Some t) oid result now = IsReadAt m t.view oid result now
+IsReadWhere m (Some t) oid result now = IsReadAt m t oid result now
 
 -- what a transaction has of an object: what waits for it, for which memory is free to run out, or else what its view has
-abbrev pub IsGotAs : Moment → View → ℕ → Option PendingStore → Result (ℕ × List ℕ) Refusal → Moment → Type 0
-IsGotAs m v oid (Some p) result now = ((result ≡ waiting_read oid p) ⊎ (result ≡ Err refusal.Memory)) × (now ≡ m)
-IsGotAs m v oid None result now = IsReadAt m v oid result now
+abbrev pub IsGotAs : Moment → OpenTransaction → ℕ → Option PendingStore → Result (ℕ × List ℕ) Refusal → Moment → Type 0
+IsGotAs m t oid (Some p) result now = ((result ≡ waiting_read oid p) ⊎ (result ≡ Err refusal.Memory)) × (now ≡ m)
+IsGotAs m t oid None result now = IsReadAt m t oid result now
 
 abbrev pub IsGotWhere : Moment → Option OpenTransaction → ℕ → Result (ℕ × List ℕ) Refusal → Moment → Type 0
 IsGotWhere m None oid result now = (result ≡ Err refusal.NoTransaction) × (now ≡ m)
-IsGotWhere m (Some t) oid result now = IsGotAs m t.view oid (pending_of t.changes.pending.stores oid) result now
+IsGotWhere m (Some t) oid result now = IsGotAs m t oid (pending_of t.changes.pending.stores oid) result now
 
 abbrev pub IsGotOf : Moment → ℕ → ℕ → Result (ℕ × List ℕ) Refusal → Moment → Type 0
 IsGotOf m at oid result now = (c : clients.Client) × (slice_get m.clients at ≡ Some c) × IsGotWhere m c.transaction oid result now
@@ -208,7 +210,7 @@ IsListStepped stands rules m n (Some q) bytes = IsBeforeOrBehind stands rules m 
 -- and so in a line of a client, if there is one
 abbrev pub IsListAsked : (List ℕ → List Transaction → Type 0) → Rules → Machine → Option clients.Client → Line → List ℕ → Type 0
 IsListAsked stands rules m None l bytes = stands bytes m.list
-IsListAsked stands rules m (Some c) l bytes = IsListStepped stands rules m c.session (request_unless (connection_refusal m c l) (request_of (changes_of c) l)) bytes
+IsListAsked stands rules m (Some c) l bytes = IsListStepped stands rules m c.session (request_unless (connection_refusal m c l) (request_of c.standing (changes_of c) l)) bytes
 
 -- What Main may stand for at each moment of a turn: the list that the turn finds, or, where the client's connection takes the line, and it is a step of the machine,
 -- the list behind that step of the client's session. So it is only ever another list where the session's own vote is finished, or where the list is packed.

@@ -11,7 +11,6 @@ use Rattle.zodb_core.specs.Outcomes.{AreLaterCounts, IsStepMade, outcome_of}
 use Rattle.client_turns.specs.Clients.{Client, Moment, OpenTransaction, with_client}
 use Rattle.client_turns.specs.Lines.{Changed, IsCountedBy, outcome_of_read, with_changes}
 use Rattle.client_turns.specs.Reads.{EndsReading}
-use Rattle.connection_view.specs.Views.{View}
 
 -- A step of session n leads from one moment to another. Only the machine, the clock, where it was read, and the counts have changed, and these as the reply says: a
 -- count rose where something failed, and else none has moved.
@@ -23,10 +22,10 @@ pub record IsStepAt (rules : Rules) (m : Moment) (n : ℕ) (q : Request) (r : Re
   pub clock : HasTicked ticks stamp m.stamps now.stamps
   pub clients : now.clients ≡ m.clients
 
--- A read of an object in a view leads from one moment to another, where just the counts may have risen, and that of failed reads alone where it says so.
-pub record IsReadAt (m : Moment) (v : View) (oid : ℕ) (result : Result (ℕ × List ℕ) Refusal) (now : Moment) : Type 0 where
+-- A read of an object in a transaction's view leads from one moment to another, where just the counts may have risen, and that of failed reads alone where it says so.
+pub record IsReadAt (m : Moment) (t : OpenTransaction) (oid : ℕ) (result : Result (ℕ × List ℕ) Refusal) (now : Moment) : Type 0 where
   pub later : AreLaterCounts m.counts now.counts
-  pub ends : EndsReading m.machine v oid m.counts now.counts result
+  pub ends : EndsReading t.framed m.machine t.view oid m.counts now.counts result
   pub counts : IsCountedBy m.counts now.counts (outcome_of_read result)
   pub rest : now ≡ record m { counts = now.counts }
 

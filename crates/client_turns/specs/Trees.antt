@@ -16,7 +16,7 @@ use Rattle.tree_calls.specs.declared.operation.TreeAnswer.{TreeAnswer}
 use Rattle.tree_calls.specs.declared.operation.TreeAnswer.TheVariants as answered
 use Rattle.tree_calls.specs.declared.operation.TreeOperation.{TreeOperation}
 use Rattle.tree_calls.specs.declared.operation.TreeOperation.TheVariants as operation
-use Rattle.tree_calls.specs.Calls.{IsMade, IsRefused, LacksNumbers, MayRead, NeedsNumbers, contents_of, is_walk}
+use Rattle.tree_calls.specs.Calls.{IsAmong, IsMade, IsRefused, LacksNumbers, MayRead, NeedsNumbers, contents_of, is_walk, reads_in}
 use Rattle.zodb_core.specs.declared.reply.Reply.TheVariants as reply
 use Rattle.zodb_core.specs.declared.request.Request.TheVariants as request
 use Rattle.zodb_core.specs.Machine.{Machine, Rules}
@@ -27,6 +27,8 @@ use Rattle.connection_view.specs.Loading.{IsMissing}
 use Rattle.client_turns.specs.Steps.{IsChange, IsReadAt, IsStepAt}
 use Rattle.client_turns.specs.Views.{server_of}
 use Rattle.connection_view.specs.Views.{View, current}
+use Rattle.client_turns.specs.Frames.{HasFitted}
+use Rattle.btree_shapes.specs.declared.space.Call.{Call}
 
 -- ---- what a line says
 
@@ -70,6 +72,15 @@ IsSeenIn m t oid x = IsSeen m t.view oid (pending_of t.changes.pending.stores oi
 abbrev pub Sees : Machine → OpenTransaction → (ℕ → Option Seen) → Type 0
 Sees m t objects = (oid : ℕ) → IsSeenIn m t oid (objects oid)
 
+-- what was read of an object over a link has fitted a frame; what waits for it wasn't read
+abbrev pub CameWhole : Bool → Option PendingStore → Option Seen → Type 0
+CameWhole true None (Some x) = HasFitted (x.serial, x.bytes)
+CameWhole _ _ _ = Unit {0}
+
+-- and so all that these calls read
+abbrev pub AllCameWhole : OpenTransaction → (ℕ → Option Seen) → List Call → Type 0
+AllCameWhole t objects calls = (oid : ℕ) → IsAmong (reads_in calls) oid → CameWhole t.framed (pending_of t.changes.pending.stores oid) (objects oid)
+
 -- ---- what is drawn
 
 -- a machine, and the same with a greatest number that isn't lower
@@ -105,6 +116,7 @@ pub record IsCalled (m : Moment) (n : ℕ) (t : OpenTransaction) (root : ℕ) (o
   pub numbers : List ℕ
   pub draws : Draws m n numbers now
   pub made : IsMade objects root op numbers x.answer x.puts
+  pub whole : AllCameWhole t objects made.calls
   pub filled : All (λ p. 0 < length p.bytes) x.puts
 
 -- a call over what a transaction has needs more numbers than these
@@ -138,8 +150,8 @@ IsAsked m t root op oid = IsOnWay m t root op oid ⊎ (is_walk op ≡ true)
 -- A call isn't answered. The tree refuses it, or a read for it fails, and no number was drawn; or one is refused of those that the call needs, behind fewer; or memory
 -- runs out, and no more were drawn than it needs.
 pub data IsUncalled (m : Moment) (n : ℕ) (t : OpenTransaction) (root : ℕ) (op : TreeOperation) (why : Refusal) (now : Moment) : Type 0 where
-  by_tree : (objects : ℕ → Option Seen) → Sees m.machine t objects → IsRefused objects root op why → now ≡ m → IsUncalled m n t root op why now
-  by_read : (oid : ℕ) → IsAsked m.machine t root op oid → IsReadAt m t.view oid (Err why) now → is_missing why ≡ false → IsUncalled m n t root op why now
+  by_tree : (objects : ℕ → Option Seen) → Sees m.machine t objects → (refused : IsRefused objects root op why) → AllCameWhole t objects refused.calls → now ≡ m → IsUncalled m n t root op why now
+  by_read : (oid : ℕ) → IsAsked m.machine t root op oid → IsReadAt m t oid (Err why) now → is_missing why ≡ false → IsUncalled m n t root op why now
   by_draw : (numbers : List ℕ) (behind : Moment) → NeedsMore m.machine t root op numbers → Draws m n numbers behind → IsUndrawn behind n why now → IsUncalled m n t root op why now
   by_want : (numbers : List ℕ) → MayDraw m.machine t root op numbers → Draws m n numbers now → why ≡ refusal.Memory → IsUncalled m n t root op why now
 
@@ -155,7 +167,7 @@ stores_put [] = []
 stores_put (p ∷ puts) = (record { oid = p.oid; base = p.base; content = Held p.bytes }) ∷ stores_put puts
 
 abbrev pub puts_stored : Changes → Answer → Result (List PendingStore) ℕ → Changed
-puts_stored t a (Ok stores) = record { answer = a; changes = record { pending = record { stores = stores; checks = t.pending.checks }; savepoints = t.savepoints; is_voted = t.is_voted } }
+puts_stored t a (Ok stores) = record { answer = a; changes = record t { pending = record { stores = stores; checks = t.pending.checks } } }
 puts_stored t a (Err length) = unchanged t (answer.Refused (refusal.TooLong length))
 
 -- what a call puts waits for the vote, all of it or nothing: unless the transaction is voted, or a length passes a limit

@@ -1,5 +1,5 @@
 -- What turns leave of the list, and that it stays whole. For the proofs of those who follow turns.
-use Rattle.std.proofs.Common.{◌≡◌, ℕ, ◌+◌, ◌-◌, ◌^◌, Bool, true, false, cond, List, [], ◌∷◌, ◌++◌, length, Option, Some, None, Result, Ok, Err, if◌then◌else◌, nat_lt, refl, sym, ap, subst, ◌∙◌}
+use Rattle.std.proofs.Common.{Bool, Err, List, None, Ok, Option, Result, Some, [], ap, cond, false, if◌then◌else◌, length, nat_lt, refl, subst, suc, sym, true, zero, ℕ, ◌++◌, ◌+◌, ◌-◌, ◌^◌, ◌∙◌, ◌∷◌, ◌≡◌}
 use Rattle.zb_ids.specs.declared.stamp.Stamp.{Stamp}
 use Rattle.zb_ids.specs.Tids.{tid_after}
 use Rattle.zb_model.specs.declared.data.Change.{Change}
@@ -27,18 +27,21 @@ use Rattle.zodb_core.specs.SoundLaws.{left_within}
 use Rattle.zodb_core.specs.StepCases.{StepCases, by_step, by_unanswered}
 use Rattle.zodb_core.specs.Steps.{Stepped, changes_in_journal, early_refusal, journal_limit, replied_refusal, request_step, step_of, transaction_with, unless_early, vote_at, vote_step, with_vote}
 use Rattle.zodb_core.specs.SwitchLaws.{packed_as_asked, turn_keeps_list}
-use Rattle.client_turns.specs.Clients.{Changes, Client, Moment, OpenTransaction, changes_of, first_moment, place_of_client}
+use Rattle.client_turns.specs.Clients.{Changes, Client, Linked, Local, Moment, OpenTransaction, Standing, changes_of, first_moment, place_of_client}
 use Rattle.client_turns.specs.declared.errors.TurnError.TheVariants as error
-use Rattle.client_turns.specs.Lines.{answer_of, end_in, end_of, is_committed, pending_in, request_of}
-use Rattle.client_turns.specs.Output.{FlaggedTurn, Out, TurnAnswer, is_last}
-use Rattle.client_turns.specs.Refusing.{connection_refusal}
+use Rattle.client_turns.specs.Lines.{answer_of, answer_to, answering_excess, asking_excess, end_in, end_of, is_committed, is_delivery, pending_in, request_of, step_answer, unless_long}
+use Rattle.client_turns.specs.Output.{FlaggedTurn, Out, TurnAnswer}
+use Rattle.client_turns.specs.Refusing.{connection_refusal, opens_session}
 use Rattle.client_turns.specs.Standing.{IsAhead}
 use Rattle.client_turns.specs.Steps.{IsStepAt}
 use Rattle.client_turns.specs.DrawLaws.{raised_same, tree_raised}
 use Rattle.client_turns.specs.Trees.{IsRaised}
-use Rattle.client_turns.specs.Turns.{IsAnswered, IsClosed, IsClosing, IsGet, IsLine, IsLineOf, IsLineTaken, IsLineUnless, IsOpening, IsOwnLine, IsPut, IsStepLine, IsTold, IsWithin, Opening}
-use Rattle.connection_view.specs.Views.{View}
+use Rattle.client_turns.specs.Turns.{IsAnswered, IsClosed, IsClosing, IsGet, IsLine, IsLineNamed, IsLineOf, IsLineTaken, IsLineUnless, IsOpening, IsOutside, IsOwnLine, IsPut, IsStepLine, IsStepUnless, IsTold, IsWithin, Opening, fronts_behind}
+use Rattle.connection_view.specs.Views.{View, current}
 use Rattle.local_loads.specs.LocalLaws.{left_writes, votes_later}
+use Rattle.client_turns.specs.Reads.{EndsReading}
+use Rattle.connection_view.specs.Loading.{IsMissing}
+use Rattle.client_turns.specs.Views.{server_of}
 
 -- ---- the list behind a step
 
@@ -124,9 +127,6 @@ vote_kept m n texts stamp (Ok (c ∷ changes)) =
     counted_kept m n texts (c ∷ changes) (tid_after (newest_tid m.list) stamp) (changes_in_journal m.journal + length (c ∷ changes)) (nat_lt journal_limit (changes_in_journal m.journal + length (c ∷ changes)))
 
 pub step_left : (rules : Rules) (m : Machine) (n : ℕ) (q : Request) (stamp : ℕ) → IsListLeft rules m q (step_of rules m n q stamp).machine.list
-step_left rules m n request.Front stamp = early_same (early_refusal m n request.Front) m (request_step rules m n request.Front stamp) refl
-step_left rules m n (request.LoadBefore oid front) stamp = early_same (early_refusal m n (request.LoadBefore oid front)) m (request_step rules m n (request.LoadBefore oid front) stamp) refl
-step_left rules m n (request.NewOids count) stamp = early_same (early_refusal m n (request.NewOids count)) m (request_step rules m n (request.NewOids count) stamp) refl
 step_left rules m n (request.Vote user description extension pending) stamp =
     early_same (early_refusal m n (request.Vote user description extension pending)) m (request_step rules m n (request.Vote user description extension pending) stamp)
     (vote_kept m n (record { user = user; description = description; extension = extension }) stamp _)
@@ -134,32 +134,15 @@ step_left rules m n (request.Undo user description tids) stamp =
     early_same (early_refusal m n (request.Undo user description tids)) m (request_step rules m n (request.Undo user description tids) stamp)
     (vote_kept m n (record { user = user; description = description; extension = [] }) stamp _)
 step_left rules m n request.Finish stamp = by_step (λ s. KeepsOrVoted m s.machine.list) rules m n request.Finish stamp (finish_cases m n)
-step_left rules m n request.Abort stamp = early_same (early_refusal m n request.Abort) m (request_step rules m n request.Abort stamp) refl
-step_left rules m n (request.History oid) stamp = early_same (early_refusal m n (request.History oid)) m (request_step rules m n (request.History oid) stamp) refl
-step_left rules m n request.UndoLog stamp = early_same (early_refusal m n request.UndoLog) m (request_step rules m n request.UndoLog stamp) refl
 step_left rules m n (request.Pack tid collects) stamp = pack_left rules m n (request.Pack tid collects) stamp refl
-step_left rules m n (request.PackBegin tid collects) stamp = early_same (early_refusal m n (request.PackBegin tid collects)) m (request_step rules m n (request.PackBegin tid collects) stamp) refl
 step_left rules m n request.PackTurn stamp = pack_left rules m n request.PackTurn stamp refl
-step_left rules m n request.Last stamp = early_same (early_refusal m n request.Last) m (request_step rules m n request.Last stamp) refl
-step_left rules m n (request.Since tid changes) stamp = early_same (early_refusal m n (request.Since tid changes)) m (request_step rules m n (request.Since tid changes) stamp) refl
-step_left rules m n request.Close stamp = early_same (early_refusal m n request.Close) m (request_step rules m n request.Close stamp) refl
+step_left rules m n w stamp = early_same (early_refusal m n w) m (request_step rules m n w stamp) refl
 
 same_left : (rules : Rules) (m : Machine) (q : Request) (l : List Transaction) → l ≡ m.list → IsListLeft rules m q l
-same_left rules m request.Front l is = is
-same_left rules m (request.LoadBefore oid front) l is = is
-same_left rules m (request.NewOids count) l is = is
-same_left rules m (request.Vote user description extension pending) l is = is
-same_left rules m (request.Undo user description tids) l is = is
 same_left rules m request.Finish l is = kept is
-same_left rules m request.Abort l is = is
-same_left rules m (request.History oid) l is = is
-same_left rules m request.UndoLog l is = is
 same_left rules m (request.Pack tid collects) l is = unpacked is
-same_left rules m (request.PackBegin tid collects) l is = is
 same_left rules m request.PackTurn l is = unpacked is
-same_left rules m request.Last l is = is
-same_left rules m (request.Since tid changes) l is = is
-same_left rules m request.Close l is = is
+same_left rules m _ l is = is
 
 left_left : (rules : Rules) (m : Machine) (n : ℕ) (q : Request) (stamp : ℕ) (o : StepOutcome) → IsListLeft rules m q (machine_left rules m n q stamp o).list
 left_left rules m n q stamp Answered = step_left rules m n q stamp
@@ -219,9 +202,10 @@ front_fine rules m n stamp made before now Answered ends is = absurd cc
 front_fine rules m n stamp made before now ReadingFailed ends is = absurd cc
 front_fine rules m n stamp made before now NoMemory ends is = absurd cc
 
-told_whole : (rules : Rules) (b t : Moment) (n : ℕ) (committed : Bool) → IsTold rules committed b n t → t.machine.failed ≡ b.machine.failed
-told_whole rules b t n false told = ap (λ (x : Moment). x.machine.failed) told
-told_whole rules b t n true told = step_at_whole rules b n request.Front told.0 t told.1 (front_fine rules b.machine n told.1.stamp _ b.counts t.counts (outcome_of told.0) told.1.made.cause)
+told_whole : (rules : Rules) (b t : Moment) (n count : ℕ) → IsTold rules count b n t → t.machine.failed ≡ b.machine.failed
+told_whole rules b t n zero told = ap (λ (x : Moment). x.machine.failed) told
+told_whole rules b t n (suc count) (r, next, step, rest) =
+    told_whole rules next t n count rest ∙ step_at_whole rules b n request.Front r next step (front_fine rules b.machine n step.stamp _ b.counts next.counts (outcome_of r) step.made.cause)
 
 -- what is voted behind a step is later than the list there, and the open pack leaves its newest transaction whole
 step_at_ahead : (rules : Rules) (m : Moment) (n : ℕ) (q : Request) (r : Reply) (now : Moment) → IsStepAt rules m n q r now → IsAhead m.machine → IsAhead now.machine
@@ -231,74 +215,21 @@ step_at_ahead rules m n q r now step ahead =
       within = left_within rules m.machine n q step.stamp (outcome_of r) (votes_later m.machine.list m.machine.vote ahead.writes) ahead.within;
     })
 
-told_ahead : (rules : Rules) (b t : Moment) (n : ℕ) (committed : Bool) → IsTold rules committed b n t → IsAhead b.machine → IsAhead t.machine
-told_ahead rules b t n false told ahead = subst IsAhead (sym (ap (λ (x : Moment). x.machine) told)) ahead
-told_ahead rules b t n true told ahead = step_at_ahead rules b n request.Front told.0 t told.1 ahead
+told_ahead : (rules : Rules) (b t : Moment) (n count : ℕ) → IsTold rules count b n t → IsAhead b.machine → IsAhead t.machine
+told_ahead rules b t n zero told ahead = subst IsAhead (sym (ap (λ (x : Moment). x.machine) told)) ahead
+told_ahead rules b t n (suc count) (r, next, step, rest) ahead = told_ahead rules next t n count rest (step_at_ahead rules b n request.Front r next step ahead)
 
-told_list : (rules : Rules) (b t : Moment) (n : ℕ) (committed : Bool) → IsTold rules committed b n t → t.machine.list ≡ b.machine.list
-told_list rules b t n false told = ap (λ (x : Moment). x.machine.list) told
-told_list rules b t n true told = step_at_left rules b n request.Front told.0 t told.1
+pub told_list : (rules : Rules) (b t : Moment) (n count : ℕ) → IsTold rules count b n t → t.machine.list ≡ b.machine.list
+told_list rules b t n zero told = ap (λ (x : Moment). x.machine.list) told
+told_list rules b t n (suc count) (r, next, step, rest) = told_list rules next t n count rest ∙ step_at_left rules b n request.Front r next step
 
 refused_fine : (why : Refusal) → end_of (answer.Refused why) ≡ None → outcome_of_refusal why ≡ StoreFailed → ⊥
 refused_fine refusal.TidsSpent ends is = absurd cc
-refused_fine refusal.StoreFault ends is = absurd cc
-refused_fine (refusal.Conflict a0 a1 a2 a3) ends is = absurd cc
-refused_fine (refusal.ReadConflict a0 a1 a2) ends is = absurd cc
-refused_fine (refusal.TooLong a0) ends is = absurd cc
-refused_fine (refusal.UndoUnknown a0) ends is = absurd cc
-refused_fine (refusal.UndoPacked a0) ends is = absurd cc
-refused_fine (refusal.UndoConflict a0 a1) ends is = absurd cc
-refused_fine (refusal.Overtaken a0 a1) ends is = absurd cc
-refused_fine (refusal.Unreadable a0 a1) ends is = absurd cc
-refused_fine (refusal.PackedAlready a0) ends is = absurd cc
-refused_fine (refusal.Missing a0 a1) ends is = absurd cc
-refused_fine refusal.NoTransaction ends is = absurd cc
-refused_fine refusal.InTransaction ends is = absurd cc
-refused_fine refusal.NotVoted ends is = absurd cc
-refused_fine refusal.Voted ends is = absurd cc
-refused_fine (refusal.Busy a0) ends is = absurd cc
-refused_fine (refusal.PackRunning a0) ends is = absurd cc
-refused_fine refusal.OidsSpent ends is = absurd cc
-refused_fine (refusal.JournalFull a0) ends is = absurd cc
-refused_fine (refusal.TooManySessions a0) ends is = absurd cc
-refused_fine refusal.NotOpen ends is = absurd cc
-refused_fine (refusal.NoSavepoint a0) ends is = absurd cc
-refused_fine (refusal.FrameTooLong a0) ends is = absurd cc
-refused_fine refusal.BadMessage ends is = absurd cc
-refused_fine refusal.LinkFault ends is = absurd cc
-refused_fine refusal.Closed ends is = absurd cc
-refused_fine (refusal.Mixed a0) ends is = absurd cc
-refused_fine refusal.NoPack ends is = absurd cc
-refused_fine (refusal.NotATree a0) ends is = absurd cc
-refused_fine (refusal.NodeMissing a0) ends is = absurd cc
-refused_fine refusal.BadKey ends is = absurd cc
-refused_fine refusal.ReadFault ends is = absurd cc
-refused_fine (refusal.NothingToDelete a0 a1) ends is = absurd cc
-refused_fine (refusal.Connected a0) ends is = absurd cc
-refused_fine refusal.StepsSpent ends is = absurd cc
-refused_fine refusal.Memory ends is = absurd cc
+refused_fine _ ends is = absurd cc
 
 pub reply_fine : (r : Reply) → end_of (answer_of r) ≡ None → outcome_of r ≡ StoreFailed → ⊥
 reply_fine (reply.Refused why) ends is = refused_fine why ends is
-reply_fine (reply.Front front news switches) ends is = absurd cc
-reply_fine (reply.Loaded serial bytes end upto) ends is = absurd cc
-reply_fine (reply.Nothing oid switches) ends is = absurd cc
-reply_fine (reply.Oids first count) ends is = absurd cc
-reply_fine reply.Voted ends is = absurd cc
-reply_fine (reply.Committed tid) ends is = absurd cc
-reply_fine reply.Empty ends is = absurd cc
-reply_fine reply.Aborted ends is = absurd cc
-reply_fine (reply.History list) ends is = absurd cc
-reply_fine (reply.UndoLog list) ends is = absurd cc
-reply_fine (reply.Packed stay gone) ends is = absurd cc
-reply_fine (reply.Packing tid) ends is = absurd cc
-reply_fine (reply.Marking count) ends is = absurd cc
-reply_fine (reply.Marked count) ends is = absurd cc
-reply_fine (reply.Copying count) ends is = absurd cc
-reply_fine (reply.Copied count) ends is = absurd cc
-reply_fine (reply.Last tid changes) ends is = absurd cc
-reply_fine (reply.Since keep commits) ends is = absurd cc
-reply_fine reply.Closed ends is = absurd cc
+reply_fine _ ends is = absurd cc
 
 starved_in : (why : Refusal) → end_in why ≡ Some error.Memory → outcome_of_refusal why ≡ NoMemory
 starved_in refusal.Memory is = refl
@@ -314,56 +245,50 @@ starved_so _ is = absurd cc
 -- ---- a line
 
 same_behind : (rules : Rules) (m : Machine) (l : Line) (list : List Transaction) → list ≡ m.list → IsListBehind rules m l list
-same_behind rules m line.Open list is = is
-same_behind rules m line.Begin list is = is
-same_behind rules m (line.Load oid) list is = is
-same_behind rules m (line.Get oid) list is = is
-same_behind rules m (line.Store oid base bytes) list is = is
-same_behind rules m (line.Put oid bytes) list is = is
-same_behind rules m (line.Check oid serial) list is = is
-same_behind rules m (line.Delete oid base) list is = is
-same_behind rules m line.Savepoint list is = is
-same_behind rules m (line.Rollback number) list is = is
-same_behind rules m (line.Tree root call) list is = is
-same_behind rules m line.New list is = is
-same_behind rules m (line.Vote user description) list is = is
-same_behind rules m (line.Undo user description tids) list is = is
 same_behind rules m line.Finish list is = kept is
-same_behind rules m line.Abort list is = is
-same_behind rules m (line.History oid) list is = is
-same_behind rules m line.UndoLog list is = is
 same_behind rules m (line.Pack tid collect) list is = unpacked is
-same_behind rules m (line.PackBegin tid collect) list is = is
 same_behind rules m line.PackTurn list is = unpacked is
-same_behind rules m line.Close list is = is
+same_behind rules m _ list is = is
 
 pub same_request : (a b : Request) → Some a ≡ Some b → a ≡ b
 same_request a b e = cc
 
+-- what holds of each request that a line may make holds of the request of a line
+pub request_cases : (P : Request → Type 0) (s : Standing) (ch : Option Changes) (l : Line) (q : Request) → P request.Front → P (request.NewOids 1) → ((user description : List ℕ) → P (request.Vote user description [] (pending_in ch)))
+    → ((user description tids : List ℕ) → P (request.Undo user description tids)) → P request.Finish → P request.Abort → ((oid : ℕ) → P (request.History oid)) → P request.UndoLog → ((tid : ℕ) (collect : Bool) → P (request.Pack tid collect))
+    → ((tid : ℕ) (collect : Bool) → P (request.PackBegin tid collect)) → P request.PackTurn → P request.Close → request_of s ch l ≡ Some q → P q
+request_cases P Local ch line.Begin q front oids vote undo finish abort history log pack begins turn close is = subst P (same_request request.Front q is) front
+request_cases P s ch line.Deliver q front oids vote undo finish abort history log pack begins turn close is = subst P (same_request request.Front q is) front
+request_cases P s ch line.New q front oids vote undo finish abort history log pack begins turn close is = subst P (same_request (request.NewOids 1) q is) oids
+request_cases P s ch (line.Vote user description) q front oids vote undo finish abort history log pack begins turn close is = subst P (same_request (request.Vote user description [] (pending_in ch)) q is) (vote user description)
+request_cases P s ch (line.Undo user description tids) q front oids vote undo finish abort history log pack begins turn close is = subst P (same_request (request.Undo user description tids) q is) (undo user description tids)
+request_cases P s ch line.Finish q front oids vote undo finish abort history log pack begins turn close is = subst P (same_request request.Finish q is) finish
+request_cases P s ch line.Abort q front oids vote undo finish abort history log pack begins turn close is = subst P (same_request request.Abort q is) abort
+request_cases P s ch (line.History oid) q front oids vote undo finish abort history log pack begins turn close is = subst P (same_request (request.History oid) q is) (history oid)
+request_cases P s ch line.UndoLog q front oids vote undo finish abort history log pack begins turn close is = subst P (same_request request.UndoLog q is) log
+request_cases P s ch (line.Pack tid collect) q front oids vote undo finish abort history log pack begins turn close is = subst P (same_request (request.Pack tid collect) q is) (pack tid collect)
+request_cases P s ch (line.PackBegin tid collect) q front oids vote undo finish abort history log pack begins turn close is = subst P (same_request (request.PackBegin tid collect) q is) (begins tid collect)
+request_cases P s ch line.PackTurn q front oids vote undo finish abort history log pack begins turn close is = subst P (same_request request.PackTurn q is) turn
+request_cases P s ch line.Close q front oids vote undo finish abort history log pack begins turn close is = subst P (same_request request.Close q is) close
+request_cases P s ch _ q front oids vote undo finish abort history log pack begins turn close is = absurd cc
+
 -- what a step leaves is what its line leaves
-asked_behind : (rules : Rules) (m : Machine) (ch : Option Changes) (l : Line) (q : Request) (list : List Transaction) → request_of ch l ≡ Some q → IsListLeft rules m q list → IsListBehind rules m l list
-asked_behind rules m ch line.Open q list asks left = absurd cc
-asked_behind rules m ch line.Begin q list asks left = subst (λ (x : Request). IsListLeft rules m x list) (sym (same_request request.Front q asks)) left
-asked_behind rules m ch (line.Load oid) q list asks left = absurd cc
-asked_behind rules m ch (line.Get oid) q list asks left = absurd cc
-asked_behind rules m ch (line.Store oid base bytes) q list asks left = absurd cc
-asked_behind rules m ch (line.Put oid bytes) q list asks left = absurd cc
-asked_behind rules m ch (line.Check oid serial) q list asks left = absurd cc
-asked_behind rules m ch (line.Delete oid base) q list asks left = absurd cc
-asked_behind rules m ch line.Savepoint q list asks left = absurd cc
-asked_behind rules m ch (line.Rollback number) q list asks left = absurd cc
-asked_behind rules m ch (line.Tree root call) q list asks left = absurd cc
-asked_behind rules m ch line.New q list asks left = subst (λ (x : Request). IsListLeft rules m x list) (sym (same_request (request.NewOids 1) q asks)) left
-asked_behind rules m ch (line.Vote user description) q list asks left = subst (λ (x : Request). IsListLeft rules m x list) (sym (same_request (request.Vote user description [] (pending_in ch)) q asks)) left
-asked_behind rules m ch (line.Undo user description tids) q list asks left = subst (λ (x : Request). IsListLeft rules m x list) (sym (same_request (request.Undo user description tids) q asks)) left
-asked_behind rules m ch line.Finish q list asks left = subst (λ (x : Request). IsListLeft rules m x list) (sym (same_request request.Finish q asks)) left
-asked_behind rules m ch line.Abort q list asks left = subst (λ (x : Request). IsListLeft rules m x list) (sym (same_request request.Abort q asks)) left
-asked_behind rules m ch (line.History oid) q list asks left = subst (λ (x : Request). IsListLeft rules m x list) (sym (same_request (request.History oid) q asks)) left
-asked_behind rules m ch line.UndoLog q list asks left = subst (λ (x : Request). IsListLeft rules m x list) (sym (same_request request.UndoLog q asks)) left
-asked_behind rules m ch (line.Pack tid collect) q list asks left = subst (λ (x : Request). IsListLeft rules m x list) (sym (same_request (request.Pack tid collect) q asks)) left
-asked_behind rules m ch (line.PackBegin tid collect) q list asks left = subst (λ (x : Request). IsListLeft rules m x list) (sym (same_request (request.PackBegin tid collect) q asks)) left
-asked_behind rules m ch line.PackTurn q list asks left = subst (λ (x : Request). IsListLeft rules m x list) (sym (same_request request.PackTurn q asks)) left
-asked_behind rules m ch line.Close q list asks left = subst (λ (x : Request). IsListLeft rules m x list) (sym (same_request request.Close q asks)) left
+asked_behind : (rules : Rules) (m : Machine) (s : Standing) (ch : Option Changes) (l : Line) (q : Request) (list : List Transaction) → request_of s ch l ≡ Some q → IsListLeft rules m q list → IsListBehind rules m l list
+asked_behind rules m (Linked known) ch line.Begin q list asks left = absurd cc
+asked_behind rules m Local ch line.Begin q list asks left = subst (λ (x : Request). IsListLeft rules m x list) (sym (same_request request.Front q asks)) left
+asked_behind rules m s ch line.New q list asks left = subst (λ (x : Request). IsListLeft rules m x list) (sym (same_request (request.NewOids 1) q asks)) left
+asked_behind rules m s ch (line.Vote user description) q list asks left = subst (λ (x : Request). IsListLeft rules m x list) (sym (same_request (request.Vote user description [] (pending_in ch)) q asks)) left
+asked_behind rules m s ch (line.Undo user description tids) q list asks left = subst (λ (x : Request). IsListLeft rules m x list) (sym (same_request (request.Undo user description tids) q asks)) left
+asked_behind rules m s ch line.Finish q list asks left = subst (λ (x : Request). IsListLeft rules m x list) (sym (same_request request.Finish q asks)) left
+asked_behind rules m s ch line.Abort q list asks left = subst (λ (x : Request). IsListLeft rules m x list) (sym (same_request request.Abort q asks)) left
+asked_behind rules m s ch line.Deliver q list asks left = subst (λ (x : Request). IsListLeft rules m x list) (sym (same_request request.Front q asks)) left
+asked_behind rules m s ch (line.History oid) q list asks left = subst (λ (x : Request). IsListLeft rules m x list) (sym (same_request (request.History oid) q asks)) left
+asked_behind rules m s ch line.UndoLog q list asks left = subst (λ (x : Request). IsListLeft rules m x list) (sym (same_request request.UndoLog q asks)) left
+asked_behind rules m s ch (line.Pack tid collect) q list asks left = subst (λ (x : Request). IsListLeft rules m x list) (sym (same_request (request.Pack tid collect) q asks)) left
+asked_behind rules m s ch (line.PackBegin tid collect) q list asks left = subst (λ (x : Request). IsListLeft rules m x list) (sym (same_request (request.PackBegin tid collect) q asks)) left
+asked_behind rules m s ch line.PackTurn q list asks left = subst (λ (x : Request). IsListLeft rules m x list) (sym (same_request request.PackTurn q asks)) left
+asked_behind rules m s ch line.Close q list asks left = subst (λ (x : Request). IsListLeft rules m x list) (sym (same_request request.Close q asks)) left
+asked_behind rules m s ch _ q list asks left = absurd cc
 
 -- what a line leaves: the list that it may leave, a store that has not failed, where the run goes on, and what is voted or being packed as it fits the list
 pub record LeavesWhole (rules : Rules) (m : Moment) (l : Line) (now : Moment) (a : Answer) : Type 0 where
@@ -378,17 +303,17 @@ same_whole rules m l now a is = record {
   ahead = λ ahead. subst IsAhead (sym is) ahead;
 }
 
-opened_list : (m : Moment) (name : List ℕ) (b : Bool) → (if b then (let o : Opening = record { answer = answer.Opened (length m.machine.sessions); moment = record { machine = with_session m.machine; clients = m.clients ++ record { name = name; session = length m.machine.sessions; transaction = None } ∷ []; stamps = m.stamps; counts = m.counts } } in o)
+opened_list : (m : Moment) (name : List ℕ) (b : Bool) → (if b then (let o : Opening = record { answer = answer.Opened (length m.machine.sessions); moment = record { machine = with_session m.machine; clients = m.clients ++ record { name = name; session = length m.machine.sessions; transaction = None; standing = Local } ∷ []; stamps = m.stamps; counts = m.counts } } in o)
     else (let o : Opening = record { answer = answer.Refused (refusal.TooManySessions (length m.machine.sessions)); moment = m } in o)).moment.machine.list ≡ m.machine.list
 opened_list m name true = refl
 opened_list m name false = refl
 
-opened_whole : (m : Moment) (name : List ℕ) (b : Bool) → (if b then (let o : Opening = record { answer = answer.Opened (length m.machine.sessions); moment = record { machine = with_session m.machine; clients = m.clients ++ record { name = name; session = length m.machine.sessions; transaction = None } ∷ []; stamps = m.stamps; counts = m.counts } } in o)
+opened_whole : (m : Moment) (name : List ℕ) (b : Bool) → (if b then (let o : Opening = record { answer = answer.Opened (length m.machine.sessions); moment = record { machine = with_session m.machine; clients = m.clients ++ record { name = name; session = length m.machine.sessions; transaction = None; standing = Local } ∷ []; stamps = m.stamps; counts = m.counts } } in o)
     else (let o : Opening = record { answer = answer.Refused (refusal.TooManySessions (length m.machine.sessions)); moment = m } in o)).moment.machine.failed ≡ m.machine.failed
 opened_whole m name true = refl
 opened_whole m name false = refl
 
-opened_ahead : (m : Moment) (name : List ℕ) (b : Bool) → IsAhead m.machine → IsAhead (if b then (let o : Opening = record { answer = answer.Opened (length m.machine.sessions); moment = record { machine = with_session m.machine; clients = m.clients ++ record { name = name; session = length m.machine.sessions; transaction = None } ∷ []; stamps = m.stamps; counts = m.counts } } in o)
+opened_ahead : (m : Moment) (name : List ℕ) (b : Bool) → IsAhead m.machine → IsAhead (if b then (let o : Opening = record { answer = answer.Opened (length m.machine.sessions); moment = record { machine = with_session m.machine; clients = m.clients ++ record { name = name; session = length m.machine.sessions; transaction = None; standing = Local } ∷ []; stamps = m.stamps; counts = m.counts } } in o)
     else (let o : Opening = record { answer = answer.Refused (refusal.TooManySessions (length m.machine.sessions)); moment = m } in o)).moment.machine
 opened_ahead m name true ahead = record { writes = ahead.writes; within = ahead.within }
 opened_ahead m name false ahead = ahead
@@ -400,7 +325,7 @@ opening_whole rules m l now name a is = record {
   ahead = λ ahead. subst IsAhead (sym (ap (λ (o : Opening). o.moment.machine) is)) (opened_ahead m name (nat_lt (length m.machine.sessions) 64) ahead);
 }
 
-get_same : (m now : Moment) (v : View) (oid : ℕ) (o : Option PendingStore) (a : Answer) → IsGet m v oid o a now → now.machine ≡ m.machine
+get_same : (m now : Moment) (v : OpenTransaction) (oid : ℕ) (o : Option PendingStore) (a : Answer) → IsGet m v oid o a now → now.machine ≡ m.machine
 get_same m now v oid None a is = ap (λ (x : Moment). x.machine) is.1.rest
 get_same m now v oid (Some p) a is = ap (λ (x : Moment). x.machine) is.1
 
@@ -410,31 +335,18 @@ put_same m now at c t oid bytes (Some p) a is = ap (λ (x : Moment). x.machine) 
 
 within_raised : (m now : Moment) (at : ℕ) (c : Client) (t : OpenTransaction) (l : Line) (a : Answer) → IsWithin m at c t l a now → IsRaised m.machine now.machine
 within_raised m now at c t (line.Load oid) a is = raised_same m.machine now.machine (ap (λ (x : Moment). x.machine) is.1.rest)
-within_raised m now at c t (line.Get oid) a is = raised_same m.machine now.machine (get_same m now t.view oid (pending_of t.changes.pending.stores oid) a is)
-within_raised m now at c t (line.Store oid base bytes) a is = raised_same m.machine now.machine (ap (λ (x : Moment). x.machine) is.1)
+within_raised m now at c t (line.Get oid) a is = raised_same m.machine now.machine (get_same m now t oid (pending_of t.changes.pending.stores oid) a is)
 within_raised m now at c t (line.Put oid bytes) a is = raised_same m.machine now.machine (put_same m now at c t oid bytes (pending_of t.changes.pending.stores oid) a is)
-within_raised m now at c t (line.Check oid serial) a is = raised_same m.machine now.machine (ap (λ (x : Moment). x.machine) is.1)
-within_raised m now at c t (line.Delete oid base) a is = raised_same m.machine now.machine (ap (λ (x : Moment). x.machine) is.1)
-within_raised m now at c t line.Savepoint a is = raised_same m.machine now.machine (ap (λ (x : Moment). x.machine) is.1)
-within_raised m now at c t (line.Rollback number) a is = raised_same m.machine now.machine (ap (λ (x : Moment). x.machine) is.1)
 within_raised m now at c t (line.Tree root call) a is = tree_raised m at c t root call a now is
-within_raised m now at c t line.Open a is = raised_same m.machine now.machine (ap (λ (x : Moment). x.machine) is.1)
-within_raised m now at c t line.Begin a is = raised_same m.machine now.machine (ap (λ (x : Moment). x.machine) is.1)
-within_raised m now at c t line.New a is = raised_same m.machine now.machine (ap (λ (x : Moment). x.machine) is.1)
-within_raised m now at c t (line.Vote user description) a is = raised_same m.machine now.machine (ap (λ (x : Moment). x.machine) is.1)
-within_raised m now at c t (line.Undo user description tids) a is = raised_same m.machine now.machine (ap (λ (x : Moment). x.machine) is.1)
-within_raised m now at c t line.Finish a is = raised_same m.machine now.machine (ap (λ (x : Moment). x.machine) is.1)
-within_raised m now at c t line.Abort a is = raised_same m.machine now.machine (ap (λ (x : Moment). x.machine) is.1)
-within_raised m now at c t (line.History oid) a is = raised_same m.machine now.machine (ap (λ (x : Moment). x.machine) is.1)
-within_raised m now at c t line.UndoLog a is = raised_same m.machine now.machine (ap (λ (x : Moment). x.machine) is.1)
-within_raised m now at c t (line.Pack tid collect) a is = raised_same m.machine now.machine (ap (λ (x : Moment). x.machine) is.1)
-within_raised m now at c t (line.PackBegin tid collect) a is = raised_same m.machine now.machine (ap (λ (x : Moment). x.machine) is.1)
-within_raised m now at c t line.PackTurn a is = raised_same m.machine now.machine (ap (λ (x : Moment). x.machine) is.1)
-within_raised m now at c t line.Close a is = raised_same m.machine now.machine (ap (λ (x : Moment). x.machine) is.1)
+within_raised m now at c t _ a is = raised_same m.machine now.machine (ap (λ (x : Moment). x.machine) is.1)
+
+pub outside_machine : (m now : Moment) (at : ℕ) (c : Client) (s : Standing) (a : Answer) → IsOutside m at c s a now → now.machine ≡ m.machine
+outside_machine m now at c Local a is = ap (λ (x : Moment). x.machine) is.1
+outside_machine m now at c (Linked known) a is = ap (λ (x : Moment). x.machine) is.1
 
 -- a line that is no step leaves the machine with no lower greatest number, and else as it was
 pub own_raised : (m now : Moment) (at : ℕ) (c : Client) (t : Option OpenTransaction) (l : Line) (a : Answer) → IsOwnLine m at c t l a now → IsRaised m.machine now.machine
-own_raised m now at c None l a is = raised_same m.machine now.machine (ap (λ (x : Moment). x.machine) is.1)
+own_raised m now at c None l a is = raised_same m.machine now.machine (outside_machine m now at c c.standing a is)
 own_raised m now at c (Some t) l a is = within_raised m now at c t l a is
 
 raised_whole : (rules : Rules) (m : Moment) (l : Line) (now : Moment) (a : Answer) → IsRaised m.machine now.machine → LeavesWhole rules m l now a
@@ -444,55 +356,81 @@ raised_whole rules m l now a raised = record {
   ahead = λ ahead. subst IsAhead (sym raised.is) (record { writes = ahead.writes; within = ahead.within });
 }
 
-step_line_whole : (rules : Rules) (m : Moment) (l : Line) (now : Moment) (at : ℕ) (c : Client) (q : Request) (a : Answer) → request_of (changes_of c) l ≡ Some q → IsStepLine rules m at c q a now → LeavesWhole rules m l now a
-step_line_whole rules m l now at c q a asks is = record {
-  list = subst (IsListBehind rules m.machine l) (sym (ap (λ (x : Moment). x.machine.list) is.left ∙ told_list rules is.behind is.told c.session (is_committed is.reply) is.front))
-      (asked_behind rules m.machine (changes_of c) l q is.behind.machine.list asks (step_at_left rules m c.session q is.reply is.behind is.step));
+-- ---- reads
+
+-- what is read is what the view has, wherever it came from
+pub read_current : (far : Bool) (m : Machine) (v : View) (oid : ℕ) (before now : FaultCounts) (got : ℕ × List ℕ) → EndsReading far m v oid before now (Ok got) → current v oid ≡ Some got
+read_current false m v oid before now got ends = ends
+read_current true m v oid before now got ends = ends.0
+
+-- an object is missing as the view says
+pub read_missing : (far : Bool) (m : Machine) (v : View) (oid : ℕ) (before now : FaultCounts) (o : ℕ) (gone : Bool) → EndsReading far m v oid before now (Err (refusal.Missing o gone)) → (o ≡ oid) × IsMissing v (server_of m) oid gone
+read_missing false m v oid before now o gone ends = ends
+read_missing true m v oid before now o gone ends = ends
+
+-- ---- what a step is answered
+
+-- an answer that may not fit a frame is no refusal, and tells of no commit
+pub excess_answered : (s : Standing) (r : Reply) (n : ℕ) → answering_excess s r ≡ Some n → (outcome_of r ≡ Answered) × (end_of (answer_of r) ≡ None) × (is_committed r ≡ false)
+excess_answered Local r n is = absurd cc
+excess_answered (Linked known) (reply.Loaded serial bytes end upto) n is = (refl, refl, refl)
+excess_answered (Linked known) (reply.History list) n is = (refl, refl, refl)
+excess_answered (Linked known) (reply.UndoLog list) n is = (refl, refl, refl)
+excess_answered (Linked known) _ n is = absurd cc
+
+-- what holds of the answer of a step, and of TooLong where it may be too long, holds of what its line is answered
+pub step_cases : (P : Answer → Type 0) (s : Standing) (d : Bool) (r : Reply) → ((n : ℕ) → answering_excess s r ≡ Some n → P (answer.Refused (refusal.TooLong n))) → P (answer_to d r) → P (step_answer s d r)
+step_cases P s d r long fits = by_excess (answering_excess s r) refl
+  where
+    by_excess : (e : Option ℕ) → answering_excess s r ≡ e → P (unless_long e (answer_to d r))
+    by_excess None is = fits
+    by_excess (Some n) is = long n is
+
+-- what a step is answered ends the run as its reply does
+pub delivered_end : (d : Bool) (r : Reply) → end_of (answer_to d r) ≡ end_of (answer_of r)
+delivered_end false r = refl
+delivered_end true (reply.Front front news switches) = refl
+delivered_end true _ = refl
+
+pub told_end : (s : Standing) (d : Bool) (r : Reply) → end_of (step_answer s d r) ≡ end_of (answer_of r)
+told_end s d r = step_cases (λ a. end_of a ≡ end_of (answer_of r)) s d r (λ n is. sym (excess_answered s r n is).1) (delivered_end d r)
+
+step_line_whole : (rules : Rules) (m : Moment) (l : Line) (now : Moment) (at : ℕ) (c : Client) (d : Bool) (q : Request) (a : Answer) → request_of c.standing (changes_of c) l ≡ Some q → IsStepLine rules m at c d q a now → LeavesWhole rules m l now a
+step_line_whole rules m l now at c d q a asks is = record {
+  list = subst (IsListBehind rules m.machine l) (sym (ap (λ (x : Moment). x.machine.list) is.left ∙ told_list rules is.behind is.told c.session (fronts_behind (is_committed is.reply) c.standing) is.front))
+      (asked_behind rules m.machine c.standing (changes_of c) l q is.behind.machine.list asks (step_at_left rules m c.session q is.reply is.behind is.step));
   whole = λ ends whole.
       ap (λ (x : Moment). x.machine.failed) is.left
-      ∙ told_whole rules is.behind is.told c.session (is_committed is.reply) is.front
-      ∙ step_at_whole rules m c.session q is.reply is.behind is.step (reply_fine is.reply (sym (ap end_of is.answer) ∙ ends))
+      ∙ told_whole rules is.behind is.told c.session (fronts_behind (is_committed is.reply) c.standing) is.front
+      ∙ step_at_whole rules m c.session q is.reply is.behind is.step (reply_fine is.reply (sym (ap end_of is.answer ∙ told_end c.standing d is.reply) ∙ ends))
       ∙ whole;
   ahead = λ ahead.
       subst IsAhead (sym (ap (λ (x : Moment). x.machine) is.left))
-      (told_ahead rules is.behind is.told c.session (is_committed is.reply) is.front (step_at_ahead rules m c.session q is.reply is.behind is.step ahead));
+      (told_ahead rules is.behind is.told c.session (fronts_behind (is_committed is.reply) c.standing) is.front (step_at_ahead rules m c.session q is.reply is.behind is.step ahead));
 }
 
-taken_whole : (rules : Rules) (m now : Moment) (at : ℕ) (c : Client) (l : Line) (q : Option Request) (a : Answer) → request_of (changes_of c) l ≡ q → IsLineTaken rules m at c l q a now → LeavesWhole rules m l now a
-taken_whole rules m now at c l (Some q) a asks is = step_line_whole rules m l now at c q a asks is
+step_unless_whole : (rules : Rules) (m now : Moment) (at : ℕ) (c : Client) (l : Line) (d : Bool) (q : Request) (e : Option ℕ) (a : Answer) → request_of c.standing (changes_of c) l ≡ Some q → IsStepUnless rules m at c d q e a now → LeavesWhole rules m l now a
+step_unless_whole rules m now at c l d q None a asks is = step_line_whole rules m l now at c d q a asks is
+step_unless_whole rules m now at c l d q (Some n) a asks is = same_whole rules m l now a (ap (λ (x : Moment). x.machine) is.1)
+
+taken_whole : (rules : Rules) (m now : Moment) (at : ℕ) (c : Client) (l : Line) (q : Option Request) (a : Answer) → request_of c.standing (changes_of c) l ≡ q → IsLineTaken rules m at c l q a now → LeavesWhole rules m l now a
+taken_whole rules m now at c l (Some q) a asks is = step_unless_whole rules m now at c l (is_delivery l) q (asking_excess c.standing q) a asks is
 taken_whole rules m now at c l None a asks is = raised_whole rules m l now a (own_raised m now at c c.transaction l a is)
 
 unless_whole : (rules : Rules) (m now : Moment) (at : ℕ) (c : Client) (l : Line) (r : Option Refusal) (a : Answer) → IsLineUnless rules m at c l r a now → LeavesWhole rules m l now a
 unless_whole rules m now at c l (Some why) a is = same_whole rules m l now a (ap (λ (x : Moment). x.machine) is.1)
-unless_whole rules m now at c l None a is = taken_whole rules m now at c l (request_of (changes_of c) l) a refl is
+unless_whole rules m now at c l None a is = taken_whole rules m now at c l (request_of c.standing (changes_of c) l) a refl is
 
 line_of_whole : (rules : Rules) (m now : Moment) (at : Option ℕ) (l : Line) (a : Answer) → IsLineOf rules m at l a now → LeavesWhole rules m l now a
 line_of_whole rules m now None l a is = same_whole rules m l now a (ap (λ (x : Moment). x.machine) is.1)
 line_of_whole rules m now (Some at) l a is = unless_whole rules m now at is.0 l (connection_refusal m.machine is.0 l) a is.2
 
+pub by_either : (rules : Rules) (m now : Moment) (name : List ℕ) (l : Line) (a : Answer) (P : Type 0) (opens : Bool) → (IsOpening m name a now → P) → (IsLineOf rules m (place_of_client name m.clients) l a now → P) → IsLineNamed opens rules m name l a now → P
+by_either rules m now name l a P true opening named is = opening is
+by_either rules m now name l a P false opening named is = named is
+
 pub by_name : (rules : Rules) (m now : Moment) (name : List ℕ) (l : Line) (a : Answer) (P : Type 0) → (IsOpening m name a now → P) → (IsLineOf rules m (place_of_client name m.clients) l a now → P) → IsLine rules m name l a now → P
-by_name rules m now name line.Open a P opening named is = opening is
-by_name rules m now name line.Begin a P opening named is = named is
-by_name rules m now name (line.Load oid) a P opening named is = named is
-by_name rules m now name (line.Get oid) a P opening named is = named is
-by_name rules m now name (line.Store oid base bytes) a P opening named is = named is
-by_name rules m now name (line.Put oid bytes) a P opening named is = named is
-by_name rules m now name (line.Check oid serial) a P opening named is = named is
-by_name rules m now name (line.Delete oid base) a P opening named is = named is
-by_name rules m now name line.Savepoint a P opening named is = named is
-by_name rules m now name (line.Rollback number) a P opening named is = named is
-by_name rules m now name (line.Tree root call) a P opening named is = named is
-by_name rules m now name line.New a P opening named is = named is
-by_name rules m now name (line.Vote user description) a P opening named is = named is
-by_name rules m now name (line.Undo user description tids) a P opening named is = named is
-by_name rules m now name line.Finish a P opening named is = named is
-by_name rules m now name line.Abort a P opening named is = named is
-by_name rules m now name (line.History oid) a P opening named is = named is
-by_name rules m now name line.UndoLog a P opening named is = named is
-by_name rules m now name (line.Pack tid collect) a P opening named is = named is
-by_name rules m now name (line.PackBegin tid collect) a P opening named is = named is
-by_name rules m now name line.PackTurn a P opening named is = named is
-by_name rules m now name line.Close a P opening named is = named is
+by_name rules m now name l a P opening named is = by_either rules m now name l a P (opens_session l) opening named is
 
 -- a line leaves a list that it may leave, and a store that has not failed, where the run goes on
 pub line_whole : (rules : Rules) (m now : Moment) (name : List ℕ) (l : Line) (a : Answer) → IsLine rules m name l a now → LeavesWhole rules m l now a

@@ -1,5 +1,5 @@
 -- A turn: one line of a client, with its steps and reads. Source: connections of ZODB; that a turn is taken at once is own.
-use Rattle.std.specs.Prelude.{◌≡◌, ℕ, List, [], ◌∷◌, ◌++◌, Option, Some, None, Result, Ok, Err, Bool, true, false, length, slice_get, nat_lt, if◌then◌else◌}
+use Rattle.std.specs.Prelude.{Bool, Err, List, None, Ok, Option, Result, Some, [], false, if◌then◌else◌, length, nat_lt, slice_get, suc, true, zero, ℕ, ◌++◌, ◌∷◌, ◌≡◌}
 use Rattle.zb_model.specs.declared.data.Content.TheVariants.{Held}
 use Rattle.zb_model.specs.declared.refusal.Refusal.{Refusal}
 use Rattle.zb_model.specs.declared.refusal.Refusal.TheVariants as refusal
@@ -10,6 +10,7 @@ use Rattle.zb_script.specs.declared.line.Line.{Line}
 use Rattle.zb_script.specs.declared.line.Line.TheVariants as line
 use Rattle.zb_script.specs.declared.line.Turn.{Turn}
 use Rattle.zodb_core.specs.declared.reply.Reply.{Reply}
+use Rattle.zodb_core.specs.declared.reply.Reply.TheVariants as reply
 use Rattle.zodb_core.specs.declared.request.Request.{Request}
 use Rattle.zodb_core.specs.declared.request.Request.TheVariants as request
 use Rattle.zodb_core.specs.Machine.{Rules, session_limit, with_session}
@@ -17,48 +18,55 @@ use Rattle.connection_view.specs.Connections.{waiting_read}
 use Rattle.client_turns.specs.declared.errors.TurnError.{TurnError}
 use Rattle.client_turns.specs.declared.errors.TurnError.TheVariants as error
 use Rattle.commit_phases.specs.Pending.{pending_of}
-use Rattle.client_turns.specs.Clients.{Client, Moment, OpenTransaction, changes_of, place_of_client, with_client}
-use Rattle.client_turns.specs.Lines.{answer_of, checked, client_left, data_of, deleted, end_of, is_committed, object_of, put, request_of, rolled_back, saved, stored}
+use Rattle.client_turns.specs.Clients.{Client, Linked, Local, Moment, OpenTransaction, Standing, begun_far, changes_of, place_of_client, with_client, with_transaction}
+use Rattle.client_turns.specs.Lines.{answer_of, asking_excess, checked, client_left, client_told, data_of, deleted, end_of, is_committed, is_delivery, object_of, put, request_of, rolled_back, saved, step_answer, stored}
 use Rattle.client_turns.specs.Steps.{IsChange, IsReadAt, IsRefusedAt, IsStepAt}
 use Rattle.client_turns.specs.Trees.{IsTreeLine}
-use Rattle.client_turns.specs.Refusing.{IsFittingLine, connection_refusal}
-use Rattle.connection_view.specs.Views.{View}
+use Rattle.client_turns.specs.Refusing.{IsFittingLine, connection_refusal, opens_session}
+use Rattle.connection_view.specs.Views.{view_of}
+use Rattle.client_turns.specs.Views.{server_of}
 
 -- ---- lines of an open connection
 
--- behind a commit the session takes a Front step, whatever that is answered
-abbrev pub IsTold : Rules → Bool → Moment → ℕ → Moment → Type 0
-IsTold rules false m n now = now ≡ m
-IsTold rules true m n now = (r : Reply) × IsStepAt rules m n request.Front r now
+-- a session takes so many Front steps, whatever they are answered
+abbrev pub IsTold : Rules → ℕ → Moment → ℕ → Moment → Type 0
+IsTold rules zero m n now = now ≡ m
+IsTold rules (suc count) m n now = (r : Reply) × (next : Moment) × IsStepAt rules m n request.Front r next × IsTold rules count next n now
 
--- a line that is one step of the machine: of the client at a place
-pub record IsStepLine (rules : Rules) (m : Moment) (at : ℕ) (c : Client) (q : Request) (a : Answer) (now : Moment) : Type 0 where
+-- how many it takes behind a step: none, or behind a commit one of a local client, and two of one with a link, of which the first is for its news
+abbrev pub fronts_behind : Bool → Standing → ℕ
+fronts_behind false s = 0
+fronts_behind true Local = 1
+fronts_behind true (Linked known) = 2
+
+-- a line that is one step of the machine, of the client at a place: a delivery, or another
+pub record IsStepLine (rules : Rules) (m : Moment) (at : ℕ) (c : Client) (delivers : Bool) (q : Request) (a : Answer) (now : Moment) : Type 0 where
   pub reply : Reply
   pub behind : Moment
   pub told : Moment
   pub step : IsStepAt rules m c.session q reply behind
-  pub front : IsTold rules (is_committed reply) behind c.session told
-  pub answer : a ≡ answer_of reply
-  pub left : now ≡ with_client told at (client_left told.machine c reply)
+  pub front : IsTold rules (fronts_behind (is_committed reply) c.standing) behind c.session told
+  pub answer : a ≡ step_answer c.standing delivers reply
+  pub left : now ≡ with_client told at (client_told told.machine reply (client_left delivers told.machine c reply))
 
 -- a line that is answered by a read
-abbrev pub IsReadLine : Moment → View → ℕ → (Result (ℕ × List ℕ) Refusal → Answer) → Answer → Moment → Type 0
-IsReadLine m v oid answer_to a now = (result : Result (ℕ × List ℕ) Refusal) × IsReadAt m v oid result now × (a ≡ answer_to result)
+abbrev pub IsReadLine : Moment → OpenTransaction → ℕ → (Result (ℕ × List ℕ) Refusal → Answer) → Answer → Moment → Type 0
+IsReadLine m t oid answer_to a now = (result : Result (ℕ × List ℕ) Refusal) × IsReadAt m t oid result now × (a ≡ answer_to result)
 
 -- get: what waits is answered, and no read is made
-abbrev pub IsGet : Moment → View → ℕ → Option PendingStore → Answer → Moment → Type 0
-IsGet m v oid (Some p) a now = (a ≡ object_of (waiting_read oid p)) × (now ≡ m)
-IsGet m v oid None a now = IsReadLine m v oid object_of a now
+abbrev pub IsGet : Moment → OpenTransaction → ℕ → Option PendingStore → Answer → Moment → Type 0
+IsGet m t oid (Some p) a now = (a ≡ object_of (waiting_read oid p)) × (now ≡ m)
+IsGet m t oid None a now = IsReadLine m t oid object_of a now
 
 -- put: what waits keeps its base, and no read is made; else the base is the serial that a read answers
 abbrev pub IsPut : Moment → ℕ → Client → OpenTransaction → ℕ → List ℕ → Option PendingStore → Answer → Moment → Type 0
 IsPut m at c t oid bytes (Some p) a now = IsChange m at c t (stored t.changes (record { oid = oid; base = p.base; content = Held bytes })) a now
-IsPut m at c t oid bytes None a now = (result : Result (ℕ × List ℕ) Refusal) × (behind : Moment) × IsReadAt m t.view oid result behind × IsChange behind at c t (put t.changes oid bytes result) a now
+IsPut m at c t oid bytes None a now = (result : Result (ℕ × List ℕ) Refusal) × (behind : Moment) × IsReadAt m t oid result behind × IsChange behind at c t (put t.changes oid bytes result) a now
 
 -- a line of an open transaction that is no step; no other line comes here
 abbrev pub IsWithin : Moment → ℕ → Client → OpenTransaction → Line → Answer → Moment → Type 0
-IsWithin m at c t (line.Load oid) a now = IsReadLine m t.view oid data_of a now
-IsWithin m at c t (line.Get oid) a now = IsGet m t.view oid (pending_of t.changes.pending.stores oid) a now
+IsWithin m at c t (line.Load oid) a now = IsReadLine m t oid data_of a now
+IsWithin m at c t (line.Get oid) a now = IsGet m t oid (pending_of t.changes.pending.stores oid) a now
 IsWithin m at c t (line.Store oid base bytes) a now = IsChange m at c t (stored t.changes (record { oid = oid; base = base; content = Held bytes })) a now
 IsWithin m at c t (line.Put oid bytes) a now = IsPut m at c t oid bytes (pending_of t.changes.pending.stores oid) a now
 IsWithin m at c t (line.Check oid serial) a now = IsChange m at c t (checked t.changes (record { oid = oid; serial = serial })) a now
@@ -68,19 +76,29 @@ IsWithin m at c t (line.Rollback number) a now = IsChange m at c t (rolled_back 
 IsWithin m at c t (line.Tree root call) a now = IsTreeLine m at c t root call a now
 IsWithin m at c t _ a now = IsRefusedAt m refusal.NoTransaction a now
 
--- a line that is no step; without a transaction it is refused before
+-- a line that is no step, where no transaction is open: `begin` behind a link, where the view is the known one. No other line comes here.
+abbrev pub IsOutside : Moment → ℕ → Client → Standing → Answer → Moment → Type 0
+IsOutside m at c Local a now = IsRefusedAt m refusal.NoTransaction a now
+IsOutside m at c (Linked known) a now = (a ≡ answer.Begun known.front) × (now ≡ with_client m at (with_transaction c (begun_far known)))
+
+-- a line that is no step
 abbrev pub IsOwnLine : Moment → ℕ → Client → Option OpenTransaction → Line → Answer → Moment → Type 0
-IsOwnLine m at c None l a now = IsRefusedAt m refusal.NoTransaction a now
+IsOwnLine m at c None l a now = IsOutside m at c c.standing a now
 IsOwnLine m at c (Some t) l a now = IsWithin m at c t l a now
+
+-- a line that is one step, unless what it asks for is too long
+abbrev pub IsStepUnless : Rules → Moment → ℕ → Client → Bool → Request → Option ℕ → Answer → Moment → Type 0
+IsStepUnless rules m at c delivers q None a now = IsStepLine rules m at c delivers q a now
+IsStepUnless rules m at c delivers q (Some n) a now = IsRefusedAt m (refusal.TooLong n) a now
 
 -- a line that the connection doesn't refuse
 abbrev pub IsLineTaken : Rules → Moment → ℕ → Client → Line → Option Request → Answer → Moment → Type 0
-IsLineTaken rules m at c l (Some q) a now = IsStepLine rules m at c q a now
+IsLineTaken rules m at c l (Some q) a now = IsStepUnless rules m at c (is_delivery l) q (asking_excess c.standing q) a now
 IsLineTaken rules m at c l None a now = IsOwnLine m at c c.transaction l a now
 
 abbrev pub IsLineUnless : Rules → Moment → ℕ → Client → Line → Option Refusal → Answer → Moment → Type 0
 IsLineUnless rules m at c l (Some why) a now = IsRefusedAt m why a now
-IsLineUnless rules m at c l None a now = IsLineTaken rules m at c l (request_of (changes_of c) l) a now
+IsLineUnless rules m at c l None a now = IsLineTaken rules m at c l (request_of c.standing (changes_of c) l) a now
 
 -- a line of the client at a place
 abbrev pub IsLineAt : Rules → Moment → ℕ → Line → Answer → Moment → Type 0
@@ -98,21 +116,49 @@ pub record Opening : Type 0 where
   pub answer : Answer
   pub moment : Moment
 
--- open: the next session is the client's, while there are fewer than 64
-abbrev pub opened : Moment → List ℕ → Opening
-opened m name =
+-- open: the next session is the client's, which stands so, while there are fewer than 64
+abbrev pub opened : Moment → List ℕ → Standing → Opening
+opened m name standing =
     let n = length m.machine.sessions in
     if nat_lt n session_limit
-    then (record { answer = answer.Opened n; moment = record m { machine = with_session m.machine; clients = m.clients ++ (record { name = name; session = n; transaction = None }) ∷ [] } })
+    then (record { answer = answer.Opened n; moment = record m { machine = with_session m.machine; clients = m.clients ++ (record { name = name; session = n; transaction = None; standing = standing }) ∷ [] } })
     else (record { answer = answer.Refused (refusal.TooManySessions n); moment = m })
 
+-- the opening of a local client
 abbrev pub IsOpening : Moment → List ℕ → Answer → Moment → Type 0
-IsOpening m name a now = record { answer = a; moment = now } ≡ opened m name
+IsOpening m name a now = record { answer = a; moment = now } ≡ opened m name Local
+
+-- that of one with a link: where its session is opened it takes two Front steps, and the second, or its answer, is the opening's; else it is refused
+abbrev pub first_told : Reply → Answer → Answer
+first_told (reply.Front front news switches) a = a
+first_told r a = answer_of r
+
+abbrev pub opened_far : Moment → List ℕ → Opening
+opened_far m name = opened m name (Linked (view_of (server_of m.machine)))
+
+pub record IsTakenIn (rules : Rules) (m : Moment) (name : List ℕ) (a : Answer) (now : Moment) : Type 0 where
+  pub first : Reply
+  pub between : Moment
+  pub registers : IsStepAt rules (opened_far m name).moment (length m.machine.sessions) request.Front first between
+  pub second : Reply
+  pub syncs : IsStepAt rules between (length m.machine.sessions) request.Front second now
+  pub answer : a ≡ first_told second (opened_far m name).answer
+
+abbrev pub IsFarOpening : Rules → Moment → List ℕ → Bool → Answer → Moment → Type 0
+IsFarOpening rules m name true a now = IsTakenIn rules m name a now
+IsFarOpening rules m name false a now = record { answer = a; moment = now } ≡ opened_far m name
+
+abbrev pub IsLinkOpening : Rules → Moment → List ℕ → Answer → Moment → Type 0
+IsLinkOpening rules m name a now = IsFarOpening rules m name (nat_lt (length m.machine.sessions) session_limit) a now
+
+-- a line that opens a session, or another, of a client by its name
+abbrev pub IsLineNamed : Bool → Rules → Moment → List ℕ → Line → Answer → Moment → Type 0
+IsLineNamed true rules m name l a now = IsOpening m name a now
+IsLineNamed false rules m name l a now = IsLineOf rules m (place_of_client name m.clients) l a now
 
 -- a line of a client, by its name
 abbrev pub IsLine : Rules → Moment → List ℕ → Line → Answer → Moment → Type 0
-IsLine rules m name line.Open a now = IsOpening m name a now
-IsLine rules m name l a now = IsLineOf rules m (place_of_client name m.clients) l a now
+IsLine rules m name l a now = IsLineNamed (opens_session l) rules m name l a now
 
 -- the closing of the session of the client at a place
 abbrev pub IsClosingAt : Rules → Moment → ℕ → Reply → Moment → Type 0

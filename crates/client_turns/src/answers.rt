@@ -1,7 +1,7 @@
 //! What lines are answered.
 
 ghost use Rattle.std.specs.Prelude.{◌≡◌};
-ghost use Rattle.client_turns.specs.Asking.{answered, begun_as, finished_as, saved_as};
+ghost use Rattle.client_turns.specs.Asking.{answered, begun_as, delivered_with, finished_as, saved_as};
 ghost use Rattle.client_turns.specs.Lines.{data_of, object_of};
 
 use zb_answers::Answer;
@@ -24,6 +24,16 @@ pub(crate) fn begun(front: Result<Tid, Refusal>) -> Answer
 {
     match front {
         Ok(front) => Answer::Begun { front },
+        Err(why) => Answer::Refused(why),
+    }
+}
+
+/// What `deliver` is answered.
+pub(crate) fn delivered(front: Result<Tid, Refusal>) -> Answer
+    ensures { result ≡ delivered_with front }
+{
+    match front {
+        Ok(front) => Answer::Delivered { front },
         Err(why) => Answer::Refused(why),
     }
 }

@@ -7,7 +7,7 @@ ghost use Rattle.client_turns.specs.Lines.{outcome_of_answer, outcome_of_result}
 ghost use Rattle.client_turns.specs.Refusing.{IsFittingLine};
 ghost use Rattle.client_turns.specs.Standing.{IsGotWhere, LeavesHub, ReadsHub};
 
-use crate::answers::{answered, begun, data_of, finished, object_of, saved};
+use crate::answers::{answered, begun, data_of, delivered, finished, object_of, saved};
 use crate::client::Client;
 use local_loads::LocalLoads;
 use std::alloc::Global;
@@ -305,6 +305,25 @@ fn abort_line<St: Store, R: Resolver, F: Refs, C: Clock>(
     answer
 }
 
+/// `deliver`: the client is told what was committed, and an open transaction stays as it is.
+fn deliver_line<St: Store, R: Resolver, F: Refs, C: Clock>(
+    alloc: Global,
+    hub: &mut Hub<St, R, F>,
+    client: &mut Client,
+    clock: &mut C,
+) -> Answer
+    ensures line { TakesLine St.told (rules_of R.rules F.named hub.old) (Line.Deliver) result hub.old hub.new client.old
+        client.new (C.stamps clock.old) (C.stamps clock.new) }
+    ensures hub { LeavesHub St.told St.lasts St.stands (rules_of R.rules F.named hub.old) (Some client.old) (Line.Deliver)
+        (outcome_of_answer result) hub.old hub.new }
+{
+    let mut loads = LocalLoads::new(alloc, hub, client.session, clock, client.told);
+    let answer = delivered(client.connection.deliver(&mut loads));
+    let told = &loads.told;
+    client.told = *told;
+    answer
+}
+
 /// A line of a client that its connection answers.
 pub(crate) fn connection_line<St: Store, R: Resolver, F: Refs, C: Clock>(
     alloc: Global,
@@ -356,6 +375,7 @@ pub(crate) fn connection_line<St: Store, R: Resolver, F: Refs, C: Clock>(
         ),
         Line::Finish => finish_line(alloc, hub, client, clock),
         Line::Abort => abort_line(alloc, hub, client, clock),
+        Line::Deliver => deliver_line(alloc, hub, client, clock),
         _ => unreachable!(),
     }
 }

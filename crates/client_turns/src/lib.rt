@@ -13,6 +13,7 @@ mod requests;
 mod steps;
 mod trees;
 mod turns;
+mod waiting;
 
 pub use client::Client;
 pub use clients::Clients;

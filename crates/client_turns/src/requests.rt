@@ -22,7 +22,7 @@ pub(crate) fn is_of_connection(line: &Line) -> bool
         Line::Check { .. } | Line::Delete { .. } => true,
         Line::Savepoint | Line::Rollback { .. } => true,
         Line::Vote { .. } | Line::Undo { .. } => true,
-        Line::Finish | Line::Abort => true,
+        Line::Finish | Line::Abort | Line::Deliver => true,
         _ => false,
     }
 }

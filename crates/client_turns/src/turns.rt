@@ -1,6 +1,6 @@
 //! Turns.
 
-ghost use Rattle.std.specs.Prelude.{◌≡◌, ◌<◌, ◌∷◌, ◌++◌, [], List, Option, Some, IfOk, IsErrOf, None, false, length, slice_get, vec_capacity};
+ghost use Rattle.std.specs.Prelude.{◌≡◌, ◌<◌, ◌∷◌, ◌++◌, [], List, Option, Some, IfOk, IsErrOf, OnOk, None, false, length, slice_get, vec_capacity};
 ghost use Rattle.zb_base.specs.Counts.{Rose};
 ghost use Rattle.zb_ids.specs.declared.stamp.Stamp.{Stamp};
 ghost use Rattle.zb_volume.specs.declared.areas.Area.TheVariants.{Main, Side};
@@ -187,7 +187,7 @@ impl<St: Store, R: Resolver, F: Refs> Clients<St, R, F> {
     /// Takes a turn: a line of a client, and, where it is the client's last, the closing of its session.
     /// `TurnError` ends the run: the turn isn't answered. `Memory` comes only where no call of the store
     /// has failed in this turn, and an answer only where none has, but for a read of which the answer tells.
-    #[tactic(auto, using(crate::proofs::Causes::ended_counts, crate::proofs::Causes::closing_counts, crate::proofs::Causes::whole_counts, zb_model::specs::StayLaws::stays_then))]
+    #[tactic(auto, using(crate::proofs::Causes::ended_counts, crate::proofs::Causes::closing_counts, crate::proofs::Causes::whole_counts, crate::proofs::Causes::stays_whole, zb_model::specs::StayLaws::stays_then))]
     pub fn take_turn<C: Clock>(
         &mut self,
         alloc: Global,
@@ -210,6 +210,7 @@ impl<St: Store, R: Resolver, F: Refs> Clients<St, R, F> {
         ensures failed { IsErrOf result TurnError.StoreFault →
             Rose self.old.hub.store.faults self.new.hub.store.faults }
         ensures goes_on { IfOk result (λ answer. end_of answer ≡ None) }
+        ensures whole { self.old.hub.store.broken ≡ false → OnOk result (self.new.hub.store.broken ≡ false) }
         ensures counts { IsCountedBy (counts_of self.old.hub.store) (counts_of self.new.hub.store) (outcome_of_turn result) }
     {
         self.lasting();

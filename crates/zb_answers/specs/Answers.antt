@@ -12,6 +12,7 @@ use Rattle.zb_answers.specs.Refusals.{refusal_text}
 abbrev pub answer_text : Answer → List ℕ
 answer_text (answer.Opened session) = codes "opened " ++ decimal session
 answer_text (answer.Begun front) = codes "begun " ++ hex_number front
+answer_text (answer.Delivered front) = codes "delivered " ++ hex_number front
 answer_text (answer.Data serial bytes) = codes "data " ++ (hex_number serial ++ 32 ∷ hex_text bytes)
 answer_text (answer.Object serial bytes) = object_answer serial bytes
 answer_text answer.Stored = codes "stored"

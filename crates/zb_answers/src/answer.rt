@@ -28,6 +28,11 @@ pub enum Answer {
         /// The tid after the newest one: the view has what stands below it.
         front: Tid,
     },
+    /// The client was told what was committed up to now.
+    Delivered {
+        /// The tid after the newest one: the client's next view has what stands below it.
+        front: Tid,
+    },
     /// What the view has of an object.
     Data {
         /// The serial of the revision.
@@ -148,6 +153,7 @@ fn push_answer(out: &mut Vec<u8>, answer: &Answer) -> Result<(), AllocError>
     match answer {
         Answer::Opened { session } => push_counted(out, b"opened ", u64::from(*session)),
         Answer::Begun { front } => push_numbered(out, b"begun ", front.0),
+        Answer::Delivered { front } => push_numbered(out, b"delivered ", front.0),
         Answer::Data { serial, bytes } => {
             push_numbered(out, b"data ", serial.0)?;
             out.push(b' ')?;

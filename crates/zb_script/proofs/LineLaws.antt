@@ -147,7 +147,8 @@ words_take exact bytes l e =
     word_takes bytes (codes "undolog") lines.UndoLog l _ e (λ is. is) (λ e.
     word_takes bytes (codes "close") lines.Close l _ e (λ is. is) (λ e.
     word_takes bytes (codes "savepoint") lines.Savepoint l _ e (λ is. is) (λ e.
-    word_takes bytes (codes "packturn") lines.PackTurn l _ e (λ is. is) (λ e. tree_takes exact bytes l e)))))))))
+    word_takes bytes (codes "packturn") lines.PackTurn l _ e (λ is. is) (λ e.
+    word_takes bytes (codes "deliver") lines.Deliver l _ e (λ is. is) (λ e. tree_takes exact bytes l e))))))))))
 
 short_line_takes : Exact → (bytes : List ℕ) (l : Line) → short_line_at bytes ≡ Some l → IsLineText bytes l
 unfolding short_line_at
@@ -263,6 +264,10 @@ pack_turn_again : IsRead (codes "packturn") lines.PackTurn
 unfolding line_at behind_word short_line_at words_at
 pack_turn_again = refl
 
+deliver_again : IsRead (codes "deliver") lines.Deliver
+unfolding line_at behind_word short_line_at words_at
+deliver_again = refl
+
 rollback_again : Exact → (number : ℕ) → number < 2 ^ 32 → IsRead (codes "rollback " ++ decimal number) (lines.Rollback number)
 unfolding line_at behind_word short_line_at rollback_at
 rollback_again exact number h = rw (small_again exact number h) refl
@@ -284,6 +289,7 @@ line_again exact text (lines.Vote user description) h = word_again (lines.Vote u
 line_again exact text (lines.Undo user description tids) h = word_again (lines.Undo user description tids) text _ h.is (undo_again exact text user description tids h)
 line_again exact text lines.Finish h = word_again lines.Finish text _ h finish_again
 line_again exact text lines.Abort h = word_again lines.Abort text _ h abort_again
+line_again exact text lines.Deliver h = word_again lines.Deliver text _ h deliver_again
 line_again exact text (lines.History oid) h = word_again (lines.History oid) text _ h.is (history_again oid h.small)
 line_again exact text lines.UndoLog h = word_again lines.UndoLog text _ h undolog_again
 line_again exact text (lines.Pack tid collect) h = word_again (lines.Pack tid collect) text _ h.is (pack_again tid collect h.small)
@@ -355,6 +361,7 @@ line_from (lines.Undo user description tids) text h =
     subst (From 32) (sym h.is) (From-append 32 (codes "undo ") (quoted_text user ++ 32 ∷ (quoted_text description ++ tids_text tids)) (from_test 32 (codes "undo ") refl) (undone_from user description tids))
 line_from lines.Finish text h = subst (From 32) (sym h) (from_test 32 (codes "finish") refl)
 line_from lines.Abort text h = subst (From 32) (sym h) (from_test 32 (codes "abort") refl)
+line_from lines.Deliver text h = subst (From 32) (sym h) (from_test 32 (codes "deliver") refl)
 line_from (lines.History oid) text h = numbered_from (codes "history ") oid text (from_test 32 (codes "history ") refl) h
 line_from lines.UndoLog text h = subst (From 32) (sym h) (from_test 32 (codes "undolog") refl)
 line_from (lines.Pack tid collect) text h = pack_from (codes "pack ") tid collect text (from_test 32 (codes "pack ") refl) h
@@ -394,6 +401,7 @@ line_is (lines.Vote user description) text h = (h.user_short, h.description_shor
 line_is (lines.Undo user description tids) text h = (h.user_short, h.description_short, h.undone)
 line_is lines.Finish text h = tt
 line_is lines.Abort text h = tt
+line_is lines.Deliver text h = tt
 line_is (lines.History oid) text h = h.small
 line_is lines.UndoLog text h = tt
 line_is (lines.Pack tid collect) text h = h.small

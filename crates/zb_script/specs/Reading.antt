@@ -277,6 +277,7 @@ words_at bytes =
     else if bytes_eq bytes (codes "close") then Some lines.Close
     else if bytes_eq bytes (codes "savepoint") then Some lines.Savepoint
     else if bytes_eq bytes (codes "packturn") then Some lines.PackTurn
+    else if bytes_eq bytes (codes "deliver") then Some lines.Deliver
     else tree_line_at bytes
 
 -- a line with one number, without a field, or of a tree

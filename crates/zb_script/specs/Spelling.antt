@@ -154,6 +154,7 @@ IsLineText text (lines.Vote user description) = IsVote text user description
 IsLineText text (lines.Undo user description tids) = IsUndo text user description tids
 IsLineText text lines.Finish = text ≡ codes "finish"
 IsLineText text lines.Abort = text ≡ codes "abort"
+IsLineText text lines.Deliver = text ≡ codes "deliver"
 IsLineText text (lines.History oid) = IsNumbered text (codes "history ") oid
 IsLineText text lines.UndoLog = text ≡ codes "undolog"
 IsLineText text (lines.Pack tid collect) = IsPackText text (codes "pack ") tid collect

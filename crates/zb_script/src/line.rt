@@ -88,6 +88,9 @@ pub enum Line {
     Finish,
     /// `abort`: ends the transaction and drops its stores.
     Abort,
+    /// `deliver`: takes what was committed since the client was told last, in the middle of a transaction too, whose
+    /// view stays as it is.
+    Deliver,
     /// `history OID`: lists the revisions of an object.
     History {
         /// The object.

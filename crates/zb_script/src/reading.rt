@@ -178,6 +178,8 @@ fn words_of(alloc: Global, bytes: &[u8]) -> Result<Line, ReadError>
         Ok(Line::Savepoint)
     } else if bytes == b"packturn".as_slice() {
         Ok(Line::PackTurn)
+    } else if bytes == b"deliver".as_slice() {
+        Ok(Line::Deliver)
     } else {
         tree_line_of(alloc, bytes)
     }

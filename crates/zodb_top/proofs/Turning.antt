@@ -1,5 +1,5 @@
 -- What a turn leaves of the list, and a run.
-use Rattle.std.proofs.Common.{◌≡◌, ℕ, Bool, true, false, cond, List, [], ◌∷◌, ◌++◌, Option, Some, None, length, ltb, append-nil, append_assoc, refl, sym, ap, subst, ◌∙◌}
+use Rattle.std.proofs.Common.{Bool, List, None, Option, Some, [], ap, append-nil, append_assoc, cond, false, length, ltb, refl, subst, suc, sym, true, zero, ℕ, ◌++◌, ◌∙◌, ◌∷◌, ◌≡◌}
 use Rattle.std.specs.Prelude.{Result, Ok, Err, slice_get, ◌||◌}
 use Rattle.zb_model.specs.declared.data.Content.TheVariants.{Held}
 use Rattle.zb_model.specs.declared.data.Transaction.{Transaction}
@@ -16,21 +16,22 @@ use Rattle.commit_phases.specs.Pending.{PendingChanges, excess_with, pending_of}
 use Rattle.tree_calls.specs.declared.operation.TreeAnswer.{TreeAnswer}
 use Rattle.tree_calls.specs.declared.operation.TreeAnswer.TheVariants as answered
 use Rattle.zodb_core.specs.declared.reply.Reply.{Reply}
+use Rattle.zodb_core.specs.declared.reply.Reply.TheVariants as reply
 use Rattle.zodb_core.specs.declared.request.Request.{Request}
 use Rattle.zodb_core.specs.declared.request.Request.TheVariants as request
 use Rattle.zodb_core.specs.Machine.{Machine, Rules, session_limit, with_session}
 use Rattle.client_turns.specs.declared.errors.TurnError.{TurnError}
 use Rattle.client_turns.specs.declared.errors.TurnError.TheVariants as turn_error
-use Rattle.client_turns.specs.Clients.{Changes, Client, Moment, OpenTransaction, changes_of, first_moment, place_of_client}
-use Rattle.client_turns.specs.Lines.{Changed, answer_of, data_of, deleted, end_of, is_committed, object_of, put, request_of, rolled_back, rolled_to, saved, store_unless, stored}
+use Rattle.client_turns.specs.Clients.{Changes, Client, Linked, Local, Moment, OpenTransaction, Standing, changes_of, first_moment, place_of_client}
+use Rattle.client_turns.specs.Lines.{Changed, answer_of, answer_to, answering_excess, asking_excess, data_of, deleted, end_of, is_committed, is_delivery, object_of, put, request_of, rolled_back, rolled_to, saved, step_answer, store_unless, stored}
 use Rattle.client_turns.specs.DrawLaws.{tree_answer, tree_raised}
 use Rattle.client_turns.specs.Trees.{IsRaised, IsTreeLine, answer_told}
-use Rattle.client_turns.specs.TurnLaws.{by_name, first_ahead, out_ahead, starved_so, step_at_left, turn_whole}
+use Rattle.client_turns.specs.TurnLaws.{by_name, first_ahead, out_ahead, starved_so, step_at_left, step_cases, told_end, turn_whole}
 use Rattle.client_turns.specs.Output.{FlaggedTurn, Out, TurnAnswer}
 use Rattle.client_turns.specs.Refusing.{connection_refusal}
 use Rattle.client_turns.specs.Standing.{IsAhead}
 use Rattle.client_turns.specs.Steps.{IsChange, IsRefusedAt, IsStepAt}
-use Rattle.client_turns.specs.Turns.{IsBroken, IsClosed, IsClosing, IsClosingAt, IsGet, IsLine, IsLineOf, IsLineTaken, IsLineUnless, IsOpening, IsOwnLine, IsPut, IsReadLine, IsStepLine, IsTold, IsTurn, IsWithin, Opening, by_closing, by_line, by_memory}
+use Rattle.client_turns.specs.Turns.{IsBroken, IsClosed, IsClosing, IsClosingAt, IsGet, IsLine, IsLineOf, IsLineTaken, IsLineUnless, IsOpening, IsOutside, IsOwnLine, IsPut, IsReadLine, IsStepLine, IsStepUnless, IsTold, IsTurn, IsWithin, Opening, by_closing, by_line, by_memory, fronts_behind}
 use Rattle.connection_view.specs.Connections.{waiting_read}
 use Rattle.connection_view.specs.Views.{View}
 use Rattle.zodb_top.specs.Committed.{AnswerLeaves, AnswersLeave, BeginsWith, CameBy, CommittedStays, EndsWith, HasCommitted, IsCommittedTo, IsLeftSince, has_packed, is_packed}
@@ -49,12 +50,13 @@ pub record Keeps (m now : Moment) : Type 0 where
 keeps_same : (m now : Moment) → now ≡ m → Keeps m now
 keeps_same m now is = record { list = ap (λ (x : Moment). x.machine.list) is; failed = ap (λ (x : Moment). x.machine.failed) is }
 
-told_keeps : (rules : Rules) (b : Bool) (m : Moment) (n : ℕ) (now : Moment) → IsTold rules b m n now → Keeps m now
-told_keeps rules false m n now told = keeps_same m now told
-told_keeps rules true m n now (r, step) = record {
-  list = step_at_left rules m n request.Front r now step;
-  failed = (step_at rules m n request.Front r now step).failed (front_whole rules m.machine n step.stamp r now.machine step.ticks m.counts now.counts step.made);
-}
+told_keeps : (rules : Rules) (count : ℕ) (m : Moment) (n : ℕ) (now : Moment) → IsTold rules count m n now → Keeps m now
+told_keeps rules zero m n now told = keeps_same m now told
+told_keeps rules (suc count) m n now (r, next, step, rest) =
+    let on = told_keeps rules count next n now rest in record {
+      list = on.list ∙ step_at_left rules m n request.Front r next step;
+      failed = on.failed ∙ (step_at rules m n request.Front r next step).failed (front_whole rules m.machine n step.stamp r next.machine step.ticks m.counts next.counts step.made);
+    }
 
 -- ---- lines
 
@@ -84,7 +86,7 @@ same_line rules m a b now is plain same = record {
 }
 
 abbrev opening_of : Moment → List ℕ → Bool → Opening
-opening_of m name true = record { answer = answer.Opened (length m.machine.sessions); moment = record m { machine = with_session m.machine; clients = m.clients ++ (record { name = name; session = length m.machine.sessions; transaction = None }) ∷ [] } }
+opening_of m name true = record { answer = answer.Opened (length m.machine.sessions); moment = record m { machine = with_session m.machine; clients = m.clients ++ (record { name = name; session = length m.machine.sessions; transaction = None; standing = Local }) ∷ [] } }
 opening_of m name false = record { answer = answer.Refused (refusal.TooManySessions (length m.machine.sessions)); moment = m }
 
 opening_keeps : (rules : Rules) (m : Moment) (name : List ℕ) (b : Bool) → LineKeeps rules m (opening_of m name b).answer (opening_of m name b).moment
@@ -92,7 +94,7 @@ opening_keeps rules m name true = record { leaves = λ ahead. refl; failed = λ 
 opening_keeps rules m name false = record { leaves = λ ahead. refl; failed = λ other. refl; memory = λ none. refl }
 
 opened_so : (m : Moment) (name : List ℕ) (b : Bool)
-    → cond {A = Opening} b (record { answer = answer.Opened (length m.machine.sessions); moment = record m { machine = with_session m.machine; clients = m.clients ++ (record { name = name; session = length m.machine.sessions; transaction = None }) ∷ [] } })
+    → cond {A = Opening} b (record { answer = answer.Opened (length m.machine.sessions); moment = record m { machine = with_session m.machine; clients = m.clients ++ (record { name = name; session = length m.machine.sessions; transaction = None; standing = Local }) ∷ [] } })
     (record { answer = answer.Refused (refusal.TooManySessions (length m.machine.sessions)); moment = m }) ≡ opening_of m name b
 opened_so m name true = refl
 opened_so m name false = refl
@@ -102,17 +104,34 @@ open_keeps rules m name a now is =
     let b = ltb (length m.machine.sessions) session_limit in
     subst (λ (o : Opening). LineKeeps rules m o.answer o.moment) (sym (is ∙ opened_so m name b)) (opening_keeps rules m name b)
 
-step_line : (rules : Rules) (m : Moment) (at : ℕ) (c : Client) (q : Request) (a : Answer) (now : Moment) → IsStepLine rules m at c q a now → LineKeeps rules m a now
-step_line rules m at c q a now l =
+-- a delivery says of the list what its step says
+told_so : (rules : Rules) (d : Bool) (r : Reply) (list now : List Transaction) → AnswerLeaves rules (answer_of r) list now → AnswerLeaves rules (answer_to d r) list now
+told_so rules false r list now leaves = leaves
+told_so rules true (reply.Front front news switches) list now leaves = leaves
+told_so rules true _ list now leaves = leaves
+
+-- an answer that may be too long is none of a commit or of a pack
+long_so : (rules : Rules) (s : Standing) (r : Reply) (n : ℕ) (list now : List Transaction) → answering_excess s r ≡ Some n → AnswerLeaves rules (answer_of r) list now → now ≡ list
+long_so rules Local r n list now long leaves = absurd cc
+long_so rules (Linked known) (reply.Committed tid) n list now long leaves = absurd cc
+long_so rules (Linked known) (reply.Packed kept dropped) n list now long leaves = absurd cc
+long_so rules (Linked known) _ n list now long leaves = leaves
+
+answered_so : (rules : Rules) (s : Standing) (d : Bool) (r : Reply) (list now : List Transaction) → AnswerLeaves rules (answer_of r) list now → AnswerLeaves rules (step_answer s d r) list now
+answered_so rules s d r list now leaves = step_cases (λ a. AnswerLeaves rules a list now) s d r (λ n long. long_so rules s r n list now long leaves) (told_so rules d r list now leaves)
+
+step_line : (rules : Rules) (m : Moment) (at : ℕ) (c : Client) (d : Bool) (q : Request) (a : Answer) (now : Moment) → IsStepLine rules m at c d q a now → LineKeeps rules m a now
+step_line rules m at c d q a now l =
     let keeps = step_at rules m c.session q l.reply l.behind l.step in
-    let told = told_keeps rules (is_committed l.reply) l.behind c.session l.told l.front in
+    let told = told_keeps rules (fronts_behind (is_committed l.reply) c.standing) l.behind c.session l.told l.front in
     let machine : now.machine ≡ l.told.machine = ap (λ (x : Moment). x.machine) l.left in
     let list : now.machine.list ≡ l.behind.machine.list = ap (λ (x : Machine). x.list) machine ∙ told.list in record {
       leaves = λ ahead.
           subst (λ (x : Answer). AnswerLeaves rules x m.machine.list now.machine.list) (sym l.answer)
-          (subst (AnswerLeaves rules (answer_of l.reply) m.machine.list) (sym list) (leaves_so rules l.reply m.machine.list l.behind.machine.list (keeps.leaves ahead)));
-      failed = λ other. ap (λ (x : Machine). x.failed) machine ∙ told.failed ∙ keeps.failed (λ lost. other (ap end_of l.answer ∙ fails_so l.reply lost));
-      memory = λ none. list ∙ keeps.memory (starved_so l.reply (sym (ap end_of l.answer) ∙ none));
+          (answered_so rules c.standing d l.reply m.machine.list now.machine.list
+          (subst (AnswerLeaves rules (answer_of l.reply) m.machine.list) (sym list) (leaves_so rules l.reply m.machine.list l.behind.machine.list (keeps.leaves ahead))));
+      failed = λ other. ap (λ (x : Machine). x.failed) machine ∙ told.failed ∙ keeps.failed (λ lost. other (ap end_of l.answer ∙ told_end c.standing d l.reply ∙ fails_so l.reply lost));
+      memory = λ none. list ∙ keeps.memory (starved_so l.reply (sym (ap end_of l.answer ∙ told_end c.standing d l.reply) ∙ none));
     }
 
 -- ---- lines that are no step
@@ -144,10 +163,10 @@ plain_put t oid bytes (Err _) = tt
 change_line : (rules : Rules) (m : Moment) (at : ℕ) (c : Client) (t : OpenTransaction) (w : Changed) (a : Answer) (now : Moment) → IsPlain w.answer → IsChange m at c t w a now → LineKeeps rules m a now
 change_line rules m at c t w a now plain (is, left) = same_line rules m a w.answer now is plain (ap (λ (x : Moment). x.machine) left)
 
-read_line : (rules : Rules) (m : Moment) (v : View) (oid : ℕ) (answer_to : Result (ℕ × List ℕ) Refusal → Answer) (a : Answer) (now : Moment) → ((r : Result (ℕ × List ℕ) Refusal) → IsPlain (answer_to r)) → IsReadLine m v oid answer_to a now → LineKeeps rules m a now
+read_line : (rules : Rules) (m : Moment) (v : OpenTransaction) (oid : ℕ) (answer_to : Result (ℕ × List ℕ) Refusal → Answer) (a : Answer) (now : Moment) → ((r : Result (ℕ × List ℕ) Refusal) → IsPlain (answer_to r)) → IsReadLine m v oid answer_to a now → LineKeeps rules m a now
 read_line rules m v oid answer_to a now plain (r, read, is) = same_line rules m a (answer_to r) now is (plain r) (ap (λ (x : Moment). x.machine) read.rest)
 
-get_line : (rules : Rules) (m : Moment) (v : View) (oid : ℕ) (p : Option PendingStore) (a : Answer) (now : Moment) → IsGet m v oid p a now → LineKeeps rules m a now
+get_line : (rules : Rules) (m : Moment) (v : OpenTransaction) (oid : ℕ) (p : Option PendingStore) (a : Answer) (now : Moment) → IsGet m v oid p a now → LineKeeps rules m a now
 get_line rules m v oid (Some p) a now (is, same) = same_line rules m a (object_of (waiting_read oid p)) now is (plain_object (waiting_read oid p)) (ap (λ (x : Moment). x.machine) same)
 get_line rules m v oid None a now l = read_line rules m v oid object_of a now plain_object l
 
@@ -182,8 +201,8 @@ tree_line rules m at c t root call a now l =
     }
 
 within_line : (rules : Rules) (m : Moment) (at : ℕ) (c : Client) (t : OpenTransaction) (l : Line) (a : Answer) (now : Moment) → IsWithin m at c t l a now → LineKeeps rules m a now
-within_line rules m at c t (line.Load oid) a now l = read_line rules m t.view oid data_of a now plain_data l
-within_line rules m at c t (line.Get oid) a now l = get_line rules m t.view oid (pending_of t.changes.pending.stores oid) a now l
+within_line rules m at c t (line.Load oid) a now l = read_line rules m t oid data_of a now plain_data l
+within_line rules m at c t (line.Get oid) a now l = get_line rules m t oid (pending_of t.changes.pending.stores oid) a now l
 within_line rules m at c t (line.Store oid base bytes) a now l =
     let waits : PendingStore = record { oid = oid; base = base; content = Held bytes } in
     change_line rules m at c t (stored t.changes waits) a now (plain_stored t.changes waits) l
@@ -195,17 +214,25 @@ within_line rules m at c t (line.Rollback number) a now (is, left) = same_line r
 within_line rules m at c t (line.Tree root call) a now l = tree_line rules m at c t root call a now l
 within_line rules m at c t _ a now l = refused_line rules m refusal.NoTransaction a now l
 
+outside_line : (rules : Rules) (m : Moment) (at : ℕ) (c : Client) (s : Standing) (a : Answer) (now : Moment) → IsOutside m at c s a now → LineKeeps rules m a now
+outside_line rules m at c Local a now is = refused_line rules m refusal.NoTransaction a now is
+outside_line rules m at c (Linked known) a now (is, left) = same_line rules m a (answer.Begun known.front) now is tt (ap (λ (x : Moment). x.machine) left)
+
 own_line : (rules : Rules) (m : Moment) (at : ℕ) (c : Client) (t : Option OpenTransaction) (l : Line) (a : Answer) (now : Moment) → IsOwnLine m at c t l a now → LineKeeps rules m a now
-own_line rules m at c None l a now own = refused_line rules m refusal.NoTransaction a now own
+own_line rules m at c None l a now own = outside_line rules m at c c.standing a now own
 own_line rules m at c (Some t) l a now own = within_line rules m at c t l a now own
 
+long_line : (rules : Rules) (m : Moment) (at : ℕ) (c : Client) (d : Bool) (q : Request) (e : Option ℕ) (a : Answer) (now : Moment) → IsStepUnless rules m at c d q e a now → LineKeeps rules m a now
+long_line rules m at c d q None a now is = step_line rules m at c d q a now is
+long_line rules m at c d q (Some n) a now is = refused_line rules m (refusal.TooLong n) a now is
+
 taken_line : (rules : Rules) (m : Moment) (at : ℕ) (c : Client) (l : Line) (q : Option Request) (a : Answer) (now : Moment) → IsLineTaken rules m at c l q a now → LineKeeps rules m a now
-taken_line rules m at c l (Some q) a now taken = step_line rules m at c q a now taken
+taken_line rules m at c l (Some q) a now taken = long_line rules m at c (is_delivery l) q (asking_excess c.standing q) a now taken
 taken_line rules m at c l None a now taken = own_line rules m at c c.transaction l a now taken
 
 unless_line : (rules : Rules) (m : Moment) (at : ℕ) (c : Client) (l : Line) (why : Option Refusal) (a : Answer) (now : Moment) → IsLineUnless rules m at c l why a now → LineKeeps rules m a now
 unless_line rules m at c l (Some why) a now unless = refused_line rules m why a now unless
-unless_line rules m at c l None a now unless = taken_line rules m at c l (request_of (changes_of c) l) a now unless
+unless_line rules m at c l None a now unless = taken_line rules m at c l (request_of c.standing (changes_of c) l) a now unless
 
 line_of : (rules : Rules) (m : Moment) (at : Option ℕ) (l : Line) (a : Answer) (now : Moment) → IsLineOf rules m at l a now → LineKeeps rules m a now
 line_of rules m None l a now is = refused_line rules m refusal.NotOpen a now is

@@ -72,3 +72,7 @@ returns-in-Finish-clause-line g c =
 pub returns-in-Abort-clause-line : goal.returns-in-Abort-clause-line
 returns-in-Abort-clause-line g c =
     line_at g.St.Store.told (rules_of g.R.Resolver.rules g.F.Refs.named c.args.hub.now) c.args.line.now line.Abort c.abort_line.result _ _ _ _ _ _ c.in-Abort.is c.abort_line.ensures.line
+
+pub returns-in-Deliver-clause-line : goal.returns-in-Deliver-clause-line
+returns-in-Deliver-clause-line g c =
+    line_at g.St.Store.told (rules_of g.R.Resolver.rules g.F.Refs.named c.args.hub.now) c.args.line.now line.Deliver c.deliver_line.result _ _ _ _ _ _ c.in-Deliver.is c.deliver_line.ensures.line
