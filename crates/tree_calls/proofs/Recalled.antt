@@ -1,8 +1,7 @@
 -- What is remembered of objects.
-use Rattle.std.proofs.Common.{◌≡◌, ℕ, zero, suc, ◌-◌, true, List, [], ◌∷◌, length, Option, Some, ap, sym, subst, ◌∙◌, arith}
-use Rattle.std.specs.Prelude.{eqb, slice_get, if◌then◌else◌, ◌==◌}
+use Rattle.std.proofs.Common.{◌≡◌, ℕ, zero, suc, ◌-◌, ◌≤◌, Bool, true, List, [], ◌∷◌, take, length, Option, Some, refl, ap, sym, subst, ◌∙◌, arith}
+use Rattle.std.specs.Prelude.{slice_get, if◌then◌else◌, ◌==◌}
 use Rattle.std.proofs.lemmas.Grind.{common_steps}
-use Rattle.std.specs.Cmp.Lexicographic.{bytes_decides, pointwise}
 use Rattle.pickle_graph.specs.Graph.{Graph}
 use Rattle.btree_family.specs.Classes.{Class}
 use Rattle.btree_shapes.specs.declared.node.Node.{Node}
@@ -13,8 +12,21 @@ use Rattle.tree_calls.specs.declared.known.Seen.{Seen}
 use Rattle.tree_calls.specs.Calls.{contents_after, contents_of}
 use Rattle.tree_calls.specs.Known.{Agrees, known_at}
 
-pub bytes_same : (a b : List ℕ) → pointwise eqb a b ≡ true → a ≡ b
-bytes_same a b e = (bytes_decides a b).0 e
+take_all : (a : List ℕ) (n : ℕ) → length a ≤ n → take n a ≡ a
+take_all [] zero l = refl
+take_all [] (suc n) l = refl
+take_all (x ∷ xs) zero l = absurd (omega (arith, l))
+take_all (x ∷ xs) (suc n) l = ap (λ ys. x ∷ ys) (take_all xs n (omega (arith, l)))
+
+-- where the bytes before a place were found the same, they are
+abbrev pub SameSo : List ℕ → List ℕ → ℕ → Bool → Type 0
+SameSo a b n same = same ≡ true → take n a ≡ take n b
+
+pub same_start : (a b : List ℕ) (same : Bool) → SameSo a b 0 same
+same_start a b same e = refl
+
+pub same_end : (a b : List ℕ) (n : ℕ) (same : Bool) → SameSo a b n same → length a ≡ length b → length a ≤ n → same ≡ true → a ≡ b
+same_end a b n same s l m e = sym (take_all a n m) ∙ s e ∙ take_all b n (omega (arith, l, m))
 
 -- what the same bytes hold
 pub held_same : (row : Class) (a b : Option (List ℕ)) (class : Graph) (node : Node) → a ≡ b → held_in (Some row) a ≡ Holds class node → held_in (Some row) b ≡ Holds class node

@@ -10,9 +10,11 @@ use btree_shapes::{Entry, Node, Recalled};
 use bucket_state::Inner;
 use indexmap::IndexMap;
 use std::alloc::{AllocError, Global};
+use std::mem::swap;
 use zb_ids::{ListOf, Oid, Text8};
 
-/// How much the objects that are remembered count together, at most: the next one takes the place of all.
+/// How much the objects of one half of what is remembered count together, at most: then the older
+/// half is forgotten.
 const LIMIT: usize = 1 << 22;
 
 /// How much an object counts beside its bytes.
@@ -27,13 +29,16 @@ struct Parsed {
     ghost holds: { held_in (Some (class_seen row.now)) (Some bytes) ≡ Holds entry.class entry.node },
 }
 
-/// What objects of trees held when they were read, so that the same bytes need not be read again. What it holds shows in no
-/// answer.
+/// What objects of trees held when they were read, so that the same bytes need not be read again.
+/// What it holds shows in no answer.
 #[derive(Drop)]
 pub struct NodeCache {
-    nodes: IndexMap<Oid, Parsed>,
-    // What was remembered since it was empty, by bytes.
+    // What was remembered last.
+    young: IndexMap<Oid, Parsed>,
+    // How much of it, by bytes.
     size: usize,
+    // What was remembered before that.
+    old: IndexMap<Oid, Parsed>,
 }
 
 /// A node again.
@@ -83,12 +88,22 @@ fn parsed_copy(
     Ok(Parsed { bytes, row, entry })
 }
 
-/// Whether two texts are the same.
-#[tactic(auto, using(crate::proofs::Recalled::bytes_same))]
-fn same_bytes(a: &Text8, b: &Text8) -> bool
+/// Whether two texts are the same. It looks at all their bytes, so that several are compared at a
+/// time.
+#[tactic(auto, using(crate::proofs::Recalled::same_start, crate::proofs::Recalled::same_end))]
+fn same_bytes(a: &[u8], b: &[u8]) -> bool
     ensures { result ≡ true → a.now ≡ b.now }
 {
-    *a == *b
+    if a.len() != b.len() {
+        return false;
+    }
+    let mut same = true;
+    let mut place = 0;
+    'bytes: while place < a.len() {
+        same &= a[place] == b[place];
+        place += 1;
+    }
+    same
 }
 
 /// What was parsed, where these are its bytes.
@@ -97,7 +112,7 @@ fn parsed_as(alloc: Global, parsed: &Parsed, bytes: &Text8) -> Option<Recalled>
     ensures { IfSome result (λ recalled. held_in (Some (class_seen recalled.row.now)) (Some bytes.now)
         ≡ Holds recalled.entry.class recalled.entry.node) }
 {
-    if !same_bytes(&parsed.bytes, bytes) {
+    if !same_bytes(parsed.bytes.as_slice(), bytes.as_slice()) {
         return None;
     }
     match copy_entry(alloc, &parsed.entry) {
@@ -109,12 +124,28 @@ fn parsed_as(alloc: Global, parsed: &Parsed, bytes: &Text8) -> Option<Recalled>
     }
 }
 
+/// What an object holds, where it was remembered with these bytes.
+fn found_in(
+    alloc: Global,
+    nodes: &IndexMap<Oid, Parsed>,
+    oid: Oid,
+    bytes: &Text8,
+) -> Option<Recalled>
+    ensures { IfSome result (λ recalled.
+        held_in (Some (class_seen recalled.row.now)) (Some bytes.now)
+        ≡ Holds recalled.entry.class recalled.entry.node) }
+{
+    let parsed = nodes.get(&oid)?;
+    parsed_as(alloc, parsed, bytes)
+}
+
 impl NodeCache {
     /// No object was read. It takes no memory until one is.
     pub fn new(alloc: Global) -> NodeCache {
         NodeCache {
-            nodes: IndexMap::new(alloc),
+            young: IndexMap::new(alloc),
             size: 0,
+            old: IndexMap::new(alloc),
         }
     }
 
@@ -123,12 +154,14 @@ impl NodeCache {
         ensures { IfSome result (λ recalled. held_in (Some (class_seen recalled.row.now)) (Some bytes.now)
             ≡ Holds recalled.entry.class recalled.entry.node) }
     {
-        let parsed = self.nodes.get(&oid)?;
-        parsed_as(alloc, parsed, bytes)
+        match found_in(alloc, &self.young, oid, bytes) {
+            Some(recalled) => Some(recalled),
+            None => found_in(alloc, &self.old, oid, bytes),
+        }
     }
 
-    /// Remembers what an object with these bytes holds, where there is memory for it and it isn't too long. Where too much is
-    /// remembered, it is forgotten first.
+    /// Remembers what an object with these bytes holds, where there is memory for it and it isn't
+    /// too long. Where too much is remembered, what is older than the newest half is forgotten first.
     pub(crate) fn keep(
         &mut self,
         alloc: Global,
@@ -147,10 +180,11 @@ impl NodeCache {
             return;
         };
         if self.size.saturating_add(size) > LIMIT {
-            self.nodes.clear();
+            swap(&mut self.young, &mut self.old);
+            self.young.clear();
             self.size = 0;
         }
-        if self.nodes.insert(oid, parsed).is_ok() {
+        if self.young.insert(oid, parsed).is_ok() {
             self.size = self.size.saturating_add(size);
         }
     }
