@@ -5,6 +5,7 @@ pub mod HoldLaws
 pub mod IntervalLaws
 pub mod KnowLaws
 pub mod Laws
+pub mod MayLaws
 pub mod OtherLaws
 pub mod Serving
 pub mod ServingLaws

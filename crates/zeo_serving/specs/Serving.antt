@@ -6,11 +6,12 @@ use Rattle.zb_model.specs.declared.news.News.{News}
 use Rattle.zb_model.specs.declared.news.NewsCommit.{NewsCommit}
 use Rattle.zb_model.specs.Database.{newest_tid}
 use Rattle.zb_model.specs.Queries.{oids_of}
-use Rattle.connection_view.specs.Views.{Client, Later, Quiet, Server, View, current, is_one_of, read_below, view_of}
+use Rattle.connection_view.specs.Views.{Client, Later, Quiet, Server, View, current, is_one_of, read_below}
 use Rattle.local_loads.specs.Local.{server_unless}
 use Rattle.zodb_core.specs.declared.journal.JournalEntry.{JournalEntry}
 use Rattle.zodb_core.specs.declared.journal.JournalEntry.TheVariants as journal
-use Rattle.zodb_core.specs.Machine.{Machine, MachineVote, OpenPack, is_switch, switches_of, told_of, untold}
+use Rattle.zodb_core.specs.Machine.{Machine, MachineVote, is_open_in, is_switch, switches_of, told_of, untold}
+use Rattle.zodb_core.specs.Sound.{IsSoundMachine}
 use Rattle.zeo_cache.specs.declared.interval.Interval.{Interval}
 use Rattle.zeo_cache.specs.Intervals.{Intervals, closed_at, interval_of}
 use Rattle.zeo_serving.specs.Entries.{CameBy, Changes, IsUpTo}
@@ -92,12 +93,15 @@ pub record IsServedBehind (m : Machine) (n : ℕ) (z : Standing) (entries : Inte
   pub asked : (oid : ℕ) → asks_for z.asked oid ≡ false → c.voted oid ≡ false
   pub each : EachHolds c.known (view_at m) entries
 
--- And so at a machine that may have failed: then just the view that it was told counts.
+-- And so at a machine that may have failed: then it was the one there just before, and the session isn't open any more.
 pub record MayBeServed (m : Machine) (n : ℕ) (z : Standing) (entries : Intervals) (c : Client) : Type 0 where
-  pub front : c.told.front < 2 ^ 64
-  pub switches : c.told.switches < 2 ^ 64
-  pub later : Later c.told (view_of (server_at m))
-  pub whole : m.failed ≡ false → IsServed m n z entries c
+  pub at : Machine
+  pub sound : IsSoundMachine at
+  pub served : IsServed at n z entries c
+  pub whole : m.failed ≡ false → at ≡ m
+  pub shut : m.failed ≡ true → is_open_in m.sessions n ≡ false
+  pub front : c.known.front < 2 ^ 64
+  pub switches : c.known.switches < 2 ^ 64
 
 -- ---- news
 

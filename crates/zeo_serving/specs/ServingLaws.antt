@@ -140,7 +140,7 @@ own_made m n rules request.Finish stamp plain unpacked = absurd (true≢false (s
 own_made m n rules request.Abort stamp plain unpacked = absurd (true≢false (sym plain))
 own_made m n rules request.Close stamp plain unpacked = absurd (true≢false (sym plain))
 
-own_early : (m : Machine) (n : ℕ) (early : Option Refusal) (made : Stepped) → IsOther m made.machine n → IsOther m (unless_early early m made).machine n
+pub own_early : (m : Machine) (n : ℕ) (early : Option Refusal) (made : Stepped) → IsOther m made.machine n → IsOther m (unless_early early m made).machine n
 own_early m n None made is = is
 own_early m n (Some r) made is = same m n
 

@@ -214,13 +214,51 @@ served_asked m now n objects sound is z asked entries c both x = record {
   each = λ oid e h. holds_on c.known m.list now.list (switches_of m.journal) (switches_of now.journal) oid e sound.database x.knows.later (becomes m now n is.moves) (x.each oid e h);
 }
 
-also_free : (stores : List PendingStore) (asked : MayChange) (oid : ℕ) → (asked.all || is_one_of (asked.oids ++ map (λ p. p.oid) stores) oid) ≡ false → ((asked.all || is_one_of asked.oids oid) ≡ false) × (stored_in stores oid ≡ false)
+pub also_free : (stores : List PendingStore) (asked : MayChange) (oid : ℕ) → (asked.all || is_one_of (asked.oids ++ map (λ p. p.oid) stores) oid) ≡ false → ((asked.all || is_one_of asked.oids oid) ≡ false) × (stored_in stores oid ≡ false)
 also_free stores asked oid free =
     let some : is_one_of (asked.oids ++ map (λ p. p.oid) stores) oid ≡ false = right_false asked.all (is_one_of (asked.oids ++ map (λ p. p.oid) stores) oid) free in
     let split : (is_one_of asked.oids oid || is_one_of (map (λ p. p.oid) stores) oid) ≡ false = sym (any_behind (λ o. oid == o) asked.oids (map (λ p. p.oid) stores)) ∙ some in (
       both_false asked.all (is_one_of asked.oids oid) (left_false asked.all (is_one_of (asked.oids ++ map (λ p. p.oid) stores) oid) free) (left_false (is_one_of asked.oids oid) (is_one_of (map (λ p. p.oid) stores) oid) split),
       sym (mapped_any (λ o. oid == o) stores) ∙ right_false (is_one_of asked.oids oid) (is_one_of (map (λ p. p.oid) stores) oid) split,
     )
+
+-- a client asks for a vote, before any step is made
+pub asks_more : (m : Machine) (n : ℕ) (objects : ℕ → Bool) → IsSoundMachine m → (z : Standing) (asked : MayChange) (entries : Intervals) (c : Client)
+    → ((oid : ℕ) → asks_for asked oid ≡ false → (asks_for z.asked oid ≡ false) × (objects oid ≡ false)) → IsServed m n z entries c → IsServed m n (record z { asked = asked }) entries (voting objects c)
+asks_more m n objects sound z asked entries c both x = served_asked m m n objects sound (asked_as m n objects m (same m n)) z asked entries c both x
+
+voted_twice : (m : Machine) (n : ℕ) (objects : ℕ → Bool) (z : Standing) (entries : Intervals) (c : Client) → IsServed m n z entries (voting objects (voting objects c)) → IsServed m n z entries (voting objects c)
+voted_twice m n objects z entries c x = record {
+  knows = x.knows;
+  front = x.front;
+  switches = x.switches;
+  told = x.told;
+  quiet = x.quiet;
+  votes = λ v t e s w oid h. twice (c.voted oid) (objects oid) (x.votes v t e s w oid h);
+  asked = λ oid free. left_false (c.voted oid || objects oid) (objects oid) (x.asked oid free);
+  each = x.each;
+}
+  where
+    twice : (a b : Bool) → ((a || b) || b) ≡ true → (a || b) ≡ true
+    twice true b e = refl
+    twice false true e = refl
+    twice false false e = e
+
+-- once it has asked for it, a vote keeps the client, however it ends; and so an undo
+pub vote_stays : (rules : Rules) (m : Machine) (n : ℕ) (user description extension : List ℕ) (pending : PendingChanges) (stamp : ℕ) (o : StepOutcome) → IsSoundMachine m → (z : Standing) (entries : Intervals) (c : Client)
+    → ((oid : ℕ) → asks_for z.asked oid ≡ false → stored_in pending.stores oid ≡ false) → IsServed m n z entries (voting (stored_in pending.stores) c)
+    → IsServed (machine_left rules m n (request.Vote user description extension pending) stamp o) n z entries (voting (stored_in pending.stores) c)
+vote_stays rules m n user description extension pending stamp o sound z entries c covers x =
+    voted_twice (machine_left rules m n (request.Vote user description extension pending) stamp o) n (stored_in pending.stores) z entries c
+    (served_asked m (machine_left rules m n (request.Vote user description extension pending) stamp o) n (stored_in pending.stores) sound (asked_vote m n rules user description extension pending stamp o)
+    z z.asked entries (voting (stored_in pending.stores) c) (λ oid free. (free, covers oid free)) x)
+
+pub undo_stays : (rules : Rules) (m : Machine) (n : ℕ) (user description tids : List ℕ) (stamp : ℕ) (o : StepOutcome) → IsSoundMachine m → (z : Standing) (entries : Intervals) (c : Client)
+    → z.asked.all ≡ true → IsServed m n z entries (voting each_object c) → IsServed (machine_left rules m n (request.Undo user description tids) stamp o) n z entries (voting each_object c)
+undo_stays rules m n user description tids stamp o sound z entries c all x =
+    voted_twice (machine_left rules m n (request.Undo user description tids) stamp o) n each_object z entries c
+    (served_asked m (machine_left rules m n (request.Undo user description tids) stamp o) n each_object sound (asked_undo m n rules user description tids stamp o)
+    z z.asked entries (voting each_object c) (λ oid free. absurd (true≢false (sym (left_true z.asked.all (is_one_of z.asked.oids oid) all) ∙ free))) x)
 
 pub votes_serve : VotesServe
 votes_serve rules m n user description extension pending stamp o sound z entries c x =

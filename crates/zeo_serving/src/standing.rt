@@ -15,7 +15,7 @@ pub struct MayChange {
 /// What a remote client was told, and what its vote may change.
 #[derive(Debug, Drop)]
 pub struct Standing {
-    /// The greatest front that it knows: each later transaction of another client it was told of.
+    /// The greatest front that it knows: it was told of every commit of others below it.
     pub known: Tid,
     /// How often the list had been packed at that front.
     pub switches: u64,
