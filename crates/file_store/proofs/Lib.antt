@@ -3,6 +3,7 @@ pub mod Copies
 pub mod Creating
 pub mod Leaves
 pub mod Opens
+pub mod Outlines
 pub mod Packs
 pub mod Placing
 pub mod Shown

@@ -17,6 +17,8 @@ use Rattle.fs_records.specs.Indexed.{places_of}
 use Rattle.fs_reading.specs.Main.{ArePlaces, AreStarts}
 use Rattle.pack_copy.specs.Copying.{CopyKept}
 use Rattle.file_store.specs.Kept.{IsCopyKept, IsKept, IsVotedIn, cut_of, length_by}
+use Rattle.fs_reading.specs.declared.outline.Outline.{Outline}
+use Rattle.file_store.specs.Outlined.{AreStartsOf, IsOutlinedIn}
 use Rattle.file_store.specs.declared.staged.Staged.{Staged}
 use Rattle.file_store.specs.KeptLaws.{kept_stands, list_read}
 use Rattle.fs_recovery.specs.Numbers.{NumbersKept}
@@ -25,15 +27,16 @@ use Rattle.file_store.specs.Staging.{StagedKept}
 -- ---- a call that only reads leaves what is kept
 
 -- what a store keeps of a log, unless it is broken
-pub record KeepsLog (T B : Type 0) (log : List Event) (index : StagedKept) (numbers : NumbersKept) (copy : Option CopyKept) : Type 0 where
+pub record KeepsLog (T B : Type 0) (log : List Event) (index : StagedKept) (numbers : NumbersKept) (copy : Option CopyKept) (outline : Option Outline) : Type 0 where
   pub settled : T → B → IsSettled log Main
   pub kept : T → B → IsKept (seen log Main) index numbers
   pub voted : T → B → ForSome index.staged (λ s. IsVotedIn (seen log Main) s index)
   pub copied : T → B → ForSome copy (λ c. IsCopyKept (seen log Side) c)
+  pub outlined : T → B → ForSome outline (λ o. IsOutlinedIn (seen log Main) o)
 
 -- is kept of a log that is the same
-pub still : (T B : Type 0) (old new : List Event) (index : StagedKept) (numbers : NumbersKept) (copy : Option CopyKept) → new ≡ old → KeepsLog T B old index numbers copy → KeepsLog T B new index numbers copy
-still T B old new index numbers copy same k = subst (λ (log : List Event). KeepsLog T B log index numbers copy) (sym same) k
+pub still : (T B : Type 0) (old new : List Event) (index : StagedKept) (numbers : NumbersKept) (copy : Option CopyKept) (outline : Option Outline) → new ≡ old → KeepsLog T B old index numbers copy outline → KeepsLog T B new index numbers copy outline
+still T B old new index numbers copy outline same k = subst (λ (log : List Event). KeepsLog T B log index numbers copy outline) (sym same) k
 
 -- ---- what is read is the list's
 
@@ -57,6 +60,9 @@ module _ (main : List ℕ) (index : StagedKept) (numbers : NumbersKept) (kept : 
 
   pub starts_are : (places : List Place) → places ≡ index.kept.transactions → AreStarts main places
   starts_are places is = record { reached = reached_in main; begins = begun; are = is ∙ kept.starts; short = omega (arith, kept.short) }
+
+  pub starts_of : (places : List Place) → places ≡ index.kept.transactions → AreStartsOf main places
+  starts_of places is = record { begins = begun; are = is ∙ kept.starts; list_is = list_is; short = omega (arith, kept.short) }
 
   -- what is read by the places of an object, for any answer that a list gives
   pub by_places : {A : Type 0} (answer : ℕ → List Transaction → A) (x : A) (oid : ℕ) (places : List Place) → places ≡ places_in index.kept.entries oid

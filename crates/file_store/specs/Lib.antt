@@ -6,6 +6,8 @@ pub mod Kept
 pub mod KeptLaws
 pub mod Opening
 pub mod Outcomes
+pub mod Outlined
+pub mod OutlinedLaws
 pub mod Packing
 pub mod Preparing
 pub mod Staging

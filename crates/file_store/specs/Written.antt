@@ -1,5 +1,5 @@
 -- What the calls of a store leave of its file, byte by byte. Source: the FileStorage format notes; own for the order in which a pack writes.
-use Rattle.std.specs.Prelude.{◌≡◌, ℕ, List, ◌++◌, take}
+use Rattle.std.specs.Prelude.{◌≡◌, List, ◌++◌, take}
 use Rattle.std.specs.Option.{ForSome}
 use Rattle.std.specs.Ordering.{nat_cmp}
 use Rattle.std.specs.FinSet.{FinSet}

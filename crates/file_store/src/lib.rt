@@ -3,6 +3,7 @@
 
 mod first;
 mod opening;
+mod outlined;
 mod packing;
 mod preparing;
 mod ready;

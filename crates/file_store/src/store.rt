@@ -22,8 +22,11 @@ ghost use Rattle.file_store.specs.KeptLaws.{copied_once, kept_once, voted_once};
 ghost use Rattle.file_store.specs.Outcomes.{AsksClock, IsOpenStore, IsRefusal};
 ghost use Rattle.file_store.specs.Written.{IsAbortWritten, IsFinishWritten, IsInFull};
 ghost use Rattle.file_store.specs.Written.{IsListPacked, IsVoteWritten, LeavesList, LeavesOneOfTwo};
+ghost use Rattle.file_store.specs.Outlined.{IsOutlinedIn};
+ghost use Rattle.file_store.specs.OutlinedLaws.{outlined_once};
 
 use crate::opening::{keep as keep_opened, open};
+use crate::outlined::{change_in, outline_of};
 use crate::packing::pack_file;
 use crate::preparing::{count_staged, prepare};
 use crate::ready::Ready;
@@ -33,14 +36,15 @@ use fs_append as append;
 use fs_index::last_of;
 use fs_index_file::write_hint;
 use fs_reading::{
-    read_before, read_first_after, read_history_at, read_transaction_with, read_undo_log_at,
+    Outline, first_tid_after, read_before, read_change, read_first_after, read_history_at,
+    read_transaction_with, read_undo_log_at, read_undo_log_before,
 };
 use fs_recovery::{Numbers, OpenError};
 use pack_copy::{CopyState, begin, copy_turn};
 use std::alloc::Global;
 use zb_ids::{ListOf, Oid, Tid};
 use zb_model::{
-    Copied, Found, LogLine, NewTransaction, OidSet, Packed, Revision, Store, StoreError,
+    Change, Copied, Found, LogLine, NewTransaction, OidSet, Packed, Revision, Store, StoreError,
     Transaction,
 };
 use zb_outside::Clock;
@@ -58,6 +62,9 @@ pub struct FileStore<V: Volume> {
     pub(crate) numbers: Numbers,
     /// What is known of the file on Side, where a pack is begun.
     pub(crate) copy: Option<CopyState>,
+    /// Where the changes stand of the transaction that was asked for one last, until a call changes
+    /// the volume.
+    pub(crate) outline: Option<Outline>,
     /// Whether a call is under way that changes the volume, or one has failed.
     pub(crate) broken: bool,
     ghost room: { ForSome index.staged (λ s. HasRoomForTally numbers (length s.records)) },
@@ -68,6 +75,8 @@ pub struct FileStore<V: Volume> {
         → ForSome index.staged (λ s. IsVotedIn (seen (V.state volume).log Main) s index) } by { voted_once V.told (broken ≡ false) (seen (V.state volume).log Main) index },
     ghost copied: { V.told → broken ≡ false
         → ForSome copy (λ c. IsCopyKept (seen (V.state volume).log Side) c) } by { copied_once V.told (broken ≡ false) (seen (V.state volume).log Side) copy },
+    ghost outlined: { V.told → broken ≡ false
+        → ForSome outline (λ o. IsOutlinedIn (seen (V.state volume).log Main) o) } by { outlined_once V.told (broken ≡ false) (seen (V.state volume).log Main) outline },
     ghost hint: { V.told → IsHinted (V.state volume).log broken index.end } by { hinted_once V.told (V.state volume).log broken index.end },
 }
 
@@ -113,6 +122,7 @@ impl<V: Volume + Drop> FileStore<V> {
                     index,
                     numbers,
                     copy: None,
+                    outline: None,
                     broken: false,
                 };
                 Ok((store, cut))
@@ -141,6 +151,7 @@ impl<V: Volume + Drop> FileStore<V> {
             (⟦<FileStore<V> as Store>⟧.state self.new) result }
     {
         let end = self.index.end();
+        self.outline = None;
         self.broken = true;
         match write_hint(
             alloc,
@@ -181,6 +192,7 @@ impl<V: Volume + Drop> FileStore<V> {
             index: _,
             numbers: _,
             copy: _,
+            outline: _,
             broken: _,
         } = self;
         volume
@@ -246,6 +258,10 @@ impl<V: Volume + Drop> Store for FileStore<V> {
         self.numbers.changes_to(tid)
     }
 
+    fn first_tid_after(&self, tid: Tid) -> Option<Tid> {
+        first_tid_after(self.index.starts(), tid)
+    }
+
     fn load_before(&mut self, alloc: Global, oid: Oid, front: Tid) -> Result<Found, StoreError> {
         let end = self.index.end();
         let found = read_before(alloc, &mut self.volume, self.index.places(oid), end, front)?;
@@ -262,6 +278,24 @@ impl<V: Volume + Drop> Store for FileStore<V> {
         Ok(found)
     }
 
+    fn change_at(
+        &mut self,
+        alloc: Global,
+        tid: Tid,
+        number: u64,
+    ) -> Result<Option<Change>, StoreError> {
+        let known = self.outline.take();
+        let starts = self.index.starts();
+        let outline = outline_of(alloc, &mut self.volume, starts, known, tid)?;
+        let change = change_in(&outline, number);
+        self.outline = outline;
+        let Some(change) = change else {
+            return Ok(None);
+        };
+        let read = read_change(alloc, &mut self.volume, change)?;
+        Ok(Some(read))
+    }
+
     fn history(&mut self, alloc: Global, oid: Oid) -> Result<ListOf<Revision>, StoreError> {
         let lines = read_history_at(alloc, &mut self.volume, self.index.places(oid))?;
         Ok(lines)
@@ -269,6 +303,17 @@ impl<V: Volume + Drop> Store for FileStore<V> {
 
     fn undo_log(&mut self, alloc: Global) -> Result<ListOf<LogLine>, StoreError> {
         let lines = read_undo_log_at(alloc, &mut self.volume, self.index.starts())?;
+        Ok(lines)
+    }
+
+    fn undo_log_before(
+        &mut self,
+        alloc: Global,
+        below: Tid,
+        count: u64,
+    ) -> Result<ListOf<LogLine>, StoreError> {
+        let starts = self.index.starts();
+        let lines = read_undo_log_before(alloc, &mut self.volume, starts, below, count)?;
         Ok(lines)
     }
 
@@ -300,6 +345,7 @@ impl<V: Volume + Drop> Store for FileStore<V> {
         ensures hint { V.told → StaysHonest (⟦<FileStore<V> as Store>⟧.state self.old).log
             (⟦<FileStore<V> as Store>⟧.state self.new).log }
     {
+        self.outline = None;
         let text = prepare(alloc, &mut self.index, &mut self.numbers, new)?;
         self.broken = true;
         match append::vote(&mut self.volume, self.index.end(), text.as_slice()) {
@@ -340,6 +386,7 @@ impl<V: Volume + Drop> Store for FileStore<V> {
         ensures hint { V.told → StaysHonest (⟦<FileStore<V> as Store>⟧.state self.old).log
             (⟦<FileStore<V> as Store>⟧.state self.new).log }
     {
+        self.outline = None;
         self.broken = true;
         append::finish(&mut self.volume, self.index.end())?;
         count_staged(&mut self.numbers, &self.index);
@@ -366,6 +413,7 @@ impl<V: Volume + Drop> Store for FileStore<V> {
         ensures hint { V.told → StaysHonest (⟦<FileStore<V> as Store>⟧.state self.old).log
             (⟦<FileStore<V> as Store>⟧.state self.new).log }
     {
+        self.outline = None;
         self.broken = true;
         append::abort(&mut self.volume, self.index.end())?;
         self.index.take_back();
@@ -392,6 +440,7 @@ impl<V: Volume + Drop> Store for FileStore<V> {
             (⟦<FileStore<V> as Store>⟧.state self.new).log }
     {
         self.copy = None;
+        self.outline = None;
         self.broken = true;
         match begin(alloc, &mut self.volume, tid) {
             Ok(copy) => self.copy = Some(copy),
@@ -427,6 +476,7 @@ impl<V: Volume + Drop> Store for FileStore<V> {
         let Some(mut copy) = self.copy.take() else {
             return Err(StoreError::Memory);
         };
+        self.outline = None;
         self.broken = true;
         match copy_turn(alloc, &mut self.volume, self.index.index(), &mut copy, keep) {
             Ok(copied) => {
@@ -474,6 +524,7 @@ impl<V: Volume + Drop> Store for FileStore<V> {
         let Some(copy) = self.copy.take() else {
             return Err(StoreError::Memory);
         };
+        self.outline = None;
         self.broken = true;
         let volume = &mut self.volume;
         match pack_file(alloc, volume, &self.index, &self.numbers, copy, keep) {

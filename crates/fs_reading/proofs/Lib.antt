@@ -1,4 +1,5 @@
 pub mod Notes
+pub mod Below
 pub mod Between
 pub mod Chains
 pub mod Lines

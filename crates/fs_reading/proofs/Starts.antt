@@ -7,7 +7,7 @@ use Rattle.std.proofs.lemmas.Bool.{leb-true, leb-false, eq-eqb, ne_eqb, lt-leb}
 use Rattle.std.proofs.lemmas.List.Folds.{find_at}
 use Rattle.std.proofs.lemmas.List.Elements.{All-head, All-tail, All-weaker}
 use Rattle.zb_model.specs.declared.data.Transaction.{Transaction}
-use Rattle.zb_model.specs.Queries.{transaction_at, first_after}
+use Rattle.zb_model.specs.Queries.{transaction_at, first_after, first_tid_after}
 use Rattle.fs_index.specs.declared.place.Place.{Place}
 use Rattle.fs_records.specs.Blocks.{Reached, Begins}
 use Rattle.fs_index.specs.Places.{IsBefore, IsRising}
@@ -164,3 +164,13 @@ none_above_all bytes s tid begins high =
     let below : s.newest < 2 ^ 64 - 1 = omega (arith, reading.is.bounded, reading.newest) in
     let most : All (λ (p : Place). p.serial ≤ tid) s.starts = All-weaker (IsBefore s.newest s.end) (λ (p : Place). p.serial ≤ tid) (λ p b. let least : p.serial ≤ s.newest = b.0 in omega arith) s.starts (are_before_end bytes s begins).starts in
     sym (none_by (above tid) s.starts s.list reading.starts (none_above tid s.starts most))
+
+-- the tid of the first above a number, by the serials
+pub tid_above : (bytes : List ℕ) (s : Reached) (tid : ℕ) (starts : List Place) (r : Option ℕ) → Begins bytes s → starts ≡ s.starts → r ≡ option_map (λ (p : Place). p.serial) (first_from (tid + 1) starts) → r ≡ first_tid_after tid s.list
+tid_above bytes s tid starts r begins are found =
+    let q : ℕ → Bool = above tid in
+    found ∙ ap (λ (ps : List Place). option_map (λ (p : Place). p.serial) (first_from (tid + 1) ps)) are ∙ ap (option_map (λ (p : Place). p.serial)) (first_above tid s.starts)
+    ∙ sym (find-map (λ (p : Place). p.serial) q s.starts) ∙ ap (find q) (reading_of bytes s begins).starts ∙ find-map (λ (t : Transaction). t.tid) q s.list
+
+pub no_tid_above : (bytes : List ℕ) (s : Reached) (tid : ℕ) → Begins bytes s → 2 ^ 64 ≤ tid + 1 → None ≡ first_tid_after tid s.list
+no_tid_above bytes s tid begins high = ap (option_map (λ (t : Transaction). t.tid)) (none_above_all bytes s tid begins high)

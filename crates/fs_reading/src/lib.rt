@@ -19,7 +19,10 @@ mod undo_log;
 
 pub use errors::ReadError;
 pub use history::read_history_at;
-pub use lookups::{read_before, read_first_after, read_transaction_with};
+pub use lookups::{
+    first_tid_after, read_before, read_first_after, read_outline_with, read_transaction_with,
+};
 pub use outline::{Outline, OutlinedChange, Source};
 pub use outlining::read_outline_at;
-pub use undo_log::read_undo_log_at;
+pub use transaction::read_change;
+pub use undo_log::{read_undo_log_at, read_undo_log_before};

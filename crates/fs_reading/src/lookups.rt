@@ -1,18 +1,21 @@
 //! Look-ups of an object and of a transaction by the places where they stand.
 
-ghost use Rattle.std.specs.Prelude.{◌≡◌, ℕ, ◌≤◌, length, IfOk};
+ghost use Rattle.std.specs.Prelude.{◌≡◌, ℕ, ◌≤◌, List, length, IfOk, IfSome};
 ghost use Rattle.std.specs.Option.{option_map};
-ghost use Rattle.zb_model.specs.Queries.{first_after, found_as, found_below, transaction_at};
+ghost use Rattle.zb_model.specs.Queries.{first_after, first_tid_after, found_as, found_below, transaction_at};
 ghost use Rattle.fs_records.specs.Blocks.{Reached, Begins};
 ghost use Rattle.fs_index.specs.Places.{IsRising};
 ghost use Rattle.fs_records.specs.Indexed.{places_of};
 ghost use Rattle.fs_index.specs.Found.{first_from};
 ghost use Rattle.fs_reading.specs.Main.{ArePlaces, AreStarts};
+ghost use Rattle.fs_reading.specs.Outlines.{AllStandWithin, outlined_transaction};
 ghost use Rattle.zb_volume.specs.Disk.{main_bytes};
 ghost use Rattle.fs_reading.specs.Reads.{OnlyReadsMain};
 
 use crate::contents::read_content_before;
 use crate::errors::ReadError;
+use crate::outline::Outline;
+use crate::outlining::read_outline_at;
 use crate::transaction::read_transaction_at;
 use fs_index::{Place, first_from, last_before};
 use std::alloc::Global;
@@ -122,4 +125,48 @@ pub fn read_first_after<V: Volume>(
         return Ok(None);
     };
     Ok(Some(read_transaction_at(alloc, volume, start)?))
+}
+
+/// The outline of the transaction with this tid, or `None` where there is none, by the places of the
+/// transactions in what was read of the file, in the order in which they stand. No byte of a content
+/// is read; memory is that of the outline. It is `ReadFault` only where a read failed, and else
+/// `Memory`. The volume is as it was.
+pub fn read_outline_with<V: Volume>(
+    alloc: Global,
+    volume: &mut V,
+    starts: &[Place],
+    tid: Tid,
+) -> Result<Option<Outline>, ReadError>
+    requires starts { V.told → AreStarts (main_bytes (V.state volume.old).log) starts.now }
+    requires rising { IsRising starts.now }
+    ensures found { V.told → (reached : Reached)
+        → Begins (main_bytes (V.state volume.old).log) reached
+        → starts.now ≡ reached.starts
+        → IfOk result (λ found.
+        option_map (outlined_transaction (main_bytes (V.state volume.old).log)) found
+        ≡ transaction_at tid reached.list) }
+    ensures within { V.told → IfOk result (λ found. IfSome found (λ outline.
+        AllStandWithin (main_bytes (V.state volume.old).log) outline.changes)) }
+    ensures read { OnlyReadsMain (V.state volume.old) (V.state volume.new) result }
+{
+    let Some(start) = first_from(starts, tid) else {
+        return Ok(None);
+    };
+    if start.serial != tid {
+        return Ok(None);
+    }
+    Ok(Some(read_outline_at(alloc, volume, start)?))
+}
+
+/// The tid of the first transaction above this one, or `None` where there is none, by the places of the
+/// transactions in what was read of a file, in the order in which they stand.
+pub fn first_tid_after(starts: &[Place], tid: Tid) -> Option<Tid>
+    requires { IsRising starts.now }
+    ensures { (bytes : List ℕ) (reached : Reached) → Begins bytes reached
+        → starts.now ≡ reached.starts → result ≡ first_tid_after tid reached.list }
+{
+    let Some(next) = tid.0.checked_add(1) else {
+        return None;
+    };
+    serial_from(starts, Tid(next))
 }

@@ -6,7 +6,7 @@ ghost use Rattle.fs_records.specs.Blocks.{Reached, Begins};
 ghost use Rattle.fs_reading.specs.Main.{IsStart, IsStartOf};
 ghost use Rattle.fs_reading.specs.ChangesStand.{ChangesStand};
 ghost use Rattle.fs_reading.specs.Formed.{AreFormed, IsFormed};
-ghost use Rattle.fs_reading.specs.Outlines.{AllStandWithin, AreOutlined, outlined_change};
+ghost use Rattle.fs_reading.specs.Outlines.{AllStandWithin, AreOutlined, StandsWithin, outlined_change};
 ghost use Rattle.fs_reading.specs.Standing.{TransactionStands};
 ghost use Rattle.zb_volume.specs.Disk.{main_bytes};
 ghost use Rattle.fs_reading.specs.Reads.{OnlyReadsMain};
@@ -20,6 +20,26 @@ use std::alloc::Global;
 use zb_ids::ListOf;
 use zb_model::{Change, Transaction};
 use zb_volume::Volume;
+
+/// The change that is outlined, with the content that stands in Main. It is `ReadFault` only where a
+/// read failed, and else `Memory`. The volume is as it was.
+pub fn read_change<V: Volume>(
+    alloc: Global,
+    volume: &mut V,
+    change: OutlinedChange,
+) -> Result<Change, ReadError>
+    requires short { V.told → length (main_bytes (V.state volume.old).log) < 2 ^ 64 }
+    requires within { V.told → StandsWithin (main_bytes (V.state volume.old).log) change.source }
+    ensures value { V.told → IfOk result (λ read.
+        read ≡ outlined_change (main_bytes (V.state volume.old).log) change) }
+    ensures read { OnlyReadsMain (V.state volume.old) (V.state volume.new) result }
+{
+    let content = content_from(alloc, volume, change.source)?;
+    Ok(Change {
+        oid: change.oid,
+        content,
+    })
+}
 
 /// Some changes, with the contents that stand in Main. Its errors are a read that failed, and want of
 /// memory.

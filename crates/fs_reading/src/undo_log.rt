@@ -1,9 +1,10 @@
 //! The list of the transactions that may be undone.
 
-ghost use Rattle.std.specs.Prelude.{◌≡◌, ◌<◌, ◌^◌, length, reverse, IfOk};
+ghost use Rattle.std.specs.Prelude.{◌≡◌, ◌<◌, ◌^◌, length, reverse, take, IfOk};
 ghost use Rattle.std.specs.List.{AllByRecursion, filter_map};
-ghost use Rattle.zb_model.specs.Lists.{undo_log_of};
+ghost use Rattle.zb_model.specs.Lists.{undo_log_before, undo_log_of};
 ghost use Rattle.fs_records.specs.Blocks.{Reached, Begins};
+ghost use Rattle.fs_index.specs.Places.{IsRising};
 ghost use Rattle.fs_reading.specs.Main.{AreStarts};
 ghost use Rattle.fs_reading.specs.Standing.{log_line_at, HasTexts};
 ghost use Rattle.zb_volume.specs.Disk.{main_bytes};
@@ -11,10 +12,10 @@ ghost use Rattle.fs_reading.specs.Reads.{OnlyReadsMain};
 
 use crate::errors::ReadError;
 use crate::pieces::{header_at, keep, user_and_description};
-use fs_index::Place;
+use fs_index::{Place, count_below};
 use fs_records::PACKED;
 use std::alloc::Global;
-use zb_ids::ListOf;
+use zb_ids::{ListOf, Tid};
 use zb_model::LogLine;
 use zb_volume::Volume;
 
@@ -83,4 +84,57 @@ pub fn read_undo_log_at<V: Volume>(
     ensures read { OnlyReadsMain (V.state volume.old) (V.state volume.new) result }
 {
     lines_at(alloc, volume, places)
+}
+
+#[tactic(auto, using(crate::proofs::Below::all_lines, crate::proofs::Below::enough_lines))]
+/// No more than so many lines of the transactions at these places, the last one first. It reads no
+/// transaction behind the last line.
+fn lines_before<V: Volume>(
+    alloc: Global,
+    volume: &mut V,
+    places: &[Place],
+    count: u64,
+) -> Result<ListOf<LogLine>, ReadError>
+    requires short { V.told → length (main_bytes (V.state volume.old).log) < 2 ^ 64 }
+    requires texts { V.told
+        → AllByRecursion (λ p. HasTexts (main_bytes (V.state volume.old).log) p.at) places.now }
+    ensures lines { V.told → IfOk result (λ lines.
+        lines ≡ take count (reverse (filter_map
+        (log_line_at (main_bytes (V.state volume.old).log)) places.now))) }
+    ensures read { OnlyReadsMain (V.state volume.old) (V.state volume.new) result }
+{
+    let mut lines = ListOf::new(alloc);
+    let mut left = places.len();
+    while left > 0 {
+        if lines.len() as u64 >= count {
+            return Ok(lines);
+        }
+        left -= 1;
+        let line = line_at(alloc, volume, places[left])?;
+        keep(&mut lines, line)?;
+    }
+    Ok(lines)
+}
+
+/// The newest lines of the list of the transactions below a tid that no pack has gone over, no more
+/// than so many, by the places of the transactions as in `read_undo_log_at`. It reads the headers
+/// and the two texts of these lines alone, and the headers of packed transactions between them;
+/// memory is that of the lines. It is `ReadFault` only where a read failed, and else `Memory`. The
+/// volume is as it was.
+pub fn read_undo_log_before<V: Volume>(
+    alloc: Global,
+    volume: &mut V,
+    places: &[Place],
+    below: Tid,
+    count: u64,
+) -> Result<ListOf<LogLine>, ReadError>
+    requires starts { V.told → AreStarts (main_bytes (V.state volume.old).log) places.now }
+    requires rising { IsRising places.now }
+    ensures lines { V.told → (reached : Reached)
+        → Begins (main_bytes (V.state volume.old).log) reached → places.now ≡ reached.starts
+        → IfOk result (λ lines. lines ≡ undo_log_before below count reached.list) }
+    ensures read { OnlyReadsMain (V.state volume.old) (V.state volume.new) result }
+{
+    let (before, _) = places.split_at(count_below(places, below));
+    lines_before(alloc, volume, before, count)
 }

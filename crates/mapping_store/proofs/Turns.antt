@@ -1,11 +1,8 @@
 -- What a turn of copying makes of a packed list.
-use Rattle.std.proofs.Common.{◌≡◌, ℕ, zero, suc, ◌+◌, ◌-◌, ◌<◌, ◌≤◌, ◌^◌, Bool, true, false, eqb, List, [], ◌∷◌, ◌++◌, length, take, drop, refl, sym, ap, subst, ◌∙◌, arith, take_all, length-drop, length-take}
+use Rattle.std.proofs.Common.{◌≡◌, ℕ, zero, suc, ◌+◌, ◌-◌, ◌<◌, ◌≤◌, ◌^◌, Bool, true, false, eqb, List, [], ◌∷◌, ◌++◌, length, take, drop, refl, sym, ap, ◌∙◌, arith, take_all, length-drop, length-take}
 use Rattle.std.proofs.lemmas.Bool.{eqb-true, eqb-false}
 use Rattle.std.proofs.lemmas.List.Sums.{sum_by-cons}
-use Rattle.std.specs.Ordering.{nat_cmp}
-use Rattle.std.specs.FinSet.{FinSet}
 use Rattle.zb_model.specs.declared.data.Transaction.{Transaction}
-use Rattle.zb_model.specs.declared.packs.Copied.{Copied}
 use Rattle.zb_model.specs.Packs.{IsAllCopied, IsCopyTurn, IsPrefixOf, change_count, turn_from}
 use Rattle.mapping_store.proofs.Counts.{count_in}
 

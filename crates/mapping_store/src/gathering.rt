@@ -1,10 +1,10 @@
 //! Lists that are gathered from a plain list of transactions.
 
 ghost use Rattle.std.specs.Prelude.{◌≡◌, IfOk};
-ghost use Rattle.zb_model.specs.Lists.{history_line, history_of, log_line, size_of, undo_log_of};
+ghost use Rattle.zb_model.specs.Lists.{history_line, history_of, log_line, size_of, undo_log_before, undo_log_of};
 
 use std::alloc::{AllocError, Global};
-use zb_ids::Oid;
+use zb_ids::{Oid, Tid};
 use zb_model::{Content, LogLine, Revision, Transaction, change_of};
 
 /// How many bytes a content has, if it has any.
@@ -75,5 +75,26 @@ pub(crate) fn gather_undo_log(
         }
     }
     lines.reverse();
+    Ok(lines)
+}
+
+/// No more than so many lines of the undo list, the newest first, of the transactions below a tid. The
+/// one error is want of memory.
+pub(crate) fn gather_undo_log_before(
+    alloc: Global,
+    list: &[Transaction],
+    below: Tid,
+    count: u64,
+) -> Result<Vec<LogLine>, AllocError>
+    ensures { IfOk result (λ lines. lines.items ≡ undo_log_before below count list.now) }
+{
+    let mut lines = Vec::new(alloc);
+    for transaction in list {
+        if transaction.tid < below && !transaction.packed {
+            lines.push(line_of(transaction)?)?;
+        }
+    }
+    lines.reverse();
+    lines.truncate(count as usize);
     Ok(lines)
 }

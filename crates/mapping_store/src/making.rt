@@ -1,7 +1,7 @@
 //! The values that a store hands out or takes in, made from a plain list of transactions.
 
-ghost use Rattle.std.specs.Prelude.{◌≡◌, IfOk, map};
-ghost use Rattle.std.specs.Option.{option_copied};
+ghost use Rattle.std.specs.Prelude.{◌≡◌, IfOk, map, slice_get};
+ghost use Rattle.std.specs.Option.{option_and_then, option_copied};
 ghost use Rattle.zb_model.specs.Queries.{found_as, found_below};
 ghost use Rattle.zb_model.specs.Voting.{voted_change, voted_content, voted_of};
 
@@ -44,6 +44,23 @@ pub(crate) fn copy_of(transaction: Option<&Transaction>) -> Result<Option<Transa
 {
     match transaction {
         Some(transaction) => Ok(Some(transaction.clone()?)),
+        None => Ok(None),
+    }
+}
+
+/// A copy of the change at a place of a transaction, if there is one. The one error is want of memory.
+pub(crate) fn copy_of_change(
+    transaction: Option<&Transaction>,
+    number: u64,
+) -> Result<Option<Change>, AllocError>
+    ensures { IfOk result (λ copy. copy
+        ≡ option_and_then (λ t. slice_get t.changes number) (option_copied transaction.entry)) }
+{
+    let Some(transaction) = transaction else {
+        return Ok(None);
+    };
+    match transaction.changes.as_slice().get(number as usize) {
+        Some(change) => Ok(Some(change.clone()?)),
         None => Ok(None),
     }
 }

@@ -6,14 +6,14 @@ ghost use Rattle.std.specs.Option.{ForSome};
 ghost use Rattle.zb_model.specs.Database.{IsDatabase};
 ghost use Rattle.zb_model.specs.DatabaseLaws.{ForSome-IsDatabase-prop, IsDatabase-prop};
 
-use crate::gathering::{gather_history, gather_undo_log};
-use crate::making::{copy_of, find_below, make_voted};
+use crate::gathering::{gather_history, gather_undo_log, gather_undo_log_before};
+use crate::making::{copy_of, copy_of_change, find_below, make_voted};
 use crate::packing::{copied_length, count_changes, pack_list};
 use crate::walks::{count_to, first_above, greatest_oid_of, pack_point_of, transaction_with};
 use std::alloc::{AllocError, Global};
 use zb_ids::{ListOf, Oid, Tid};
 use zb_model::{
-    Copied, Found, LogLine, NewTransaction, OidSet, Packed, Revision, Store, StoreError,
+    Change, Copied, Found, LogLine, NewTransaction, OidSet, Packed, Revision, Store, StoreError,
     Transaction, newest_of, serial_in,
 };
 use zb_volume::StoreFault;
@@ -118,6 +118,13 @@ impl Store for MappingStore {
         count_to(self.items.as_slice(), tid)
     }
 
+    fn first_tid_after(&self, tid: Tid) -> Option<Tid> {
+        match first_above(self.items.as_slice(), tid) {
+            Some(transaction) => Some(transaction.tid),
+            None => None,
+        }
+    }
+
     fn load_before(&mut self, _alloc: Global, oid: Oid, front: Tid) -> Result<Found, StoreError> {
         let found = find_below(self.items.as_slice(), oid, front)?;
         Ok(found)
@@ -133,6 +140,16 @@ impl Store for MappingStore {
         Ok(found)
     }
 
+    fn change_at(
+        &mut self,
+        _alloc: Global,
+        tid: Tid,
+        number: u64,
+    ) -> Result<Option<Change>, StoreError> {
+        let found = copy_of_change(transaction_with(self.items.as_slice(), tid), number)?;
+        Ok(found)
+    }
+
     fn history(&mut self, alloc: Global, oid: Oid) -> Result<ListOf<Revision>, StoreError> {
         let lines = gather_history(alloc, self.items.as_slice(), oid)?;
         Ok(ListOf::from_vec(lines))
@@ -140,6 +157,16 @@ impl Store for MappingStore {
 
     fn undo_log(&mut self, alloc: Global) -> Result<ListOf<LogLine>, StoreError> {
         let lines = gather_undo_log(alloc, self.items.as_slice())?;
+        Ok(ListOf::from_vec(lines))
+    }
+
+    fn undo_log_before(
+        &mut self,
+        alloc: Global,
+        below: Tid,
+        count: u64,
+    ) -> Result<ListOf<LogLine>, StoreError> {
+        let lines = gather_undo_log_before(alloc, self.items.as_slice(), below, count)?;
         Ok(ListOf::from_vec(lines))
     }
 

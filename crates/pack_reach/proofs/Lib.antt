@@ -5,5 +5,6 @@ pub mod Growing
 pub mod Later
 pub mod Least
 pub mod Overtaking
+pub mod Reading
 pub mod Seeing
 pub mod Taking

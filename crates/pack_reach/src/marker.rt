@@ -7,7 +7,7 @@ ghost use Rattle.std.specs.FinSet as set;
 ghost use Rattle.zb_model.specs.declared.data.Transaction.{Transaction};
 ghost use Rattle.zb_model.specs.declared.data.Content.TheVariants as content;
 ghost use Rattle.zb_model.specs.Database.{newest_tid};
-ghost use Rattle.zb_model.specs.Queries.{first_after};
+ghost use Rattle.zb_model.specs.Queries.{first_after, transaction_at};
 ghost use Rattle.zb_model.specs.SerialLaws.{RisesTo};
 ghost use Rattle.zb_model.specs.Stores.{IsOnlyRead};
 ghost use Rattle.pack_reach.specs.Marking.{FollowsOne, HasGrown, IsChangeRead, IsComplete, IsFoundRead, IsLeastFollowed};
@@ -24,7 +24,7 @@ use std::alloc::{AllocError, Global};
 use std::collections::VecDeque;
 use std::marker::Model;
 use zb_ids::{Oid, Tid};
-use zb_model::{Change, Content, Found, OidSet, Refs, RefsError, Store, StoreError, Transaction};
+use zb_model::{Change, Content, Found, OidSet, Refs, RefsError, Store, StoreError};
 
 /// How far the marks of a pack have come.
 #[derive(Clone, Copy, Debug, PartialEq, Eq)]
@@ -230,21 +230,32 @@ impl Marker {
         }
     }
 
-    /// Reads the changes of a transaction. The one error is want of memory.
-    fn read_transaction<F: Refs>(
+    /// Reads the changes of the transaction with this tid, one at a time, so that it may be larger
+    /// than memory.
+    fn read_transaction<St: Store, F: Refs>(
         &mut self,
         alloc: Global,
+        store: &mut St,
         refs: &F,
-        transaction: &Transaction,
-    ) -> Result<(), AllocError>
+        tid: Tid,
+    ) -> Result<(), StoreError>
+        requires whole { (St.state store.old).broken ≡ false }
         ensures only { OnlyMarks self.old self.new }
-        ensures sound { (list : List Transaction)
-            → MayReadTransaction (F.named refs.now) self.old.tid list transaction.now
+        ensures sound { St.told → (list : List Transaction) (x : Transaction)
+            → transaction_at tid (St.state store.old).list ≡ Some x
+            → MayReadTransaction (F.named refs.now) self.old.tid list x
             → IsSound (F.named refs.now) list self.old self.new }
-        ensures read { OnOk result (IsTransactionRead (F.named refs.now) self.new transaction.now) }
+        ensures read { St.told → OnOk result ((x : Transaction)
+            → transaction_at tid (St.state store.old).list ≡ Some x
+            → IsTransactionRead (F.named refs.now) self.new x) }
+        ensures store { IsOnlyRead (St.state store.old) (St.state store.new) result }
     {
-        for change in transaction.changes.as_slice() {
-            self.read_change(alloc, refs, transaction.tid, change)?;
+        let count = store.changes_to(tid);
+        for number in 0..count {
+            let Some(change) = store.change_at(alloc, tid, number)? else {
+                return Ok(());
+            };
+            self.read_change(alloc, refs, tid, &change)?;
         }
         Ok(())
     }
@@ -267,11 +278,11 @@ impl Marker {
         ensures counted { self.new.counted ≡ self.old.counted }
         ensures read { IsOnlyRead (St.state store.old) (St.state store.new) result }
     {
-        let Some(transaction) = store.after(alloc, self.seen)? else {
+        let Some(tid) = store.first_tid_after(self.seen) else {
             return Ok(false);
         };
-        self.read_transaction(alloc, refs, &transaction)?;
-        self.seen = transaction.tid;
+        self.read_transaction(alloc, store, refs, tid)?;
+        self.seen = tid;
         Ok(true)
     }
 

@@ -1,8 +1,9 @@
 //! The marks of a pack that keeps every object.
 
-ghost use Rattle.std.specs.Prelude.{◌≡◌, ◌<◌, ◌^◌, ℕ, List, Option, None, false, IfOk, IfErr, OnOk};
+ghost use Rattle.std.specs.Prelude.{◌≡◌, ◌<◌, ◌^◌, ℕ, List, Option, Some, None, false, IfOk, IfErr, OnOk};
 ghost use Rattle.std.specs.FinSet as set;
-ghost use Rattle.zb_model.specs.Queries.{first_after};
+ghost use Rattle.zb_model.specs.declared.data.Transaction.{Transaction};
+ghost use Rattle.zb_model.specs.Queries.{first_after, transaction_at};
 ghost use Rattle.zb_model.specs.Stores.{IsOnlyRead};
 ghost use Rattle.pack_reach.specs.Outcomes.{IsOfStore, ReadsToMark};
 ghost use Rattle.pack_reach.specs.Packed.{kept};
@@ -10,10 +11,10 @@ ghost use Rattle.pack_reach.specs.Uncollected.{AreTaken, with_changes};
 
 use crate::marker::Marker;
 use crate::refusal::PackRefusal;
-use std::alloc::{AllocError, Global};
+use std::alloc::Global;
 use std::collections::VecDeque;
 use zb_ids::Tid;
-use zb_model::{OidSet, Store, StoreError, Transaction};
+use zb_model::{OidSet, Store, StoreError};
 
 impl Marker {
     /// The marks of a pack up to a tid that doesn't collect: all objects of the list of a store are marked,
@@ -46,11 +47,25 @@ impl Marker {
     }
 }
 
-/// Takes the objects that a transaction changes. The one error is want of memory.
-fn take_objects(marks: &mut OidSet, transaction: &Transaction) -> Result<(), AllocError>
-    ensures { OnOk result (marks.new ≡ with_changes marks.old transaction.now.changes) }
+/// Takes the objects that the transaction with this tid changes, one at a time, so that it may be
+/// larger than memory.
+fn take_objects<St: Store>(
+    alloc: Global,
+    store: &mut St,
+    marks: &mut OidSet,
+    tid: Tid,
+) -> Result<(), StoreError>
+    requires whole { (St.state store.old).broken ≡ false }
+    ensures taken { St.told → OnOk result ((x : Transaction)
+        → transaction_at tid (St.state store.old).list ≡ Some x
+        → marks.new ≡ with_changes marks.old x.changes) }
+    ensures read { IsOnlyRead (St.state store.old) (St.state store.new) result }
 {
-    for change in transaction.changes.as_slice() {
+    let count = store.changes_to(tid);
+    for number in 0..count {
+        let Some(change) = store.change_at(alloc, tid, number)? else {
+            return Ok(());
+        };
         marks.insert(change.oid)?;
     }
     Ok(())
@@ -70,11 +85,11 @@ fn take_list<St: Store>(
 {
     let mut seen = Tid(0);
     for _i in 0..u64::MAX {
-        let Some(transaction) = store.after(alloc, seen)? else {
+        let Some(tid) = store.first_tid_after(seen) else {
             return Ok(seen);
         };
-        take_objects(marks, &transaction)?;
-        seen = transaction.tid;
+        take_objects(alloc, store, marks, tid)?;
+        seen = tid;
     }
     Ok(seen)
 }

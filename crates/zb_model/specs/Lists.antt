@@ -1,5 +1,5 @@
 -- The lists that a database answers. Source: `history` and `undoLog` of the storage interfaces of ZODB.
-use Rattle.std.specs.Prelude.{ℕ, List, Option, Some, None, Bool, not, length, filter, map, reverse}
+use Rattle.std.specs.Prelude.{ℕ, List, Option, Some, None, Bool, not, length, filter, map, nat_lt, reverse, take}
 use Rattle.std.specs.List.{filter_map}
 use Rattle.std.specs.Option.{option_map}
 use Rattle.zb_model.specs.declared.data.Content.{Content}
@@ -34,3 +34,10 @@ is_unpacked t = not t.packed
 -- every transaction that no pack has gone over, the newest first
 abbrev pub undo_log_of : List Transaction → List LogLine
 undo_log_of list = reverse (map log_line (filter is_unpacked list))
+
+abbrev pub is_before : ℕ → Transaction → Bool
+is_before below t = nat_lt t.tid below
+
+-- the newest lines of the undo list of what stands below a tid, no more than so many
+abbrev pub undo_log_before : ℕ → ℕ → List Transaction → List LogLine
+undo_log_before below count list = take count (undo_log_of (filter (is_before below) list))

@@ -1,8 +1,8 @@
 -- A packed list is a database with no more changes than the list, for the proofs of those who keep stores.
-use Rattle.std.proofs.Common.{◌≡◌, ℕ, zero, suc, ◌+◌, ◌<◌, ◌≤◌, ◌⊎◌, ⊎_elim, Bool, true, false, eqb, List, [], ◌∷◌, length, get_or, map, filter, add-one, Option, Some, None, sym, arith}
+use Rattle.std.proofs.Common.{◌≡◌, ℕ, zero, suc, ◌+◌, ◌<◌, ◌≤◌, ⊎_elim, Bool, true, false, List, [], ◌∷◌, length, get_or, map, filter, add-one, arith}
 use native.Mathlib.Numerals.{unary_clauses}
 use Rattle.std.specs.Prelude.{All, nat_eq}
-use Rattle.std.specs.List.{AllByRecursion, IsDistinct, cons_option, filter_map, sum_by}
+use Rattle.std.specs.List.{AllByRecursion, IsDistinct, cons_option, filter_map}
 use Rattle.std.specs.List.Sorted.{IsStrictlyIncreasing}
 use Rattle.std.specs.Ordering.{nat_cmp}
 use Rattle.std.specs.FinSet.{FinSet}

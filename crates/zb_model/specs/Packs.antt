@@ -1,14 +1,13 @@
 -- What the calls of a pack do to a store. Source: `pack` of ZODB's FileStorage; copying in turns is own.
-use Rattle.std.specs.Prelude.{◌≡◌, ℕ, ◌+◌, ◌⊎◌, List, [], ◌∷◌, ◌++◌, Bool, true, false, Some, length, nat_le, if◌then◌else◌}
+use Rattle.std.specs.Prelude.{◌≡◌, ℕ, ◌+◌, ◌⊎◌, List, [], ◌∷◌, ◌++◌, Bool, true, false, length, nat_le, if◌then◌else◌}
 use Rattle.std.specs.List.{sum_by}
-use Rattle.std.specs.Option.{ForSome}
 use Rattle.std.specs.Ordering.{nat_cmp}
 use Rattle.std.specs.FinSet.{FinSet}
 use Rattle.zb_model.specs.declared.data.Transaction.{Transaction}
 use Rattle.zb_model.specs.declared.packs.Copied.{Copied}
 use Rattle.zb_model.specs.declared.packs.Packed.{Packed}
 use Rattle.zb_model.specs.Packing.{packed_by}
-use Rattle.zb_model.specs.Stores.{BegunPack, StoreState}
+use Rattle.zb_model.specs.Stores.{BegunPack}
 
 -- how many changes these transactions have
 abbrev pub change_count : List Transaction → ℕ

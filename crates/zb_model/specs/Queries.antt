@@ -1,8 +1,9 @@
 -- What a store answers of its list. Source: the storage interfaces of ZODB (`loadBefore`, `lastTransaction`); the counts
 -- are own.
-use Rattle.std.specs.Prelude.{ℕ, List, [], ◌∷◌, Option, Some, None, Bool, ◌==◌, nat_lt, nat_le, max, length, filter, map}
+use Rattle.std.specs.Prelude.{ℕ, List, [], ◌∷◌, Option, Some, None, Bool, ◌==◌, nat_lt, nat_le, max, length, filter, map, slice_get}
 use Rattle.std.specs.List.{find, flat_map, sum_by}
-use Rattle.std.specs.Option.{option_map}
+use Rattle.std.specs.Option.{option_and_then, option_map}
+use Rattle.zb_model.specs.declared.data.Change.{Change}
 use Rattle.zb_model.specs.declared.data.Content.{Content}
 use Rattle.zb_model.specs.declared.data.Content.TheVariants as content
 use Rattle.zb_model.specs.declared.data.Transaction.{Transaction}
@@ -44,12 +45,20 @@ has_tid tid t = t.tid == tid
 abbrev pub transaction_at : ℕ → List Transaction → Option Transaction
 transaction_at tid list = find (has_tid tid) list
 
+-- the change at a place, counted from 0, of the transaction with this tid
+abbrev pub change_at : ℕ → ℕ → List Transaction → Option Change
+change_at tid number list = option_and_then (λ t. slice_get t.changes number) (transaction_at tid list)
+
 abbrev pub is_above : ℕ → Transaction → Bool
 is_above tid t = nat_lt tid t.tid
 
 -- the first transaction above a tid
 abbrev pub first_after : ℕ → List Transaction → Option Transaction
 first_after tid list = find (is_above tid) list
+
+-- and its own tid
+abbrev pub first_tid_after : ℕ → List Transaction → Option ℕ
+first_tid_after tid list = option_map (λ t. t.tid) (first_after tid list)
 
 abbrev pub is_from : ℕ → ObjectRevision → Bool
 is_from front revision = nat_le front revision.serial

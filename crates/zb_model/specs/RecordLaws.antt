@@ -1,18 +1,17 @@
 -- Whatever a database says of an object is a record or nothing, and so is what a new transaction becomes. For the proofs of those who keep stores.
-use Rattle.std.proofs.Common.{◌≡◌, ℕ, ◌⊎◌, ⊎_elim, Bool, true, false, List, [], ◌∷◌, map, filter, Option, Some, None}
+use Rattle.std.proofs.Common.{◌≡◌, ℕ, ⊎_elim, Bool, true, false, List, [], ◌∷◌, map, filter, Option, Some, None}
 use Rattle.std.specs.Prelude.{All}
 use Rattle.std.specs.List.{AllByRecursion, cons_option, find, last_or}
 use Rattle.std.specs.Option.{option_map, option_map_or}
 use Rattle.std.proofs.lemmas.Bool.{cases_Bool}
 use Rattle.std.proofs.lemmas.List.Elements.{All-from_recursion, recursion_from_All}
-use Rattle.zb_model.specs.declared.data.Content.{Content}
-use Rattle.zb_model.specs.declared.data.Content.TheVariants.{Held, Absent}
+use Rattle.zb_model.specs.declared.data.Content.TheVariants.{Absent}
 use Rattle.zb_model.specs.declared.data.Change.{Change}
 use Rattle.zb_model.specs.declared.data.Transaction.{Transaction}
 use Rattle.zb_model.specs.declared.new_transaction.NewChange.{NewChange}
 use Rattle.zb_model.specs.declared.new_transaction.NewContent.{NewContent}
 use Rattle.zb_model.specs.declared.new_transaction.NewContent.TheVariants as new_content
-use Rattle.zb_model.specs.Database.{IsDatabase, IsRecord, ObjectRevision, change_in, is_change_of, revision_in, revisions}
+use Rattle.zb_model.specs.Database.{IsDatabase, IsRecord, ObjectRevision, change_in, is_change_of, revisions}
 use Rattle.zb_model.specs.Voting.{IsFilled, content_as_of, has_serial, voted_change, voted_content}
 
 abbrev pub ChangesToRecord : Change → Type 0

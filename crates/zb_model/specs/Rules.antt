@@ -1,5 +1,5 @@
 -- What a database is told of the bytes that it keeps. Source: conflict resolution and `referencesf` of ZODB.
-use Rattle.std.specs.Prelude.{◌≡◌, refl, ◌<◌, ℕ, List, [], Bool, false, Option, Some, Result, Ok, Err, length, is_none}
+use Rattle.std.specs.Prelude.{◌≡◌, refl, ◌<◌, ℕ, List, [], Bool, false, Option, Result, Ok, Err, length, is_none}
 use Rattle.std.specs.Option.{unwrap_or}
 use Rattle.zb_model.specs.declared.refusal.Why.{Why}
 use Rattle.zb_model.specs.declared.refusal.Why.TheVariants as why

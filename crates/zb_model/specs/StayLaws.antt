@@ -3,7 +3,7 @@ use Rattle.std.proofs.Common.{◌≡◌, List, refl, sym, subst, ◌∙◌}
 use Rattle.zb_volume.specs.declared.areas.Area.{Area}
 use Rattle.zb_volume.specs.Calls.{Event}
 use Rattle.zb_volume.specs.Disk.{disk}
-use Rattle.zb_volume.specs.Moments.{Along, StaysAs, here}
+use Rattle.zb_volume.specs.Moments.{StaysAs, here}
 use Rattle.zb_volume.specs.Runs.{along_now, joined, weaker}
 
 -- a volume that wasn't touched

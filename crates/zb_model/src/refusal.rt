@@ -39,11 +39,12 @@ pub enum Refusal {
     /// A write, cut, sync or replace of the volume failed: all sessions are closed, and the volume is to
     /// be opened again.
     StoreFault,
-    /// A store's base isn't the object's current serial, and the changes can't be merged.
+    /// The base of a store or of a delete isn't the object's current serial, and the changes can't
+    /// be merged; a delete never can.
     Conflict {
         /// The object.
         oid: Oid,
-        /// The serial that the store was made from.
+        /// The serial that the store or the delete was made from.
         base: Tid,
         /// The object's serial now, or 0 where it has none.
         current: Tid,

@@ -5,14 +5,15 @@ ghost use Rattle.std.specs.Option.{ForSome};
 ghost use Rattle.zb_volume.specs.declared.areas.Area.{Area};
 ghost use Rattle.zb_volume.specs.Moments.{LeavesOnly, StaysAs};
 ghost use Rattle.zb_model.specs.Database.{newest_tid, serial_of};
-ghost use Rattle.zb_model.specs.Lists.{history_of, undo_log_of};
-ghost use Rattle.zb_model.specs.Queries.{changes_up_to, found_below, first_after, greatest_oid, pack_point, transaction_at};
+ghost use Rattle.zb_model.specs.Lists.{history_of, undo_log_before, undo_log_of};
+ghost use Rattle.zb_model.specs.Queries.{change_at, changes_up_to, first_after, first_tid_after};
+ghost use Rattle.zb_model.specs.Queries.{found_below, greatest_oid, pack_point, transaction_at};
 ghost use Rattle.zb_model.specs.Packing.{packed_by};
 ghost use Rattle.zb_model.specs.Packs.{IsCopyOf, IsCopyTurn, IsPackCount, StandsForOneOfTwo, new_pack};
 ghost use Rattle.zb_model.specs.Stores.{AbortLeaves, BreaksByFault, CopyLeaves, DropKeepsRest, FinishLeaves, HasStoreCause, IsOnlyRead, MayBreak, SideIsEmpty, StandsForOneOf, SwitchLeaves, UnlessFault, VoteLeaves, tid_of_begun};
 ghost use Rattle.zb_model.specs.Voting.{IsVotable, IsWellFormed, voted_of};
 
-use crate::data::Transaction;
+use crate::data::{Change, Transaction};
 use crate::found::Found;
 use crate::lists::{LogLine, Revision};
 use crate::new_transaction::NewTransaction;
@@ -86,6 +87,11 @@ pub trait Store {
         requires { (state self.now).broken ≡ false }
         ensures { told → result ≡ changes_up_to tid (state self.now).list };
 
+    /// The tid of the first transaction above this one, if there is one. Nothing is read.
+    fn first_tid_after(&self, tid: Tid) -> Option<Tid>
+        requires { (state self.now).broken ≡ false }
+        ensures { told → result ≡ first_tid_after tid (state self.now).list };
+
     /// The object's last revision below a front, with the serial of its next one.
     fn load_before(&mut self, alloc: Global, oid: Oid, front: Tid) -> Result<Found, StoreError>
         requires { (state self.old).broken ≡ false }
@@ -104,6 +110,20 @@ pub trait Store {
         ensures found { told → IfOk result (λ found. found ≡ first_after tid (state self.old).list) }
         ensures read { IsOnlyRead (state self.old) (state self.new) result };
 
+    /// The change at a place, counted from 0, of the transaction with this tid, if there is one.
+    /// So a transaction is gone through whose contents together are larger than memory; one that is
+    /// asked for its changes in their order is looked up in a file once.
+    fn change_at(
+        &mut self,
+        alloc: Global,
+        tid: Tid,
+        number: u64,
+    ) -> Result<Option<Change>, StoreError>
+        requires { (state self.old).broken ≡ false }
+        ensures found { told → IfOk result (λ found.
+            found ≡ change_at tid number (state self.old).list) }
+        ensures read { IsOnlyRead (state self.old) (state self.new) result };
+
     /// Every change of an object, the newest first.
     fn history(&mut self, alloc: Global, oid: Oid) -> Result<ListOf<Revision>, StoreError>
         requires { (state self.old).broken ≡ false }
@@ -114,6 +134,19 @@ pub trait Store {
     fn undo_log(&mut self, alloc: Global) -> Result<ListOf<LogLine>, StoreError>
         requires { (state self.old).broken ≡ false }
         ensures lines { told → IfOk result (λ lines. lines ≡ undo_log_of (state self.old).list) }
+        ensures read { IsOnlyRead (state self.old) (state self.new) result };
+
+    /// No more than so many lines of the undo list, the newest first, of the transactions below a
+    /// tid. So the list is gone through piece by piece, each below the last line of the one before.
+    fn undo_log_before(
+        &mut self,
+        alloc: Global,
+        below: Tid,
+        count: u64,
+    ) -> Result<ListOf<LogLine>, StoreError>
+        requires { (state self.old).broken ≡ false }
+        ensures lines { told → IfOk result (λ lines.
+            lines ≡ undo_log_before below count (state self.old).list) }
         ensures read { IsOnlyRead (state self.old) (state self.new) result };
 
     /// Votes a transaction: it stands beside the list, with all the room that `finish` needs. With an

@@ -55,6 +55,7 @@ invariant_of-self g c =
       kept = λ told whole. absurd cc;
       voted = λ told whole. absurd cc;
       copied = λ told whole. absurd cc;
+      outlined = λ told whole x some. absurd cc;
       hint = λ told.
           let log = (g.V.Volume.state self.volume).log in
           let new = (g.V.Volume.state c.abort.new.volume).log in
@@ -75,6 +76,7 @@ invariant_of-self-2 g c =
           (self.voted told c.requires.whole s.0 s.1) c.end.ensures.value (c.in_ok-abort.ensures.content told) (staged_of self.index c.take_back.new.self t) (end_of self.index c.take_back.new.self t) (newest_of self.index c.take_back.new.self t) (places_of self.index c.take_back.new.self t) (starts_of self.index c.take_back.new.self t)).0;
       voted = λ told whole. none_there Staged (λ x. IsVotedIn (seen (g.V.Volume.state c.abort.new.volume).log Main) x c.take_back.new.self) c.take_back.new.self.staged (staged_of self.index c.take_back.new.self t);
       copied = λ told whole. copied_stays (g.V.Volume.state self.volume).log (g.V.Volume.state c.abort.new.volume).log self.copy (c.abort.ensures.side told) (self.copied told c.requires.whole);
+      outlined = λ told whole x some. absurd cc;
       hint = λ told.
           let log = (g.V.Volume.state self.volume).log in
           let new = (g.V.Volume.state c.abort.new.volume).log in

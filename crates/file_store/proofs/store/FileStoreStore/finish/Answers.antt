@@ -34,6 +34,7 @@ invariant_of-self g c =
       kept = λ told whole. absurd cc;
       voted = λ told whole. absurd cc;
       copied = λ told whole. absurd cc;
+      outlined = λ told whole x some. absurd cc;
       hint = λ told.
           let log = (g.V.Volume.state self.volume).log in
           let new = (g.V.Volume.state c.finish.new.volume).log in
@@ -55,6 +56,7 @@ invariant_of-self-2 g c =
           (self.voted told c.requires.whole s.0 s.1) c.end.ensures.value (c.in_ok-finish.ensures.content told) none k (c.count_staged.ensures s.0 s.1);
       voted = λ told whole. none_there Staged (λ x. IsVotedIn (seen (g.V.Volume.state c.finish.new.volume).log Main) x c.keep.new.self) c.keep.new.self.staged none;
       copied = λ told whole. copied_stays (g.V.Volume.state self.volume).log (g.V.Volume.state c.finish.new.volume).log self.copy (c.finish.ensures.side told) (self.copied told c.requires.whole);
+      outlined = λ told whole x some. absurd cc;
       hint = λ told.
           let log = (g.V.Volume.state self.volume).log in
           let new = (g.V.Volume.state c.finish.new.volume).log in

@@ -11,8 +11,8 @@ read_history_at-requires g c = λ told. let self = c.args.self.now in places_are
 pub invariant_of-self : goal.invariant_of-self
 invariant_of-self g c =
     let self = c.args.self.now in
-    let k = still _ _ _ _ self.index self.numbers self.copy c.read_history_at.ensures.read.same (record { settled = self.settled; kept = self.kept; voted = self.voted; copied = self.copied }) in
-    record { room = self.room; settled = k.settled; kept = k.kept; voted = k.voted; copied = k.copied; hint = λ told. hinted_still _ _ _ _ c.read_history_at.ensures.read.same (self.hint told) }
+    let k = still _ _ _ _ self.index self.numbers self.copy self.outline c.read_history_at.ensures.read.same (record { settled = self.settled; kept = self.kept; voted = self.voted; copied = self.copied; outlined = self.outlined }) in
+    record { room = self.room; settled = k.settled; kept = k.kept; voted = k.voted; copied = k.copied; outlined = k.outlined; hint = λ told. hinted_still _ _ _ _ c.read_history_at.ensures.read.same (self.hint told) }
 
 pub returns-clause-lines : goal.returns-clause-lines
 returns-clause-lines g c = λ told.

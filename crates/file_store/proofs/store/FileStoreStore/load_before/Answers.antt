@@ -19,8 +19,8 @@ read_before-requires-clause-end g c = λ told.
 pub invariant_of-self : goal.invariant_of-self
 invariant_of-self g c =
     let self = c.args.self.now in
-    let k = still _ _ _ _ self.index self.numbers self.copy c.read_before.ensures.read.same (record { settled = self.settled; kept = self.kept; voted = self.voted; copied = self.copied }) in
-    record { room = self.room; settled = k.settled; kept = k.kept; voted = k.voted; copied = k.copied; hint = λ told. hinted_still _ _ _ _ c.read_before.ensures.read.same (self.hint told) }
+    let k = still _ _ _ _ self.index self.numbers self.copy self.outline c.read_before.ensures.read.same (record { settled = self.settled; kept = self.kept; voted = self.voted; copied = self.copied; outlined = self.outlined }) in
+    record { room = self.room; settled = k.settled; kept = k.kept; voted = k.voted; copied = k.copied; outlined = k.outlined; hint = λ told. hinted_still _ _ _ _ c.read_before.ensures.read.same (self.hint told) }
 
 pub returns-clause-found : goal.returns-clause-found
 returns-clause-found g c = λ told.

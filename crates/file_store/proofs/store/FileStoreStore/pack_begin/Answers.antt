@@ -17,6 +17,7 @@ invariant_of-self g c =
       kept = λ told whole. absurd cc;
       voted = λ told whole. absurd cc;
       copied = λ told whole. absurd cc;
+      outlined = λ told whole x some. absurd cc;
       hint = λ told.
           let log = (g.V.Volume.state self.volume).log in
           let new = (g.V.Volume.state c.begin.new.volume).log in
@@ -35,6 +36,7 @@ invariant_of-self-2 g c =
       kept = λ told whole. kept_stays log now (c.begin.ensures.main told) self.index self.numbers (self.kept told c.requires);
       voted = λ told whole. voted_stays log now (c.begin.ensures.main told) self.index (self.voted told c.requires);
       copied = λ told whole x some. only_copy (seen now Side) c.in-Ok.copy x some (c.in-Ok.ensures.copied told);
+      outlined = λ told whole x some. absurd cc;
       hint = λ told.
           let was = whole_before log self.broken self.index.end c.requires (self.hint told) in
           hinted_on log now self.index.end self.index.end was (omega arith) (keeps_both log now was.honest (c.begin.ensures.main told) (c.begin.ensures.hint told)) (c.begin.ensures.hint told);

@@ -27,6 +27,7 @@ invariant_of-self-in-Ok g c =
       kept = λ told whole. kept_stays log now (c.copy_turn.ensures.main told) self.index self.numbers (self.kept told c.requires.whole);
       voted = λ told whole. voted_stays log now (c.copy_turn.ensures.main told) self.index (self.voted told c.requires.whole);
       copied = λ told whole x some. only_copy (seen now Side) c.copy_turn.new.to x some (c.in-Ok.ensures.copied told);
+      outlined = λ told whole x some. absurd cc;
       hint = λ told.
           let was = whole_before log self.broken self.index.end c.requires.whole (self.hint told) in
           hinted_on log now self.index.end self.index.end was (omega arith) (keeps_both log now was.honest (c.copy_turn.ensures.main told) (c.copy_turn.ensures.hint told)) (c.copy_turn.ensures.hint told);
@@ -43,6 +44,7 @@ invariant_of-self-in-Err g c =
       kept = λ told whole. kept_stays log now (c.copy_turn.ensures.main told) self.index self.numbers (self.kept told c.requires.whole);
       voted = λ told whole. voted_stays log now (c.copy_turn.ensures.main told) self.index (self.voted told c.requires.whole);
       copied = λ told whole. none_there CopyKept (λ x. IsCopyKept (seen now Side) x) c.take.new.self c.take.ensures.after;
+      outlined = λ told whole x some. absurd cc;
       hint = λ told.
           let was = whole_before log self.broken self.index.end c.requires.whole (self.hint told) in
           hinted_or log now _ self.index.end was (keeps_both log now was.honest (c.copy_turn.ensures.main told) (c.copy_turn.ensures.hint told)) (λ whole. c.copy_turn.ensures.hint told);

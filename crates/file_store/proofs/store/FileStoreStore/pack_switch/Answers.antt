@@ -41,6 +41,7 @@ invariant_of-self-in-Err g c =
       kept = λ told whole. kept_stays log now (stays g c told whole) self.index self.numbers (self.kept told c.requires.whole);
       voted = λ told whole. voted_stays log now (stays g c told whole) self.index (self.voted told c.requires.whole);
       copied = λ told whole. none_there CopyKept (λ x. IsCopyKept (seen now Side) x) c.take.new.self c.take.ensures.after;
+      outlined = λ told whole x some. absurd cc;
       hint = λ told.
           let was = whole_before log self.broken self.index.end c.requires.whole (self.hint told) in
           hinted_or log now _ self.index.end was (c.pack_file.ensures.hint told (was.settled refl) was.honest) (λ whole. hint_stays g c told whole);
@@ -56,6 +57,7 @@ invariant_of-self-in-Ok g c =
       kept = λ told whole. let is = c.in-Ok.ensures.packed told in c.keep-ready.ensures.kept (seen now Main) is.whole is.fits is.long;
       voted = λ told whole. none_there Staged (λ x. IsVotedIn (seen now Main) x index) index.staged c.keep-ready.ensures.free;
       copied = λ told whole. none_there CopyKept (λ x. IsCopyKept (seen now Side) x) c.take.new.self c.take.ensures.after;
+      outlined = λ told whole x some. absurd cc;
       hint = λ told.
           let log = (g.V.Volume.state c.args.self.now.volume).log in
           let was = whole_before log c.args.self.now.broken c.args.self.now.index.end c.requires.whole (c.args.self.now.hint told) in

@@ -11,8 +11,8 @@ read_transaction_with-requires-clause-starts g c = λ told. let self = c.args.se
 pub invariant_of-self : goal.invariant_of-self
 invariant_of-self g c =
     let self = c.args.self.now in
-    let k = still _ _ _ _ self.index self.numbers self.copy c.read_transaction_with.ensures.read.same (record { settled = self.settled; kept = self.kept; voted = self.voted; copied = self.copied }) in
-    record { room = self.room; settled = k.settled; kept = k.kept; voted = k.voted; copied = k.copied; hint = λ told. hinted_still _ _ _ _ c.read_transaction_with.ensures.read.same (self.hint told) }
+    let k = still _ _ _ _ self.index self.numbers self.copy self.outline c.read_transaction_with.ensures.read.same (record { settled = self.settled; kept = self.kept; voted = self.voted; copied = self.copied; outlined = self.outlined }) in
+    record { room = self.room; settled = k.settled; kept = k.kept; voted = k.voted; copied = k.copied; outlined = k.outlined; hint = λ told. hinted_still _ _ _ _ c.read_transaction_with.ensures.read.same (self.hint told) }
 
 pub returns-clause-found : goal.returns-clause-found
 returns-clause-found g c = λ told.
