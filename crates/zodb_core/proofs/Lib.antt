@@ -12,5 +12,6 @@ pub mod Refused
 pub mod Stepping
 pub mod Switches
 pub mod Switching
+pub mod Telling
 pub mod Turns
 pub mod Votes

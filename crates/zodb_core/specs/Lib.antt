@@ -21,4 +21,5 @@ pub mod Stamps
 pub mod StepCases
 pub mod Steps
 pub mod SwitchLaws
+pub mod Telling
 pub mod Waiting

@@ -1,6 +1,6 @@
 //! The requests that end a vote or a session.
 
-ghost use Rattle.std.specs.Prelude.{◌≡◌, ◌<◌, ◌⊎◌, ◌++◌, ◌∷◌, [], None, Option, Some, List, OnErr, OnOk, false, true, length, map, vec_capacity};
+ghost use Rattle.std.specs.Prelude.{◌≡◌, ◌⊎◌, None, Option, Some, List, OnErr, OnOk, false, true, map};
 ghost use Rattle.zb_base.specs.Counts.{HasCause};
 ghost use Rattle.zb_ids.specs.declared.stamp.Stamp.{Stamp};
 ghost use Rattle.zb_volume.specs.declared.areas.Area.TheVariants.{Main, Side};
@@ -18,7 +18,6 @@ use crate::oids::greatest_with;
 use crate::open_pack::HubPack;
 use crate::reply::Reply;
 use crate::request::Request;
-use crate::session::{HubSession, set_session};
 use crate::vote::{HubVote, VotedEntry};
 use zb_model::{Refs, Refusal, Resolver, Store};
 use zb_volume::StoreFault;
@@ -54,14 +53,6 @@ fn take_writes(vote: &mut Option<HubVote>) -> Option<VotedEntry>
     }
 }
 
-/// Puts an entry behind the others, for which there is room.
-pub(crate) fn push_entry(journal: &mut Vec<JournalEntry>, entry: JournalEntry)
-    requires room { length journal.old.items < vec_capacity journal.old }
-    ensures { journal.new.items ≡ journal.old.items ++ entry ∷ [] }
-{
-    let _ = journal.push(entry);
-}
-
 impl<St: Store, R: Resolver, F: Refs> Hub<St, R, F> {
     /// What the session has voted is appended to the list. It takes no memory.
     #[tactic(auto, using(crate::proofs::Votes::finish_empty, crate::proofs::Votes::finish_committed, crate::proofs::Votes::moments_kept, crate::proofs::Votes::moments_finish, zb_model::specs::StayLaws::stays_same))]
@@ -92,14 +83,11 @@ impl<St: Store, R: Resolver, F: Refs> Hub<St, R, F> {
         self.changes += entry.oids.len() as u64;
         self.greatest = greatest_with(entry.oids.as_slice(), self.greatest);
         let tid = entry.tid;
-        push_entry(
-            &mut self.journal,
-            JournalEntry::Commit {
-                session,
-                tid,
-                oids: entry.oids,
-            },
-        );
+        self.journal.push(JournalEntry::Commit {
+            session,
+            tid,
+            oids: entry.oids,
+        });
         Reply::Committed { tid }
     }
 
@@ -202,11 +190,7 @@ impl<St: Store, R: Resolver, F: Refs> Hub<St, R, F> {
             return Reply::Refused(Refusal::StoreFault);
         };
         self.drop_pack(session);
-        let closed = HubSession {
-            is_open: false,
-            told: self.journal.len() as u64,
-        };
-        set_session(&mut self.sessions, session, closed);
+        self.journal.close(session);
         Reply::Closed
     }
 }

@@ -7,9 +7,8 @@ ghost use Rattle.zodb_core.specs.HubState.{MayRefuseSession, StandsForMachine, s
 ghost use Rattle.zodb_core.specs.Machine.{Machine, is_open_in, machine_over, session_limit, with_session};
 
 use crate::errors::SessionRefusal;
-use crate::journal::JournalEntry;
 use crate::open_pack::HubPack;
-use crate::session::{HubSession, is_open, push_session};
+use crate::session_journal::SessionJournal;
 use crate::vote::HubVote;
 use std::alloc::Global;
 use std::marker::Model;
@@ -29,16 +28,14 @@ pub struct Hub<St: Store, R: Resolver, F: Refs> {
     pub(crate) resolver: R,
     /// Which objects a record names.
     pub(crate) refs: F,
-    /// What happened to the list since the hub was made.
-    pub(crate) journal: Vec<JournalEntry>,
+    /// What happened to the list since the hub was made, and the sessions.
+    pub(crate) journal: SessionJournal,
     /// How many changes the journal has.
     pub(crate) changes: u64,
     /// How often the list was packed.
     pub(crate) switches: u64,
     /// The greatest number of an object that stood in the list at any moment or was handed out.
     pub(crate) greatest: Oid,
-    /// The sessions, by their numbers.
-    pub(crate) sessions: Vec<HubSession>,
     /// The vote, where one is held.
     pub(crate) vote: Option<HubVote>,
     /// The pack, where one is open.
@@ -48,7 +45,6 @@ pub struct Hub<St: Store, R: Resolver, F: Refs> {
 }
 
 impl<St: Store, R: Resolver, F: Refs> Model for Hub<St, R, F> {
-    ghost use Rattle.std.specs.Prelude.{vec_capacity};
     ghost use Rattle.std.specs.Coded.{codes, coded_ℕ};
     ghost use Rattle.std.specs.FinSet as set;
     ghost use Rattle.std.specs.Ordering.{nat_cmp};
@@ -62,15 +58,15 @@ impl<St: Store, R: Resolver, F: Refs> Model for Hub<St, R, F> {
       store = St.state hub.store;
       resolver = hub.resolver;
       refs = hub.refs;
-      journal = hub.journal.items;
+      journal = hub.journal.entries;
       greatest = hub.greatest;
-      sessions = hub.sessions.items;
+      sessions = hub.journal.sessions;
       vote = hub.vote;
       pack = hub.pack;
     } };
 
-    ghost invariant = { λ hub. HubKeeps St.told (St.state hub.store) hub.journal.items (vec_capacity hub.journal)
-        hub.changes hub.switches hub.sessions.items hub.vote hub.pack hub.failed (F.named hub.refs) };
+    ghost invariant = { λ hub. HubKeeps St.told (St.state hub.store) hub.journal.entries hub.journal.capacity
+        hub.changes hub.switches hub.journal.sessions hub.vote hub.pack hub.failed (F.named hub.refs) };
 }
 
 impl<St: Store, R: Resolver, F: Refs> Hub<St, R, F> {
@@ -89,11 +85,10 @@ impl<St: Store, R: Resolver, F: Refs> Hub<St, R, F> {
             store,
             resolver,
             refs,
-            journal: Vec::new(alloc),
+            journal: SessionJournal::new(alloc),
             changes: 0,
             switches: 0,
             greatest,
-            sessions: Vec::new(alloc),
             vote: None,
             pack: None,
             failed: false,
@@ -126,11 +121,12 @@ impl<St: Store, R: Resolver, F: Refs> Hub<St, R, F> {
         if self.failed {
             return false;
         }
-        is_open(self.sessions.as_slice(), session)
+        self.journal.is_open(session)
     }
 
-    /// Opens a session, and answers its number: they run from 0. `TooManySessions` comes exactly where 64
-    /// sessions were opened. A session that is opened after a store fault is closed from the start.
+    /// Opens a session, and answers its number: they run from 0. It takes the room for what the
+    /// session will be told. `TooManySessions` comes exactly where 64 sessions were opened. A session
+    /// that is opened after a store fault is closed from the start.
     pub fn open_session(&mut self) -> Result<u32, SessionRefusal>
         ensures number { IfOk result (λ number. number ≡ length self.old.sessions) }
         ensures stands { (m : Machine) → StandsForMachine self.old m →
@@ -142,15 +138,11 @@ impl<St: Store, R: Resolver, F: Refs> Hub<St, R, F> {
         ensures resolver { self.new.resolver ≡ self.old.resolver }
         ensures refs { self.new.refs ≡ self.old.refs }
     {
-        let count = self.sessions.len() as u32;
+        let count = self.journal.count();
         if count >= SESSION_LIMIT {
             return Err(SessionRefusal::TooManySessions { count });
         }
-        let session = HubSession {
-            is_open: !self.failed,
-            told: self.journal.len() as u64,
-        };
-        push_session(&mut self.sessions, session)?;
+        self.journal.open(!self.failed)?;
         Ok(count)
     }
 }
@@ -168,7 +160,6 @@ impl<St: Store, R: Resolver + Drop, F: Refs + Drop> Hub<St, R, F> {
             changes: _,
             switches: _,
             greatest: _,
-            sessions: _,
             vote: _,
             pack: _,
             failed: _,

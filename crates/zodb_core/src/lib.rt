@@ -16,6 +16,7 @@ mod reading;
 mod reply;
 mod request;
 mod session;
+mod session_journal;
 mod since;
 mod step;
 mod texts;

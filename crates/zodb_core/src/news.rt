@@ -10,10 +10,10 @@ use zb_ids::ListOf;
 use zb_model::{News, NewsCommit};
 
 /// How much a session can be told at once.
-const NEWS_LIMIT: usize = 1000;
+pub(crate) const NEWS_LIMIT: usize = 1000;
 
 /// Whether a session is to be told of an entry: of each pack, and of each commit of another session.
-fn is_news_for(session: u32, entry: &JournalEntry) -> bool
+pub(crate) fn is_news_for(session: u32, entry: &JournalEntry) -> bool
     ensures { result ≡ is_news_for session entry.now }
 {
     match entry {
@@ -27,7 +27,7 @@ fn is_news_for(session: u32, entry: &JournalEntry) -> bool
 }
 
 /// Whether an entry is a pack.
-fn is_switch(entry: &JournalEntry) -> bool
+pub(crate) fn is_switch(entry: &JournalEntry) -> bool
     ensures { result ≡ is_switch entry.now }
 {
     match entry {
@@ -41,7 +41,7 @@ fn is_switch(entry: &JournalEntry) -> bool
 }
 
 /// What a session is told of a commit. The one error is want of memory.
-fn commit_in(entry: &JournalEntry) -> Result<Option<NewsCommit>, AllocError>
+pub(crate) fn commit_in(entry: &JournalEntry) -> Result<Option<NewsCommit>, AllocError>
     ensures { IfOk result (λ commit. commit ≡ commit_in entry.now) }
 {
     match entry {

@@ -272,7 +272,7 @@ impl<St: Store, R: Resolver, F: Refs> Hub<St, R, F> {
                 return pack_reply(refusal);
             }
         };
-        let copying = copying_behind(marked.whole, self.journal.len() as u64);
+        let copying = copying_behind(marked.whole, self.journal.len());
         self.pack = Some(HubPack {
             session: owner,
             tid,

@@ -17,7 +17,6 @@ ghost use Rattle.zodb_core.specs.Packing.{AreAllMarked, PacksTo, RefusesPack, bu
 ghost use Rattle.zodb_core.specs.Replies.{pack_reply};
 ghost use Rattle.zodb_core.specs.Seen.{KeepsSeen};
 
-use crate::ending::push_entry;
 use crate::hub::Hub;
 use crate::journal::JournalEntry;
 use crate::open_pack::HubPack;
@@ -203,7 +202,7 @@ impl<St: Store, R: Resolver, F: Refs> Hub<St, R, F> {
             LeavesOnly Main (IsBeforeOrBehind St.stands (rules_of R.rules F.named self.old) m session q)
             self.old.store.log self.new.store.log }
     {
-        let Ok(()) = self.journal.reserve(1) else {
+        let Ok(()) = self.journal.reserve() else {
             return Reply::Refused(Refusal::Memory);
         };
         let packed = match replace(alloc, &mut self.store, tid, keep, fresh) {
@@ -214,7 +213,7 @@ impl<St: Store, R: Resolver, F: Refs> Hub<St, R, F> {
             }
         };
         self.switches += 1;
-        push_entry(&mut self.journal, JournalEntry::Packed { tid });
+        self.journal.push(JournalEntry::Packed { tid });
         Reply::Packed {
             kept: packed.kept,
             dropped: packed.dropped,

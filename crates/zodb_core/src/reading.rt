@@ -8,10 +8,8 @@ ghost use Rattle.zodb_core.specs.Outcomes.{NoMemory, ReadingFailed, StoreFailed,
 ghost use Rattle.zodb_core.specs.Replies.{fault_reply, loaded_reply};
 
 use crate::hub::Hub;
-use crate::news::gather_news;
 use crate::reply::Reply;
 use crate::request::Request;
-use crate::session::{HubSession, set_session, told_of};
 use std::alloc::Global;
 use zb_ids::{Oid, Tid};
 use zb_model::{Found, Refs, Refusal, Resolver, Store, StoreError};
@@ -65,19 +63,10 @@ impl<St: Store, R: Resolver, F: Refs> Hub<St, R, F> {
         ensures log { self.new.store.log ≡ self.old.store.log }
     {
         let front = self.front_tid();
-        let told = told_of(self.sessions.as_slice(), session);
-        let Ok(news) = gather_news(alloc, self.journal.as_slice(), told, session) else {
+        let Ok(news) = self.journal.news(alloc, session) else {
             return Reply::Refused(Refusal::Memory);
         };
-        let told = self.journal.len() as u64;
-        set_session(
-            &mut self.sessions,
-            session,
-            HubSession {
-                is_open: true,
-                told,
-            },
-        );
+        self.journal.tell(session);
         Reply::Front {
             front,
             news,

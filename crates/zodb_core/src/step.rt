@@ -13,7 +13,6 @@ ghost use Rattle.zodb_core.specs.Seen.{KeepsSeen};
 use crate::hub::Hub;
 use crate::reply::Reply;
 use crate::request::Request;
-use crate::session::is_open;
 use crate::texts::Texts;
 use std::alloc::Global;
 use zb_ids::Text8;
@@ -72,7 +71,7 @@ impl<St: Store, R: Resolver, F: Refs> Hub<St, R, F> {
         if self.failed {
             return Reply::Refused(Refusal::NotOpen);
         }
-        if !is_open(self.sessions.as_slice(), session) {
+        if !self.journal.is_open(session) {
             return Reply::Refused(Refusal::NotOpen);
         }
         match request {

@@ -156,7 +156,7 @@ impl<St: Store, R: Resolver, F: Refs> Hub<St, R, F> {
         let Ok(oids) = changed_oids(alloc, changes.as_slice()) else {
             return Reply::Refused(Refusal::Memory);
         };
-        let Ok(()) = self.journal.reserve(1) else {
+        let Ok(()) = self.journal.reserve() else {
             return Reply::Refused(Refusal::Memory);
         };
         let Some(tid) = tick(self.store.newest(), clock) else {

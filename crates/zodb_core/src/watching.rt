@@ -36,20 +36,20 @@ impl<St: Store, R: Resolver, F: Refs> Hub<St, R, F> {
     pub fn entries(&self) -> u64
         ensures { result ≡ length self.now.journal }
     {
-        self.journal.len() as u64
+        self.journal.len()
     }
 
     /// Whether the journal has news for a session that was told so many of its entries.
     pub fn has_news(&self, session: u32, told: u64) -> bool
         ensures { result ≡ list_any (is_news_for session) (drop told self.now.journal) }
     {
-        has_news(entries_behind(self.journal.as_slice(), told), session)
+        has_news(entries_behind(self.journal.entries(), told), session)
     }
 
     /// The news for a session that was told so many entries. The one error is want of memory.
     pub fn news_after(&self, alloc: Global, session: u32, told: u64) -> Result<News, AllocError>
         ensures { IfOk result (λ news. news ≡ news_of (filter (is_news_for session) (drop told self.now.journal))) }
     {
-        gather_news(alloc, self.journal.as_slice(), told, session)
+        gather_news(alloc, self.journal.entries(), told, session)
     }
 }

@@ -1,5 +1,4 @@
 use Rattle.std.proofs.Common.{rules, Some, length, refl}
-use Rattle.std.specs.Vec.{vec_capacity}
 use Rattle.zodb_core.specs.HubState.{rules_of}
 use Rattle.zodb_core.specs.PacksGoOn.{newest_copied}
 use Rattle.zodb_core.proofs.Copies.{copied_pack, keeps_copied, turn_copied, turn_shown, turn_uncopied}
@@ -18,9 +17,9 @@ invariant_of-self-2 g c =
     let s = g.St.Store.state c.self.inside.store in
     let t = g.St.Store.state c.pack_copy.new.self in
     let named = g.F.Refs.named c.self.inside.refs in
-    let journal = c.self.inside.journal.items in
+    let journal = c.self.inside.journal.entries in
     let newest = newest_copied s t (search rules) in
-    hub_keeps g.St.Store.told s t journal (vec_capacity c.self.inside.journal) c.self.inside.changes c.self.inside.switches c.self.inside.sessions.items c.self.inside.vote
+    hub_keeps g.St.Store.told s t journal c.self.inside.journal.capacity c.self.inside.changes c.self.inside.switches c.self.inside.journal.sessions c.self.inside.vote
     c.self.inside.pack (Some (copied_pack c.args.pack c.args.entries c.in-Ok.copied.whole)) c.self.inside.failed c.self.inside.failed named c.self.invariant (search rules) (search rules) newest (search rules)
     (search rules)
     (λ still. keeps_copied g.St.Store.told named s t (length journal) c.args.entries c.args.pack c.in-Ok.copied (search rules) c.requires.copying (λ told. search (told, rules)) (search rules) newest

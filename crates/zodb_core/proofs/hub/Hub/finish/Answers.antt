@@ -9,20 +9,20 @@ pub invariant_of-self-2 : goal.invariant_of-self-2
 invariant_of-self-2 g c =
     let s = g.St.Store.state c.self.inside.store in
     let t = g.St.Store.state c.finish.new.self in
-    let longer : length c.push_entry.new.journal.items ≡ length c.self.inside.journal.items + 1 = ap length c.push_entry.ensures ∙ length-append c.self.inside.journal.items _ in
+    let longer : length c.push.new.self.entries ≡ length c.self.inside.journal.entries + 1 = ap length c.push.ensures.entries ∙ length-append c.self.inside.journal.entries _ in
     record {
       failed = search rules;
       few = search rules;
-      counted = counted_more c.self.inside.changes c.len.result c.args.session c.in-Some.entry.tid c.in-Some.entry.oids c.self.inside.journal.items c.push_entry.new.journal.items c.self.invariant.counted (search rules) c.push_entry.ensures;
+      counted = counted_more c.self.inside.changes c.len.result c.args.session c.in-Some.entry.tid c.in-Some.entry.oids c.self.inside.journal.entries c.push.new.self.entries c.self.invariant.counted (search rules) c.push.ensures.entries;
       bounded = search rules;
-      switched = switched_more c.self.inside.switches c.args.session c.in-Some.entry.tid c.in-Some.entry.oids c.self.inside.journal.items c.push_entry.new.journal.items c.self.invariant.switched c.push_entry.ensures;
+      switched = switched_more c.self.inside.switches c.args.session c.in-Some.entry.tid c.in-Some.entry.oids c.self.inside.journal.entries c.push.new.self.entries c.self.invariant.switched c.push.ensures.entries;
       room = search rules;
       voted = search rules;
       entry = search rules;
       later = search rules;
-      within = within_more c.self.inside.pack (length c.self.inside.journal.items) (length c.push_entry.new.journal.items) (omega (arith, longer)) c.self.invariant.within;
+      within = within_more c.self.inside.pack (length c.self.inside.journal.entries) (length c.push.new.self.entries) (omega (arith, longer)) c.self.invariant.within;
       open_pack = λ whole.
-          keeps_finished g.St.Store.told (g.F.Refs.named c.self.inside.refs) s t (length c.self.inside.journal.items) (length c.push_entry.new.journal.items) s.voted c.self.inside.pack
+          keeps_finished g.St.Store.told (g.F.Refs.named c.self.inside.refs) s t (length c.self.inside.journal.entries) (length c.push.new.self.entries) s.voted c.self.inside.pack
           (c.self.invariant.open_pack (search rules)) c.self.invariant.within (search rules) (λ told. search (told, rules)) (search rules) (search rules) (c.self.invariant.later (search rules)) longer;
     }
 

@@ -5,7 +5,6 @@ use Rattle.zodb_core.specs.Holding.{IsNextTid}
 use Rattle.zodb_core.proofs.Stepping.{still}
 use Rattle.zodb_core.specs.HubState.{rules_of}
 use Rattle.zodb_core.proofs.Holding.{hold_empty, hold_fails_safely, hold_full, hold_failed, hold_spent, hold_starved, hold_voted, kept_voted}
-use Rattle.std.specs.Vec.{vec_capacity}
 use Rattle.zodb_core.proofs.Votes.{leaves_now, leaves_same}
 use Rattle.zodb_core.proofs.hub.Hub.hold.Goals as goal
 
@@ -152,8 +151,9 @@ returns-in-Err-clause-safe g c =
 
 pub invariant_of-self-2 : goal.invariant_of-self-2
 invariant_of-self-2 g c =
-    kept_voted g.St.Store.told (g.St.Store.state c.self.inside.store) (g.St.Store.state c.vote.new.self) c.self.inside.journal.items c.reserve.new.self.items (vec_capacity c.self.inside.journal) (vec_capacity c.reserve.new.self)
-    c.self.inside.changes c.self.inside.switches c.self.inside.sessions.items c.self.inside.vote c.self.inside.pack c.self.inside.failed (g.F.Refs.named c.self.inside.refs) c.args.session (record { tid = c.in-Some.tid; oids = c.in-Ok.oids })
+    rw c.reserve.ensures.sessions
+    (kept_voted g.St.Store.told (g.St.Store.state c.self.inside.store) (g.St.Store.state c.vote.new.self) c.self.inside.journal.entries c.reserve.new.self.entries c.self.inside.journal.capacity c.reserve.new.self.capacity
+    c.self.inside.changes c.self.inside.switches c.self.inside.journal.sessions c.self.inside.vote c.self.inside.pack c.self.inside.failed (g.F.Refs.named c.self.inside.refs) c.args.session (record { tid = c.in-Some.tid; oids = c.in-Ok.oids })
     (record { tid = c.in-Some.tid; user = c.args.texts.user; description = c.args.texts.description; extension = c.args.texts.extension; changes = c.args.changes })
     c.self.invariant (search rules) (search rules) (search rules) (search rules) (search rules) (search rules) refl (search rules) (λ tells. search (tells, rules))
-    (search rules) (λ tells. search (tells, rules)) (search rules) (search rules) (search rules)
+    (search rules) (λ tells. search (tells, rules)) (search rules) (search rules) (search rules))

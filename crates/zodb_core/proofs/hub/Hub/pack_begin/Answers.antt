@@ -1,5 +1,4 @@
 use Rattle.std.proofs.Common.{rules, ◌≡◌, None}
-use Rattle.std.specs.Vec.{vec_capacity}
 use Rattle.zb_model.specs.StayLaws.{stays_same}
 use Rattle.zodb_core.specs.HubState.{rules_of}
 use Rattle.zodb_core.specs.PacksGoOn.{newest_copied}
@@ -20,9 +19,9 @@ invariant_of-self g c =
     let s = g.St.Store.state c.self.inside.store in
     let t = g.St.Store.state c.pack_begin.new.self in
     let named = g.F.Refs.named c.self.inside.refs in
-    let journal = c.self.inside.journal.items in
+    let journal = c.self.inside.journal.entries in
     let none : c.self.inside.pack ≡ None = none_running c.self.inside.pack (search rules) in
-    hub_keeps g.St.Store.told s t journal (vec_capacity c.self.inside.journal) c.self.inside.changes c.self.inside.switches c.self.inside.sessions.items c.self.inside.vote
+    hub_keeps g.St.Store.told s t journal c.self.inside.journal.capacity c.self.inside.changes c.self.inside.switches c.self.inside.journal.sessions c.self.inside.vote
     c.self.inside.pack c.self.inside.pack c.self.inside.failed _ named c.self.invariant (search rules) (search rules) (newest_copied s t (search rules)) (search (fault_is, rules))
     c.self.invariant.within
     (λ still. none_kept _ c.self.inside.pack none)
