@@ -7,7 +7,7 @@ ghost use Rattle.btree_shapes.specs.Nodes.{class_held, held_in, held_node, node_
 ghost use Rattle.btree_checking.specs.Fed.{class_after, held_of};
 
 use btree_family::ClassRow;
-use btree_shapes::{Entry, class_of, read_node};
+use btree_shapes::{Entry, Shared, class_of, read_node};
 use bucket_state::StateError;
 use std::alloc::{AllocError, Global};
 use zb_ids::Text8;
@@ -62,10 +62,10 @@ fn held_node(alloc: Global, row: &ClassRow, object: ObjectRecord) -> Result<Cont
         ≡ held_node object.class (node_of (class_seen row.now) object.class object.state)) }
 {
     match read_node(alloc, row, &object) {
-        Ok(node) => Ok(Content::Holds(Entry {
-            class: object.class,
-            node,
-        })),
+        Ok(node) => {
+            let class = Shared::new(alloc, object.class)?;
+            Ok(Content::Holds(Entry { class, node }))
+        }
         Err(StateError::BadState) => Ok(Content::Foreign),
         Err(StateError::Memory) => Err(AllocError),
     }

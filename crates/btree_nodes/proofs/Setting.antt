@@ -33,7 +33,7 @@ use Rattle.btree_setting.specs.Rungs.{rungs_of, settle}
 use Rattle.btree_setting.specs.Sets.{puts_of}
 use Rattle.btree_setting.specs.Tasks.{end_of, rungs_above, splits}
 use Rattle.btree_nodes.specs.Drawn.{Differ, AreNew}
-use Rattle.btree_nodes.proofs.Nodes.{separators_rise}
+use Rattle.btree_shapes.specs.RiseLaws.{separators_rise}
 use Rattle.btree_nodes.proofs.Chains.{distinct_links}
 use Rattle.btree_nodes.proofs.Limbs.{ForKey, OldShape}
 use Rattle.btree_nodes.proofs.Rungs.{PathIn, RungsIn, rungs_in}

@@ -9,7 +9,7 @@ use zb_ids::Oid;
 
 /// Numbers of objects, which contracts see the newest first.
 #[derive(Drop)]
-pub(crate) struct Children {
+pub struct Children {
     list: Vec<Oid>,
 }
 
@@ -41,7 +41,7 @@ impl Children {
     }
 
     /// The newest number leaves.
-    pub(crate) fn pop(&mut self) -> Option<Oid>
+    pub fn pop(&mut self) -> Option<Oid>
         ensures { MatchOption result ((self.old ≡ []) × (self.new ≡ [])) (λ oid. self.old ≡ oid ∷ self.new) }
     {
         self.list.pop()

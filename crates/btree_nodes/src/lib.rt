@@ -8,4 +8,6 @@ mod tree;
 mod walk;
 
 pub use btree_shapes::{Call, Space, SpaceError, TreeError};
+pub use children::Children;
+pub use span::{Span, children_within};
 pub use tree::Tree;

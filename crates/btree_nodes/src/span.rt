@@ -11,11 +11,16 @@ use std::alloc::{AllocError, Global};
 
 /// The keys that a walk takes.
 #[derive(Drop)]
-pub(crate) enum Span {
+pub enum Span {
     /// All keys.
     All,
     /// The keys from one to another, both ends included.
-    Within { low: Key, high: Key },
+    Within {
+        /// The lower end.
+        low: Key,
+        /// The upper end.
+        high: Key,
+    },
 }
 
 impl Span {
@@ -77,13 +82,9 @@ fn children_between(
 }
 
 /// The children that a walk visits, the first one first: all, or those from the one for the lower end to the one
-/// for the upper end.
+/// for the upper end. The one error is want of memory.
 #[tactic(auto, using(crate::proofs::Spans::all_children))]
-pub(crate) fn children_within(
-    alloc: Global,
-    inner: &Inner,
-    span: &Span,
-) -> Result<Children, AllocError>
+pub fn children_within(alloc: Global, inner: &Inner, span: &Span) -> Result<Children, AllocError>
     ensures { IfOk result (λ children. children ≡ children_within span.now inner.now.head inner.now.tail) }
 {
     let branches = inner.tail.as_slice();

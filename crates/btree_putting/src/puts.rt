@@ -3,7 +3,7 @@
 ghost use Rattle.std.specs.Prelude.{◌≡◌, ◌++◌, ◌∷◌, [], ◌≤◌, ◌<◌, Some, slice_get, length, OnOk, IfOk, MatchOption};
 ghost use Rattle.btree_putting.specs.Puts.{add_put, put_place, sort_puts};
 
-use btree_shapes::Node;
+use btree_shapes::{Node, Shared};
 use pickle_graph::Pickle;
 use std::alloc::{AllocError, Global};
 use std::collections::VecDeque;
@@ -14,7 +14,7 @@ use zb_ids::Oid;
 #[derive(Drop)]
 pub struct Put {
     pub oid: Oid,
-    pub class: Pickle,
+    pub class: Shared<Pickle>,
     pub leaves: bool,
     pub node: Node,
 }

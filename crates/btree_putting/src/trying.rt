@@ -16,7 +16,7 @@ use crate::items::{same_branches, same_items};
 use crate::kept::{Kept, KeptPuts};
 use crate::puts::{Put, Puts};
 use crate::writing::{Family, node_writable, write_node};
-use btree_shapes::{Entry, Node, class_of, is_class_of, read_node};
+use btree_shapes::{Entry, Node, Shared, class_of, is_class_of, read_node};
 use bucket_state::StateError;
 use pickle_graph::{Pickle, is_class};
 use pickle_writing::WriteError;
@@ -104,10 +104,8 @@ fn record_back(
     if !same_node(&node, &put.node) {
         return Ok(None);
     }
-    Ok(Some(Entry {
-        class: copy.class,
-        node,
-    }))
+    let class = Shared::new(alloc, copy.class)?;
+    Ok(Some(Entry { class, node }))
 }
 
 /// What bytes hold, where they are a record that reads as the same node.

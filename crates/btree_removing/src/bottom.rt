@@ -6,7 +6,7 @@ ghost use Rattle.btree_removing.specs.Bottoms.{leaf_without, node_without, botto
 use crate::items::remove_item;
 use btree_family::{Bucket, Key};
 use btree_putting::{Put, has_key};
-use btree_shapes::Node;
+use btree_shapes::{Node, Shared};
 use pickle_graph::Pickle;
 use std::alloc::{AllocError, Global};
 use zb_ids::Oid;
@@ -29,13 +29,15 @@ fn node_without(alloc: Global, node: &Node, key: &Key) -> Result<Option<Node>, A
             if !has_key(leaf.items().as_slice(), key) {
                 return Ok(None);
             }
-            Ok(Some(Node::Lone(leaf_without(alloc, leaf, key)?)))
+            let left = leaf_without(alloc, leaf, key)?;
+            Ok(Some(Node::Lone(Shared::new(alloc, left)?)))
         }
         Node::Leaf(leaf) => {
             if !has_key(leaf.items().as_slice(), key) {
                 return Ok(None);
             }
-            Ok(Some(Node::Leaf(leaf_without(alloc, leaf, key)?)))
+            let left = leaf_without(alloc, leaf, key)?;
+            Ok(Some(Node::Leaf(Shared::new(alloc, left)?)))
         }
         Node::Inner(_) => Ok(None),
     }
@@ -45,7 +47,7 @@ fn node_without(alloc: Global, node: &Node, key: &Key) -> Result<Option<Node>, A
 pub(crate) fn bottom_of(
     alloc: Global,
     oid: Oid,
-    class: Pickle,
+    class: Shared<Pickle>,
     node: &Node,
     key: &Key,
 ) -> Result<Option<Put>, AllocError>

@@ -10,7 +10,7 @@ ghost use Rattle.btree_removing.specs.Lasts.{last_child, last_below, met_last, o
 
 use crate::sides::Start;
 use btree_family::Key;
-use btree_shapes::{Entry, Node, Rooted, Space, TreeError, read_entry, suits};
+use btree_shapes::{Entry, Node, Rooted, Shared, Space, TreeError, read_entry, suits};
 use bucket_state::Inner;
 use pickle_graph::Pickle;
 use std::alloc::{AllocError, Global};
@@ -22,7 +22,7 @@ use zb_ids::{ListOf, Oid};
 pub(crate) struct Last {
     pub above: ListOf<Oid>,
     pub oid: Oid,
-    pub class: Pickle,
+    pub class: Shared<Pickle>,
     pub node: Node,
 }
 

@@ -13,7 +13,7 @@ use crate::last::{Last, follow_last, stands_in};
 use crate::sides::Start;
 use btree_family::{Bucket, Key};
 use btree_putting::{Put, Puts, first_below, same_link, with_items};
-use btree_shapes::{Node, Rooted, Space, TreeError};
+use btree_shapes::{Node, Rooted, Shared, Space, TreeError};
 use std::alloc::{AllocError, Global};
 use zb_ids::{ListOf, Oid};
 
@@ -44,7 +44,8 @@ fn relinked(alloc: Global, last: Last, next: Option<Oid>) -> Result<Puts, AllocE
             if same_link(leaf.next(), next) {
                 return Ok(puts);
             }
-            let node = Node::Leaf(with_link(alloc, &leaf, next)?);
+            let linked = with_link(alloc, &leaf, next)?;
+            let node = Node::Leaf(Shared::new(alloc, linked)?);
             puts.push(Put {
                 oid,
                 class,

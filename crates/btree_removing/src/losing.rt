@@ -8,7 +8,7 @@ use crate::items::cut_branch;
 use crate::rung::{Rung, Rungs};
 use btree_family::{Bucket, Key};
 use btree_putting::{Put, Puts, with_branches};
-use btree_shapes::{Node, place_for};
+use btree_shapes::{Node, Shared, place_for};
 use bucket_state::{Branch, Inner};
 use std::alloc::{AllocError, Global};
 use zb_ids::{ListOf, Oid};
@@ -67,7 +67,8 @@ fn lose_head(alloc: Global, known: &Option<Oid>, rung: Rung, puts: Puts) -> Resu
 {
     match rung.inner.tail.as_slice() {
         [] => {
-            let node = Node::Lone(Bucket::new(ListOf::new(alloc), None));
+            let leaf = Bucket::new(ListOf::new(alloc), None);
+            let node = Node::Lone(Shared::new(alloc, leaf)?);
             let puts = with_rung(rung, node, puts)?;
             let rest = Rest::Gone;
             Ok(Loss { puts, rest })
@@ -76,7 +77,8 @@ fn lose_head(alloc: Global, known: &Option<Oid>, rung: Rung, puts: Puts) -> Resu
             let head = second.child;
             let tail = with_branches(ListOf::new(alloc), behind)?;
             let first = first_or(head, known);
-            let puts = with_rung(rung, Node::Inner(Inner { head, tail, first }), puts)?;
+            let inner = Shared::new(alloc, Inner { head, tail, first })?;
+            let puts = with_rung(rung, Node::Inner(inner), puts)?;
             Ok(Loss {
                 puts,
                 rest: Rest::First(first),
@@ -104,9 +106,13 @@ fn lose_later(
         inner,
         leaves,
     } = rung;
-    let Inner { head, tail, first } = inner;
-    let tail = cut_branch(alloc, tail.as_slice(), place - 1)?;
-    let node = Node::Inner(Inner { head, tail, first });
+    let tail = cut_branch(alloc, inner.tail.as_slice(), place - 1)?;
+    let cut = Inner {
+        head: inner.head,
+        tail,
+        first: inner.first,
+    };
+    let node = Node::Inner(Shared::new(alloc, cut)?);
     let mut puts = puts;
     puts.push(Put {
         oid,
@@ -138,7 +144,7 @@ fn lose_child(
 }
 
 /// An object with this first leaf below it.
-fn with_first(rung: Rung, first: Oid, puts: Puts) -> Result<Puts, AllocError>
+fn with_first(alloc: Global, rung: Rung, first: Oid, puts: Puts) -> Result<Puts, AllocError>
     ensures { IfOk result (λ all. all ≡ puts
         ++ put_rung rung (inner_node rung.inner.head rung.inner.tail first) ∷ []) }
 {
@@ -148,24 +154,28 @@ fn with_first(rung: Rung, first: Oid, puts: Puts) -> Result<Puts, AllocError>
         inner,
         leaves,
     } = rung;
-    let Inner {
-        head,
-        tail,
-        first: _,
-    } = inner;
+    let tail = with_branches(ListOf::new(alloc), inner.tail.as_slice())?;
+    let head = inner.head;
+    let node = Node::Inner(Shared::new(alloc, Inner { head, tail, first })?);
     let mut puts = puts;
     puts.push(Put {
         oid,
         class,
         leaves,
-        node: Node::Inner(Inner { head, tail, first }),
+        node,
     })?;
     Ok(puts)
 }
 
 /// The child behind so many separators has this first leaf now.
 #[tactic(auto, using(crate::proofs::Raising::first_behind))]
-fn move_first(place: usize, first: Oid, rung: Rung, puts: Puts) -> Result<Loss, AllocError>
+fn move_first(
+    alloc: Global,
+    place: usize,
+    first: Oid,
+    rung: Rung,
+    puts: Puts,
+) -> Result<Loss, AllocError>
     ensures { IfOk result (λ loss. loss ≡ move_first place first rung puts) }
 {
     if place > 0 {
@@ -178,7 +188,7 @@ fn move_first(place: usize, first: Oid, rung: Rung, puts: Puts) -> Result<Loss, 
     if rung.inner.first == first {
         return Ok(Loss { puts, rest });
     }
-    let puts = with_first(rung, first, puts)?;
+    let puts = with_first(alloc, rung, first, puts)?;
     Ok(Loss { puts, rest })
 }
 
@@ -196,7 +206,7 @@ fn lose(
     let Loss { puts, rest } = below;
     match rest {
         Rest::Gone => lose_child(alloc, place, known, rung, puts),
-        Rest::First(first) => move_first(place, first, rung, puts),
+        Rest::First(first) => move_first(alloc, place, first, rung, puts),
         Rest::Same => Ok(Loss { puts, rest }),
     }
 }

@@ -3,7 +3,7 @@
 ghost use Rattle.std.specs.Prelude.{◌≡◌, ◌++◌, ◌∷◌, [], ◌<◌, length, slice_get, Some, IfOk, OnOk, MatchOption};
 ghost use Rattle.btree_removing.specs.Rungs.{rungs_of};
 
-use btree_shapes::{Path, Step};
+use btree_shapes::{Path, Shared, Step};
 use bucket_state::Inner;
 use pickle_graph::Pickle;
 use std::alloc::{AllocError, Global};
@@ -16,8 +16,8 @@ use zb_ids::Oid;
 #[derive(Drop)]
 pub(crate) struct Rung {
     pub oid: Oid,
-    pub class: Pickle,
-    pub inner: Inner,
+    pub class: Shared<Pickle>,
+    pub inner: Shared<Inner>,
     pub leaves: bool,
 }
 

@@ -9,7 +9,7 @@ ghost use Rattle.btree_setting.specs.Bottoms.{leaf_at, bottom_of};
 use crate::inserting::set_item;
 use btree_family::{Bucket, Key};
 use btree_putting::{has_key, has_value};
-use btree_shapes::Node;
+use btree_shapes::{Node, Shared};
 use pickle_graph::Pickle;
 use std::alloc::{AllocError, Global};
 use zb_ids::{Oid, Text8};
@@ -29,7 +29,7 @@ pub(crate) enum Place {
 #[derive(Drop)]
 pub(crate) struct End {
     pub oid: Oid,
-    pub class: Pickle,
+    pub class: Shared<Pickle>,
     pub node: Node,
     pub is_root: bool,
 }
@@ -39,8 +39,8 @@ pub(crate) struct End {
 #[derive(Drop)]
 pub(crate) struct Bottom {
     pub oid: Oid,
-    pub class: Pickle,
-    pub leaf: Bucket,
+    pub class: Shared<Pickle>,
+    pub leaf: Shared<Bucket>,
     pub place: Place,
     pub adds: bool,
 }
@@ -76,7 +76,7 @@ fn leaf_has_key(leaf: &Bucket, key: &Key) -> bool
 }
 
 /// The leaf at the end of a way, and where it stands. There is none where others stand below the object.
-fn leaf_at(node: Node, is_root: bool) -> Option<(Bucket, Place)>
+fn leaf_at(node: Node, is_root: bool) -> Option<(Shared<Bucket>, Place)>
     ensures { result ≡ leaf_at node is_root }
 {
     match node {
@@ -114,7 +114,7 @@ pub(crate) fn bottom_of(
         return Ok(None);
     }
     let adds = !leaf_has_key(&leaf, key);
-    let leaf = set_leaf(alloc, &leaf, key.clone()?, value)?;
+    let leaf = Shared::new(alloc, set_leaf(alloc, &leaf, key.clone()?, value)?)?;
     Ok(Some(Bottom {
         oid,
         class,

@@ -8,10 +8,11 @@ ghost use Rattle.btree_setting.specs.Changes.{AreDrawn, BranchesCut, LeafSplits,
 use crate::bottom::{Bottom, Place};
 use crate::change::{Change, Sprout};
 use crate::inserting::insert_branch;
+use crate::pieces::{inner_node, leaf_node, number_at, one_branch};
 use crate::rung::{Rung, Seam};
 use btree_family::{Bucket, Item, Key};
-use btree_putting::{Put, Puts, copy_pickle, with_branches, with_items};
-use btree_shapes::Node;
+use btree_putting::{Put, Puts, with_branches, with_items};
+use btree_shapes::{Node, Shared};
 use bucket_state::{Branch, Inner};
 use pickle_graph::Pickle;
 use std::alloc::{AllocError, Global};
@@ -20,8 +21,8 @@ use zb_ids::{ListOf, Oid};
 /// The classes of new objects: of leaves, and of objects with others below them.
 #[derive(Drop)]
 pub(crate) struct Plain {
-    pub leaf: Pickle,
-    pub inner: Pickle,
+    pub leaf: Shared<Pickle>,
+    pub inner: Shared<Pickle>,
 }
 
 /// How many items a leaf and how many children an object above it has at most, the key that is set, and the classes
@@ -34,29 +35,19 @@ pub(crate) struct Terms {
     pub plain: Plain,
 }
 
-/// The number at a place. Where there are too few, it is refused as want of memory.
-fn number_at(oids: &[Oid], place: usize) -> Result<Oid, AllocError>
-    ensures { IfOk result (λ oid. slice_get oids.now place ≡ Some oid) }
-{
-    match oids.get(place) {
-        Some(oid) => Ok(*oid),
-        None => Err(AllocError),
-    }
-}
-
 /// One object that changes, where nothing goes further up.
 #[tactic(auto, using(crate::proofs::Numbers::drawn_empty))]
 fn one_put(
     alloc: Global,
     oid: Oid,
-    class: &Pickle,
+    class: &Shared<Pickle>,
     leaves: bool,
     node: Node,
 ) -> Result<Change, AllocError>
     ensures change { IfOk result (λ change. change ≡ one_put oid class.now leaves node) }
     ensures drawn { IfOk result (λ change. (oids : List ℕ) → AreDrawn oids change.news) }
 {
-    let class = copy_pickle(alloc, class)?;
+    let class = class.again()?;
     let mut olds = Puts::new(alloc);
     olds.push(Put {
         oid,
@@ -115,16 +106,16 @@ fn split_leaf(
     let mut news = Puts::new(alloc);
     news.push(Put {
         oid: new,
-        class: copy_pickle(alloc, &plain.leaf)?,
+        class: plain.leaf.again()?,
         leaves: false,
-        node: Node::Leaf(Bucket::new(right, bottom.leaf.next())),
+        node: leaf_node(alloc, right, bottom.leaf.next())?,
     })?;
     let mut olds = Puts::new(alloc);
     olds.push(Put {
         oid: bottom.oid,
-        class: copy_pickle(alloc, &bottom.class)?,
+        class: bottom.class.again()?,
         leaves: false,
-        node: Node::Leaf(Bucket::new(left, Some(new))),
+        node: leaf_node(alloc, left, Some(new))?,
     })?;
     Ok(Change {
         news,
@@ -135,15 +126,6 @@ fn split_leaf(
             first: new,
         }),
     })
-}
-
-/// The branch to the second of two new objects, alone.
-fn one_branch(alloc: Global, key: Key, child: Oid) -> Result<ListOf<Branch>, AllocError>
-    ensures { IfOk result (λ branches. branches ≡ record { key = key; child = child } ∷ []) }
-{
-    let mut branches = ListOf::new(alloc);
-    branches.push(Branch { key, child })?;
-    Ok(branches)
 }
 
 /// A leaf without a number that is split: its halves go into two new leaves, and its object gets these two.
@@ -164,41 +146,35 @@ fn split_lone(
     let mut news = Puts::new(alloc);
     news.push(Put {
         oid: new,
-        class: copy_pickle(alloc, &plain.leaf)?,
+        class: plain.leaf.again()?,
         leaves: false,
-        node: Node::Leaf(Bucket::new(left, Some(other))),
+        node: leaf_node(alloc, left, Some(other))?,
     })?;
     news.push(Put {
         oid: other,
-        class: copy_pickle(alloc, &plain.leaf)?,
+        class: plain.leaf.again()?,
         leaves: false,
-        node: Node::Leaf(Bucket::new(right, bottom.leaf.next())),
+        node: leaf_node(alloc, right, bottom.leaf.next())?,
     })?;
     let mut olds = Puts::new(alloc);
     olds.push(Put {
         oid: bottom.oid,
-        class: copy_pickle(alloc, &bottom.class)?,
+        class: bottom.class.again()?,
         leaves: true,
-        node: Node::Inner(Inner {
-            head: new,
-            tail: one_branch(alloc, key, other)?,
-            first: new,
-        }),
+        node: inner_node(
+            alloc,
+            Inner {
+                head: new,
+                tail: one_branch(alloc, key, other)?,
+                first: new,
+            },
+        )?,
     })?;
     Ok(Change {
         news,
         olds,
         up: None,
     })
-}
-
-/// A leaf again.
-#[tactic(auto, using(crate::proofs::Buckets::same_contents))]
-fn copy_leaf(alloc: Global, leaf: &Bucket) -> Result<Bucket, AllocError>
-    ensures { IfOk result (λ copy. copy ≡ leaf.now) }
-{
-    let items = with_items(ListOf::new(alloc), leaf.items().as_slice())?;
-    Ok(Bucket::new(items, leaf.next()))
 }
 
 /// Whether a leaf got a new key, and has too many items.
@@ -222,19 +198,19 @@ pub(crate) fn grow_leaf(
     let grows = leaf_grows(terms.leaf, bottom);
     match bottom.place {
         Place::Alone => {
-            let node = Node::Leaf(copy_leaf(alloc, &bottom.leaf)?);
+            let node = Node::Leaf(bottom.leaf.again()?);
             one_put(alloc, bottom.oid, &bottom.class, false, node)
         }
         Place::Below => {
             if !grows {
-                let node = Node::Leaf(copy_leaf(alloc, &bottom.leaf)?);
+                let node = Node::Leaf(bottom.leaf.again()?);
                 return one_put(alloc, bottom.oid, &bottom.class, false, node);
             }
             split_leaf(alloc, &terms.plain, bottom, oids)
         }
         Place::Lone => {
             if !grows {
-                let node = Node::Lone(copy_leaf(alloc, &bottom.leaf)?);
+                let node = Node::Lone(bottom.leaf.again()?);
                 return one_put(alloc, bottom.oid, &bottom.class, false, node);
             }
             split_lone(alloc, &terms.plain, bottom, oids)
@@ -308,12 +284,12 @@ fn with_old(
         ++ record { oid = rung.now.oid; class = rung.now.class; leaves = leaves; node = Node.Inner inner } ∷ []) }
 {
     let mut olds = olds;
-    let class = copy_pickle(alloc, &rung.class)?;
+    let class = rung.class.again()?;
     olds.push(Put {
         oid: rung.oid,
         class,
         leaves,
-        node: Node::Inner(inner),
+        node: inner_node(alloc, inner)?,
     })?;
     Ok(olds)
 }
@@ -336,12 +312,12 @@ fn with_new(
     ensures drawn { IfOk result (λ all. AreDrawn oids.now all) }
 {
     let mut news = news;
-    let class = copy_pickle(alloc, &plain.inner)?;
+    let class = plain.inner.again()?;
     news.push(Put {
         oid,
         class,
         leaves,
-        node: Node::Inner(inner),
+        node: inner_node(alloc, inner)?,
     })?;
     Ok(news)
 }

@@ -7,6 +7,7 @@ mod change;
 mod drawing;
 mod growing;
 mod inserting;
+mod pieces;
 mod planning;
 mod preparing;
 mod rung;

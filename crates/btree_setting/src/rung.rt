@@ -4,7 +4,7 @@ ghost use Rattle.std.specs.Prelude.{◌≡◌, ◌++◌, ◌∷◌, [], ◌<◌,
 ghost use Rattle.btree_setting.specs.Rungs.{child_asked, seam_child, seam_for, rungs_of, is_full};
 
 use btree_family::Key;
-use btree_shapes::{Path, Step, place_for};
+use btree_shapes::{Path, Shared, Step, place_for};
 use bucket_state::{Branch, Inner};
 use pickle_graph::Pickle;
 use std::alloc::{AllocError, Global};
@@ -28,8 +28,8 @@ pub(crate) enum Seam {
 #[derive(Drop)]
 pub(crate) struct Rung {
     pub oid: Oid,
-    pub class: Pickle,
-    pub inner: Inner,
+    pub class: Shared<Pickle>,
+    pub inner: Shared<Inner>,
     pub leaves: bool,
     pub seam: Seam,
 }

@@ -21,7 +21,7 @@ use crate::preparing::{Sizes, Task, prepare};
 use crate::value::fits_class;
 use btree_family::{Key, key_fits, leaf_of};
 use btree_putting::{Family, KeptPuts, Puts, in_order, keep_all, plain_class, store_all};
-use btree_shapes::{Space, TreeError, follow_root, read_root};
+use btree_shapes::{Shared, Space, TreeError, follow_root, read_root};
 use bucket_state::{links_stand_apart, same_graphs_hold_the_same, written_objects_read_back};
 use std::alloc::{AllocError, Global};
 use zb_ids::{Oid, Text8};
@@ -47,7 +47,10 @@ fn terms_of(
         leaf: sizes.leaf,
         inner: sizes.inner,
         key,
-        plain: Plain { leaf, inner },
+        plain: Plain {
+            leaf: Shared::new(alloc, leaf)?,
+            inner: Shared::new(alloc, inner)?,
+        },
     }))
 }
 

@@ -1,3 +1,4 @@
 pub mod Entries
 pub mod Goings
+pub mod Halving
 pub mod Meeting

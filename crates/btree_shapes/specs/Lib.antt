@@ -9,3 +9,4 @@ pub mod Steps
 pub mod Met
 pub mod MetLaws
 pub mod Shapes
+pub mod RiseLaws

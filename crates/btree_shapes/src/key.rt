@@ -1,6 +1,7 @@
 //! Keys, and whether they are of a node's kind.
 
-ghost use Rattle.std.specs.Prelude.{◌≡◌, ◌≤◌, length};
+ghost use Rattle.std.specs.Prelude.{◌≡◌, ◌≤◌, None, length};
+ghost use Rattle.btree_family.specs.Rising.{Rises};
 ghost use Rattle.btree_family.specs.Buckets.{keys_of};
 ghost use Rattle.bucket_state.specs.Trees.{separators_of};
 ghost use Rattle.btree_shapes.specs.Keys;
@@ -51,4 +52,24 @@ pub fn place_for(branches: &[Branch], key: &Key) -> usize
         }
     }
     branches.len()
+}
+
+/// The same by halves, where the separators rise.
+#[tactic(auto, using(crate::proofs::Halving::place_within, crate::proofs::Halving::place_before, crate::proofs::Halving::place_behind))]
+pub(crate) fn place_by_halves(branches: &[Branch], key: &Key) -> usize
+    requires rises { Rises None (separators_of branches.now) }
+    ensures is { result ≡ place_for branches.now key.now }
+    ensures within { result ≤ length branches.now }
+{
+    let mut low = 0;
+    let mut high = branches.len();
+    'halves: while low < high {
+        let middle = low + (high - low) / 2;
+        if is_below(key, &branches[middle].key) {
+            high = middle;
+        } else {
+            low = middle + 1;
+        }
+    }
+    low
 }

@@ -8,6 +8,7 @@ mod key;
 mod node;
 mod path;
 mod reading;
+mod shared;
 mod space;
 mod way;
 
@@ -17,5 +18,6 @@ pub use key::{is_below, place_for, suits_branches, suits_items};
 pub use node::{Node, child_for, read_node, suits, value_in};
 pub use path::{Path, Step};
 pub use reading::{Entry, Rooted, read_entry, read_root};
+pub use shared::Shared;
 pub use space::{Call, Recalled, Space, SpaceError};
 pub use way::{Found, find, follow_root};

@@ -1,16 +1,18 @@
 //! What an object of a tree holds.
 
-ghost use Rattle.std.specs.Prelude.{◌≡◌, ◌&&◌, IfOk};
+ghost use Rattle.std.specs.Prelude.{◌≡◌, ◌&&◌, None, IfOk};
 ghost use Rattle.btree_family.specs.Classes.{class_seen};
 ghost use Rattle.bucket_state.specs.Answers.{AnswersFound};
-ghost use Rattle.bucket_state.specs.Trees.{tree_state_of};
+ghost use Rattle.btree_family.specs.Rising.{Rises};
+ghost use Rattle.bucket_state.specs.Trees.{separators_of, tree_state_of};
 ghost use Rattle.bucket_state.specs.States.{bucket_of};
 ghost use Rattle.std.specs.Option.{option_map};
 ghost use Rattle.btree_shapes.specs.declared.node.Node.TheVariants.{Leaf};
 ghost use Rattle.btree_shapes.specs.Nodes.{lone_or_inner, own_node, leaf_named, node_of, node_suits, child_for, value_in, shown};
 
 use crate::class::is_class_of;
-use crate::key::{is_below, suits_branches, suits_items};
+use crate::key::{place_by_halves, suits_branches, suits_items};
+use crate::shared::Shared;
 use btree_family::{Bucket, ClassRow, Item, Key, Kind, leaf_of};
 use bucket_state::{Inner, StateError, TreeState, read_bucket, read_tree};
 use pickle_graph::Pickle;
@@ -22,21 +24,37 @@ use zb_record::ObjectRecord;
 #[derive(Drop)]
 pub enum Node {
     /// A tree's object without others below it: the items of its one leaf, which is no object of its own.
-    Lone(Bucket),
+    Lone(Shared<Bucket>),
     /// A bucket or a set.
-    Leaf(Bucket),
+    Leaf(Shared<Bucket>),
     /// A tree's object with others below it.
-    Inner(Inner),
+    Inner(Shared<Inner>),
+}
+
+impl Node {
+    /// What the object holds, with one owner more.
+    pub fn again(&self) -> Result<Node, AllocError>
+        ensures { IfOk result (λ node. node ≡ self.now) }
+    {
+        match self {
+            Node::Lone(bucket) => Ok(Node::Lone(bucket.again()?)),
+            Node::Leaf(bucket) => Ok(Node::Leaf(bucket.again()?)),
+            Node::Inner(inner) => Ok(Node::Inner(inner.again()?)),
+        }
+    }
 }
 
 /// The state of a tree's object as a node.
-fn lone_or_inner(alloc: Global, state: TreeState) -> Node
-    ensures { result ≡ lone_or_inner state }
+fn lone_or_inner(alloc: Global, state: TreeState) -> Result<Node, AllocError>
+    ensures { IfOk result (λ node. node ≡ lone_or_inner state) }
 {
     match state {
-        TreeState::Empty => Node::Lone(Bucket::new(ListOf::new(alloc), None)),
-        TreeState::Leaf(leaf) => Node::Lone(leaf),
-        TreeState::Children(inner) => Node::Inner(inner),
+        TreeState::Empty => {
+            let leaf = Bucket::new(ListOf::new(alloc), None);
+            Ok(Node::Lone(Shared::new(alloc, leaf)?))
+        }
+        TreeState::Leaf(leaf) => Ok(Node::Lone(Shared::new(alloc, leaf)?)),
+        TreeState::Children(inner) => Ok(Node::Inner(Shared::new(alloc, inner)?)),
     }
 }
 
@@ -45,7 +63,7 @@ fn read_leaf(alloc: Global, row: &ClassRow, state: &Pickle) -> Result<Node, Stat
     ensures { AnswersFound result (option_map Leaf (bucket_of (class_seen row.now) state.now)) }
 {
     let bucket = read_bucket(alloc, state, row)?;
-    Ok(Node::Leaf(bucket))
+    Ok(Node::Leaf(Shared::new(alloc, bucket)?))
 }
 
 /// An object of a tree of this class.
@@ -53,7 +71,7 @@ fn read_root(alloc: Global, row: &ClassRow, state: &Pickle) -> Result<Node, Stat
     ensures { AnswersFound result (option_map lone_or_inner (tree_state_of (class_seen row.now) state.now)) }
 {
     let tree = read_tree(alloc, state, row)?;
-    Ok(lone_or_inner(alloc, tree))
+    Ok(lone_or_inner(alloc, tree)?)
 }
 
 /// What a state of this very class holds.
@@ -108,18 +126,18 @@ pub fn suits(fits: bool, key: &Key, node: &Node) -> bool
     fits && node_suits(key, node)
 }
 
-/// The last child whose separator isn't above the key, or else the first child.
+/// The last child whose separator isn't above the key, or else the first child, where the separators rise.
+#[tactic(auto, using(crate::proofs::Halving::child_first, crate::proofs::Halving::child_behind))]
 pub fn child_for(inner: &Inner, key: &Key) -> Oid
+    requires rises { Rises None (separators_of inner.now.tail) }
     ensures { result ≡ child_for inner.now.head inner.now.tail key.now }
 {
-    let mut child = inner.head;
-    for branch in inner.tail.as_slice() {
-        if is_below(key, &branch.key) {
-            return child;
-        }
-        child = branch.child;
+    let branches = inner.tail.as_slice();
+    let place = place_by_halves(branches, key);
+    if place == 0 {
+        return inner.head;
     }
-    child
+    branches[place - 1].child
 }
 
 /// The value as it is shown: a member of a set has the spelling of True.

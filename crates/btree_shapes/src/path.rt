@@ -3,6 +3,7 @@
 ghost use Rattle.std.specs.Prelude.{◌≡◌, ◌+◌, ◌++◌, ◌∷◌, [], ◌<◌, ◌^◌, ◌↔◌, length, OnOk, IsTrue, MatchOption, map};
 ghost use Rattle.btree_shapes.specs.Ways.{stands_in, step_oid};
 
+use crate::shared::Shared;
 use bucket_state::Inner;
 use pickle_graph::Pickle;
 use std::alloc::{AllocError, Global};
@@ -13,8 +14,8 @@ use zb_ids::Oid;
 #[derive(Drop)]
 pub struct Step {
     pub oid: Oid,
-    pub class: Pickle,
-    pub inner: Inner,
+    pub class: Shared<Pickle>,
+    pub inner: Shared<Inner>,
 }
 
 /// The objects with others below them on a way down, from the root on.

@@ -10,19 +10,31 @@ ghost use Rattle.btree_shapes.specs.Reading.{IsUnread, HoldsRecord, IsEntry, IsR
 use crate::class::class_of;
 use crate::error::TreeError;
 use crate::node::{Node, read_node};
+use crate::shared::Shared;
 use crate::space::{Recalled, Space, SpaceError};
 use btree_family::ClassRow;
 use bucket_state::StateError;
 use pickle_graph::Pickle;
-use std::alloc::Global;
+use std::alloc::{AllocError, Global};
 use zb_ids::Oid;
 use zb_record::ObjectRecord;
 
 /// An object of a tree: its class and what it holds.
 #[derive(Drop)]
 pub struct Entry {
-    pub class: Pickle,
+    pub class: Shared<Pickle>,
     pub node: Node,
+}
+
+impl Entry {
+    /// The object, with one owner more of what it holds.
+    pub fn again(&self) -> Result<Entry, AllocError>
+        ensures { IfOk result (λ entry. entry ≡ self.now) }
+    {
+        let class = self.class.again()?;
+        let node = self.node.again()?;
+        Ok(Entry { class, node })
+    }
 }
 
 /// The root of a tree, and its class of BTrees.
@@ -61,10 +73,10 @@ fn entry_of(
     ensures own { handed_on result ≡ [] }
 {
     match read_node(alloc, row, &object) {
-        Ok(node) => Ok(Entry {
-            class: object.class,
-            node,
-        }),
+        Ok(node) => {
+            let class = Shared::new(alloc, object.class)?;
+            Ok(Entry { class, node })
+        }
         Err(StateError::BadState) => Err(TreeError::NotATree { oid }),
         Err(StateError::Memory) => Err(TreeError::Memory),
     }

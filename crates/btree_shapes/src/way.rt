@@ -13,6 +13,7 @@ use crate::error::TreeError;
 use crate::node::{Node, child_for, suits};
 use crate::path::{Path, Step};
 use crate::reading::{Entry, Rooted, read_entry, read_root};
+use crate::shared::Shared;
 use crate::space::Space;
 use btree_family::{Key, key_fits};
 use pickle_graph::Pickle;
@@ -24,7 +25,7 @@ use zb_ids::Oid;
 pub struct Found {
     pub path: Path,
     pub oid: Oid,
-    pub class: Pickle,
+    pub class: Shared<Pickle>,
     pub node: Node,
 }
 

@@ -4,3 +4,5 @@ pub mod Tracking
 mod Recalled
 pub mod Alike
 pub mod Setting
+pub mod Looking
+mod Closing

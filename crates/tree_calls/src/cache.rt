@@ -1,20 +1,17 @@
 //! Objects of trees that were read before.
 
-ghost use Rattle.std.specs.Prelude.{◌≡◌, true, Some, IfOk, IfSome};
+ghost use Rattle.std.specs.Prelude.{◌≡◌, true, Some, IfSome};
 ghost use Rattle.btree_family.specs.Classes.{class_seen};
 ghost use Rattle.btree_shapes.specs.Nodes.{Holds, held_in};
 
-use btree_family::{Bucket, ClassRow};
-use btree_putting::{copy_pickle, with_branches, with_items};
-use btree_shapes::{Entry, Node, Recalled};
-use bucket_state::Inner;
+use btree_family::ClassRow;
+use btree_shapes::{Entry, Recalled};
 use indexmap::IndexMap;
 use std::alloc::{AllocError, Global};
 use std::mem::swap;
-use zb_ids::{ListOf, Oid, Text8};
+use zb_ids::{Oid, Text8};
 
-/// How much the objects of one half of what is remembered count together, at most: then the older
-/// half is forgotten.
+/// How much the objects of one half of what is remembered count together, at most: then the older half is forgotten.
 const LIMIT: usize = 1 << 22;
 
 /// How much an object counts beside its bytes.
@@ -29,8 +26,8 @@ struct Parsed {
     ghost holds: { held_in (Some (class_seen row.now)) (Some bytes) ≡ Holds entry.class entry.node },
 }
 
-/// What objects of trees held when they were read, so that the same bytes need not be read again.
-/// What it holds shows in no answer.
+/// What objects of trees held when they were read, so that the same bytes need not be read again. What it holds shows in no
+/// answer.
 #[derive(Drop)]
 pub struct NodeCache {
     // What was remembered last.
@@ -41,55 +38,16 @@ pub struct NodeCache {
     old: IndexMap<Oid, Parsed>,
 }
 
-/// A node again.
-fn copy_node(alloc: Global, node: &Node) -> Result<Node, AllocError>
-    ensures { IfOk result (λ copy. copy ≡ node.now) }
-{
-    match node {
-        Node::Lone(bucket) => {
-            let items = with_items(ListOf::new(alloc), bucket.items().as_slice())?;
-            Ok(Node::Lone(Bucket::new(items, bucket.next())))
-        }
-        Node::Leaf(bucket) => {
-            let items = with_items(ListOf::new(alloc), bucket.items().as_slice())?;
-            Ok(Node::Leaf(Bucket::new(items, bucket.next())))
-        }
-        Node::Inner(inner) => {
-            let tail = with_branches(ListOf::new(alloc), inner.tail.as_slice())?;
-            Ok(Node::Inner(Inner {
-                head: inner.head,
-                tail,
-                first: inner.first,
-            }))
-        }
-    }
-}
-
-/// What an object holds again.
-fn copy_entry(alloc: Global, entry: &Entry) -> Result<Entry, AllocError>
-    ensures { IfOk result (λ copy. copy ≡ entry.now) }
-{
-    let class = copy_pickle(alloc, &entry.class)?;
-    let node = copy_node(alloc, &entry.node)?;
-    Ok(Entry { class, node })
-}
-
 /// What bytes hold, and a copy of them.
-fn parsed_copy(
-    alloc: Global,
-    bytes: &Text8,
-    row: &'static ClassRow,
-    entry: &Entry,
-) -> Result<Parsed, AllocError>
+fn parsed_copy(bytes: &Text8, row: &'static ClassRow, entry: &Entry) -> Result<Parsed, AllocError>
     requires holds { held_in (Some (class_seen row.now)) (Some bytes.now) ≡ Holds entry.now.class entry.now.node }
 {
     let bytes = bytes.clone()?;
-    let entry = copy_entry(alloc, entry)?;
+    let entry = entry.again()?;
     Ok(Parsed { bytes, row, entry })
 }
 
-/// Whether two texts are the same. It looks at all their bytes, so that several are compared at a
-/// time.
+/// Whether two texts are the same. It looks at all their bytes, so that several are compared at a time.
 #[tactic(auto, using(crate::proofs::Recalled::same_start, crate::proofs::Recalled::same_end))]
 fn same_bytes(a: &[u8], b: &[u8]) -> bool
     ensures { result ≡ true → a.now ≡ b.now }
@@ -108,14 +66,14 @@ fn same_bytes(a: &[u8], b: &[u8]) -> bool
 
 /// What was parsed, where these are its bytes.
 #[tactic(auto, using(crate::proofs::Recalled::held_same))]
-fn parsed_as(alloc: Global, parsed: &Parsed, bytes: &Text8) -> Option<Recalled>
+fn parsed_as(parsed: &Parsed, bytes: &Text8) -> Option<Recalled>
     ensures { IfSome result (λ recalled. held_in (Some (class_seen recalled.row.now)) (Some bytes.now)
         ≡ Holds recalled.entry.class recalled.entry.node) }
 {
     if !same_bytes(parsed.bytes.as_slice(), bytes.as_slice()) {
         return None;
     }
-    match copy_entry(alloc, &parsed.entry) {
+    match parsed.entry.again() {
         Ok(entry) => Some(Recalled {
             row: parsed.row,
             entry,
@@ -125,18 +83,12 @@ fn parsed_as(alloc: Global, parsed: &Parsed, bytes: &Text8) -> Option<Recalled>
 }
 
 /// What an object holds, where it was remembered with these bytes.
-fn found_in(
-    alloc: Global,
-    nodes: &IndexMap<Oid, Parsed>,
-    oid: Oid,
-    bytes: &Text8,
-) -> Option<Recalled>
-    ensures { IfSome result (λ recalled.
-        held_in (Some (class_seen recalled.row.now)) (Some bytes.now)
+fn found_in(nodes: &IndexMap<Oid, Parsed>, oid: Oid, bytes: &Text8) -> Option<Recalled>
+    ensures { IfSome result (λ recalled. held_in (Some (class_seen recalled.row.now)) (Some bytes.now)
         ≡ Holds recalled.entry.class recalled.entry.node) }
 {
     let parsed = nodes.get(&oid)?;
-    parsed_as(alloc, parsed, bytes)
+    parsed_as(parsed, bytes)
 }
 
 impl NodeCache {
@@ -150,33 +102,26 @@ impl NodeCache {
     }
 
     /// What an object holds, where these are the bytes that it had when it was read last.
-    pub(crate) fn find(&self, alloc: Global, oid: Oid, bytes: &Text8) -> Option<Recalled>
+    pub(crate) fn find(&self, oid: Oid, bytes: &Text8) -> Option<Recalled>
         ensures { IfSome result (λ recalled. held_in (Some (class_seen recalled.row.now)) (Some bytes.now)
             ≡ Holds recalled.entry.class recalled.entry.node) }
     {
-        match found_in(alloc, &self.young, oid, bytes) {
+        match found_in(&self.young, oid, bytes) {
             Some(recalled) => Some(recalled),
-            None => found_in(alloc, &self.old, oid, bytes),
+            None => found_in(&self.old, oid, bytes),
         }
     }
 
-    /// Remembers what an object with these bytes holds, where there is memory for it and it isn't
-    /// too long. Where too much is remembered, what is older than the newest half is forgotten first.
-    pub(crate) fn keep(
-        &mut self,
-        alloc: Global,
-        oid: Oid,
-        bytes: &Text8,
-        row: &'static ClassRow,
-        entry: &Entry,
-    )
+    /// Remembers what an object with these bytes holds, where there is memory for it and it isn't too long. Where too much is
+    /// remembered, what is older than the newest half is forgotten first.
+    pub(crate) fn keep(&mut self, oid: Oid, bytes: &Text8, row: &'static ClassRow, entry: &Entry)
         requires holds { held_in (Some (class_seen row.now)) (Some bytes.now) ≡ Holds entry.now.class entry.now.node }
     {
         let size = bytes.len().saturating_add(EACH);
         if size > LIMIT {
             return;
         }
-        let Ok(parsed) = parsed_copy(alloc, bytes, row, entry) else {
+        let Ok(parsed) = parsed_copy(bytes, row, entry) else {
             return;
         };
         if self.size.saturating_add(size) > LIMIT {

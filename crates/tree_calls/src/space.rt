@@ -249,7 +249,7 @@ impl<'a, B: Sight> Space for KnownSpace<'a, B> {
     #[tactic(auto, using(crate::proofs::Recalled::held_same))]
     fn recall(&self, oid: Oid) -> Option<Recalled> {
         let bytes = bytes_standing(self.known, &self.puts, oid)?;
-        self.cache.find(self.alloc, oid, bytes)
+        self.cache.find(oid, bytes)
     }
 
     fn reread(&mut self, oid: Oid) -> Result<(), AllocError> {
@@ -259,7 +259,7 @@ impl<'a, B: Sight> Space for KnownSpace<'a, B> {
     #[tactic(auto, using(crate::proofs::Recalled::held_same))]
     fn remember(&mut self, oid: Oid, row: &'static ClassRow, entry: &Entry) {
         if let Some(bytes) = bytes_standing(self.known, &self.puts, oid) {
-            self.cache.keep(self.alloc, oid, bytes, row, entry);
+            self.cache.keep(oid, bytes, row, entry);
         }
     }
 }

@@ -1,8 +1,10 @@
-use Rattle.std.proofs.Common.{◌≡◌, ◌∙◌, true, false, append-nil, arith, refl}
+use Rattle.std.proofs.Common.{◌≡◌, ◌∙◌, true, false, append-nil, arith, refl, ap}
+use Rattle.bucket_state.specs.declared.tree.Inner.{Inner}
 use Rattle.btree_shapes.specs.declared.node.Node.TheVariants as node
 use Rattle.btree_shapes.specs.Nodes.{Holds, node_suits, objects_of}
 use Rattle.btree_shapes.specs.Ways.{stands_in}
 use Rattle.btree_shapes.specs.MetLaws.{up_to_end}
+use Rattle.btree_removing.specs.Lasts.{last_child}
 use Rattle.btree_removing.proofs.Lasting.{twice, bad_key, ends_lone, ends_leaf, onward, read_start, read_step, read_end, logged_here, met_onward, read_here}
 use Rattle.btree_removing.proofs.last.follow_last.Goals as goal
 
@@ -25,10 +27,11 @@ down-preserved g c =
     let h : objects_of (g.S.Space.contents c.args.space.now) c.args.tree.now.root c.down.oid ≡ Holds c.in_ok-class.field-0.class (node.Inner c.in-Inner.inner) =
     cc (rw c.down.invariant.contents at c.in_ok-class.ensures.entry) in
     let pushed = c.in_ok-push-in-Inner.ensures.ok in
+    let next = c.last_child-next.ensures ∙ ap (λ (i : Inner). last_child i.head i.tail) c.deref.ensures in
     record {
-      gives = onward _ _ _ _ _ _ _ _ _ c.down.invariant.gives c.stands_in.ensures.room s h t c.last_child-next.ensures pushed;
+      gives = onward _ _ _ _ _ _ _ _ _ c.down.invariant.gives c.stands_in.ensures.room s h t next pushed;
       log = λ t. read_step _ _ _ _ _ _ _ (c.down.invariant.log t) (c.in_ok-class.ensures.log t) pushed;
-      met = λ t. met_onward (objects_of (g.S.Space.contents c.args.space.now) c.args.tree.now.root) c.down.above _ c.down.oid _ _ _ _ _ _ _ (c.down.invariant.met t) c.stands_in.ensures.room s h c.last_child-next.ensures pushed (c.in_ok-class.ensures.log t);
+      met = λ t. met_onward (objects_of (g.S.Space.contents c.args.space.now) c.args.tree.now.root) c.down.above _ c.down.oid _ _ _ _ _ _ _ (c.down.invariant.met t) c.stands_in.ensures.room s h next pushed (c.in_ok-class.ensures.log t);
       contents = c.in_ok-class.ensures.contents ∙ c.down.invariant.contents;
       refusals = λ t. c.in_ok-class.ensures.refusals t ∙ append-nil _ ∙ c.down.invariant.refusals t;
     }

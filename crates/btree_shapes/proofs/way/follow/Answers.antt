@@ -1,13 +1,22 @@
-use Rattle.std.proofs.Common.{◌≡◌, ◌∙◌, true, false, append-nil, arith, refl}
+use Rattle.std.proofs.Common.{◌≡◌, ◌∙◌, true, false, None, append-nil, arith, refl, sym, ap, subst}
 use Rattle.std.specs.Prelude.{map, ◌&&◌}
 use Rattle.btree_shapes.specs.declared.node.Node.TheVariants as node
 use Rattle.btree_shapes.specs.declared.path.Step.{Step}
-use Rattle.btree_shapes.specs.Nodes.{Holds, node_suits, objects_of}
+use Rattle.btree_family.specs.Rising.{Rises}
+use Rattle.bucket_state.specs.declared.tree.Inner.{Inner}
+use Rattle.bucket_state.specs.Trees.{separators_of}
+use Rattle.btree_shapes.specs.Nodes.{Holds, child_for, node_suits, objects_of}
 use Rattle.btree_shapes.specs.Ways.{stands_in, step_oid}
 use Rattle.btree_shapes.proofs.Goings.{twice, bad_key, ends_lone, ends_leaf, onward, read_last, reads_onward}
 use Rattle.btree_shapes.specs.MetLaws.{up_to_end}
 use Rattle.btree_shapes.proofs.Meeting.{logged_here, met_onward, read_here}
+use Rattle.btree_shapes.specs.RiseLaws.{held_rises}
 use Rattle.btree_shapes.proofs.way.follow.Goals as goal
+
+pub child_for-next-requires : goal.child_for-next-requires
+child_for-next-requires g c =
+    let h : objects_of (g.S.Space.contents c.down.space) c.args.tree.now.root c.down.oid ≡ Holds c.in_ok-class.field-0.class (node.Inner c.in-Inner.inner) = cc c.in_ok-class.ensures.entry in
+    record { rises = subst (λ (i : Inner). Rises None (separators_of i.tail)) (sym c.deref.ensures) (held_rises (g.S.Space.contents c.down.space) c.args.tree.now.root c.down.oid c.in_ok-class.field-0.class c.in-Inner.inner h) }
 
 pub returns-then-contains-clause-answer : goal.returns-then-contains-clause-answer
 returns-then-contains-clause-answer g c =
@@ -29,11 +38,12 @@ down-preserved g c =
     cc (rw c.down.invariant.contents at c.in_ok-class.ensures.entry) in
     let step : Step = record { oid = c.down.oid; class = c.in_ok-class.field-0.class; inner = c.in-Inner.inner } in
     let pushed = c.in_ok-push-in-Inner.ensures.ok in
+    let next = c.child_for-next.ensures ∙ ap (λ (i : Inner). child_for i.head i.tail c.args.key.now) c.deref.ensures in
     record {
       room = let r = c.in_ok-push-in-Inner.ensures.room in omega (arith, r);
-      gives = onward _ _ _ _ _ _ _ _ _ _ c.down.invariant.gives c.down.invariant.room s h t c.child_for-next.ensures pushed;
+      gives = onward _ _ _ _ _ _ _ _ _ _ c.down.invariant.gives c.down.invariant.room s h t next pushed;
       log = λ t base e. reads_onward base _ _ _ _ step (c.down.invariant.log t base e) (c.in_ok-class.ensures.log t) pushed;
-      met = λ t. met_onward c.args.key.now (objects_of (g.S.Space.contents c.args.space.now) c.args.tree.now.root) c.down.path _ c.down.oid _ _ _ _ _ _ _ (c.down.invariant.met t) c.down.invariant.room s h c.child_for-next.ensures pushed (c.in_ok-class.ensures.log t);
+      met = λ t. met_onward c.args.key.now (objects_of (g.S.Space.contents c.args.space.now) c.args.tree.now.root) c.down.path _ c.down.oid _ _ _ _ _ _ _ (c.down.invariant.met t) c.down.invariant.room s h next pushed (c.in_ok-class.ensures.log t);
       contents = c.in_ok-class.ensures.contents ∙ c.down.invariant.contents;
       refusals = λ t. c.in_ok-class.ensures.refusals t ∙ append-nil _ ∙ c.down.invariant.refusals t;
     }
