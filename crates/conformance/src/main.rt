@@ -14,15 +14,18 @@ use running::run_case;
 use std::alloc::{AllocError, Global};
 use std::io;
 use std::process::ExitCode;
+use std::sync::Wait;
+use std::thread::Threads;
 
 /// In what a case first differs from what is expected: over a file and, where it is as expected
 /// there and has a run that can be made over the list in memory, over that.
-fn difference_in(
+fn difference_in<R: Threads + Wait + Sync>(
+    threads: &R,
     alloc: Global,
     case: &Case,
     tally: &mut Tally,
 ) -> Result<Option<String>, AllocError> {
-    if let Some(difference) = run_case(alloc, case)? {
+    if let Some(difference) = run_case(threads, alloc, case)? {
         return Ok(Some(difference));
     }
     let Some(run) = list_run(case) else {
@@ -33,20 +36,31 @@ fn difference_in(
 }
 
 /// Runs a case, prints its line, and counts it.
-fn report_case(rt: &HostRuntime, case: &Case, tally: &mut Tally) -> io::Result<()> {
-    let report = report_of(difference_in(rt.alloc(), case, tally)?);
+fn report_case<R: Threads + Wait + Sync>(
+    threads: &R,
+    rt: &HostRuntime,
+    case: &Case,
+    tally: &mut Tally,
+) -> io::Result<()> {
+    let report = report_of(difference_in(threads, rt.alloc(), case, tally)?);
     tally.count(&report, case);
     let line = report.line(rt.alloc(), case)?;
     println!(rt; "{line}")
 }
 
 /// Runs the cases of a file.
-fn report_file(rt: &HostRuntime, folder: &str, name: &str, tally: &mut Tally) -> io::Result<()> {
+fn report_file<R: Threads + Wait + Sync>(
+    threads: &R,
+    rt: &HostRuntime,
+    folder: &str,
+    name: &str,
+    tally: &mut Tally,
+) -> io::Result<()> {
     let text = text_of(rt, folder, name)?;
     match read_cases(rt.alloc(), text.as_str())? {
         Ok(cases) => {
             for case in &cases {
-                report_case(rt, case, tally)?;
+                report_case(threads, rt, case, tally)?;
             }
             Ok(())
         }
@@ -61,11 +75,11 @@ fn report_file(rt: &HostRuntime, folder: &str, name: &str, tally: &mut Tally) ->
 }
 
 /// Runs the cases of all files, and answers whether all are as they are to be.
-fn report_all(rt: &HostRuntime) -> io::Result<bool> {
+fn report_all<R: Threads + Wait + Sync>(threads: &R, rt: &HostRuntime) -> io::Result<bool> {
     let mut tally = Tally::new();
     let folder = folder_of(rt)?;
     for name in case_files(rt, folder.as_str())? {
-        if report_file(rt, folder.as_str(), name.as_str(), &mut tally).is_err() {
+        if report_file(threads, rt, folder.as_str(), name.as_str(), &mut tally).is_err() {
             tally.count_unread();
             println!(rt; "unread {name}")?;
         }
@@ -78,7 +92,7 @@ fn report_all(rt: &HostRuntime) -> io::Result<bool> {
 }
 
 fn main(rt: HostRuntime) -> ExitCode {
-    match report_all(&rt) {
+    match report_all(&rt, &rt) {
         Ok(true) => ExitCode::from(0),
         _ => ExitCode::from(1),
     }

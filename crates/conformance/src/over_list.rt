@@ -2,10 +2,11 @@
 
 use mapping_store::MappingStore;
 use run_cases::{Case, Run, are_replies, tell_replies};
+use script_runs::run_over_store;
 use std::alloc::{AllocError, Global};
 use zb_model::first_transaction;
 use zb_outside::{Clock, ListClock, MemorySink};
-use zodb_top::{run_over_store, turns_of};
+use zodb_top::turns_of;
 
 /// Whether the words of a run are those of a script, behind a path.
 fn runs_a_script(run: &Run) -> bool {

@@ -9,6 +9,9 @@ use run_cases::{
     Case, Each, Left, Outcome, Outside, Run, difference_of, main_of, spend, tell, volume_with,
 };
 use std::alloc::{AllocError, Global};
+use std::sync::Wait;
+use std::thread::Threads;
+use zb_links::{CountedSpawner, MemoryDoors};
 use zb_outside::{Clock, ListClock, MemorySink, MemorySource};
 use zb_volume::MemoryVolume;
 use zodb_top::zodb_main;
@@ -34,6 +37,11 @@ fn with(alloc: Global, numbers: &[u64], more: u64) -> Result<Vec<u64>, AllocErro
     Ok(all)
 }
 
+/// Doors in memory that have no link to give.
+fn closed_doors(alloc: Global) -> MemoryDoors<MemorySink> {
+    MemoryDoors::new(Vec::new(alloc), Vec::new(alloc))
+}
+
 /// What the program did with a volume.
 #[derive(Drop)]
 struct Ending {
@@ -44,7 +52,8 @@ struct Ending {
     volume: MemoryVolume,
 }
 
-fn run_over(
+fn run_over<R: Threads + Wait + Sync>(
+    rt: &R,
     alloc: Global,
     run: &Run,
     failing: Failing,
@@ -60,13 +69,18 @@ fn run_over(
     let mut source = MemorySource::new(script, reads);
     let mut sink = MemorySink::new(alloc, writes);
     let mut clock = ListClock::new(run.first_stamp, later);
+    let mut doors = closed_doors(alloc);
+    let mut spawner = CountedSpawner::new(Vec::new(alloc));
     let (status, volume) = zodb_main(
+        rt,
         alloc,
         run.words.as_slice(),
         &mut source,
         &mut sink,
         volume,
         &mut clock,
+        &mut doors,
+        &mut spawner,
     );
     Ok(Ending {
         status: status as u8,
@@ -78,7 +92,12 @@ fn run_over(
 }
 
 /// What `undolog` writes over an image, and the status where it isn't 0.
-fn listed(alloc: Global, run: &Run, image: MemoryVolume) -> Result<Vec<u8>, AllocError>
+fn listed<R: Threads + Wait + Sync>(
+    rt: &R,
+    alloc: Global,
+    run: &Run,
+    image: MemoryVolume,
+) -> Result<Vec<u8>, AllocError>
     requires { MayStart (log_of image.done) }
 {
     let mut words = Vec::new(alloc);
@@ -87,13 +106,18 @@ fn listed(alloc: Global, run: &Run, image: MemoryVolume) -> Result<Vec<u8>, Allo
     let mut source = MemorySource::new(Vec::new(alloc), Vec::new(alloc));
     let mut sink = MemorySink::new(alloc, Vec::new(alloc));
     let mut clock = ListClock::new(run.first_stamp, Vec::new(alloc));
+    let mut doors = closed_doors(alloc);
+    let mut spawner = CountedSpawner::new(Vec::new(alloc));
     let (status, _) = zodb_main(
+        rt,
         alloc,
         words.as_slice(),
         &mut source,
         &mut sink,
         image,
         &mut clock,
+        &mut doors,
+        &mut spawner,
     );
     let mut lines = Vec::from_slice(alloc, sink.bytes())?;
     let status = status as u8;
@@ -116,7 +140,8 @@ fn image_of(volume: &MemoryVolume, all: bool) -> Result<MemoryVolume, AllocError
 
 /// What a stop now leaves of Main: with all that waits for a sync, or with none of it.
 #[tactic(auto, using(crate::proofs::Starts::starts_same))]
-fn left_by_stop(
+fn left_by_stop<R: Threads + Wait + Sync>(
+    rt: &R,
     alloc: Global,
     run: &Run,
     volume: &MemoryVolume,
@@ -128,11 +153,12 @@ fn left_by_stop(
     if main_of(alloc, &mut image)?.is_empty() {
         return Ok(Left::Empty);
     }
-    Ok(Left::Listed(listed(alloc, run, image)?))
+    Ok(Left::Listed(listed(rt, alloc, run, image)?))
 }
 
 /// What a stop leaves, if it is asked for.
-fn left_if(
+fn left_if<R: Threads + Wait + Sync>(
+    rt: &R,
     alloc: Global,
     run: &Run,
     volume: &MemoryVolume,
@@ -143,13 +169,14 @@ fn left_if(
 {
     match wanted {
         None => Ok(None),
-        Some(_) => Ok(Some(left_by_stop(alloc, run, volume, all)?)),
+        Some(_) => Ok(Some(left_by_stop(rt, alloc, run, volume, all)?)),
     }
 }
 
 /// What a difference says, if there is one, and the volume behind the run.
 #[tactic(auto, using(crate::proofs::Starts::honest_same))]
-fn run_once(
+fn run_once<R: Threads + Wait + Sync>(
+    rt: &R,
     alloc: Global,
     run: &Run,
     failing: Failing,
@@ -160,7 +187,7 @@ fn run_once(
     requires { MayStart (log_of volume.done) }
     ensures { IfOk result (λ r. LeavesHonest (log_of r.1.done)) }
 {
-    let mut ending = run_over(alloc, run, failing, volume)?;
+    let mut ending = run_over(rt, alloc, run, failing, volume)?;
     spend(&mut ending.volume, failing_calls);
     let expected = &run.expected;
     let outcome = Outcome {
@@ -170,8 +197,8 @@ fn run_once(
         main: main_of(alloc, &mut ending.volume)?,
         unread: ending.unread,
         next: ending.clock.stamp(),
-        greatest: left_if(alloc, run, &ending.volume, &expected.greatest, true)?,
-        least: left_if(alloc, run, &ending.volume, &expected.least, false)?,
+        greatest: left_if(rt, alloc, run, &ending.volume, &expected.greatest, true)?,
+        least: left_if(rt, alloc, run, &ending.volume, &expected.least, false)?,
     };
     let text = match difference_of(expected, &outcome) {
         None => None,
@@ -183,7 +210,12 @@ fn run_once(
 /// The difference in the first run of a case in which there is one, where these calls fail in the
 /// first run.
 #[tactic(auto, using(crate::proofs::Starts::starts_new, crate::proofs::Starts::starts_same))]
-fn run_all(alloc: Global, case: &Case, failing: Failing) -> Result<Option<String>, AllocError> {
+fn run_all<R: Threads + Wait + Sync>(
+    rt: &R,
+    alloc: Global,
+    case: &Case,
+    failing: Failing,
+) -> Result<Option<String>, AllocError> {
     let calls = with(alloc, case.failing_calls.as_slice(), failing.call)?;
     let mut volume = volume_with(alloc, case.main.as_slice(), calls.as_slice())?;
     let mut before = Vec::from_slice(alloc, case.main.as_slice())?;
@@ -191,7 +223,7 @@ fn run_all(alloc: Global, case: &Case, failing: Failing) -> Result<Option<String
     let mut number = 0u64;
     'runs: for run in &case.runs {
         number = number.saturating_add(1);
-        let (text, behind) = run_once(alloc, run, failing, volume, before, calls.as_slice())?;
+        let (text, behind) = run_once(rt, alloc, run, failing, volume, before, calls.as_slice())?;
         if let Some(text) = text {
             if number == 1 {
                 return Ok(Some(text));
@@ -223,9 +255,14 @@ fn failing_of(of: Outside, number: u64) -> Failing {
     }
 }
 
-fn run_each(alloc: Global, case: &Case, each: Each) -> Result<Option<String>, AllocError> {
+fn run_each<R: Threads + Wait + Sync>(
+    rt: &R,
+    alloc: Global,
+    case: &Case,
+    each: Each,
+) -> Result<Option<String>, AllocError> {
     for number in each.first..each.last.saturating_add(1) {
-        if let Some(text) = run_all(alloc, case, failing_of(each.of, number))? {
+        if let Some(text) = run_all(rt, alloc, case, failing_of(each.of, number))? {
             return Ok(Some(format!(in alloc; "call {number} fails: {text}")?));
         }
     }
@@ -233,9 +270,13 @@ fn run_each(alloc: Global, case: &Case, each: Each) -> Result<Option<String>, Al
 }
 
 /// In what a case first differs from what is expected, if it does.
-pub fn run_case(alloc: Global, case: &Case) -> Result<Option<String>, AllocError> {
+pub fn run_case<R: Threads + Wait + Sync>(
+    rt: &R,
+    alloc: Global,
+    case: &Case,
+) -> Result<Option<String>, AllocError> {
     match case.each {
-        None => run_all(alloc, case, NONE_FAIL),
-        Some(each) => run_each(alloc, case, each),
+        None => run_all(rt, alloc, case, NONE_FAIL),
+        Some(each) => run_each(rt, alloc, case, each),
     }
 }

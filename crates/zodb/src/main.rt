@@ -1,13 +1,15 @@
 //! The program `zodb`: it hands the words, the standard input, the standard output, the files of the
-//! path and the clock to the top call, and ends with its status. Nothing is written to the standard error.
+//! path, the clock, this machine's ports and threads to the top call, and ends with its status. Nothing is written to the standard error.
 #![tactic(auto)]
 
 use host_volume::HostVolume;
+use script_runs::Status;
 use std::env;
 use std::io::ErrorKind;
 use std::process::ExitCode;
+use zb_links::{TcpDoors, ThreadSpawner};
 use zb_outside::{HostClock, ReadSource, WriteSink};
-use zodb_top::{Status, zodb_main};
+use zodb_top::zodb_main;
 
 /// The words behind the program's name. Where one isn't UTF-8 there are none, so that they are no
 /// command.
@@ -43,13 +45,18 @@ fn main(rt: HostRuntime) -> ExitCode {
     let mut source = ReadSource::new(rt.stdin());
     let mut sink = WriteSink::new(rt.stdout());
     let mut clock = HostClock::new(&rt);
+    let mut doors = TcpDoors::new(&rt);
+    let mut spawner = ThreadSpawner::new();
     let (status, _) = zodb_main(
+        &rt,
         rt.alloc(),
         words.as_slice(),
         &mut source,
         &mut sink,
         volume,
         &mut clock,
+        &mut doors,
+        &mut spawner,
     );
     ExitCode::from(status.number())
 }

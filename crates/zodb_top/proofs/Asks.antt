@@ -28,7 +28,7 @@ use Rattle.zodb_core.specs.StepCases.{by_unanswered, early_answers}
 use Rattle.zodb_core.specs.Steps.{Stepped, early_refusal, loaded, replied, request_step, step_of, unless_early}
 use Rattle.zodb_top.specs.Asked.{content_of, digested, last_of, shown}
 use Rattle.zodb_top.specs.Asking.{IsLast, IsStepped, KeepsList, KeepsStore, ask_refusal, digested_reply, only_reads, reply_content, shown_reply}
-use Rattle.zodb_top.specs.Came.{stock}
+use Rattle.side_by_side.specs.Runs.{stock}
 
 -- ---- a step that only reads
 

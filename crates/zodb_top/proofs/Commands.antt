@@ -1,6 +1,6 @@
 -- What a command that takes no script says of the file.
-use Rattle.std.proofs.Common.{◌≡◌, ◌≢◌, ℕ, false, List, [], ◌∷◌, ◌++◌, Option, Some, inl, inr, refl, sym, ap, subst, ◌∙◌}
-use Rattle.std.specs.Prelude.{IfOk, IfSome, IsErrOf, Result, Ok, Err, slice_get}
+use Rattle.std.proofs.Common.{◌≡◌, ◌≢◌, ℕ, false, List, [], ◌∷◌, ◌++◌, Option, inl, inr, refl, sym, ap, subst, ◌∙◌}
+use Rattle.std.specs.Prelude.{IfOk, IsErrOf, Result, Ok, Err}
 use Rattle.std.specs.Io.KnownBytes.{Appends}
 use Rattle.file_store.specs.Kept.{StandsForList}
 use Rattle.file_store.specs.Opening.{GaveAtMostOne, Harm, IsNewFile, KeepsList as KeepsMain, MakesFile, SomeRose, without_tail}
@@ -20,14 +20,15 @@ use Rattle.zodb_core.specs.HubState.{counts_of}
 use Rattle.zodb_core.specs.Outcomes.{FaultCounts}
 use Rattle.zodb_top.specs.declared.asking.AskError.{AskError}
 use Rattle.zodb_top.specs.declared.asking.AskError.TheVariants as error
-use Rattle.zodb_top.specs.declared.command.Asked.{Asked}
-use Rattle.zodb_top.specs.declared.status.Status.{Status}
-use Rattle.zodb_top.specs.declared.status.Status.TheVariants as status
+use Rattle.program_words.specs.declared.command.Asked.{Asked}
+use Rattle.script_runs.specs.declared.status.Status.{Status}
+use Rattle.script_runs.specs.declared.status.Status.TheVariants as status
 use Rattle.zodb_top.specs.Asked.{AskSays, IsAnswer, IsSaid, lines_of}
 use Rattle.zodb_top.specs.Asking.{AnswerSays, KeepsStore, StoreAnswers, WritesAnswer}
 use Rattle.zodb_top.specs.Opened.{IsLeft, OpensAs}
 use Rattle.zodb_top.specs.Outside.{Outside, main_of}
-use Rattle.zodb_top.specs.Texts.{cut_lines, joined, refused_line}
+use Rattle.script_runs.specs.Texts.{cut_lines, joined}
+use Rattle.zodb_top.specs.Texts.{refused_line}
 use Rattle.zodb_top.specs.Unopened.{SaysUnopened}
 use Rattle.zodb_top.proofs.Files.{refused}
 use Rattle.zodb_top.proofs.Volumes.{IsOpen, bytes_open, unfailed}

@@ -6,14 +6,14 @@ use Rattle.fs_recovery.specs.Opens.{IsNoList}
 use Rattle.zb_base.specs.Counts.{Rose}
 use Rattle.zb_ids.specs.declared.stamp.Stamp.{Stamp}
 use Rattle.zb_model.specs.declared.data.Transaction.{Transaction}
-use Rattle.zodb_top.specs.declared.command.Asked.{Asked}
-use Rattle.zodb_top.specs.declared.status.Status.{Status}
-use Rattle.zodb_top.specs.declared.status.Status.TheVariants as status
+use Rattle.program_words.specs.declared.command.Asked.{Asked}
+use Rattle.script_runs.specs.declared.status.Status.{Status}
+use Rattle.script_runs.specs.declared.status.Status.TheVariants as status
 use Rattle.zodb_top.specs.Asked.{AskSays}
 use Rattle.zodb_top.specs.Damage.{NamesDamage, magic, rule}
 use Rattle.zodb_top.specs.Opened.{OpensAs, made, there}
 use Rattle.zodb_top.specs.Outside.{Outside, main_of}
-use Rattle.zodb_top.specs.Program.{IsUnlessMemory}
+use Rattle.script_runs.specs.Outcomes.{IsUnlessMemory}
 use Rattle.zodb_top.proofs.Files.{never_no_list}
 
 pub not_named : (told : Type 0) (bytes text : List ℕ) (list : List Transaction) (cut : Option ℕ) → told → StandsFor bytes list cut → NamesDamage told bytes text → ⊥

@@ -1,8 +1,8 @@
 -- The index file of the file in Main is written.
-use Rattle.std.proofs.Common.{◌≡◌, ◌≢◌, ◌⊎◌, ℕ, List, [], ◌∷◌, ◌++◌, Option, Some, None, inl, inr, refl, sym, ap, subst, ◌∙◌}
+use Rattle.std.proofs.Common.{◌≡◌, ◌≢◌, ℕ, List, [], ◌∷◌, ◌++◌, Option, inl, inr, refl, sym, ap, subst, ◌∙◌}
 use Rattle.file_store.specs.Hinting.{IsHintedUpTo}
 use Rattle.file_store.specs.Kept.{StandsForList}
-use Rattle.file_store.specs.Opening.{GaveAtMostOne, Harm, IsNewOr, KeepsList, MakesFile, MakesList, SomeRose, without_tail}
+use Rattle.file_store.specs.Opening.{GaveAtMostOne, Harm, IsNewOr, KeepsList, MakesFile, MakesList, SomeRose}
 use Rattle.fs_records.specs.File.{StandsFor}
 use Rattle.fs_recovery.specs.Opens.{IsNoList}
 use Rattle.fs_recovery.specs.declared.errors.OpenError.{OpenError}
@@ -16,23 +16,23 @@ use Rattle.zb_model.specs.declared.store_error.StoreError.{StoreError}
 use Rattle.zb_model.specs.declared.store_error.StoreError.TheVariants.{ReadFault}
 use Rattle.zb_volume.specs.declared.areas.Area.TheVariants.{Hint, Main, Side}
 use Rattle.zb_volume.specs.Calls.{Event}
-use Rattle.zb_volume.specs.Disk.{Disk, IsSettled, disk, seen}
+use Rattle.zb_volume.specs.Disk.{Disk, disk, seen}
 use Rattle.zb_volume.specs.Images.{MayLeave}
 use Rattle.zb_volume.specs.Moments.{Leaves, LeavesOnly, StaysAs}
 use Rattle.zb_volume.specs.Runs.{along_now, joined as along_joined, weaker}
 use Rattle.zb_volume.specs.States.{OthersStay}
-use Rattle.zodb_core.specs.HubState.{counts_of}
 use Rattle.zodb_core.specs.Outcomes.{FaultCounts}
-use Rattle.zodb_top.specs.declared.status.Status.{Status}
-use Rattle.zodb_top.specs.declared.status.Status.TheVariants as status
+use Rattle.script_runs.specs.declared.status.Status.{Status}
+use Rattle.script_runs.specs.declared.status.Status.TheVariants as status
 use Rattle.zodb_top.specs.Indexing.{IndexSays, IndexesStore, IsIndexSaid, IsIndexed}
 use Rattle.zodb_top.specs.Opened.{IsLeft, OpensAs, made, there}
 use Rattle.zodb_top.specs.Outside.{Outside, main_of}
 use Rattle.zodb_top.specs.PackStores.{IsToldAs}
-use Rattle.zodb_top.specs.Program.{IsUnlessMemory}
-use Rattle.zodb_top.specs.Texts.{cut_lines, indexed_line, joined, refused_line, store_fault_line}
+use Rattle.script_runs.specs.Outcomes.{IsUnlessMemory}
+use Rattle.script_runs.specs.Texts.{cut_lines, joined, store_fault_line}
+use Rattle.zodb_top.specs.Texts.{indexed_line, refused_line}
 use Rattle.zodb_top.specs.Unopened.{SaysUnopened}
-use Rattle.zodb_top.specs.Written.{IsWritten}
+use Rattle.script_runs.specs.Written.{IsWritten}
 use Rattle.zodb_top.proofs.Complete.{not_named, not_opened}
 use Rattle.zodb_top.proofs.Files.{refused}
 use Rattle.zodb_top.proofs.Untouched.{makes_at}

@@ -1,13 +1,6 @@
-pub mod Digits
-pub mod Written
 pub mod Said
 pub mod Sides
-pub mod Prefixes
-pub mod Keeping
-pub mod Turning
 pub mod Nexts
-pub mod Replies
-pub mod Stores
 pub mod Files
 pub mod Volumes
 pub mod Sources
@@ -15,10 +8,7 @@ pub mod Complete
 pub mod Promises
 pub mod Asks
 pub mod Commands
-pub mod Dashes
-pub mod Matched
 pub mod Packs
-pub mod Walks
 pub mod Untouched
 pub mod Checks
 pub mod Indexes

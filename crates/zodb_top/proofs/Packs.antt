@@ -28,19 +28,20 @@ use Rattle.zodb_core.specs.Machine.{Machine, machine_over, with_session}
 use Rattle.zodb_core.specs.Outcomes.{Answered, EndsFor, FaultCounts, NoMemory, ReadingFailed, StepOutcome, StoreFailed, machine_left, outcome_of}
 use Rattle.zodb_core.specs.Steps.{Stepped, early_refusal, step_of, unless_early, unless_unread}
 use Rattle.zodb_top.specs.declared.packing.Told.TheVariants as told
-use Rattle.zodb_top.specs.declared.command.PackRequest.{PackRequest}
-use Rattle.zodb_top.specs.declared.status.Status.{Status}
-use Rattle.zodb_top.specs.declared.status.Status.TheVariants as status
-use Rattle.zodb_top.specs.Came.{IsCalm, stock}
+use Rattle.program_words.specs.declared.command.PackRequest.{PackRequest}
+use Rattle.script_runs.specs.declared.status.Status.{Status}
+use Rattle.script_runs.specs.declared.status.Status.TheVariants as status
+use Rattle.side_by_side.specs.Runs.{stock}
+use Rattle.zodb_top.specs.Came.{IsCalm}
 use Rattle.zodb_top.specs.Opened.{IsLeft, OpensAs, made as opens_made, there as opens_there}
 use Rattle.zodb_top.specs.Outside.{Outside, main_of}
 use Rattle.zodb_top.specs.PackStores.{IsListBehind, IsStorePacked, IsToldAs, PacksStore}
 use Rattle.zodb_top.specs.Packs.{IsLeftBy, IsListOrPacked, IsOfPack, IsPacked, IsReplyTo, PackSays, ReplySays, is_told, reply_line}
-use Rattle.zodb_top.specs.Program.{IsUnlessMemory}
+use Rattle.script_runs.specs.Outcomes.{IsUnlessMemory}
 use Rattle.zodb_top.specs.Telling.{told_of}
-use Rattle.zodb_top.specs.Texts.{joined, line, store_fault_line}
+use Rattle.script_runs.specs.Texts.{joined, line, store_fault_line}
 use Rattle.zodb_top.specs.Unopened.{SaysUnopened}
-use Rattle.zodb_top.specs.Written.{IsWritten}
+use Rattle.script_runs.specs.Written.{IsWritten}
 use Rattle.zodb_top.proofs.Files.{refused}
 use Rattle.zodb_top.proofs.Volumes.{IsOpen, unfailed}
 

@@ -1,5 +1,5 @@
 -- What the program promises, from what each command does.
-use Rattle.std.proofs.Common.{◌≡◌, ℕ, List, [], Option, Some, None, length, inl, inr, refl, sym, ap, subst, arith}
+use Rattle.std.proofs.Common.{◌≡◌, ℕ, List, [], Option, Some, None, length, inl, inr, refl, sym, subst, arith}
 use Rattle.std.specs.Prelude.{◌≢◌, ◌≤◌, ◌+◌, IfSome}
 use Rattle.std.specs.Io.KnownBytes.{Consumes, IsAtEnd}
 use Rattle.std.proofs.lemmas.Option.{same_Some}
@@ -16,20 +16,23 @@ use Rattle.zb_volume.specs.declared.areas.Area.TheVariants.{Main, Side}
 use Rattle.zb_volume.specs.Disk.{IsSettled}
 use Rattle.zb_volume.specs.Calls.{Event}
 use Rattle.zb_volume.specs.Moments.{StaysAs, here as from_here}
-use Rattle.zodb_top.specs.declared.command.Asked.{Asked}
-use Rattle.zodb_top.specs.declared.command.Command.{Command}
-use Rattle.zodb_top.specs.declared.command.Command.TheVariants.{Ask, Index, Pack, Run}
-use Rattle.zodb_top.specs.declared.command.PackRequest.{PackRequest}
-use Rattle.zodb_top.specs.declared.status.Status.{Status}
-use Rattle.zodb_top.specs.declared.status.Status.TheVariants as status
+use Rattle.program_words.specs.declared.command.Asked.{Asked}
+use Rattle.program_words.specs.declared.command.Command.{Command}
+use Rattle.program_words.specs.declared.command.Command.TheVariants.{Ask, Index, Pack, Play, Run}
+use Rattle.program_words.specs.declared.command.PackRequest.{PackRequest}
+use Rattle.script_runs.specs.declared.manner.Manner.{Manner}
+use Rattle.script_runs.specs.declared.manner.Manner.TheVariants.{InTurn, SideBySide}
+use Rattle.script_runs.specs.declared.status.Status.{Status}
+use Rattle.script_runs.specs.declared.status.Status.TheVariants as status
 use Rattle.zodb_top.specs.Asked.{AskSays}
 use Rattle.zodb_top.specs.Indexing.{IndexSays}
 use Rattle.zodb_top.specs.Inputs.{most_bytes}
 use Rattle.zodb_top.specs.Opened.{IsLeft, IsUnopened}
 use Rattle.zodb_top.specs.Outside.{Outside, main_of}
 use Rattle.zodb_top.specs.Packs.{PackSays}
-use Rattle.zodb_top.specs.Program.{IsInput, IsUnlessMemory, PacksNothing, ReadsToEnd, RunSays}
-use Rattle.zodb_top.specs.Promise.{AreLater, HasScript, IsServed, ProgramSeen, Promise, SaysUsage}
+use Rattle.zodb_top.specs.Program.{IsInput, PacksNothing, ReadsToEnd, RunSays}
+use Rattle.script_runs.specs.Outcomes.{IsUnlessMemory}
+use Rattle.zodb_top.specs.Promise.{AreLater, ProgramSeen, Promise, SaysUsage}
 use Rattle.zodb_top.proofs.Complete.{ask_damaged, ask_done}
 use Rattle.zodb_top.proofs.Indexes.{index_damaged, index_done}
 use Rattle.zodb_top.proofs.Sides.{left_side}
@@ -60,67 +63,61 @@ at_some (Some y) P x is holds = subst P (same_Some y x is) holds
 
 -- words that are no command
 pub usage_kept : (told : Type 0) (command : Option Command) (s : Status) (before after : ProgramSeen) → command ≡ None
-    → SaysUsage s before.outside after.outside → after.left ≡ before.left → Hinted told before.outside after.outside → AreLater before after → Promise told command s before after
-usage_kept told command s before after is says left hint later = subst (λ (c : Option Command). Promise told c s before after) (sym is) (record {
+    → SaysUsage s before.outside after.outside → after.left ≡ before.left → Hinted told before.outside after.outside → AreLater before after → after.links ≡ before.links → Promise told command s before after
+usage_kept told command s before after is says left hint later links = subst (λ (c : Option Command). Promise told c s before after) (sym is) (record {
   says = says;
   reads = left;
+  links = links;
   serves = record { done = λ here opens served sinks list cut stands. absurd opens; damaged = λ here opens served harm. absurd opens };
-  refuses = λ run. absurd (no_run run);
+  refuses = λ takes. absurd takes;
   harmed = λ here harm. says.unopened.log;
   unfailed = λ other. says.unopened.write_faults;
   side = λ here keeps some. subst (λ (l : List Event). StaysAs Side before.outside.log l) (sym says.unopened.log) (from_here refl);
   hint = hint;
   later = later;
 })
-  where
-    no_run : None ≡ Some Run → ⊥
-    no_run run = cc
 
 -- a command that asks
 pub ask_kept : (told : Type 0) (command : Option Command) (asked : Asked) (s : Status) (before after : ProgramSeen) → command ≡ Some (Ask asked)
     → AskSays s asked told before.outside after.outside → (told → IsLeft told before.outside after.outside)
-    → Harmed told before.outside after.outside → Unfailed s before.outside after.outside → after.left ≡ before.left → Hinted told before.outside after.outside → AreLater before after
+    → Harmed told before.outside after.outside → Unfailed s before.outside after.outside → after.left ≡ before.left → Hinted told before.outside after.outside → AreLater before after → after.links ≡ before.links
     → Promise told command s before after
-ask_kept told command asked s before after is says kept harmed unfailed left hint later = subst (λ (c : Option Command). Promise told c s before after) (sym is) (record {
+ask_kept told command asked s before after is says kept harmed unfailed left hint later links = subst (λ (c : Option Command). Promise told c s before after) (sym is) (record {
   says = (says, kept);
   reads = left;
+  links = links;
   serves = record {
     done = λ here opens served sinks list cut stands. ask_done s asked told before.outside after.outside says here served.reads served.writes sinks list cut stands;
     damaged = λ here opens served harm. ask_damaged s asked told before.outside after.outside says here served.reads served.writes harm;
   };
-  refuses = λ run. absurd (no_run run);
+  refuses = λ takes. absurd takes;
   harmed = harmed;
   unfailed = unfailed;
   side = λ here keeps some. left_side told before.outside after.outside (kept here) here some;
   hint = hint;
   later = later;
 })
-  where
-    no_run : Some (Ask asked) ≡ Some Run → ⊥
-    no_run run = cc
 
 -- a pack
 pub pack_kept : (told : Type 0) (command : Option Command) (pack : PackRequest) (s : Status) (before after : ProgramSeen) → command ≡ Some (Pack pack)
     → PackSays s pack told before.outside after.outside → Done told s before.outside after.outside → Damaged told s before.outside after.outside
-    → Harmed told before.outside after.outside → Unfailed s before.outside after.outside → after.left ≡ before.left → Hinted told before.outside after.outside → AreLater before after
+    → Harmed told before.outside after.outside → Unfailed s before.outside after.outside → after.left ≡ before.left → Hinted told before.outside after.outside → AreLater before after → after.links ≡ before.links
     → Promise told command s before after
-pack_kept told command pack s before after is says done damaged harmed unfailed left hint later = subst (λ (c : Option Command). Promise told c s before after) (sym is) (record {
+pack_kept told command pack s before after is says done damaged harmed unfailed left hint later links = subst (λ (c : Option Command). Promise told c s before after) (sym is) (record {
   says = says;
   reads = left;
+  links = links;
   serves = record {
     done = λ here opens served sinks list cut stands. done here served.reads served.writes sinks list cut stands;
     damaged = λ here opens served harm. damaged here served.reads served.writes harm;
   };
-  refuses = λ run. absurd (no_run run);
+  refuses = λ takes. absurd takes;
   harmed = harmed;
   unfailed = unfailed;
   side = λ here keeps some. absurd keeps;
   hint = hint;
   later = later;
 })
-  where
-    no_run : Some (Pack pack) ≡ Some Run → ⊥
-    no_run run = cc
 
 -- a run
 abbrev pub RunDone : Type 0 → Status → ProgramSeen → ProgramSeen → Type 0
@@ -142,23 +139,28 @@ abbrev pub HasLimitStatus : Status → ProgramSeen → ProgramSeen → Type 0
 HasLimitStatus s before after = IfSome before.left (λ input. (l : Limit) → first_limit input ≡ Some l
     → ¬ Rose before.source_faults after.source_faults → IsUnlessMemory s status.Limit)
 
-pub run_kept : (told : Type 0) (command : Option Command) (s : Status) (before after : ProgramSeen) → command ≡ Some Run
-    → RunSays s told (Rose before.source_faults after.source_faults) before.left before.outside after.outside
+abbrev pub command_in : Manner → Command
+command_in InTurn = Run
+command_in SideBySide = Play
+
+pub run_kept : (told : Type 0) (manner : Manner) (s : Status) (before after : ProgramSeen)
+    → RunSays manner s told (Rose before.source_faults after.source_faults) before.left before.outside after.outside
     → (ReadsToEnd s before.left → IsAtEnd after.left)
     → ((bytes : List ℕ) × Consumes before.left after.left bytes × (length bytes ≤ most_bytes + 1))
     → RunDone told s before after → RunDamaged told s before after → HasBadStatus s before after → HasLimitStatus s before after
     → Harmed told before.outside after.outside → Unfailed s before.outside after.outside
     → (told → PacksNothing before.left → main_of before.outside ≢ [] → StaysAs Side before.outside.log after.outside.log)
-    → Hinted told before.outside after.outside → AreLater before after → Promise told command s before after
-run_kept told command s before after is says at_end taken done damaged bad_line limit harmed unfailed side hint later =
-    subst (λ (c : Option Command). Promise told c s before after) (sym is) (record {
+    → Hinted told before.outside after.outside → AreLater before after → after.links ≡ before.links → Promise told (Some (command_in manner)) s before after
+run_kept told InTurn s before after says at_end taken done damaged bad_line limit harmed unfailed side hint later links =
+    record {
       says = says;
       reads = record { at_end = at_end; taken = taken };
+      links = links;
       serves = record {
         done = λ here has served sinks list cut stands. at_some before.left _ has.input has.told (done here) has.turns list cut has.is stands has.unfailed sinks served.reads served.writes;
         damaged = λ here has served harm. at_some before.left _ has.input has.told (damaged here) has.turns has.is harm has.unfailed served.reads served.writes;
       };
-      refuses = λ run. record {
+      refuses = λ takes. record {
         bad_line = λ input n told within bad read. at_some before.left _ input told bad_line n within bad read;
         limit = λ input l told first read. at_some before.left _ input told limit l first read;
       };
@@ -167,30 +169,47 @@ run_kept told command s before after is says at_end taken done damaged bad_line 
       side = side;
       hint = hint;
       later = later;
-    })
+    }
+run_kept told SideBySide s before after says at_end taken done damaged bad_line limit harmed unfailed side hint later links =
+    record {
+      says = says;
+      reads = record { at_end = at_end; taken = taken };
+      links = links;
+      serves = record {
+        done = λ here has served sinks list cut stands. at_some before.left _ has.input has.told (done here) has.turns list cut has.is stands has.unfailed sinks served.reads served.writes;
+        damaged = λ here has served harm. at_some before.left _ has.input has.told (damaged here) has.turns has.is harm has.unfailed served.reads served.writes;
+      };
+      refuses = λ takes. record {
+        bad_line = λ input n told within bad read. at_some before.left _ input told bad_line n within bad read;
+        limit = λ input l told first read. at_some before.left _ input told limit l first read;
+      };
+      harmed = harmed;
+      unfailed = unfailed;
+      side = side;
+      hint = hint;
+      later = later;
+    }
 
 -- an index file
 pub index_kept : (told : Type 0) (command : Option Command) (s : Status) (before after : ProgramSeen) → command ≡ Some Index
     → IndexSays s told before.outside after.outside → (told → IsLeft told before.outside after.outside)
-    → Harmed told before.outside after.outside → Unfailed s before.outside after.outside → after.left ≡ before.left → Hinted told before.outside after.outside → AreLater before after
+    → Harmed told before.outside after.outside → Unfailed s before.outside after.outside → after.left ≡ before.left → Hinted told before.outside after.outside → AreLater before after → after.links ≡ before.links
     → Promise told command s before after
-index_kept told command s before after is says kept harmed unfailed left hint later = subst (λ (c : Option Command). Promise told c s before after) (sym is) (record {
+index_kept told command s before after is says kept harmed unfailed left hint later links = subst (λ (c : Option Command). Promise told c s before after) (sym is) (record {
   says = (says, kept);
   reads = left;
+  links = links;
   serves = record {
     done = λ here opens served sinks list cut stands. index_done s told before.outside after.outside says here served.reads served.writes sinks list cut stands;
     damaged = λ here opens served harm. index_damaged s told before.outside after.outside says here served.reads served.writes harm;
   };
-  refuses = λ run. absurd (no_run run);
+  refuses = λ takes. absurd takes;
   harmed = harmed;
   unfailed = unfailed;
   side = λ here keeps some. left_side told before.outside after.outside (kept here) here some;
   hint = hint;
   later = later;
 })
-  where
-    no_run : Some Index ≡ Some Run → ⊥
-    no_run run = cc
 
 -- ---- there was no memory for the words
 
@@ -208,12 +227,9 @@ nothing_taken : (left : Option (List ℕ)) → Consumes left left []
 nothing_taken None = tt
 nothing_taken (Some bytes) = refl
 
-pub starved : (told : Type 0) (command : Option Command) (seen : ProgramSeen) → (told → HasHonestHint seen.outside.log) → Promise told command status.NoMemory seen seen
-starved told None seen honest =
-    usage_kept told None status.NoMemory seen seen refl
-    (record { is = inr refl; line = λ other. absurd cc; silent = λ same. refl; unopened = unopened_same seen.outside }) refl (λ here settled. still_honest seen.outside.log (honest here) settled) (later_same seen)
-starved told (Some Run) seen honest =
-    run_kept told (Some Run) status.NoMemory seen seen refl
+unread : (told : Type 0) (manner : Manner) (seen : ProgramSeen) → (told → HasHonestHint seen.outside.log) → Promise told (Some (command_in manner)) status.NoMemory seen seen
+unread told manner seen honest =
+    run_kept told manner status.NoMemory seen seen
     (inl (refl, inl (unopened_same seen.outside)))
     (λ end. absurd end)
     ([], nothing_taken seen.left, omega arith)
@@ -221,16 +237,35 @@ starved told (Some Run) seen honest =
     (λ here. if_some seen.left _ (λ input turns is harm source reads writes. inr refl))
     (if_some seen.left _ (λ input n within bad source. inr refl))
     (if_some seen.left _ (λ input l first source. inr refl))
-    (λ here harm. refl) (λ other. refl) (λ here packs some. from_here refl) (λ here settled. still_honest seen.outside.log (honest here) settled) (later_same seen)
+    (λ here harm. refl) (λ other. refl) (λ here packs some. from_here refl) (λ here settled. still_honest seen.outside.log (honest here) settled) (later_same seen) refl
+
+-- words that are such a command
+pub run_named : (told : Type 0) (command : Option Command) (manner : Manner) (s : Status) (before after : ProgramSeen) → command ≡ Some (command_in manner)
+    → RunSays manner s told (Rose before.source_faults after.source_faults) before.left before.outside after.outside
+    → (ReadsToEnd s before.left → IsAtEnd after.left)
+    → ((bytes : List ℕ) × Consumes before.left after.left bytes × (length bytes ≤ most_bytes + 1))
+    → RunDone told s before after → RunDamaged told s before after → HasBadStatus s before after → HasLimitStatus s before after
+    → Harmed told before.outside after.outside → Unfailed s before.outside after.outside
+    → (told → PacksNothing before.left → main_of before.outside ≢ [] → StaysAs Side before.outside.log after.outside.log)
+    → Hinted told before.outside after.outside → AreLater before after → after.links ≡ before.links → Promise told command s before after
+run_named told command manner s before after is says at_end taken done damaged bad_line limit harmed unfailed side hint later links =
+    subst (λ (c : Option Command). Promise told c s before after) (sym is) (run_kept told manner s before after says at_end taken done damaged bad_line limit harmed unfailed side hint later links)
+
+pub starved : (told : Type 0) (command : Option Command) (seen : ProgramSeen) → (told → HasHonestHint seen.outside.log) → Promise told command status.NoMemory seen seen
+starved told None seen honest =
+    usage_kept told None status.NoMemory seen seen refl
+    (record { is = inr refl; line = λ other. absurd cc; silent = λ same. refl; unopened = unopened_same seen.outside }) refl (λ here settled. still_honest seen.outside.log (honest here) settled) (later_same seen) refl
+starved told (Some Run) seen honest = unread told InTurn seen honest
+starved told (Some Play) seen honest = unread told SideBySide seen honest
 starved told (Some (Ask asked)) seen honest =
     ask_kept told (Some (Ask asked)) asked status.NoMemory seen seen refl
     (refl, record { reads = refl; writes = refl }) (λ here. left_untouched told seen.outside seen.outside refl refl)
-    (λ here harm. refl) (λ other. refl) refl (λ here settled. still_honest seen.outside.log (honest here) settled) (later_same seen)
+    (λ here harm. refl) (λ other. refl) refl (λ here settled. still_honest seen.outside.log (honest here) settled) (later_same seen) refl
 starved told (Some (Pack pack)) seen honest =
     pack_kept told (Some (Pack pack)) pack status.NoMemory seen seen refl
     (pack_starved pack told seen.outside) (λ here reads writes sinks list cut stands. inr refl) (λ here reads writes harm. inr refl)
-    (λ here harm. refl) (λ other. refl) refl (λ here settled. still_honest seen.outside.log (honest here) settled) (later_same seen)
+    (λ here harm. refl) (λ other. refl) refl (λ here settled. still_honest seen.outside.log (honest here) settled) (later_same seen) refl
 starved told (Some Index) seen honest =
     index_kept told (Some Index) status.NoMemory seen seen refl
     (index_starved told seen.outside) (λ here. left_untouched told seen.outside seen.outside refl refl)
-    (λ here harm. refl) (λ other. refl) refl (λ here settled. still_honest seen.outside.log (honest here) settled) (later_same seen)
+    (λ here harm. refl) (λ other. refl) refl (λ here settled. still_honest seen.outside.log (honest here) settled) (later_same seen) refl

@@ -4,10 +4,11 @@ use Rattle.std.specs.Prelude.{codes}
 use Rattle.fs_records.specs.declared.field.Field.{Field}
 use Rattle.fs_recovery.specs.declared.errors.OpenError.{OpenError}
 use Rattle.fs_recovery.specs.declared.errors.OpenError.TheVariants as error
-use Rattle.zodb_top.specs.declared.status.Status.{Status}
-use Rattle.zodb_top.specs.declared.status.Status.TheVariants as status
-use Rattle.zodb_top.specs.Written.{IsWritten}
-use Rattle.zodb_top.specs.Texts.{damage_line, line, store_fault_line}
+use Rattle.script_runs.specs.declared.status.Status.{Status}
+use Rattle.script_runs.specs.declared.status.Status.TheVariants as status
+use Rattle.script_runs.specs.Written.{IsWritten}
+use Rattle.zodb_top.specs.Texts.{damage_line}
+use Rattle.script_runs.specs.Texts.{line, store_fault_line}
 use Rattle.zodb_top.specs.Unopened.{SaysUnopened}
 
 pub said_fault : (s : Status) (e : OpenError) (old new : Option (List ℕ)) (before now : ℕ) (text : List ℕ) → s ≡ status.StoreFault → e ≡ error.StoreFault → text ≡ store_fault_line → IsWritten old new before now text

@@ -1,7 +1,7 @@
 -- The script of an input, and what is said of the runs of its turns.
 use Rattle.std.proofs.Common.{◌≡◌, ℕ, ◌<◌, Bool, true, false, if◌then◌else◌, length, nat_lt, List, [], ◌∷◌, Option, Some, None, inl, inr, subst, sym, refl, ◌∙◌, true≢false}
 use Rattle.std.proofs.lemmas.Bool.{lt-ltb}
-use Rattle.std.specs.Prelude.{◌⊎◌, ◌≢◌, IfSome}
+use Rattle.std.specs.Prelude.{◌≢◌, IfSome}
 use Rattle.std.specs.Option.{IsSomeAnd}
 use Rattle.std.specs.List.{AllByRecursion}
 use Rattle.zb_script.specs.declared.limits.Limit.{Limit}
@@ -12,11 +12,11 @@ use Rattle.zb_script.specs.declared.line.Turn.{Turn}
 use Rattle.zb_script.specs.Limits.{first_limit, limit_count}
 use Rattle.zb_script.specs.Script.{IsBadLine}
 use Rattle.zb_script.specs.Spelling.{IsLine, IsTurn}
-use Rattle.client_turns.specs.declared.errors.TurnError.TheVariants.{Memory}
 use Rattle.client_turns.specs.Refusing.{IsFittingLine}
-use Rattle.zodb_top.specs.declared.status.Status.{Status}
-use Rattle.zodb_top.specs.declared.status.Status.TheVariants as status
-use Rattle.zodb_top.specs.Came.{RanInPart, RanToFault, RanWhole}
+use Rattle.script_runs.specs.declared.manner.Manner.{Manner}
+use Rattle.script_runs.specs.declared.status.Status.{Status}
+use Rattle.script_runs.specs.declared.status.Status.TheVariants as status
+use Rattle.zodb_top.specs.Played.{IsCutShort, IsFaulted, IsStarved, IsWhole}
 use Rattle.zodb_top.specs.Inputs.{InputSays, SaysLimit, most_bytes}
 use Rattle.zodb_top.specs.Opened.{IsUnopened}
 use Rattle.zodb_top.specs.Outside.{Outside}
@@ -43,26 +43,26 @@ of_read : (left : Option (List ℕ)) (all : List ℕ) (turns : List Turn) (P : L
 of_read None all turns P is input holds = (turns, tt, holds)
 of_read (Some bytes) all turns P is input holds = (turns, subst (λ (b : List ℕ). IsInput b turns) is input, holds)
 
-pub run_of_input : (s : Status) (told unread : Type 0) (left : Option (List ℕ)) (all : List ℕ) (turns : List Turn) (before after : Outside) → IfSome left (λ input. all ≡ input) → IsInput all turns
-    → FileSays s told turns before after → RunSays s told unread left before after
-run_of_input status.Done told unread left all turns before after is input o = of_read left all turns (λ ts. told → RanWhole ts before after) is input o
-run_of_input status.NoMemory told unread left all turns before after is input (inl (nothing, unopened, unfailed)) = inl (nothing, inr (unopened, unfailed))
-run_of_input status.NoMemory told unread left all turns before after is input (inr o) =
-    inr (of_read left all turns (λ ts. told → RanInPart ts None before after ⊎ RanInPart ts (Some Memory) before after) is input o)
-run_of_input status.SinkFault told unread left all turns before after is input o = (o.0, of_read left all turns (λ ts. told → RanInPart ts None before after) is input o.1)
-run_of_input status.StoreFault told unread left all turns before after is input (inl failed) = inl failed
-run_of_input status.StoreFault told unread left all turns before after is input (inr (rose, o)) = inr (rose, of_read left all turns (λ ts. told → RanToFault ts before after) is input o)
-run_of_input status.Damaged told unread left all turns before after is input o = o
-run_of_input _ told unread left all turns before after is input o = absurd o
+pub run_of_input : (manner : Manner) (s : Status) (told unread : Type 0) (left : Option (List ℕ)) (all : List ℕ) (turns : List Turn) (before after : Outside) → IfSome left (λ input. all ≡ input) → IsInput all turns
+    → FileSays manner s told turns before after → RunSays manner s told unread left before after
+run_of_input manner status.Done told unread left all turns before after is input o = of_read left all turns (λ ts. told → IsWhole manner ts before after) is input o
+run_of_input manner status.NoMemory told unread left all turns before after is input (inl (nothing, unopened, unfailed)) = inl (nothing, inr (unopened, unfailed))
+run_of_input manner status.NoMemory told unread left all turns before after is input (inr o) =
+    inr (of_read left all turns (λ ts. told → IsStarved manner ts before after) is input o)
+run_of_input manner status.SinkFault told unread left all turns before after is input o = (o.0, of_read left all turns (λ ts. told → IsCutShort manner ts before after) is input o.1)
+run_of_input manner status.StoreFault told unread left all turns before after is input (inl failed) = inl failed
+run_of_input manner status.StoreFault told unread left all turns before after is input (inr (rose, o)) = inr (rose, of_read left all turns (λ ts. told → IsFaulted manner ts before after) is input o)
+run_of_input manner status.Damaged told unread left all turns before after is input o = o
+run_of_input manner _ told unread left all turns before after is input o = absurd o
 
 -- the same, where the sink took nothing while the script was read
-pub run_silent : (s : Status) (told unread : Type 0) (left : Option (List ℕ)) (all : List ℕ) (turns : List Turn) (before after : Outside) (taken : Option (List ℕ)) (faults : ℕ) → taken ≡ before.taken → faults ≡ before.sink_faults
+pub run_silent : (manner : Manner) (s : Status) (told unread : Type 0) (left : Option (List ℕ)) (all : List ℕ) (turns : List Turn) (before after : Outside) (taken : Option (List ℕ)) (faults : ℕ) → taken ≡ before.taken → faults ≡ before.sink_faults
     → IfSome left (λ input. all ≡ input) → IsInput all turns
-    → FileSays s told turns (record { taken = taken; sink_faults = faults; stamps = before.stamps; log = before.log; read_faults = before.read_faults; write_faults = before.write_faults }) after → RunSays s told unread left before after
-run_silent s told unread left all turns before after taken faults silent still is input o =
-    let first = subst (λ (t : Option (List ℕ)). FileSays s told turns (record { taken = t; sink_faults = faults; stamps = before.stamps; log = before.log; read_faults = before.read_faults; write_faults = before.write_faults }) after) silent o in
-    run_of_input s told unread left all turns before after is input
-    (subst (λ (n : ℕ). FileSays s told turns (record { taken = before.taken; sink_faults = n; stamps = before.stamps; log = before.log; read_faults = before.read_faults; write_faults = before.write_faults }) after) still first)
+    → FileSays manner s told turns (record { taken = taken; sink_faults = faults; stamps = before.stamps; log = before.log; read_faults = before.read_faults; write_faults = before.write_faults }) after → RunSays manner s told unread left before after
+run_silent manner s told unread left all turns before after taken faults silent still is input o =
+    let first = subst (λ (t : Option (List ℕ)). FileSays manner s told turns (record { taken = t; sink_faults = faults; stamps = before.stamps; log = before.log; read_faults = before.read_faults; write_faults = before.write_faults }) after) silent o in
+    run_of_input manner s told unread left all turns before after is input
+    (subst (λ (n : ℕ). FileSays manner s told turns (record { taken = before.taken; sink_faults = n; stamps = before.stamps; log = before.log; read_faults = before.read_faults; write_faults = before.write_faults }) after) still first)
 
 -- what is told of an input holds of what the source had left
 pub spread : (left : Option (List ℕ)) (all : List ℕ) (P : List ℕ → Type 0) → IfSome left (λ input. all ≡ input) → P all → IfSome left P
@@ -70,14 +70,14 @@ spread None all P is holds = tt
 spread (Some input) all P is holds = subst P is holds
 
 -- no script was read of the input
-pub unread_input : (s : Status) (told unread : Type 0) (left : Option (List ℕ)) (all : List ℕ) (before after : Outside) → IfSome left (λ input. all ≡ input) → IsUnopened before after
-    → InputSays s all before.taken after.taken before.sink_faults after.sink_faults → RunSays s told unread left before after
-unread_input status.NoMemory told unread left all before after is unopened said = inl (said, inl unopened)
-unread_input status.BadLine told unread left all before after is unopened said =
+pub unread_input : (manner : Manner) (s : Status) (told unread : Type 0) (left : Option (List ℕ)) (all : List ℕ) (before after : Outside) → IfSome left (λ input. all ≡ input) → IsUnopened before after
+    → InputSays s all before.taken after.taken before.sink_faults after.sink_faults → RunSays manner s told unread left before after
+unread_input manner status.NoMemory told unread left all before after is unopened said = inl (said, inl unopened)
+unread_input manner status.BadLine told unread left all before after is unopened said =
     (unopened, record { number = said.number; bad = spread left all (λ input. (first_limit input ≡ None) × IsBadLine input said.number) is (said.within, said.bad); written = said.written })
-unread_input status.Limit told unread left all before after is unopened said =
+unread_input manner status.Limit told unread left all before after is unopened said =
     (unopened, record { limit = said.limit; first = spread left all (λ input. first_limit input ≡ Some said.limit) is said.first; written = said.written })
-unread_input _ told unread left all before after is unopened said = absurd said
+unread_input manner _ told unread left all before after is unopened said = absurd said
 
 -- what holds of every input holds of what the source had left
 pub of_any : (left : Option (List ℕ)) (P : List ℕ → Type 0) → ((input : List ℕ) → P input) → IfSome left P

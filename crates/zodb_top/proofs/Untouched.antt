@@ -15,8 +15,8 @@ use Rattle.zb_volume.specs.Lasting.{settled_leaves}
 use Rattle.zb_volume.specs.Moments.{LeavesOnly, StaysAs, here}
 use Rattle.zodb_top.specs.Indexing.{IndexSays}
 use Rattle.zodb_top.specs.Opened.{IsLeft, bytes_same}
-use Rattle.zodb_top.specs.declared.command.PackRequest.{PackRequest}
-use Rattle.zodb_top.specs.declared.status.Status.TheVariants as status
+use Rattle.program_words.specs.declared.command.PackRequest.{PackRequest}
+use Rattle.script_runs.specs.declared.status.Status.TheVariants as status
 use Rattle.zodb_top.specs.Outside.{Outside}
 use Rattle.zodb_top.specs.Packs.{PackSays}
 

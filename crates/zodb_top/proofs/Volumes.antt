@@ -13,6 +13,7 @@ use Rattle.zb_model.specs.declared.data.Transaction.{Transaction}
 use Rattle.zb_model.specs.Stores.{StoreState}
 use Rattle.zb_outside.specs.Written.{AppendsPrefix}
 use Rattle.zb_script.specs.declared.line.Turn.{Turn}
+use Rattle.zb_script.specs.Shape.{openers}
 use Rattle.zb_volume.specs.declared.areas.Area.TheVariants.{Main}
 use Rattle.zb_volume.specs.Calls.{Event}
 use Rattle.zb_volume.specs.Disk.{seen}
@@ -24,18 +25,27 @@ use Rattle.client_turns.specs.declared.errors.TurnError.{TurnError}
 use Rattle.client_turns.specs.declared.errors.TurnError.TheVariants as turn_error
 use Rattle.client_turns.specs.Clients.{Moment}
 use Rattle.client_turns.specs.TurnLaws.{first_ahead}
-use Rattle.zodb_top.specs.declared.status.Status.{Status}
-use Rattle.zodb_top.specs.declared.status.Status.TheVariants as status
-use Rattle.zodb_top.specs.Came.{Came, IsCalm, IsMainOf, IsOfCame, IsOfCameOrEmpty, RanWhole, Reached, began, stock}
+use Rattle.client_turns.specs.Output.{FlaggedTurn, TurnAnswer, flagged}
+use Rattle.script_runs.specs.declared.manner.Manner.{Manner}
+use Rattle.script_runs.specs.declared.manner.Manner.TheVariants.{InTurn, SideBySide}
+use Rattle.script_runs.specs.declared.status.Status.{Status}
+use Rattle.script_runs.specs.declared.status.Status.TheVariants as status
+use Rattle.side_by_side.specs.Runs.{stock}
+use Rattle.script_runs.specs.Came.{Came, IsOfCame, answers_text, began}
+use Rattle.zodb_top.specs.Came.{IsCalm, IsMainOf, IsOfCameOrEmpty, Reached}
 use Rattle.zodb_top.specs.Opened.{IsLeft, IsUnfailed, KeepsBytes, OpensAs, bytes_cut, bytes_failed, bytes_same, made, there}
 use Rattle.zodb_top.specs.Outside.{Outside, main_of}
-use Rattle.zodb_top.specs.Running.{FileSays, RanAllOver, RanOver, StoreSays}
-use Rattle.zodb_top.specs.Texts.{store_fault_line}
+use Rattle.zodb_top.specs.Played.{AllPlayed, Played}
+use Rattle.script_runs.specs.Played.{no_text, played_text}
+use Rattle.script_runs.specs.Running.{AllPlayedOver, PlaySays, PlayedOver, RanAllOver, RanOver, StoreSays, TakenSays}
+use Rattle.zodb_top.specs.Running.{FileSays}
+use Rattle.script_runs.specs.Texts.{store_fault_line}
 use Rattle.zodb_top.specs.Unopened.{SaysUnopened}
-use Rattle.zodb_top.specs.Written.{IsWritten}
+use Rattle.script_runs.specs.Written.{IsWritten}
 use Rattle.zodb_top.proofs.Files.{refused}
-use Rattle.zodb_top.proofs.Nexts.{counts_left, next_kept}
-use Rattle.zodb_top.proofs.Turning.{out_committed}
+use Rattle.side_by_side.specs.RunLaws.{next_kept}
+use Rattle.zodb_top.proofs.Nexts.{counts_left}
+use Rattle.script_runs.specs.Turning.{out_committed}
 
 -- where it isn't for a fault that the file isn't open, no call has failed
 pub unfailed : (e : OpenError) (before after : Outside) → ¬ (e ≡ error.StoreFault) → (¬ (e ≡ error.StoreFault) → (after.read_faults ≡ before.read_faults) × (after.write_faults ≡ before.write_faults)) → IsUnfailed before after
@@ -53,20 +63,20 @@ bytes_open before after left list (Some at) (there whole stands kept) some is = 
 bytes_open before after left list (Some at) (made empty is_made given) some is = absurd (some empty)
 
 -- the file wasn't opened
-pub unopened : (s : Status) (e : OpenError) (told : Type 0) (turns : List Turn) (before after : Outside) → SaysUnopened s e before.taken after.taken before.sink_faults after.sink_faults
+pub unopened : (manner : Manner) (s : Status) (e : OpenError) (told : Type 0) (turns : List Turn) (before after : Outside) → SaysUnopened s e before.taken after.taken before.sink_faults after.sink_faults
     → (told → Harm (main_of before) e) → (e ≡ error.StoreFault → SomeRose before.read_faults after.read_faults before.write_faults after.write_faults)
     → (told → IsNoList (main_of before) → after.log ≡ before.log) → (¬ (e ≡ error.StoreFault) → (after.read_faults ≡ before.read_faults) × (after.write_faults ≡ before.write_faults)) → IsLeft told before after
-    → FileSays s told turns before after
-unopened status.StoreFault e told turns before after said harm rose same calm left = inl (record { rose = rose said.0; written = said.1; left = left })
-unopened status.Damaged e told turns before after (text, names, wrote) harm rose same calm left = refused e told before after text names wrote harm same left
-unopened status.NoMemory e told turns before after said harm rose same calm left = inl (said.1, left, unfailed e before after said.0 calm)
-unopened _ e told turns before after said harm rose same calm left = absurd said
+    → FileSays manner s told turns before after
+unopened manner status.StoreFault e told turns before after said harm rose same calm left = inl (record { rose = rose said.0; written = said.1; left = left })
+unopened manner status.Damaged e told turns before after (text, names, wrote) harm rose same calm left = refused e told before after text names wrote harm same left
+unopened manner status.NoMemory e told turns before after said harm rose same calm left = inl (said.1, left, unfailed e before after said.0 calm)
+unopened manner _ e told turns before after said harm rose same calm left = absurd said
 
 -- what there is of Main while it is opened, before the first turn
 module _ (before : Outside) (state : StoreState) (left : Option (List Stamp)) (cut : Option ℕ) (opens : OpensAs (main_of before) before.stamps left state.list cut)
     (keeps : KeepsList before.log state.log) (makes : IfSome before.stamps (λ stamps. (stamp : Stamp) → slice_get stamps 0 ≡ Some stamp → MakesList stamp before.log state.log)) where
   -- a run over the list that was opened
-  module _ {turns : List Turn} {broke : Option TurnError} {now : Moment} (c : Came (began state.list left before.read_faults before.write_faults) turns broke now) where
+  module _ {turns : List FlaggedTurn} {broke : Option TurnError} {now : Moment} (c : Came (began state.list left before.read_faults before.write_faults) turns broke now) where
     of_start : (bytes : List ℕ) → StandsForList bytes state.list → IsOfCame StandsForList c bytes
     of_start bytes is =
         let m = began state.list left before.read_faults before.write_faults in record {
@@ -103,11 +113,11 @@ module _ (before : Outside) (state : StoreState) (left : Option (List Stamp)) (c
 
   -- ---- turns over the file
 
-  module _ (turns : List Turn) (after : Outside) (state' : StoreState) (whole : state.faults ≡ before.write_faults) (first : state.read_faults ≡ before.read_faults)
+  module _ (turns : List FlaggedTurn) (text_of : List TurnAnswer → List ℕ) (after : Outside) (state' : StoreState) (whole : state.faults ≡ before.write_faults) (first : state.read_faults ≡ before.read_faults)
       (log : after.log ≡ state'.log) (reads : after.read_faults ≡ state'.read_faults) (faults : after.write_faults ≡ state'.faults)
       (shown : CrashLeaves after.log Main (main_of after)) (lasts : Type 0) (lasting : lasts) where
-    abbrev reached_so : (broke : Option TurnError) (written : List ℕ → Type 0) → RanOver lasts StandsForList (began state.list left before.read_faults before.write_faults) cut turns broke written state state' after.stamps
-        → Reached turns broke written before after
+    abbrev reached_so : (broke : Option TurnError) (written : List ℕ → Type 0) → RanOver lasts StandsForList (began state.list left before.read_faults before.write_faults) cut turns text_of broke written state state' after.stamps
+        → Reached turns text_of broke written before after
     reached_so broke written ran =
         let images : Leaves Main (IsMainOf broke ran.came.behind ran.came.later) after.log = subst (λ (l : List Event). Leaves Main (IsMainOf broke ran.came.behind ran.came.later) l) (sym log) (ran.images lasting) in
         let reads_left : after.read_faults ≡ ran.now.counts.reads = reads ∙ ap (λ (c : FaultCounts). c.reads) ran.counts in
@@ -133,23 +143,62 @@ module _ (before : Outside) (state : StoreState) (left : Option (List Stamp)) (c
               (leaves_less Main (IsOfCame StandsForList ran.came) (IsOfCameOrEmpty (main_of before) ran.came) state.log state'.log (λ bytes is. inl is) (ran.moments lasting)));
         }
 
-    pub reached : (broke : Option TurnError) (written : List ℕ → Type 0) → RanOver lasts StandsForList (began state.list left state.read_faults state.faults) cut turns broke written state state' after.stamps
-        → Reached turns broke written before after
+    pub reached : (broke : Option TurnError) (written : List ℕ → Type 0) → RanOver lasts StandsForList (began state.list left state.read_faults state.faults) cut turns text_of broke written state state' after.stamps
+        → Reached turns text_of broke written before after
     reached broke written ran =
         reached_so broke written
-        (subst (λ (n : ℕ). RanOver lasts StandsForList (began state.list left before.read_faults n) cut turns broke written state state' after.stamps) whole
-        (subst (λ (n : ℕ). RanOver lasts StandsForList (began state.list left n state.faults) cut turns broke written state state' after.stamps) first ran))
+        (subst (λ (n : ℕ). RanOver lasts StandsForList (began state.list left before.read_faults n) cut turns text_of broke written state state' after.stamps) whole
+        (subst (λ (n : ℕ). RanOver lasts StandsForList (began state.list left n state.faults) cut turns text_of broke written state state' after.stamps) first ran))
 
-    whole_so : (written : List ℕ → Type 0) → RanAllOver lasts StandsForList (began state.list left before.read_faults before.write_faults) cut turns written state state' after.stamps
-        → (r : Reached turns None written before after) × (r.came.later ≡ [])
+    whole_so : (written : List ℕ → Type 0) → RanAllOver lasts StandsForList (began state.list left before.read_faults before.write_faults) cut turns text_of written state state' after.stamps
+        → (r : Reached turns text_of None written before after) × (r.came.later ≡ [])
     whole_so written ran = (reached_so None written ran.ran, ran.all)
 
-    pub reached_whole : RanAllOver lasts StandsForList (began state.list left state.read_faults state.faults) cut turns (Appends before.taken after.taken) state state' after.stamps → RanWhole turns before after
-    reached_whole ran =
-        let r = whole_so (Appends before.taken after.taken)
-        (subst (λ (n : ℕ). RanAllOver lasts StandsForList (began state.list left before.read_faults n) cut turns (Appends before.taken after.taken) state state' after.stamps) whole
-        (subst (λ (n : ℕ). RanAllOver lasts StandsForList (began state.list left n state.faults) cut turns (Appends before.taken after.taken) state state' after.stamps) first ran)) in
-        record { reached = r.0; all = r.1 }
+    pub reached_whole : (written : List ℕ → Type 0) → RanAllOver lasts StandsForList (began state.list left state.read_faults state.faults) cut turns text_of written state state' after.stamps
+        → (r : Reached turns text_of None written before after) × (r.came.later ≡ [])
+    reached_whole written ran =
+        whole_so written
+        (subst (λ (n : ℕ). RanAllOver lasts StandsForList (began state.list left before.read_faults n) cut turns text_of written state state' after.stamps) whole
+        (subst (λ (n : ℕ). RanAllOver lasts StandsForList (began state.list left n state.faults) cut turns text_of written state state' after.stamps) first ran))
+
+  -- ---- clients side by side over the file
+
+  module _ (turns : List Turn) (text : List ℕ → List TurnAnswer → List ℕ) (after : Outside) (state' : StoreState) (whole : state.faults ≡ before.write_faults) (first : state.read_faults ≡ before.read_faults)
+      (log : after.log ≡ state'.log) (reads : after.read_faults ≡ state'.read_faults) (faults : after.write_faults ≡ state'.faults)
+      (shown : CrashLeaves after.log Main (main_of after)) (lasts : Type 0) (lasting : lasts) where
+    abbrev played_there : (broke : Option TurnError) (written : List ℕ → Type 0) → PlayedOver lasts StandsForList (began state.list left before.read_faults before.write_faults) cut turns text broke written state state' after.stamps
+        → Played turns text broke written before after
+    played_there broke written p = record {
+      order = p.order;
+      lines = p.lines;
+      rest = p.rest;
+      is = p.is;
+      reached = reached_so p.lines (text p.order) after state' whole first log reads faults shown lasts lasting broke written p.ran;
+      served = p.served;
+    }
+
+    pub played_by : (broke : Option TurnError) (written : List ℕ → Type 0) → PlayedOver lasts StandsForList (began state.list left state.read_faults state.faults) cut turns text broke written state state' after.stamps
+        → Played turns text broke written before after
+    played_by broke written p =
+        played_there broke written
+        (subst (λ (n : ℕ). PlayedOver lasts StandsForList (began state.list left before.read_faults n) cut turns text broke written state state' after.stamps) whole
+        (subst (λ (n : ℕ). PlayedOver lasts StandsForList (began state.list left n state.faults) cut turns text broke written state state' after.stamps) first p))
+
+  module _ (turns : List Turn) (after : Outside) (state' : StoreState) (whole : state.faults ≡ before.write_faults) (first : state.read_faults ≡ before.read_faults)
+      (log : after.log ≡ state'.log) (reads : after.read_faults ≡ state'.read_faults) (faults : after.write_faults ≡ state'.faults)
+      (shown : CrashLeaves after.log Main (main_of after)) (lasts : Type 0) (lasting : lasts) where
+    all_there : (written : List ℕ → Type 0) → AllPlayedOver lasts StandsForList (began state.list left before.read_faults before.write_faults) cut turns written state state' after.stamps → AllPlayed turns written before after
+    all_there written p = record {
+      played = played_there turns (played_text (openers turns)) after state' whole first log reads faults shown lasts lasting None written p.played;
+      all = p.all;
+      done = p.done;
+    }
+
+    pub all_played_by : (written : List ℕ → Type 0) → AllPlayedOver lasts StandsForList (began state.list left state.read_faults state.faults) cut turns written state state' after.stamps → AllPlayed turns written before after
+    all_played_by written p =
+        all_there written
+        (subst (λ (n : ℕ). AllPlayedOver lasts StandsForList (began state.list left before.read_faults n) cut turns written state state' after.stamps) whole
+        (subst (λ (n : ℕ). AllPlayedOver lasts StandsForList (began state.list left n state.faults) cut turns written state state' after.stamps) first p))
 
 -- what is known of the file where the volume tells
 pub record IsOpen (before after : Outside) (state : StoreState) (left : Option (List Stamp)) (cut : Option ℕ) : Type 0 where
@@ -163,20 +212,53 @@ pub record IsOpen (before after : Outside) (state : StoreState) (left : Option (
 pub over_file : (s : Status) (told : Type 0) (turns : List Turn) (before after : Outside) (state state' : StoreState) (left : Option (List Stamp)) (cut : Option ℕ) → (told → IsOpen before after state left cut)
     → state.faults ≡ before.write_faults → state.read_faults ≡ before.read_faults → after.log ≡ state'.log → after.read_faults ≡ state'.read_faults → after.write_faults ≡ state'.faults
     → StoreSays s told told StandsForList (began state.list left state.read_faults state.faults) cut turns before.taken after.taken before.sink_faults after.sink_faults state state' after.stamps
-    → FileSays s told turns before after
+    → FileSays InTurn s told turns before after
 over_file status.Done told turns before after state state' left cut is whole first log reads faults says =
-    λ here. let o = is here in reached_whole before state left cut o.opens o.keeps o.makes turns after state' whole first log reads faults o.shown told here (says here)
+    λ here.
+    let o = is here in
+    let r = reached_whole before state left cut o.opens o.keeps o.makes (flagged turns) answers_text after state' whole first log reads faults o.shown told here (Appends before.taken after.taken) (says here) in
+    record { reached = r.0; all = r.1 }
 over_file status.NoMemory told turns before after state state' left cut is whole first log reads faults says =
     inr (λ here. let o = is here in elim (says here) [
-      | inl ran ↦ inl (reached before state left cut o.opens o.keeps o.makes turns after state' whole first log reads faults o.shown told here None (AppendsPrefix before.taken after.taken) ran)
-      | inr ran ↦ inr (reached before state left cut o.opens o.keeps o.makes turns after state' whole first log reads faults o.shown told here (Some turn_error.Memory) (AppendsPrefix before.taken after.taken) ran)
+      | inl ran ↦ inl (reached before state left cut o.opens o.keeps o.makes (flagged turns) answers_text after state' whole first log reads faults o.shown told here None (AppendsPrefix before.taken after.taken) ran)
+      | inr ran ↦ inr (reached before state left cut o.opens o.keeps o.makes (flagged turns) answers_text after state' whole first log reads faults o.shown told here (Some turn_error.Memory) (AppendsPrefix before.taken after.taken) ran)
     ])
 over_file status.SinkFault told turns before after state state' left cut is whole first log reads faults says =
-    (says.0, λ here. let o = is here in reached before state left cut o.opens o.keeps o.makes turns after state' whole first log reads faults o.shown told here None (AppendsPrefix before.taken after.taken) (says.1 here))
+    (says.0, λ here. let o = is here in reached before state left cut o.opens o.keeps o.makes (flagged turns) answers_text after state' whole first log reads faults o.shown told here None (AppendsPrefix before.taken after.taken) (says.1 here))
 over_file status.StoreFault told turns before after state state' left cut is whole first log reads faults says =
     inr (
       rw faults (subst (λ (n : ℕ). Rose n state'.faults) whole says.0),
-      λ here. let o = is here in reached before state left cut o.opens o.keeps o.makes turns after state' whole first log reads faults o.shown told here (Some turn_error.StoreFault)
+      λ here. let o = is here in reached before state left cut o.opens o.keeps o.makes (flagged turns) answers_text after state' whole first log reads faults o.shown told here (Some turn_error.StoreFault)
           (λ text. IsWritten before.taken after.taken before.sink_faults after.sink_faults (text ++ store_fault_line)) (says.1 here),
     )
 over_file _ told turns before after state state' left cut is whole first log reads faults says = absurd says
+
+-- the same of clients side by side
+pub over_file_played : (s : Status) (told : Type 0) (turns : List Turn) (before after : Outside) (state state' : StoreState) (left : Option (List Stamp)) (cut : Option ℕ) → (told → IsOpen before after state left cut)
+    → state.faults ≡ before.write_faults → state.read_faults ≡ before.read_faults → after.log ≡ state'.log → after.read_faults ≡ state'.read_faults → after.write_faults ≡ state'.faults
+    → PlaySays s told told StandsForList (began state.list left state.read_faults state.faults) cut turns before.taken after.taken before.sink_faults after.sink_faults state state' after.stamps
+    → FileSays SideBySide s told turns before after
+over_file_played status.Done told turns before after state state' left cut is whole first log reads faults says =
+    λ here. let o = is here in all_played_by before state left cut o.opens o.keeps o.makes turns after state' whole first log reads faults o.shown told here (Appends before.taken after.taken) (says here)
+over_file_played status.NoMemory told turns before after state state' left cut is whole first log reads faults says =
+    inr (λ here. let o = is here in elim (says here) [
+      | inl p ↦ inl (played_by before state left cut o.opens o.keeps o.makes turns no_text after state' whole first log reads faults o.shown told here None (λ text. after.taken ≡ before.taken) p)
+      | inr p ↦ inr (played_by before state left cut o.opens o.keeps o.makes turns no_text after state' whole first log reads faults o.shown told here (Some turn_error.Memory) (λ text. after.taken ≡ before.taken) p)
+    ])
+over_file_played status.SinkFault told turns before after state state' left cut is whole first log reads faults says =
+    (says.0, λ here. let o = is here in all_played_by before state left cut o.opens o.keeps o.makes turns after state' whole first log reads faults o.shown told here (AppendsPrefix before.taken after.taken) (says.1 here))
+over_file_played status.StoreFault told turns before after state state' left cut is whole first log reads faults says =
+    inr (
+      rw faults (subst (λ (n : ℕ). Rose n state'.faults) whole says.0),
+      λ here. let o = is here in played_by before state left cut o.opens o.keeps o.makes turns no_text after state' whole first log reads faults o.shown told here (Some turn_error.StoreFault)
+          (λ text. IsWritten before.taken after.taken before.sink_faults after.sink_faults (text ++ store_fault_line)) (says.1 here),
+    )
+over_file_played _ told turns before after state state' left cut is whole first log reads faults says = absurd says
+
+-- and in either manner
+pub over_file_in : (manner : Manner) (s : Status) (told : Type 0) (turns : List Turn) (before after : Outside) (state state' : StoreState) (left : Option (List Stamp)) (cut : Option ℕ) → (told → IsOpen before after state left cut)
+    → state.faults ≡ before.write_faults → state.read_faults ≡ before.read_faults → after.log ≡ state'.log → after.read_faults ≡ state'.read_faults → after.write_faults ≡ state'.faults
+    → TakenSays manner s told told StandsForList (began state.list left state.read_faults state.faults) cut turns before.taken after.taken before.sink_faults after.sink_faults state state' after.stamps
+    → FileSays manner s told turns before after
+over_file_in InTurn s told turns before after state state' left cut is whole first log reads faults says = over_file s told turns before after state state' left cut is whole first log reads faults says
+over_file_in SideBySide s told turns before after state state' left cut is whole first log reads faults says = over_file_played s told turns before after state state' left cut is whole first log reads faults says

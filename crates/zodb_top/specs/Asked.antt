@@ -18,13 +18,14 @@ use Rattle.zb_answers.specs.Objects.{shown_line}
 use Rattle.zb_volume.specs.declared.areas.Area.TheVariants.{Main}
 use Rattle.zb_volume.specs.Moments.{Leaves}
 use Rattle.zodb_core.specs.Machine.{front_of}
-use Rattle.zodb_top.specs.declared.command.Asked.{Asked}
-use Rattle.zodb_top.specs.declared.command.Asked.TheVariants.{UndoLog, History, Show, Digest, Check}
-use Rattle.zodb_top.specs.declared.status.Status.{Status}
-use Rattle.zodb_top.specs.declared.status.Status.TheVariants as status
+use Rattle.program_words.specs.declared.command.Asked.{Asked}
+use Rattle.program_words.specs.declared.command.Asked.TheVariants.{UndoLog, History, Show, Digest, Check}
+use Rattle.script_runs.specs.declared.status.Status.{Status}
+use Rattle.script_runs.specs.declared.status.Status.TheVariants as status
 use Rattle.zodb_top.specs.Opened.{FailedToOpen, IsRefused, IsUnfailed, OpensAs}
 use Rattle.zodb_top.specs.Outside.{Outside, main_of}
-use Rattle.zodb_top.specs.Texts.{cut_lines, digest_line, joined, missing_line, refused_line, verdict_line}
+use Rattle.script_runs.specs.Texts.{cut_lines, joined}
+use Rattle.zodb_top.specs.Texts.{digest_line, missing_line, refused_line, verdict_line}
 
 -- a revision is shown by its serial and its record, or by its serial and its record's digest
 abbrev pub shown : Found → List ℕ

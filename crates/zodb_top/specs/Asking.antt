@@ -18,12 +18,13 @@ use Rattle.zodb_core.specs.Machine.{Machine}
 use Rattle.zodb_core.specs.Steps.{step_of}
 use Rattle.zodb_top.specs.declared.asking.AskError.{AskError}
 use Rattle.zodb_top.specs.declared.asking.AskError.TheVariants as error
-use Rattle.zodb_top.specs.declared.status.Status.{Status}
-use Rattle.zodb_top.specs.declared.status.Status.TheVariants as status
-use Rattle.zodb_top.specs.declared.command.Asked.{Asked}
+use Rattle.script_runs.specs.declared.status.Status.{Status}
+use Rattle.script_runs.specs.declared.status.Status.TheVariants as status
+use Rattle.program_words.specs.declared.command.Asked.{Asked}
 use Rattle.zodb_top.specs.Asked.{IsSaid, content_of, digested, last_of, shown}
-use Rattle.zodb_top.specs.Came.{stock}
-use Rattle.zodb_top.specs.Texts.{digest_line, joined, missing_line, refused_line}
+use Rattle.side_by_side.specs.Runs.{stock}
+use Rattle.zodb_top.specs.Texts.{digest_line, missing_line, refused_line}
+use Rattle.script_runs.specs.Texts.{joined}
 
 -- a request that only reads
 abbrev pub only_reads : Request → Bool

@@ -2,7 +2,8 @@
 use Rattle.std.specs.Prelude.{◌≡◌, ℕ, List, codes}
 use Rattle.fs_records.specs.File.{IsDamaged, IsNoFile}
 use Rattle.fs_records.specs.declared.field.Field.{Field}
-use Rattle.zodb_top.specs.Texts.{damage_line, line}
+use Rattle.zodb_top.specs.Texts.{damage_line}
+use Rattle.script_runs.specs.Texts.{line}
 
 -- The line that names the damage of a file, where `told` says that the volume tells what the bytes are.
 pub data NamesDamage (told : Type 0) (bytes : List ℕ) (text : List ℕ) : Type 0 where

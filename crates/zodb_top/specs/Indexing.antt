@@ -1,5 +1,5 @@
 -- What the command `index` writes, and what it leaves. Own.
-use Rattle.std.specs.Prelude.{◌≡◌, ◌⊎◌, ℕ, List, [], ◌∷◌, ◌++◌, Option, codes, decimal}
+use Rattle.std.specs.Prelude.{◌≡◌, ◌⊎◌, ℕ, List, [], ◌∷◌, ◌++◌, Option}
 use Rattle.std.specs.Io.KnownBytes.{Appends}
 use Rattle.file_store.specs.Hinting.{IsHintedUpTo}
 use Rattle.file_store.specs.Kept.{StandsForList}
@@ -7,16 +7,15 @@ use Rattle.zb_base.specs.Counts.{Rose}
 use Rattle.zb_model.specs.declared.data.Transaction.{Transaction}
 use Rattle.zb_model.specs.Stores.{StoreState}
 use Rattle.zb_outside.specs.Written.{AppendsPrefix}
-use Rattle.zb_volume.specs.declared.areas.Area.TheVariants.{Main}
 use Rattle.zb_volume.specs.Calls.{Event}
-use Rattle.zb_volume.specs.Moments.{Leaves}
 use Rattle.zodb_core.specs.HubState.{counts_of}
-use Rattle.zodb_top.specs.declared.status.Status.{Status}
-use Rattle.zodb_top.specs.declared.status.Status.TheVariants as status
+use Rattle.script_runs.specs.declared.status.Status.{Status}
+use Rattle.script_runs.specs.declared.status.Status.TheVariants as status
 use Rattle.zodb_top.specs.Opened.{FailedToOpen, IsLeft, IsRefused, IsUnfailed, OpensAs}
 use Rattle.zodb_top.specs.Outside.{Outside, main_of}
-use Rattle.zodb_top.specs.Texts.{cut_lines, indexed_line, joined, refused_line, store_fault_line}
-use Rattle.zodb_top.specs.Written.{IsWritten}
+use Rattle.script_runs.specs.Texts.{cut_lines, joined, store_fault_line}
+use Rattle.zodb_top.specs.Texts.{indexed_line, refused_line}
+use Rattle.script_runs.specs.Written.{IsWritten}
 
 -- The lines are that of the tail that was cut off, if there was one, and that the index file is written; it may be believed, and goes up to this end, which is that
 -- of Main. Or a read failed, where `unread` says that one did.

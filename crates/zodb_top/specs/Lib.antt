@@ -1,12 +1,9 @@
 pub mod Outside
 pub mod Texts
-pub mod Written
-pub mod Words
-pub mod Numbers
 pub mod Damage
 pub mod Opened
-pub mod Committed
 pub mod Came
+pub mod Played
 pub mod Program
 pub mod Promise
 pub mod Asked
@@ -16,6 +13,5 @@ pub mod Running
 pub mod Asking
 pub mod Packs
 pub mod PackStores
-pub mod Table
 pub mod Telling
 pub mod Indexing

@@ -11,8 +11,8 @@ use Rattle.zb_volume.specs.declared.areas.Area.TheVariants.{Side}
 use Rattle.zb_volume.specs.Moments.{StaysAs}
 use Rattle.zodb_top.specs.Damage.{NamesDamage}
 use Rattle.zodb_top.specs.Outside.{Outside, main_of}
-use Rattle.zodb_top.specs.Texts.{store_fault_line}
-use Rattle.zodb_top.specs.Written.{IsWritten}
+use Rattle.script_runs.specs.Texts.{store_fault_line}
+use Rattle.script_runs.specs.Written.{IsWritten}
 
 -- What opening a file gives: the list that its bytes stand for, and where a tail was cut off; or, where there
 -- are no bytes, the list of a new database, by the clock's first stamp. `stamps` are the clock's, and `stamps'` those

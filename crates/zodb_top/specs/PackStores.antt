@@ -11,11 +11,11 @@ use Rattle.zb_volume.specs.Moments.{Leaves, LeavesOnly}
 use Rattle.zodb_core.specs.declared.reply.Reply.{Reply}
 use Rattle.zodb_core.specs.HubState.{IsCauseOf, counts_of, is_store_failed}
 use Rattle.zodb_core.specs.Outcomes.{Answered, StepOutcome, StoreFailed, outcome_of}
-use Rattle.zodb_top.specs.declared.command.PackRequest.{PackRequest}
-use Rattle.zodb_top.specs.declared.status.Status.{Status}
+use Rattle.program_words.specs.declared.command.PackRequest.{PackRequest}
+use Rattle.script_runs.specs.declared.status.Status.{Status}
 use Rattle.zodb_top.specs.Packs.{IsListOrPacked, IsReplyTo, ReplySays, packed_list}
-use Rattle.zodb_top.specs.declared.status.Status.TheVariants as status
-use Rattle.zodb_top.specs.Texts.{cut_lines}
+use Rattle.script_runs.specs.declared.status.Status.TheVariants as status
+use Rattle.script_runs.specs.Texts.{cut_lines}
 
 -- what the status of a text says that was to be written
 abbrev pub IsToldAs : Status → Option (List ℕ) → Option (List ℕ) → ℕ → ℕ → List ℕ → Type 0

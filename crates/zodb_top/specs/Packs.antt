@@ -16,14 +16,15 @@ use Rattle.zodb_core.specs.HubState.{IsCauseOf}
 use Rattle.zodb_core.specs.Machine.{machine_over, with_session}
 use Rattle.zodb_core.specs.Outcomes.{Answered, ReadingFailed, StepOutcome, StoreFailed, outcome_of}
 use Rattle.zodb_core.specs.Steps.{Stepped, step_of}
-use Rattle.zodb_top.specs.declared.command.PackRequest.{PackRequest}
-use Rattle.zodb_top.specs.declared.status.Status.{Status}
-use Rattle.zodb_top.specs.declared.status.Status.TheVariants as status
-use Rattle.zodb_top.specs.Came.{IsCalm, stock}
+use Rattle.program_words.specs.declared.command.PackRequest.{PackRequest}
+use Rattle.script_runs.specs.declared.status.Status.{Status}
+use Rattle.script_runs.specs.declared.status.Status.TheVariants as status
+use Rattle.side_by_side.specs.Runs.{stock}
+use Rattle.zodb_top.specs.Came.{IsCalm}
 use Rattle.zodb_top.specs.Opened.{FailedToOpen, IsLeft, IsRefused, IsUnfailed, OpensAs}
 use Rattle.zodb_top.specs.Outside.{Outside, main_of}
-use Rattle.zodb_top.specs.Texts.{cut_lines, joined, line, store_fault_line}
-use Rattle.zodb_top.specs.Written.{IsWritten}
+use Rattle.script_runs.specs.Texts.{cut_lines, joined, line, store_fault_line}
+use Rattle.script_runs.specs.Written.{IsWritten}
 
 -- what the machine makes of such a pack of a list, which reads no clock
 abbrev pub pack_made : PackRequest → List Transaction → Stepped

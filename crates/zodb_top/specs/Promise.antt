@@ -1,10 +1,11 @@
 -- What the program promises, whatever its words: one record, of which each field is a sentence. Own.
-use Rattle.std.specs.Prelude.{◌≡◌, ◌≢◌, ◌≤◌, ◌+◌, ℕ, List, [], Option, Some, None, IfSome, length}
+use Rattle.std.specs.Prelude.{◌≡◌, ◌≢◌, ◌≤◌, ◌+◌, ℕ, List, [], Option, Some, None, length}
 use Rattle.std.specs.Io.KnownBytes.{Consumes, IsAtEnd}
 use Rattle.file_store.specs.Hinting.{LeavesHonest}
 use Rattle.fs_records.specs.File.{StandsFor}
 use Rattle.fs_recovery.specs.Opens.{IsNoList}
 use Rattle.zb_base.specs.Counts.{Rose}
+use Rattle.zb_links.specs.Told.{Told}
 use Rattle.zb_model.specs.declared.data.Transaction.{Transaction}
 use Rattle.zb_script.specs.declared.limits.Limit.{Limit}
 use Rattle.zb_script.specs.declared.line.Turn.{Turn}
@@ -13,30 +14,44 @@ use Rattle.zb_script.specs.Script.{IsBadLine}
 use Rattle.zb_volume.specs.declared.areas.Area.TheVariants.{Main, Side}
 use Rattle.zb_volume.specs.Disk.{IsSettled}
 use Rattle.zb_volume.specs.Moments.{StaysAs}
-use Rattle.zodb_top.specs.declared.command.Command.{Command}
-use Rattle.zodb_top.specs.declared.command.Command.TheVariants.{Ask, Index, Pack, Run}
-use Rattle.zodb_top.specs.declared.status.Status.{Status}
-use Rattle.zodb_top.specs.declared.status.Status.TheVariants as status
+use Rattle.program_words.specs.declared.command.Command.{Command}
+use Rattle.program_words.specs.declared.command.Command.TheVariants.{Ask, Index, Pack, Play, Run}
+use Rattle.script_runs.specs.declared.manner.Manner.TheVariants.{InTurn, SideBySide}
+use Rattle.script_runs.specs.declared.status.Status.{Status}
+use Rattle.script_runs.specs.declared.status.Status.TheVariants as status
 use Rattle.zodb_top.specs.Asked.{AskSays}
 use Rattle.zodb_top.specs.Indexing.{IndexSays}
 use Rattle.zodb_top.specs.Inputs.{most_bytes}
 use Rattle.zodb_top.specs.Opened.{IsLeft, IsUnopened}
 use Rattle.zodb_top.specs.Outside.{Outside, main_of}
 use Rattle.zodb_top.specs.Packs.{PackSays}
-use Rattle.zodb_top.specs.Program.{IsInput, IsUnlessMemory, KeepsSide, ReadsToEnd, RunSays}
+use Rattle.zodb_top.specs.Program.{IsInput, KeepsSide, ReadsToEnd, RunSays}
+use Rattle.script_runs.specs.Outcomes.{IsUnlessMemory}
 use Rattle.zodb_top.specs.Texts.{usage_line}
-use Rattle.zodb_top.specs.Written.{IsWritten}
+use Rattle.script_runs.specs.Written.{IsWritten}
+
+-- What is seen of the links of other programs: what the doors tell, their count of faults, and that
+-- of the spawner, which runs the workers of links.
+pub record LinksSeen : Type 0 where
+  pub told : Option Told
+  pub door_faults : ℕ
+  pub spawner_faults : ℕ
+
+abbrev pub links_seen : Option Told → ℕ → ℕ → LinksSeen
+links_seen told door_faults spawner_faults =
+    record { told = told; door_faults = door_faults; spawner_faults = spawner_faults }
 
 -- What is seen of the whole outside at a moment: what the source has left, where it tells, and its
--- count of faults; and what is seen of the sink, the clock and the volume.
+-- count of faults; what is seen of the links; and what is seen of the sink, the clock and the volume.
 pub record ProgramSeen : Type 0 where
   pub left : Option (List ℕ)
   pub source_faults : ℕ
+  pub links : LinksSeen
   pub outside : Outside
 
-abbrev pub program_seen : Option (List ℕ) → ℕ → Outside → ProgramSeen
-program_seen left source_faults outside =
-    record { left = left; source_faults = source_faults; outside = outside }
+abbrev pub program_seen : Option (List ℕ) → ℕ → LinksSeen → Outside → ProgramSeen
+program_seen left source_faults links outside =
+    record { left = left; source_faults = source_faults; links = links; outside = outside }
 
 -- ---- what a status says
 
@@ -55,7 +70,10 @@ pub record SaysUsage (s : Status) (before after : Outside) : Type 0 where
 abbrev pub CommandSays : Option Command → Status → Type 0 → ProgramSeen → ProgramSeen → Type 0
 CommandSays None s told before after = SaysUsage s before.outside after.outside
 CommandSays (Some Run) s told before after =
-    RunSays s told (Rose before.source_faults after.source_faults) before.left
+    RunSays InTurn s told (Rose before.source_faults after.source_faults) before.left
+    before.outside after.outside
+CommandSays (Some Play) s told before after =
+    RunSays SideBySide s told (Rose before.source_faults after.source_faults) before.left
     before.outside after.outside
 CommandSays (Some (Ask asked)) s told before after =
     AskSays s asked told before.outside after.outside
@@ -68,7 +86,7 @@ CommandSays (Some Index) s told before after =
 
 -- ---- what is read of the script
 
--- `run` reads it to its end, or at most to the first byte past its limit
+-- `run` and `play` read it to its end, or at most to the first byte past its limit
 pub record ReadsScript (s : Status) (before after : ProgramSeen) : Type 0 where
   pub at_end : ReadsToEnd s before.left → IsAtEnd after.left
   pub taken : (bytes : List ℕ) × Consumes before.left after.left bytes
@@ -77,7 +95,14 @@ pub record ReadsScript (s : Status) (before after : ProgramSeen) : Type 0 where
 -- and no other command reads anything
 abbrev pub ReadsFor : Option Command → Status → ProgramSeen → ProgramSeen → Type 0
 ReadsFor (Some Run) s before after = ReadsScript s before after
+ReadsFor (Some Play) s before after = ReadsScript s before after
 ReadsFor _ s before after = after.left ≡ before.left
+
+-- ---- what is done to links
+
+-- no command takes any
+abbrev pub LinksFor : Option Command → ProgramSeen → ProgramSeen → Type 0
+LinksFor _ before after = after.links ≡ before.links
 
 -- ---- which status comes, where no call fails
 
@@ -94,10 +119,11 @@ pub record HasScript (before after : ProgramSeen) : Type 0 where
   pub is : IsInput input turns
   pub unfailed : ¬ Rose before.source_faults after.source_faults
 
--- a command opens the file: `run` where it has a script, and each other one always
+-- a command opens the file: `run` and `play` where they have a script, and each other one always
 abbrev pub OpensFile : Option Command → ProgramSeen → ProgramSeen → Type 0
 OpensFile None before after = ⊥
 OpensFile (Some Run) before after = HasScript before after
+OpensFile (Some Play) before after = HasScript before after
 OpensFile (Some _) before after = Unit {0}
 
 -- A file that stands for a list is served, and one that stands for none is damaged.
@@ -109,6 +135,12 @@ pub record Serves (told : Type 0) (command : Option Command) (s : Status)
       → IsUnlessMemory s status.Done
   pub damaged : told → OpensFile command before after → IsServed before.outside after.outside
       → IsNoList (main_of before.outside) → IsUnlessMemory s status.Damaged
+
+-- a command takes a script
+abbrev pub TakesScript : Option Command → Type 0
+TakesScript (Some Run) = Unit {0}
+TakesScript (Some Play) = Unit {0}
+TakesScript _ = ⊥
 
 -- A script with a bad line is refused so, and one that passes a limit.
 pub record RefusesScript (s : Status) (before after : ProgramSeen) : Type 0 where
@@ -136,10 +168,12 @@ pub record Promise (told : Type 0) (command : Option Command) (s : Status)
   pub says : CommandSays command s told before after
   -- A script is read whole, and nothing else is read.
   pub reads : ReadsFor command s before after
+  -- No link is taken.
+  pub links : LinksFor command before after
   -- Each command has its status over each file where no call fails, unless memory runs out.
   pub serves : Serves told command s before after
-  -- And so has each input of `run` that is no script.
-  pub refuses : command ≡ Some Run → RefusesScript s before after
+  -- And so has each input that is no script, of a command that takes one.
+  pub refuses : TakesScript command → RefusesScript s before after
   -- A file that is damaged is left as it was, whatever is asked.
   pub harmed : told → IsNoList (main_of before.outside) → after.outside.log ≡ before.outside.log
   -- No call that would change the volume has failed, unless the status says so.

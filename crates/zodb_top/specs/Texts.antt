@@ -1,6 +1,5 @@
 -- The lines that the program writes beside replies. Own.
-use Rattle.std.specs.Prelude.{ℕ, List, [], ◌∷◌, ◌++◌, Option, Some, None, codes, decimal}
-use Rattle.std.specs.List.{flat_map}
+use Rattle.std.specs.Prelude.{ℕ, List, ◌∷◌, ◌++◌, codes, decimal}
 use Rattle.sha2.specs.Sha256.{sha256}
 use Rattle.btree_checking.specs.declared.verdict.Verdict.{Verdict}
 use Rattle.btree_checking.specs.declared.verdict.Verdict.TheVariants as verdict
@@ -10,13 +9,7 @@ use Rattle.fs_records.specs.declared.field.Field.{Field}
 use Rattle.zb_ids.specs.Hex.{hex_number, hex_text}
 use Rattle.zb_script.specs.declared.limits.Limit.{Limit}
 use Rattle.zb_script.specs.Limits.{limit_count, limit_name}
-
-abbrev pub line : List ℕ → List ℕ
-line text = text ++ 10 ∷ []
-
--- lines, one behind another
-abbrev pub joined : List (List ℕ) → List ℕ
-joined lines = flat_map (λ l. l) lines
+use Rattle.script_runs.specs.Texts.{line}
 
 abbrev pub usage_line : List ℕ
 usage_line = line (codes "usage")
@@ -24,20 +17,12 @@ usage_line = line (codes "usage")
 abbrev pub read_fault_line : List ℕ
 read_fault_line = line (codes "read fault")
 
-abbrev pub store_fault_line : List ℕ
-store_fault_line = line (codes "store fault")
-
 abbrev pub bad_line : ℕ → List ℕ
 bad_line number = line (codes "bad line " ++ decimal number)
 
 -- a limit that is passed, by its name and its number
 abbrev pub limit_line : Limit → List ℕ
 limit_line l = line (codes "limit " ++ (limit_name l ++ 32 ∷ decimal (limit_count l)))
-
--- where opening the file cut a tail off, the first line says so
-abbrev pub cut_lines : Option ℕ → List (List ℕ)
-cut_lines None = []
-cut_lines (Some at) = line (codes "cut " ++ decimal at) ∷ []
 
 -- the rule that fails, and where
 abbrev pub damage_line : ℕ → Field → List ℕ

@@ -2,10 +2,11 @@
 use Rattle.std.specs.Prelude.{◌≡◌, ℕ, List, Option, codes}
 use Rattle.fs_recovery.specs.declared.errors.OpenError.{OpenError}
 use Rattle.fs_recovery.specs.declared.errors.OpenError.TheVariants as error
-use Rattle.zodb_top.specs.declared.status.Status.{Status}
-use Rattle.zodb_top.specs.declared.status.Status.TheVariants as status
-use Rattle.zodb_top.specs.Written.{IsWritten}
-use Rattle.zodb_top.specs.Texts.{damage_line, line, store_fault_line}
+use Rattle.script_runs.specs.declared.status.Status.{Status}
+use Rattle.script_runs.specs.declared.status.Status.TheVariants as status
+use Rattle.script_runs.specs.Written.{IsWritten}
+use Rattle.zodb_top.specs.Texts.{damage_line}
+use Rattle.script_runs.specs.Texts.{line, store_fault_line}
 
 -- the line that names the damage
 abbrev pub NamesError : OpenError → List ℕ → Type 0

@@ -15,30 +15,19 @@ ghost use Rattle.zodb_top.specs.Asked.{AskSays};
 ghost use Rattle.zodb_top.specs.Asking.{AnswerSays, KeepsStore, StoreAnswers};
 ghost use Rattle.zodb_top.specs.Opened.{IsLeft};
 ghost use Rattle.zodb_top.specs.Outside.{outside};
-ghost use Rattle.zodb_top.specs.Texts.{joined, refused_line};
+ghost use Rattle.script_runs.specs.Texts.{joined};
+ghost use Rattle.zodb_top.specs.Texts.{refused_line};
 
 use crate::asking::{AskError, store_lines};
-use crate::command::Asked;
-use crate::saying::{cut_lines, say_unopened, write_behind, write_lines};
-use crate::status::Status;
+use crate::saying::say_unopened;
 use file_store::FileStore;
+use program_words::Asked;
+use script_runs::{Status, cut_lines, write_behind, write_both};
 use std::alloc::Global;
 use zb_ids::{ListOf, Text8};
 use zb_model::Store;
 use zb_outside::{Clock, Failed, Sink};
 use zb_volume::Volume;
-
-/// Writes lines, and then more.
-#[tactic(auto, using(crate::proofs::Prefixes::both_lines, crate::proofs::Prefixes::first_prefix, crate::proofs::Prefixes::second_prefix))]
-fn write_both<K: Sink>(sink: &mut K, lines: &[Text8], more: &[Text8]) -> Result<(), Failed>
-    ensures ok { OnOk result (Appends (K.taken sink.old) (K.taken sink.new) (joined (lines.now ++ more.now))) }
-    ensures err { OnErr result (AppendsPrefix (K.taken sink.old) (K.taken sink.new) (joined (lines.now ++ more.now))) }
-    ensures failed { OnErr result (Rose (K.faults sink.old) (K.faults sink.new)) }
-    ensures counted { K.faults sink.old ≤ K.faults sink.new }
-{
-    write_lines(sink, lines)?;
-    write_lines(sink, more)
-}
 
 /// Writes an answer behind some lines. It takes no memory, so that a failed read is told where there is none.
 fn write_answer<K: Sink>(

@@ -14,7 +14,7 @@ ghost use Rattle.zodb_top.specs.Asking.{IsLast, IsStepped, KeepsList, KeepsStore
 ghost use Rattle.zodb_top.specs.Texts.{digest_line};
 
 use crate::checking::check;
-use crate::command::Asked;
+use program_words::Asked;
 use sha2::{Digest, Sha256};
 use std::alloc::{AllocError, Global};
 use zb_answers::{log_line, revision_line, shown_line};

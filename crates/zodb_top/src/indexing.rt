@@ -14,10 +14,10 @@ ghost use Rattle.zodb_top.specs.Outside.{outside};
 ghost use Rattle.zodb_top.specs.Texts.{indexed_line};
 
 use crate::packing::tell;
-use crate::saying::{cut_lines, say_behind, say_unopened};
-use crate::status::Status;
+use crate::saying::say_unopened;
 use file_store::FileStore;
 use itoa::Buffer;
+use script_runs::{Status, cut_lines, say_behind};
 use std::alloc::{AllocError, Global};
 use zb_model::{Store, StoreError};
 use zb_outside::{Clock, Sink};

@@ -16,13 +16,13 @@ ghost use Rattle.zodb_top.specs.Outside.{outside};
 ghost use Rattle.zodb_top.specs.PackStores.{IsStorePacked, IsToldAs, PacksStore};
 ghost use Rattle.zodb_top.specs.Telling.{told_of};
 ghost use Rattle.zodb_top.specs.Packs.{IsListOrPacked, PackSays, ReplySays};
-ghost use Rattle.zodb_top.specs.Program.{IsUnlessMemory};
-ghost use Rattle.zodb_top.specs.Texts.{joined};
+ghost use Rattle.script_runs.specs.Outcomes.{IsUnlessMemory};
+ghost use Rattle.script_runs.specs.Texts.{joined};
 
-use crate::command::PackRequest;
-use crate::saying::{cut_lines, say_behind, say_unopened, write_behind};
-use crate::status::Status;
+use crate::saying::say_unopened;
 use file_store::FileStore;
+use program_words::PackRequest;
+use script_runs::{Status, cut_lines, say_behind, write_behind};
 use std::alloc::Global;
 use zb_answers::{Answer, answer_line};
 use zb_ids::Text8;

@@ -1,105 +1,16 @@
-//! Lines beside replies: what a file is, and how the program ends.
+//! Lines that say what a script or a file is.
 
-ghost use Rattle.std.specs.Prelude.{◌≡◌, ◌≤◌, ◌++◌, ◌∷◌, [], IfOk, OnErr, OnOk};
-ghost use Rattle.std.specs.Io.KnownBytes.{Appends};
-ghost use Rattle.zb_base.specs.Counts.{Rose};
-ghost use Rattle.zb_outside.specs.Written.{AppendsPrefix};
-ghost use Rattle.zodb_top.specs.Texts.{bad_line, cut_lines, damage_line, joined, limit_line};
+ghost use Rattle.std.specs.Prelude.{◌≡◌, ◌≤◌, IfOk};
+ghost use Rattle.zodb_top.specs.Texts.{bad_line, damage_line, limit_line};
 ghost use Rattle.zodb_top.specs.Unopened.{SaysUnopened};
-ghost use Rattle.zodb_top.specs.Written.{IsWritten};
 
-use crate::status::Status;
 use fs_records::Field;
 use fs_recovery::OpenError;
 use itoa::Buffer;
+use script_runs::{Status, say};
 use std::alloc::{AllocError, Global};
-use zb_ids::{ListOf, Text8};
-use zb_outside::{Failed, Sink, write_all};
+use zb_outside::Sink;
 use zb_script::Limit;
-
-/// Writes the line that tells of an ending, and answers its status. A sink that fails then has some
-/// prefix of the line, and changes nothing of the status.
-#[tactic(auto, using(zb_outside::specs::WrittenLaws::all_front))]
-pub(crate) fn say<K: Sink>(sink: &mut K, text: &[u8], status: Status) -> Status
-    ensures status { result ≡ status }
-    ensures counted { K.faults sink.old ≤ K.faults sink.new }
-    ensures written { IsWritten (K.taken sink.old) (K.taken sink.new) (K.faults sink.old) (K.faults sink.new) text.now }
-{
-    let _ = write_all(sink, text);
-    status
-}
-
-/// Writes a line.
-fn write_line<K: Sink>(sink: &mut K, line: &Text8) -> Result<(), Failed>
-    ensures ok { OnOk result (Appends (K.taken sink.old) (K.taken sink.new) line.now) }
-    ensures err { OnErr result (AppendsPrefix (K.taken sink.old) (K.taken sink.new) line.now) }
-    ensures failed { OnErr result (Rose (K.faults sink.old) (K.faults sink.new)) }
-    ensures counted { K.faults sink.old ≤ K.faults sink.new }
-{
-    write_all(sink, line.as_slice())
-}
-
-/// Writes lines in their order, each by a write of its own.
-#[tactic(auto, using(crate::proofs::Written::start_lines, crate::proofs::Written::one_line, crate::proofs::Written::all_lines, crate::proofs::Written::prefix_lines))]
-pub(crate) fn write_lines<K: Sink>(sink: &mut K, lines: &[Text8]) -> Result<(), Failed>
-    ensures ok { OnOk result (Appends (K.taken sink.old) (K.taken sink.new) (joined lines.now)) }
-    ensures err { OnErr result (AppendsPrefix (K.taken sink.old) (K.taken sink.new) (joined lines.now)) }
-    ensures failed { OnErr result (Rose (K.faults sink.old) (K.faults sink.new)) }
-    ensures counted { K.faults sink.old ≤ K.faults sink.new }
-{
-    for line in lines {
-        write_line(sink, line)?;
-    }
-    Ok(())
-}
-
-/// Writes lines, and then one that stands where it is.
-#[tactic(auto, using(crate::proofs::Prefixes::both_lines, crate::proofs::Prefixes::first_prefix, crate::proofs::Prefixes::second_prefix))]
-pub(crate) fn write_behind<K: Sink>(
-    sink: &mut K,
-    lines: &[Text8],
-    last: &[u8],
-) -> Result<(), Failed>
-    ensures ok { OnOk result (Appends (K.taken sink.old) (K.taken sink.new) (joined (lines.now ++ last.now ∷ []))) }
-    ensures err { OnErr result (AppendsPrefix (K.taken sink.old) (K.taken sink.new) (joined (lines.now ++ last.now ∷ []))) }
-    ensures failed { OnErr result (Rose (K.faults sink.old) (K.faults sink.new)) }
-    ensures counted { K.faults sink.old ≤ K.faults sink.new }
-{
-    write_lines(sink, lines)?;
-    write_all(sink, last)
-}
-
-/// Writes lines, and then the line that tells of an ending, and answers its status. A sink that fails then has
-/// some prefix of them, and changes nothing of the status.
-#[tactic(auto, using(crate::proofs::Prefixes::said_behind))]
-pub(crate) fn say_behind<K: Sink>(
-    sink: &mut K,
-    lines: &[Text8],
-    text: &[u8],
-    status: Status,
-) -> Status
-    ensures status { result ≡ status }
-    ensures counted { K.faults sink.old ≤ K.faults sink.new }
-    ensures written { IsWritten (K.taken sink.old) (K.taken sink.new) (K.faults sink.old) (K.faults sink.new) (joined lines.now ++ text.now) }
-{
-    let _ = write_behind(sink, lines, text);
-    status
-}
-
-/// The line of a tail that was cut off, where one was.
-pub(crate) fn cut_lines(alloc: Global, cut: Option<u64>) -> Result<ListOf<Text8>, AllocError>
-    ensures { IfOk result (λ lines. lines ≡ cut_lines cut) }
-{
-    let mut lines = ListOf::new(alloc);
-    if let Some(at) = cut {
-        let mut text = Vec::from_slice(alloc, b"cut ")?;
-        let mut buffer = Buffer::new();
-        text.extend_from_slice(buffer.format(at).as_bytes())?;
-        text.push(b'\n')?;
-        lines.push(Text8::from_vec(text))?;
-    }
-    Ok(lines)
-}
 
 /// The line that names a bad line.
 pub(crate) fn bad_line_text(alloc: Global, number: u64) -> Result<Vec<u8>, AllocError>

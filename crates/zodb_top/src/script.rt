@@ -18,12 +18,15 @@ ghost use Rattle.zb_volume.specs.Disk.{IsSettled, seen};
 ghost use Rattle.client_turns.specs.Refusing.{IsFittingLine};
 ghost use Rattle.zodb_top.specs.Inputs.{InputSays, SaysBadLine, SaysLimit, most_bytes};
 ghost use Rattle.zodb_top.specs.Outside.{outside};
-ghost use Rattle.zodb_top.specs.Program.{IsInput, IsUnlessMemory, PacksNothing, ReadsToEnd, RunSays};
+ghost use Rattle.zodb_top.specs.Program.{IsInput, PacksNothing, ReadsToEnd, RunSays};
+ghost use Rattle.script_runs.specs.Outcomes.{IsUnlessMemory};
 
 use crate::running::run_file;
-use crate::saying::{bad_line_text, limit_text, say};
-use crate::status::Status;
+use crate::saying::{bad_line_text, limit_text};
+use script_runs::{Manner, Status, say};
 use std::alloc::Global;
+use std::sync::Wait;
+use std::thread::Threads;
 use zb_ids::ListOf;
 use zb_outside::{Clock, ReadAllError, Sink, Source, read_all};
 use zb_script::{Limit, ScriptError, Turn, read_script};
@@ -78,17 +81,25 @@ pub fn turns_of<K: Sink>(alloc: Global, input: &[u8], sink: &mut K) -> Result<Li
 }
 
 /// Reads the script that the source has, to its end or past its limit, and runs it over the file in
-/// Main.
+/// Main, in this manner.
 #[tactic(auto, using(zb_model::specs::StayLaws::stays_same, crate::proofs::Sources::limit_unread, crate::proofs::Sources::fault_unread, crate::proofs::Untouched::still_honest))]
-pub(crate) fn run_source<S: Source, K: Sink, V: Volume + Drop, C: Clock>(
+pub(crate) fn run_source<
+    S: Source,
+    K: Sink,
+    V: Volume + Drop + Send,
+    C: Clock + Send,
+    R: Threads + Wait + Sync,
+>(
+    rt: &R,
     alloc: Global,
+    manner: Manner,
     source: &mut S,
     sink: &mut K,
     volume: V,
     clock: &mut C,
 ) -> (Status, V)
     requires { V.told → HasHonestHint (V.state volume).log }
-    ensures outcome { RunSays result.0 V.told (Rose (S.faults source.old) (S.faults source.new)) (S.left source.old)
+    ensures outcome { RunSays manner result.0 V.told (Rose (S.faults source.old) (S.faults source.new)) (S.left source.old)
         (outside (K.taken sink.old) (K.faults sink.old) (C.stamps clock.old) (V.state volume))
         (outside (K.taken sink.new) (K.faults sink.new) (C.stamps clock.new) (V.state result.1)) }
     ensures at_end { ReadsToEnd result.0 (S.left source.old) → IsAtEnd (S.left source.new) }
@@ -125,7 +136,7 @@ pub(crate) fn run_source<S: Source, K: Sink, V: Volume + Drop, C: Clock>(
         }
     };
     match turns_of(alloc, input.as_slice(), sink) {
-        Ok(turns) => run_file(alloc, turns.as_slice(), sink, volume, clock),
+        Ok(turns) => run_file(rt, alloc, manner, turns.as_slice(), sink, volume, clock),
         Err(status) => (status, volume),
     }
 }

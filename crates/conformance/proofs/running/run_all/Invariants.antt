@@ -4,4 +4,4 @@ use Rattle.conformance.proofs.running.run_all.Given as goal
 
 -- the next run may start
 abbrev pub invariant-runs : goal.invariant-runs
-invariant-runs l = MayStart (log_of l.volume.done)
+invariant-runs g l = MayStart (log_of l.volume.done)

@@ -1,4 +1,4 @@
-use Rattle.std.proofs.Common.{List, refl, sym, subst, ◌∙◌}
+use Rattle.std.proofs.Common.{List, refl, subst, ◌∙◌}
 use Rattle.std.specs.Option.{option_map}
 use Rattle.fs_records.specs.Listed.{listed}
 use Rattle.pack_copy.specs.Copying.{copied_in}

@@ -10,7 +10,7 @@ use Rattle.zodb_top.specs.Outside.{Outside, outside}
 use Rattle.zodb_top.proofs.Files.{opened_none, opens_as, unopened_done}
 use Rattle.zodb_top.proofs.Nexts.{unopened_other}
 use Rattle.zodb_top.proofs.Untouched.{makes_when}
-use Rattle.zodb_top.proofs.Volumes.{bytes_unless, over_file, unopened}
+use Rattle.zodb_top.proofs.Volumes.{bytes_unless, over_file_in, unopened}
 use Rattle.zb_volume.specs.Runs.{along_now}
 use Rattle.file_store.specs.Hinting.{LeavesHonest}
 use Rattle.zodb_top.proofs.running.run_file.Goals as goal
@@ -21,9 +21,9 @@ returns-in-Ok-clause-outcome g c =
     let K = g.K.Sink in
     let C = g.C.Clock in
     let before : Outside = outside (K.taken c.args.sink.now) (K.faults c.args.sink.now) (C.stamps c.args.clock.now) (V.state c.args.volume) in
-    let after : Outside = outside (K.taken c.run_over_store-status.new.sink) (K.faults c.run_over_store-status.new.sink) (C.stamps c.run_over_store-status.new.clock) (V.state c.into_volume.result) in
+    let after : Outside = outside (K.taken c.take_over_store-status.new.sink) (K.faults c.take_over_store-status.new.sink) (C.stamps c.take_over_store-status.new.clock) (V.state c.into_volume-volume.result) in
     let s = c.in-Ok.store in
-    let t = c.run_over_store-status.result.1 in
+    let t = c.take_over_store-status.result.1 in
     let state : StoreState = record {
       list = listed (seen (V.state s.volume).log Main);
       voted = option_map (λ x. voted_in x.tid s.index.end (seen (V.state s.volume).log Main)) s.index.staged;
@@ -44,16 +44,16 @@ returns-in-Ok-clause-outcome g c =
       faults = (V.state t.volume).write_faults;
       read_faults = (V.state t.volume).read_faults;
     } in
-    over_file c.run_over_store-status.result.0 V.told c.args.turns.now before after state state' (C.stamps c.create_or_open.new.clock) c.in-Ok.cut
+    over_file_in c.args.manner c.take_over_store-status.result.0 V.told c.args.turns.now before after state state' (C.stamps c.create_or_open.new.clock) c.in-Ok.cut
     (λ told. record {
       opens = opens_as _ _ _ _ _ (λ some. ((c.in-Ok.ensures.store.main told).reopened some).opened) (λ empty. ((c.in-Ok.ensures.store.main told).anew empty).made) (c.in-Ok.ensures.clock.kept told) (c.in-Ok.ensures.clock.left told);
       keeps = (c.in-Ok.ensures.store.moments told).keeps;
       makes = makes_when _ _ _ (c.in-Ok.ensures.store.moments told).makes;
-      shown = g.met.V.Volume.seen_is_left c.into_volume.result Main told;
+      shown = c.is_left.ensures.left told;
       bytes = λ some. ((c.in-Ok.ensures.store.main told).reopened some).content;
       new_file = λ empty. ((c.in-Ok.ensures.store.main told).anew empty).new_file;
     })
-    c.in-Ok.ensures.store.faults c.in-Ok.ensures.store.read_faults c.into_volume.ensures.log c.into_volume.ensures.read_faults c.into_volume.ensures.faults c.run_over_store-status.ensures.outcome
+    c.in-Ok.ensures.store.faults c.in-Ok.ensures.store.read_faults c.into_volume-volume.ensures.log c.into_volume-volume.ensures.read_faults c.into_volume-volume.ensures.faults c.take_over_store-status.ensures.outcome
 
 pub returns-in-Ok-clause-damaged : goal.returns-in-Ok-clause-damaged
 returns-in-Ok-clause-damaged g c = λ told reads writes none. opened_none g.V.Volume.told _ _ _ c.in-Ok.cut (λ here some. ((c.in-Ok.ensures.store.main here).reopened some).opened) told none
@@ -63,7 +63,7 @@ returns-in-Ok-clause-harmed g c = λ told none. opened_none g.V.Volume.told _ _ 
 
 pub returns-in-Err-clause-outcome : goal.returns-in-Err-clause-outcome
 returns-in-Err-clause-outcome g c =
-    unopened c.say_unopened.result c.in-Err.error g.V.Volume.told c.args.turns.now _ _ c.say_unopened.ensures.said c.in-Err.ensures.refused.harm c.in-Err.ensures.refused.cause.fault c.in-Err.ensures.refused.untouched (λ other. let still = c.in-Err.ensures.refused.cause.unfailed other in (still.reads, still.writes))
+    unopened c.args.manner c.say_unopened.result c.in-Err.error g.V.Volume.told c.args.turns.now _ _ c.say_unopened.ensures.said c.in-Err.ensures.refused.harm c.in-Err.ensures.refused.cause.fault c.in-Err.ensures.refused.untouched (λ other. let still = c.in-Err.ensures.refused.cause.unfailed other in (still.reads, still.writes))
     (record {
       stamps = c.in-Err.ensures.clock.given;
       kept = c.in-Err.ensures.clock.kept;
@@ -78,13 +78,13 @@ returns-in-Err-clause-complete g c = λ told reads writes sinks list cut stands.
     unopened_done c.say_unopened.result c.in-Err.error _ list cut _ _ _ _ _ _ _ _ c.say_unopened.ensures.said (c.in-Err.ensures.refused.harm told) c.in-Err.ensures.refused.cause.fault reads writes stands
 
 pub returns-in-Ok-clause-others : goal.returns-in-Ok-clause-others
-returns-in-Ok-clause-others g c = λ other. c.into_volume.ensures.faults ∙ c.run_over_store-status.ensures.others other ∙ c.in-Ok.ensures.store.faults
+returns-in-Ok-clause-others g c = λ other. c.into_volume-volume.ensures.faults ∙ c.take_over_store-status.ensures.others other ∙ c.in-Ok.ensures.store.faults
 
 pub returns-in-Err-clause-others : goal.returns-in-Err-clause-others
 returns-in-Err-clause-others g c = λ other. (c.in-Err.ensures.refused.cause.unfailed (unopened_other _ _ _ _ _ _ c.say_unopened.ensures.said other)).writes
 
 pub returns-in-Ok-clause-hint : goal.returns-in-Ok-clause-hint
-returns-in-Ok-clause-hint g c = λ told settled. c.into_volume.ensures.hint told
+returns-in-Ok-clause-hint g c = λ told settled. c.into_volume-volume.ensures.hint told
 
 pub returns-in-Err-clause-hint : goal.returns-in-Err-clause-hint
 returns-in-Err-clause-hint g c = λ told settled. along_now LeavesHonest _ _ (c.in-Err.ensures.hint_left told settled)

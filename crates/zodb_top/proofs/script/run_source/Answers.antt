@@ -5,7 +5,7 @@ use Rattle.zodb_top.proofs.script.run_source.Goals as goal
 
 pub returns-in-Ok-turns_of-clause-outcome : goal.returns-in-Ok-turns_of-clause-outcome
 returns-in-Ok-turns_of-clause-outcome g c =
-    run_silent c.run_file.result.0 g.V.Volume.told _ (g.S.Source.left c.args.source.now) c.as_slice.result.now c.as_slice-in-Ok-turns_of.result.now _ _ (g.K.Sink.taken c.turns_of.new.sink) (g.K.Sink.faults c.turns_of.new.sink)
+    run_silent c.args.manner c.run_file.result.0 g.V.Volume.told _ (g.S.Source.left c.args.source.now) c.as_slice.result.now c.as_slice-in-Ok-turns_of.result.now _ _ (g.K.Sink.taken c.turns_of.new.sink) (g.K.Sink.faults c.turns_of.new.sink)
     c.in-Ok-turns_of.ensures.silent c.in-Ok-turns_of.ensures.still (rw c.as_slice.ensures.value c.in-Ok.ensures.whole) (rw c.as_slice-in-Ok-turns_of.ensures c.in-Ok-turns_of.ensures.script) c.run_file.ensures.outcome
 
 pub returns-in-Ok-turns_of-clause-complete : goal.returns-in-Ok-turns_of-clause-complete
@@ -26,7 +26,7 @@ returns-in-Ok-turns_of-clause-limit g c =
 
 pub returns-clause-outcome : goal.returns-clause-outcome
 returns-clause-outcome g c =
-    unread_input c.in-Err.status g.V.Volume.told _ (g.S.Source.left c.args.source.now) c.as_slice.result.now _ _ (rw c.as_slice.ensures.value c.in-Ok.ensures.whole)
+    unread_input c.args.manner c.in-Err.status g.V.Volume.told _ (g.S.Source.left c.args.source.now) c.as_slice.result.now _ _ (rw c.as_slice.ensures.value c.in-Ok.ensures.whole)
     (record { stamps = refl; log = refl; read_faults = refl; write_faults = refl }) c.in-Err.ensures.outcome
 
 pub returns-clause-complete : goal.returns-clause-complete

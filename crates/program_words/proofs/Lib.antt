@@ -1,0 +1,4 @@
+pub mod Digits
+pub mod Dashes
+pub mod Matched
+pub mod Walks

@@ -1,0 +1,12 @@
+use Rattle.std.proofs.Common.{ap, true, ◌∙◌}
+use Rattle.clap.specs.Words.{App}
+use Rattle.clap.specs.Simple.{app_of_fields}
+use Rattle.program_words.proofs.table.bare.Goals as goal
+
+pub returns : goal.returns
+returns c =
+    ap app_of_fields c.subcommand_required.ensures ∙ ap (λ (x : App). record x { top = record x.top { subcommand_required = true } })
+    (ap app_of_fields c.disable_version_flag.ensures ∙ ap (λ (x : App). record x { top = record x.top { disable_version_flag = true } })
+    (ap app_of_fields c.disable_help_subcommand.ensures ∙ ap (λ (x : App). record x { top = record x.top { disable_help_subcommand = true } })
+    (ap app_of_fields c.disable_help_flag.ensures ∙ ap (λ (x : App). record x { top = record x.top { disable_help_flag = true } })
+    (ap app_of_fields c.no_binary_name.ensures ∙ ap (λ (x : App). record x { top = record x.top { no_binary_name = true } }) c.new.ensures.app))))

@@ -1,0 +1,8 @@
+//! What the words behind the program's name ask.
+#![tactic(auto)]
+
+mod command;
+mod entering;
+mod table;
+
+pub use command::{Asked, Command, PackRequest, command_of};

@@ -1,0 +1,11 @@
+pub mod Texts
+pub mod Written
+pub mod PrefixLaws
+pub mod Numbers
+pub mod Committed
+pub mod Keeping
+pub mod Turning
+pub mod Came
+pub mod Played
+pub mod Outcomes
+pub mod Running

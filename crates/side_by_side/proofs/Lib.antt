@@ -1,0 +1,4 @@
+pub mod Places
+pub mod Going
+pub mod Ends
+pub mod Reading
