@@ -1,14 +1,13 @@
 -- What a desk sends for one call.
-use Rattle.std.proofs.Common.{◌≡◌, ℕ, ◌<◌, ◌^◌, List, [], ◌∷◌, ◌++◌, Option, Some, None, Bool, true, false, cond, refl, sym, ap, subst, ◌∙◌}
+use Rattle.std.proofs.Common.{◌≡◌, ℕ, ◌^◌, List, [], ◌∷◌, ◌++◌, Option, Some, Bool, cond, refl, sym, ap, subst, ◌∙◌}
 use Rattle.std.specs.Prelude.{IsTrue, ◌&&◌, nat_lt}
 use Rattle.std.proofs.lemmas.Bool.{lt-ltb}
 use Rattle.std.proofs.lemmas.List.{append-nil}
 use Rattle.zodb_core.specs.declared.reply.Reply.{Reply}
 use Rattle.zodb_core.specs.declared.request.Request.{Request}
-use Rattle.zeo_messages.specs.declared.call.Call.{Call}
 use Rattle.zeo_messages.specs.declared.message.Message.{Message}
 use Rattle.zeo_messages.specs.declared.message.Message.TheVariants.{Asked}
-use Rattle.zeo_messages.specs.Calls.{HoldsCall, fits_call}
+use Rattle.zeo_messages.specs.Calls.{fits_call}
 use Rattle.zeo_messages.specs.Messages.{payload_of}
 use Rattle.zeo_reading.specs.Reading.{AreReadBack, message_in}
 use Rattle.zeo_desk.specs.declared.asked.Asked.TheVariants as asked
@@ -31,19 +30,19 @@ module _ {S : Type 0} (steps : Request → Reply → S → S → Type 0) where
     pub step : steps request reply before between
     pub rest : Does steps (replied d reply).desk (replied d reply).next between frames left now
 
-  send_step : (frames : List (List ℕ)) (q : Request) → Send frames ≡ Step q → ⊥
+  pub send_step : (frames : List (List ℕ)) (q : Request) → Send frames ≡ Step q → ⊥
   send_step frames q is = absurd cc
 
-  step_send : (frames : List (List ℕ)) (q : Request) → Step q ≡ Send frames → ⊥
+  pub step_send : (frames : List (List ℕ)) (q : Request) → Step q ≡ Send frames → ⊥
   step_send frames q is = absurd cc
 
-  was_asked : (d left : DeskState) (next : Next) (before now : S) (frames : List (List ℕ)) (q : Request) → Does steps d next before frames left now → next ≡ Step q → WasAsked d q before frames left now
+  pub was_asked : (d left : DeskState) (next : Next) (before now : S) (frames : List (List ℕ)) (q : Request) → Does steps d next before frames left now → next ≡ Step q → WasAsked d q before frames left now
   was_asked _ _ _ _ _ _ q (sent d frames s) is = absurd (send_step frames q is)
   was_asked _ _ _ _ _ _ q (asked_on d request reply s between behind frames left step rest) is =
       let same : request ≡ q = cc in
       record { reply = reply; between = between; step = subst (λ (r : Request). steps r reply s between) same step; rest = rest }
 
-  was_sent : (d left : DeskState) (next : Next) (before now : S) (frames sends : List (List ℕ)) → Does steps d next before frames left now → next ≡ Send sends → WasSent d sends before frames left now
+  pub was_sent : (d left : DeskState) (next : Next) (before now : S) (frames sends : List (List ℕ)) → Does steps d next before frames left now → next ≡ Send sends → WasSent d sends before frames left now
   was_sent _ _ _ _ _ _ sends (sent d frames s) is = let same : frames ≡ sends = cc in record { frames_are = same; desk = refl; state = refl }
   was_sent _ _ _ _ _ _ sends (asked_on d request reply s between behind frames left step rest) is = absurd (step_send sends request is)
 
@@ -58,17 +57,17 @@ module _ {S : Type 0} (steps : Request → Reply → S → S → Type 0) where
     pub takes : taken d payload ≡ Some turn
     pub does : Does steps turn.desk turn.next before out left now
 
-  none_one : (p : List ℕ) (ps : List (List ℕ)) → (let o : List (List ℕ) = [] in o) ≡ p ∷ ps → ⊥
+  pub none_one : (p : List ℕ) (ps : List (List ℕ)) → (let o : List (List ℕ) = [] in o) ≡ p ∷ ps → ⊥
   none_one p ps is = absurd cc
 
-  one_none : (p : List ℕ) (ps : List (List ℕ)) → p ∷ ps ≡ [] → ⊥
+  pub one_none : (p : List ℕ) (ps : List (List ℕ)) → p ∷ ps ≡ [] → ⊥
   one_none p ps is = absurd cc
 
   serves_none : (d left : DeskState) (ps : List (List ℕ)) (before now : S) (out : List (List ℕ)) → Serves steps d ps before out left now → ps ≡ [] → ServesNone d before out left now
   serves_none _ _ _ _ _ _ (done d s) is = record { nothing = refl; desk = refl; state = refl }
   serves_none _ _ _ _ _ _ (goes_on d between left payload rest turn s middle behind frames more takes does serves) is = absurd (one_none payload rest is)
 
-  serves_one : (d left : DeskState) (ps : List (List ℕ)) (p : List ℕ) (before now : S) (out : List (List ℕ)) → Serves steps d ps before out left now → ps ≡ p ∷ [] → ServesOne d p before out left now
+  pub serves_one : (d left : DeskState) (ps : List (List ℕ)) (p : List ℕ) (before now : S) (out : List (List ℕ)) → Serves steps d ps before out left now → ps ≡ p ∷ [] → ServesOne d p before out left now
   serves_one _ _ _ p _ _ _ (done d s) is = absurd (none_one p [] is)
   serves_one _ _ _ p _ _ _ (goes_on d between left payload rest turn s middle behind frames more takes does serves) is =
       let head : payload ≡ p = cc in

@@ -1,4 +1,12 @@
 pub mod Answers
 pub mod Carrying
 pub mod Causes
+pub mod Finishing
+pub mod Leaving
+pub mod Making
+pub mod Registering
+pub mod Relating
+pub mod Sending
 pub mod Served
+pub mod Standing
+pub mod Talking

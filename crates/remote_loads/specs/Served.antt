@@ -1,5 +1,5 @@
 -- What a desk sends for one call. Own.
-use Rattle.std.specs.Prelude.{◌≡◌, ℕ, ◌<◌, ◌^◌, List, [], ◌∷◌, ◌++◌, Option, Some, None, true}
+use Rattle.std.specs.Prelude.{◌≡◌, ℕ, ◌<◌, ◌^◌, List, [], ◌∷◌, ◌++◌, Some, None, true}
 use Rattle.zodb_core.specs.declared.reply.Reply.{Reply}
 use Rattle.zodb_core.specs.declared.request.Request.{Request}
 use Rattle.zeo_messages.specs.declared.call.Call.{Call}
@@ -10,7 +10,7 @@ use Rattle.zeo_desk.specs.declared.asked.Asked.TheVariants as asked
 use Rattle.zeo_desk.specs.Answering.{reply_frames}
 use Rattle.zeo_desk.specs.declared.next.Next.{Next}
 use Rattle.zeo_desk.specs.declared.next.Next.TheVariants.{Step, Send}
-use Rattle.zeo_desk.specs.Desks.{DeskState, Turn, asks, called, replied, sends, taken}
+use Rattle.zeo_desk.specs.Desks.{DeskState, Turn, asks, called, replied, taken}
 
 -- What is done next is done: steps of the session lead from one state to another, frames are sent, and the desk is left.
 pub data Does {S : Type 0} (steps : Request → Reply → S → S → Type 0) : DeskState → Next → S → List (List ℕ) → DeskState → S → Type 0 where
@@ -18,11 +18,25 @@ pub data Does {S : Type 0} (steps : Request → Reply → S → S → Type 0) : 
   asked_on : (d : DeskState) (request : Request) (reply : Reply) (s between behind : S) (frames : List (List ℕ)) (left : DeskState) → steps request reply s between
       → Does steps (replied d reply).desk (replied d reply).next between frames left behind → Does steps d (Step request) s frames left behind
 
+-- Of what is done next some first steps are made, and none of its frames comes.
+pub data DoesFront {S : Type 0} (steps : Request → Reply → S → S → Type 0) : DeskState → Next → S → DeskState → S → Type 0 where
+  stops : (d : DeskState) (next : Next) (s : S) → DoesFront steps d next s d s
+  steps_on : (d : DeskState) (request : Request) (reply : Reply) (s between behind : S) (left : DeskState) → steps request reply s between
+      → DoesFront steps (replied d reply).desk (replied d reply).next between left behind → DoesFront steps d (Step request) s left behind
+
 -- Payloads one after another, each of a message of a client, and the frames that are sent for them.
 pub data Serves {S : Type 0} (steps : Request → Reply → S → S → Type 0) : DeskState → List (List ℕ) → S → List (List ℕ) → DeskState → S → Type 0 where
   done : (d : DeskState) (s : S) → Serves steps d [] s [] d s
   goes_on : (d between left : DeskState) (payload : List ℕ) (rest : List (List ℕ)) (turn : Turn) (s middle behind : S) (frames more : List (List ℕ)) → taken d payload ≡ Some turn
       → Does steps turn.desk turn.next s frames between middle → Serves steps between rest middle more left behind → Serves steps d (payload ∷ rest) s (frames ++ more) left behind
+
+-- Some first payloads are served, and of the next one some first steps are made; none of the frames comes.
+pub data ServesFront {S : Type 0} (steps : Request → Reply → S → S → Type 0) : DeskState → List (List ℕ) → S → DeskState → S → Type 0 where
+  serves_none : (d : DeskState) (payloads : List (List ℕ)) (s : S) → ServesFront steps d payloads s d s
+  begins : (d left : DeskState) (payload : List ℕ) (rest : List (List ℕ)) (turn : Turn) (s behind : S) → taken d payload ≡ Some turn
+      → DoesFront steps turn.desk turn.next s left behind → ServesFront steps d (payload ∷ rest) s left behind
+  serves_on : (d between left : DeskState) (payload : List ℕ) (rest : List (List ℕ)) (turn : Turn) (s middle behind : S) (frames : List (List ℕ)) → taken d payload ≡ Some turn
+      → Does steps turn.desk turn.next s frames between middle → ServesFront steps between rest middle left behind → ServesFront steps d (payload ∷ rest) s left behind
 
 -- a step was made for a call, and the frames of its reply were sent
 pub record IsServedBy {S : Type 0} (steps : Request → Reply → S → S → Type 0) (d : DeskState) (number : ℕ) (request : Request) (before : S) (out : List (List ℕ)) (left : DeskState) (now : S) : Type 0 where
@@ -30,6 +44,18 @@ pub record IsServedBy {S : Type 0} (steps : Request → Reply → S → S → Ty
   pub step : steps request reply before now
   pub sent : out ≡ reply_frames number asked.Other reply
   pub desk : left ≡ record d { awaited = None }
+
+-- a step was made, or none
+pub data MaySteps {S : Type 0} (steps : Request → Reply → S → S → Type 0) (request : Request) (before : S) : S → Type 0 where
+  no_step : MaySteps steps request before before
+  one_step : (reply : Reply) (now : S) → steps request reply before now → MaySteps steps request before now
+
+-- For a call of a client that has registered, which names one step, that step is made or not, where nothing comes.
+abbrev pub OneCallBreaksOff : {S : Type 0} → (Request → Reply → S → S → Type 0) → Type 0
+OneCallBreaksOff {S} steps =
+    (d left : DeskState) (number : ℕ) (call : Call) (request : Request) (before now : S)
+    → d.registered ≡ true → number < 2 ^ 31 → HoldsCall call → fits_call call ≡ true → called d number call ≡ asks d number asked.Other request
+    → ServesFront steps d (payload_of (Asked number call) ∷ []) before left now → MaySteps steps request before now × (left.registered ≡ true)
 
 -- For a call of a client that has registered, which names one step, that step is made, and its reply is sent.
 abbrev pub OneCallIsServed : {S : Type 0} → (Request → Reply → S → S → Type 0) → Type 0

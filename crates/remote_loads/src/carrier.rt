@@ -11,7 +11,7 @@ pub trait Carrier {
     ghost use Rattle.zodb_core.specs.declared.request.Request.{Request};
     ghost use Rattle.zodb_core.specs.Machine.{Machine};
     ghost use Rattle.zeo_desk.specs.Desks.{DeskState};
-    ghost use Rattle.remote_loads.specs.Carrying.{Carries, IsMachineStep, Runs};
+    ghost use Rattle.remote_loads.specs.Carrying.{BreaksOff, Carries, IsMachineStep};
     ghost use Rattle.remote_loads.specs.Causes.{IsCarryCause};
 
     /// How many calls failed, from 0 to 2^64-1, where the count stays.
@@ -45,7 +45,8 @@ pub trait Carrier {
     ghost place: { Self → Place };
 
     /// Sends the bytes, which may be none, and gives at least one byte that came. Where it tells, and the bytes are
-    /// frames of a client's messages, what comes is all that the desk sends for them.
+    /// frames of a client's messages, what comes is all that the desk sends for them; with an error some first steps
+    /// that they name are made, and none of the frames for them comes any more.
     ///
     /// `LinkFault` comes only where the count of faults rose, `Closed` only where the stream of what comes has ended,
     /// `Memory` where there was none; and no other error.
@@ -53,7 +54,8 @@ pub trait Carrier {
         ensures some { IfOk result (λ given. 0 < length given) }
         ensures carried { IfOk result (λ given. told → Carries (steps (session self.old)) (end self.old)
             (desk self.old) bytes.now given (end self.new) (desk self.new)) }
-        ensures broken { OnErr result (told → Runs (steps (session self.old)) (end self.old) (end self.new)) }
+        ensures broken { OnErr result (told → BreaksOff (steps (session self.old)) (end self.old)
+            (desk self.old) bytes.now (end self.new) (desk self.new)) }
         ensures cause { IfErr result (IsCarryCause (faults self.old) (faults self.new) (closed self.new)) }
         ensures counted { faults self.old ≤ faults self.new }
         ensures session { session self.new ≡ session self.old }

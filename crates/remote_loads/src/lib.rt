@@ -5,10 +5,15 @@ mod answers;
 mod calls;
 mod carrier;
 mod causes;
+mod finishing;
+mod holding;
 mod laws;
 mod link;
+mod making;
 mod remote;
+mod syncing;
 mod undoing;
+mod voting;
 
 pub use carrier::Carrier;
 pub use laws::one_call_is_served;

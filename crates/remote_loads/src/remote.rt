@@ -1,15 +1,15 @@
 //! A client with the way to its server.
 
-ghost use Rattle.std.specs.Prelude.{◌≡◌, ◌≤◌, IfErr, IfOk, true};
+ghost use Rattle.std.specs.Prelude.{◌≡◌, ◌≤◌, IfErr, true};
 ghost use Rattle.connection_view.specs.Loading.{IsServerRefusal};
 ghost use Rattle.zeo_messages.specs.Calls.{fits_call};
 ghost use Rattle.remote_loads.specs.Causes.{HasLinkCause};
+ghost use Rattle.remote_loads.specs.Talking.{Exchanges, IsAsked, Talks, answer_in};
 
-use crate::answers::{count_answer, tid_answer};
 use crate::carrier::Carrier;
 use crate::causes::{refusal_of, unasked};
 use std::alloc::Global;
-use zb_ids::{ListOf, Text8, Tid};
+use zb_ids::{ListOf, Text8};
 use zb_model::Refusal;
 use zeo_client::ZeoClient;
 use zeo_messages::{Answer, Call, Message};
@@ -29,8 +29,10 @@ pub struct Remote<'c, 'w, W: Carrier> {
     pub carrier: &'w mut W,
 }
 
-/// The answer among messages, if one is.
-fn answer_in(messages: ListOf<Message>) -> Option<Answer> {
+/// The first answer among messages, if one is.
+fn answer_in(messages: ListOf<Message>) -> Option<Answer>
+    ensures { result ≡ answer_in messages }
+{
     for message in messages.into_vec() {
         if let Message::Answered { number: _, answer } = message {
             return Some(answer);
@@ -55,13 +57,20 @@ impl<'c, 'w, W: Carrier> Remote<'c, 'w, W> {
     }
 
     /// Sends bytes, and takes the messages that came.
+    #[tactic(auto, using(crate::proofs::Exchanging::breaks, crate::proofs::Exchanging::takes, crate::proofs::Exchanging::refuses,))]
     fn exchange(&mut self, text: &[u8]) -> Result<ListOf<Message>, Refusal>
         ensures refusal { IfErr result IsServerRefusal }
-        ensures cause { IfErr result (HasLinkCause (W.faults self.old.carrier.now) (W.faults self.new.carrier.now) (W.closed self.new.carrier.now) self.new.client.now.ended) }
+        ensures cause { IfErr result (HasLinkCause (W.faults self.old.carrier.now)
+            (W.faults self.new.carrier.now) (W.closed self.new.carrier.now) self.new.client.now.ended) }
         ensures counted { W.faults self.old.carrier.now ≤ W.faults self.new.carrier.now }
-        ensures never_falls { self.old.client.now.held.standing.known ≤ self.new.client.now.held.standing.known }
+        ensures never_falls { self.old.client.now.held.standing.known
+            ≤ self.new.client.now.held.standing.known }
         ensures client_place { self.new.client.ghost_name ≡ self.old.client.ghost_name }
         ensures carrier_place { self.new.carrier.ghost_name ≡ self.old.carrier.ghost_name }
+        ensures session { W.session self.new.carrier.now ≡ W.session self.old.carrier.now }
+        ensures told { W.told → Exchanges (W.steps (W.session self.old.carrier.now))
+            (W.end self.old.carrier.now) (W.desk self.old.carrier.now) self.old.client.now text.now
+            result self.new.client.now (W.end self.new.carrier.now) (W.desk self.new.carrier.now) }
     {
         let piece = match self.carrier.carry(self.alloc, text) {
             Ok(piece) => piece,
@@ -73,17 +82,20 @@ impl<'c, 'w, W: Carrier> Remote<'c, 'w, W> {
         }
     }
 
-    /// Sends the frames of calls, and takes what comes up to the answer.
-    pub(crate) fn talk(&mut self, text: Text8) -> Result<Answer, Refusal>
+    /// Waits for an answer behind messages without one.
+    fn wait(&mut self) -> Result<Answer, Refusal>
         ensures refusal { IfErr result IsServerRefusal }
-        ensures cause { IfErr result (HasLinkCause (W.faults self.old.carrier.now) (W.faults self.new.carrier.now) (W.closed self.new.carrier.now) self.new.client.now.ended) }
+        ensures cause { IfErr result (HasLinkCause (W.faults self.old.carrier.now)
+            (W.faults self.new.carrier.now) (W.closed self.new.carrier.now) self.new.client.now.ended) }
         ensures counted { W.faults self.old.carrier.now ≤ W.faults self.new.carrier.now }
-        ensures never_falls { self.old.client.now.held.standing.known ≤ self.new.client.now.held.standing.known }
+        ensures never_falls { self.old.client.now.held.standing.known
+            ≤ self.new.client.now.held.standing.known }
         ensures client_place { self.new.client.ghost_name ≡ self.old.client.ghost_name }
         ensures carrier_place { self.new.carrier.ghost_name ≡ self.old.carrier.ghost_name }
+        ensures session { W.session self.new.carrier.now ≡ W.session self.old.carrier.now }
     {
-        let mut text = text;
-        'talking: for _ in 0..u64::MAX {
+        'waiting: for _ in 0..u64::MAX {
+            let text = Text8::new(self.alloc);
             let messages = match self.exchange(text.as_slice()) {
                 Ok(messages) => messages,
                 Err(refusal) => return Err(refusal),
@@ -91,66 +103,57 @@ impl<'c, 'w, W: Carrier> Remote<'c, 'w, W> {
             if let Some(answer) = answer_in(messages) {
                 return Ok(answer);
             }
-            text = Text8::new(self.alloc);
         }
         Err(Refusal::Memory)
     }
 
+    /// Sends the frames of calls, and takes what comes up to the answer.
+    #[tactic(auto, using(crate::proofs::Exchanging::fails, crate::proofs::Exchanging::answers))]
+    pub(crate) fn talk(&mut self, text: Text8) -> Result<Answer, Refusal>
+        ensures refusal { IfErr result IsServerRefusal }
+        ensures cause { IfErr result (HasLinkCause (W.faults self.old.carrier.now)
+            (W.faults self.new.carrier.now) (W.closed self.new.carrier.now) self.new.client.now.ended) }
+        ensures counted { W.faults self.old.carrier.now ≤ W.faults self.new.carrier.now }
+        ensures never_falls { self.old.client.now.held.standing.known
+            ≤ self.new.client.now.held.standing.known }
+        ensures client_place { self.new.client.ghost_name ≡ self.old.client.ghost_name }
+        ensures carrier_place { self.new.carrier.ghost_name ≡ self.old.carrier.ghost_name }
+        ensures session { W.session self.new.carrier.now ≡ W.session self.old.carrier.now }
+        ensures told { W.told → Talks (W.steps (W.session self.old.carrier.now))
+            (W.end self.old.carrier.now) (W.desk self.old.carrier.now) self.old.client.now text
+            result self.new.client.now (W.end self.new.carrier.now) (W.desk self.new.carrier.now) }
+    {
+        let messages = match self.exchange(text.as_slice()) {
+            Ok(messages) => messages,
+            Err(refusal) => return Err(refusal),
+        };
+        match answer_in(messages) {
+            Some(answer) => Ok(answer),
+            None => self.wait(),
+        }
+    }
+
     /// Makes one call.
+    #[tactic(auto, using(crate::proofs::Exchanging::is_unsent, crate::proofs::Exchanging::is_sent))]
     pub(crate) fn ask(&mut self, call: Call) -> Result<Answer, Refusal>
         requires fits { fits_call call ≡ true }
         ensures refusal { IfErr result IsServerRefusal }
-        ensures cause { IfErr result (HasLinkCause (W.faults self.old.carrier.now) (W.faults self.new.carrier.now) (W.closed self.new.carrier.now) self.new.client.now.ended) }
+        ensures cause { IfErr result (HasLinkCause (W.faults self.old.carrier.now)
+            (W.faults self.new.carrier.now) (W.closed self.new.carrier.now) self.new.client.now.ended) }
         ensures counted { W.faults self.old.carrier.now ≤ W.faults self.new.carrier.now }
-        ensures never_falls { self.old.client.now.held.standing.known ≤ self.new.client.now.held.standing.known }
+        ensures never_falls { self.old.client.now.held.standing.known
+            ≤ self.new.client.now.held.standing.known }
         ensures client_place { self.new.client.ghost_name ≡ self.old.client.ghost_name }
         ensures carrier_place { self.new.carrier.ghost_name ≡ self.old.carrier.ghost_name }
+        ensures session { W.session self.new.carrier.now ≡ W.session self.old.carrier.now }
+        ensures told { W.told → IsAsked (W.steps (W.session self.old.carrier.now))
+            (W.end self.old.carrier.now) (W.desk self.old.carrier.now) self.old.client.now call
+            result self.new.client.now (W.end self.new.carrier.now) (W.desk self.new.carrier.now) }
     {
         let text = match self.client.call(call) {
             Ok(text) => text,
             Err(error) => return Err(unasked(error)),
         };
         self.talk(text)
-    }
-
-    /// Asks for the news, and answers the front that is known from then on.
-    pub fn sync(&mut self) -> Result<Tid, Refusal>
-        ensures front { IfOk result (λ front. front ≡ self.new.client.now.held.standing.known) }
-        ensures refusal { IfErr result IsServerRefusal }
-        ensures cause { IfErr result (HasLinkCause (W.faults self.old.carrier.now) (W.faults self.new.carrier.now) (W.closed self.new.carrier.now) self.new.client.now.ended) }
-        ensures counted { W.faults self.old.carrier.now ≤ W.faults self.new.carrier.now }
-        ensures never_falls { self.old.client.now.held.standing.known ≤ self.new.client.now.held.standing.known }
-        ensures client_place { self.new.client.ghost_name ≡ self.old.client.ghost_name }
-        ensures carrier_place { self.new.carrier.ghost_name ≡ self.old.carrier.ghost_name }
-    {
-        let answer = match self.ask(Call::Sync) {
-            Ok(answer) => answer,
-            Err(refusal) => return Err(refusal),
-        };
-        match count_answer(answer) {
-            Ok(_) => Ok(self.client.known()),
-            Err(refusal) => Err(refusal),
-        }
-    }
-
-    /// Registers a client whose link was just opened, and asks for the news. It answers the front that is known from
-    /// then on.
-    pub fn register(&mut self) -> Result<Tid, Refusal>
-        ensures front { IfOk result (λ front. front ≡ self.new.client.now.held.standing.known) }
-        ensures refusal { IfErr result IsServerRefusal }
-        ensures cause { IfErr result (HasLinkCause (W.faults self.old.carrier.now) (W.faults self.new.carrier.now) (W.closed self.new.carrier.now) self.new.client.now.ended) }
-        ensures counted { W.faults self.old.carrier.now ≤ W.faults self.new.carrier.now }
-        ensures never_falls { self.old.client.now.held.standing.known ≤ self.new.client.now.held.standing.known }
-        ensures client_place { self.new.client.ghost_name ≡ self.old.client.ghost_name }
-        ensures carrier_place { self.new.carrier.ghost_name ≡ self.old.carrier.ghost_name }
-    {
-        let answer = match self.ask(Call::Register { again: false }) {
-            Ok(answer) => answer,
-            Err(refusal) => return Err(refusal),
-        };
-        match tid_answer(answer) {
-            Ok(_) => self.sync(),
-            Err(refusal) => Err(refusal),
-        }
     }
 }

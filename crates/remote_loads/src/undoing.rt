@@ -1,11 +1,13 @@
 //! The call of an undo.
 
-ghost use Rattle.std.specs.Prelude.{◌≡◌, IfErr, IfOk, true};
+ghost use Rattle.std.specs.Prelude.{◌≡◌, IfErr, IfOk, OnOk, true};
 ghost use Rattle.connection_view.specs.Loading.{IsShortText};
 ghost use Rattle.zeo_messages.specs.declared.call.Call.{Call};
 ghost use Rattle.zeo_messages.specs.Calls.{falls_below, fits_call, is_falling};
+ghost use Rattle.zeo_values.specs.Values.{AreIds};
 ghost use Rattle.remote_loads.specs.Causes.{IsUndoRefused};
 
+use crate::holding::tids_are_held;
 use std::alloc::{AllocError, Global};
 use zb_ids::{ListOf, Text8, Tid};
 use zb_model::Refusal;
@@ -61,8 +63,10 @@ pub(crate) fn undo_call(
     requires description { IsShortText description.now }
     ensures call { IfOk result (λ call. call ≡ Call.Undoa user.now description.now tids.now) }
     ensures fits { IfOk result (λ call. fits_call call ≡ true) }
+    ensures ids { OnOk result (AreIds tids.now) }
     ensures refused { IfErr result (IsUndoRefused (is_falling tids.now)) }
 {
+    tids_are_held(tids);
     if !are_falling(tids) {
         return Err(Refusal::BadMessage);
     }

@@ -16,7 +16,7 @@ use Rattle.zeo_client.specs.declared.error.ClientError.TheVariants as error
 use Rattle.zeo_client.specs.Hearing.{Held, IsHeard}
 use Rattle.zeo_client.specs.Rows.{if_it_may, may_come}
 use Rattle.zeo_client.specs.Taking.{ClientState, IsCut, IsFedIf, IsPieceTaken, Takes, TakesIfCut, ahead, bad, coming, error_of, starved, taken, taken_all}
-use Rattle.zeo_client.specs.Whole.{AreHeard, HearsMessages, MayBeSent, WholePiecesAreHeard, ready}
+use Rattle.zeo_client.specs.Whole.{AreCutShort, AreHeard, HearsFront, HearsMessages, MayBeSent, WholePiecesAreHeard, ready}
 
 -- ---- payloads
 
@@ -28,25 +28,34 @@ module _ (read_back : AreReadBack) (number : ℕ) (last : Option Call) where
   comes message sent =
       ap (if_it_may number last) (read_back message sent.held sent.row) ∙ ap (λ (b : Bool). cond b (Some message) None) sent.may
 
+  heard_none : (messages : List Message) (held : Held) → HearsFront last messages held held
+  heard_none [] held = refl
+  heard_none (m ∷ messages) held = inl refl
+
+  -- no memory, and some first messages were heard; or all were given and heard
+  abbrev Heard : List Message → Held → Result (List Message) ClientError → Held → Type 0
+  Heard messages old result new = ((result ≡ Err error.Memory) × HearsFront last messages old new) ⊎ ((result ≡ Ok messages) × HearsMessages last messages old new)
+
   pub are_heard : (messages : List Message) (old new : Held) (result : Result (List Message) ClientError) → AllByRecursion (MayBeSent number last) messages → Takes number last (map payload_of messages) old result new
-      → (result ≡ Err error.Memory) ⊎ ((result ≡ Ok messages) × HearsMessages last messages old new)
+      → Heard messages old result new
   are_heard [] old _ _ sent (taken_all _) = inr (refl, refl)
-  are_heard [] old _ _ sent (starved _ _) = inl refl
-  are_heard (m ∷ messages) old _ _ sent (starved _ _) = inl refl
+  are_heard [] old _ _ sent (starved _ _) = inl (refl, refl)
+  are_heard (m ∷ messages) old _ _ sent (starved _ _) = inl (refl, inl refl)
   are_heard (m ∷ messages) old _ _ sent (bad _ _ _ none) = absurd (none_some m (sym none ∙ comes m sent.0))
   are_heard (m ∷ messages) old new _ sent (taken _ _ message _ behind _ result is heard takes) = first (are_heard messages behind new result sent.1 takes)
     where
       same : message ≡ m
       same = let e : ◌≡◌ {A = Option Message} (Some message) (Some m) = sym is ∙ comes m sent.0 in cc
 
-      first : (result ≡ Err error.Memory) ⊎ ((result ≡ Ok messages) × HearsMessages last messages behind new)
-          → (ahead message result ≡ Err error.Memory) ⊎ ((ahead message result ≡ Ok (m ∷ messages)) × ((mid : Held) × IsHeard last m old mid × HearsMessages last messages mid new))
-      first (inl none) = inl (ap (ahead message) none)
-      first (inr all) =
-          inr (
-            ap (ahead message) all.0 ∙ ap (λ (x : Message). let r : Result (List Message) ClientError = Ok (x ∷ messages) in r) same,
-            (behind, subst (λ (x : Message). IsHeard last x old behind) same heard, all.1),
-          )
+      here : IsHeard last m old behind
+      here = subst (λ (x : Message). IsHeard last x old behind) same heard
+
+      first : Heard messages behind result new → Heard (m ∷ messages) old (ahead message result) new
+      first (inl none) = inl (ap (ahead message) none.0, inr (behind, here, none.1))
+      first (inr all) = inr (
+        ap (ahead message) all.0 ∙ ap (λ (x : Message). let r : Result (List Message) ClientError = Ok (x ∷ messages) in r) same,
+        (behind, here, all.1),
+      )
 
 -- ---- pieces
 
@@ -76,9 +85,13 @@ module _ (one_way : AreCutOneWay) (read_back : AreReadBack) (messages : List Mes
   within : AllByRecursion IsWithinLimit (map payload_of messages)
   within = payloads_within old.number old.last messages sent
 
-  by_cut : (came : Result (List (List ℕ)) FrameError) (now : ClientState) → IsCut old.reading (frames (map payload_of messages)) came now.reading → TakesIfCut old.number old.last came old.held result now.held
-      → (result ≡ Err error.Memory) ⊎ ((now.reading ≡ ready) × ((result ≡ Ok messages) × HearsMessages old.last messages old.held now.held))
-  by_cut (Err frame.Memory) now cut takes = inl takes.0
+  -- and where all were heard, no byte is left over
+  abbrev HeardWhole : ClientState → Type 0
+  HeardWhole now =
+      ((result ≡ Err error.Memory) × HearsFront old.last messages old.held now.held) ⊎ ((now.reading ≡ ready) × ((result ≡ Ok messages) × HearsMessages old.last messages old.held now.held))
+
+  by_cut : (came : Result (List (List ℕ)) FrameError) (now : ClientState) → IsCut old.reading (frames (map payload_of messages)) came now.reading → TakesIfCut old.number old.last came old.held result now.held → HeardWhole now
+  by_cut (Err frame.Memory) now cut takes = inl (takes.0, subst (λ (h : Held). HearsFront old.last messages old.held h) (sym takes.1) (heard_none read_back old.number old.last messages old.held))
   by_cut (Err (frame.FrameTooLong n)) now cut takes =
       let come : HasCome (frames (map payload_of messages)) [] now.reading = cut.come [] [] (subst (λ (r : Reading). HasCome [] [] r) (sym clear) nothing_came) in
       let ended : now.reading.ended ≡ Some (frame.FrameTooLong n) = cut.err in
@@ -89,21 +102,23 @@ module _ (one_way : AreCutOneWay) (read_back : AreReadBack) (messages : List Mes
       let same = one_way (frames (map payload_of messages)) given (map payload_of messages) now.reading ready come (all_came (map payload_of messages) within) (goes_unless given now.reading.ended cut.ok) (none_ended frame.Memory) in
       by_heard same.1 (are_heard read_back old.number old.last messages old.held now.held result sent (subst (λ (ps : List (List ℕ)). Takes old.number old.last ps old.held result now.held) same.0 takes))
     where
-      by_heard : now.reading ≡ ready → (result ≡ Err error.Memory) ⊎ ((result ≡ Ok messages) × HearsMessages old.last messages old.held now.held)
-          → (result ≡ Err error.Memory) ⊎ ((now.reading ≡ ready) × ((result ≡ Ok messages) × HearsMessages old.last messages old.held now.held))
+      by_heard : now.reading ≡ ready → Heard read_back old.number old.last messages old.held result now.held → HeardWhole now
       by_heard left (inl none) = inl none
       by_heard left (inr all) = inr (left, all)
 
-  by_piece : IsPieceTaken old (frames (map payload_of messages)) result new → (result ≡ Err error.Memory) ⊎ AreHeard messages old result new
+  by_piece : IsPieceTaken old (frames (map payload_of messages)) result new → AreCutShort messages old result new ⊎ AreHeard messages old result new
   by_piece is = all_of (by_cut is.taken.payloads (record new { ended = old.ended }) is.taken.cut is.taken.taken)
     where
-      all_of : (result ≡ Err error.Memory) ⊎ ((new.reading ≡ ready) × ((result ≡ Ok messages) × HearsMessages old.last messages old.held new.held)) → (result ≡ Err error.Memory) ⊎ AreHeard messages old result new
-      all_of (inl none) = inl none
+      ended : (r : Result (List Message) ClientError) → result ≡ r → new.ended ≡ error_of r
+      ended r given = is.ended ∙ ap (λ (x : Result (List Message) ClientError). error_of x) given
+
+      all_of : HeardWhole new → AreCutShort messages old result new ⊎ AreHeard messages old result new
+      all_of (inl none) = inl (record { given = none.0; heard = none.1; ended = ended (Err error.Memory) none.0 })
       all_of (inr all) = inr (record {
         given = all.1.0;
         heard = all.1.1;
         reading = all.0;
-        ended = is.ended ∙ ap (λ (r : Result (List Message) ClientError). error_of r) all.1.0;
+        ended = ended (Ok messages) all.1.0;
         number = is.taken.same.0;
         last = is.taken.same.1;
       })

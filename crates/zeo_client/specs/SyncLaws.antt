@@ -198,7 +198,7 @@ changed_unless : (b : Bool) (xs ys : List NewsCommit) (oid : ℕ) → are_change
 changed_unless true xs ys oid none more = refl
 changed_unless false xs ys oid none more = changed_both xs ys oid none more
 
-behind_unnamed : (old news : News) (oid : ℕ) → news.forget ≡ false → news.packed ≡ false → is_news_of old oid ≡ false → are_changed news.commits oid ≡ false → is_news_of (news_behind old news) oid ≡ false
+pub behind_unnamed : (old news : News) (oid : ℕ) → news.forget ≡ false → news.packed ≡ false → is_news_of old oid ≡ false → are_changed news.commits oid ≡ false → is_news_of (news_behind old news) oid ≡ false
 behind_unnamed old news oid all pack none more =
     let first = left_false (old.forget || old.packed) (are_changed old.commits oid) none in
     both_false ((old.forget || news.forget) || (old.packed || news.packed)) (are_changed (cond (old.forget || news.forget) [] (old.commits ++ news.commits)) oid)
@@ -221,7 +221,7 @@ or_true a b is none = true≢false (sym is ∙ left_false a b none)
 or_right_true : (a b : Bool) → b ≡ true → (a || b) ≡ false → ⊥
 or_right_true a b is none = true≢false (sym is ∙ right_false a b none)
 
-news_is_heard : (front : ℕ) (news : News) (old new : Held) → AllByRecursion (λ c. c.tid < front) news.commits → old.standing.known ≤ front → HearsAll (notices_of front news) old new → IsNewsHeard front news old new
+pub news_is_heard : (front : ℕ) (news : News) (old new : Held) → AllByRecursion (λ c. c.tid < front) news.commits → old.standing.known ≤ front → HearsAll (notices_of front news) old new → IsNewsHeard front news old new
 news_is_heard front news old new below low heard = by_forget news.forget refl heard
   where
     by_packed : (p : Bool) → news.forget ≡ false → news.packed ≡ p → HearsAll (cond p (Packed (front - 1) ∷ []) [] ++ map (commit_notice front) news.commits) old new → IsNewsHeard front news old new
@@ -256,12 +256,12 @@ news_is_heard front news old new below low heard = by_forget news.forget refl he
 
 -- ---- a sync
 
-front_parts : (m : Machine) (n front switches : ℕ) (news : News) (early : Option Refusal) → (unless_early early m (front_step m n)).reply ≡ reply.Front front news switches
+pub front_parts : (m : Machine) (n front switches : ℕ) (news : News) (early : Option Refusal) → (unless_early early m (front_step m n)).reply ≡ reply.Front front news switches
     → (front ≡ newest_tid m.list + 1) × (news ≡ news_of (untold m n))
 front_parts m n front switches news (Some r) is = absurd cc
 front_parts m n front switches news None is = (cc, cc)
 
-told_below : (low high : ℕ) (entries : List JournalEntry) → AreBetween low high entries → AllByRecursion (λ c. c.tid < high) (news_of entries).commits
+pub told_below : (low high : ℕ) (entries : List JournalEntry) → AreBetween low high entries → AllByRecursion (λ c. c.tid < high) (news_of entries).commits
 told_below low high entries is = by_cases (nat_lt news_limit (length entries))
   where
     by_cases : (b : Bool) → AllByRecursion (λ c. c.tid < high) (cond b [] (filter_map commit_in entries))

@@ -1,5 +1,5 @@
 -- Messages that come whole. Own.
-use Rattle.std.specs.Prelude.{◌≡◌, ◌⊎◌, ℕ, List, [], ◌∷◌, Option, None, Result, Ok, Err, true, map, IsTrue}
+use Rattle.std.specs.Prelude.{◌≡◌, ◌⊎◌, ℕ, List, [], ◌∷◌, Option, Some, None, Result, Ok, Err, true, map, IsTrue}
 use Rattle.std.specs.List.{AllByRecursion}
 use Rattle.zeo_frames.specs.Frames.{IsWithinLimit, Reading, frames}
 use Rattle.zeo_messages.specs.declared.call.Call.{Call}
@@ -27,6 +27,17 @@ abbrev pub HearsMessages : Option Call → List Message → Held → Held → Ty
 HearsMessages last [] old new = new ≡ old
 HearsMessages last (message ∷ messages) old new = (mid : Held) × IsHeard last message old mid × HearsMessages last messages mid new
 
+-- some first of them, or all
+abbrev pub HearsFront : Option Call → List Message → Held → Held → Type 0
+HearsFront last [] old new = new ≡ old
+HearsFront last (message ∷ messages) old new = (new ≡ old) ⊎ ((mid : Held) × IsHeard last message old mid × HearsFront last messages mid new)
+
+-- there was no memory: some first messages were heard, and no more is taken from then on
+pub record AreCutShort (messages : List Message) (old : ClientState) (result : Result (List Message) ClientError) (new : ClientState) : Type 0 where
+  pub given : result ≡ Err Memory
+  pub heard : HearsFront old.last messages old.held new.held
+  pub ended : new.ended ≡ Some Memory
+
 -- all of them were given and heard, and no byte is left over
 pub record AreHeard (messages : List Message) (old : ClientState) (result : Result (List Message) ClientError) (new : ClientState) : Type 0 where
   pub given : result ≡ Ok messages
@@ -36,8 +47,8 @@ pub record AreHeard (messages : List Message) (old : ClientState) (result : Resu
   pub number : new.number ≡ old.number
   pub last : new.last ≡ old.last
 
--- Where the frames of messages that may come are a piece, they are given and heard, one after another, unless there is no memory.
+-- Where the frames of messages that may come are a piece, they are given and heard, one after another; without memory some first ones are heard.
 abbrev pub WholePiecesAreHeard : Type 0
 WholePiecesAreHeard =
     (messages : List Message) (old new : ClientState) (result : Result (List Message) ClientError) → AllByRecursion (MayBeSent old.number old.last) messages
-    → old.reading ≡ ready → old.ended ≡ None → IsFed old (frames (map payload_of messages)) result new → (result ≡ Err Memory) ⊎ AreHeard messages old result new
+    → old.reading ≡ ready → old.ended ≡ None → IsFed old (frames (map payload_of messages)) result new → AreCutShort messages old result new ⊎ AreHeard messages old result new

@@ -19,7 +19,7 @@ pub fn loads_serve()
 {}
 
 /// Where the frames of messages that may come are a piece, and nothing of a frame came before, they are given and
-/// heard, one after another, unless there is no memory.
+/// heard, one after another; without memory some first ones are heard, and no more is taken from then on.
 pub fn whole_pieces_are_heard()
     ensures { WholePiecesAreHeard }
 {

@@ -92,7 +92,7 @@ told_whole entries few = ap (λ (b : Bool). cond b [] (filter_map commit_in entr
 
 -- ---- the session
 
-told_now : (xs : List MachineSession) (n : ℕ) (x : MachineSession) → is_open_in xs n ≡ true → told_of n (slice_set xs n x) ≡ x.told
+pub told_now : (xs : List MachineSession) (n : ℕ) (x : MachineSession) → is_open_in xs n ≡ true → told_of n (slice_set xs n x) ≡ x.told
 told_now [] n x is = absurd (true≢false (sym is))
 told_now (y ∷ xs) zero x is = refl
 told_now (y ∷ xs) (suc n) x is = told_now xs n x is

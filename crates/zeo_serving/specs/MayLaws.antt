@@ -63,7 +63,7 @@ closed_shut (x ∷ xs) (suc n) = closed_shut xs n
 
 -- ---- steps that fail the machine
 
-step_failed : (rules : Rules) (m : Machine) (n : ℕ) (q : Request) (stamp : ℕ) → (step_of rules m n q stamp).machine.failed ≡ m.failed
+pub step_failed : (rules : Rules) (m : Machine) (n : ℕ) (q : Request) (stamp : ℕ) → (step_of rules m n q stamp).machine.failed ≡ m.failed
 step_failed rules m n q stamp = by_step (λ s. s.machine.failed ≡ m.failed) rules m n q stamp (record {
   refused = λ r is. refl;
   full = λ count. refl;
@@ -168,7 +168,7 @@ told_bounds m n z entries c may =
     let s = may.switches in
     (omega (arith, a, f), omega (arith, b, s))
 
-server_whole : (m : Machine) → m.failed ≡ false → server_at m ≡ record { list = m.list; switches = switches_of m.journal; greatest = m.greatest }
+pub server_whole : (m : Machine) → m.failed ≡ false → server_at m ≡ record { list = m.list; switches = switches_of m.journal; greatest = m.greatest }
 server_whole m whole = ap (λ (b : Bool). server_unless b m.list m.journal m.greatest) whole
 
 server_lost : (m : Machine) → m.failed ≡ true → server_at m ≡ lost_server

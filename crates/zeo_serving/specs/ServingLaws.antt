@@ -100,7 +100,7 @@ answers_are_kept rules m n oid front stamp serial upto bytes end sound is z entr
 
 -- ---- openings
 
-drop_nothing : (m : Machine) (n : ℕ) → told_of n m.sessions ≡ length m.journal → untold m n ≡ []
+pub drop_nothing : (m : Machine) (n : ℕ) → told_of n m.sessions ≡ length m.journal → untold m n ≡ []
 drop_nothing m n told = ap (λ (k : ℕ). filter (is_news_for n) (drop k m.journal)) told ∙ ap (filter (is_news_for n)) (drop_all (length m.journal) m.journal (omega arith))
 
 pub opening_is_served : OpeningsServe

@@ -1,0 +1,12 @@
+use Rattle.remote_loads.specs.Causes.{HasLinkCause}
+use Rattle.remote_loads.proofs.Meeting.{abort_makes, abort_same, abort_unvoted, caused}
+use Rattle.remote_loads.proofs.calls.RemoteLoads.abort.Goals as goal
+
+pub returns-clause-unvoted : goal.returns-clause-unvoted
+returns-clause-unvoted g c = abort_unvoted g.W.Carrier.told _ g.W.Carrier.machine _ _ c.drop_vote.ensures.session _ _ _ _ _ _ _ c.drop_vote.ensures.exact
+
+pub returns-clause-same : goal.returns-clause-same
+returns-clause-same g c = abort_same g.W.Carrier.told _ g.W.Carrier.machine _ _ c.drop_vote.ensures.session _ _ _ _ _ _ _ c.drop_vote.ensures.exact
+
+pub returns-clause-makes : goal.returns-clause-makes
+returns-clause-makes g c = (caused {X = Unit {0}} (HasLinkCause (g.W.Carrier.faults c.args.self.now.carrier.now) (g.W.Carrier.faults c.drop_vote.new.self.carrier.now) (g.W.Carrier.closed c.drop_vote.new.self.carrier.now) c.drop_vote.new.self.client.now.ended) c.drop_vote.result c.drop_vote.ensures.cause, c.drop_vote.ensures.never_falls, abort_makes g.W.Carrier.told _ g.W.Carrier.machine _ _ c.drop_vote.ensures.session _ _ _ _ _ _ _ c.drop_vote.ensures.exact)

@@ -1,0 +1,96 @@
+//! The finish of a remote client, exactly as the machine at the other end of a carrier that tells makes it.
+
+ghost use Rattle.std.specs.Prelude.{◌≡◌, ◌≤◌, IfErr};
+ghost use Rattle.connection_view.specs.Loading.{IsServerRefusal};
+ghost use Rattle.connection_view.specs.Views.{Client};
+ghost use Rattle.remote_loads.specs.Causes.{HasLinkCause};
+ghost use Rattle.remote_loads.specs.Finishing.{FinishLeaves, IsFinishMade, IsToldBehind};
+ghost use Rattle.remote_loads.specs.Standing.{Stands};
+
+use crate::answers::finish_answer;
+use crate::carrier::Carrier;
+use crate::causes::behind_commit;
+use crate::remote::Remote;
+use zb_ids::Tid;
+use zb_model::Refusal;
+use zeo_client::whole_pieces_are_heard;
+use zeo_messages::Call;
+use zeo_reading::payloads_are_read_back;
+
+impl<'c, 'w, W: Carrier> Remote<'c, 'w, W> {
+    /// A sync behind a commit, which is answered behind it.
+    #[tactic(auto, using(crate::proofs::Made::behind_refused, crate::proofs::Made::behind_told))]
+    fn told_behind(&mut self, tid: Tid) -> Result<Option<Tid>, Refusal>
+        ensures refusal { IfErr result IsServerRefusal }
+        ensures cause { IfErr result (HasLinkCause (W.faults self.old.carrier.now)
+            (W.faults self.new.carrier.now) (W.closed self.new.carrier.now) self.new.client.now.ended) }
+        ensures counted { W.faults self.old.carrier.now ≤ W.faults self.new.carrier.now }
+        ensures never_falls { self.old.client.now.held.standing.known
+            ≤ self.new.client.now.held.standing.known }
+        ensures client_place { self.new.client.ghost_name ≡ self.old.client.ghost_name }
+        ensures carrier_place { self.new.carrier.ghost_name ≡ self.old.carrier.ghost_name }
+        ensures session { W.session self.new.carrier.now ≡ W.session self.old.carrier.now }
+        ensures told { W.told → IsToldBehind (W.steps (W.session self.old.carrier.now))
+            (W.end self.old.carrier.now) (W.desk self.old.carrier.now) self.old.client.now tid result
+            self.new.client.now (W.end self.new.carrier.now) (W.desk self.new.carrier.now) }
+    {
+        match self.sync_made() {
+            Ok(_) => Ok(Some(tid)),
+            Err(refusal) => Err(behind_commit(refusal)),
+        }
+    }
+
+    /// A finish, by a call, and the sync behind a commit.
+    #[tactic(auto, using(crate::proofs::Made::finish_unheard, crate::proofs::Made::finish_refuses, crate::proofs::Made::finish_empties, crate::proofs::Made::finish_commits_so,))]
+    fn finish_made(&mut self) -> Result<Option<Tid>, Refusal>
+        ensures refusal { IfErr result IsServerRefusal }
+        ensures cause { IfErr result (HasLinkCause (W.faults self.old.carrier.now)
+            (W.faults self.new.carrier.now) (W.closed self.new.carrier.now) self.new.client.now.ended) }
+        ensures counted { W.faults self.old.carrier.now ≤ W.faults self.new.carrier.now }
+        ensures never_falls { self.old.client.now.held.standing.known
+            ≤ self.new.client.now.held.standing.known }
+        ensures client_place { self.new.client.ghost_name ≡ self.old.client.ghost_name }
+        ensures carrier_place { self.new.carrier.ghost_name ≡ self.old.carrier.ghost_name }
+        ensures session { W.session self.new.carrier.now ≡ W.session self.old.carrier.now }
+        ensures told { W.told → IsFinishMade (W.steps (W.session self.old.carrier.now))
+            (W.end self.old.carrier.now) (W.desk self.old.carrier.now) self.old.client.now
+            result self.new.client.now (W.end self.new.carrier.now) (W.desk self.new.carrier.now) }
+    {
+        self.client.drop_asked();
+        let answer = match self.ask(Call::TpcFinish) {
+            Ok(answer) => answer,
+            Err(refusal) => return Err(refusal),
+        };
+        let committed = match finish_answer(answer) {
+            Ok(committed) => committed,
+            Err(refusal) => return Err(refusal),
+        };
+        self.client.ask_for_nothing();
+        match committed {
+            Some(tid) => self.told_behind(tid),
+            None => Ok(None),
+        }
+    }
+
+    /// Commits what is voted. Behind a commit the client knows the list as it stands then.
+    pub(crate) fn finish_vote(&mut self) -> Result<Option<Tid>, Refusal>
+        ensures refusal { IfErr result IsServerRefusal }
+        ensures cause { IfErr result (HasLinkCause (W.faults self.old.carrier.now)
+            (W.faults self.new.carrier.now) (W.closed self.new.carrier.now) self.new.client.now.ended) }
+        ensures counted { W.faults self.old.carrier.now ≤ W.faults self.new.carrier.now }
+        ensures never_falls { self.old.client.now.held.standing.known
+            ≤ self.new.client.now.held.standing.known }
+        ensures client_place { self.new.client.ghost_name ≡ self.old.client.ghost_name }
+        ensures carrier_place { self.new.carrier.ghost_name ≡ self.old.carrier.ghost_name }
+        ensures session { W.session self.new.carrier.now ≡ W.session self.old.carrier.now }
+        ensures exact { W.told → (c : Client) → Stands (W.machine (W.end self.old.carrier.now))
+            (W.session self.old.carrier.now) (W.desk self.old.carrier.now) self.old.client.now c
+            → FinishLeaves (W.steps (W.session self.old.carrier.now)) W.machine
+            (W.session self.old.carrier.now) (W.end self.old.carrier.now) c result
+            self.new.client.now (W.end self.new.carrier.now) (W.desk self.new.carrier.now) }
+    {
+        payloads_are_read_back();
+        whole_pieces_are_heard();
+        self.finish_made()
+    }
+}

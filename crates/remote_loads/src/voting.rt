@@ -1,0 +1,155 @@
+//! Votes and undos of a remote client, exactly as the machine at the other end of a carrier that tells makes them.
+
+ghost use Rattle.std.specs.Prelude.{◌≡◌, ◌≤◌, IfErr};
+ghost use Rattle.connection_view.specs.Loading.{AreVotable, IsServerRefusal, IsShortText};
+ghost use Rattle.connection_view.specs.Views.{Client};
+ghost use Rattle.remote_loads.specs.Causes.{HasLinkCause};
+ghost use Rattle.remote_loads.specs.Leaving.{UndoLeaves, VoteLeaves};
+ghost use Rattle.remote_loads.specs.Making.{IsUndoMade, IsVoteMade};
+ghost use Rattle.remote_loads.specs.Standing.{Stands};
+
+use crate::answers::done_answer;
+use crate::carrier::Carrier;
+use crate::causes::unasked;
+use crate::holding::{checks_are_held, stores_are_held};
+use crate::remote::Remote;
+use crate::undoing::undo_call;
+use zb_ids::{Text8, Tid};
+use zb_model::{PendingCheck, PendingStore, Refusal};
+use zeo_client::whole_pieces_are_heard;
+use zeo_reading::payloads_are_read_back;
+
+impl<'c, 'w, W: Carrier> Remote<'c, 'w, W> {
+    /// A vote, by its messages.
+    #[tactic(auto, using(crate::proofs::Made::vote_stays, crate::proofs::Made::vote_refused, crate::proofs::Made::vote_answers,))]
+    fn vote_made(
+        &mut self,
+        user: &Text8,
+        description: &Text8,
+        stores: &[PendingStore],
+        checks: &[PendingCheck],
+    ) -> Result<(), Refusal>
+        requires user { IsShortText user.now }
+        requires description { IsShortText description.now }
+        requires stores { AreVotable stores.now }
+        ensures refusal { IfErr result IsServerRefusal }
+        ensures cause { IfErr result (HasLinkCause (W.faults self.old.carrier.now)
+            (W.faults self.new.carrier.now) (W.closed self.new.carrier.now) self.new.client.now.ended) }
+        ensures counted { W.faults self.old.carrier.now ≤ W.faults self.new.carrier.now }
+        ensures never_falls { self.old.client.now.held.standing.known
+            ≤ self.new.client.now.held.standing.known }
+        ensures client_place { self.new.client.ghost_name ≡ self.old.client.ghost_name }
+        ensures carrier_place { self.new.carrier.ghost_name ≡ self.old.carrier.ghost_name }
+        ensures session { W.session self.new.carrier.now ≡ W.session self.old.carrier.now }
+        ensures told { W.told → IsVoteMade (W.steps (W.session self.old.carrier.now))
+            (W.end self.old.carrier.now) (W.desk self.old.carrier.now) self.old.client.now user.now
+            description.now stores.now checks.now
+            result self.new.client.now (W.end self.new.carrier.now) (W.desk self.new.carrier.now) }
+    {
+        stores_are_held(stores);
+        checks_are_held(checks);
+        self.client.ask_for(stores);
+        let text = match self.client.vote(user, description, stores, checks) {
+            Ok(text) => text,
+            Err(error) => return Err(unasked(error)),
+        };
+        let answer = match self.talk(text) {
+            Ok(answer) => answer,
+            Err(refusal) => return Err(refusal),
+        };
+        done_answer(answer)
+    }
+
+    /// Votes on stores, deletes and checks. One step at most is made.
+    pub(crate) fn vote_on(
+        &mut self,
+        user: &Text8,
+        description: &Text8,
+        stores: &[PendingStore],
+        checks: &[PendingCheck],
+    ) -> Result<(), Refusal>
+        requires user { IsShortText user.now }
+        requires description { IsShortText description.now }
+        requires stores { AreVotable stores.now }
+        ensures refusal { IfErr result IsServerRefusal }
+        ensures cause { IfErr result (HasLinkCause (W.faults self.old.carrier.now)
+            (W.faults self.new.carrier.now) (W.closed self.new.carrier.now) self.new.client.now.ended) }
+        ensures counted { W.faults self.old.carrier.now ≤ W.faults self.new.carrier.now }
+        ensures never_falls { self.old.client.now.held.standing.known
+            ≤ self.new.client.now.held.standing.known }
+        ensures client_place { self.new.client.ghost_name ≡ self.old.client.ghost_name }
+        ensures carrier_place { self.new.carrier.ghost_name ≡ self.old.carrier.ghost_name }
+        ensures session { W.session self.new.carrier.now ≡ W.session self.old.carrier.now }
+        ensures exact { W.told → (c : Client) → Stands (W.machine (W.end self.old.carrier.now))
+            (W.session self.old.carrier.now) (W.desk self.old.carrier.now) self.old.client.now c
+            → VoteLeaves (W.steps (W.session self.old.carrier.now)) W.machine
+            (W.session self.old.carrier.now) (W.end self.old.carrier.now) user.now description.now
+            stores.now checks.now c result
+            self.new.client.now (W.end self.new.carrier.now) (W.desk self.new.carrier.now) }
+    {
+        payloads_are_read_back();
+        whole_pieces_are_heard();
+        self.vote_made(user, description, stores, checks)
+    }
+
+    /// An undo, by a call.
+    #[tactic(auto, using(crate::proofs::Made::undo_stays, crate::proofs::Made::undo_refused, crate::proofs::Made::undo_answers,))]
+    fn undo_made(&mut self, user: &Text8, description: &Text8, tids: &[Tid]) -> Result<(), Refusal>
+        requires user { IsShortText user.now }
+        requires description { IsShortText description.now }
+        ensures refusal { IfErr result IsServerRefusal }
+        ensures cause { IfErr result (HasLinkCause (W.faults self.old.carrier.now)
+            (W.faults self.new.carrier.now) (W.closed self.new.carrier.now) self.new.client.now.ended) }
+        ensures counted { W.faults self.old.carrier.now ≤ W.faults self.new.carrier.now }
+        ensures never_falls { self.old.client.now.held.standing.known
+            ≤ self.new.client.now.held.standing.known }
+        ensures client_place { self.new.client.ghost_name ≡ self.old.client.ghost_name }
+        ensures carrier_place { self.new.carrier.ghost_name ≡ self.old.carrier.ghost_name }
+        ensures session { W.session self.new.carrier.now ≡ W.session self.old.carrier.now }
+        ensures told { W.told → IsUndoMade (W.steps (W.session self.old.carrier.now))
+            (W.end self.old.carrier.now) (W.desk self.old.carrier.now) self.old.client.now user.now
+            description.now tids.now
+            result self.new.client.now (W.end self.new.carrier.now) (W.desk self.new.carrier.now) }
+    {
+        self.client.ask_for_all();
+        let call = match undo_call(self.alloc, user, description, tids) {
+            Ok(call) => call,
+            Err(refusal) => return Err(refusal),
+        };
+        let answer = match self.ask(call) {
+            Ok(answer) => answer,
+            Err(refusal) => return Err(refusal),
+        };
+        done_answer(answer)
+    }
+
+    /// Votes on undoing transactions. One step at most is made.
+    pub(crate) fn undo_on(
+        &mut self,
+        user: &Text8,
+        description: &Text8,
+        tids: &[Tid],
+    ) -> Result<(), Refusal>
+        requires user { IsShortText user.now }
+        requires description { IsShortText description.now }
+        ensures refusal { IfErr result IsServerRefusal }
+        ensures cause { IfErr result (HasLinkCause (W.faults self.old.carrier.now)
+            (W.faults self.new.carrier.now) (W.closed self.new.carrier.now) self.new.client.now.ended) }
+        ensures counted { W.faults self.old.carrier.now ≤ W.faults self.new.carrier.now }
+        ensures never_falls { self.old.client.now.held.standing.known
+            ≤ self.new.client.now.held.standing.known }
+        ensures client_place { self.new.client.ghost_name ≡ self.old.client.ghost_name }
+        ensures carrier_place { self.new.carrier.ghost_name ≡ self.old.carrier.ghost_name }
+        ensures session { W.session self.new.carrier.now ≡ W.session self.old.carrier.now }
+        ensures exact { W.told → (c : Client) → Stands (W.machine (W.end self.old.carrier.now))
+            (W.session self.old.carrier.now) (W.desk self.old.carrier.now) self.old.client.now c
+            → UndoLeaves (W.steps (W.session self.old.carrier.now)) W.machine
+            (W.session self.old.carrier.now) (W.end self.old.carrier.now) user.now description.now
+            tids.now c result
+            self.new.client.now (W.end self.new.carrier.now) (W.desk self.new.carrier.now) }
+    {
+        payloads_are_read_back();
+        whole_pieces_are_heard();
+        self.undo_made(user, description, tids)
+    }
+}
