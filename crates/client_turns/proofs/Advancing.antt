@@ -1,7 +1,8 @@
 -- How a call on a tree goes from one attempt to the next.
-use Rattle.std.proofs.Common.{◌≡◌, ◌==◌, Bool, true, ◌<◌, ◌≤◌, ◌+◌, ℕ, false, length, List, [], ◌∷◌, ◌++◌, Option, Some, None, Result, Ok, Err, refl, sym, ap, subst, ◌∙◌, arith, inl, inr}
+use Rattle.std.proofs.Common.{◌≡◌, ◌==◌, Bool, true, ◌<◌, ◌≤◌, ◌+◌, ℕ, zero, suc, false, length, List, [], ◌∷◌, ◌++◌, Option, Some, None, Result, Ok, Err, refl, sym, ap, subst, ◌∙◌, arith, inl, inr}
 use Rattle.std.specs.Prelude.{All, IsSome, if◌then◌else◌, nat_eq, slice_get}
 use Rattle.std.proofs.lemmas.Bool.{eqb-true}
+use Rattle.std.proofs.lemmas.List.Elements.{All-cons, All-head, All-nil, All-tail}
 use Rattle.zb_ids.specs.declared.stamp.Stamp.{Stamp}
 use Rattle.zb_volume.specs.Moments.{here}
 use Rattle.zb_model.specs.declared.data.Transaction.{Transaction}
@@ -14,8 +15,8 @@ use Rattle.zodb_core.specs.Outcomes.{Answered, StepOutcome, outcome_of_refusal}
 use Rattle.tree_calls.specs.declared.attempt.Made.{Made}
 use Rattle.tree_calls.specs.declared.known.Seen.{Seen}
 use Rattle.tree_calls.specs.declared.operation.TreeOperation.{TreeOperation}
-use Rattle.tree_calls.specs.Calls.{IsMade, IsRefused, MayRead, contents_of, is_walk}
-use Rattle.tree_calls.specs.Known.{known_at}
+use Rattle.tree_calls.specs.Calls.{IsMade, IsRefused, MayRead, contents_of}
+use Rattle.tree_calls.specs.Known.{Agrees, known_at}
 use Rattle.client_turns.specs.declared.client.Client.{Client}
 use Rattle.connection_view.specs.Works.{Work}
 use Rattle.client_turns.specs.Asking.{IsCalm}
@@ -31,10 +32,10 @@ use Rattle.connection_view.specs.Connections.{work_of}
 use Rattle.connection_view.specs.ViewLaws.{IsSeenFrom, later_later, seen_from}
 use Rattle.connection_view.specs.Views.{Later, view_of}
 use Rattle.local_loads.specs.LocalLaws.{view_whole}
-use Rattle.client_turns.specs.Trees.{AllCameWhole, CameWhole, Draws, IsAsked, IsDrawn, IsRaised, IsSeenIn, IsUncalled, MayDraw, NeedsMore, Sees, by_draw, by_read, by_tree, by_want}
+use Rattle.client_turns.specs.Trees.{AllCameWhole, CameWhole, Draws, IsDrawn, IsOnWay, IsRaised, IsSeenIn, IsUncalled, MayDraw, NeedsMore, Sees, by_draw, by_read, by_tree, by_want}
 use Rattle.client_turns.proofs.Changing.{opened_work}
 use Rattle.client_turns.proofs.Framing.{calm_counts, calm_other, calm_whole}
-use Rattle.client_turns.proofs.Gathering.{draws_more, known_more, seen_kept, seen_over, seen_same}
+use Rattle.client_turns.proofs.Gathering.{draws_more, known_more, over_agrees, seen_kept, seen_over, seen_same}
 use Rattle.client_turns.proofs.Hubs.{open_whole}
 use Rattle.client_turns.proofs.Placing.{IsKeptAt, kept_at}
 use Rattle.client_turns.proofs.One.{near_open}
@@ -187,9 +188,9 @@ module _ {R F : Type 0} (m : Moment) (at root : ℕ) (op : TreeOperation) (old :
       ends_at refusal.Memory new after g.now (subst (StandsForMoment new after) sight.0 leads.stands) (by_want numbers g.may_draw g.draws refl)
 
   -- what is read for the call of the client at the place
-  asked_here : (oid : ℕ) → IsAskedOf m at root op oid → IsAsked m.machine g.transaction root op oid
+  asked_here : (oid : ℕ) → IsAskedOf m at root op oid → IsOnWay m.machine g.transaction root op oid
   asked_here oid (c, there, t, begun, asked) =
-      subst (λ (u : OpenTransaction). IsAsked m.machine u root op oid) (same t g.transaction (sym begun ∙ ap (λ (d : seen.Client). d.transaction) (same_there c g.client (sym there ∙ g.there)) ∙ g.begun)) asked
+      subst (λ (u : OpenTransaction). IsOnWay m.machine u root op oid) (same t g.transaction (sym begun ∙ ap (λ (d : seen.Client). d.transaction) (same_there c g.client (sym there ∙ g.there)) ∙ g.begun)) asked
     where
       same_there : (a b : seen.Client) → Some a ≡ Some b → a ≡ b
       same_there a b e = cc
@@ -257,6 +258,16 @@ module _ {R F : Type 0} (m : Moment) (at root : ℕ) (op : TreeOperation) (old :
       seen_over m.machine g.transaction oid (known_at known oid) (objects_of old.hub.store.list (work_of k) oid) (λ y is. g.sees oid y is)
       (seen_same g.now.machine m.machine g.transaction.view oid _ (objects_of old.hub.store.list (work_of k) oid) (sym g.list) (sym g.journal) over)
 
+  -- it sees some objects, with which what is known agrees
+  pub seen_here : (objects : ℕ → Option Seen) × Agrees known objects × Sees m.machine g.transaction objects
+  seen_here =
+      let kept : IsKeptAt old.hub old.clients at g.client = kept_at old.hub old.clients g.now.clients at g.client g.stands.clients there_now in
+      let work = work_of kept.kept.connection in
+      (objects_over known old.hub.store.list work, over_agrees known old.hub.store.list work, sees_over kept.kept.connection (λ x there. ap (λ (c : Client). c.connection) (same_kept kept.kept x (sym kept.there ∙ there))))
+    where
+      same_kept : (a b : Client) → Some a ≡ Some b → a ≡ b
+      same_kept a b e = cc
+
   -- what a local client reads comes in no frame
   whole_here : (objects : ℕ → Option Seen) (calls : List Call) → AllCameWhole g.transaction objects calls
   whole_here objects calls oid among = subst (λ (far : Bool). CameWhole far (pending_of g.transaction.changes.pending.stores oid) (objects oid)) (sym g.near) tt
@@ -271,11 +282,20 @@ module _ {R F : Type 0} (m : Moment) (at root : ℕ) (op : TreeOperation) (old :
   pub refused_on : (objects : ℕ → Option Seen) (why : Refusal) → Sees m.machine g.transaction objects → IsRefused objects root op why × (numbers ≡ []) → LeadsTo (IsCallOf m at root op (Err why)) old before
   refused_on objects why sees is = ends_at why old before g.now g.stands (by_tree objects sees is.0 (whole_here objects is.0.calls) (at_start is.1))
 
--- what a walk asks for, and what an attempt wants
-pub walk_asked : {R F : Type 0} (m : Moment) (at root : ℕ) (op : TreeOperation) (old : ClientsState R F) (before : Option (List Stamp)) (known : List (ℕ × Option Seen)) (numbers : List ℕ) → StandsGathering old before m at root op known numbers → is_walk op ≡ true
-    → (oid : ℕ) → IsAskedOf m at root op oid
-walk_asked m at root op old before known numbers g walks oid = (g.client, g.there, g.transaction, g.begun, inr walks)
-
+-- what an attempt wants, and what is read ahead
 pub want_asked : {R F : Type 0} (m : Moment) (at root : ℕ) (op : TreeOperation) (old : ClientsState R F) (before : Option (List Stamp)) (known : List (ℕ × Option Seen)) (numbers : List ℕ) → (g : StandsGathering old before m at root op known numbers) → (objects : ℕ → Option Seen) → Sees m.machine g.transaction objects
     → (oid : ℕ) → MayRead (contents_of objects) root op oid → IsAskedOf m at root op oid
-want_asked m at root op old before known numbers g objects sees oid may = (g.client, g.there, g.transaction, g.begun, inl (record { objects = objects; sees = sees; may = may }))
+want_asked m at root op old before known numbers g objects sees oid may = (g.client, g.there, g.transaction, g.begun, record { objects = objects; sees = sees; may = may })
+
+pub ahead_asked : {R F : Type 0} (m : Moment) (at root : ℕ) (op : TreeOperation) (old : ClientsState R F) (before : Option (List Stamp)) (known : List (ℕ × Option Seen)) (numbers : List ℕ) → (g : StandsGathering old before m at root op known numbers) → (objects : ℕ → Option Seen) → Sees m.machine g.transaction objects
+    → (oids : List ℕ) → All (MayRead (contents_of objects) root op) oids → All (IsAskedOf m at root op) oids
+ahead_asked m at root op old before known numbers g objects sees [] a = All-nil (IsAskedOf m at root op)
+ahead_asked m at root op old before known numbers g objects sees (oid ∷ oids) a =
+    All-cons (IsAskedOf m at root op) oid oids (want_asked m at root op old before known numbers g objects sees oid (All-head (MayRead (contents_of objects) root op) oid oids a))
+    (ahead_asked m at root op old before known numbers g objects sees oids (All-tail (MayRead (contents_of objects) root op) oid oids a))
+
+-- one of several
+pub one_of_all : (P : ℕ → Type 0) (xs : List ℕ) (i x : ℕ) → All P xs → slice_get xs i ≡ Some x → P x
+one_of_all P [] i x a is = absurd cc
+one_of_all P (y ∷ xs) zero x a is = let same : y ≡ x = cc in subst P same (All-head P y xs a)
+one_of_all P (y ∷ xs) (suc i) x a is = one_of_all P xs i x (All-tail P y xs a) is

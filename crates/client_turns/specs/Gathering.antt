@@ -21,7 +21,7 @@ use Rattle.client_turns.specs.Lines.{outcome_of_result}
 use Rattle.connection_view.specs.Views.{read_below}
 use Rattle.client_turns.specs.Standing.{ClientsState, LeadsTo, StandsForMoment}
 use Rattle.client_turns.specs.Steps.{IsReadAt}
-use Rattle.client_turns.specs.Trees.{CallEnds, Draws, IsAsked, IsDrawn, IsSeenIn, IsUndrawn, MayDraw, is_missing, seen_waiting}
+use Rattle.client_turns.specs.Trees.{CallEnds, Draws, IsDrawn, IsOnWay, IsSeenIn, IsUndrawn, MayDraw, is_missing, seen_waiting}
 
 -- ---- what a transaction has
 
@@ -88,7 +88,7 @@ IsCallOf m at root op result now =
 
 -- an object that is read for a call of the client at a place
 abbrev pub IsAskedOf : Moment → ℕ → ℕ → TreeOperation → ℕ → Type 0
-IsAskedOf m at root op oid = (c : Client) × (slice_get m.clients at ≡ Some c) × (t : OpenTransaction) × (c.transaction ≡ Some t) × IsAsked m.machine t root op oid
+IsAskedOf m at root op oid = (c : Client) × (slice_get m.clients at ≡ Some c) × (t : OpenTransaction) × (c.transaction ≡ Some t) × IsOnWay m.machine t root op oid
 
 -- ---- gathering
 

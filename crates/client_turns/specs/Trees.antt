@@ -16,7 +16,7 @@ use Rattle.tree_calls.specs.declared.operation.TreeAnswer.{TreeAnswer}
 use Rattle.tree_calls.specs.declared.operation.TreeAnswer.TheVariants as answered
 use Rattle.tree_calls.specs.declared.operation.TreeOperation.{TreeOperation}
 use Rattle.tree_calls.specs.declared.operation.TreeOperation.TheVariants as operation
-use Rattle.tree_calls.specs.Calls.{IsAmong, IsMade, IsRefused, LacksNumbers, MayRead, NeedsNumbers, contents_of, is_walk, reads_in}
+use Rattle.tree_calls.specs.Calls.{IsAmong, IsMade, IsRefused, LacksNumbers, MayRead, NeedsNumbers, contents_of, reads_in}
 use Rattle.zodb_core.specs.declared.reply.Reply.TheVariants as reply
 use Rattle.zodb_core.specs.declared.request.Request.TheVariants as request
 use Rattle.zodb_core.specs.Machine.{Machine, Rules}
@@ -143,15 +143,11 @@ pub record IsOnWay (m : Machine) (t : OpenTransaction) (root : ℕ) (op : TreeOp
   pub sees : Sees m t objects
   pub may : MayRead (contents_of objects) root op oid
 
--- one that is read for it: for a walk, objects may be read before it comes to them
-abbrev pub IsAsked : Machine → OpenTransaction → ℕ → TreeOperation → ℕ → Type 0
-IsAsked m t root op oid = IsOnWay m t root op oid ⊎ (is_walk op ≡ true)
-
 -- A call isn't answered. The tree refuses it, or a read for it fails, and no number was drawn; or one is refused of those that the call needs, behind fewer; or memory
 -- runs out, and no more were drawn than it needs.
 pub data IsUncalled (m : Moment) (n : ℕ) (t : OpenTransaction) (root : ℕ) (op : TreeOperation) (why : Refusal) (now : Moment) : Type 0 where
   by_tree : (objects : ℕ → Option Seen) → Sees m.machine t objects → (refused : IsRefused objects root op why) → AllCameWhole t objects refused.calls → now ≡ m → IsUncalled m n t root op why now
-  by_read : (oid : ℕ) → IsAsked m.machine t root op oid → IsReadAt m t oid (Err why) now → is_missing why ≡ false → IsUncalled m n t root op why now
+  by_read : (oid : ℕ) → IsOnWay m.machine t root op oid → IsReadAt m t oid (Err why) now → is_missing why ≡ false → IsUncalled m n t root op why now
   by_draw : (numbers : List ℕ) (behind : Moment) → NeedsMore m.machine t root op numbers → Draws m n numbers behind → IsUndrawn behind n why now → IsUncalled m n t root op why now
   by_want : (numbers : List ℕ) → MayDraw m.machine t root op numbers → Draws m n numbers now → why ≡ refusal.Memory → IsUncalled m n t root op why now
 

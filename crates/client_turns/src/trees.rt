@@ -4,8 +4,7 @@ ghost use Rattle.std.specs.Prelude.{◌≡◌, ◌<◌, ◌≤◌, ℕ, List, []
 ghost use Rattle.zb_model.specs.Database.{IsRecord};
 ghost use Rattle.zodb_core.specs.HubState.{rules_of};
 ghost use Rattle.zodb_core.specs.Outcomes.{Answered};
-ghost use Rattle.tree_calls.specs.Calls;
-ghost use Rattle.tree_calls.specs.Calls.{IsAttempt, IsWanted, is_walk};
+ghost use Rattle.tree_calls.specs.Calls.{IsAttempt, IsWanted};
 ghost use Rattle.tree_calls.specs.declared.known.Seen.{Seen};
 ghost use Rattle.tree_calls.specs.Known.{known_at};
 ghost use Rattle.tree_calls.specs.declared.operation.TreeOperation.{TreeOperation};
@@ -106,16 +105,6 @@ fn is_missing(known: &Known, oid: Oid) -> bool
         Some(None) => true,
         _ => false,
     }
-}
-
-/// Whether a call goes over many items: all of them, or those of a range.
-fn is_walk(operation: &TreeOperation) -> bool
-    ensures { result ≡ Calls.is_walk operation.now }
-{
-    matches!(
-        operation,
-        TreeOperation::Items | TreeOperation::Range { .. }
-    )
 }
 
 /// What a call on a tree puts, as it waits for the vote.
@@ -272,7 +261,7 @@ impl<St: Store, R: Resolver, F: Refs> Clients<St, R, F> {
         self.learn(alloc, at, oid, known, clock)
     }
 
-    /// Objects are known that a walk asks for, up to the first that is missing, or the call has ended.
+    /// Objects are known that a call asks for, up to the first that is missing, or the call has ended.
     fn learn_all<C: Clock>(
         &mut self,
         alloc: Global,
@@ -283,7 +272,8 @@ impl<St: Store, R: Resolver, F: Refs> Clients<St, R, F> {
     ) -> Option<Result<Made, Refusal>>
         requires place { at < length self.old.clients }
         ensures advances { (root : ℕ) (op : TreeOperation) → St.told → (m : Moment)
-            → StandsGathering self.old (C.stamps clock.old) m at root op known.old [] → is_walk op ≡ true
+            → StandsGathering self.old (C.stamps clock.old) m at root op known.old []
+            → All (IsAskedOf m at root op) oids.now
             → AdvancesTo m at root op self.new (C.stamps clock.new) known.new [] result }
         ensures hub { ReadsHub St.told St.lasts St.stands (outcome_of_advance result) self.old.hub self.new.hub }
         ensures filled { IfSome result (λ ended. IfOk ended IsFilled) }
@@ -320,9 +310,6 @@ impl<St: Store, R: Resolver, F: Refs> Clients<St, R, F> {
         ensures grows { length known.old ≤ length known.new }
         ensures kept { length self.new.clients ≡ length self.old.clients }
     {
-        if !is_walk(operation) {
-            return None;
-        }
         match objects_ahead(alloc, known, root, operation) {
             Ok(oids) => self.learn_all(alloc, at, oids.as_slice(), known, clock),
             Err(_) => Some(Err(Refusal::Memory)),
