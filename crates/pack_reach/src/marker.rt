@@ -403,6 +403,27 @@ impl Marker {
         Ok(least)
     }
 
+    /// Follows so many of the objects that wait, or all of them where there are fewer.
+    pub(crate) fn follow_some<St: Store, F: Refs>(
+        &mut self,
+        alloc: Global,
+        store: &mut St,
+        refs: &F,
+        number: u64,
+    ) -> Result<(), StoreError>
+        requires whole { (St.state store.old).broken ≡ false }
+        ensures marks { St.told → IsMarking (F.named refs.now) (St.state store.old).list self.old
+            → IsMarking (F.named refs.now) (St.state store.old).list self.new }
+        ensures keeps { KeepsMarks self.old self.new }
+        ensures counted { self.new.counted ≡ self.old.counted }
+        ensures read { IsOnlyRead (St.state store.old) (St.state store.new) result }
+    {
+        for _i in 0..number {
+            self.follow_next(alloc, store, refs)?;
+        }
+        Ok(())
+    }
+
     /// Marks all that is reached, or more objects than the limit, and answers how many are marked. Records
     /// that can't be read are noted.
     pub(crate) fn mark_reached<St: Store, F: Refs>(
@@ -427,6 +448,31 @@ impl Marker {
         self.mark_later(alloc, store, refs, limit)?;
         self.follow_all(alloc, store, refs, limit)?;
         Ok(self.count())
+    }
+
+    /// Follows so many of the objects that wait, or all of them where there are fewer, and then marks all
+    /// that is reached, or more objects than the limit, and answers how many are marked.
+    pub(crate) fn mark_ahead<St: Store, F: Refs>(
+        &mut self,
+        alloc: Global,
+        store: &mut St,
+        refs: &F,
+        number: u64,
+        limit: u64,
+    ) -> Result<u64, StoreError>
+        requires whole { (St.state store.old).broken ≡ false }
+        ensures marks { St.told → IsMarking (F.named refs.now) (St.state store.old).list self.old
+            → IsMarking (F.named refs.now) (St.state store.old).list self.new }
+        ensures all { St.told → OnOk result
+            ((limit < set.len self.new.set) ⊎ IsComplete (St.state store.old).list self.new) }
+        ensures count { IfOk result (λ count. count ≡ set.len self.new.set) }
+        ensures bound { IfOk result (λ count. count < 2 ^ 63) }
+        ensures keeps { KeepsMarks self.old self.new }
+        ensures counted { self.new.counted ≡ self.old.counted }
+        ensures read { IsOnlyRead (St.state store.old) (St.state store.new) result }
+    {
+        self.follow_some(alloc, store, refs, number)?;
+        self.mark_reached(alloc, store, refs, limit)
     }
 }
 

@@ -23,6 +23,9 @@ impl Marker {
     /// all is marked. Of several that can't, the one of the least object is named, then of the least
     /// serial. A read of the store that failed and want of memory leave the marks that were made, and the
     /// count as it was. It only reads the store.
+    ///
+    /// Each turn follows 64 of the objects that wait, also where enough are marked already: so what is read
+    /// never lags behind what is counted, and the last turn has no more to read than those before it.
     pub fn mark_turn<St: Store, F: Refs>(
         &mut self,
         alloc: Global,
@@ -46,7 +49,7 @@ impl Marker {
         ensures read { ReadsToMark (St.state store.old) (St.state store.new) result }
     {
         let limit = self.counted.saturating_add(MARKS_A_TURN);
-        let count = self.mark_reached(alloc, store, refs, limit)?;
+        let count = self.mark_ahead(alloc, store, refs, MARKS_A_TURN, limit)?;
         if limit < count {
             self.counted = limit;
             return Ok(Marked {

@@ -13,16 +13,16 @@ pub returns-in_err-count-clause-may_mark : goal.returns-in_err-count-clause-may_
 returns-in_err-count-clause-may_mark g c = λ told.
     let named = g.F.Refs.named c.args.refs.now in
     let list = (g.St.Store.state c.args.store.now).list in
-    let m = c.mark_reached.new.self in
-    let k = c.mark_reached.ensures.marks told (marks_stand named list c.args.self.now (g.met.St.Store.database c.args.store.now told c.requires.whole) (c.requires.may_mark told)) in
+    let m = c.mark_ahead.new.self in
+    let k = c.mark_ahead.ensures.marks told (marks_stand named list c.args.self.now (g.met.St.Store.database c.args.store.now told c.requires.whole) (c.requires.may_mark told)) in
     may_of named list m k
 
 pub returns-then-limit-count-clause-turn : goal.returns-then-limit-count-clause-turn
 returns-then-limit-count-clause-turn g c = λ told.
     let named = g.F.Refs.named c.args.refs.now in
     let list = (g.St.Store.state c.args.store.now).list in
-    let m = c.mark_reached.new.self in
-    let k = c.mark_reached.ensures.marks told (marks_stand named list c.args.self.now (g.met.St.Store.database c.args.store.now told c.requires.whole) (c.requires.may_mark told)) in
+    let m = c.mark_ahead.new.self in
+    let k = c.mark_ahead.ensures.marks told (marks_stand named list c.args.self.now (g.met.St.Store.database c.args.store.now told c.requires.whole) (c.requires.may_mark told)) in
     let before = c.args.self.now.counted in
     let limit = c.saturating_add-limit.result in
     let counted : c.self.inside.counted ≡ before = ap (λ (s : MarkerState). s.counted) c.self.view_is in
@@ -34,8 +34,8 @@ pub returns-then-limit-count-clause-may_mark : goal.returns-then-limit-count-cla
 returns-then-limit-count-clause-may_mark g c = λ told.
     let named = g.F.Refs.named c.args.refs.now in
     let list = (g.St.Store.state c.args.store.now).list in
-    let m = c.mark_reached.new.self in
-    let k = c.mark_reached.ensures.marks told (marks_stand named list c.args.self.now (g.met.St.Store.database c.args.store.now told c.requires.whole) (c.requires.may_mark told)) in
+    let m = c.mark_ahead.new.self in
+    let k = c.mark_ahead.ensures.marks told (marks_stand named list c.args.self.now (g.met.St.Store.database c.args.store.now told c.requires.whole) (c.requires.may_mark told)) in
     let limit = c.saturating_add-limit.result in
     subst (λ (s : MarkerState). MayMark named list (record s { counted = limit })) (sym c.self-2.view_is) (may_of named list (record m { counted = limit }) (counted_marking named list m limit k))
 
@@ -43,8 +43,8 @@ pub returns-in_err-readable-clause-turn : goal.returns-in_err-readable-clause-tu
 returns-in_err-readable-clause-turn g c = λ told.
     let named = g.F.Refs.named c.args.refs.now in
     let list = (g.St.Store.state c.args.store.now).list in
-    let m = c.mark_reached.new.self in
-    let k = c.mark_reached.ensures.marks told (marks_stand named list c.args.self.now (g.met.St.Store.database c.args.store.now told c.requires.whole) (c.requires.may_mark told)) in
+    let m = c.mark_ahead.new.self in
+    let k = c.mark_ahead.ensures.marks told (marks_stand named list c.args.self.now (g.met.St.Store.database c.args.store.now told c.requires.whole) (c.requires.may_mark told)) in
     let before = c.args.self.now.counted in
     let limit = c.saturating_add-limit.result in
     let counted : c.self.inside.counted ≡ before = ap (λ (s : MarkerState). s.counted) c.self.view_is in
@@ -61,16 +61,16 @@ pub returns-in_err-readable-clause-may_mark : goal.returns-in_err-readable-claus
 returns-in_err-readable-clause-may_mark g c = λ told.
     let named = g.F.Refs.named c.args.refs.now in
     let list = (g.St.Store.state c.args.store.now).list in
-    let m = c.mark_reached.new.self in
-    let k = c.mark_reached.ensures.marks told (marks_stand named list c.args.self.now (g.met.St.Store.database c.args.store.now told c.requires.whole) (c.requires.may_mark told)) in
+    let m = c.mark_ahead.new.self in
+    let k = c.mark_ahead.ensures.marks told (marks_stand named list c.args.self.now (g.met.St.Store.database c.args.store.now told c.requires.whole) (c.requires.may_mark told)) in
     may_of named list m k
 
 pub returns-clause-turn : goal.returns-clause-turn
 returns-clause-turn g c = λ told.
     let named = g.F.Refs.named c.args.refs.now in
     let list = (g.St.Store.state c.args.store.now).list in
-    let m = c.mark_reached.new.self in
-    let k = c.mark_reached.ensures.marks told (marks_stand named list c.args.self.now (g.met.St.Store.database c.args.store.now told c.requires.whole) (c.requires.may_mark told)) in
+    let m = c.mark_ahead.new.self in
+    let k = c.mark_ahead.ensures.marks told (marks_stand named list c.args.self.now (g.met.St.Store.database c.args.store.now told c.requires.whole) (c.requires.may_mark told)) in
     let before = c.args.self.now.counted in
     let limit = c.saturating_add-limit.result in
     let counted : c.self.inside.counted ≡ before = ap (λ (s : MarkerState). s.counted) c.self.view_is in
@@ -86,8 +86,8 @@ pub returns-clause-whole : goal.returns-clause-whole
 returns-clause-whole g c = λ told is.
     let named = g.F.Refs.named c.args.refs.now in
     let list = (g.St.Store.state c.args.store.now).list in
-    let m = c.mark_reached.new.self in
-    let k = c.mark_reached.ensures.marks told (marks_stand named list c.args.self.now (g.met.St.Store.database c.args.store.now told c.requires.whole) (c.requires.may_mark told)) in
+    let m = c.mark_ahead.new.self in
+    let k = c.mark_ahead.ensures.marks told (marks_stand named list c.args.self.now (g.met.St.Store.database c.args.store.now told c.requires.whole) (c.requires.may_mark told)) in
     let before = c.args.self.now.counted in
     let limit = c.saturating_add-limit.result in
     let counted : c.self.inside.counted ≡ before = ap (λ (s : MarkerState). s.counted) c.self.view_is in
@@ -103,7 +103,7 @@ pub returns-clause-may_mark : goal.returns-clause-may_mark
 returns-clause-may_mark g c = λ told.
     let named = g.F.Refs.named c.args.refs.now in
     let list = (g.St.Store.state c.args.store.now).list in
-    let m = c.mark_reached.new.self in
-    let k = c.mark_reached.ensures.marks told (marks_stand named list c.args.self.now (g.met.St.Store.database c.args.store.now told c.requires.whole) (c.requires.may_mark told)) in
+    let m = c.mark_ahead.new.self in
+    let k = c.mark_ahead.ensures.marks told (marks_stand named list c.args.self.now (g.met.St.Store.database c.args.store.now told c.requires.whole) (c.requires.may_mark told)) in
     let count = c.in_ok-count.count in
     subst (λ (s : MarkerState). MayMark named list (record s { counted = count })) (sym c.self-2.view_is) (may_of named list (record m { counted = count }) (counted_marking named list m count k))
