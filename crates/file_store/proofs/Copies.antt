@@ -5,7 +5,8 @@ use Rattle.fs_records.specs.Blocks.{Reached, file_start}
 use Rattle.fs_records.specs.Listed.{reached_in, reached_is, reading_is, reading_stands}
 use Rattle.fs_records.specs.Indexed.{places_of}
 use Rattle.fs_recovery.specs.Numbers.{AreNumbersOf}
-use Rattle.pack_copy.specs.Copying.{CopyKept, IsCopied}
+use Rattle.zb_model.specs.Stores.{BegunPack}
+use Rattle.pack_copy.specs.Copying.{CopyKept, IsCopied, copied_in}
 use Rattle.pack_copy.specs.InFull.{after_full, full_file}
 use Rattle.file_store.specs.Kept.{IsCopyKept}
 use Rattle.file_store.specs.KeptLaws.{list_read}
@@ -48,3 +49,7 @@ copy_is bytes c k = record {
 -- the one copy that there is
 pub only_copy : (bytes : List ℕ) (c x : CopyKept) → Some c ≡ Some x → IsCopied bytes c → IsCopyKept bytes x
 only_copy bytes c x is copied = let same : c ≡ x = cc in subst (λ (y : CopyKept). IsCopyKept bytes y) same (copy_kept bytes c copied)
+
+-- what is seen of it stands in full
+pub begun_in_full : (bytes : List ℕ) (c : CopyKept) (x : BegunPack) → Some (copied_in c.tid bytes) ≡ Some x → IsCopied bytes c → bytes ≡ full_file x.copied
+begun_in_full bytes c x is copied = let same : copied_in c.tid bytes ≡ x = cc in subst (λ (p : BegunPack). bytes ≡ full_file p.copied) same (copy_kept bytes c copied).in_full

@@ -36,7 +36,7 @@ use Rattle.file_store.specs.declared.ready.Ready.{Ready}
 use Rattle.file_store.specs.First.{file_with}
 use Rattle.file_store.specs.Kept.{IsKept, StandsForList}
 use Rattle.file_store.specs.KeptLaws.{list_read}
-use Rattle.file_store.specs.Opening.{Harm, IsFirst, IsNewOr, IsUnlessWritten, KeepsList, MakesList, first_list, without_tail}
+use Rattle.file_store.specs.Opening.{Harm, IsFirst, IsNewOr, IsNoneOr, IsUnlessWritten, KeepsList, MakesList, first_list, without_tail}
 use Rattle.file_store.specs.Outcomes.{HasOpenCause, IsOpening, IsReady, IsRefusal, MomentsOfMain}
 use Rattle.file_store.specs.Staging.{StagedKept}
 
@@ -270,10 +270,12 @@ make_ready T stamps old new clock bytes r empty first stands file kept free cut 
   settled = settled;
   main = λ told. record {
     reopened = λ some. absurd (some (empty told));
-    anew = λ none. record {
-      made = record { stamp = clock; first = first; list_is = ap listed (content told) ∙ first_listed bytes clock kept.fits kept.short stands; cut_is = cut };
-      new_file = record { stamp = clock; first = first; file = content told ∙ file };
-    };
+    anew = λ none.
+        let list_is : listed (seen new.log Main) ≡ first_list clock = ap listed (content told) ∙ first_listed bytes clock kept.fits kept.short stands in record {
+          made = record { stamp = clock; first = first; list_is = list_is; cut_is = cut };
+          new_file = record { stamp = clock; first = first; file = content told ∙ file };
+          moments = λ still. subst (λ (l : List Transaction). LeavesOnly Main (IsNoneOr l) old.log new.log) (sym list_is) (makes told none still);
+        };
   };
   moments = λ told. made_moments stamps old.log new.log clock (empty told) first (makes told);
   faults = stand;

@@ -61,9 +61,13 @@ pub record IsNewFile (stamps : Option (List Stamp)) (bytes : List ℕ) : Type 0 
 abbrev pub GaveAtMostOne : Option (List Stamp) → Option (List Stamp) → Type 0
 GaveAtMostOne stamps stamps_now = (stamps_now ≡ stamps) ⊎ (stamps_now ≡ option_map stamps_after stamps)
 
--- bytes stand for the empty list, or for that of a new database by this stamp
+-- bytes stand for the empty list, or for this one
+abbrev pub IsNoneOr : List Transaction → List ℕ → Type 0
+IsNoneOr list bytes = StandsForList bytes [] ⊎ StandsForList bytes list
+
+-- or for that of a new database by this stamp
 abbrev pub IsNewOr : Stamp → List ℕ → Type 0
-IsNewOr stamp bytes = StandsForList bytes [] ⊎ StandsForList bytes (first_list stamp)
+IsNewOr stamp = IsNoneOr (first_list stamp)
 
 -- where nothing of Main was pending, all that a crash at any moment leaves of it stands for the list that Main stood for
 abbrev pub KeepsList : List Event → List Event → Type 0

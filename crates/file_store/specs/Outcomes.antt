@@ -3,7 +3,7 @@ use Rattle.std.specs.Prelude.{◌≡◌, ◌≢◌, ℕ, ◌≤◌, false, List,
 use Rattle.zb_volume.specs.declared.areas.Area.TheVariants.{Main, Side}
 use Rattle.zb_volume.specs.Calls.{Event}
 use Rattle.zb_volume.specs.Disk.{seen, IsSettled}
-use Rattle.zb_volume.specs.Moments.{StaysAs}
+use Rattle.zb_volume.specs.Moments.{LeavesOnly, StaysAs}
 use Rattle.zb_volume.specs.States.{VolumeState, FaultsStand}
 use Rattle.zb_ids.specs.declared.stamp.Stamp.{Stamp}
 use Rattle.zb_outside.specs.Stamps.{stamps_after}
@@ -16,7 +16,7 @@ use Rattle.fs_recovery.specs.declared.errors.OpenError.TheVariants.{StoreFault}
 use Rattle.fs_recovery.specs.Opens.{IsNoList}
 use Rattle.file_store.specs.declared.ready.Ready.{Ready}
 use Rattle.file_store.specs.Kept.{IsKept}
-use Rattle.file_store.specs.Opening.{GaveAtMostOne, Harm, IsMade, IsNewFile, IsUnlessWritten, KeepsList, MakesFile, SomeRose, without_tail}
+use Rattle.file_store.specs.Opening.{GaveAtMostOne, Harm, IsMade, IsNewFile, IsNoneOr, IsUnlessWritten, KeepsList, MakesFile, SomeRose, without_tail}
 
 -- ---- what is open
 
@@ -26,15 +26,17 @@ pub record IsReopened (old new : List Event) (list : List Transaction) (cut : Op
   pub content : seen new Main ≡ without_tail (seen old Main) cut
   pub side : StaysAs Side old new
 
--- Main was empty: the list is that of a new database, and Main has its file
-pub record IsNew (stamps : Option (List Stamp)) (new : List Event) (list : List Transaction) (cut : Option ℕ) : Type 0 where
+-- Main was empty: the list is that of a new database, and Main has its file; where nothing of Main was pending, all that a crash at any moment leaves of it stands for the empty list or
+-- for that one
+pub record IsNew (stamps : Option (List Stamp)) (old new : List Event) (list : List Transaction) (cut : Option ℕ) : Type 0 where
   pub made : IsMade stamps list cut
   pub new_file : IsNewFile stamps (seen new Main)
+  pub moments : IsSettled old Main → LeavesOnly Main (IsNoneOr list) old new
 
 -- one of the two, by what Main was
 pub record IsOpenMain (stamps : Option (List Stamp)) (old new : List Event) (list : List Transaction) (cut : Option ℕ) : Type 0 where
   pub reopened : seen old Main ≢ [] → IsReopened old new list cut
-  pub anew : seen old Main ≡ [] → IsNew stamps new list cut
+  pub anew : seen old Main ≡ [] → IsNew stamps old new list cut
 
 -- what a crash leaves of Main at every moment: what stands for its list, and, where it was empty, for the empty list or for that of a new database
 pub record MomentsOfMain (stamps : Option (List Stamp)) (old new : List Event) : Type 0 where

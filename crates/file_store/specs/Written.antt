@@ -4,7 +4,7 @@ use Rattle.std.specs.Option.{ForSome}
 use Rattle.std.specs.Ordering.{nat_cmp}
 use Rattle.std.specs.FinSet.{FinSet}
 use Rattle.zb_volume.specs.declared.areas.Area.{Area}
-use Rattle.zb_volume.specs.declared.areas.Area.TheVariants.{Main}
+use Rattle.zb_volume.specs.declared.areas.Area.TheVariants.{Main, Side}
 use Rattle.zb_volume.specs.Calls.{Event}
 use Rattle.zb_volume.specs.Disk.{seen}
 use Rattle.zb_volume.specs.Moments.{LeavesOnly}
@@ -37,6 +37,10 @@ IsAbortWritten old new = seen new Main ≡ take (reached_in (seen old Main)).end
 -- an area is the file of its list in which each content stands in full
 abbrev pub IsInFull : List Event → Area → Type 0
 IsInFull log area = seen log area ≡ full_file (listed (seen log area))
+
+-- Side is the file of what the begun pack has copied, and of nothing else, in which each content stands in full
+abbrev pub IsCopyInFull : StoreState → Type 0
+IsCopyInFull s = ForSome s.begun (λ pack. seen s.log Side ≡ full_file pack.copied)
 
 -- ---- the promises of every store, where the list lies in Main
 

@@ -20,7 +20,7 @@ ghost use Rattle.file_store.specs.HintingLaws.{hinted_once};
 ghost use Rattle.file_store.specs.Kept.{HasRoomForTally, IsCopyKept, IsKept, IsVotedIn, StandsForList};
 ghost use Rattle.file_store.specs.KeptLaws.{copied_once, kept_once, voted_once};
 ghost use Rattle.file_store.specs.Outcomes.{AsksClock, IsOpenStore, IsRefusal};
-ghost use Rattle.file_store.specs.Written.{IsAbortWritten, IsFinishWritten, IsInFull};
+ghost use Rattle.file_store.specs.Written.{IsAbortWritten, IsCopyInFull, IsFinishWritten, IsInFull};
 ghost use Rattle.file_store.specs.Written.{IsListPacked, IsVoteWritten, LeavesList, LeavesOneOfTwo};
 ghost use Rattle.file_store.specs.Outlined.{IsOutlinedIn};
 ghost use Rattle.file_store.specs.OutlinedLaws.{outlined_once};
@@ -434,8 +434,7 @@ impl<V: Volume + Drop> Store for FileStore<V> {
             (⟦<FileStore<V> as Store>⟧.state self.new) result }
         ensures main { V.told → StaysAs Area.Main (⟦<FileStore<V> as Store>⟧.state self.old).log
             (⟦<FileStore<V> as Store>⟧.state self.new).log }
-        ensures text { V.told → OnOk result (IsInFull
-            (⟦<FileStore<V> as Store>⟧.state self.new).log Area.Side) }
+        ensures text { V.told → OnOk result (IsCopyInFull (⟦<FileStore<V> as Store>⟧.state self.new)) }
         ensures hint { V.told → StaysHonest (⟦<FileStore<V> as Store>⟧.state self.old).log
             (⟦<FileStore<V> as Store>⟧.state self.new).log }
     {
@@ -468,8 +467,7 @@ impl<V: Volume + Drop> Store for FileStore<V> {
             (⟦<FileStore<V> as Store>⟧.state self.new) result }
         ensures main { V.told → StaysAs Area.Main (⟦<FileStore<V> as Store>⟧.state self.old).log
             (⟦<FileStore<V> as Store>⟧.state self.new).log }
-        ensures text { V.told → OnOk result (IsInFull
-            (⟦<FileStore<V> as Store>⟧.state self.new).log Area.Side) }
+        ensures text { V.told → OnOk result (IsCopyInFull (⟦<FileStore<V> as Store>⟧.state self.new)) }
         ensures hint { V.told → StaysHonest (⟦<FileStore<V> as Store>⟧.state self.old).log
             (⟦<FileStore<V> as Store>⟧.state self.new).log }
     {

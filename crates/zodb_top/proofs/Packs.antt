@@ -1,9 +1,10 @@
 -- A pack of a store, and of the file in Main.
+use Rattle.zb_volume.specs.Disk.{IsSettled}
 use Rattle.std.proofs.Common.{◌≡◌, ℕ, Bool, true, false, List, [], ◌∷◌, ◌++◌, Option, Some, None, inl, inr, refl, sym, ap, subst, ◌∙◌}
 use Rattle.std.specs.Prelude.{IfSome, IsSome, IsTrue, codes, slice_get}
 use Rattle.std.specs.Io.KnownBytes.{Appends}
 use Rattle.file_store.specs.Kept.{StandsForList}
-use Rattle.file_store.specs.Opening.{Harm, IsNewOr, KeepsList, MakesList, SomeRose}
+use Rattle.file_store.specs.Opening.{Harm, IsNewOr, KeepsList, MakesList, SomeRose, IsNoneOr}
 use Rattle.fs_recovery.specs.Opens.{IsNoList}
 use Rattle.fs_recovery.specs.declared.errors.OpenError.{OpenError}
 use Rattle.fs_recovery.specs.declared.errors.OpenError.TheVariants as error
@@ -243,24 +244,17 @@ last_left P old _ (here now) = now
 last_left P old _ (more now before) = now
 
 module _ (pack : PackRequest) (before : Outside) (state : StoreState) (left : Option (List Stamp)) (cut : Option ℕ) where
-  opened_moments : OpensAs (main_of before) before.stamps left state.list cut → KeepsList before.log state.log → IfSome before.stamps (λ stamps. (stamp : Stamp) → slice_get stamps 0 ≡ Some stamp → MakesList stamp before.log state.log)
+  opened_moments : OpensAs (main_of before) before.stamps left state.list cut → KeepsList before.log state.log → (main_of before ≡ [] → IsSettled before.log Main → LeavesOnly Main (IsNoneOr state.list) before.log state.log)
       → IsCalm before → LeavesOnly Main (IsOfPack (main_of before) pack state.list) before.log state.log
   opened_moments (opens_there some stands same) keeps makes calm =
-      leaves_less Main (λ bytes. StandsForList bytes state.list) (IsOfPack (main_of before) pack state.list) before.log state.log (λ bytes is. inl (inl is)) (keeps state.list cut some stands calm.settled)
+      leaves_less Main (λ bytes. StandsForList bytes state.list) (IsOfPack (main_of before) pack state.list) before.log state.log (λ bytes is. inl (inl is)) (keeps state.list cut some stands calm)
   opened_moments (opens_made empty is given) keeps makes calm =
-      let told = told_stamps before.stamps (calm.clock empty) makes in
-      let first : slice_get told.0 0 ≡ Some is.stamp = subst (λ (o : Option (List Stamp)). IfSome o (λ stamps. slice_get stamps 0 ≡ Some is.stamp)) told.1 is.first in
-      leaves_less Main (IsNewOr is.stamp) (IsOfPack (main_of before) pack state.list) before.log state.log
+      leaves_less Main (IsNoneOr state.list) (IsOfPack (main_of before) pack state.list) before.log state.log
       (λ bytes either. elim either [
         | inl none ↦ inr (empty, none)
-        | inr new ↦ inl (inl (subst (λ (list : List Transaction). StandsForList bytes list) (sym is.list_is) new))
+        | inr new ↦ inl (inl new)
       ])
-      (told.2 is.stamp first empty calm.settled)
-    where
-      told_stamps : (o : Option (List Stamp)) → IsSome o → IfSome o (λ stamps. (stamp : Stamp) → slice_get stamps 0 ≡ Some stamp → MakesList stamp before.log state.log)
-          → (stamps : List Stamp) × (o ≡ Some stamps) × ((stamp : Stamp) → slice_get stamps 0 ≡ Some stamp → MakesList stamp before.log state.log)
-      told_stamps None some holds = absurd cc
-      told_stamps (Some stamps) some holds = (stamps, refl, holds)
+      (makes empty calm)
 
   module _ (after : Outside) (state' : StoreState) (told : Type 0) (whole : state.faults ≡ before.write_faults) (first : state.read_faults ≡ before.read_faults)
       (log : after.log ≡ state'.log) (reads : after.read_faults ≡ state'.read_faults) (faults : after.write_faults ≡ state'.faults) where

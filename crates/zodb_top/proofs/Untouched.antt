@@ -26,15 +26,6 @@ keeps_at log list cut some stands settled = here (settled_leaves log Main (λ by
 pub makes_at : (stamp : Stamp) (log : List Event) → MakesList stamp log log
 makes_at stamp log empty settled = here (settled_leaves log Main (IsNewOr stamp) settled (inl (None, no_bytes empty refl refl)))
 
--- a file that is made is made by the clock's first stamp, where the clock tells
-pub makes_when : (stamps : Option (List Stamp)) (old new : List Event) → (seen old Main ≡ [] → MakesFile stamps old new) → IfSome stamps (λ told. (stamp : Stamp) → slice_get told 0 ≡ Some stamp → MakesList stamp old new)
-makes_when None old new makes = tt
-makes_when (Some told) old new makes = λ stamp is empty settled. by_cases stamp is empty settled (makes empty)
-  where
-    by_cases : (stamp : Stamp) → slice_get told 0 ≡ Some stamp → seen old Main ≡ [] → IsSettled old Main → MakesFile (Some told) old new → LeavesOnly Main (IsNewOr stamp) old new
-    by_cases stamp is empty settled (inl same) = subst (λ (l : List Event). LeavesOnly Main (IsNewOr stamp) old l) (sym same) (makes_at stamp old empty settled)
-    by_cases stamp is empty settled (inr (other, first, made)) = subst (λ (x : Stamp). LeavesOnly Main (IsNewOr x) old new) (same_Some other stamp (sym first ∙ is)) (made empty settled)
-
 pub left_untouched : (told : Type 0) (before after : Outside) → after.stamps ≡ before.stamps → after.log ≡ before.log → IsLeft told before after
 left_untouched told before after stamps log = record {
   stamps = inl stamps;

@@ -3,7 +3,7 @@ use Rattle.std.proofs.Common.{◌≡◌, ◌≢◌, ℕ, List, [], ◌++◌, Opt
 use Rattle.std.specs.Prelude.{IfSome, IsSome, slice_get}
 use Rattle.std.specs.Io.KnownBytes.{Appends}
 use Rattle.file_store.specs.Kept.{StandsForList}
-use Rattle.file_store.specs.Opening.{Harm, IsMade, IsNewFile, IsNewOr, IsUnlessWritten, KeepsList, MakesList, SomeRose, without_tail}
+use Rattle.file_store.specs.Opening.{Harm, IsMade, IsNewFile, IsNewOr, IsUnlessWritten, KeepsList, MakesList, SomeRose, without_tail, IsNoneOr}
 use Rattle.fs_recovery.specs.Opens.{IsNoList}
 use Rattle.fs_recovery.specs.declared.errors.OpenError.{OpenError}
 use Rattle.fs_recovery.specs.declared.errors.OpenError.TheVariants as error
@@ -16,7 +16,7 @@ use Rattle.zb_script.specs.declared.line.Turn.{Turn}
 use Rattle.zb_script.specs.Shape.{openers}
 use Rattle.zb_volume.specs.declared.areas.Area.TheVariants.{Main}
 use Rattle.zb_volume.specs.Calls.{Event}
-use Rattle.zb_volume.specs.Disk.{seen}
+use Rattle.zb_volume.specs.Disk.{seen, IsSettled}
 use Rattle.zb_volume.specs.Images.{CrashLeaves}
 use Rattle.zb_volume.specs.Moments.{Leaves, LeavesOnly}
 use Rattle.zb_volume.specs.Runs.{joined as along_joined, leaves_less}
@@ -74,7 +74,7 @@ unopened manner _ e told turns before after said harm rose same calm left = absu
 
 -- what there is of Main while it is opened, before the first turn
 module _ (before : Outside) (state : StoreState) (left : Option (List Stamp)) (cut : Option ℕ) (opens : OpensAs (main_of before) before.stamps left state.list cut)
-    (keeps : KeepsList before.log state.log) (makes : IfSome before.stamps (λ stamps. (stamp : Stamp) → slice_get stamps 0 ≡ Some stamp → MakesList stamp before.log state.log)) where
+    (keeps : KeepsList before.log state.log) (makes : main_of before ≡ [] → IsSettled before.log Main → LeavesOnly Main (IsNoneOr state.list) before.log state.log) where
   -- a run over the list that was opened
   module _ {turns : List FlaggedTurn} {broke : Option TurnError} {now : Moment} (c : Came (began state.list left before.read_faults before.write_faults) turns broke now) where
     of_start : (bytes : List ℕ) → StandsForList bytes state.list → IsOfCame StandsForList c bytes
@@ -87,20 +87,14 @@ module _ (before : Outside) (state : StoreState) (left : Option (List Stamp)) (c
           list = next_kept StandsForList m (c.taken ++ c.later) bytes is;
         }
 
-    told_stamps : (P : List Stamp → Type 0) (o : Option (List Stamp)) → IsSome o → IfSome o P → (stamps : List Stamp) × (o ≡ Some stamps) × P stamps
-    told_stamps P None some holds = absurd cc
-    told_stamps P (Some stamps) some holds = (stamps, refl, holds)
-
-    made_so : (is : IsMade before.stamps state.list cut) → main_of before ≡ [] → IsCalm before → LeavesOnly Main (IsOfCameOrEmpty (main_of before) c) before.log state.log
-    made_so is empty calm =
-        let told = told_stamps (λ stamps. (stamp : Stamp) → slice_get stamps 0 ≡ Some stamp → MakesList stamp before.log state.log) before.stamps (calm.clock empty) makes in
-        let first : slice_get told.0 0 ≡ Some is.stamp = subst (λ (o : Option (List Stamp)). IfSome o (λ stamps. slice_get stamps 0 ≡ Some is.stamp)) told.1 is.first in
-        leaves_less Main (IsNewOr is.stamp) (IsOfCameOrEmpty (main_of before) c) before.log state.log
+    made_so : main_of before ≡ [] → IsCalm before → LeavesOnly Main (IsOfCameOrEmpty (main_of before) c) before.log state.log
+    made_so empty calm =
+        leaves_less Main (IsNoneOr state.list) (IsOfCameOrEmpty (main_of before) c) before.log state.log
         (λ bytes either. elim either [
           | inl none ↦ inr (empty, none)
-          | inr new ↦ inl (of_start bytes (subst (λ (list : List Transaction). StandsForList bytes list) (sym is.list_is) new))
+          | inr new ↦ inl (of_start bytes new)
         ])
-        (told.2 is.stamp first empty calm.settled)
+        (makes empty calm)
 
     pub opening_moments : IsCalm before → LeavesOnly Main (IsOfCameOrEmpty (main_of before) c) before.log state.log
     opening_moments calm = by_opening opens
@@ -108,8 +102,8 @@ module _ (before : Outside) (state : StoreState) (left : Option (List Stamp)) (c
         by_opening : OpensAs (main_of before) before.stamps left state.list cut → LeavesOnly Main (IsOfCameOrEmpty (main_of before) c) before.log state.log
         by_opening (there some stands same) =
             leaves_less Main (λ bytes. StandsForList bytes state.list) (IsOfCameOrEmpty (main_of before) c) before.log state.log
-            (λ bytes is. inl (of_start bytes is)) (keeps state.list cut some stands calm.settled)
-        by_opening (made empty is given) = made_so is empty calm
+            (λ bytes is. inl (of_start bytes is)) (keeps state.list cut some stands calm)
+        by_opening (made empty is given) = made_so empty calm
 
   -- ---- turns over the file
 
@@ -204,7 +198,7 @@ module _ (before : Outside) (state : StoreState) (left : Option (List Stamp)) (c
 pub record IsOpen (before after : Outside) (state : StoreState) (left : Option (List Stamp)) (cut : Option ℕ) : Type 0 where
   pub opens : OpensAs (main_of before) before.stamps left state.list cut
   pub keeps : KeepsList before.log state.log
-  pub makes : IfSome before.stamps (λ stamps. (stamp : Stamp) → slice_get stamps 0 ≡ Some stamp → MakesList stamp before.log state.log)
+  pub makes : main_of before ≡ [] → IsSettled before.log Main → LeavesOnly Main (IsNoneOr state.list) before.log state.log
   pub shown : CrashLeaves after.log Main (main_of after)
   pub bytes : main_of before ≢ [] → seen state.log Main ≡ without_tail (main_of before) cut
   pub new_file : main_of before ≡ [] → IsNewFile before.stamps (seen state.log Main)

@@ -33,10 +33,9 @@ CountsLeft _ answers before after = (after.write_faults ≡ before.write_faults)
 abbrev pub IsOfCameOrEmpty : {m : Moment} {turns : List FlaggedTurn} {broke : Option TurnError} {now : Moment} → List ℕ → Came m turns broke now → List ℕ → Type 0
 IsOfCameOrEmpty main c bytes = IsOfCame StandsForList c bytes ⊎ ((main ≡ []) × StandsForList bytes [])
 
--- nothing of Main is pending, and where it is empty the clock tells
-pub record IsCalm (before : Outside) : Type 0 where
-  pub settled : IsSettled before.log Main
-  pub clock : main_of before ≡ [] → IsSome before.stamps
+-- nothing of Main is pending
+abbrev pub IsCalm : Outside → Type 0
+IsCalm before = IsSettled before.log Main
 
 -- The file was opened, where no call failed, the turns came so far over its list, and what was written has this to do with the line of the tail that was cut off
 -- and the text of the answers. The clock and the volume's counts are those of the moment. Main stands for its list, as it is and whatever a crash leaves, and that list has each

@@ -13,7 +13,6 @@ use Rattle.zodb_top.specs.Outside.{Outside, outside}
 use Rattle.zodb_top.proofs.Files.{opened_none, opens_as}
 use Rattle.zodb_top.proofs.Indexes.{IsHinting, index_left, indexes_file, unopened}
 use Rattle.zodb_top.proofs.Nexts.{unopened_other}
-use Rattle.zodb_top.proofs.Untouched.{makes_when}
 use Rattle.zodb_top.proofs.Volumes.{bytes_unless}
 use Rattle.zodb_top.proofs.indexing.index_file.Goals as goal
 
@@ -50,7 +49,7 @@ returns-in-Ok-clause-outcome g c =
       file = λ told. record {
         opens = opens_as _ _ _ _ _ (λ some. ((c.in-Ok.ensures.store.main told).reopened some).opened) (λ empty. ((c.in-Ok.ensures.store.main told).anew empty).made) (c.in-Ok.ensures.clock.kept told) (c.in-Ok.ensures.clock.left told);
         keeps = (c.in-Ok.ensures.store.moments told).keeps;
-        makes = makes_when _ _ _ (c.in-Ok.ensures.store.moments told).makes;
+        makes = λ empty. ((c.in-Ok.ensures.store.main told).anew empty).moments;
         shown = g.met.V.Volume.seen_is_left c.into_volume.result Main told;
         bytes = λ some. ((c.in-Ok.ensures.store.main told).reopened some).content;
         new_file = λ empty. ((c.in-Ok.ensures.store.main told).anew empty).new_file;
@@ -104,7 +103,7 @@ returns-in-Ok-clause-left g c = λ told.
       file = λ told. record {
         opens = opens_as _ _ _ _ _ (λ some. ((c.in-Ok.ensures.store.main told).reopened some).opened) (λ empty. ((c.in-Ok.ensures.store.main told).anew empty).made) (c.in-Ok.ensures.clock.kept told) (c.in-Ok.ensures.clock.left told);
         keeps = (c.in-Ok.ensures.store.moments told).keeps;
-        makes = makes_when _ _ _ (c.in-Ok.ensures.store.moments told).makes;
+        makes = λ empty. ((c.in-Ok.ensures.store.main told).anew empty).moments;
         shown = g.met.V.Volume.seen_is_left c.into_volume.result Main told;
         bytes = λ some. ((c.in-Ok.ensures.store.main told).reopened some).content;
         new_file = λ empty. ((c.in-Ok.ensures.store.main told).anew empty).new_file;

@@ -1,7 +1,7 @@
 use Rattle.std.proofs.Common.{arith, refl}
 use Rattle.zb_volume.specs.declared.areas.Area.TheVariants.{Side}
 use Rattle.zb_volume.specs.Disk.{seen}
-use Rattle.file_store.proofs.Copies.{only_copy, copy_kept}
+use Rattle.file_store.proofs.Copies.{only_copy, begun_in_full}
 use Rattle.file_store.proofs.Hints.{at_last, hinted_broken, hinted_on, keeps_both, whole_before, stays_honest}
 use Rattle.file_store.proofs.Leaves.{copy_leaves}
 use Rattle.file_store.proofs.Sides.{keeps_voted, kept_stays, list_stays, settled_stays, voted_stays}
@@ -69,4 +69,4 @@ returns-clause-hint g c = λ told.
     stays_honest _ _ (keeps_both log new was.honest (c.begin.ensures.main told) (c.begin.ensures.hint told))
 
 pub returns-clause-text : goal.returns-clause-text
-returns-clause-text g c = λ told. (copy_kept (seen (g.V.Volume.state c.begin.new.volume).log Side) c.in-Ok.copy (c.in-Ok.ensures.copied told)).in_full
+returns-clause-text g c = λ told x is. begun_in_full (seen (g.V.Volume.state c.begin.new.volume).log Side) c.in-Ok.copy x is (c.in-Ok.ensures.copied told)

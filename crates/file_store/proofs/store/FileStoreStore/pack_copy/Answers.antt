@@ -5,7 +5,7 @@ use Rattle.zb_model.specs.declared.packs.Copied.{Copied}
 use Rattle.pack_copy.specs.Copying.{CopyKept}
 use Rattle.file_store.specs.Kept.{IsCopyKept}
 use Rattle.file_store.proofs.Commits.{none_there}
-use Rattle.file_store.proofs.Copies.{copy_is, only_copy, copy_kept}
+use Rattle.file_store.proofs.Copies.{copy_is, only_copy, begun_in_full}
 use Rattle.file_store.proofs.Hints.{hinted_on, hinted_or, keeps_both, whole_before, stays_honest}
 use Rattle.file_store.proofs.Leaves.{copy_leaves, unless_any}
 use Rattle.file_store.proofs.Sides.{begun_of, keeps_voted, kept_stays, list_stays, settled_stays, voted_stays}
@@ -78,4 +78,4 @@ returns-in-Err-clause-hint g c = λ told.
     stays_honest _ _ (keeps_both log new was.honest (c.copy_turn.ensures.main told) (c.copy_turn.ensures.hint told))
 
 pub returns-in-Ok-clause-text : goal.returns-in-Ok-clause-text
-returns-in-Ok-clause-text g c = λ told. (copy_kept (seen (g.V.Volume.state c.copy_turn.new.volume).log Side) c.copy_turn.new.to (c.in-Ok.ensures.copied told)).in_full
+returns-in-Ok-clause-text g c = λ told x is. begun_in_full (seen (g.V.Volume.state c.copy_turn.new.volume).log Side) c.copy_turn.new.to x is (c.in-Ok.ensures.copied told)
