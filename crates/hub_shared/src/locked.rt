@@ -4,12 +4,12 @@ ghost use Rattle.std.specs.Prelude.{◌≡◌, ◌≢◌, ℕ, ◌+◌, ◌++◌
 ghost use mathlib.Core.List.{IsPrefix};
 ghost use Rattle.hub_clock.specs.Rules.{IsLast, MayPublish, entries_of, looker, opening_view};
 ghost use Rattle.zodb_core.specs.Entries.{session_of};
-ghost use Rattle.zodb_core.specs.History.{Entry, IsLegalOver, Opened};
+ghost use Rattle.zodb_core.specs.History.{Entry, IsLegalOver, Opened, counts_after};
 ghost use Rattle.zodb_core.specs.HubState.{IsFitting, StandsForMachine, counts_of, rules_of, sessions_with};
 ghost use Rattle.zodb_core.specs.Machine.{Machine, machine_over};
 ghost use Rattle.zodb_core.specs.Waiting.{is_held_by_another, needs_vote};
 ghost use Rattle.hub_shared.specs.Calls.{HasCalled, HasEntered, IsHeard, IsNotBusy, IsRefusedBehind};
-ghost use Rattle.hub_shared.specs.Seats.{HasPosted, HoldsSession, IsPosted, Listening, OnlyLooks, is_quiet_for, keeper_for, known, machine_of, waits_for};
+ghost use Rattle.hub_shared.specs.Seats.{HasLasted, HasPosted, HoldsSession, IsPosted, Listening, OnlyLooks, is_quiet_for, keeper_for, known, machine_of, waits_for};
 
 use crate::entry::HistoryEntry;
 use crate::heard::Heard;
@@ -39,7 +39,7 @@ impl<St: Store, R: Resolver, F: Refs, C: Clock, J: Origin> Model for LockedHub<S
     ghost use Rattle.std.specs.FinSet as set;
     ghost use Rattle.std.specs.Ordering.{nat_cmp};
     ghost use Rattle.zodb_core.specs.HubState.{rules_of};
-    ghost use Rattle.hub_shared.specs.Seats.{LockKeeps, LockedState};
+    ghost use Rattle.hub_shared.specs.Seats.{HasLasted, LockKeeps, LockedState};
 
     ghost Value = { LockedState R F };
 
@@ -48,7 +48,8 @@ impl<St: Store, R: Resolver, F: Refs, C: Clock, J: Origin> Model for LockedHub<S
     ghost view = { λ d. record { hub = d.hub; seen = d.seat.seen } };
 
     ghost invariant = { λ d. LockKeeps St.told J.rules (rules_of R.rules F.named d.hub) J.list
-        J.counts d.seat d.hub };
+        J.counts d.seat d.hub
+        × HasLasted St.lasts St.told St.stands J.rules J.list J.counts J.log J.broken d.seat.seen d.hub };
 }
 
 /// Adds the entry of a step, for which the hub and its clock have made it.
@@ -61,10 +62,12 @@ fn post_step<St: Store, R: Resolver, F: Refs, J: Origin, Q: Asked, N: NextEntry<
     hub: &Hub<St, R, F>,
 )
     requires named { (e : Entry) → N.is_next e →
-        IsPosted St.told J.rules (rules_of R.rules F.named hub.now) J.list J.counts seat.old.seen
-        hub.now session Q.request reply.now e }
+        IsPosted St.told J.rules (rules_of R.rules F.named hub.now) J.list J.counts
+        (λ xs. HasLasted St.lasts St.told St.stands J.rules J.list J.counts J.log J.broken xs hub.now)
+        seat.old.seen hub.now session Q.request reply.now e }
     requires next { MayPublish session_of N.is_next count seat.old }
     ensures { HasPosted St.told J.rules (rules_of R.rules F.named hub.now) J.list J.counts
+        (λ xs. HasLasted St.lasts St.told St.stands J.rules J.list J.counts J.log J.broken xs hub.now)
         seat.old.seen hub.now session Q.request reply.now seat.new }
 {
     word.publish::<N>(seat, count);
@@ -121,9 +124,12 @@ impl<St: Store, R: Resolver, F: Refs, C: Clock, J: Origin> LockedHub<St, R, F, C
         requires empty { hub.sessions ≡ [] }
         requires rules { rules_of R.rules F.named hub ≡ J.rules }
         requires counts { counts_of hub.store ≡ J.counts }
+        requires log { hub.store.log ≡ J.log }
+        requires broken { hub.store.broken ≡ J.broken }
         requires stands { St.told → StandsForMachine hub (machine_over J.list) }
         ensures { result.1 ≡ looker opening_view }
     {
+        hub.lasting();
         let seen = word.copy(&mut seat);
         (LockedHub { hub, clock, seat }, seen)
     }
@@ -149,10 +155,14 @@ impl<St: Store, R: Resolver, F: Refs, C: Clock, J: Origin> LockedHub<St, R, F, C
         self.hub.entries()
     }
 
-    /// The hub and its clock. The hub stands for the machine behind the history.
+    /// The hub and its clock. The hub stands for the machine behind the history, and its store has
+    /// the counts of faults that the history tells.
     pub(crate) fn into_parts(self) -> (Hub<St, R, F>, C)
         ensures legal { St.told → IsLegalOver J.rules J.list J.counts self.seen }
         ensures stands { St.told → StandsForMachine result.0 (machine_of J.rules J.list self.seen) }
+        ensures counts { counts_after J.counts self.seen ≡ counts_of result.0.store }
+        ensures lasted { HasLasted St.lasts St.told St.stands J.rules J.list J.counts J.log J.broken
+            self.seen result.0 }
     {
         let LockedHub {
             hub,

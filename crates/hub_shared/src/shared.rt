@@ -3,11 +3,11 @@
 ghost use Rattle.std.specs.Prelude.{◌≡◌, [], List, length, false, IfOk, IfErr};
 ghost use mathlib.Core.List.{IsPrefix};
 ghost use Rattle.hub_clock.specs.Rules.{opening_view};
-ghost use Rattle.zodb_core.specs.History.{Entry, IsLegalOver};
+ghost use Rattle.zodb_core.specs.History.{Entry, IsLegalOver, counts_after};
 ghost use Rattle.zodb_core.specs.HubState.{IsFitting, StandsForMachine, counts_of, rules_of};
 ghost use Rattle.zodb_core.specs.Machine.{machine_over};
 ghost use Rattle.hub_shared.specs.Calls.{HasCalled, HasEntered, HasHeard, IsNotBusy, IsRefusedBehind, SeesOn};
-ghost use Rattle.hub_shared.specs.Seats.{machine_of};
+ghost use Rattle.hub_shared.specs.Seats.{HasLasted, machine_of};
 
 use crate::entry::HistoryEntry;
 use crate::heard::Heard;
@@ -52,6 +52,8 @@ impl<St: Store + Drop, R: Resolver + Drop, F: Refs + Drop, C: Clock + Drop, J: O
         requires empty { hub.sessions ≡ [] }
         requires rules { rules_of R.rules F.named hub ≡ J.rules }
         requires counts { counts_of hub.store ≡ J.counts }
+        requires log { hub.store.log ≡ J.log }
+        requires broken { hub.store.broken ≡ J.broken }
         requires stands { St.told → StandsForMachine hub (machine_over J.list) }
         ensures { result.1 ≡ [] }
     {
@@ -251,10 +253,14 @@ impl<St: Store + Drop, R: Resolver + Drop, F: Refs + Drop, C: Clock + Drop, J: O
     }
 
     /// The hub and its clock, once no other thread shares them. The hub stands for the machine behind a legal
-    /// history that begins with what was seen.
+    /// history that begins with what was seen; its store has the counts of faults that this history tells,
+    /// and failed only where the count of those that aren't of reads rose. Where the list lies on a disk,
+    /// whatever a crash left at any moment is of the history.
     pub fn into_hub(self, seen: Seen<J>) -> (Hub<St, R, F>, C)
         ensures { (all : List Entry) × IsPrefix seen all × (St.told → IsLegalOver J.rules J.list J.counts all)
-            × (St.told → StandsForMachine result.0 (machine_of J.rules J.list all)) }
+            × (St.told → StandsForMachine result.0 (machine_of J.rules J.list all))
+            × (counts_after J.counts all ≡ counts_of result.0.store)
+            × HasLasted St.lasts St.told St.stands J.rules J.list J.counts J.log J.broken all result.0 }
     {
         let Seen { seat } = seen;
         let Shared {
