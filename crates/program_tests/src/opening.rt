@@ -3,7 +3,9 @@
 use crate::counted::CountedVolume;
 use script_runs::Status;
 use std::alloc::{AllocError, Global};
+use std::sync::Wait;
 use std::test::Fail;
+use std::thread::Threads;
 use zb_ids::Stamp;
 use zb_links::{CountedSpawner, MemoryDoors};
 use zb_outside::{ListClock, MemorySink, MemorySource};
@@ -18,8 +20,8 @@ struct Ran {
 }
 
 /// Runs a command over a volume with a script.
-fn ran(
-    rt: &HostRuntime,
+fn ran<R: Threads + Wait + Sync>(
+    rt: &R,
     alloc: Global,
     words: &[&str],
     script: &[u8],
@@ -32,7 +34,7 @@ fn ran(
     }
     let mut source = MemorySource::new(Vec::from_slice(alloc, script)?, Vec::new(alloc));
     let mut sink = MemorySink::new(alloc, Vec::new(alloc));
-    let mut clock = ListClock::new(Stamp::new(2026, 1, 2, 3, 4, 0)?, Vec::new(alloc));
+    let mut clock = ListClock::new(Stamp::new(2024, 1, 1, 0, 0, 0)?, Vec::new(alloc));
     let mut doors: MemoryDoors<MemorySink> = MemoryDoors::new(Vec::new(alloc), Vec::new(alloc));
     let mut spawner = CountedSpawner::new(Vec::new(alloc));
     let (status, volume) = zodb_main(
@@ -79,7 +81,7 @@ fn volume_with(alloc: Global, main: &[u8], hint: &[u8]) -> Result<CountedVolume,
 }
 
 /// The file of a database in which one object was stored after it was made.
-fn first_commit(rt: &HostRuntime, alloc: Global) -> Result<Vec<u8>, Fail> {
+fn first_commit<R: Threads + Wait + Sync>(rt: &R, alloc: Global) -> Result<Vec<u8>, Fail> {
     let script = b"a open local
 a begin
 a new
@@ -104,6 +106,8 @@ const HINT: [u8; 107] = [
     0x00, 0x00, 0x01, 0x00, 0x00, 0x00, 0x00, 0x00, 0x00, 0x00, 0xb5,
 ];
 
+const INDEXED: &[u8] = b"indexed 234\n";
+
 const LIST: &[u8] = b"03f58e0000000001 \"\" \"\"
 03f58e0000000000 \"\" \"initial database creation\"
 ";
@@ -119,7 +123,7 @@ fn index_is_written_by_its_format(rt: HostRuntime) -> Result<(), Fail> {
         b"",
         volume_with(alloc, file.as_slice(), b"")?,
     )?;
-    assert!(rt; made.written.as_slice() == b"indexed 234\n");
+    assert!(rt; made.written.as_slice() == INDEXED);
     let hint = bytes_of(alloc, &mut made.volume, Area::Hint)?;
     assert!(rt; hint.as_slice() == HINT.as_slice());
     Ok(())
@@ -173,6 +177,6 @@ fn indexed_file_is_not_scanned(rt: HostRuntime) -> Result<(), Fail> {
     let asked_again = ran(&rt, alloc, &asked, b"", opened)?;
     assert!(rt; asked_again.written == scanned.written);
     // the marks at the head, the header and the bytes of one record
-    assert!(rt; asked_again.volume.read_of_main() < 5_000);
+    assert_eq!(rt; asked_again.volume.read_of_main(), 5_000);
     Ok(())
 }
