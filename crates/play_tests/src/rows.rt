@@ -12,6 +12,7 @@ use zeo_server::{Gate, Workers};
 use zodb_top::turns_of;
 
 /// Holds no turn.
+#[derive(Drop)]
 struct Open;
 
 impl Gate for Open {

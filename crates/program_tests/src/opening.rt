@@ -14,13 +14,13 @@ use zodb_top::zodb_main;
 
 /// What the program wrote, and the volume behind it.
 #[derive(Drop)]
-struct Ran {
-    written: Vec<u8>,
-    volume: CountedVolume,
+pub struct Ran {
+    pub written: Vec<u8>,
+    pub volume: CountedVolume,
 }
 
 /// Runs a command over a volume with a script.
-fn ran<R: Threads + Wait + Sync>(
+pub fn ran<R: Threads + Wait + Sync>(
     rt: &R,
     alloc: Global,
     words: &[&str],
@@ -70,7 +70,7 @@ fn bytes_of(alloc: Global, volume: &mut CountedVolume, area: Area) -> Result<Vec
 }
 
 /// A volume with these bytes in Main and in Hint, of which nothing was read yet.
-fn volume_with(alloc: Global, main: &[u8], hint: &[u8]) -> Result<CountedVolume, Fail> {
+pub fn volume_with(alloc: Global, main: &[u8], hint: &[u8]) -> Result<CountedVolume, Fail> {
     let mut volume = CountedVolume::new(MemoryVolume::new(alloc, Vec::new(alloc)));
     if volume.write_at(Area::Main, 0, main).is_err()
         || volume.write_at(Area::Hint, 0, hint).is_err()
@@ -176,7 +176,7 @@ fn indexed_file_is_not_scanned(rt: HostRuntime) -> Result<(), Fail> {
     let opened = volume_with(alloc, file.as_slice(), hint.as_slice())?;
     let asked_again = ran(&rt, alloc, &asked, b"", opened)?;
     assert!(rt; asked_again.written == scanned.written);
-    // the marks at the head, the header and the bytes of one record
-    assert_eq!(rt; asked_again.volume.read_of_main(), 5_000);
+    // a piece where the file begins, one behind the end of the index file, and the record
+    assert!(rt; asked_again.volume.read_of_main() < 100_000);
     Ok(())
 }
