@@ -16,8 +16,7 @@ use Rattle.zeo_messages.specs.declared.message.Notice.{Notice}
 use Rattle.zeo_messages.specs.Calls.{HoldsCall, fits_call}
 use Rattle.zeo_messages.specs.Messages.{payload_of}
 use Rattle.zeo_reading.specs.Reading.{AreReadBack}
-use Rattle.zeo_desk.specs.declared.asked.Asked.TheVariants as asked
-use Rattle.zeo_desk.specs.Answering.{reply_answer, reply_frames}
+use Rattle.zeo_desk.specs.Answering.{answer_to, asked_of, reply_answer, reply_frames, sent_answer}
 use Rattle.zeo_desk.specs.Desks.{DeskState, asks, called}
 use Rattle.zeo_client.specs.declared.error.ClientError.{ClientError}
 use Rattle.zeo_client.specs.declared.error.ClientError.TheVariants as error
@@ -26,11 +25,10 @@ use Rattle.zeo_client.specs.Hearing.{Held, IsAnswerHeard}
 use Rattle.zeo_client.specs.Rows.{answers_call}
 use Rattle.zeo_client.specs.Taking.{ClientState, IsFed, IsFedIf}
 use Rattle.zeo_client.specs.Whole.{AreCutShort, AreHeard, HearsFront, MayBeSent, WholePiecesAreHeard, ready}
-use Rattle.remote_loads.specs.Carrying.{HoldsReply}
-use Rattle.remote_loads.specs.Sending.{messages_of, notices_before}
-use Rattle.remote_loads.specs.Served.{MaySteps, Serves, ServesFront, no_step, one_step}
+use Rattle.remote_loads.specs.Sending.{HoldsReply, messages_of, notices_before}
+use Rattle.remote_loads.specs.Served.{IsAnsweredAtOnce, MaySteps, Serves, ServesFront, no_step, one_step}
 use Rattle.remote_loads.specs.Standing.{IsAtRest, IsWayEnd}
-use Rattle.remote_loads.specs.Talking.{IsAsked, IsCalled, IsExchanged, IsTalked, MayBeHeard, answer_in, answer_sent, answered, broke_off, came, not_sent, refused_so, talk_answered, talk_failed, talk_waited, unheard, unmade, unsent, waiting_for, was_sent}
+use Rattle.remote_loads.specs.Talking.{IsAsked, IsCalled, IsExchanged, IsTalked, MayBeHeard, answer_given, answer_in, answered, broke_off, came, not_sent, refused_so, talk_answered, talk_failed, talk_waited, unheard, unmade, unsent, waiting_for, was_sent}
 use Rattle.remote_loads.proofs.BrokenCall.{one_call_breaks}
 use Rattle.remote_loads.proofs.OneCall.{one_call}
 use Rattle.remote_loads.proofs.Sendings.{answer_comes, frames_are}
@@ -39,13 +37,13 @@ use Rattle.remote_loads.proofs.Sendings.{answer_comes, frames_are}
 pub record NamesOne (call : Call) (request : Request) : Type 0 where
   pub held : HoldsCall call
   pub row : fits_call call ≡ true
-  pub names : (d : DeskState) (number : ℕ) → called d number call ≡ asks d number asked.Other request
+  pub once : IsAnsweredAtOnce request
+  pub names : (d : DeskState) (number : ℕ) → called d number call ≡ asks d number (asked_of request) request
 
 -- its reply tells no news, and is answered by its row
-pub record HasRow (call : Call) (reply : Reply) : Type 0 where
-  pub held : HoldsReply reply
+pub record HasRow (request : Request) (call : Call) (reply : Reply) : Type 0 where
   pub none : notices_before reply ≡ []
-  pub row : answers_call call (reply_answer asked.Other reply) ≡ true
+  pub row : answers_call call (reply_answer (asked_of request) reply) ≡ true
 
 pub next_low : (number : ℕ) → next_number number < 2 ^ 31
 next_low number = by_cases (nat_lt number (2 ^ 31 - 1)) refl
@@ -58,45 +56,48 @@ next_low number = by_cases (nat_lt number (2 ^ 31 - 1)) refl
 pub record IsServedAt {S : Type 0} (steps : Request → Reply → S → S → Type 0) (number : ℕ) (request : Request) (before : S) (out : List (List ℕ)) (left : DeskState) (now : S) : Type 0 where
   pub reply : Reply
   pub step : steps request reply before now
-  pub sent : out ≡ reply_frames number asked.Other reply
+  pub held : HoldsReply reply
+  pub sent : out ≡ reply_frames number (asked_of request) reply
   pub registered : left.registered ≡ true
 
-module _ {S : Type 0} (steps : Request → Reply → S → S → Type 0) (whole : WholePiecesAreHeard) (call : Call) (request : Request) (rows : (reply : Reply) (s t : S) → steps request reply s t → HasRow call reply) where
+module _ {S : Type 0} (steps : Request → Reply → S → S → Type 0) (whole : WholePiecesAreHeard) (call : Call) (request : Request) (rows : (reply : Reply) (s t : S) → steps request reply s t → HasRow request call reply) (once : IsAnsweredAtOnce request) where
   -- a client that waits for the answer of a call, whose payloads are sent to a desk that makes its step for them
   module _ (before : S) (d : DeskState) (mid : ClientState) (payloads : List (List ℕ)) (rest : IsAtRest d mid) (low : mid.number < 2 ^ 31) (last : mid.last ≡ Some call)
       (breaks : (now : S) (left : DeskState) → ServesFront steps d payloads before left now → MaySteps steps request before now × (left.registered ≡ true))
       (serves : (out : List (List ℕ)) (now : S) (left : DeskState) → Serves steps d payloads before out left now → IsServedAt steps mid.number request before out left now) where
     abbrev said : Reply → Message
-    said reply = Answered mid.number (answer_sent reply)
+    said reply = Answered mid.number (answer_given request reply)
 
     -- what came for the reply
     abbrev Came : Reply → DeskState → Result (List Message) ClientError → ClientState → Type 0
     Came reply left result new =
-        ((result ≡ Err error.Memory) × MayBeHeard call (answer_sent reply) mid.held new.held × IsAtRest left new)
-        ⊎ ((result ≡ Ok (said reply ∷ [])) × IsAnswerHeard (Some call) (answer_sent reply) mid.held new.held × IsAtRest left new)
+        ((result ≡ Err error.Memory) × MayBeHeard call (answer_given request reply) mid.held new.held × IsAtRest left new)
+        ⊎ ((result ≡ Ok (said reply ∷ [])) × IsAnswerHeard (Some call) (answer_given request reply) mid.held new.held × IsAtRest left new)
 
     some_none : ◌≡◌ {A = Option ClientError} (Some error.Memory) None → ⊥
     some_none is = absurd cc
 
-    comes : (reply : Reply) (left : DeskState) (result : Result (List Message) ClientError) (new : ClientState) → HasRow call reply → left.registered ≡ true
-        → IsFed mid (concat (reply_frames mid.number asked.Other reply)) result new → Came reply left result new
-    comes reply left result new row registered fed = by_ended mid.ended refl rest.end fed
+    comes : (reply : Reply) (left : DeskState) (result : Result (List Message) ClientError) (new : ClientState) → HasRow request call reply → HoldsReply reply → left.registered ≡ true
+        → IsFed mid (concat (reply_frames mid.number (asked_of request) reply)) result new → Came reply left result new
+    comes reply left result new row holds registered fed = by_ended mid.ended refl rest.end fed
       where
-        messages_are : messages_of mid.number asked.Other reply ≡ said reply ∷ []
-        messages_are = ap (λ (ns : List Notice). map (λ n. Told n) ns ++ said reply ∷ []) row.none
+        messages_are : messages_of mid.number (asked_of request) reply ≡ said reply ∷ []
+        messages_are =
+            ap (λ (ns : List Notice). map (λ n. Told n) ns ++ Answered mid.number (sent_answer (asked_of request) (answer_to (asked_of request) reply)) ∷ []) row.none
+            ∙ ap (λ (a : Answer). Answered mid.number (sent_answer (asked_of request) a) ∷ []) (once.answer reply)
 
         sent : MayBeSent mid.number mid.last (said reply)
-        sent = subst (λ (l : Option Call). MayBeSent mid.number l (said reply)) (sym last) (answer_comes mid.number call asked.Other (reply_answer asked.Other reply) (λ n. refl) low (row.held.answer asked.Other) row.row)
+        sent = subst (λ (l : Option Call). MayBeSent mid.number l (said reply)) (sym last) (answer_comes mid.number call (asked_of request) (reply_answer (asked_of request) reply) once.long low (holds.answer (asked_of request)) row.row)
 
-        piece : concat (reply_frames mid.number asked.Other reply) ≡ frames (map payload_of (said reply ∷ []))
-        piece = frames_are mid.number asked.Other reply ∙ ap (λ (ms : List Message). frames (map payload_of ms)) messages_are
+        piece : concat (reply_frames mid.number (asked_of request) reply) ≡ frames (map payload_of (said reply ∷ []))
+        piece = frames_are mid.number (asked_of request) reply ∙ ap (λ (ms : List Message). frames (map payload_of ms)) messages_are
 
-        here : (h : Held) → IsAnswerHeard mid.last (answer_sent reply) mid.held h → IsAnswerHeard (Some call) (answer_sent reply) mid.held h
-        here h heard = subst (λ (l : Option Call). IsAnswerHeard l (answer_sent reply) mid.held h) last heard
+        here : (h : Held) → IsAnswerHeard mid.last (answer_given request reply) mid.held h → IsAnswerHeard (Some call) (answer_given request reply) mid.held h
+        here h heard = subst (λ (l : Option Call). IsAnswerHeard l (answer_given request reply) mid.held h) last heard
 
-        by_front : HearsFront mid.last (said reply ∷ []) mid.held new.held → MayBeHeard call (answer_sent reply) mid.held new.held
+        by_front : HearsFront mid.last (said reply ∷ []) mid.held new.held → MayBeHeard call (answer_given request reply) mid.held new.held
         by_front (inl same) = inl same
-        by_front (inr some) = inr (here new.held (subst (λ (h : Held). IsAnswerHeard mid.last (answer_sent reply) mid.held h) (sym some.2) some.1))
+        by_front (inr some) = inr (here new.held (subst (λ (h : Held). IsAnswerHeard mid.last (answer_given request reply) mid.held h) (sym some.2) some.1))
 
         by_whole : AreCutShort (said reply ∷ []) mid result new ⊎ AreHeard (said reply ∷ []) mid result new → Came reply left result new
         by_whole (inl cut) = inl (
@@ -110,14 +111,14 @@ module _ {S : Type 0} (steps : Request → Reply → S → S → Type 0) (whole 
         )
         by_whole (inr all) = inr (
           all.given,
-          here new.held (subst (λ (h : Held). IsAnswerHeard mid.last (answer_sent reply) mid.held h) (sym all.heard.2) all.heard.1),
+          here new.held (subst (λ (h : Held). IsAnswerHeard mid.last (answer_given request reply) mid.held h) (sym all.heard.2) all.heard.1),
           record { registered = registered; end = subst (λ (e : Option ClientError). IsWayEnd e) (sym all.ended) tt; reading = λ none. all.reading },
         )
 
-        by_ended : (e : Option ClientError) → mid.ended ≡ e → IsWayEnd e → IsFedIf mid.ended mid (concat (reply_frames mid.number asked.Other reply)) result new → Came reply left result new
+        by_ended : (e : Option ClientError) → mid.ended ≡ e → IsWayEnd e → IsFedIf mid.ended mid (concat (reply_frames mid.number (asked_of request) reply)) result new → Came reply left result new
         by_ended None is way got = by_whole (whole (said reply ∷ []) mid new result (sent, tt) (rest.reading is) is (subst (λ (p : List ℕ). IsFed mid p result new) piece got))
         by_ended (Some error.Memory) is way got =
-            let both : (result ≡ Err error.Memory) × (new ≡ mid) = subst (λ (e : Option ClientError). IsFedIf e mid (concat (reply_frames mid.number asked.Other reply)) result new) is got in
+            let both : (result ≡ Err error.Memory) × (new ≡ mid) = subst (λ (e : Option ClientError). IsFedIf e mid (concat (reply_frames mid.number (asked_of request) reply)) result new) is got in
             inl (
               both.0,
               inl (ap (λ (k : ClientState). k.held) both.1),
@@ -136,7 +137,7 @@ module _ {S : Type 0} (steps : Request → Reply → S → S → Type 0) (whole 
     abbrev Exchanged : Result (List Message) Refusal → ClientState → S → DeskState → Type 0
     Exchanged (Err r) new now left = IsCalled steps request call before mid.held (Err r) new.held now × IsAtRest left new
     Exchanged (Ok messages) new now left =
-        (reply : Reply) × steps request reply before now × (messages ≡ said reply ∷ []) × IsAnswerHeard (Some call) (answer_sent reply) mid.held new.held × IsAtRest left new
+        (reply : Reply) × steps request reply before now × (messages ≡ said reply ∷ []) × IsAnswerHeard (Some call) (answer_given request reply) mid.held new.held × IsAtRest left new
 
     came_so : (reply : Reply) (now : S) (left : DeskState) (result : Result (List Message) ClientError) (new : ClientState) → steps request reply before now → Came reply left result new → Exchanged (refused_so result) new now left
     came_so reply now left result new step (inl lost) =
@@ -155,9 +156,9 @@ module _ {S : Type 0} (steps : Request → Reply → S → S → Type 0) (whole 
     exchanged_so _ _ _ _ (came out result new now left serves_so fed) =
         let by = serves out now left serves_so in
         let row = rows by.reply before now by.step in
-        came_so by.reply now left result new by.step (comes by.reply left result new row by.registered (subst (λ (x : List (List ℕ)). IsFed mid (concat x) result new) by.sent fed))
+        came_so by.reply now left result new by.step (comes by.reply left result new row by.held by.registered (subst (λ (x : List (List ℕ)). IsFed mid (concat x) result new) by.sent fed))
 
-    said_in : (messages : List Message) (reply : Reply) → messages ≡ said reply ∷ [] → answer_in messages ≡ Some (answer_sent reply)
+    said_in : (messages : List Message) (reply : Reply) → messages ≡ said reply ∷ [] → answer_in messages ≡ Some (answer_given request reply)
     said_in messages reply is = ap answer_in is
 
     answer_none : (answer : Answer) → ◌≡◌ {A = Option Answer} (Some answer) None → ⊥
@@ -168,11 +169,11 @@ module _ {S : Type 0} (steps : Request → Reply → S → S → Type 0) (whole 
     talked_so _ _ _ _ (talk_failed r new now left ex) = exchanged_so (Err r) new now left ex
     talked_so _ _ _ _ (talk_answered messages answer new now left ex is) =
         let got = exchanged_so (Ok messages) new now left ex in
-        let same : answer ≡ answer_sent got.0 = let e : ◌≡◌ {A = Option Answer} (Some answer) (Some (answer_sent got.0)) = sym is ∙ said_in messages got.0 got.2 in cc in
+        let same : answer ≡ answer_given request got.0 = let e : ◌≡◌ {A = Option Answer} (Some answer) (Some (answer_given request got.0)) = sym is ∙ said_in messages got.0 got.2 in cc in
         (subst (λ (x : Answer). IsCalled steps request call before mid.held (Ok x) new.held now) (sym same) (answered got.0 new.held now got.1 got.3), got.4)
     talked_so _ _ _ _ (talk_waited messages result between_client new middle now between left ex is) =
         let got = exchanged_so (Ok messages) between_client middle between ex in
-        absurd (answer_none (answer_sent got.0) (sym (said_in messages got.0 got.2) ∙ is))
+        absurd (answer_none (answer_given request got.0) (sym (said_in messages got.0 got.2) ∙ is))
 
   -- a call of a client at rest that goes out by its own message
   pub asked_so : AreReadBack → NamesOne call request → (before : S) (d : DeskState) (old : ClientState) → IsAtRest d old → (result : Result Answer Refusal) (new : ClientState) (now : S) (left : DeskState)
@@ -180,8 +181,8 @@ module _ {S : Type 0} (steps : Request → Reply → S → S → Type 0) (whole 
   asked_so read_back names before d old rest _ _ _ _ (not_sent e why) = (unsent e why, rest)
   asked_so read_back names before d old rest _ _ _ _ (was_sent result new now left talked) =
       talked_so before d (waiting_for old call) (payload_of (Asked (next_number old.number) call) ∷ []) (record { registered = rest.registered; end = rest.end; reading = rest.reading }) (next_low old.number) refl
-      (λ t k front. one_call_breaks steps read_back d k (next_number old.number) call request before t rest.registered (next_low old.number) names.held names.row (names.names d (next_number old.number)) front)
+      (λ t k front. one_call_breaks steps read_back d k (next_number old.number) call request before t rest.registered (next_low old.number) names.held names.row names.once (names.names d (next_number old.number)) front)
       (λ out t k served.
-      let by = one_call steps read_back d k (next_number old.number) call request before t out rest.registered (next_low old.number) names.held names.row (names.names d (next_number old.number)) served in
-      record { reply = by.reply; step = by.step; sent = by.sent; registered = ap (λ (x : DeskState). x.registered) by.desk ∙ rest.registered })
+      let by = one_call steps read_back d k (next_number old.number) call request before t out rest.registered (next_low old.number) names.held names.row names.once (names.names d (next_number old.number)) served in
+      record { reply = by.reply; step = by.step; held = by.held; sent = by.sent; registered = ap (λ (x : DeskState). x.registered) by.desk ∙ rest.registered })
       result new now left talked

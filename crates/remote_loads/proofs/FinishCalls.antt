@@ -50,9 +50,8 @@ use Rattle.remote_loads.specs.Answers.{count_answer, finish_answer}
 use Rattle.remote_loads.specs.Carrying.{IsMachineStep}
 use Rattle.remote_loads.specs.Causes.{behind_commit, unasked}
 use Rattle.remote_loads.specs.Finishing.{FinishLeaves, FinishSteps, IsDropped, IsFinishMade, IsRemoteFinish, IsToldBehind, asks_nothing, behind_finish, finish_answered, finish_committed, finish_commits, finish_empty, finish_lost, finish_and_front, finish_refused, not_finished, one_finish, told_behind}
-use Rattle.remote_loads.specs.Making.{IsMadeBy, answered_so, left_alone, made_by}
-use Rattle.remote_loads.specs.Sending.{messages_of, notices_before}
-use Rattle.remote_loads.specs.Served.{one_step}
+use Rattle.remote_loads.specs.Making.{IsMadeBy, MakesFront, answered_so, left_alone, made_by}
+use Rattle.remote_loads.specs.Sending.{HoldsReply, messages_of, notices_before}
 use Rattle.remote_loads.specs.Standing.{IsAtRest, IsWayEnd, Stands}
 use Rattle.remote_loads.specs.Talking.{IsAsked, IsExchanged, IsTalked, IsUnsent, IsWayLost, answer_in, answer_sent, broke_off, came, not_sent, refused_so, talk_answered, talk_failed, talk_waited, waiting_for, was_sent}
 use Rattle.remote_loads.proofs.BrokenCall.{call_taken}
@@ -63,7 +62,7 @@ use Rattle.remote_loads.proofs.Heard.{AllCame, all_come, answer_behind, news_hea
 use Rattle.remote_loads.proofs.Known.{known_may, whole_same}
 use Rattle.remote_loads.proofs.Loading.{MayBeAt}
 use Rattle.remote_loads.proofs.Sendings.{by_sent, frames_are}
-use Rattle.remote_loads.proofs.SyncCalls.{SyncGot, sync_got}
+use Rattle.remote_loads.proofs.SyncCalls.{SyncGot, got_front, sync_got}
 
 -- ---- what is dropped
 
@@ -215,14 +214,14 @@ module _ {S : Type 0} (steps : Request → Reply → S → S → Type 0) (machin
 
     by_served : (now : S) (left : DeskState) (out : List (List ℕ)) (result : Result (List Message) ClientError) (new : ClientState) → FinishServed steps number before out now → left.registered ≡ true
         → IsFed mid (concat out) result new → Exchanged (refused_so result) new now left
-    by_served _ left _ result new (served_alone r now out step none is) registered fed =
+    by_served _ left _ result new (served_alone r now out step held none is) registered fed =
         come_so (messages_of number asked.Finish r) now left result new (one_finish r now step) (λ heard at. got_alone r new now left step none heard at)
-        (all_come whole (messages_of number asked.Finish r) mid new d left result (concat out) waits registered (end_sent (machine before) n r (machine now) number (next_low old.number) (stepped request.Finish r before now step))
+        (all_come whole (messages_of number asked.Finish r) mid new d left result (concat out) waits registered (end_sent (machine before) n r (machine now) number (next_low old.number) (stepped request.Finish r before now step) held)
         (ap concat is ∙ frames_are number asked.Finish r) fed)
-    by_served _ left _ result new (served_commit tid r between now out step front is) registered fed =
+    by_served _ left _ result new (served_commit tid r between now out step held front front_held is) registered fed =
         come_so (messages_of number (asked.NewsBehind tid) r) now left result new (finish_and_front tid r between now step front) (λ heard at. got_commit tid r between new now left step front heard at)
         (all_come whole (messages_of number (asked.NewsBehind tid) r) mid new d left result (concat out) waits registered
-        (commit_sent (machine before) n tid r (machine between) (machine now) number (next_low old.number) (stepped request.Finish (reply.Committed tid) before between step).held (stepped request.Front r between now front))
+        (commit_sent (machine before) n tid r (machine between) (machine now) number (next_low old.number) held (stepped request.Front r between now front) front_held)
         (ap concat is ∙ frames_are number (asked.NewsBehind tid) r) fed)
 
     exchanged : (result : Result (List Message) Refusal) (new : ClientState) (now : S) (left : DeskState) → IsExchanged steps before d mid (payload ∷ []) result new now left → Exchanged result new now left
@@ -261,7 +260,7 @@ module _ {S : Type 0} (steps : Request → Reply → S → S → Type 0) (machin
 
 -- ---- the front that the client asks for behind its commit
 
-module _ (m : Machine) (n : ℕ) (r : Reply) (now : Machine) (c : Client) (old new : Held) (number : ℕ) (step : IsMachineStep m n request.Front r now) (x : IsNearly m n old c) where
+module _ (m : Machine) (n : ℕ) (r : Reply) (now : Machine) (c : Client) (old new : Held) (number : ℕ) (step : IsMachineStep m n request.Front r now) (holds : HoldsReply r) (x : IsNearly m n old c) where
   abbrev Knows : Answer → Type 0
   Knows a = OnOk (count_answer a) (MayBeAt now n new (committed (view_of (server_at now)) c))
 
@@ -276,7 +275,7 @@ module _ (m : Machine) (n : ℕ) (r : Reply) (now : Machine) (c : Client) (old n
       (λ allowed short held heard.
       let both = news_heard (Some calls.Sync) (notices_of front news) number (answers.TidAndCount front switches) old new heard in
       nearly_syncs m n now c old both.0 new front switches news said x held.1 both.1 both.2)
-      (λ k held heard. tt) (λ held heard. tt) (said.held.answer asked.Other) heard
+      (λ k held heard. tt) (λ held heard. tt) ((subst (λ (x : Reply). HoldsReply x) is holds).answer asked.Other) heard
 
   nearly_knows : HearsMessages (Some calls.Sync) (messages_of number asked.Other r) old new → Knows (answer_sent r)
   nearly_knows heard =
@@ -414,7 +413,7 @@ module _ {S : Type 0} (steps : Request → Reply → S → S → Type 0) (machin
         record {
           committed = tt;
           same = λ done. stands;
-          made = subst (λ (k : Refusal). IsRemoteFinish steps before (Err k) now) (sym un.1 ∙ same) (subst (λ (s : S). IsRemoteFinish steps before (Err (unasked un.0)) s) (sym un.4) (not_finished un.0));
+          made = subst (λ (k : Refusal). IsRemoteFinish steps before (Err k) now) (sym un.1 ∙ same) (subst (λ (s : S). IsRemoteFinish steps before (Err (unasked un.0)) s) (sym un.4) (not_finished un.0 un.2));
         }
     fails_so (Err why) r new now left (inr lost) is =
         let same : why ≡ r = cc in
@@ -456,18 +455,25 @@ module _ {S : Type 0} (steps : Request → Reply → S → S → Type 0) (machin
       rest_freed : IsAtRest left (asks_nothing new)
       rest_freed = record { registered = rest.registered; end = rest.end; reading = rest.reading }
 
+      sync_front : (result : Result Answer Refusal) (last : ClientState) (end : S) (gone : DeskState) → SyncGot steps machine n stepped read_back whole now left (asks_nothing new) rest_freed result last end gone
+          → MakesFront steps now (answered_so count_answer result) end
+      sync_front result last end gone got = got_front steps machine n stepped read_back whole now left (asks_nothing new) rest_freed result last end gone got
+
       -- behind which the client synced
       synced_so : (result : Result Answer Refusal) (last : ClientState) (end : S) (gone : DeskState) → SyncGot steps machine n stepped read_back whole now left (asks_nothing new) rest_freed result last end gone
           → Leaves (behind_finish tid (answered_so count_answer result)) last end gone
-      synced_so (Err why) last end gone got = record { committed = tt; same = λ done. absurd (behind_done why done); made = finish_committed tid r between now (Err why) end step front got }
+      synced_so (Err why) last end gone got = record { committed = tt; same = λ done. absurd (behind_done why done); made = finish_committed tid r between now (Err why) end step front (sync_front (Err why) last end gone got) }
       synced_so (Ok answer) last end gone got =
-          by_count (count_answer answer)
+          by_count (count_answer answer) refl
           (subst (λ (a : Answer). OnOk (count_answer a) (MayBeAt (machine end) n last.held (committed (view_of (server_at (machine end))) c))) (sym got.2)
-          (nearly_knows (machine now) n got.0 (machine end) c (freed new.held) last.held (next_number new.number) (stepped request.Front got.0 now end got.1) nearly got.3))
+          (nearly_knows (machine now) n got.0 (machine end) c (freed new.held) last.held (next_number new.number) (stepped request.Front got.0 now end got.1) got.5 nearly got.3))
         where
-          by_count : (count : Result ℕ Refusal) → OnOk count (MayBeAt (machine end) n last.held (committed (view_of (server_at (machine end))) c)) → Leaves (behind_finish tid count) last end gone
-          by_count (Ok k) may = record { committed = record { served = may; rest = got.4 }; same = tt; made = finish_committed tid r between now (Ok k) end step front (one_step got.0 end got.1) }
-          by_count (Err why) may = record { committed = tt; same = λ done. absurd (behind_done why done); made = finish_committed tid r between now (Err why) end step front (one_step got.0 end got.1) }
+          fronts : (count : Result ℕ Refusal) → count_answer answer ≡ count → MakesFront steps now count end
+          fronts count same = subst (λ (k : Result ℕ Refusal). MakesFront steps now k end) same (sync_front (Ok answer) last end gone got)
+
+          by_count : (count : Result ℕ Refusal) → count_answer answer ≡ count → OnOk count (MayBeAt (machine end) n last.held (committed (view_of (server_at (machine end))) c)) → Leaves (behind_finish tid count) last end gone
+          by_count (Ok k) same may = record { committed = record { served = may; rest = got.4 }; same = tt; made = finish_committed tid r between now (Ok k) end step front (fronts (Ok k) same) }
+          by_count (Err why) same may = record { committed = tt; same = λ done. absurd (behind_done why done); made = finish_committed tid r between now (Err why) end step front (fronts (Err why) same) }
 
       by_sync : (synced : Result ℕ Refusal) (last : ClientState) (end : S) (gone : DeskState) → IsMadeBy steps now left (asks_nothing new) calls.Sync count_answer left_alone synced last end gone → Leaves (behind_finish tid synced) last end gone
       by_sync _ _ _ _ (made_by result last end gone made) = synced_so result last end gone (sync_got steps machine n stepped read_back whole now left (asks_nothing new) rest_freed result last end gone made)

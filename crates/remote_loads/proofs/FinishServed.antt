@@ -28,10 +28,10 @@ use Rattle.zeo_desk.specs.Answering.{counted_length, in_place_of, reply_answer, 
 use Rattle.zeo_desk.specs.Desks.{DeskState, Turn, answered, asks, committed_tid, replied, taken}
 use Rattle.zeo_client.specs.Rows.{answers_call}
 use Rattle.zeo_client.specs.Whole.{MayBeSent}
-use Rattle.remote_loads.specs.Carrying.{HoldsReply, IsMachineStep}
+use Rattle.remote_loads.specs.Carrying.{IsMachineStep}
 use Rattle.remote_loads.specs.Finishing.{FinishSteps, finish_and_front, no_finish, one_finish}
-use Rattle.remote_loads.specs.Sending.{messages_of, notices_before}
-use Rattle.remote_loads.specs.Served.{Does, DoesFront, Serves, ServesFront, begins, serves_none, serves_on, steps_on, stops}
+use Rattle.remote_loads.specs.Sending.{HoldsReply, messages_of, notices_before}
+use Rattle.remote_loads.specs.Served.{Does, DoesFront, Serves, ServesFront, begins, serves_none, serves_on, steps_off, steps_on, stops}
 use Rattle.remote_loads.proofs.BrokenCall.{front_none, front_sent}
 use Rattle.remote_loads.proofs.Heard.{news_sent}
 use Rattle.remote_loads.proofs.OneCall.{serves_one, was_asked, was_sent as frames_sent}
@@ -111,9 +111,9 @@ by_front P m n r now step told refused =
 module _ {S : Type 0} (steps : Request → Reply → S → S → Type 0) where
   -- a finish that didn't commit was made, and its reply was sent; or one that did, with a front behind it
   pub data FinishServed (number : ℕ) (before : S) : List (List ℕ) → S → Type 0 where
-    served_alone : (r : Reply) (now : S) (out : List (List ℕ)) → steps request.Finish r before now → committed_tid r ≡ None → out ≡ reply_frames number asked.Finish r → FinishServed number before out now
-    served_commit : (tid : ℕ) (r : Reply) (between now : S) (out : List (List ℕ)) → steps request.Finish (reply.Committed tid) before between → steps request.Front r between now
-        → out ≡ reply_frames number (asked.NewsBehind tid) r → FinishServed number before out now
+    served_alone : (r : Reply) (now : S) (out : List (List ℕ)) → steps request.Finish r before now → HoldsReply r → committed_tid r ≡ None → out ≡ reply_frames number asked.Finish r → FinishServed number before out now
+    served_commit : (tid : ℕ) (r : Reply) (between now : S) (out : List (List ℕ)) → steps request.Finish (reply.Committed tid) before between → HoldsReply (reply.Committed tid)
+        → steps request.Front r between now → HoldsReply r → out ≡ reply_frames number (asked.NewsBehind tid) r → FinishServed number before out now
 
   module _ (d : DeskState) (number : ℕ) (registered : d.registered ≡ true) where
     abbrev finishes : Turn
@@ -123,23 +123,23 @@ module _ {S : Type 0} (steps : Request → Reply → S → S → Type 0) where
     abbrev behind : Reply → Option ℕ → Turn
     behind r tid = answered finishes.desk number asked.Finish r tid
 
-    finish_does : (r : Reply) (before between now : S) (out : List (List ℕ)) (left : DeskState) (tid : Option ℕ) → committed_tid r ≡ tid → steps request.Finish r before between
+    finish_does : (r : Reply) (before between now : S) (out : List (List ℕ)) (left : DeskState) (tid : Option ℕ) → committed_tid r ≡ tid → steps request.Finish r before between → HoldsReply r
         → Does steps (behind r tid).desk (behind r tid).next between out left now → FinishServed number before out now × (left.registered ≡ true)
-    finish_does r before between now out left None is step does =
+    finish_does r before between now out left None is step held does =
         let sent = frames_sent steps (behind r None).desk left (Send (reply_frames number asked.Finish r)) between now out (reply_frames number asked.Finish r) does refl in
-        (served_alone r now out (subst (λ (x : S). steps request.Finish r before x) (sym sent.state) step) is sent.frames_are, ap (λ (k : DeskState). k.registered) sent.desk ∙ registered)
-    finish_does r before between now out left (Some tid) is step does =
+        (served_alone r now out (subst (λ (x : S). steps request.Finish r before x) (sym sent.state) step) held is sent.frames_are, ap (λ (k : DeskState). k.registered) sent.desk ∙ registered)
+    finish_does r before between now out left (Some tid) is step held does =
         let one = was_asked steps (behind r (Some tid)).desk left (Step request.Front) between now out request.Front does refl in
         let sent = frames_sent steps (replied (behind r (Some tid)).desk one.reply).desk left (Send (reply_frames number (asked.NewsBehind tid) one.reply)) one.between now out (reply_frames number (asked.NewsBehind tid) one.reply) one.rest refl in (
-          served_commit tid one.reply between now out (subst (λ (k : Reply). steps request.Finish k before between) (is_commit r tid is) step)
-              (subst (λ (x : S). steps request.Front one.reply between x) (sym sent.state) one.step) sent.frames_are,
+          served_commit tid one.reply between now out (subst (λ (k : Reply). steps request.Finish k before between) (is_commit r tid is) step) (subst (λ (k : Reply). HoldsReply k) (is_commit r tid is) held)
+              (subst (λ (x : S). steps request.Front one.reply between x) (sym sent.state) one.step) one.held sent.frames_are,
           ap (λ (k : DeskState). k.registered) sent.desk ∙ registered,
         )
 
     pub finish_asked : (desk left : DeskState) (next : Next) (before now : S) (out : List (List ℕ)) → Does steps desk next before out left now → desk ≡ finishes.desk → next ≡ Step request.Finish → FinishServed number before out now × (left.registered ≡ true)
     finish_asked desk left next before now out does is asks_is =
         let one = was_asked steps desk left next before now out request.Finish does asks_is in
-        finish_does one.reply before one.between now out left (committed_tid one.reply) refl one.step
+        finish_does one.reply before one.between now out left (committed_tid one.reply) refl one.step one.held
         (subst (λ (k : DeskState). Does steps (replied k one.reply).desk (replied k one.reply).next one.between out left now) is one.rest)
 
     -- and where nothing comes
@@ -152,6 +152,11 @@ module _ {S : Type 0} (steps : Request → Reply → S → S → Type 0) where
       where
         by_does : (desk left : DeskState) (next : Next) (s now : S) → DoesFront steps desk next s left now → desk ≡ (behind r (Some tid)).desk → next ≡ Step request.Front → steps request.Finish r before s → FinishSteps steps before now × (left.registered ≡ true)
         by_does _ _ _ _ _ (stops desk next s) there asks_is made = (one_finish r s made, ap (λ (k : DeskState). k.registered) there ∙ registered)
+        by_does _ _ _ _ _ (steps_off desk q second s last made) there asks_is first =
+            let same : q ≡ request.Front = cc in (
+              finish_and_front tid second s last (subst (λ (k : Reply). steps request.Finish k before s) (is_commit r tid is) first) (subst (λ (k : Request). steps k second s last) same made),
+              ap (λ (k : DeskState). k.registered) there ∙ registered,
+            )
         by_does _ _ _ _ _ (steps_on desk q second s middle last left made rest) there asks_is first =
             let same : q ≡ request.Front = cc in
             let rest_is : DoesFront steps (replied (behind r (Some tid)).desk second).desk (replied (behind r (Some tid)).desk second).next middle left last =
@@ -162,6 +167,8 @@ module _ {S : Type 0} (steps : Request → Reply → S → S → Type 0) where
 
     finish_front : (desk left : DeskState) (next : Next) (before now : S) → DoesFront steps desk next before left now → desk ≡ finishes.desk → next ≡ Step request.Finish → FinishSteps steps before now × (left.registered ≡ true)
     finish_front _ _ _ _ _ (stops desk next s) is asks_is = (no_finish, ap (λ (k : DeskState). k.registered) is ∙ registered)
+    finish_front _ _ _ _ _ (steps_off desk q r s last made) is asks_is =
+        let same : q ≡ request.Finish = cc in (one_finish r last (subst (λ (k : Request). steps k r s last) same made), ap (λ (k : DeskState). k.registered) is ∙ registered)
     finish_front _ _ _ _ _ (steps_on desk q r s between last left made rest) is asks_is =
         let same : q ≡ request.Finish = cc in
         front_behind r s between last left (committed_tid r) refl (subst (λ (k : Request). steps k r s between) same made)
@@ -192,8 +199,8 @@ module _ {S : Type 0} (steps : Request → Reply → S → S → Type 0) where
           (subst (λ (x : S). FinishSteps steps s x) (sym end.state) (by_served s middle out served.0), ap (λ (k : DeskState). k.registered) end.desk ∙ served.1)
         where
           by_served : (s now : S) (out : List (List ℕ)) → FinishServed number s out now → FinishSteps steps s now
-          by_served s _ _ (served_alone r now out step none is) = one_finish r now step
-          by_served s _ _ (served_commit tid r between now out step front is) = finish_and_front tid r between now step front
+          by_served s _ _ (served_alone r now out step held none is) = one_finish r now step
+          by_served s _ _ (served_commit tid r between now out step held front front_held is) = finish_and_front tid r between now step front
 
       pub finish_breaks : (left : DeskState) (before now : S) → ServesFront steps d (payload ∷ []) before left now → FinishSteps steps before now × (left.registered ≡ true)
       finish_breaks left before now front = by_payloads left (payload ∷ []) before now front refl
@@ -205,18 +212,19 @@ end_row : (m : Machine) (n : ℕ) (r : Reply) (now : Machine) → IsMachineStep 
 end_row m n r now step = by_end (λ k. (notices_before k ≡ []) × (answers_call calls.TpcFinish (reply_answer asked.Finish k) ≡ true)) m n r now step (λ tid. (refl, refl)) (refl, refl) (λ why. (refl, refl))
 
 -- a reply that doesn't commit
-pub end_sent : (m : Machine) (n : ℕ) (r : Reply) (now : Machine) (number : ℕ) → number < 2 ^ 31 → IsMachineStep m n request.Finish r now → AllByRecursion (MayBeSent number (Some calls.TpcFinish)) (messages_of number asked.Finish r)
-end_sent m n r now number low step =
+pub end_sent : (m : Machine) (n : ℕ) (r : Reply) (now : Machine) (number : ℕ) → number < 2 ^ 31 → IsMachineStep m n request.Finish r now → HoldsReply r
+    → AllByRecursion (MayBeSent number (Some calls.TpcFinish)) (messages_of number asked.Finish r)
+end_sent m n r now number low step held =
     subst (λ (ns : List Notice). AllByRecursion (MayBeSent number (Some calls.TpcFinish)) (map (λ k. Told k) ns ++ Answered number (sent_answer asked.Finish (reply_answer asked.Finish r)) ∷ [])) (sym (end_row m n r now step).0)
-    (answer_comes number calls.TpcFinish asked.Finish (reply_answer asked.Finish r) (λ k. refl) low (step.held.answer asked.Finish) (end_row m n r now step).1, tt)
+    (answer_comes number calls.TpcFinish asked.Finish (reply_answer asked.Finish r) (λ k. refl) low (held.answer asked.Finish) (end_row m n r now step).1, tt)
 
 -- and one that does, behind the news of a front
-pub commit_sent : (m : Machine) (n tid : ℕ) (r : Reply) (between now : Machine) (number : ℕ) → number < 2 ^ 31 → HoldsReply (reply.Committed tid) → IsMachineStep between n request.Front r now
+pub commit_sent : (m : Machine) (n tid : ℕ) (r : Reply) (between now : Machine) (number : ℕ) → number < 2 ^ 31 → HoldsReply (reply.Committed tid) → IsMachineStep between n request.Front r now → HoldsReply r
     → AllByRecursion (MayBeSent number (Some calls.TpcFinish)) (messages_of number (asked.NewsBehind tid) r)
-commit_sent m n tid r between now number low held step =
+commit_sent m n tid r between now number low held step front_held =
     by_front (λ k. HoldsReply k → AllByRecursion (MayBeSent number (Some calls.TpcFinish)) (messages_of number (asked.NewsBehind tid) k)) between n r now step
     (λ front switches news has. news_sent number (Some calls.TpcFinish) front news (Answered number (sent_answer (asked.NewsBehind tid) (answers.OneTid tid))) has.notices said)
-    (λ why has. (said, tt)) step.held
+    (λ why has. (said, tt)) front_held
   where
     said : MayBeSent number (Some calls.TpcFinish) (Answered number (sent_answer (asked.NewsBehind tid) (answers.OneTid tid)))
     said = answer_comes number calls.TpcFinish (asked.NewsBehind tid) (answers.OneTid tid) (λ k. refl) low (held.answer (asked.NewsBehind tid)) refl

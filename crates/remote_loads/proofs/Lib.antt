@@ -12,11 +12,13 @@ pub mod Made
 pub mod Meeting
 pub mod Numbers
 pub mod OneCall
+pub mod Questions
 pub mod RegisterCalls
 pub mod Registering
+pub mod Requests
 pub mod Rows
 pub mod Sendings
 pub mod Staying
-pub mod VoteCalls
 pub mod SyncCalls
+pub mod VoteCalls
 pub mod Waiting

@@ -113,9 +113,10 @@ module _ {S : Type 0} (steps : Request → Reply → S → S → Type 0) (machin
       by_known false known is within = absurd (none_found is)
   load_leaves before _ d _ oid front old _ _ held (miss mid result new now left none used asked) c x =
       let served : MayBeAt (machine before) n mid.held c = used_may (machine before) n old mid c used x.served in
-      let names : NamesOne (calls.LoadBefore oid front) (request.LoadBefore oid front) = record { held = held; row = refl; names = λ k number. refl } in
+      let names : NamesOne (calls.LoadBefore oid front) (request.LoadBefore oid front) =
+      record { held = held; row = refl; once = record { last = λ r. refl; answer = λ r. refl; long = λ k. refl }; names = λ k number. refl } in
       let called = asked_so steps whole (calls.LoadBefore oid front) (request.LoadBefore oid front)
-      (λ reply s t step. load_row (machine s) n oid front reply (machine t) (stepped (request.LoadBefore oid front) reply s t step)) read_back names before d mid (used_rest d old mid used x.rest) result new now left asked in
+      (λ reply s t step. load_row (machine s) n oid front reply (machine t) (stepped (request.LoadBefore oid front) reply s t step)) names.once read_back names before d mid (used_rest d old mid used x.rest) result new now left asked in
       record {
         stands = record { served = load_held before now oid front c mid.held new.held result called.0 served; rest = called.1 };
         loaded = under (λ l. IsLoaded oid front c.told (server_at (machine before)) l) (front ≤ c.told.front) (answered_so load_answer result) (load_said before now oid front c mid.held new.held result called.0 served);

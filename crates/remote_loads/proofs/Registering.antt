@@ -41,7 +41,8 @@ use Rattle.zeo_serving.specs.VoteLaws.{less_serves}
 use Rattle.zeo_client.specs.Hearing.{Held, IsAnswerHeard}
 use Rattle.zeo_client.specs.SyncLaws.{HearsAll, IsNewsHeard, news_is_heard}
 use Rattle.remote_loads.specs.Carrying.{IsMachineStep}
-use Rattle.remote_loads.specs.Served.{Does, DoesFront, MaySteps, Serves, ServesFront, begins, no_step, one_step, serves_none, serves_on, steps_on, stops}
+use Rattle.remote_loads.specs.Sending.{HoldsReply}
+use Rattle.remote_loads.specs.Served.{Does, DoesFront, MaySteps, Serves, ServesFront, begins, no_step, one_step, serves_none, serves_on, steps_off, steps_on, stops}
 use Rattle.remote_loads.proofs.BrokenCall.{front_none, front_sent}
 use Rattle.remote_loads.proofs.Commits.{IsLeft, heard_left, served_may}
 use Rattle.remote_loads.proofs.Known.{whole_same}
@@ -69,6 +70,7 @@ module _ {S : Type 0} (steps : Request → Reply → S → S → Type 0) (d : De
   pub record IsRegisterServed (before : S) (out : List (List ℕ)) (left : DeskState) (now : S) : Type 0 where
     pub reply : Reply
     pub step : steps request.Front reply before now
+    pub held : HoldsReply reply
     pub sent : out ≡ reply_frames number asked.Register reply
     pub registered : left.registered ≡ true
 
@@ -78,7 +80,7 @@ module _ {S : Type 0} (steps : Request → Reply → S → S → Type 0) (d : De
       let rest : Does steps (replied (registers d number).desk one.reply).desk (replied (registers d number).desk one.reply).next one.between out left now =
       subst (λ (k : DeskState). Does steps (replied k one.reply).desk (replied k one.reply).next one.between out left now) is one.rest in
       let sent = was_sent steps (replied (registers d number).desk one.reply).desk left (Send (reply_frames number asked.Register one.reply)) one.between now out (reply_frames number asked.Register one.reply) rest refl in
-      record { reply = one.reply; step = subst (λ (x : S). steps request.Front one.reply before x) (sym sent.state) one.step; sent = sent.frames_are; registered = ap (λ (k : DeskState). k.registered) sent.desk }
+      record { reply = one.reply; step = subst (λ (x : S). steps request.Front one.reply before x) (sym sent.state) one.step; held = one.held; sent = sent.frames_are; registered = ap (λ (k : DeskState). k.registered) sent.desk }
 
   pub register_served : (left : DeskState) (before now : S) (out : List (List ℕ)) → Serves steps d (payload ∷ []) before out left now → IsRegisterServed before out left now
   register_served left before now out serves =
@@ -88,6 +90,7 @@ module _ {S : Type 0} (steps : Request → Reply → S → S → Type 0) (d : De
 
   register_front : (desk left : DeskState) (next : Next) (before now : S) → DoesFront steps desk next before left now → desk ≡ (registers d number).desk → next ≡ Step request.Front → MaySteps steps request.Front before now
   register_front _ _ _ _ _ (stops desk next s) is asks_is = no_step
+  register_front _ _ _ _ _ (steps_off desk q r s behind made) is asks_is = let same : q ≡ request.Front = cc in one_step r behind (subst (λ (k : Request). steps k r s behind) same made)
   register_front _ _ _ _ _ (steps_on desk q r s between last left made rest) is asks_is =
       let same : q ≡ request.Front = cc in
       let rest_is : DoesFront steps (replied (registers d number).desk r).desk (replied (registers d number).desk r).next between left last =

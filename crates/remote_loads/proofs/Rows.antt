@@ -24,8 +24,7 @@ use Rattle.zodb_core.specs.StepCases.{allowed_request}
 use Rattle.zodb_core.specs.Steps.{Stepped, changes_in_journal, changes_undone, early_refusal, journal_limit, loaded, refuse_if, request_step, unless_early, vote_step}
 use Rattle.zeo_messages.specs.declared.call.Call.{Call}
 use Rattle.zeo_messages.specs.declared.call.Call.TheVariants as calls
-use Rattle.zeo_desk.specs.declared.asked.Asked.TheVariants as asked
-use Rattle.zeo_desk.specs.Answering.{listed, number_alone, oids_from, reply_answer}
+use Rattle.zeo_desk.specs.Answering.{asked_of, listed, number_alone, oids_from, reply_answer}
 use Rattle.zeo_messages.specs.declared.answer.Answer.TheVariants as answers
 use Rattle.zeo_client.specs.Rows.{answers_call}
 use Rattle.remote_loads.specs.Carrying.{IsMachineStep}
@@ -65,21 +64,21 @@ by_reply P rules m n q stamp made counts behind step answers refused = by_outcom
 -- ---- rows
 
 -- the reply of a step has its row
-abbrev HasRows : Call → Reply → Type 0
-HasRows call r = (notices_before r ≡ []) × (answers_call call (reply_answer asked.Other r) ≡ true)
+abbrev pub HasRows : Request → Call → Reply → Type 0
+HasRows q call r = (notices_before r ≡ []) × (answers_call call (reply_answer (asked_of q) r) ≡ true)
 
-row_of : (call : Call) (m : Machine) (n : ℕ) (q : Request) (r : Reply) (now : Machine) → ((rules : Rules) (stamp : ℕ) → early_refusal m n q ≡ None → HasRows call (request_step rules m n q stamp).reply)
-    → IsMachineStep m n q r now → HasRow call r
+pub row_of : (call : Call) (m : Machine) (n : ℕ) (q : Request) (r : Reply) (now : Machine) → ((rules : Rules) (stamp : ℕ) → early_refusal m n q ≡ None → HasRows q call (request_step rules m n q stamp).reply)
+    → IsMachineStep m n q r now → HasRow q call r
 row_of call m n q r now answers step =
-    let rows = by_reply (HasRows call) step.rules m n q step.stamp (record { reply = r; machine = step.left; ticks = step.ticks }) step.before step.after step.made (answers step.rules step.stamp) (λ why. (refl, refl)) in
-    record { held = step.held; none = rows.0; row = rows.1 }
+    let rows = by_reply (HasRows q call) step.rules m n q step.stamp (record { reply = r; machine = step.left; ticks = step.ticks }) step.before step.after step.made (answers step.rules step.stamp) (λ why. (refl, refl)) in
+    record { none = rows.0; row = rows.1 }
 
-loaded_row : (m : Machine) (oid front : ℕ) (f : Found) → HasRows (calls.LoadBefore oid front) (loaded m oid f)
+loaded_row : (m : Machine) (oid front : ℕ) (f : Found) → HasRows (request.LoadBefore oid front) (calls.LoadBefore oid front) (loaded m oid f)
 loaded_row m oid front (found.Held serial bytes end) = (refl, refl)
 loaded_row m oid front (found.Absent serial) = (refl, refl)
 loaded_row m oid front found.Nothing = (refl, refl)
 
-pub load_row : (m : Machine) (n oid front : ℕ) (r : Reply) (now : Machine) → IsMachineStep m n (request.LoadBefore oid front) r now → HasRow (calls.LoadBefore oid front) r
+pub load_row : (m : Machine) (n oid front : ℕ) (r : Reply) (now : Machine) → IsMachineStep m n (request.LoadBefore oid front) r now → HasRow (request.LoadBefore oid front) (calls.LoadBefore oid front) r
 load_row m n oid front r now step = row_of (calls.LoadBefore oid front) m n (request.LoadBefore oid front) r now (λ rules stamp none. loaded_row m oid front (found_below oid front m.list)) step
 
 -- ---- numbers
@@ -97,10 +96,10 @@ none_more n = omega arith
 pub one_oid : (first : ℕ) → first < 2 ^ 64 → listed answers.Oids (oids_from 1 first) ≡ answers.Oids (first ∷ [])
 one_oid first low = ap (λ (x : ℕ). listed answers.Oids ([] ++ number_alone x)) (none_more first) ∙ alone first low
 
-pub oid_row : (m : Machine) (n : ℕ) (r : Reply) (now : Machine) → IsMachineStep m n (request.NewOids 1) r now → HasRow (calls.NewOids 1) r
+pub oid_row : (m : Machine) (n : ℕ) (r : Reply) (now : Machine) → IsMachineStep m n (request.NewOids 1) r now → HasRow (request.NewOids 1) (calls.NewOids 1) r
 oid_row m n r now step = row_of (calls.NewOids 1) m n (request.NewOids 1) r now row step
   where
-    row : (rules : Rules) (stamp : ℕ) → early_refusal m n (request.NewOids 1) ≡ None → HasRows (calls.NewOids 1) (request_step rules m n (request.NewOids 1) stamp).reply
+    row : (rules : Rules) (stamp : ℕ) → early_refusal m n (request.NewOids 1) ≡ None → HasRows (request.NewOids 1) (calls.NewOids 1) (request_step rules m n (request.NewOids 1) stamp).reply
     row rules stamp none =
         let free = left_none (nat_lt (2 ^ 64 - 1) (m.greatest + 1)) (allowed_request (not (is_open_in m.sessions n)) (refuse_if (nat_lt (2 ^ 64 - 1) (m.greatest + 1)) refusal.OidsSpent) none) in
         let low = ltb-false (2 ^ 64 - 1) (m.greatest + 1) free in
@@ -120,15 +119,15 @@ vote_is P m n texts stamp (Ok (c ∷ changes)) voted refused =
     either_reply P (nat_lt journal_limit count) _ _ (refused (refusal.JournalFull count))
     (either_reply P (nat_lt (tid_after (newest_tid m.list) stamp) (2 ^ 64 - 1)) _ _ voted (refused refusal.TidsSpent))
 
-pub vote_row : (m : Machine) (n : ℕ) (user description extension : List ℕ) (pending : PendingChanges) (r : Reply) (now : Machine) → IsMachineStep m n (request.Vote user description extension pending) r now → HasRow calls.Vote r
+pub vote_row : (m : Machine) (n : ℕ) (user description extension : List ℕ) (pending : PendingChanges) (r : Reply) (now : Machine) → IsMachineStep m n (request.Vote user description extension pending) r now → HasRow (request.Vote user description extension pending) calls.Vote r
 vote_row m n user description extension pending r now step = row_of calls.Vote m n (request.Vote user description extension pending) r now
     (λ rules stamp none.
-    vote_is (HasRows calls.Vote) m n (record { user = user; description = description; extension = extension }) stamp (vote_decision rules.merging m.list pending) (refl, refl) (λ why. (refl, refl))) step
+    vote_is (HasRows (request.Vote user description extension pending) calls.Vote) m n (record { user = user; description = description; extension = extension }) stamp (vote_decision rules.merging m.list pending) (refl, refl) (λ why. (refl, refl))) step
 
-pub undo_row : (m : Machine) (n : ℕ) (user description tids : List ℕ) (r : Reply) (now : Machine) → IsMachineStep m n (request.Undo user description tids) r now → HasRow (calls.Undoa user description tids) r
+pub undo_row : (m : Machine) (n : ℕ) (user description tids : List ℕ) (r : Reply) (now : Machine) → IsMachineStep m n (request.Undo user description tids) r now → HasRow (request.Undo user description tids) (calls.Undoa user description tids) r
 undo_row m n user description tids r now step = row_of (calls.Undoa user description tids) m n (request.Undo user description tids) r now
     (λ rules stamp none.
-    vote_is (HasRows (calls.Undoa user description tids)) m n (record { user = user; description = description; extension = [] }) stamp (changes_undone m.list (undone_of rules.merging m.list tids)) (refl, refl) (λ why. (refl, refl))) step
+    vote_is (HasRows (request.Undo user description tids) (calls.Undoa user description tids)) m n (record { user = user; description = description; extension = [] }) stamp (changes_undone m.list (undone_of rules.merging m.list tids)) (refl, refl) (λ why. (refl, refl))) step
 
-pub abort_row : (m : Machine) (n : ℕ) (r : Reply) (now : Machine) → IsMachineStep m n request.Abort r now → HasRow calls.TpcAbort r
+pub abort_row : (m : Machine) (n : ℕ) (r : Reply) (now : Machine) → IsMachineStep m n request.Abort r now → HasRow request.Abort calls.TpcAbort r
 abort_row m n r now step = row_of calls.TpcAbort m n request.Abort r now (λ rules stamp none. (refl, refl)) step

@@ -31,7 +31,7 @@ use Rattle.remote_loads.specs.Carrying.{IsMachineStep}
 use Rattle.remote_loads.specs.Leaving.{AbortLeaves, OidLeaves}
 use Rattle.remote_loads.specs.Making.{IsMadeBy, answered_so, free_if_done, left_alone, made_by}
 use Rattle.remote_loads.specs.Standing.{IsAtRest, Stands}
-use Rattle.remote_loads.specs.Talking.{IsCalled, answer_sent, answered, unheard, unmade, unsent}
+use Rattle.remote_loads.specs.Talking.{IsCalled, answer_sent, answer_given, answered, unheard, unmade, unsent}
 use Rattle.remote_loads.proofs.Known.{known_may}
 use Rattle.remote_loads.proofs.Called.{NamesOne, asked_so}
 use Rattle.remote_loads.proofs.Loading.{MayBeAt}
@@ -46,9 +46,9 @@ called_stays steps request call P heard stays before _ _ _ _ (unsent e why) x = 
 called_stays steps request call P heard stays before _ _ _ _ (unmade r way) x = x
 called_stays steps request call P heard stays before _ old _ _ (unheard r reply new now way step (inl same)) x = subst (λ (h : Held). P now h) (sym same) (stays reply before now old step x)
 called_stays steps request call P heard stays before _ old _ _ (unheard r reply new now way step (inr some)) x =
-    subst (λ (h : Held). P now h) (sym (heard (answer_sent reply) old new some)) (stays reply before now old step x)
+    subst (λ (h : Held). P now h) (sym (heard (answer_given request reply) old new some)) (stays reply before now old step x)
 called_stays steps request call P heard stays before _ old _ _ (answered reply new now step some) x =
-    subst (λ (h : Held). P now h) (sym (heard (answer_sent reply) old new some)) (stays reply before now old step x)
+    subst (λ (h : Held). P now h) (sym (heard (answer_given request reply) old new some)) (stays reply before now old step x)
 
 -- ---- numbers
 
@@ -103,8 +103,8 @@ module _ {S : Type 0} (steps : Request → Reply → S → S → Type 0) (machin
   pub oid_leaves : (before now : S) (d left : DeskState) (old new : ClientState) (result : Result ℕ Refusal) → IsMadeBy steps before d old (calls.NewOids 1) oid_answer left_alone result new now left
       → (c : Client) → Stands (machine before) n d old c → OidLeaves steps machine n before c result new now left
   oid_leaves before _ d _ old _ _ (made_by result new now left made) c x =
-      let names : NamesOne (calls.NewOids 1) (request.NewOids 1) = record { held = omega arith; row = refl; names = λ k number. refl } in
-      let called = asked_so steps whole (calls.NewOids 1) (request.NewOids 1) (λ reply s t step. oid_row (machine s) n reply (machine t) (stepped (request.NewOids 1) reply s t step)) read_back names before d old x.rest result new now left made in
+      let names : NamesOne (calls.NewOids 1) (request.NewOids 1) = record { held = omega arith; row = refl; once = record { last = λ r. refl; answer = λ r. refl; long = λ k. refl }; names = λ k number. refl } in
+      let called = asked_so steps whole (calls.NewOids 1) (request.NewOids 1) (λ reply s t step. oid_row (machine s) n reply (machine t) (stepped (request.NewOids 1) reply s t step)) names.once read_back names before d old x.rest result new now left made in
       record {
         stands = record {
           served = called_stays steps (request.NewOids 1) (calls.NewOids 1) (λ s h. MayBeAt (machine s) n h c) (λ a h k same. same)
@@ -140,8 +140,8 @@ module _ {S : Type 0} (steps : Request → Reply → S → S → Type 0) (machin
   pub abort_leaves : (before now : S) (d left : DeskState) (old new : ClientState) (result : Result (Unit {0}) Refusal) → IsMadeBy steps before d old calls.TpcAbort done_answer free_if_done result new now left
       → (c : Client) → Stands (machine before) n d old c → AbortLeaves steps machine n before c result new now left
   abort_leaves before _ d _ old _ _ (made_by result new now left made) c x =
-      let names : NamesOne calls.TpcAbort request.Abort = record { held = tt; row = refl; names = λ k number. refl } in
-      let called = asked_so steps whole calls.TpcAbort request.Abort (λ reply s t step. abort_row (machine s) n reply (machine t) (stepped request.Abort reply s t step)) read_back names before d old x.rest result new now left made in
+      let names : NamesOne calls.TpcAbort request.Abort = record { held = tt; row = refl; once = record { last = λ r. refl; answer = λ r. refl; long = λ k. refl }; names = λ k number. refl } in
+      let called = asked_so steps whole calls.TpcAbort request.Abort (λ reply s t step. abort_row (machine s) n reply (machine t) (stepped request.Abort reply s t step)) names.once read_back names before d old x.rest result new now left made in
       let may : MayBeAt (machine now) n new.held c = called_stays steps request.Abort calls.TpcAbort (λ s h. MayBeAt (machine s) n h c) (λ a h k same. same)
       (λ r s t h step. abort_step (machine s) n r (machine t) c h (stepped request.Abort r s t step)) before now old.held new.held result called.0 x.served in
       let both = ends now left new c (answered_so done_answer result) may called.1 (done_called before now c old.held new.held result called.0 x.served) in

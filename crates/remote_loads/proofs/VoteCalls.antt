@@ -32,7 +32,7 @@ use Rattle.remote_loads.specs.Answers.{done_answer}
 use Rattle.remote_loads.specs.Carrying.{IsMachineStep}
 use Rattle.remote_loads.specs.Leaving.{UndoLeaves, VoteLeaves}
 use Rattle.remote_loads.specs.Making.{AreHeld, IsAskedFor, IsUndoMade, IsVoteMade, answered_so, asks_all, not_undone, not_voted, undo_asked, undo_unasked, undone, vote_sent, vote_unsent, voted, waiting_for_vote}
-use Rattle.remote_loads.specs.Served.{MaySteps, Serves, ServesFront, no_step}
+use Rattle.remote_loads.specs.Served.{IsAnsweredAtOnce, MaySteps, Serves, ServesFront, no_step}
 use Rattle.remote_loads.specs.Standing.{IsAtRest, Stands}
 use Rattle.remote_loads.specs.Talking.{IsCalled, Talks}
 use Rattle.remote_loads.proofs.Known.{known_may}
@@ -118,9 +118,9 @@ module _ {S : Type 0} (steps : Request → Reply → S → S → Type 0) (machin
     made = not_undone r why;
   }
   undo_leaves before _ d _ old _ user description tids _ (undo_asked result new now left held fits asked) c x =
-      let names : NamesOne (calls.Undoa user description tids) (request.Undo user description tids) = record { held = held; row = fits; names = λ k number. refl } in
+      let names : NamesOne (calls.Undoa user description tids) (request.Undo user description tids) = record { held = held; row = fits; once = record { last = λ r. refl; answer = λ r. refl; long = λ k. refl }; names = λ k number. refl } in
       let called = asked_so steps whole (calls.Undoa user description tids) (request.Undo user description tids)
-      (λ reply s t step. undo_row (machine s) n user description tids reply (machine t) (stepped (request.Undo user description tids) reply s t step)) read_back names before d (asks_all old)
+      (λ reply s t step. undo_row (machine s) n user description tids reply (machine t) (stepped (request.Undo user description tids) reply s t step)) names.once read_back names before d (asks_all old)
       (record { registered = x.rest.registered; end = x.rest.end; reading = x.rest.reading }) result new now left asked in
       let kept : AllAt S machine n c now new.held = called_stays steps (request.Undo user description tids) (calls.Undoa user description tids) (AllAt S machine n c) (λ a h k same. same)
       (λ r s t h step all. (undo_step (machine s) n user description tids r (machine t) c h (stepped (request.Undo user description tids) r s t step) all.1 all.0, all.1)) before now (asks_all old).held new.held result called.0
@@ -133,6 +133,9 @@ module _ {S : Type 0} (steps : Request → Reply → S → S → Type 0) (machin
   module _ (user description : List ℕ) (stores : List PendingStore) (checks : List PendingCheck) (short_user : IsShortText user) (short_description : IsShortText description) (votable : AreVotable stores) where
     abbrev asked_vote : Request
     asked_vote = request.Vote user description [] (record { stores = stores; checks = checks })
+
+    once : IsAnsweredAtOnce asked_vote
+    once = record { last = λ r. refl; answer = λ r. refl; long = λ k. refl }
 
     abbrev VotedAt : Client → S → Held → Type 0
     VotedAt c s h = MayBeAt (machine s) n h (voting (stored_in stores) c) × Covers stores h
@@ -157,24 +160,24 @@ module _ {S : Type 0} (steps : Request → Reply → S → S → Type 0) (machin
           by_stay : Stays steps read_back waits.left (payload_of (Asked number calls.Vote) ∷ []) before k t → MaySteps steps asked_vote before t × (k.registered ≡ true)
           by_stay (inl none) = (subst (λ (x : S). MaySteps steps asked_vote before x) (sym none.1) no_step, none.0)
           by_stay (inr f) =
-              one_call_breaks steps read_back waits.left k number calls.Vote asked_vote before t waits.has.registered (next_low (number_behind mid.number first_calls)) tt refl
+              one_call_breaks steps read_back waits.left k number calls.Vote asked_vote before t waits.has.registered (next_low (number_behind mid.number first_calls)) tt refl once
               (vote_named waits.left user description stores checks number waits.has) f
 
       serves : (out : List (List ℕ)) (t : S) (k : DeskState) → Serves steps d (payloads_behind mid.number (vote_calls user description stores checks)) before out k t
           → IsServedAt steps (number_behind mid.number (vote_calls user description stores checks)) asked_vote before out k t
       serves out t k served =
           let last = serves_waits steps read_back first_calls (calls.Vote ∷ []) mid.number d waits.left k before t out rest.registered waits.waits served in
-          let by = one_call steps read_back waits.left k number calls.Vote asked_vote before t out waits.has.registered (next_low (number_behind mid.number first_calls)) tt refl
+          let by = one_call steps read_back waits.left k number calls.Vote asked_vote before t out waits.has.registered (next_low (number_behind mid.number first_calls)) tt refl once
           (vote_named waits.left user description stores checks number waits.has) last in
           subst (λ (x : ℕ). IsServedAt steps x asked_vote before out k t) (sym number_is)
-          (record { reply = by.reply; step = by.step; sent = by.sent; registered = ap (λ (x : DeskState). x.registered) by.desk ∙ waits.has.registered })
+          (record { reply = by.reply; step = by.step; held = by.held; sent = by.sent; registered = ap (λ (x : DeskState). x.registered) by.desk ∙ waits.has.registered })
 
       vote_called : (result : Result Answer Refusal) (new : ClientState) (now : S) (left : DeskState)
           → Talks steps before d (waiting_for_vote mid (vote_calls user description stores checks)) (call_frames mid.number (vote_calls user description stores checks)) result new now left
           → IsCalled steps asked_vote calls.Vote before mid.held result new.held now × IsAtRest left new
       vote_called result new now left talks =
           talked_so steps whole calls.Vote asked_vote
-          (λ reply s t step. vote_row (machine s) n user description [] (record { stores = stores; checks = checks }) reply (machine t) (stepped asked_vote reply s t step))
+          (λ reply s t step. vote_row (machine s) n user description [] (record { stores = stores; checks = checks }) reply (machine t) (stepped asked_vote reply s t step)) once
           before d (waiting_for_vote mid (vote_calls user description stores checks)) (payloads_behind mid.number (vote_calls user description stores checks))
           (record { registered = rest.registered; end = rest.end; reading = rest.reading }) (subst (λ (x : ℕ). x < 2 ^ 31) (sym number_is) (next_low (number_behind mid.number first_calls))) refl breaks serves result new now left
           (talks _ _ (frames_spelled mid.number (vote_calls user description stores checks)))

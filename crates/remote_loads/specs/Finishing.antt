@@ -19,10 +19,9 @@ use Rattle.zeo_client.specs.Renewing.{HoldsUnless, IsButCache, nothing, standing
 use Rattle.zeo_client.specs.Taking.{ClientState}
 use Rattle.remote_loads.specs.Answers.{count_answer, finish_answer}
 use Rattle.remote_loads.specs.Causes.{behind_commit, unasked}
-use Rattle.remote_loads.specs.Making.{IsMadeBy, answered_so, left_alone}
-use Rattle.remote_loads.specs.Served.{MaySteps}
+use Rattle.remote_loads.specs.Making.{IsMadeBy, MakesFront, answered_so, left_alone}
 use Rattle.remote_loads.specs.Standing.{Stands}
-use Rattle.remote_loads.specs.Talking.{IsAsked, IsWayLost}
+use Rattle.remote_loads.specs.Talking.{IsAsked, IsUnsent, IsWayLost}
 
 -- ---- what it is made of
 
@@ -63,15 +62,15 @@ pub data FinishSteps {S : Type 0} (steps : Request → Reply → S → S → Typ
   one_finish : (reply : Reply) (now : S) → steps request.Finish reply before now → FinishSteps steps before now
   finish_and_front : (tid : ℕ) (reply : Reply) (between now : S) → steps request.Finish (replies.Committed tid) before between → steps request.Front reply between now → FinishSteps steps before now
 
--- A finish wasn't sent, or its answer was lost; or it is answered as its reply says, which is none of a commit; or it committed, the front behind it was made, and at
--- most one more.
+-- A finish wasn't sent, or its answer was lost; or it is answered as its reply says, which is none of a commit; or it committed, the front behind it was made, and one
+-- more, if its answer wasn't lost.
 pub data IsRemoteFinish {S : Type 0} (steps : Request → Reply → S → S → Type 0) (before : S) : Result (Option ℕ) Refusal → S → Type 0 where
-  not_finished : (error : AskError) → IsRemoteFinish steps before (Err (unasked error)) before
+  not_finished : (error : AskError) → IsUnsent calls.TpcFinish error → IsRemoteFinish steps before (Err (unasked error)) before
   finish_lost : (r : Refusal) (now : S) → IsWayLost r → FinishSteps steps before now → IsRemoteFinish steps before (Err r) now
   finish_answered : (reply : Reply) (now : S) → steps request.Finish reply before now → committed_tid reply ≡ None
       → IsRemoteFinish steps before (finish_answer (sent_answer asked.Finish (reply_answer asked.Finish reply))) now
   finish_committed : (tid : ℕ) (reply : Reply) (between middle : S) (synced : Result ℕ Refusal) (now : S) → steps request.Finish (replies.Committed tid) before between
-      → steps request.Front reply between middle → MaySteps steps request.Front middle now → IsRemoteFinish steps before (behind_finish tid synced) now
+      → steps request.Front reply between middle → MakesFront steps middle synced now → IsRemoteFinish steps before (behind_finish tid synced) now
 
 -- ---- what it leaves
 

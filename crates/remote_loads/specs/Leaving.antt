@@ -15,8 +15,7 @@ use Rattle.zeo_desk.specs.Desks.{DeskState}
 use Rattle.zeo_serving.specs.Serving.{server_at, synced, view_at}
 use Rattle.zeo_client.specs.Taking.{ClientState}
 use Rattle.remote_loads.specs.Answers.{done_answer, oid_answer}
-use Rattle.remote_loads.specs.Served.{MaySteps}
-use Rattle.remote_loads.specs.Making.{IsRemoteLoad, IsRemoteUndo, IsRemoteVote, MakesOne}
+use Rattle.remote_loads.specs.Making.{IsRemoteLoad, IsRemoteUndo, IsRemoteVote, MakesFront, MakesOne}
 use Rattle.remote_loads.specs.Standing.{Stands}
 
 -- what a load leaves, answers and makes
@@ -44,6 +43,7 @@ pub record UndoLeaves {S : Type 0} (steps : Request → Reply → S → S → Ty
   pub stands : Stands (machine now) n left new (voting each_object c)
   pub made : IsRemoteUndo steps before user description tids result now
 
--- and a sync: where it is answered, the client knows the list as it stood
+-- And a sync. Where it is answered, the client knows the list as it stood. One front at most is made: its answer was lost, or the sync is answered as it is, whatever number
+-- that has.
 abbrev pub SyncLeaves : {S T : Type 0} → (Request → Reply → S → S → Type 0) → (S → Machine) → ℕ → S → Client → Result T Refusal → ClientState → S → DeskState → Type 0
-SyncLeaves steps machine n before c result new now left = OnOk result (Stands (machine now) n left new (synced (view_at (machine before)) c)) × MaySteps steps request.Front before now
+SyncLeaves steps machine n before c result new now left = OnOk result (Stands (machine now) n left new (synced (view_at (machine before)) c)) × MakesFront steps before result now

@@ -6,6 +6,7 @@ pub mod Leaving
 pub mod Making
 pub mod Registering
 pub mod Relating
+pub mod Requesting
 pub mod Sending
 pub mod Served
 pub mod Standing

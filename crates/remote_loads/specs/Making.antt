@@ -22,16 +22,26 @@ use Rattle.zeo_client.specs.Hearing.{Held}
 use Rattle.zeo_client.specs.Renewing.{IsAskedBeside, IsButCache, found_known, nothing, standing_as}
 use Rattle.zeo_client.specs.Taking.{ClientState}
 use Rattle.zeo_cache.specs.Intervals.{HoldsSame}
-use Rattle.remote_loads.specs.Answers.{done_answer, load_answer}
+use Rattle.remote_loads.specs.Answers.{count_answer, done_answer, load_answer}
 use Rattle.remote_loads.specs.Causes.{IsUndoRefused, unasked}
-use Rattle.remote_loads.specs.Talking.{IsAsked, IsUnsent, IsWayLost, Talks, answer_sent}
+use Rattle.remote_loads.specs.Talking.{IsAsked, IsUnsent, IsWayLost, Talks, answer_given}
 
 -- One step at most: the call wasn't sent, or no step was made, or its answer was lost, or it is answered as its reply says.
 pub data MakesOne {S T : Type 0} (steps : Request → Reply → S → S → Type 0) (request : Request) (call : Call) (answer_of : Answer → Result T Refusal) (before : S) : Result T Refusal → S → Type 0 where
   makes_unsent : (error : AskError) → IsUnsent call error → MakesOne steps request call answer_of before (Err (unasked error)) before
   makes_none : (r : Refusal) → IsWayLost r → MakesOne steps request call answer_of before (Err r) before
   makes_lost : (r : Refusal) (reply : Reply) (now : S) → IsWayLost r → steps request reply before now → MakesOne steps request call answer_of before (Err r) now
-  makes_answered : (reply : Reply) (now : S) → steps request reply before now → MakesOne steps request call answer_of before (answer_of (answer_sent reply)) now
+  makes_answered : (reply : Reply) (now : S) → steps request reply before now → MakesOne steps request call answer_of before (answer_of (answer_given request reply)) now
+
+-- a call is answered as another one, but for what it gives
+abbrev pub IsAnsweredLike : {T U : Type 0} → Result T Refusal → Result U Refusal → Type 0
+IsAnsweredLike (Ok x) (Ok y) = Unit {0}
+IsAnsweredLike (Err r) (Err s) = r ≡ s
+IsAnsweredLike _ _ = ⊥
+
+-- the asking for a front is one step at most, and answered so
+abbrev pub MakesFront : {S T : Type 0} → (Request → Reply → S → S → Type 0) → S → Result T Refusal → S → Type 0
+MakesFront steps before result now = (said : Result ℕ Refusal) × MakesOne steps request.Front calls.Sync count_answer before said now × IsAnsweredLike said result
 
 -- ---- what is sent and taken
 

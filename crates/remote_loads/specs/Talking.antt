@@ -12,7 +12,7 @@ use Rattle.zeo_messages.specs.declared.message.Message.{Message}
 use Rattle.zeo_messages.specs.declared.message.Message.TheVariants.{Answered, Asked}
 use Rattle.zeo_messages.specs.Messages.{payload_of}
 use Rattle.zeo_desk.specs.declared.asked.Asked.TheVariants as asked
-use Rattle.zeo_desk.specs.Answering.{reply_answer, sent_answer}
+use Rattle.zeo_desk.specs.Answering.{asked_of, reply_answer, sent_answer}
 use Rattle.zeo_desk.specs.Desks.{DeskState}
 use Rattle.zeo_client.specs.declared.asking.AskError.{AskError}
 use Rattle.zeo_client.specs.declared.asking.AskError.TheVariants as ask_error
@@ -81,7 +81,11 @@ pub data IsAsked {S : Type 0} (steps : Request → Reply → S → S → Type 0)
 
 -- ---- calls that name one step
 
--- the answer that is sent for the reply to such a call
+-- the answer that is sent for the reply to such a call, by what its request asks
+abbrev pub answer_given : Request → Reply → Answer
+answer_given request reply = sent_answer (asked_of request) (reply_answer (asked_of request) reply)
+
+-- and so where the reply says it all
 abbrev pub answer_sent : Reply → Answer
 answer_sent reply = sent_answer asked.Other (reply_answer asked.Other reply)
 
@@ -94,6 +98,6 @@ MayBeHeard call answer old new = (new ≡ old) ⊎ IsAnswerHeard (Some call) ans
 pub data IsCalled {S : Type 0} (steps : Request → Reply → S → S → Type 0) (request : Request) (call : Call) (before : S) (old : Held) : Result Answer Refusal → Held → S → Type 0 where
   unsent : (error : AskError) → IsUnsent call error → IsCalled steps request call before old (Err (unasked error)) old before
   unmade : (r : Refusal) → IsWayLost r → IsCalled steps request call before old (Err r) old before
-  unheard : (r : Refusal) (reply : Reply) (new : Held) (now : S) → IsWayLost r → steps request reply before now → MayBeHeard call (answer_sent reply) old new → IsCalled steps request call before old (Err r) new now
-  answered : (reply : Reply) (new : Held) (now : S) → steps request reply before now → IsAnswerHeard (Some call) (answer_sent reply) old new
-      → IsCalled steps request call before old (Ok (answer_sent reply)) new now
+  unheard : (r : Refusal) (reply : Reply) (new : Held) (now : S) → IsWayLost r → steps request reply before now → MayBeHeard call (answer_given request reply) old new → IsCalled steps request call before old (Err r) new now
+  answered : (reply : Reply) (new : Held) (now : S) → steps request reply before now → IsAnswerHeard (Some call) (answer_given request reply) old new
+      → IsCalled steps request call before old (Ok (answer_given request reply)) new now

@@ -7,7 +7,7 @@ use zb_ids::{Oid, Text8, Tid};
 use zb_model::{PendingCheck, PendingStore, Refusal};
 
 impl<'c, 'w, W: Carrier> Loads for Remote<'c, 'w, W> {
-    ghost use Rattle.std.specs.Prelude.{◌≤◌};
+    ghost use Rattle.std.specs.Prelude.{◌≤◌, ℕ};
     ghost use Rattle.std.specs.Borrow.{GName};
     ghost use Rattle.connection_view.specs.Views.{Client};
     ghost use Rattle.zeo_serving.specs.MayLaws.{told_before};
@@ -25,13 +25,14 @@ impl<'c, 'w, W: Carrier> Loads for Remote<'c, 'w, W> {
 
     ghost fresh = { λ l c. c.known };
 
-    ghost Place = { GName × GName };
+    ghost Place = { GName × GName × W.Place × ℕ };
 
-    ghost place = { λ l. (l.client.ghost_name, l.carrier.ghost_name) };
+    ghost place = { λ l. (l.client.ghost_name, l.carrier.ghost_name, W.place l.carrier.now, W.session l.carrier.now) };
 
     ghost makes = { λ old call new. IsCallCaused
         (HasLinkCause (W.faults old.carrier.now) (W.faults new.carrier.now) (W.closed new.carrier.now) new.client.now.ended) call
         × (old.client.now.held.standing.known ≤ new.client.now.held.standing.known)
+        × W.later old.carrier.now new.carrier.now
         × (W.told → (c : Client) → Stands (W.machine (W.end old.carrier.now)) (W.session old.carrier.now)
         (W.desk old.carrier.now) old.client.now c → IsCallMade (W.steps (W.session old.carrier.now))
         (W.end old.carrier.now) old.client.now call (W.end new.carrier.now)) };

@@ -44,6 +44,9 @@ pub trait Carrier {
 
     ghost place: { Self → Place };
 
+    /// What holds of a carrier and of itself later on, whatever it carried between.
+    ghost later: { Self → Self → Type 0 };
+
     /// Sends the bytes, which may be none, and gives at least one byte that came. Where it tells, and the bytes are
     /// frames of a client's messages, what comes is all that the desk sends for them; with an error some first steps
     /// that they name are made, and none of the frames for them comes any more.
@@ -59,9 +62,15 @@ pub trait Carrier {
         ensures cause { IfErr result (IsCarryCause (faults self.old) (faults self.new) (closed self.new)) }
         ensures counted { faults self.old ≤ faults self.new }
         ensures session { session self.new ≡ session self.old }
-        ensures place { place self.new ≡ place self.old };
+        ensures place { place self.new ≡ place self.old }
+        ensures later { later self.old self.new };
 
     /// A step is one that the machine may make.
     ghost stepped: { (n : ℕ) (q : Request) (r : Reply) (before after : End) → told → steps n q r before after
         → IsMachineStep (machine before) n q r (machine after) };
+
+    /// It holds where nothing was carried, and from each moment over another one to a third.
+    ghost at_once: { (c : Self) → later c c };
+
+    ghost later_on: { (a b c : Self) → later a b → later b c → later a c };
 }

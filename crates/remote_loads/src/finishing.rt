@@ -30,6 +30,8 @@ impl<'c, 'w, W: Carrier> Remote<'c, 'w, W> {
         ensures client_place { self.new.client.ghost_name ≡ self.old.client.ghost_name }
         ensures carrier_place { self.new.carrier.ghost_name ≡ self.old.carrier.ghost_name }
         ensures session { W.session self.new.carrier.now ≡ W.session self.old.carrier.now }
+        ensures inner_place { W.place self.new.carrier.now ≡ W.place self.old.carrier.now }
+        ensures later { W.later self.old.carrier.now self.new.carrier.now }
         ensures told { W.told → IsToldBehind (W.steps (W.session self.old.carrier.now))
             (W.end self.old.carrier.now) (W.desk self.old.carrier.now) self.old.client.now tid result
             self.new.client.now (W.end self.new.carrier.now) (W.desk self.new.carrier.now) }
@@ -52,6 +54,8 @@ impl<'c, 'w, W: Carrier> Remote<'c, 'w, W> {
         ensures client_place { self.new.client.ghost_name ≡ self.old.client.ghost_name }
         ensures carrier_place { self.new.carrier.ghost_name ≡ self.old.carrier.ghost_name }
         ensures session { W.session self.new.carrier.now ≡ W.session self.old.carrier.now }
+        ensures inner_place { W.place self.new.carrier.now ≡ W.place self.old.carrier.now }
+        ensures later { W.later self.old.carrier.now self.new.carrier.now }
         ensures told { W.told → IsFinishMade (W.steps (W.session self.old.carrier.now))
             (W.end self.old.carrier.now) (W.desk self.old.carrier.now) self.old.client.now
             result self.new.client.now (W.end self.new.carrier.now) (W.desk self.new.carrier.now) }
@@ -83,6 +87,8 @@ impl<'c, 'w, W: Carrier> Remote<'c, 'w, W> {
         ensures client_place { self.new.client.ghost_name ≡ self.old.client.ghost_name }
         ensures carrier_place { self.new.carrier.ghost_name ≡ self.old.carrier.ghost_name }
         ensures session { W.session self.new.carrier.now ≡ W.session self.old.carrier.now }
+        ensures inner_place { W.place self.new.carrier.now ≡ W.place self.old.carrier.now }
+        ensures later { W.later self.old.carrier.now self.new.carrier.now }
         ensures exact { W.told → (c : Client) → Stands (W.machine (W.end self.old.carrier.now))
             (W.session self.old.carrier.now) (W.desk self.old.carrier.now) self.old.client.now c
             → FinishLeaves (W.steps (W.session self.old.carrier.now)) W.machine

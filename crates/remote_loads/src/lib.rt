@@ -11,6 +11,7 @@ mod laws;
 mod link;
 mod making;
 mod remote;
+mod requesting;
 mod syncing;
 mod undoing;
 mod voting;

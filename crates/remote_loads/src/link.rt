@@ -98,6 +98,12 @@ impl<I: Source, O: Sink> Carrier for LinkCarrier<I, O> {
 
     ghost place = { λ c. tt };
 
+    ghost later = { λ a b. Unit {0} };
+
+    ghost at_once = { λ c. tt };
+
+    ghost later_on = { λ a b c before behind. tt };
+
     ghost stepped = { λ n q r before after told step. absurd told };
 
     fn carry(&mut self, alloc: Global, bytes: &[u8]) -> Result<Text8, ClientError> {

@@ -34,6 +34,8 @@ impl<'c, 'w, W: Carrier> Remote<'c, 'w, W> {
         ensures client_place { self.new.client.ghost_name ≡ self.old.client.ghost_name }
         ensures carrier_place { self.new.carrier.ghost_name ≡ self.old.carrier.ghost_name }
         ensures session { W.session self.new.carrier.now ≡ W.session self.old.carrier.now }
+        ensures inner_place { W.place self.new.carrier.now ≡ W.place self.old.carrier.now }
+        ensures later { W.later self.old.carrier.now self.new.carrier.now }
         ensures told { W.told → IsLoadMade (W.steps (W.session self.old.carrier.now))
             (W.end self.old.carrier.now) (W.desk self.old.carrier.now) self.old.client.now oid front
             result self.new.client.now (W.end self.new.carrier.now) (W.desk self.new.carrier.now) }
@@ -62,6 +64,8 @@ impl<'c, 'w, W: Carrier> Remote<'c, 'w, W> {
         ensures client_place { self.new.client.ghost_name ≡ self.old.client.ghost_name }
         ensures carrier_place { self.new.carrier.ghost_name ≡ self.old.carrier.ghost_name }
         ensures session { W.session self.new.carrier.now ≡ W.session self.old.carrier.now }
+        ensures inner_place { W.place self.new.carrier.now ≡ W.place self.old.carrier.now }
+        ensures later { W.later self.old.carrier.now self.new.carrier.now }
         ensures exact { W.told → (c : Client) → Stands (W.machine (W.end self.old.carrier.now))
             (W.session self.old.carrier.now) (W.desk self.old.carrier.now) self.old.client.now c
             → LoadLeaves (W.steps (W.session self.old.carrier.now)) W.machine
@@ -87,6 +91,8 @@ impl<'c, 'w, W: Carrier> Remote<'c, 'w, W> {
         ensures client_place { self.new.client.ghost_name ≡ self.old.client.ghost_name }
         ensures carrier_place { self.new.carrier.ghost_name ≡ self.old.carrier.ghost_name }
         ensures session { W.session self.new.carrier.now ≡ W.session self.old.carrier.now }
+        ensures inner_place { W.place self.new.carrier.now ≡ W.place self.old.carrier.now }
+        ensures later { W.later self.old.carrier.now self.new.carrier.now }
         ensures told { W.told → IsMadeBy (W.steps (W.session self.old.carrier.now))
             (W.end self.old.carrier.now) (W.desk self.old.carrier.now) self.old.client.now (Call.NewOids 1)
             oid_answer left_alone
@@ -110,6 +116,8 @@ impl<'c, 'w, W: Carrier> Remote<'c, 'w, W> {
         ensures client_place { self.new.client.ghost_name ≡ self.old.client.ghost_name }
         ensures carrier_place { self.new.carrier.ghost_name ≡ self.old.carrier.ghost_name }
         ensures session { W.session self.new.carrier.now ≡ W.session self.old.carrier.now }
+        ensures inner_place { W.place self.new.carrier.now ≡ W.place self.old.carrier.now }
+        ensures later { W.later self.old.carrier.now self.new.carrier.now }
         ensures exact { W.told → (c : Client) → Stands (W.machine (W.end self.old.carrier.now))
             (W.session self.old.carrier.now) (W.desk self.old.carrier.now) self.old.client.now c
             → OidLeaves (W.steps (W.session self.old.carrier.now)) W.machine
@@ -133,6 +141,8 @@ impl<'c, 'w, W: Carrier> Remote<'c, 'w, W> {
         ensures client_place { self.new.client.ghost_name ≡ self.old.client.ghost_name }
         ensures carrier_place { self.new.carrier.ghost_name ≡ self.old.carrier.ghost_name }
         ensures session { W.session self.new.carrier.now ≡ W.session self.old.carrier.now }
+        ensures inner_place { W.place self.new.carrier.now ≡ W.place self.old.carrier.now }
+        ensures later { W.later self.old.carrier.now self.new.carrier.now }
         ensures told { W.told → IsMadeBy (W.steps (W.session self.old.carrier.now))
             (W.end self.old.carrier.now) (W.desk self.old.carrier.now) self.old.client.now Call.TpcAbort
             done_answer free_if_done
@@ -160,6 +170,8 @@ impl<'c, 'w, W: Carrier> Remote<'c, 'w, W> {
         ensures client_place { self.new.client.ghost_name ≡ self.old.client.ghost_name }
         ensures carrier_place { self.new.carrier.ghost_name ≡ self.old.carrier.ghost_name }
         ensures session { W.session self.new.carrier.now ≡ W.session self.old.carrier.now }
+        ensures inner_place { W.place self.new.carrier.now ≡ W.place self.old.carrier.now }
+        ensures later { W.later self.old.carrier.now self.new.carrier.now }
         ensures exact { W.told → (c : Client) → Stands (W.machine (W.end self.old.carrier.now))
             (W.session self.old.carrier.now) (W.desk self.old.carrier.now) self.old.client.now c
             → AbortLeaves (W.steps (W.session self.old.carrier.now)) W.machine

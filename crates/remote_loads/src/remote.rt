@@ -68,6 +68,8 @@ impl<'c, 'w, W: Carrier> Remote<'c, 'w, W> {
         ensures client_place { self.new.client.ghost_name ≡ self.old.client.ghost_name }
         ensures carrier_place { self.new.carrier.ghost_name ≡ self.old.carrier.ghost_name }
         ensures session { W.session self.new.carrier.now ≡ W.session self.old.carrier.now }
+        ensures inner_place { W.place self.new.carrier.now ≡ W.place self.old.carrier.now }
+        ensures later { W.later self.old.carrier.now self.new.carrier.now }
         ensures told { W.told → Exchanges (W.steps (W.session self.old.carrier.now))
             (W.end self.old.carrier.now) (W.desk self.old.carrier.now) self.old.client.now text.now
             result self.new.client.now (W.end self.new.carrier.now) (W.desk self.new.carrier.now) }
@@ -93,6 +95,8 @@ impl<'c, 'w, W: Carrier> Remote<'c, 'w, W> {
         ensures client_place { self.new.client.ghost_name ≡ self.old.client.ghost_name }
         ensures carrier_place { self.new.carrier.ghost_name ≡ self.old.carrier.ghost_name }
         ensures session { W.session self.new.carrier.now ≡ W.session self.old.carrier.now }
+        ensures inner_place { W.place self.new.carrier.now ≡ W.place self.old.carrier.now }
+        ensures later { W.later self.old.carrier.now self.new.carrier.now }
     {
         'waiting: for _ in 0..u64::MAX {
             let text = Text8::new(self.alloc);
@@ -119,6 +123,8 @@ impl<'c, 'w, W: Carrier> Remote<'c, 'w, W> {
         ensures client_place { self.new.client.ghost_name ≡ self.old.client.ghost_name }
         ensures carrier_place { self.new.carrier.ghost_name ≡ self.old.carrier.ghost_name }
         ensures session { W.session self.new.carrier.now ≡ W.session self.old.carrier.now }
+        ensures inner_place { W.place self.new.carrier.now ≡ W.place self.old.carrier.now }
+        ensures later { W.later self.old.carrier.now self.new.carrier.now }
         ensures told { W.told → Talks (W.steps (W.session self.old.carrier.now))
             (W.end self.old.carrier.now) (W.desk self.old.carrier.now) self.old.client.now text
             result self.new.client.now (W.end self.new.carrier.now) (W.desk self.new.carrier.now) }
@@ -146,6 +152,8 @@ impl<'c, 'w, W: Carrier> Remote<'c, 'w, W> {
         ensures client_place { self.new.client.ghost_name ≡ self.old.client.ghost_name }
         ensures carrier_place { self.new.carrier.ghost_name ≡ self.old.carrier.ghost_name }
         ensures session { W.session self.new.carrier.now ≡ W.session self.old.carrier.now }
+        ensures inner_place { W.place self.new.carrier.now ≡ W.place self.old.carrier.now }
+        ensures later { W.later self.old.carrier.now self.new.carrier.now }
         ensures told { W.told → IsAsked (W.steps (W.session self.old.carrier.now))
             (W.end self.old.carrier.now) (W.desk self.old.carrier.now) self.old.client.now call
             result self.new.client.now (W.end self.new.carrier.now) (W.desk self.new.carrier.now) }

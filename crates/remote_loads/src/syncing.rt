@@ -33,6 +33,8 @@ impl<'c, 'w, W: Carrier> Remote<'c, 'w, W> {
         ensures client_place { self.new.client.ghost_name ≡ self.old.client.ghost_name }
         ensures carrier_place { self.new.carrier.ghost_name ≡ self.old.carrier.ghost_name }
         ensures session { W.session self.new.carrier.now ≡ W.session self.old.carrier.now }
+        ensures inner_place { W.place self.new.carrier.now ≡ W.place self.old.carrier.now }
+        ensures later { W.later self.old.carrier.now self.new.carrier.now }
         ensures told { W.told → IsMadeBy (W.steps (W.session self.old.carrier.now))
             (W.end self.old.carrier.now) (W.desk self.old.carrier.now) self.old.client.now Call.Sync
             count_answer left_alone result self.new.client.now (W.end self.new.carrier.now)
@@ -56,6 +58,8 @@ impl<'c, 'w, W: Carrier> Remote<'c, 'w, W> {
         ensures client_place { self.new.client.ghost_name ≡ self.old.client.ghost_name }
         ensures carrier_place { self.new.carrier.ghost_name ≡ self.old.carrier.ghost_name }
         ensures session { W.session self.new.carrier.now ≡ W.session self.old.carrier.now }
+        ensures inner_place { W.place self.new.carrier.now ≡ W.place self.old.carrier.now }
+        ensures later { W.later self.old.carrier.now self.new.carrier.now }
         ensures exact { W.told → (c : Client) → Stands (W.machine (W.end self.old.carrier.now))
             (W.session self.old.carrier.now) (W.desk self.old.carrier.now) self.old.client.now c
             → SyncLeaves (W.steps (W.session self.old.carrier.now)) W.machine
@@ -80,6 +84,8 @@ impl<'c, 'w, W: Carrier> Remote<'c, 'w, W> {
         ensures client_place { self.new.client.ghost_name ≡ self.old.client.ghost_name }
         ensures carrier_place { self.new.carrier.ghost_name ≡ self.old.carrier.ghost_name }
         ensures session { W.session self.new.carrier.now ≡ W.session self.old.carrier.now }
+        ensures inner_place { W.place self.new.carrier.now ≡ W.place self.old.carrier.now }
+        ensures later { W.later self.old.carrier.now self.new.carrier.now }
         ensures exact { W.told → (c : Client) → Stands (W.machine (W.end self.old.carrier.now))
             (W.session self.old.carrier.now) (W.desk self.old.carrier.now) self.old.client.now c
             → SyncLeaves (W.steps (W.session self.old.carrier.now)) W.machine
@@ -104,6 +110,8 @@ impl<'c, 'w, W: Carrier> Remote<'c, 'w, W> {
         ensures client_place { self.new.client.ghost_name ≡ self.old.client.ghost_name }
         ensures carrier_place { self.new.carrier.ghost_name ≡ self.old.carrier.ghost_name }
         ensures session { W.session self.new.carrier.now ≡ W.session self.old.carrier.now }
+        ensures inner_place { W.place self.new.carrier.now ≡ W.place self.old.carrier.now }
+        ensures later { W.later self.old.carrier.now self.new.carrier.now }
         ensures told { W.told → IsRegistered (W.steps (W.session self.old.carrier.now))
             (W.end self.old.carrier.now) (W.desk self.old.carrier.now) self.old.client.now
             result self.new.client.now (W.end self.new.carrier.now) (W.desk self.new.carrier.now) }
@@ -129,6 +137,8 @@ impl<'c, 'w, W: Carrier> Remote<'c, 'w, W> {
         ensures client_place { self.new.client.ghost_name ≡ self.old.client.ghost_name }
         ensures carrier_place { self.new.carrier.ghost_name ≡ self.old.carrier.ghost_name }
         ensures session { W.session self.new.carrier.now ≡ W.session self.old.carrier.now }
+        ensures inner_place { W.place self.new.carrier.now ≡ W.place self.old.carrier.now }
+        ensures later { W.later self.old.carrier.now self.new.carrier.now }
         ensures exact { W.told → IsNewcomer (W.machine (W.end self.old.carrier.now))
             (W.session self.old.carrier.now) (W.desk self.old.carrier.now) self.old.client.now
             → RegisterLeaves (W.steps (W.session self.old.carrier.now)) W.machine
@@ -153,6 +163,8 @@ impl<'c, 'w, W: Carrier> Remote<'c, 'w, W> {
         ensures client_place { self.new.client.ghost_name ≡ self.old.client.ghost_name }
         ensures carrier_place { self.new.carrier.ghost_name ≡ self.old.carrier.ghost_name }
         ensures session { W.session self.new.carrier.now ≡ W.session self.old.carrier.now }
+        ensures inner_place { W.place self.new.carrier.now ≡ W.place self.old.carrier.now }
+        ensures later { W.later self.old.carrier.now self.new.carrier.now }
         ensures exact { W.told → IsNewcomer (W.machine (W.end self.old.carrier.now))
             (W.session self.old.carrier.now) (W.desk self.old.carrier.now) self.old.client.now
             → RegisterLeaves (W.steps (W.session self.old.carrier.now)) W.machine

@@ -41,6 +41,8 @@ impl<'c, 'w, W: Carrier> Remote<'c, 'w, W> {
         ensures client_place { self.new.client.ghost_name ≡ self.old.client.ghost_name }
         ensures carrier_place { self.new.carrier.ghost_name ≡ self.old.carrier.ghost_name }
         ensures session { W.session self.new.carrier.now ≡ W.session self.old.carrier.now }
+        ensures inner_place { W.place self.new.carrier.now ≡ W.place self.old.carrier.now }
+        ensures later { W.later self.old.carrier.now self.new.carrier.now }
         ensures told { W.told → IsVoteMade (W.steps (W.session self.old.carrier.now))
             (W.end self.old.carrier.now) (W.desk self.old.carrier.now) self.old.client.now user.now
             description.now stores.now checks.now
@@ -80,6 +82,8 @@ impl<'c, 'w, W: Carrier> Remote<'c, 'w, W> {
         ensures client_place { self.new.client.ghost_name ≡ self.old.client.ghost_name }
         ensures carrier_place { self.new.carrier.ghost_name ≡ self.old.carrier.ghost_name }
         ensures session { W.session self.new.carrier.now ≡ W.session self.old.carrier.now }
+        ensures inner_place { W.place self.new.carrier.now ≡ W.place self.old.carrier.now }
+        ensures later { W.later self.old.carrier.now self.new.carrier.now }
         ensures exact { W.told → (c : Client) → Stands (W.machine (W.end self.old.carrier.now))
             (W.session self.old.carrier.now) (W.desk self.old.carrier.now) self.old.client.now c
             → VoteLeaves (W.steps (W.session self.old.carrier.now)) W.machine
@@ -106,6 +110,8 @@ impl<'c, 'w, W: Carrier> Remote<'c, 'w, W> {
         ensures client_place { self.new.client.ghost_name ≡ self.old.client.ghost_name }
         ensures carrier_place { self.new.carrier.ghost_name ≡ self.old.carrier.ghost_name }
         ensures session { W.session self.new.carrier.now ≡ W.session self.old.carrier.now }
+        ensures inner_place { W.place self.new.carrier.now ≡ W.place self.old.carrier.now }
+        ensures later { W.later self.old.carrier.now self.new.carrier.now }
         ensures told { W.told → IsUndoMade (W.steps (W.session self.old.carrier.now))
             (W.end self.old.carrier.now) (W.desk self.old.carrier.now) self.old.client.now user.now
             description.now tids.now
@@ -141,6 +147,8 @@ impl<'c, 'w, W: Carrier> Remote<'c, 'w, W> {
         ensures client_place { self.new.client.ghost_name ≡ self.old.client.ghost_name }
         ensures carrier_place { self.new.carrier.ghost_name ≡ self.old.carrier.ghost_name }
         ensures session { W.session self.new.carrier.now ≡ W.session self.old.carrier.now }
+        ensures inner_place { W.place self.new.carrier.now ≡ W.place self.old.carrier.now }
+        ensures later { W.later self.old.carrier.now self.new.carrier.now }
         ensures exact { W.told → (c : Client) → Stands (W.machine (W.end self.old.carrier.now))
             (W.session self.old.carrier.now) (W.desk self.old.carrier.now) self.old.client.now c
             → UndoLeaves (W.steps (W.session self.old.carrier.now)) W.machine

@@ -8,4 +8,6 @@ invariant-waiting g l = record {
   client_place : l.self.client.ghost_name ≡ l.fn.self.client.ghost_name;
   carrier_place : l.self.carrier.ghost_name ≡ l.fn.self.carrier.ghost_name;
   session : g.W.Carrier.session l.self.carrier.now ≡ g.W.Carrier.session l.fn.self.carrier.now;
+  later : g.W.Carrier.later l.fn.self.carrier.now l.self.carrier.now;
+  inner_place : g.W.Carrier.place l.self.carrier.now ≡ g.W.Carrier.place l.fn.self.carrier.now;
 }
