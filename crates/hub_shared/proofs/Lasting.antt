@@ -1,7 +1,6 @@
 -- What a crash leaves of a history, and of one that is longer.
-use Rattle.std.proofs.Common.{◌≡◌, ℕ, ◌≤◌, ◌⊎◌, inl, inr, Bool, true, false, List, [], ◌∷◌, ◌++◌, Option, refl, ap, sym, ◌∙◌, subst, arith}
+use Rattle.std.proofs.Common.{◌≡◌, ℕ, ◌⊎◌, inl, inr, Bool, true, false, List, [], ◌∷◌, ◌++◌, refl, ap, sym, ◌∙◌, subst, arith}
 use Rattle.std.proofs.lemmas.List.{append-nil}
-use mathlib.Core.List.{IsPrefix}
 use Rattle.zb_base.specs.Counts.{Rose, rose_after}
 use Rattle.zb_model.specs.declared.data.Transaction.{Transaction}
 use Rattle.zb_volume.specs.declared.areas.Area.TheVariants.{Main}
@@ -9,11 +8,10 @@ use Rattle.zb_volume.specs.Calls.{Event}
 use Rattle.zb_volume.specs.Moments.{Leaves, LeavesOnly}
 use Rattle.zb_volume.specs.Runs.{joined, leaves_less}
 use Rattle.zodb_core.specs.declared.reply.Reply.{Reply}
-use Rattle.zodb_core.specs.declared.request.Request.{Request}
 use Rattle.zodb_core.specs.History.{Entry, HistoryStep, Made}
 use Rattle.zodb_core.specs.HubState.{HubState, IsBeforeOrBehind, IsCauseOf, StandsForMachine, StepsSafely, counts_of, is_store_failed}
 use Rattle.zodb_core.specs.Machine.{Machine, Rules, machine_over}
-use Rattle.zodb_core.specs.Outcomes.{Answered, FaultCounts, NoMemory, ReadingFailed, StepOutcome, StoreFailed, outcome_of}
+use Rattle.zodb_core.specs.Outcomes.{Answered, AreLaterCounts, FaultCounts, NoMemory, ReadingFailed, StepOutcome, StoreFailed, outcome_of}
 use Rattle.hub_shared.specs.Lasted.{nothing_lasted}
 use Rattle.hub_shared.specs.Seats.{HasLasted, IsOfHistory, IsOfNext, machine_of}
 use Rattle.hub_shared.proofs.Seats.{prefix_on}
@@ -49,15 +47,20 @@ pub step_lasted : {R F : Type 0} (lasts told : Type 0) (stands : List ℕ → Li
     → (lasts → told → old.store.broken ≡ false → (m : Machine) → StandsForMachine old m → LeavesOnly Main (IsBeforeOrBehind stands now m e.session e.request) old.store.log new.store.log)
     → HasLasted lasts told stands rules list counts log was_broken (entries ++ Made e ∷ []) new
 step_lasted lasts told stands now rules list counts log was_broken entries old new packs e r lasted safe stays same is only = record {
-  later = omega (arith, lasted.later, safe.later.others);
+  later = record { reads = omega (arith, lasted.later.reads, safe.later.reads); others = omega (arith, lasted.later.others, safe.later.others) };
+  same = λ whole now. still old.store.broken refl whole now;
   broken = λ whole. by_store old.store.broken refl whole;
   moments = λ l t whole. along l t whole old.store.broken refl;
 }
   where
+    still : (b : Bool) → old.store.broken ≡ b → was_broken ≡ false → new.store.broken ≡ false → new.store.faults ≡ counts.others
+    still true was whole now = absurd (let is = sym (ap (λ (h : HubState _ _). h.store.broken) (stays was) ∙ was) ∙ now in cc)
+    still false was whole now = safe.others (sym (safe.broken was) ∙ now) ∙ lasted.same whole was
+
     by_store : (b : Bool) → old.store.broken ≡ b → was_broken ≡ false → new.store.broken ≡ true → Rose counts.others new.store.faults
     by_store true was whole broken = subst (λ (h : HubState _ _). Rose counts.others h.store.faults) (sym (stays was)) (lasted.broken whole was)
     by_store false was whole broken =
-        rose_after counts.others old.store.faults new.store.faults lasted.later
+        rose_after counts.others old.store.faults new.store.faults lasted.later.others
         (failed_rose (counts_of old.store) (counts_of new.store) (outcome_of r) (sym (safe.broken was) ∙ broken) safe.cause)
 
     before : lasts → told → was_broken ≡ false → LeavesOnly Main (IsOfHistory stands rules list (entries ++ Made e ∷ [])) log old.store.log
@@ -77,7 +80,8 @@ pub opening_lasted : {R F : Type 0} (lasts told : Type 0) (stands : List ℕ →
     → HasLasted lasts told stands rules list counts log was_broken entries old → new.store ≡ old.store
     → HasLasted lasts told stands rules list counts log was_broken (entries ++ e ∷ []) new
 opening_lasted lasts told stands rules list counts log was_broken entries old new e lasted same = record {
-  later = subst (λ s. counts.others ≤ s.faults) (sym same) lasted.later;
+  later = subst (λ s. AreLaterCounts counts (counts_of s)) (sym same) lasted.later;
+  same = subst (λ s. was_broken ≡ false → s.broken ≡ false → s.faults ≡ counts.others) (sym same) lasted.same;
   broken = subst (λ s. was_broken ≡ false → s.broken ≡ true → Rose counts.others s.faults) (sym same) lasted.broken;
   moments = λ l t whole. subst (λ s. LeavesOnly Main (IsOfHistory stands rules list (entries ++ e ∷ [])) log s.log) (sym same)
       (leaves_less Main (IsOfHistory stands rules list entries) (IsOfHistory stands rules list (entries ++ e ∷ [])) log old.store.log (of_more stands rules list entries e) (lasted.moments l t whole));

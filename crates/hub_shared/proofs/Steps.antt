@@ -1,15 +1,14 @@
 -- A step under the lock leaves a legal history, and the hub stands for the machine behind it.
-use Rattle.std.proofs.Common.{◌≡◌, ◌≢◌, ℕ, ◌+◌, ◌≤◌, ◌<◌, Bool, true, false, Option, Some, None, List, [], ◌∷◌, ◌++◌, length, refl, ap, sym, ◌∙◌, subst, arith, length-append}
+use Rattle.std.proofs.Common.{◌≡◌, ℕ, ◌+◌, ◌<◌, Bool, true, false, Option, Some, None, List, [], ◌∷◌, ◌++◌, length, refl, ap, sym, ◌∙◌, subst, arith, length-append}
 use Rattle.zb_ids.specs.declared.stamp.Stamp.{Stamp}
 use Rattle.zb_model.specs.declared.data.Transaction.{Transaction}
 use Rattle.zb_model.specs.Rules.{MergeRules}
 use Rattle.hub_clock.specs.declared.view.SeatView.{SeatView}
 use Rattle.hub_clock.specs.Histories.{own_more}
-use Rattle.hub_clock.specs.Rules.{entries_of}
 use Rattle.zodb_core.specs.declared.reply.Reply.{Reply}
 use Rattle.zodb_core.specs.declared.request.Request.{Request}
-use Rattle.zodb_core.specs.Entries.{counts_more, legal_more, machine_more, openings_in, openings_more, session_of, steps_are_entries}
-use Rattle.zodb_core.specs.History.{Entry, IsEntryFor, IsNextEntry, Opened, counts_after, entry_made}
+use Rattle.zodb_core.specs.Entries.{counts_more, legal_more, machine_more, openings_more, session_of, steps_are_entries}
+use Rattle.zodb_core.specs.History.{Entry, IsEntryFor, IsNextEntry, Opened, entry_made}
 use Rattle.zodb_core.specs.HubState.{HasTicked, HubState, MakesStepAt, StandsForMachine, StepsByClock, StepsSafely, counts_of, pack_with, rules_of, sessions_with, vote_of_hub}
 use Rattle.std.specs.Option.{option_map}
 use Rattle.zodb_core.specs.Machine.{Machine, MachineSession, Rules, machine_over, new_session, with_session}

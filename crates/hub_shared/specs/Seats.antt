@@ -1,5 +1,5 @@
 -- What passes, ears and the seat under the lock know, and what holds under the lock. Own.
-use Rattle.std.specs.Prelude.{◌≡◌, ℕ, ◌≤◌, ◌⊎◌, Bool, true, false, Option, Some, None, List, [], ◌∷◌, ◌++◌, length, drop, not, ◌&&◌}
+use Rattle.std.specs.Prelude.{◌≡◌, ℕ, ◌≤◌, ◌⊎◌, Bool, true, false, Some, None, List, [], ◌∷◌, ◌++◌, length, drop, not, ◌&&◌}
 use Rattle.std.specs.List.{list_any}
 use mathlib.Core.List.{IsPrefix}
 use Rattle.zb_base.specs.Counts.{Rose}
@@ -16,7 +16,7 @@ use Rattle.zodb_core.specs.History.{Entry, HistoryStep, IsLegalOver, Made, count
 use Rattle.zodb_core.specs.HubState.{HubState, StandsForMachine, counts_of, sessions_with}
 use Rattle.zodb_core.specs.Machine.{Machine, Rules, is_news_for, is_open_in, machine_over}
 use Rattle.zodb_core.specs.Waiting.{is_held_by_another}
-use Rattle.zodb_core.specs.Outcomes.{FaultCounts}
+use Rattle.zodb_core.specs.Outcomes.{AreLaterCounts, FaultCounts}
 use Rattle.zodb_core.specs.Steps.{step_of}
 
 -- what a pass knows: its session, the history that it has seen, and the place there of the session's last entry
@@ -88,10 +88,11 @@ pub record IsOfHistory (stands : List ℕ → List Transaction → Type 0) (rule
   pub begins : IsPrefix front entries
   pub is : stands bytes (machine_of rules list front).list ⊎ IsOfNext stands rules list front entries bytes
 
--- What a history has done to the store since it began: its other faults were counted; it failed only where that count rose; and where its list lies on a disk, what
+-- What a history has done to the store since it began: its counts of faults haven't fallen; that of other faults than reads is as it was, unless it failed, and then it rose; and where its list lies on a disk, what
 -- a crash left at any moment is of the history. `was_broken` says that it had failed before.
 pub record HasLasted {R F : Type 0} (lasts told : Type 0) (stands : List ℕ → List Transaction → Type 0) (rules : Rules) (list : List Transaction) (counts : FaultCounts) (log : List Event) (was_broken : Bool) (entries : List Entry) (hub : HubState R F) : Type 0 where
-  pub later : counts.others ≤ hub.store.faults
+  pub later : AreLaterCounts counts (counts_of hub.store)
+  pub same : was_broken ≡ false → hub.store.broken ≡ false → hub.store.faults ≡ counts.others
   pub broken : was_broken ≡ false → hub.store.broken ≡ true → Rose counts.others hub.store.faults
   pub moments : lasts → told → was_broken ≡ false → LeavesOnly Main (IsOfHistory stands rules list entries) log hub.store.log
 

@@ -6,6 +6,8 @@
 #[cfg(test)]
 mod doors;
 #[cfg(test)]
+mod links;
+#[cfg(test)]
 mod made;
 #[cfg(test)]
 mod numbers;
@@ -21,3 +23,5 @@ mod sinks;
 mod spawners;
 #[cfg(test)]
 mod votes;
+#[cfg(test)]
+mod wires;

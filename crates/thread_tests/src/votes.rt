@@ -112,6 +112,8 @@ fn vote_from<
     requires empty { hub.sessions ≡ [] }
     requires rules { rules_of R.rules F.named hub ≡ J.rules }
     requires counts { counts_of hub.store ≡ J.counts }
+    requires log { hub.store.log ≡ J.log }
+    requires broken { hub.store.broken ≡ J.broken }
     requires stands { St.told → StandsForMachine hub (machine_over J.list) }
 {
     let (word, seat) = opened.into_named::<J>();

@@ -1,4 +1,4 @@
-use Rattle.std.proofs.Common.{◌≡◌, ℕ, ◌+◌, ◌<◌, List, ◌++◌, [], ◌∷◌, Some, false, length, refl, ap, sym, ◌∙◌, subst, inl}
+use Rattle.std.proofs.Common.{◌≡◌, ◌+◌, List, ◌++◌, [], ◌∷◌, length, refl, ap, sym, ◌∙◌, subst, inl}
 use Rattle.hub_clock.specs.declared.view.SeatView.{SeatView}
 use Rattle.hub_clock.specs.Rules.{without_pen, without_session}
 use Rattle.zodb_core.specs.declared.request.Request.{Request}

@@ -1,0 +1,229 @@
+//! Links that are accepted and served, all in one history.
+
+use crate::made::new_hub;
+use crate::serves::{ANSWERS, NEW_OIDS, REGISTER, VOTE};
+use crate::wires::{Wire, WireDoors, WireSink, WireSource};
+use std::alloc::{AllocError, Global};
+use std::collections::VecDeque;
+use std::io::{Read, Write};
+use std::net::{Ipv4Addr, Net, Shutdown, TcpListener, TcpStream};
+use std::sync::{Condvar, Mutex, Wait};
+use std::test::Fail;
+use std::thread;
+use std::thread::Threads;
+use zb_ids::Stamp;
+use zb_links::{CountedSpawner, Doors, MemoryDoors, Spawner, TcpDoors, ThreadSpawner};
+use zb_outside::{ListClock, MemorySink, MemorySource};
+use zeo_serving_links::{Served, ServingEnd, serve};
+
+/// `tpc_finish`, with number 5.
+const FINISH: [u8; 29] = [
+    0x00, 0x00, 0x00, 0x19, 0x80, 0x03, 0x28, 0x4b, 0x05, 0x4b, 0x00, 0x58, 0x0a, 0x00, 0x00, 0x00,
+    0x74, 0x70, 0x63, 0x5f, 0x66, 0x69, 0x6e, 0x69, 0x73, 0x68, 0x29, 0x74, 0x2e,
+];
+
+/// What another session is told of that commit: the first tid of 2024 behind the first transaction,
+/// and object 1.
+const TOLD: [u8; 62] = [
+    0x00, 0x00, 0x00, 0x3a, 0x80, 0x03, 0x28, 0x4b, 0x00, 0x4b, 0x01, 0x58, 0x15, 0x00, 0x00, 0x00,
+    0x69, 0x6e, 0x76, 0x61, 0x6c, 0x69, 0x64, 0x61, 0x74, 0x65, 0x54, 0x72, 0x61, 0x6e, 0x73, 0x61,
+    0x63, 0x74, 0x69, 0x6f, 0x6e, 0x43, 0x08, 0x03, 0xf5, 0x8e, 0x00, 0x00, 0x00, 0x00, 0x01, 0x5d,
+    0x43, 0x08, 0x00, 0x00, 0x00, 0x00, 0x00, 0x00, 0x00, 0x01, 0x61, 0x86, 0x74, 0x2e,
+];
+
+/// Serves links over a new database of 2024.
+fn serve_links<D: Doors, P: Spawner, W: Threads + Wait + Sync>(
+    rt: &W,
+    alloc: Global,
+    doors: &mut D,
+    spawner: &mut P,
+    port: u16,
+    count: u32,
+) -> Result<Served, Fail> {
+    let stamp = Stamp::new(2024, 1, 1, 0, 0, 0)?;
+    let hub = new_hub(alloc, stamp)?;
+    let mut clock = ListClock::new(stamp, Vec::new(alloc));
+    let (_hub, served) = serve(rt, alloc, hub, &mut clock, doors, spawner, port, count);
+    Ok(served)
+}
+
+/// A wire on which nothing was sent.
+fn wire(alloc: Global) -> Wire {
+    Wire {
+        bytes: Mutex::new(Vec::new(alloc)),
+        moved: Condvar::new(),
+    }
+}
+
+/// The ends of a link: a client that sends two pieces and then ends, each once so many bytes were
+/// sent on some wire, and the sink at which it is sent to.
+fn link<'a, R: Wait>(
+    rt: &'a R,
+    alloc: Global,
+    heard: &'a Wire,
+    sent: &'a Wire,
+    first: (usize, &[u8]),
+    end: usize,
+) -> Result<(WireSource<'a, R>, WireSink<'a, R>), AllocError> {
+    let mut pieces = VecDeque::new(alloc);
+    pieces.push_back((first.0, first.1.to_vec(alloc)?))?;
+    pieces.push_back((end, Vec::new(alloc)))?;
+    let link_in = WireSource {
+        rt,
+        wire: heard,
+        pieces,
+    };
+    let link_out = WireSink {
+        rt,
+        wire: sent,
+        faults: 0,
+    };
+    Ok((link_in, link_out))
+}
+
+#[test]
+fn serve_one_link(rt: HostRuntime) -> Result<(), Fail> {
+    let alloc = rt.alloc();
+    let sent = wire(alloc);
+    let mut asked = REGISTER.to_vec(alloc)?;
+    asked.extend_from_slice(&NEW_OIDS)?;
+    let mut links = VecDeque::new(alloc);
+    links.push_back(link(&rt, alloc, &sent, &sent, (0, asked.as_slice()), 0)?)?;
+    let mut doors = WireDoors { links, faults: 0 };
+    let mut spawner = CountedSpawner::new(Vec::new(alloc));
+    let served = serve_links(&rt, alloc, &mut doors, &mut spawner, 0, 1)?;
+    assert_eq!(rt;
+        served,
+        Served {
+            end: ServingEnd::All,
+            faulty: 0,
+        }
+    );
+    assert_eq!(rt; sent.bytes.lock(&rt).as_slice(), ANSWERS.as_slice());
+    Ok(())
+}
+
+#[test]
+fn a_commit_is_told_to_the_other_link(rt: HostRuntime) -> Result<(), Fail> {
+    let alloc = rt.alloc();
+    let one = wire(alloc);
+    let other = wire(alloc);
+    let mut asked = REGISTER.to_vec(alloc)?;
+    asked.extend_from_slice(&VOTE)?;
+    asked.extend_from_slice(&FINISH)?;
+    let mut links = VecDeque::new(alloc);
+    // The first client commits once the other was answered, which ends once it was told.
+    links.push_back(link(&rt, alloc, &other, &one, (34, asked.as_slice()), 96)?)?;
+    links.push_back(link(&rt, alloc, &other, &other, (0, REGISTER.as_slice()), 96)?)?;
+    let mut doors = WireDoors { links, faults: 0 };
+    let served = serve_links(&rt, alloc, &mut doors, &mut ThreadSpawner::new(), 0, 2)?;
+    assert_eq!(rt; served.end, ServingEnd::All);
+    assert_eq!(rt; served.faulty, 0);
+    let told = other.bytes.lock(&rt);
+    assert_eq!(rt; &told[..34], &ANSWERS[..34]);
+    assert_eq!(rt; &told[34..], TOLD.as_slice());
+    Ok(())
+}
+
+/// Links in memory, whose clients send `register`; the first one's reads fail as told.
+fn memory_links(
+    alloc: Global,
+    count: usize,
+    failing: u64,
+) -> Result<Vec<(MemorySource, MemorySink)>, AllocError> {
+    let mut links = Vec::new(alloc);
+    for number in 0..count {
+        let fails = if number == 0 { failing } else { 0 };
+        let source = MemorySource::new(REGISTER.to_vec(alloc)?, vec![in alloc; fails]?);
+        links.push((source, MemorySink::new(alloc, Vec::new(alloc))))?;
+    }
+    Ok(links)
+}
+
+#[test]
+fn a_link_that_fails_is_counted(rt: HostRuntime) -> Result<(), Fail> {
+    let alloc = rt.alloc();
+    let mut doors = MemoryDoors::new(memory_links(alloc, 2, 2)?, Vec::new(alloc));
+    let mut spawner = CountedSpawner::new(Vec::new(alloc));
+    let served = serve_links(&rt, alloc, &mut doors, &mut spawner, 7, 2)?;
+    assert_eq!(rt; served.end, ServingEnd::All);
+    assert_eq!(rt; served.faulty, 1);
+    Ok(())
+}
+
+#[test]
+fn no_link_comes(rt: HostRuntime) -> Result<(), Fail> {
+    let alloc = rt.alloc();
+    let mut spawner = CountedSpawner::new(Vec::new(alloc));
+    let mut doors = MemoryDoors::new(memory_links(alloc, 1, 0)?, Vec::new(alloc));
+    let served = serve_links(&rt, alloc, &mut doors, &mut spawner, 7, 2)?;
+    assert_eq!(rt; served.end, ServingEnd::NoLink);
+    assert_eq!(rt; served.faulty, 0);
+    let mut doors = MemoryDoors::new(memory_links(alloc, 1, 0)?, vec![in alloc; 1]?);
+    let served = serve_links(&rt, alloc, &mut doors, &mut spawner, 7, 1)?;
+    assert_eq!(rt; served.end, ServingEnd::NoLink);
+    Ok(())
+}
+
+#[test]
+fn a_worker_is_not_started(rt: HostRuntime) -> Result<(), Fail> {
+    let alloc = rt.alloc();
+    let mut doors = MemoryDoors::new(memory_links(alloc, 2, 0)?, Vec::new(alloc));
+    let mut spawner = CountedSpawner::new(vec![in alloc; 3]?);
+    let served = serve_links(&rt, alloc, &mut doors, &mut spawner, 7, 2)?;
+    assert_eq!(rt; served.end, ServingEnd::NoWorkers);
+    assert_eq!(rt; served.faulty, 0);
+    Ok(())
+}
+
+/// Asks a server at a port of this machine, once it is there, and takes so many bytes of its answers.
+fn ask_at<R: Net<Listener = TcpListener, Stream = TcpStream>>(
+    net: &R,
+    port: u16,
+    asked: &[u8],
+    told: &mut [u8],
+) -> bool {
+    for _ in 0..1_000_000u32 {
+        let Ok(mut stream) = TcpStream::connect(net, (Ipv4Addr::LOCALHOST, port)) else {
+            thread::yield_now();
+            continue;
+        };
+        return stream.write_all(asked).is_ok()
+            && stream.shutdown(Shutdown::Write).is_ok()
+            && stream.read_exact(told).is_ok();
+    }
+    false
+}
+
+/// A port of this machine that is free.
+fn free_port<R: Net<Listener = TcpListener, Stream = TcpStream> + Drop>(net: R) -> u16 {
+    let mut doors = TcpDoors::new(net);
+    if doors.bind(0).is_err() {
+        return 0;
+    }
+    doors.port().unwrap_or(0)
+}
+
+#[test]
+fn tcp_doors_serve_a_link_to_itself(rt: HostRuntime) -> Result<(), Fail> {
+    let alloc = rt.alloc();
+    let port = free_port(&rt);
+    let mut told = [0; 34];
+    let mut doors = TcpDoors::new(&rt);
+    let mut spawner = ThreadSpawner::new();
+    let (served, asked) = thread::join(
+        &rt,
+        || serve_links(&rt, alloc, &mut doors, &mut spawner, port, 1),
+        || ask_at(&rt, port, &REGISTER, &mut told),
+    );
+    assert!(rt; asked);
+    assert_eq!(rt;
+        served?,
+        Served {
+            end: ServingEnd::All,
+            faulty: 0,
+        }
+    );
+    assert_eq!(rt; &told[..], &ANSWERS[..34]);
+    Ok(())
+}

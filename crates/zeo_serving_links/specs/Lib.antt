@@ -1,0 +1,4 @@
+pub mod Feeding
+pub mod FeedingLaws
+pub mod Links
+pub mod Serving
