@@ -1,14 +1,13 @@
 -- Pieces that are whole frames.
-use Rattle.std.proofs.Common.{◌≡◌, ℕ, ◌+◌, ◌<◌, ◌≤◌, ◌^◌, Bool, true, false, List, [], ◌∷◌, ◌++◌, Option, Some, None, length, take, drop, get_or, refl, sym, ap, subst, ◌∙◌, append_assoc, length-append, arith, eqb}
+use Rattle.std.proofs.Common.{◌≡◌, ℕ, ◌+◌, ◌<◌, ◌^◌, Bool, true, false, List, [], ◌∷◌, ◌++◌, Option, Some, None, length, take, drop, get_or, refl, sym, ap, ◌∙◌, append_assoc, length-append, arith, eqb}
 use Rattle.std.specs.Prelude.{◌==◌}
-use Rattle.std.specs.List.{AllByRecursion}
 use Rattle.std.proofs.lemmas.List.{append-nil, drop_at, drop_more, take_at}
 use Rattle.std.proofs.lemmas.Bool.{eq-eqb, ne_eqb, eqb-true, eqb-false}
 use Rattle.byteorder.specs.Endian.{big_bytes}
 use Rattle.byteorder.specs.Numbers.{big_number-reads_back, length-bytes_high_first}
 use Rattle.zeo_frames.specs.declared.error.FrameError.{FrameError}
 use Rattle.zeo_frames.specs.declared.error.FrameError.TheVariants.{FrameTooLong, Memory}
-use Rattle.zeo_frames.specs.Frames.{AreCut, GoesOn, HasCome, IsWithinLimit, Reading, frame, frames, length_field}
+use Rattle.zeo_frames.specs.Frames.{AreCut, GoesOn, HasCome, Reading, frame, frames, length_field}
 use Rattle.hub_carrier.specs.Cutting.{AreItsPayloads}
 
 -- a frame's length, and its length field

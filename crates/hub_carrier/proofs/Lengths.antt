@@ -1,8 +1,8 @@
 -- How long the values of answers are at most.
-use Rattle.std.proofs.Common.{◌≡◌, ℕ, ◌+◌, ◌*◌, ◌-◌, ◌≤◌, ◌<◌, ◌^◌, Bool, true, false, cond, List, [], ◌∷◌, ◌++◌, map, Option, Some, None, length, length-append, refl, arith}
-use Rattle.std.specs.Prelude.{codes, nat_lt, nat_eq}
+use Rattle.std.proofs.Common.{◌≡◌, ℕ, ◌+◌, ◌*◌, ◌-◌, ◌≤◌, ◌<◌, ◌^◌, Bool, true, false, cond, List, [], ◌∷◌, map, Option, Some, None, length, length-append, refl, arith}
+use Rattle.std.specs.Prelude.{nat_lt, nat_eq}
 use Rattle.std.specs.List.{AllByRecursion}
-use Rattle.std.proofs.lemmas.Bool.{ltb-true, ltb-false}
+use Rattle.std.proofs.lemmas.Bool.{ltb-false}
 use Rattle.zb_model.specs.declared.lists.LogLine.{LogLine}
 use Rattle.zb_model.specs.declared.lists.Revision.{Revision}
 use Rattle.zb_model.specs.declared.news.NewsCommit.{NewsCommit}

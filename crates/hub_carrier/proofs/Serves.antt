@@ -1,5 +1,5 @@
 -- Messages that are served one after another.
-use Rattle.std.proofs.Common.{◌≡◌, ℕ, List, [], ◌∷◌, ◌++◌, Option, Some, None, Bool, true, false, Result, Ok, Err, ap, sym, ◌∙◌, refl, subst, append-nil, append_assoc}
+use Rattle.std.proofs.Common.{◌≡◌, ℕ, List, [], ◌∷◌, ◌++◌, Option, Some, None, Result, Ok, Err, ap, sym, ◌∙◌, subst, append-nil, append_assoc}
 use Rattle.std.specs.List.{concat}
 use Rattle.std.proofs.lemmas.List.Folds.{concat-append}
 use Rattle.zodb_core.specs.declared.reply.Reply.{Reply}
@@ -10,11 +10,11 @@ use Rattle.zeo_desk.specs.declared.asked.Asked.TheVariants as asked
 use Rattle.zeo_desk.specs.declared.asked.Awaited.{Awaited}
 use Rattle.zeo_desk.specs.declared.next.Next.{Next}
 use Rattle.zeo_desk.specs.declared.next.Next.TheVariants.{Send, Step}
-use Rattle.zeo_desk.specs.Desks.{DeskState, Turn, answered, committed, committed_tid, replied, replied_to, taken}
+use Rattle.zeo_desk.specs.Desks.{DeskState, Turn, answered, committed, replied, replied_to, taken}
 use Rattle.remote_loads.specs.Carrying.{BreaksOff, Carries}
 use Rattle.remote_loads.specs.Served.{Does, DoesFront, Serves, ServesFront, asked_on, begins, done, goes_on, sent, serves_none, serves_on as front_on, steps_off, steps_on, stops}
 use Rattle.hub_carrier.specs.Cutting.{AreItsPayloads}
-use Rattle.hub_carrier.specs.Served.{AreSentFor, HasAsked, HasDone, HasServed, IsSend, IsStepReplied}
+use Rattle.hub_carrier.specs.Served.{AreSentFor, HasAsked, HasDone, IsSend, IsStepReplied}
 
 -- ---- a desk asks for at most two steps one after the other
 

@@ -1,11 +1,10 @@
 -- A reply whose numbers its type can hold, and whose lists are short, can be told.
-use Rattle.std.proofs.Common.{◌≡◌, ℕ, ◌+◌, ◌*◌, ◌-◌, ◌≤◌, ◌<◌, ◌^◌, Bool, true, false, cond, List, [], ◌∷◌, ◌++◌, map, Option, Some, None, length, length-append, refl, sym, ap, subst, ◌∙◌, arith}
+use Rattle.std.proofs.Common.{◌≡◌, ℕ, ◌+◌, ◌-◌, ◌≤◌, ◌<◌, ◌^◌, Bool, true, false, cond, List, [], ◌∷◌, ◌++◌, map, Option, length, length-append, refl, arith}
 use Rattle.std.specs.Prelude.{codes, nat_le, nat_lt, zero, suc}
 use Rattle.std.specs.List.{AllByRecursion, list_all}
 use Rattle.std.proofs.lemmas.Bool.{and_parts, ltb-true}
 use Rattle.zb_model.specs.declared.lists.LogLine.{LogLine}
 use Rattle.zb_model.specs.declared.lists.Revision.{Revision}
-use Rattle.zb_model.specs.declared.news.News.{News}
 use Rattle.zb_model.specs.declared.news.NewsCommit.{NewsCommit}
 use Rattle.zb_model.specs.declared.refusal.Refusal.{Refusal}
 use Rattle.zb_model.specs.declared.refusal.Refusal.TheVariants as refusals
@@ -23,7 +22,7 @@ use Rattle.zeo_messages.specs.Calls.{is_short}
 use Rattle.zeo_messages.specs.Messages.{HoldsNotice}
 use Rattle.zeo_values.specs.Values.{AreIds, IsId, bytes_text, count_text, id_text, maybe_text, name_text}
 use Rattle.zeo_values.specs.LengthLaws.{count_short, id_length, name_length}
-use Rattle.zeo_news.specs.Notices.{commit_notice, first_notices, fits_frame, notices_of}
+use Rattle.zeo_news.specs.Notices.{commit_notice, fits_frame}
 use Rattle.zeo_desk.specs.declared.asked.Asked.{Asked}
 use Rattle.zeo_desk.specs.declared.asked.Asked.TheVariants as asked
 use Rattle.zeo_desk.specs.Answering.{counted_length, front_answer, in_place_of, is_allowed, listed, number_alone, oids_from, packed_answer, reply_answer, sent_answer, since_answer, within_frame}

@@ -1,5 +1,5 @@
 -- How a piece is cut into the payloads of its frames. Own.
-use Rattle.std.specs.Prelude.{◌≡◌, ℕ, ◌<◌, List}
+use Rattle.std.specs.Prelude.{◌≡◌, ℕ, List}
 use Rattle.zeo_frames.specs.Frames.{frames}
 
 -- The piece is whole frames, and these are their payloads, the only ones whose frames it is.

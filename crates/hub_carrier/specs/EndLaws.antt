@@ -1,5 +1,5 @@
 -- What stands there makes steps that a machine may make. For the ghost members of the carrier.
-use Rattle.std.specs.Prelude.{◌≡◌, ℕ, List, Option}
+use Rattle.std.specs.Prelude.{ℕ, List, Option}
 use Rattle.zb_model.specs.declared.data.Transaction.{Transaction}
 use Rattle.zb_model.specs.Rules.{MergeRules}
 use Rattle.zodb_core.specs.declared.reply.Reply.{Reply}

@@ -1,5 +1,5 @@
 -- What stands at the other end of a carrier to a hub in the same program. Own.
-use Rattle.std.specs.Prelude.{◌≡◌, ℕ, List, Option, None, Bool, true, false, length}
+use Rattle.std.specs.Prelude.{◌≡◌, ℕ, List, Option, Bool, false, length}
 use Rattle.std.specs.Option.{option_map}
 use Rattle.zb_ids.specs.declared.stamp.Stamp.{Stamp}
 use Rattle.zb_model.specs.declared.data.Transaction.{Transaction}

@@ -1,9 +1,9 @@
 -- What went wrong is told by the counts and the store at each later moment. For the ghost members of the carrier.
-use Rattle.std.proofs.Common.{◌≡◌, ℕ, ◌≤◌, Bool, true, false, List, Option, refl, sym, ap, subst, ◌∙◌, arith}
-use Rattle.std.specs.Prelude.{length}
-use Rattle.zb_base.specs.Counts.{Rose, rose_after, rose_before}
+use Rattle.std.proofs.Common.{◌≡◌, ℕ, false, Bool, List, Option, refl, sym, ap, subst, ◌∙◌, arith}
+use Rattle.zb_base.specs.Counts.{Rose, rose_before}
 use Rattle.zb_volume.specs.declared.areas.Area.TheVariants.{Side}
 use Rattle.zb_volume.specs.Moments.{here}
+use Rattle.zb_ids.specs.declared.stamp.Stamp.{Stamp}
 use Rattle.zb_model.specs.declared.data.Transaction.{Transaction}
 use Rattle.zb_model.specs.Rules.{MergeRules}
 use Rattle.zb_model.specs.StayLaws.{stays_then}
@@ -13,7 +13,7 @@ use Rattle.zodb_core.specs.HubState.{HubState, IsCauseOf, counts_of, is_store_fa
 use Rattle.zodb_core.specs.Outcomes.{Answered, AreLaterCounts, FaultCounts, NoMemory, ReadingFailed, StepOutcome, StoreFailed, outcome_of}
 use Rattle.hub_carrier.specs.declared.trouble.Trouble.{Trouble}
 use Rattle.hub_carrier.specs.declared.trouble.Trouble.TheVariants.{NoFault, ReadFault, StoreFault}
-use Rattle.hub_carrier.specs.Ends.{HubEnd, StepsThere, worse}
+use Rattle.hub_carrier.specs.Ends.{HubEnd, StepsThere, end_at, worse}
 use Rattle.hub_carrier.specs.Later.{IsLaterEnd, IsMovedBy, is_store_fault}
 
 -- ---- counts
@@ -96,3 +96,12 @@ module _ {R F : Type 0} (lasts : Type 0) where
       broken = λ is. still_broken a.trouble refl is ∙ ap is_store_fault (sym there.trouble);
       side = λ last none. there.step.side last (there.allowed none);
     }
+
+-- ---- for callers, who know the parts
+
+pub end_is : {R F : Type 0} (h k : HubState R F) (s t : Option (List Stamp)) (p q : Bool) (x y : Trouble) → h ≡ k → s ≡ t → p ≡ q → x ≡ y → end_at h s p x ≡ end_at k t q y
+end_is {R} {F} h k s t p q x y hub stamps packs trouble =
+    ap (λ (i : HubState R F). end_at i s p x) hub ∙ (ap (λ (i : Option (List Stamp)). end_at k i p x) stamps ∙ (ap (λ (i : Bool). end_at k t i x) packs ∙ ap (λ (i : Trouble). end_at k t q i) trouble))
+
+pub later_is : {R F : Type 0} (lasts : Type 0) (a b c d : HubEnd R F) → a ≡ c → b ≡ d → IsLaterEnd lasts a b → IsLaterEnd lasts c d
+later_is {R} {F} lasts a b c d one two later = subst (λ (x : HubEnd R F). IsLaterEnd lasts c x) two (subst (λ (x : HubEnd R F). IsLaterEnd lasts x b) one later)

@@ -33,37 +33,28 @@ fn second_load_sends_nothing(rt: HostRuntime) -> Result<(), Fail> {
     let mut desk = Desk::new(alloc);
     let mut client = ZeoClient::new(alloc)?;
     let mut connection = Connection::new(alloc)?;
-    let mut carrier = HubCarrier::new(&mut hub, session, &mut desk, &mut clock, false);
-    let mut remote = Remote::new(alloc, &mut client, &mut carrier);
+    let carrier = HubCarrier::new(&mut hub, session, &mut desk, &mut clock, false);
+    let mut remote = Remote::new(alloc, &mut client, carrier);
     if remote.register().is_err() || connection.begin(&mut remote).is_err() {
         return Err(Fail::new("the client isn't registered"));
     }
-    drop(remote);
-    let before = carrier.sent;
-    let mut remote = Remote::new(alloc, &mut client, &mut carrier);
+    let before = remote.carrier.sent;
     if connection.load(&mut remote, ROOT).is_err() {
         return Err(Fail::new("the root isn't there"));
     }
-    drop(remote);
-    assert_eq!(rt; carrier.sent, before + ONE_LOAD);
-    let mut remote = Remote::new(alloc, &mut client, &mut carrier);
+    assert_eq!(rt; remote.carrier.sent, before + ONE_LOAD);
     if connection.load(&mut remote, ROOT).is_err() {
         return Err(Fail::new("the root isn't there any more"));
     }
-    drop(remote);
-    assert_eq!(rt; carrier.sent, before + ONE_LOAD);
-    let mut remote = Remote::new(alloc, &mut client, &mut carrier);
+    assert_eq!(rt; remote.carrier.sent, before + ONE_LOAD);
     if connection.abort(&mut remote).is_err() || connection.begin(&mut remote).is_err() {
         return Err(Fail::new("the next transaction isn't begun"));
     }
-    drop(remote);
-    let begun = carrier.sent;
-    let mut remote = Remote::new(alloc, &mut client, &mut carrier);
+    let begun = remote.carrier.sent;
     let front = remote.client.known();
     if connection.load(&mut remote, ROOT).is_err() || remote.load(ROOT, front).is_err() {
         return Err(Fail::new("the root isn't there in the next transaction"));
     }
-    drop(remote);
-    assert_eq!(rt; carrier.sent, begun);
+    assert_eq!(rt; remote.carrier.sent, begun);
     Ok(())
 }

@@ -32,15 +32,19 @@ fn cached_load_sends_nothing(rt: HostRuntime) -> Result<(), Fail> {
         answer(alloc, Tid(1), b"a", Tid(2))?.into_vec(),
         Vec::new(alloc),
     );
-    let mut carrier = LinkCarrier::new(source, MemorySink::new(alloc, Vec::new(alloc)));
-    let mut remote = Remote::new(alloc, &mut client, &mut carrier);
+    let carrier = LinkCarrier::new(source, MemorySink::new(alloc, Vec::new(alloc)));
+    let mut remote = Remote::new(alloc, &mut client, carrier);
     for _ in 0..3 {
         let Ok(loaded) = remote.load(Oid(1), Tid(2)) else {
             return Err(Fail::new("refused"));
         };
         assert!(rt; holds(&loaded, Tid(1), b"a"));
     }
-    drop(remote);
+    let Remote {
+        alloc: _,
+        client: _,
+        carrier,
+    } = remote;
     let (_, sink) = carrier.into_parts();
     assert_eq!(rt; sink.bytes(), ASKED.as_slice());
     Ok(())

@@ -1,10 +1,9 @@
 -- What is told of the replies to questions.
-use Rattle.std.proofs.Common.{◌≡◌, ℕ, ◌+◌, ◌-◌, ◌≤◌, ◌<◌, ◌^◌, Bool, true, false, not, cond, List, [], ◌∷◌, ◌++◌, Option, Some, None, Result, Ok, Err, length, length-append, refl, sym, ap, subst, ◌∙◌, arith}
+use Rattle.std.proofs.Common.{◌≡◌, ℕ, ◌+◌, ◌-◌, ◌≤◌, ◌^◌, Bool, true, false, not, cond, List, [], ◌∷◌, ◌++◌, Option, Some, None, Result, Ok, Err, length, length-append, refl, sym, ap, subst, ◌∙◌, arith}
 use Rattle.std.specs.Prelude.{codes, drop, nat_eq, nat_le, take}
 use Rattle.std.specs.List.{list_all}
 use Rattle.std.specs.Option.{option_or}
 use Rattle.std.proofs.lemmas.Bool.{le-leb}
-use Rattle.zb_model.specs.declared.data.Transaction.{Transaction}
 use Rattle.zb_model.specs.declared.lists.LogLine.{LogLine}
 use Rattle.zb_model.specs.declared.lists.Revision.{Revision}
 use Rattle.zb_model.specs.declared.refusal.Refusal.{Refusal}
@@ -12,7 +11,7 @@ use Rattle.zb_model.specs.declared.refusal.Refusal.TheVariants as refusal
 use Rattle.zb_model.specs.Database.{newest_tid}
 use Rattle.zb_model.specs.Lists.{history_of, undo_log_of}
 use Rattle.zb_model.specs.Packing.{packed_by}
-use Rattle.zb_model.specs.Packs.{change_count, turn_from}
+use Rattle.zb_model.specs.Packs.{change_count}
 use Rattle.zb_model.specs.Queries.{pack_point}
 use Rattle.pack_reach.specs.Late.{overtaken}
 use Rattle.pack_reach.specs.Packed.{packed, unread}
@@ -22,7 +21,7 @@ use Rattle.zodb_core.specs.declared.request.Request.{Request}
 use Rattle.zodb_core.specs.declared.request.Request.TheVariants as request
 use Rattle.zodb_core.specs.Machine.{Machine, MachineVote, OpenPack, PackCopying, Rules, is_open_in}
 use Rattle.zodb_core.specs.Outcomes.{Answered, EndsFor, FaultCounts, IsStepMade, NoMemory, ReadingFailed, StepOutcome, StoreFailed, outcome_of, outcome_of_refusal}
-use Rattle.zodb_core.specs.Steps.{Stepped, busy_for_all, copy_step, copying_reply, early_refusal, mark_step, marked_step, marks_on, pack_running, pack_tid, packed_already, refuse_if, replied, request_refusal, request_step, switch_step, switched, switches_next, turn_of_copying, turn_refusal, turn_step, unless_early, unless_overtaken, unless_unread, with_pack}
+use Rattle.zodb_core.specs.Steps.{Stepped, busy_for_all, copy_step, copying_reply, early_refusal, marked_step, marks_on, pack_running, pack_tid, packed_already, refuse_if, request_refusal, request_step, switch_step, switched, switches_next, turn_of_copying, turn_refusal, turn_step, unless_early, unless_overtaken, unless_unread}
 use Rattle.zeo_frames.specs.declared.limit.TheConstants.{FRAME_LIMIT}
 use Rattle.zeo_messages.specs.declared.answer.Answer.{Answer}
 use Rattle.zeo_messages.specs.declared.answer.Answer.TheVariants as answers
@@ -37,7 +36,7 @@ use Rattle.zeo_desk.specs.declared.asked.Asked.TheVariants as asked
 use Rattle.zeo_desk.specs.Answering.{asked_of, counted_length, in_place_of, is_allowed, reply_answer, sent_answer, within_frame}
 use Rattle.remote_loads.specs.Carrying.{IsMachineStep}
 use Rattle.remote_loads.specs.Causes.{far_refusal}
-use Rattle.remote_loads.specs.Requesting.{asks_history, empty_reply, history_untold, is_question, log_untold, past_limit, reply_in, reply_told, told_unless, turned_reply}
+use Rattle.remote_loads.specs.Requesting.{asks_history, empty_reply, is_question, past_limit, reply_in, reply_told, told_unless, turned_reply}
 use Rattle.remote_loads.specs.Talking.{answer_given}
 
 -- ---- short answers

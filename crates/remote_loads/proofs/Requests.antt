@@ -1,5 +1,5 @@
 -- What a question of a remote client leaves, makes and answers.
-use Rattle.std.proofs.Common.{◌≡◌, ℕ, ◌+◌, ◌-◌, ◌≤◌, ◌<◌, ◌^◌, Bool, true, false, cond, List, [], ◌∷◌, ◌++◌, Option, Some, None, Result, Ok, Err, length, length-append, refl, sym, subst, arith}
+use Rattle.std.proofs.Common.{◌≡◌, ℕ, ◌+◌, ◌-◌, ◌≤◌, ◌^◌, Bool, true, false, List, [], ◌∷◌, ◌++◌, Option, Some, None, Result, Err, length, length-append, refl, sym, subst, arith}
 use Rattle.std.specs.Prelude.{codes}
 use Rattle.zb_model.specs.declared.refusal.Refusal.{Refusal}
 use Rattle.zb_model.specs.declared.refusal.Refusal.TheVariants as refusal
@@ -8,7 +8,6 @@ use Rattle.zb_model.specs.declared.lists.Revision.{Revision}
 use Rattle.zb_model.specs.Lists.{history_of, undo_log_of}
 use Rattle.pack_reach.specs.Packed.{packed, unread}
 use Rattle.zodb_core.specs.declared.reply.Reply.{Reply}
-use Rattle.zodb_core.specs.declared.reply.Reply.TheVariants as reply
 use Rattle.zodb_core.specs.declared.request.Request.{Request}
 use Rattle.zodb_core.specs.declared.request.Request.TheVariants as request
 use Rattle.zodb_core.specs.Machine.{Machine, Rules}
@@ -16,7 +15,6 @@ use Rattle.zodb_core.specs.Outcomes.{outcome_of}
 use Rattle.zodb_core.specs.Sound.{IsWellFormedRequest}
 use Rattle.zodb_core.specs.Steps.{pack_tid, request_step, switched, unless_unread}
 use Rattle.connection_view.specs.Views.{Client}
-use Rattle.zeo_frames.specs.declared.limit.TheConstants.{FRAME_LIMIT}
 use Rattle.zeo_messages.specs.declared.answer.Answer.{Answer}
 use Rattle.zeo_messages.specs.declared.answer.Answer.TheVariants as answers
 use Rattle.zeo_messages.specs.declared.answer.Stage.{Stage}
@@ -35,7 +33,7 @@ use Rattle.zeo_serving.specs.MayLaws.{may_step}
 use Rattle.zeo_serving.specs.ServingLaws.{own_keep}
 use Rattle.zeo_client.specs.declared.asking.AskError.{AskError}
 use Rattle.zeo_client.specs.declared.asking.AskError.TheVariants as ask_error
-use Rattle.zeo_client.specs.Asking.{IsTooLong, call_length}
+use Rattle.zeo_client.specs.Asking.{IsTooLong}
 use Rattle.zeo_client.specs.Hearing.{Held, IsAnswerHeard}
 use Rattle.zeo_client.specs.Rows.{answers_call}
 use Rattle.zeo_client.specs.Taking.{ClientState}
@@ -43,10 +41,10 @@ use Rattle.zeo_client.specs.Whole.{WholePiecesAreHeard}
 use Rattle.remote_loads.specs.Carrying.{IsMachineStep}
 use Rattle.remote_loads.specs.Causes.{unasked}
 use Rattle.remote_loads.specs.Making.{IsMadeBy, answered_so, left_alone, made_by}
-use Rattle.remote_loads.specs.Requesting.{IsQuestionMade, QuestionLeaves, asks_history, call_of, is_question, question_lost, question_told, reply_in, reply_told, turned_reply}
+use Rattle.remote_loads.specs.Requesting.{IsQuestionMade, QuestionLeaves, asks_history, call_of, is_question, question_lost, question_told, reply_in, turned_reply}
 use Rattle.remote_loads.specs.Served.{IsAnsweredAtOnce, no_step, one_step}
 use Rattle.remote_loads.specs.Standing.{Stands}
-use Rattle.remote_loads.specs.Talking.{IsCalled, IsUnsent, answer_given, answered, unheard, unmade, unsent}
+use Rattle.remote_loads.specs.Talking.{IsCalled, IsUnsent, answered, unheard, unmade, unsent}
 use Rattle.remote_loads.proofs.Known.{known_may}
 use Rattle.remote_loads.proofs.Called.{HasRow, NamesOne, asked_so}
 use Rattle.remote_loads.proofs.Loading.{MayBeAt}

@@ -1,5 +1,5 @@
 -- What a client asks of its server beside the calls of its loads, and what it is told of the reply. Own.
-use Rattle.std.specs.Prelude.{◌≡◌, ℕ, Bool, true, false, List, [], Option, Some, None, Result, Ok, Err, nat_le, if◌then◌else◌}
+use Rattle.std.specs.Prelude.{ℕ, Bool, true, false, List, [], Option, Some, None, Result, Ok, Err, nat_le, if◌then◌else◌}
 use Rattle.std.specs.List.{list_all}
 use Rattle.zb_model.specs.declared.lists.LogLine.{LogLine}
 use Rattle.zb_model.specs.declared.lists.Revision.{Revision}

@@ -6,7 +6,7 @@ use connection_view::{FrontView, Loaded, Loads};
 use zb_ids::{Oid, Text8, Tid};
 use zb_model::{PendingCheck, PendingStore, Refusal};
 
-impl<'c, 'w, W: Carrier> Loads for Remote<'c, 'w, W> {
+impl<'c, W: Carrier> Loads for Remote<'c, W> {
     ghost use Rattle.std.specs.Prelude.{◌≤◌, ℕ};
     ghost use Rattle.std.specs.Borrow.{GName};
     ghost use Rattle.connection_view.specs.Views.{Client};
@@ -18,26 +18,26 @@ impl<'c, 'w, W: Carrier> Loads for Remote<'c, 'w, W> {
 
     ghost told = { ⊥ };
 
-    ghost state = { λ l. server_at (W.machine (W.end l.carrier.now)) };
+    ghost state = { λ l. server_at (W.machine (W.end l.carrier)) };
 
-    ghost stands = { λ l c. W.told × Stands (W.machine (W.end l.carrier.now)) (W.session l.carrier.now)
-        (W.desk l.carrier.now) l.client.now c };
+    ghost stands = { λ l c. W.told × Stands (W.machine (W.end l.carrier)) (W.session l.carrier)
+        (W.desk l.carrier) l.client.now c };
 
     ghost fresh = { λ l c. c.known };
 
-    ghost Place = { GName × GName × W.Place × ℕ };
+    ghost Place = { GName × W.Place × ℕ };
 
-    ghost place = { λ l. (l.client.ghost_name, l.carrier.ghost_name, W.place l.carrier.now, W.session l.carrier.now) };
+    ghost place = { λ l. (l.client.ghost_name, W.place l.carrier, W.session l.carrier) };
 
     ghost makes = { λ old call new. IsCallCaused
-        (HasLinkCause (W.faults old.carrier.now) (W.faults new.carrier.now) (W.closed new.carrier.now) new.client.now.ended) call
+        (HasLinkCause (W.faults old.carrier) (W.faults new.carrier) (W.closed new.carrier) new.client.now.ended) call
         × (old.client.now.held.standing.known ≤ new.client.now.held.standing.known)
-        × W.later old.carrier.now new.carrier.now
-        × (W.told → (c : Client) → Stands (W.machine (W.end old.carrier.now)) (W.session old.carrier.now)
-        (W.desk old.carrier.now) old.client.now c → IsCallMade (W.steps (W.session old.carrier.now))
-        (W.end old.carrier.now) old.client.now call (W.end new.carrier.now)) };
+        × W.later old.carrier new.carrier
+        × (W.told → (c : Client) → Stands (W.machine (W.end old.carrier)) (W.session old.carrier)
+        (W.desk old.carrier) old.client.now c → IsCallMade (W.steps (W.session old.carrier))
+        (W.end old.carrier) old.client.now call (W.end new.carrier)) };
 
-    ghost told_before = { λ l c stands. told_before (W.machine (W.end l.carrier.now)) (W.session l.carrier.now)
+    ghost told_before = { λ l c stands. told_before (W.machine (W.end l.carrier)) (W.session l.carrier)
         l.client.now.held.standing l.client.now.held.cache.entries c stands.1.served };
 
     #[tactic(auto, using(crate::proofs::Meeting::front_says, crate::proofs::Meeting::front_stands))]

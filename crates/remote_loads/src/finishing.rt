@@ -17,24 +17,23 @@ use zeo_client::whole_pieces_are_heard;
 use zeo_messages::Call;
 use zeo_reading::payloads_are_read_back;
 
-impl<'c, 'w, W: Carrier> Remote<'c, 'w, W> {
+impl<'c, W: Carrier> Remote<'c, W> {
     /// A sync behind a commit, which is answered behind it.
     #[tactic(auto, using(crate::proofs::Made::behind_refused, crate::proofs::Made::behind_told))]
     fn told_behind(&mut self, tid: Tid) -> Result<Option<Tid>, Refusal>
         ensures refusal { IfErr result IsServerRefusal }
-        ensures cause { IfErr result (HasLinkCause (W.faults self.old.carrier.now)
-            (W.faults self.new.carrier.now) (W.closed self.new.carrier.now) self.new.client.now.ended) }
-        ensures counted { W.faults self.old.carrier.now ≤ W.faults self.new.carrier.now }
+        ensures cause { IfErr result (HasLinkCause (W.faults self.old.carrier)
+            (W.faults self.new.carrier) (W.closed self.new.carrier) self.new.client.now.ended) }
+        ensures counted { W.faults self.old.carrier ≤ W.faults self.new.carrier }
         ensures never_falls { self.old.client.now.held.standing.known
             ≤ self.new.client.now.held.standing.known }
         ensures client_place { self.new.client.ghost_name ≡ self.old.client.ghost_name }
-        ensures carrier_place { self.new.carrier.ghost_name ≡ self.old.carrier.ghost_name }
-        ensures session { W.session self.new.carrier.now ≡ W.session self.old.carrier.now }
-        ensures inner_place { W.place self.new.carrier.now ≡ W.place self.old.carrier.now }
-        ensures later { W.later self.old.carrier.now self.new.carrier.now }
-        ensures told { W.told → IsToldBehind (W.steps (W.session self.old.carrier.now))
-            (W.end self.old.carrier.now) (W.desk self.old.carrier.now) self.old.client.now tid result
-            self.new.client.now (W.end self.new.carrier.now) (W.desk self.new.carrier.now) }
+        ensures session { W.session self.new.carrier ≡ W.session self.old.carrier }
+        ensures inner_place { W.place self.new.carrier ≡ W.place self.old.carrier }
+        ensures later { W.later self.old.carrier self.new.carrier }
+        ensures told { W.told → IsToldBehind (W.steps (W.session self.old.carrier))
+            (W.end self.old.carrier) (W.desk self.old.carrier) self.old.client.now tid result
+            self.new.client.now (W.end self.new.carrier) (W.desk self.new.carrier) }
     {
         match self.sync_made() {
             Ok(_) => Ok(Some(tid)),
@@ -46,19 +45,18 @@ impl<'c, 'w, W: Carrier> Remote<'c, 'w, W> {
     #[tactic(auto, using(crate::proofs::Made::finish_unheard, crate::proofs::Made::finish_refuses, crate::proofs::Made::finish_empties, crate::proofs::Made::finish_commits_so,))]
     fn finish_made(&mut self) -> Result<Option<Tid>, Refusal>
         ensures refusal { IfErr result IsServerRefusal }
-        ensures cause { IfErr result (HasLinkCause (W.faults self.old.carrier.now)
-            (W.faults self.new.carrier.now) (W.closed self.new.carrier.now) self.new.client.now.ended) }
-        ensures counted { W.faults self.old.carrier.now ≤ W.faults self.new.carrier.now }
+        ensures cause { IfErr result (HasLinkCause (W.faults self.old.carrier)
+            (W.faults self.new.carrier) (W.closed self.new.carrier) self.new.client.now.ended) }
+        ensures counted { W.faults self.old.carrier ≤ W.faults self.new.carrier }
         ensures never_falls { self.old.client.now.held.standing.known
             ≤ self.new.client.now.held.standing.known }
         ensures client_place { self.new.client.ghost_name ≡ self.old.client.ghost_name }
-        ensures carrier_place { self.new.carrier.ghost_name ≡ self.old.carrier.ghost_name }
-        ensures session { W.session self.new.carrier.now ≡ W.session self.old.carrier.now }
-        ensures inner_place { W.place self.new.carrier.now ≡ W.place self.old.carrier.now }
-        ensures later { W.later self.old.carrier.now self.new.carrier.now }
-        ensures told { W.told → IsFinishMade (W.steps (W.session self.old.carrier.now))
-            (W.end self.old.carrier.now) (W.desk self.old.carrier.now) self.old.client.now
-            result self.new.client.now (W.end self.new.carrier.now) (W.desk self.new.carrier.now) }
+        ensures session { W.session self.new.carrier ≡ W.session self.old.carrier }
+        ensures inner_place { W.place self.new.carrier ≡ W.place self.old.carrier }
+        ensures later { W.later self.old.carrier self.new.carrier }
+        ensures told { W.told → IsFinishMade (W.steps (W.session self.old.carrier))
+            (W.end self.old.carrier) (W.desk self.old.carrier) self.old.client.now
+            result self.new.client.now (W.end self.new.carrier) (W.desk self.new.carrier) }
     {
         self.client.drop_asked();
         let answer = match self.ask(Call::TpcFinish) {
@@ -79,21 +77,20 @@ impl<'c, 'w, W: Carrier> Remote<'c, 'w, W> {
     /// Commits what is voted. Behind a commit the client knows the list as it stands then.
     pub(crate) fn finish_vote(&mut self) -> Result<Option<Tid>, Refusal>
         ensures refusal { IfErr result IsServerRefusal }
-        ensures cause { IfErr result (HasLinkCause (W.faults self.old.carrier.now)
-            (W.faults self.new.carrier.now) (W.closed self.new.carrier.now) self.new.client.now.ended) }
-        ensures counted { W.faults self.old.carrier.now ≤ W.faults self.new.carrier.now }
+        ensures cause { IfErr result (HasLinkCause (W.faults self.old.carrier)
+            (W.faults self.new.carrier) (W.closed self.new.carrier) self.new.client.now.ended) }
+        ensures counted { W.faults self.old.carrier ≤ W.faults self.new.carrier }
         ensures never_falls { self.old.client.now.held.standing.known
             ≤ self.new.client.now.held.standing.known }
         ensures client_place { self.new.client.ghost_name ≡ self.old.client.ghost_name }
-        ensures carrier_place { self.new.carrier.ghost_name ≡ self.old.carrier.ghost_name }
-        ensures session { W.session self.new.carrier.now ≡ W.session self.old.carrier.now }
-        ensures inner_place { W.place self.new.carrier.now ≡ W.place self.old.carrier.now }
-        ensures later { W.later self.old.carrier.now self.new.carrier.now }
-        ensures exact { W.told → (c : Client) → Stands (W.machine (W.end self.old.carrier.now))
-            (W.session self.old.carrier.now) (W.desk self.old.carrier.now) self.old.client.now c
-            → FinishLeaves (W.steps (W.session self.old.carrier.now)) W.machine
-            (W.session self.old.carrier.now) (W.end self.old.carrier.now) c result
-            self.new.client.now (W.end self.new.carrier.now) (W.desk self.new.carrier.now) }
+        ensures session { W.session self.new.carrier ≡ W.session self.old.carrier }
+        ensures inner_place { W.place self.new.carrier ≡ W.place self.old.carrier }
+        ensures later { W.later self.old.carrier self.new.carrier }
+        ensures exact { W.told → (c : Client) → Stands (W.machine (W.end self.old.carrier))
+            (W.session self.old.carrier) (W.desk self.old.carrier) self.old.client.now c
+            → FinishLeaves (W.steps (W.session self.old.carrier)) W.machine
+            (W.session self.old.carrier) (W.end self.old.carrier) c result
+            self.new.client.now (W.end self.new.carrier) (W.desk self.new.carrier) }
     {
         payloads_are_read_back();
         whole_pieces_are_heard();

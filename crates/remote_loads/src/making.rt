@@ -21,24 +21,23 @@ use zeo_client::whole_pieces_are_heard;
 use zeo_messages::Call;
 use zeo_reading::payloads_are_read_back;
 
-impl<'c, 'w, W: Carrier> Remote<'c, 'w, W> {
+impl<'c, W: Carrier> Remote<'c, W> {
     /// A load: what the cache answers, or else a call.
     #[tactic(auto, using(crate::proofs::Made::load_starved, crate::proofs::Made::load_hit, crate::proofs::Made::load_refused, crate::proofs::Made::load_answers,))]
     fn load_made(&mut self, oid: Oid, front: Tid) -> Result<Loaded, Refusal>
         ensures refusal { IfErr result IsServerRefusal }
-        ensures cause { IfErr result (HasLinkCause (W.faults self.old.carrier.now)
-            (W.faults self.new.carrier.now) (W.closed self.new.carrier.now) self.new.client.now.ended) }
-        ensures counted { W.faults self.old.carrier.now ≤ W.faults self.new.carrier.now }
+        ensures cause { IfErr result (HasLinkCause (W.faults self.old.carrier)
+            (W.faults self.new.carrier) (W.closed self.new.carrier) self.new.client.now.ended) }
+        ensures counted { W.faults self.old.carrier ≤ W.faults self.new.carrier }
         ensures never_falls { self.old.client.now.held.standing.known
             ≤ self.new.client.now.held.standing.known }
         ensures client_place { self.new.client.ghost_name ≡ self.old.client.ghost_name }
-        ensures carrier_place { self.new.carrier.ghost_name ≡ self.old.carrier.ghost_name }
-        ensures session { W.session self.new.carrier.now ≡ W.session self.old.carrier.now }
-        ensures inner_place { W.place self.new.carrier.now ≡ W.place self.old.carrier.now }
-        ensures later { W.later self.old.carrier.now self.new.carrier.now }
-        ensures told { W.told → IsLoadMade (W.steps (W.session self.old.carrier.now))
-            (W.end self.old.carrier.now) (W.desk self.old.carrier.now) self.old.client.now oid front
-            result self.new.client.now (W.end self.new.carrier.now) (W.desk self.new.carrier.now) }
+        ensures session { W.session self.new.carrier ≡ W.session self.old.carrier }
+        ensures inner_place { W.place self.new.carrier ≡ W.place self.old.carrier }
+        ensures later { W.later self.old.carrier self.new.carrier }
+        ensures told { W.told → IsLoadMade (W.steps (W.session self.old.carrier))
+            (W.end self.old.carrier) (W.desk self.old.carrier) self.old.client.now oid front
+            result self.new.client.now (W.end self.new.carrier) (W.desk self.new.carrier) }
     {
         let Ok(found) = self.client.find(oid, front) else {
             return Err(Refusal::Memory);
@@ -56,22 +55,21 @@ impl<'c, 'w, W: Carrier> Remote<'c, 'w, W> {
     /// What an object has below a front. A hit of the cache makes no step, a miss one at most.
     pub(crate) fn load_at(&mut self, oid: Oid, front: Tid) -> Result<Loaded, Refusal>
         ensures refusal { IfErr result IsServerRefusal }
-        ensures cause { IfErr result (HasLinkCause (W.faults self.old.carrier.now)
-            (W.faults self.new.carrier.now) (W.closed self.new.carrier.now) self.new.client.now.ended) }
-        ensures counted { W.faults self.old.carrier.now ≤ W.faults self.new.carrier.now }
+        ensures cause { IfErr result (HasLinkCause (W.faults self.old.carrier)
+            (W.faults self.new.carrier) (W.closed self.new.carrier) self.new.client.now.ended) }
+        ensures counted { W.faults self.old.carrier ≤ W.faults self.new.carrier }
         ensures never_falls { self.old.client.now.held.standing.known
             ≤ self.new.client.now.held.standing.known }
         ensures client_place { self.new.client.ghost_name ≡ self.old.client.ghost_name }
-        ensures carrier_place { self.new.carrier.ghost_name ≡ self.old.carrier.ghost_name }
-        ensures session { W.session self.new.carrier.now ≡ W.session self.old.carrier.now }
-        ensures inner_place { W.place self.new.carrier.now ≡ W.place self.old.carrier.now }
-        ensures later { W.later self.old.carrier.now self.new.carrier.now }
-        ensures exact { W.told → (c : Client) → Stands (W.machine (W.end self.old.carrier.now))
-            (W.session self.old.carrier.now) (W.desk self.old.carrier.now) self.old.client.now c
-            → LoadLeaves (W.steps (W.session self.old.carrier.now)) W.machine
-            (W.session self.old.carrier.now) (W.end self.old.carrier.now) (W.desk self.old.carrier.now)
+        ensures session { W.session self.new.carrier ≡ W.session self.old.carrier }
+        ensures inner_place { W.place self.new.carrier ≡ W.place self.old.carrier }
+        ensures later { W.later self.old.carrier self.new.carrier }
+        ensures exact { W.told → (c : Client) → Stands (W.machine (W.end self.old.carrier))
+            (W.session self.old.carrier) (W.desk self.old.carrier) self.old.client.now c
+            → LoadLeaves (W.steps (W.session self.old.carrier)) W.machine
+            (W.session self.old.carrier) (W.end self.old.carrier) (W.desk self.old.carrier)
             self.old.client.now oid front c result
-            self.new.client.now (W.end self.new.carrier.now) (W.desk self.new.carrier.now) }
+            self.new.client.now (W.end self.new.carrier) (W.desk self.new.carrier) }
     {
         are_ids(oid.0, front.0);
         payloads_are_read_back();
@@ -83,20 +81,19 @@ impl<'c, 'w, W: Carrier> Remote<'c, 'w, W> {
     #[tactic(auto, using(crate::proofs::Made::made_refused, crate::proofs::Made::made_answers))]
     fn oid_made(&mut self) -> Result<Oid, Refusal>
         ensures refusal { IfErr result IsServerRefusal }
-        ensures cause { IfErr result (HasLinkCause (W.faults self.old.carrier.now)
-            (W.faults self.new.carrier.now) (W.closed self.new.carrier.now) self.new.client.now.ended) }
-        ensures counted { W.faults self.old.carrier.now ≤ W.faults self.new.carrier.now }
+        ensures cause { IfErr result (HasLinkCause (W.faults self.old.carrier)
+            (W.faults self.new.carrier) (W.closed self.new.carrier) self.new.client.now.ended) }
+        ensures counted { W.faults self.old.carrier ≤ W.faults self.new.carrier }
         ensures never_falls { self.old.client.now.held.standing.known
             ≤ self.new.client.now.held.standing.known }
         ensures client_place { self.new.client.ghost_name ≡ self.old.client.ghost_name }
-        ensures carrier_place { self.new.carrier.ghost_name ≡ self.old.carrier.ghost_name }
-        ensures session { W.session self.new.carrier.now ≡ W.session self.old.carrier.now }
-        ensures inner_place { W.place self.new.carrier.now ≡ W.place self.old.carrier.now }
-        ensures later { W.later self.old.carrier.now self.new.carrier.now }
-        ensures told { W.told → IsMadeBy (W.steps (W.session self.old.carrier.now))
-            (W.end self.old.carrier.now) (W.desk self.old.carrier.now) self.old.client.now (Call.NewOids 1)
+        ensures session { W.session self.new.carrier ≡ W.session self.old.carrier }
+        ensures inner_place { W.place self.new.carrier ≡ W.place self.old.carrier }
+        ensures later { W.later self.old.carrier self.new.carrier }
+        ensures told { W.told → IsMadeBy (W.steps (W.session self.old.carrier))
+            (W.end self.old.carrier) (W.desk self.old.carrier) self.old.client.now (Call.NewOids 1)
             oid_answer left_alone
-            result self.new.client.now (W.end self.new.carrier.now) (W.desk self.new.carrier.now) }
+            result self.new.client.now (W.end self.new.carrier) (W.desk self.new.carrier) }
     {
         let answer = match self.ask(Call::NewOids { count: 1 }) {
             Ok(answer) => answer,
@@ -108,21 +105,20 @@ impl<'c, 'w, W: Carrier> Remote<'c, 'w, W> {
     /// A new number. One step at most is made.
     pub(crate) fn next_oid(&mut self) -> Result<Oid, Refusal>
         ensures refusal { IfErr result IsServerRefusal }
-        ensures cause { IfErr result (HasLinkCause (W.faults self.old.carrier.now)
-            (W.faults self.new.carrier.now) (W.closed self.new.carrier.now) self.new.client.now.ended) }
-        ensures counted { W.faults self.old.carrier.now ≤ W.faults self.new.carrier.now }
+        ensures cause { IfErr result (HasLinkCause (W.faults self.old.carrier)
+            (W.faults self.new.carrier) (W.closed self.new.carrier) self.new.client.now.ended) }
+        ensures counted { W.faults self.old.carrier ≤ W.faults self.new.carrier }
         ensures never_falls { self.old.client.now.held.standing.known
             ≤ self.new.client.now.held.standing.known }
         ensures client_place { self.new.client.ghost_name ≡ self.old.client.ghost_name }
-        ensures carrier_place { self.new.carrier.ghost_name ≡ self.old.carrier.ghost_name }
-        ensures session { W.session self.new.carrier.now ≡ W.session self.old.carrier.now }
-        ensures inner_place { W.place self.new.carrier.now ≡ W.place self.old.carrier.now }
-        ensures later { W.later self.old.carrier.now self.new.carrier.now }
-        ensures exact { W.told → (c : Client) → Stands (W.machine (W.end self.old.carrier.now))
-            (W.session self.old.carrier.now) (W.desk self.old.carrier.now) self.old.client.now c
-            → OidLeaves (W.steps (W.session self.old.carrier.now)) W.machine
-            (W.session self.old.carrier.now) (W.end self.old.carrier.now) c result
-            self.new.client.now (W.end self.new.carrier.now) (W.desk self.new.carrier.now) }
+        ensures session { W.session self.new.carrier ≡ W.session self.old.carrier }
+        ensures inner_place { W.place self.new.carrier ≡ W.place self.old.carrier }
+        ensures later { W.later self.old.carrier self.new.carrier }
+        ensures exact { W.told → (c : Client) → Stands (W.machine (W.end self.old.carrier))
+            (W.session self.old.carrier) (W.desk self.old.carrier) self.old.client.now c
+            → OidLeaves (W.steps (W.session self.old.carrier)) W.machine
+            (W.session self.old.carrier) (W.end self.old.carrier) c result
+            self.new.client.now (W.end self.new.carrier) (W.desk self.new.carrier) }
     {
         payloads_are_read_back();
         whole_pieces_are_heard();
@@ -133,20 +129,19 @@ impl<'c, 'w, W: Carrier> Remote<'c, 'w, W> {
     #[tactic(auto, using(crate::proofs::Made::abort_refused, crate::proofs::Made::abort_answers))]
     fn abort_made(&mut self) -> Result<(), Refusal>
         ensures refusal { IfErr result IsServerRefusal }
-        ensures cause { IfErr result (HasLinkCause (W.faults self.old.carrier.now)
-            (W.faults self.new.carrier.now) (W.closed self.new.carrier.now) self.new.client.now.ended) }
-        ensures counted { W.faults self.old.carrier.now ≤ W.faults self.new.carrier.now }
+        ensures cause { IfErr result (HasLinkCause (W.faults self.old.carrier)
+            (W.faults self.new.carrier) (W.closed self.new.carrier) self.new.client.now.ended) }
+        ensures counted { W.faults self.old.carrier ≤ W.faults self.new.carrier }
         ensures never_falls { self.old.client.now.held.standing.known
             ≤ self.new.client.now.held.standing.known }
         ensures client_place { self.new.client.ghost_name ≡ self.old.client.ghost_name }
-        ensures carrier_place { self.new.carrier.ghost_name ≡ self.old.carrier.ghost_name }
-        ensures session { W.session self.new.carrier.now ≡ W.session self.old.carrier.now }
-        ensures inner_place { W.place self.new.carrier.now ≡ W.place self.old.carrier.now }
-        ensures later { W.later self.old.carrier.now self.new.carrier.now }
-        ensures told { W.told → IsMadeBy (W.steps (W.session self.old.carrier.now))
-            (W.end self.old.carrier.now) (W.desk self.old.carrier.now) self.old.client.now Call.TpcAbort
+        ensures session { W.session self.new.carrier ≡ W.session self.old.carrier }
+        ensures inner_place { W.place self.new.carrier ≡ W.place self.old.carrier }
+        ensures later { W.later self.old.carrier self.new.carrier }
+        ensures told { W.told → IsMadeBy (W.steps (W.session self.old.carrier))
+            (W.end self.old.carrier) (W.desk self.old.carrier) self.old.client.now Call.TpcAbort
             done_answer free_if_done
-            result self.new.client.now (W.end self.new.carrier.now) (W.desk self.new.carrier.now) }
+            result self.new.client.now (W.end self.new.carrier) (W.desk self.new.carrier) }
     {
         let answer = match self.ask(Call::TpcAbort) {
             Ok(answer) => answer,
@@ -162,21 +157,20 @@ impl<'c, 'w, W: Carrier> Remote<'c, 'w, W> {
     /// Drops the vote, if the session holds one. One step at most is made.
     pub(crate) fn drop_vote(&mut self) -> Result<(), Refusal>
         ensures refusal { IfErr result IsServerRefusal }
-        ensures cause { IfErr result (HasLinkCause (W.faults self.old.carrier.now)
-            (W.faults self.new.carrier.now) (W.closed self.new.carrier.now) self.new.client.now.ended) }
-        ensures counted { W.faults self.old.carrier.now ≤ W.faults self.new.carrier.now }
+        ensures cause { IfErr result (HasLinkCause (W.faults self.old.carrier)
+            (W.faults self.new.carrier) (W.closed self.new.carrier) self.new.client.now.ended) }
+        ensures counted { W.faults self.old.carrier ≤ W.faults self.new.carrier }
         ensures never_falls { self.old.client.now.held.standing.known
             ≤ self.new.client.now.held.standing.known }
         ensures client_place { self.new.client.ghost_name ≡ self.old.client.ghost_name }
-        ensures carrier_place { self.new.carrier.ghost_name ≡ self.old.carrier.ghost_name }
-        ensures session { W.session self.new.carrier.now ≡ W.session self.old.carrier.now }
-        ensures inner_place { W.place self.new.carrier.now ≡ W.place self.old.carrier.now }
-        ensures later { W.later self.old.carrier.now self.new.carrier.now }
-        ensures exact { W.told → (c : Client) → Stands (W.machine (W.end self.old.carrier.now))
-            (W.session self.old.carrier.now) (W.desk self.old.carrier.now) self.old.client.now c
-            → AbortLeaves (W.steps (W.session self.old.carrier.now)) W.machine
-            (W.session self.old.carrier.now) (W.end self.old.carrier.now) c result
-            self.new.client.now (W.end self.new.carrier.now) (W.desk self.new.carrier.now) }
+        ensures session { W.session self.new.carrier ≡ W.session self.old.carrier }
+        ensures inner_place { W.place self.new.carrier ≡ W.place self.old.carrier }
+        ensures later { W.later self.old.carrier self.new.carrier }
+        ensures exact { W.told → (c : Client) → Stands (W.machine (W.end self.old.carrier))
+            (W.session self.old.carrier) (W.desk self.old.carrier) self.old.client.now c
+            → AbortLeaves (W.steps (W.session self.old.carrier)) W.machine
+            (W.session self.old.carrier) (W.end self.old.carrier) c result
+            self.new.client.now (W.end self.new.carrier) (W.desk self.new.carrier) }
     {
         payloads_are_read_back();
         whole_pieces_are_heard();

@@ -20,13 +20,13 @@ use zeo_messages::{Answer, Call, Message};
 /// a front sends its messages in one piece and waits for the answer. What comes before the answer is taken in its
 /// order.
 #[derive(Drop)]
-pub struct Remote<'c, 'w, W: Carrier> {
+pub struct Remote<'c, W: Carrier> {
     /// Where memory comes from.
     pub alloc: Global,
     /// The client.
     pub client: &'c mut ZeoClient,
     /// The carrier.
-    pub carrier: &'w mut W,
+    pub carrier: W,
 }
 
 /// The first answer among messages, if one is.
@@ -41,13 +41,12 @@ fn answer_in(messages: ListOf<Message>) -> Option<Answer>
     None
 }
 
-impl<'c, 'w, W: Carrier> Remote<'c, 'w, W> {
-    /// The calls of a client over these parts, which are given back as calls leave them.
-    pub fn new(alloc: Global, client: &'c mut ZeoClient, carrier: &'w mut W) -> Remote<'c, 'w, W>
+impl<'c, W: Carrier> Remote<'c, W> {
+    /// The calls of a client over these parts. The client is given back as calls leave it.
+    pub fn new(alloc: Global, client: &'c mut ZeoClient, carrier: W) -> Remote<'c, W>
         ensures client { result.client.now ≡ client.old }
         ensures client_place { result.client.ghost_name ≡ client.entry.ghost_name }
-        ensures carrier { result.carrier.now ≡ carrier.old }
-        ensures carrier_place { result.carrier.ghost_name ≡ carrier.entry.ghost_name }
+        ensures carrier { result.carrier ≡ carrier }
     {
         Remote {
             alloc,
@@ -60,19 +59,18 @@ impl<'c, 'w, W: Carrier> Remote<'c, 'w, W> {
     #[tactic(auto, using(crate::proofs::Exchanging::breaks, crate::proofs::Exchanging::takes, crate::proofs::Exchanging::refuses,))]
     fn exchange(&mut self, text: &[u8]) -> Result<ListOf<Message>, Refusal>
         ensures refusal { IfErr result IsServerRefusal }
-        ensures cause { IfErr result (HasLinkCause (W.faults self.old.carrier.now)
-            (W.faults self.new.carrier.now) (W.closed self.new.carrier.now) self.new.client.now.ended) }
-        ensures counted { W.faults self.old.carrier.now ≤ W.faults self.new.carrier.now }
+        ensures cause { IfErr result (HasLinkCause (W.faults self.old.carrier)
+            (W.faults self.new.carrier) (W.closed self.new.carrier) self.new.client.now.ended) }
+        ensures counted { W.faults self.old.carrier ≤ W.faults self.new.carrier }
         ensures never_falls { self.old.client.now.held.standing.known
             ≤ self.new.client.now.held.standing.known }
         ensures client_place { self.new.client.ghost_name ≡ self.old.client.ghost_name }
-        ensures carrier_place { self.new.carrier.ghost_name ≡ self.old.carrier.ghost_name }
-        ensures session { W.session self.new.carrier.now ≡ W.session self.old.carrier.now }
-        ensures inner_place { W.place self.new.carrier.now ≡ W.place self.old.carrier.now }
-        ensures later { W.later self.old.carrier.now self.new.carrier.now }
-        ensures told { W.told → Exchanges (W.steps (W.session self.old.carrier.now))
-            (W.end self.old.carrier.now) (W.desk self.old.carrier.now) self.old.client.now text.now
-            result self.new.client.now (W.end self.new.carrier.now) (W.desk self.new.carrier.now) }
+        ensures session { W.session self.new.carrier ≡ W.session self.old.carrier }
+        ensures inner_place { W.place self.new.carrier ≡ W.place self.old.carrier }
+        ensures later { W.later self.old.carrier self.new.carrier }
+        ensures told { W.told → Exchanges (W.steps (W.session self.old.carrier))
+            (W.end self.old.carrier) (W.desk self.old.carrier) self.old.client.now text.now
+            result self.new.client.now (W.end self.new.carrier) (W.desk self.new.carrier) }
     {
         let piece = match self.carrier.carry(self.alloc, text) {
             Ok(piece) => piece,
@@ -87,16 +85,15 @@ impl<'c, 'w, W: Carrier> Remote<'c, 'w, W> {
     /// Waits for an answer behind messages without one.
     fn wait(&mut self) -> Result<Answer, Refusal>
         ensures refusal { IfErr result IsServerRefusal }
-        ensures cause { IfErr result (HasLinkCause (W.faults self.old.carrier.now)
-            (W.faults self.new.carrier.now) (W.closed self.new.carrier.now) self.new.client.now.ended) }
-        ensures counted { W.faults self.old.carrier.now ≤ W.faults self.new.carrier.now }
+        ensures cause { IfErr result (HasLinkCause (W.faults self.old.carrier)
+            (W.faults self.new.carrier) (W.closed self.new.carrier) self.new.client.now.ended) }
+        ensures counted { W.faults self.old.carrier ≤ W.faults self.new.carrier }
         ensures never_falls { self.old.client.now.held.standing.known
             ≤ self.new.client.now.held.standing.known }
         ensures client_place { self.new.client.ghost_name ≡ self.old.client.ghost_name }
-        ensures carrier_place { self.new.carrier.ghost_name ≡ self.old.carrier.ghost_name }
-        ensures session { W.session self.new.carrier.now ≡ W.session self.old.carrier.now }
-        ensures inner_place { W.place self.new.carrier.now ≡ W.place self.old.carrier.now }
-        ensures later { W.later self.old.carrier.now self.new.carrier.now }
+        ensures session { W.session self.new.carrier ≡ W.session self.old.carrier }
+        ensures inner_place { W.place self.new.carrier ≡ W.place self.old.carrier }
+        ensures later { W.later self.old.carrier self.new.carrier }
     {
         'waiting: for _ in 0..u64::MAX {
             let text = Text8::new(self.alloc);
@@ -115,19 +112,18 @@ impl<'c, 'w, W: Carrier> Remote<'c, 'w, W> {
     #[tactic(auto, using(crate::proofs::Exchanging::fails, crate::proofs::Exchanging::answers))]
     pub(crate) fn talk(&mut self, text: Text8) -> Result<Answer, Refusal>
         ensures refusal { IfErr result IsServerRefusal }
-        ensures cause { IfErr result (HasLinkCause (W.faults self.old.carrier.now)
-            (W.faults self.new.carrier.now) (W.closed self.new.carrier.now) self.new.client.now.ended) }
-        ensures counted { W.faults self.old.carrier.now ≤ W.faults self.new.carrier.now }
+        ensures cause { IfErr result (HasLinkCause (W.faults self.old.carrier)
+            (W.faults self.new.carrier) (W.closed self.new.carrier) self.new.client.now.ended) }
+        ensures counted { W.faults self.old.carrier ≤ W.faults self.new.carrier }
         ensures never_falls { self.old.client.now.held.standing.known
             ≤ self.new.client.now.held.standing.known }
         ensures client_place { self.new.client.ghost_name ≡ self.old.client.ghost_name }
-        ensures carrier_place { self.new.carrier.ghost_name ≡ self.old.carrier.ghost_name }
-        ensures session { W.session self.new.carrier.now ≡ W.session self.old.carrier.now }
-        ensures inner_place { W.place self.new.carrier.now ≡ W.place self.old.carrier.now }
-        ensures later { W.later self.old.carrier.now self.new.carrier.now }
-        ensures told { W.told → Talks (W.steps (W.session self.old.carrier.now))
-            (W.end self.old.carrier.now) (W.desk self.old.carrier.now) self.old.client.now text
-            result self.new.client.now (W.end self.new.carrier.now) (W.desk self.new.carrier.now) }
+        ensures session { W.session self.new.carrier ≡ W.session self.old.carrier }
+        ensures inner_place { W.place self.new.carrier ≡ W.place self.old.carrier }
+        ensures later { W.later self.old.carrier self.new.carrier }
+        ensures told { W.told → Talks (W.steps (W.session self.old.carrier))
+            (W.end self.old.carrier) (W.desk self.old.carrier) self.old.client.now text
+            result self.new.client.now (W.end self.new.carrier) (W.desk self.new.carrier) }
     {
         let messages = match self.exchange(text.as_slice()) {
             Ok(messages) => messages,
@@ -144,19 +140,18 @@ impl<'c, 'w, W: Carrier> Remote<'c, 'w, W> {
     pub(crate) fn ask(&mut self, call: Call) -> Result<Answer, Refusal>
         requires fits { fits_call call ≡ true }
         ensures refusal { IfErr result IsServerRefusal }
-        ensures cause { IfErr result (HasLinkCause (W.faults self.old.carrier.now)
-            (W.faults self.new.carrier.now) (W.closed self.new.carrier.now) self.new.client.now.ended) }
-        ensures counted { W.faults self.old.carrier.now ≤ W.faults self.new.carrier.now }
+        ensures cause { IfErr result (HasLinkCause (W.faults self.old.carrier)
+            (W.faults self.new.carrier) (W.closed self.new.carrier) self.new.client.now.ended) }
+        ensures counted { W.faults self.old.carrier ≤ W.faults self.new.carrier }
         ensures never_falls { self.old.client.now.held.standing.known
             ≤ self.new.client.now.held.standing.known }
         ensures client_place { self.new.client.ghost_name ≡ self.old.client.ghost_name }
-        ensures carrier_place { self.new.carrier.ghost_name ≡ self.old.carrier.ghost_name }
-        ensures session { W.session self.new.carrier.now ≡ W.session self.old.carrier.now }
-        ensures inner_place { W.place self.new.carrier.now ≡ W.place self.old.carrier.now }
-        ensures later { W.later self.old.carrier.now self.new.carrier.now }
-        ensures told { W.told → IsAsked (W.steps (W.session self.old.carrier.now))
-            (W.end self.old.carrier.now) (W.desk self.old.carrier.now) self.old.client.now call
-            result self.new.client.now (W.end self.new.carrier.now) (W.desk self.new.carrier.now) }
+        ensures session { W.session self.new.carrier ≡ W.session self.old.carrier }
+        ensures inner_place { W.place self.new.carrier ≡ W.place self.old.carrier }
+        ensures later { W.later self.old.carrier self.new.carrier }
+        ensures told { W.told → IsAsked (W.steps (W.session self.old.carrier))
+            (W.end self.old.carrier) (W.desk self.old.carrier) self.old.client.now call
+            result self.new.client.now (W.end self.new.carrier) (W.desk self.new.carrier) }
     {
         let text = match self.client.call(call) {
             Ok(text) => text,

@@ -111,27 +111,26 @@ fn asks_history(request: &Request) -> bool
     matches!(request, Request::History { .. })
 }
 
-impl<'c, 'w, W: Carrier> Remote<'c, 'w, W> {
+impl<'c, W: Carrier> Remote<'c, W> {
     /// A question, by its call.
     #[tactic(auto, using(crate::proofs::Made::made_refused, crate::proofs::Made::made_answers))]
     fn question_made(&mut self, request: &Request) -> Result<Reply, Refusal>
         requires question { is_question request.now ≡ true }
         ensures refusal { IfErr result IsServerRefusal }
-        ensures cause { IfErr result (HasLinkCause (W.faults self.old.carrier.now)
-            (W.faults self.new.carrier.now) (W.closed self.new.carrier.now) self.new.client.now.ended) }
-        ensures counted { W.faults self.old.carrier.now ≤ W.faults self.new.carrier.now }
+        ensures cause { IfErr result (HasLinkCause (W.faults self.old.carrier)
+            (W.faults self.new.carrier) (W.closed self.new.carrier) self.new.client.now.ended) }
+        ensures counted { W.faults self.old.carrier ≤ W.faults self.new.carrier }
         ensures never_falls { self.old.client.now.held.standing.known
             ≤ self.new.client.now.held.standing.known }
         ensures client_place { self.new.client.ghost_name ≡ self.old.client.ghost_name }
-        ensures carrier_place { self.new.carrier.ghost_name ≡ self.old.carrier.ghost_name }
-        ensures session { W.session self.new.carrier.now ≡ W.session self.old.carrier.now }
-        ensures inner_place { W.place self.new.carrier.now ≡ W.place self.old.carrier.now }
-        ensures later { W.later self.old.carrier.now self.new.carrier.now }
+        ensures session { W.session self.new.carrier ≡ W.session self.old.carrier }
+        ensures inner_place { W.place self.new.carrier ≡ W.place self.old.carrier }
+        ensures later { W.later self.old.carrier self.new.carrier }
         ensures held { HoldsCall (call_of request.now) }
-        ensures told { W.told → IsMadeBy (W.steps (W.session self.old.carrier.now))
-            (W.end self.old.carrier.now) (W.desk self.old.carrier.now) self.old.client.now
+        ensures told { W.told → IsMadeBy (W.steps (W.session self.old.carrier))
+            (W.end self.old.carrier) (W.desk self.old.carrier) self.old.client.now
             (call_of request.now) (reply_in (asks_history request.now)) left_alone
-            result self.new.client.now (W.end self.new.carrier.now) (W.desk self.new.carrier.now) }
+            result self.new.client.now (W.end self.new.carrier) (W.desk self.new.carrier) }
     {
         let answer = match self.ask(call_of(request)) {
             Ok(answer) => answer,
@@ -146,21 +145,20 @@ impl<'c, 'w, W: Carrier> Remote<'c, 'w, W> {
     pub fn request(&mut self, request: Request) -> Result<Reply, Refusal>
         requires question { is_question request ≡ true }
         ensures refusal { IfErr result IsServerRefusal }
-        ensures cause { IfErr result (HasLinkCause (W.faults self.old.carrier.now)
-            (W.faults self.new.carrier.now) (W.closed self.new.carrier.now) self.new.client.now.ended) }
-        ensures counted { W.faults self.old.carrier.now ≤ W.faults self.new.carrier.now }
+        ensures cause { IfErr result (HasLinkCause (W.faults self.old.carrier)
+            (W.faults self.new.carrier) (W.closed self.new.carrier) self.new.client.now.ended) }
+        ensures counted { W.faults self.old.carrier ≤ W.faults self.new.carrier }
         ensures never_falls { self.old.client.now.held.standing.known
             ≤ self.new.client.now.held.standing.known }
         ensures client_place { self.new.client.ghost_name ≡ self.old.client.ghost_name }
-        ensures carrier_place { self.new.carrier.ghost_name ≡ self.old.carrier.ghost_name }
-        ensures session { W.session self.new.carrier.now ≡ W.session self.old.carrier.now }
-        ensures inner_place { W.place self.new.carrier.now ≡ W.place self.old.carrier.now }
-        ensures later { W.later self.old.carrier.now self.new.carrier.now }
-        ensures exact { W.told → (c : Client) → Stands (W.machine (W.end self.old.carrier.now))
-            (W.session self.old.carrier.now) (W.desk self.old.carrier.now) self.old.client.now c
-            → QuestionLeaves (W.steps (W.session self.old.carrier.now)) W.machine
-            (W.session self.old.carrier.now) (W.end self.old.carrier.now) request c result
-            self.new.client.now (W.end self.new.carrier.now) (W.desk self.new.carrier.now) }
+        ensures session { W.session self.new.carrier ≡ W.session self.old.carrier }
+        ensures inner_place { W.place self.new.carrier ≡ W.place self.old.carrier }
+        ensures later { W.later self.old.carrier self.new.carrier }
+        ensures exact { W.told → (c : Client) → Stands (W.machine (W.end self.old.carrier))
+            (W.session self.old.carrier) (W.desk self.old.carrier) self.old.client.now c
+            → QuestionLeaves (W.steps (W.session self.old.carrier)) W.machine
+            (W.session self.old.carrier) (W.end self.old.carrier) request c result
+            self.new.client.now (W.end self.new.carrier) (W.desk self.new.carrier) }
     {
         payloads_are_read_back();
         whole_pieces_are_heard();

@@ -20,25 +20,24 @@ use zeo_client::whole_pieces_are_heard;
 use zeo_messages::Call;
 use zeo_reading::payloads_are_read_back;
 
-impl<'c, 'w, W: Carrier> Remote<'c, 'w, W> {
+impl<'c, W: Carrier> Remote<'c, W> {
     /// A sync, by a call.
     #[tactic(auto, using(crate::proofs::Made::made_refused, crate::proofs::Made::made_answers))]
     pub(crate) fn sync_made(&mut self) -> Result<Tid, Refusal>
         ensures refusal { IfErr result IsServerRefusal }
-        ensures cause { IfErr result (HasLinkCause (W.faults self.old.carrier.now)
-            (W.faults self.new.carrier.now) (W.closed self.new.carrier.now) self.new.client.now.ended) }
-        ensures counted { W.faults self.old.carrier.now ≤ W.faults self.new.carrier.now }
+        ensures cause { IfErr result (HasLinkCause (W.faults self.old.carrier)
+            (W.faults self.new.carrier) (W.closed self.new.carrier) self.new.client.now.ended) }
+        ensures counted { W.faults self.old.carrier ≤ W.faults self.new.carrier }
         ensures never_falls { self.old.client.now.held.standing.known
             ≤ self.new.client.now.held.standing.known }
         ensures client_place { self.new.client.ghost_name ≡ self.old.client.ghost_name }
-        ensures carrier_place { self.new.carrier.ghost_name ≡ self.old.carrier.ghost_name }
-        ensures session { W.session self.new.carrier.now ≡ W.session self.old.carrier.now }
-        ensures inner_place { W.place self.new.carrier.now ≡ W.place self.old.carrier.now }
-        ensures later { W.later self.old.carrier.now self.new.carrier.now }
-        ensures told { W.told → IsMadeBy (W.steps (W.session self.old.carrier.now))
-            (W.end self.old.carrier.now) (W.desk self.old.carrier.now) self.old.client.now Call.Sync
-            count_answer left_alone result self.new.client.now (W.end self.new.carrier.now)
-            (W.desk self.new.carrier.now) }
+        ensures session { W.session self.new.carrier ≡ W.session self.old.carrier }
+        ensures inner_place { W.place self.new.carrier ≡ W.place self.old.carrier }
+        ensures later { W.later self.old.carrier self.new.carrier }
+        ensures told { W.told → IsMadeBy (W.steps (W.session self.old.carrier))
+            (W.end self.old.carrier) (W.desk self.old.carrier) self.old.client.now Call.Sync
+            count_answer left_alone result self.new.client.now (W.end self.new.carrier)
+            (W.desk self.new.carrier) }
     {
         let answer = match self.ask(Call::Sync) {
             Ok(answer) => answer,
@@ -50,21 +49,20 @@ impl<'c, 'w, W: Carrier> Remote<'c, 'w, W> {
     /// A sync. Behind one that is answered, the client knows the list as it stood.
     fn hear_news(&mut self) -> Result<Tid, Refusal>
         ensures refusal { IfErr result IsServerRefusal }
-        ensures cause { IfErr result (HasLinkCause (W.faults self.old.carrier.now)
-            (W.faults self.new.carrier.now) (W.closed self.new.carrier.now) self.new.client.now.ended) }
-        ensures counted { W.faults self.old.carrier.now ≤ W.faults self.new.carrier.now }
+        ensures cause { IfErr result (HasLinkCause (W.faults self.old.carrier)
+            (W.faults self.new.carrier) (W.closed self.new.carrier) self.new.client.now.ended) }
+        ensures counted { W.faults self.old.carrier ≤ W.faults self.new.carrier }
         ensures never_falls { self.old.client.now.held.standing.known
             ≤ self.new.client.now.held.standing.known }
         ensures client_place { self.new.client.ghost_name ≡ self.old.client.ghost_name }
-        ensures carrier_place { self.new.carrier.ghost_name ≡ self.old.carrier.ghost_name }
-        ensures session { W.session self.new.carrier.now ≡ W.session self.old.carrier.now }
-        ensures inner_place { W.place self.new.carrier.now ≡ W.place self.old.carrier.now }
-        ensures later { W.later self.old.carrier.now self.new.carrier.now }
-        ensures exact { W.told → (c : Client) → Stands (W.machine (W.end self.old.carrier.now))
-            (W.session self.old.carrier.now) (W.desk self.old.carrier.now) self.old.client.now c
-            → SyncLeaves (W.steps (W.session self.old.carrier.now)) W.machine
-            (W.session self.old.carrier.now) (W.end self.old.carrier.now) c result
-            self.new.client.now (W.end self.new.carrier.now) (W.desk self.new.carrier.now) }
+        ensures session { W.session self.new.carrier ≡ W.session self.old.carrier }
+        ensures inner_place { W.place self.new.carrier ≡ W.place self.old.carrier }
+        ensures later { W.later self.old.carrier self.new.carrier }
+        ensures exact { W.told → (c : Client) → Stands (W.machine (W.end self.old.carrier))
+            (W.session self.old.carrier) (W.desk self.old.carrier) self.old.client.now c
+            → SyncLeaves (W.steps (W.session self.old.carrier)) W.machine
+            (W.session self.old.carrier) (W.end self.old.carrier) c result
+            self.new.client.now (W.end self.new.carrier) (W.desk self.new.carrier) }
     {
         payloads_are_read_back();
         whole_pieces_are_heard();
@@ -76,21 +74,20 @@ impl<'c, 'w, W: Carrier> Remote<'c, 'w, W> {
     pub fn sync(&mut self) -> Result<Tid, Refusal>
         ensures front { IfOk result (λ front. front ≡ self.new.client.now.held.standing.known) }
         ensures refusal { IfErr result IsServerRefusal }
-        ensures cause { IfErr result (HasLinkCause (W.faults self.old.carrier.now)
-            (W.faults self.new.carrier.now) (W.closed self.new.carrier.now) self.new.client.now.ended) }
-        ensures counted { W.faults self.old.carrier.now ≤ W.faults self.new.carrier.now }
+        ensures cause { IfErr result (HasLinkCause (W.faults self.old.carrier)
+            (W.faults self.new.carrier) (W.closed self.new.carrier) self.new.client.now.ended) }
+        ensures counted { W.faults self.old.carrier ≤ W.faults self.new.carrier }
         ensures never_falls { self.old.client.now.held.standing.known
             ≤ self.new.client.now.held.standing.known }
         ensures client_place { self.new.client.ghost_name ≡ self.old.client.ghost_name }
-        ensures carrier_place { self.new.carrier.ghost_name ≡ self.old.carrier.ghost_name }
-        ensures session { W.session self.new.carrier.now ≡ W.session self.old.carrier.now }
-        ensures inner_place { W.place self.new.carrier.now ≡ W.place self.old.carrier.now }
-        ensures later { W.later self.old.carrier.now self.new.carrier.now }
-        ensures exact { W.told → (c : Client) → Stands (W.machine (W.end self.old.carrier.now))
-            (W.session self.old.carrier.now) (W.desk self.old.carrier.now) self.old.client.now c
-            → SyncLeaves (W.steps (W.session self.old.carrier.now)) W.machine
-            (W.session self.old.carrier.now) (W.end self.old.carrier.now) c result
-            self.new.client.now (W.end self.new.carrier.now) (W.desk self.new.carrier.now) }
+        ensures session { W.session self.new.carrier ≡ W.session self.old.carrier }
+        ensures inner_place { W.place self.new.carrier ≡ W.place self.old.carrier }
+        ensures later { W.later self.old.carrier self.new.carrier }
+        ensures exact { W.told → (c : Client) → Stands (W.machine (W.end self.old.carrier))
+            (W.session self.old.carrier) (W.desk self.old.carrier) self.old.client.now c
+            → SyncLeaves (W.steps (W.session self.old.carrier)) W.machine
+            (W.session self.old.carrier) (W.end self.old.carrier) c result
+            self.new.client.now (W.end self.new.carrier) (W.desk self.new.carrier) }
     {
         match self.hear_news() {
             Ok(_) => Ok(self.client.known()),
@@ -102,19 +99,18 @@ impl<'c, 'w, W: Carrier> Remote<'c, 'w, W> {
     #[tactic(auto, using(crate::proofs::Made::register_unheard, crate::proofs::Made::register_refuses, crate::proofs::Made::register_syncs,))]
     fn register_made(&mut self) -> Result<Tid, Refusal>
         ensures refusal { IfErr result IsServerRefusal }
-        ensures cause { IfErr result (HasLinkCause (W.faults self.old.carrier.now)
-            (W.faults self.new.carrier.now) (W.closed self.new.carrier.now) self.new.client.now.ended) }
-        ensures counted { W.faults self.old.carrier.now ≤ W.faults self.new.carrier.now }
+        ensures cause { IfErr result (HasLinkCause (W.faults self.old.carrier)
+            (W.faults self.new.carrier) (W.closed self.new.carrier) self.new.client.now.ended) }
+        ensures counted { W.faults self.old.carrier ≤ W.faults self.new.carrier }
         ensures never_falls { self.old.client.now.held.standing.known
             ≤ self.new.client.now.held.standing.known }
         ensures client_place { self.new.client.ghost_name ≡ self.old.client.ghost_name }
-        ensures carrier_place { self.new.carrier.ghost_name ≡ self.old.carrier.ghost_name }
-        ensures session { W.session self.new.carrier.now ≡ W.session self.old.carrier.now }
-        ensures inner_place { W.place self.new.carrier.now ≡ W.place self.old.carrier.now }
-        ensures later { W.later self.old.carrier.now self.new.carrier.now }
-        ensures told { W.told → IsRegistered (W.steps (W.session self.old.carrier.now))
-            (W.end self.old.carrier.now) (W.desk self.old.carrier.now) self.old.client.now
-            result self.new.client.now (W.end self.new.carrier.now) (W.desk self.new.carrier.now) }
+        ensures session { W.session self.new.carrier ≡ W.session self.old.carrier }
+        ensures inner_place { W.place self.new.carrier ≡ W.place self.old.carrier }
+        ensures later { W.later self.old.carrier self.new.carrier }
+        ensures told { W.told → IsRegistered (W.steps (W.session self.old.carrier))
+            (W.end self.old.carrier) (W.desk self.old.carrier) self.old.client.now
+            result self.new.client.now (W.end self.new.carrier) (W.desk self.new.carrier) }
     {
         let answer = match self.ask(Call::Register { again: false }) {
             Ok(answer) => answer,
@@ -129,21 +125,20 @@ impl<'c, 'w, W: Carrier> Remote<'c, 'w, W> {
     /// A registering. Behind one that is answered, the client knows the list as it stands.
     fn register_told(&mut self) -> Result<Tid, Refusal>
         ensures refusal { IfErr result IsServerRefusal }
-        ensures cause { IfErr result (HasLinkCause (W.faults self.old.carrier.now)
-            (W.faults self.new.carrier.now) (W.closed self.new.carrier.now) self.new.client.now.ended) }
-        ensures counted { W.faults self.old.carrier.now ≤ W.faults self.new.carrier.now }
+        ensures cause { IfErr result (HasLinkCause (W.faults self.old.carrier)
+            (W.faults self.new.carrier) (W.closed self.new.carrier) self.new.client.now.ended) }
+        ensures counted { W.faults self.old.carrier ≤ W.faults self.new.carrier }
         ensures never_falls { self.old.client.now.held.standing.known
             ≤ self.new.client.now.held.standing.known }
         ensures client_place { self.new.client.ghost_name ≡ self.old.client.ghost_name }
-        ensures carrier_place { self.new.carrier.ghost_name ≡ self.old.carrier.ghost_name }
-        ensures session { W.session self.new.carrier.now ≡ W.session self.old.carrier.now }
-        ensures inner_place { W.place self.new.carrier.now ≡ W.place self.old.carrier.now }
-        ensures later { W.later self.old.carrier.now self.new.carrier.now }
-        ensures exact { W.told → IsNewcomer (W.machine (W.end self.old.carrier.now))
-            (W.session self.old.carrier.now) (W.desk self.old.carrier.now) self.old.client.now
-            → RegisterLeaves (W.steps (W.session self.old.carrier.now)) W.machine
-            (W.session self.old.carrier.now) (W.end self.old.carrier.now) result
-            self.new.client.now (W.end self.new.carrier.now) (W.desk self.new.carrier.now) }
+        ensures session { W.session self.new.carrier ≡ W.session self.old.carrier }
+        ensures inner_place { W.place self.new.carrier ≡ W.place self.old.carrier }
+        ensures later { W.later self.old.carrier self.new.carrier }
+        ensures exact { W.told → IsNewcomer (W.machine (W.end self.old.carrier))
+            (W.session self.old.carrier) (W.desk self.old.carrier) self.old.client.now
+            → RegisterLeaves (W.steps (W.session self.old.carrier)) W.machine
+            (W.session self.old.carrier) (W.end self.old.carrier) result
+            self.new.client.now (W.end self.new.carrier) (W.desk self.new.carrier) }
     {
         payloads_are_read_back();
         whole_pieces_are_heard();
@@ -155,21 +150,20 @@ impl<'c, 'w, W: Carrier> Remote<'c, 'w, W> {
     pub fn register(&mut self) -> Result<Tid, Refusal>
         ensures front { IfOk result (λ front. front ≡ self.new.client.now.held.standing.known) }
         ensures refusal { IfErr result IsServerRefusal }
-        ensures cause { IfErr result (HasLinkCause (W.faults self.old.carrier.now)
-            (W.faults self.new.carrier.now) (W.closed self.new.carrier.now) self.new.client.now.ended) }
-        ensures counted { W.faults self.old.carrier.now ≤ W.faults self.new.carrier.now }
+        ensures cause { IfErr result (HasLinkCause (W.faults self.old.carrier)
+            (W.faults self.new.carrier) (W.closed self.new.carrier) self.new.client.now.ended) }
+        ensures counted { W.faults self.old.carrier ≤ W.faults self.new.carrier }
         ensures never_falls { self.old.client.now.held.standing.known
             ≤ self.new.client.now.held.standing.known }
         ensures client_place { self.new.client.ghost_name ≡ self.old.client.ghost_name }
-        ensures carrier_place { self.new.carrier.ghost_name ≡ self.old.carrier.ghost_name }
-        ensures session { W.session self.new.carrier.now ≡ W.session self.old.carrier.now }
-        ensures inner_place { W.place self.new.carrier.now ≡ W.place self.old.carrier.now }
-        ensures later { W.later self.old.carrier.now self.new.carrier.now }
-        ensures exact { W.told → IsNewcomer (W.machine (W.end self.old.carrier.now))
-            (W.session self.old.carrier.now) (W.desk self.old.carrier.now) self.old.client.now
-            → RegisterLeaves (W.steps (W.session self.old.carrier.now)) W.machine
-            (W.session self.old.carrier.now) (W.end self.old.carrier.now) result
-            self.new.client.now (W.end self.new.carrier.now) (W.desk self.new.carrier.now) }
+        ensures session { W.session self.new.carrier ≡ W.session self.old.carrier }
+        ensures inner_place { W.place self.new.carrier ≡ W.place self.old.carrier }
+        ensures later { W.later self.old.carrier self.new.carrier }
+        ensures exact { W.told → IsNewcomer (W.machine (W.end self.old.carrier))
+            (W.session self.old.carrier) (W.desk self.old.carrier) self.old.client.now
+            → RegisterLeaves (W.steps (W.session self.old.carrier)) W.machine
+            (W.session self.old.carrier) (W.end self.old.carrier) result
+            self.new.client.now (W.end self.new.carrier) (W.desk self.new.carrier) }
     {
         match self.register_told() {
             Ok(_) => Ok(self.client.known()),

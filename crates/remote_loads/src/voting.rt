@@ -19,7 +19,7 @@ use zb_model::{PendingCheck, PendingStore, Refusal};
 use zeo_client::whole_pieces_are_heard;
 use zeo_reading::payloads_are_read_back;
 
-impl<'c, 'w, W: Carrier> Remote<'c, 'w, W> {
+impl<'c, W: Carrier> Remote<'c, W> {
     /// A vote, by its messages.
     #[tactic(auto, using(crate::proofs::Made::vote_stays, crate::proofs::Made::vote_refused, crate::proofs::Made::vote_answers,))]
     fn vote_made(
@@ -33,20 +33,19 @@ impl<'c, 'w, W: Carrier> Remote<'c, 'w, W> {
         requires description { IsShortText description.now }
         requires stores { AreVotable stores.now }
         ensures refusal { IfErr result IsServerRefusal }
-        ensures cause { IfErr result (HasLinkCause (W.faults self.old.carrier.now)
-            (W.faults self.new.carrier.now) (W.closed self.new.carrier.now) self.new.client.now.ended) }
-        ensures counted { W.faults self.old.carrier.now ≤ W.faults self.new.carrier.now }
+        ensures cause { IfErr result (HasLinkCause (W.faults self.old.carrier)
+            (W.faults self.new.carrier) (W.closed self.new.carrier) self.new.client.now.ended) }
+        ensures counted { W.faults self.old.carrier ≤ W.faults self.new.carrier }
         ensures never_falls { self.old.client.now.held.standing.known
             ≤ self.new.client.now.held.standing.known }
         ensures client_place { self.new.client.ghost_name ≡ self.old.client.ghost_name }
-        ensures carrier_place { self.new.carrier.ghost_name ≡ self.old.carrier.ghost_name }
-        ensures session { W.session self.new.carrier.now ≡ W.session self.old.carrier.now }
-        ensures inner_place { W.place self.new.carrier.now ≡ W.place self.old.carrier.now }
-        ensures later { W.later self.old.carrier.now self.new.carrier.now }
-        ensures told { W.told → IsVoteMade (W.steps (W.session self.old.carrier.now))
-            (W.end self.old.carrier.now) (W.desk self.old.carrier.now) self.old.client.now user.now
+        ensures session { W.session self.new.carrier ≡ W.session self.old.carrier }
+        ensures inner_place { W.place self.new.carrier ≡ W.place self.old.carrier }
+        ensures later { W.later self.old.carrier self.new.carrier }
+        ensures told { W.told → IsVoteMade (W.steps (W.session self.old.carrier))
+            (W.end self.old.carrier) (W.desk self.old.carrier) self.old.client.now user.now
             description.now stores.now checks.now
-            result self.new.client.now (W.end self.new.carrier.now) (W.desk self.new.carrier.now) }
+            result self.new.client.now (W.end self.new.carrier) (W.desk self.new.carrier) }
     {
         stores_are_held(stores);
         checks_are_held(checks);
@@ -74,22 +73,21 @@ impl<'c, 'w, W: Carrier> Remote<'c, 'w, W> {
         requires description { IsShortText description.now }
         requires stores { AreVotable stores.now }
         ensures refusal { IfErr result IsServerRefusal }
-        ensures cause { IfErr result (HasLinkCause (W.faults self.old.carrier.now)
-            (W.faults self.new.carrier.now) (W.closed self.new.carrier.now) self.new.client.now.ended) }
-        ensures counted { W.faults self.old.carrier.now ≤ W.faults self.new.carrier.now }
+        ensures cause { IfErr result (HasLinkCause (W.faults self.old.carrier)
+            (W.faults self.new.carrier) (W.closed self.new.carrier) self.new.client.now.ended) }
+        ensures counted { W.faults self.old.carrier ≤ W.faults self.new.carrier }
         ensures never_falls { self.old.client.now.held.standing.known
             ≤ self.new.client.now.held.standing.known }
         ensures client_place { self.new.client.ghost_name ≡ self.old.client.ghost_name }
-        ensures carrier_place { self.new.carrier.ghost_name ≡ self.old.carrier.ghost_name }
-        ensures session { W.session self.new.carrier.now ≡ W.session self.old.carrier.now }
-        ensures inner_place { W.place self.new.carrier.now ≡ W.place self.old.carrier.now }
-        ensures later { W.later self.old.carrier.now self.new.carrier.now }
-        ensures exact { W.told → (c : Client) → Stands (W.machine (W.end self.old.carrier.now))
-            (W.session self.old.carrier.now) (W.desk self.old.carrier.now) self.old.client.now c
-            → VoteLeaves (W.steps (W.session self.old.carrier.now)) W.machine
-            (W.session self.old.carrier.now) (W.end self.old.carrier.now) user.now description.now
+        ensures session { W.session self.new.carrier ≡ W.session self.old.carrier }
+        ensures inner_place { W.place self.new.carrier ≡ W.place self.old.carrier }
+        ensures later { W.later self.old.carrier self.new.carrier }
+        ensures exact { W.told → (c : Client) → Stands (W.machine (W.end self.old.carrier))
+            (W.session self.old.carrier) (W.desk self.old.carrier) self.old.client.now c
+            → VoteLeaves (W.steps (W.session self.old.carrier)) W.machine
+            (W.session self.old.carrier) (W.end self.old.carrier) user.now description.now
             stores.now checks.now c result
-            self.new.client.now (W.end self.new.carrier.now) (W.desk self.new.carrier.now) }
+            self.new.client.now (W.end self.new.carrier) (W.desk self.new.carrier) }
     {
         payloads_are_read_back();
         whole_pieces_are_heard();
@@ -102,20 +100,19 @@ impl<'c, 'w, W: Carrier> Remote<'c, 'w, W> {
         requires user { IsShortText user.now }
         requires description { IsShortText description.now }
         ensures refusal { IfErr result IsServerRefusal }
-        ensures cause { IfErr result (HasLinkCause (W.faults self.old.carrier.now)
-            (W.faults self.new.carrier.now) (W.closed self.new.carrier.now) self.new.client.now.ended) }
-        ensures counted { W.faults self.old.carrier.now ≤ W.faults self.new.carrier.now }
+        ensures cause { IfErr result (HasLinkCause (W.faults self.old.carrier)
+            (W.faults self.new.carrier) (W.closed self.new.carrier) self.new.client.now.ended) }
+        ensures counted { W.faults self.old.carrier ≤ W.faults self.new.carrier }
         ensures never_falls { self.old.client.now.held.standing.known
             ≤ self.new.client.now.held.standing.known }
         ensures client_place { self.new.client.ghost_name ≡ self.old.client.ghost_name }
-        ensures carrier_place { self.new.carrier.ghost_name ≡ self.old.carrier.ghost_name }
-        ensures session { W.session self.new.carrier.now ≡ W.session self.old.carrier.now }
-        ensures inner_place { W.place self.new.carrier.now ≡ W.place self.old.carrier.now }
-        ensures later { W.later self.old.carrier.now self.new.carrier.now }
-        ensures told { W.told → IsUndoMade (W.steps (W.session self.old.carrier.now))
-            (W.end self.old.carrier.now) (W.desk self.old.carrier.now) self.old.client.now user.now
+        ensures session { W.session self.new.carrier ≡ W.session self.old.carrier }
+        ensures inner_place { W.place self.new.carrier ≡ W.place self.old.carrier }
+        ensures later { W.later self.old.carrier self.new.carrier }
+        ensures told { W.told → IsUndoMade (W.steps (W.session self.old.carrier))
+            (W.end self.old.carrier) (W.desk self.old.carrier) self.old.client.now user.now
             description.now tids.now
-            result self.new.client.now (W.end self.new.carrier.now) (W.desk self.new.carrier.now) }
+            result self.new.client.now (W.end self.new.carrier) (W.desk self.new.carrier) }
     {
         self.client.ask_for_all();
         let call = match undo_call(self.alloc, user, description, tids) {
@@ -139,22 +136,21 @@ impl<'c, 'w, W: Carrier> Remote<'c, 'w, W> {
         requires user { IsShortText user.now }
         requires description { IsShortText description.now }
         ensures refusal { IfErr result IsServerRefusal }
-        ensures cause { IfErr result (HasLinkCause (W.faults self.old.carrier.now)
-            (W.faults self.new.carrier.now) (W.closed self.new.carrier.now) self.new.client.now.ended) }
-        ensures counted { W.faults self.old.carrier.now ≤ W.faults self.new.carrier.now }
+        ensures cause { IfErr result (HasLinkCause (W.faults self.old.carrier)
+            (W.faults self.new.carrier) (W.closed self.new.carrier) self.new.client.now.ended) }
+        ensures counted { W.faults self.old.carrier ≤ W.faults self.new.carrier }
         ensures never_falls { self.old.client.now.held.standing.known
             ≤ self.new.client.now.held.standing.known }
         ensures client_place { self.new.client.ghost_name ≡ self.old.client.ghost_name }
-        ensures carrier_place { self.new.carrier.ghost_name ≡ self.old.carrier.ghost_name }
-        ensures session { W.session self.new.carrier.now ≡ W.session self.old.carrier.now }
-        ensures inner_place { W.place self.new.carrier.now ≡ W.place self.old.carrier.now }
-        ensures later { W.later self.old.carrier.now self.new.carrier.now }
-        ensures exact { W.told → (c : Client) → Stands (W.machine (W.end self.old.carrier.now))
-            (W.session self.old.carrier.now) (W.desk self.old.carrier.now) self.old.client.now c
-            → UndoLeaves (W.steps (W.session self.old.carrier.now)) W.machine
-            (W.session self.old.carrier.now) (W.end self.old.carrier.now) user.now description.now
+        ensures session { W.session self.new.carrier ≡ W.session self.old.carrier }
+        ensures inner_place { W.place self.new.carrier ≡ W.place self.old.carrier }
+        ensures later { W.later self.old.carrier self.new.carrier }
+        ensures exact { W.told → (c : Client) → Stands (W.machine (W.end self.old.carrier))
+            (W.session self.old.carrier) (W.desk self.old.carrier) self.old.client.now c
+            → UndoLeaves (W.steps (W.session self.old.carrier)) W.machine
+            (W.session self.old.carrier) (W.end self.old.carrier) user.now description.now
             tids.now c result
-            self.new.client.now (W.end self.new.carrier.now) (W.desk self.new.carrier.now) }
+            self.new.client.now (W.end self.new.carrier) (W.desk self.new.carrier) }
     {
         payloads_are_read_back();
         whole_pieces_are_heard();

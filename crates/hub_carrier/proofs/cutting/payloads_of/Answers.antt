@@ -1,4 +1,4 @@
-use Rattle.std.proofs.Common.{List, [], length, ap, sym, ◌∙◌, arith}
+use Rattle.std.proofs.Common.{[], length, ap, sym, ◌∙◌, arith}
 use Rattle.std.proofs.lemmas.Bool.{eqb-true}
 use Rattle.zeo_frames.specs.Frames.{frames}
 use Rattle.hub_carrier.proofs.Cuts.{its_payloads}

@@ -9,4 +9,4 @@ pub returns-clause-same : goal.returns-clause-same
 returns-clause-same g c = abort_same g.W.Carrier.told _ g.W.Carrier.machine _ _ c.drop_vote.ensures.session _ _ _ _ _ _ _ c.drop_vote.ensures.exact
 
 pub returns-clause-makes : goal.returns-clause-makes
-returns-clause-makes g c = (caused {X = Unit {0}} (HasLinkCause (g.W.Carrier.faults c.args.self.now.carrier.now) (g.W.Carrier.faults c.drop_vote.new.self.carrier.now) (g.W.Carrier.closed c.drop_vote.new.self.carrier.now) c.drop_vote.new.self.client.now.ended) c.drop_vote.result c.drop_vote.ensures.cause, c.drop_vote.ensures.never_falls, c.drop_vote.ensures.later, abort_makes g.W.Carrier.told _ g.W.Carrier.machine _ _ c.drop_vote.ensures.session _ _ _ _ _ _ _ c.drop_vote.ensures.exact)
+returns-clause-makes g c = (caused {X = Unit {0}} (HasLinkCause (g.W.Carrier.faults c.args.self.now.carrier) (g.W.Carrier.faults c.drop_vote.new.self.carrier) (g.W.Carrier.closed c.drop_vote.new.self.carrier) c.drop_vote.new.self.client.now.ended) c.drop_vote.result c.drop_vote.ensures.cause, c.drop_vote.ensures.never_falls, c.drop_vote.ensures.later, abort_makes g.W.Carrier.told _ g.W.Carrier.machine _ _ c.drop_vote.ensures.session _ _ _ _ _ _ _ c.drop_vote.ensures.exact)

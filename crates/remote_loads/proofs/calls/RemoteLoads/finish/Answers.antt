@@ -10,4 +10,4 @@ pub returns-clause-same : goal.returns-clause-same
 returns-clause-same g c = finish_same g.W.Carrier.told _ g.W.Carrier.machine _ _ c.finish_vote.ensures.session _ _ _ _ _ _ _ c.finish_vote.ensures.exact
 
 pub returns-clause-makes : goal.returns-clause-makes
-returns-clause-makes g c = (caused {X = Option ℕ} (HasLinkCause (g.W.Carrier.faults c.args.self.now.carrier.now) (g.W.Carrier.faults c.finish_vote.new.self.carrier.now) (g.W.Carrier.closed c.finish_vote.new.self.carrier.now) c.finish_vote.new.self.client.now.ended) c.finish_vote.result c.finish_vote.ensures.cause, c.finish_vote.ensures.never_falls, c.finish_vote.ensures.later, finish_makes g.W.Carrier.told _ g.W.Carrier.machine _ _ c.finish_vote.ensures.session _ _ _ _ _ _ _ c.finish_vote.ensures.exact)
+returns-clause-makes g c = (caused {X = Option ℕ} (HasLinkCause (g.W.Carrier.faults c.args.self.now.carrier) (g.W.Carrier.faults c.finish_vote.new.self.carrier) (g.W.Carrier.closed c.finish_vote.new.self.carrier) c.finish_vote.new.self.client.now.ended) c.finish_vote.result c.finish_vote.ensures.cause, c.finish_vote.ensures.never_falls, c.finish_vote.ensures.later, finish_makes g.W.Carrier.told _ g.W.Carrier.machine _ _ c.finish_vote.ensures.session _ _ _ _ _ _ _ c.finish_vote.ensures.exact)

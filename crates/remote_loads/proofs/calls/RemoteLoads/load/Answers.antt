@@ -10,4 +10,4 @@ pub returns-clause-same : goal.returns-clause-same
 returns-clause-same g c = load_same g.W.Carrier.told _ g.W.Carrier.machine _ _ c.load_at.ensures.session _ _ _ _ _ _ c.args.oid c.args.front _ c.load_at.ensures.exact
 
 pub returns-clause-makes : goal.returns-clause-makes
-returns-clause-makes g c = (caused {X = Loaded} (HasLinkCause (g.W.Carrier.faults c.args.self.now.carrier.now) (g.W.Carrier.faults c.load_at.new.self.carrier.now) (g.W.Carrier.closed c.load_at.new.self.carrier.now) c.load_at.new.self.client.now.ended) c.load_at.result c.load_at.ensures.cause, c.load_at.ensures.never_falls, c.load_at.ensures.later, load_makes g.W.Carrier.told _ g.W.Carrier.machine _ _ c.load_at.ensures.session _ _ _ _ _ _ c.args.oid c.args.front _ c.load_at.ensures.exact)
+returns-clause-makes g c = (caused {X = Loaded} (HasLinkCause (g.W.Carrier.faults c.args.self.now.carrier) (g.W.Carrier.faults c.load_at.new.self.carrier) (g.W.Carrier.closed c.load_at.new.self.carrier) c.load_at.new.self.client.now.ended) c.load_at.result c.load_at.ensures.cause, c.load_at.ensures.never_falls, c.load_at.ensures.later, load_makes g.W.Carrier.told _ g.W.Carrier.machine _ _ c.load_at.ensures.session _ _ _ _ _ _ c.args.oid c.args.front _ c.load_at.ensures.exact)

@@ -6,4 +6,4 @@ pub returns-clause-voted : goal.returns-clause-voted
 returns-clause-voted g c = vote_voted g.W.Carrier.told _ g.W.Carrier.machine _ _ c.vote_on.ensures.session _ _ _ _ _ _ _ _ _ _ _ c.vote_on.ensures.exact
 
 pub returns-clause-makes : goal.returns-clause-makes
-returns-clause-makes g c = (caused {X = Unit {0}} (HasLinkCause (g.W.Carrier.faults c.args.self.now.carrier.now) (g.W.Carrier.faults c.vote_on.new.self.carrier.now) (g.W.Carrier.closed c.vote_on.new.self.carrier.now) c.vote_on.new.self.client.now.ended) c.vote_on.result c.vote_on.ensures.cause, c.vote_on.ensures.never_falls, c.vote_on.ensures.later, vote_makes g.W.Carrier.told _ g.W.Carrier.machine _ _ c.vote_on.ensures.session _ _ _ _ _ _ _ _ _ _ _ c.vote_on.ensures.exact)
+returns-clause-makes g c = (caused {X = Unit {0}} (HasLinkCause (g.W.Carrier.faults c.args.self.now.carrier) (g.W.Carrier.faults c.vote_on.new.self.carrier) (g.W.Carrier.closed c.vote_on.new.self.carrier) c.vote_on.new.self.client.now.ended) c.vote_on.result c.vote_on.ensures.cause, c.vote_on.ensures.never_falls, c.vote_on.ensures.later, vote_makes g.W.Carrier.told _ g.W.Carrier.machine _ _ c.vote_on.ensures.session _ _ _ _ _ _ _ _ _ _ _ c.vote_on.ensures.exact)

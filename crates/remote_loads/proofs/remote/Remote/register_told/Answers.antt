@@ -3,5 +3,5 @@ use Rattle.remote_loads.proofs.remote.Remote.register_told.Goals as goal
 
 pub returns-clause-exact : goal.returns-clause-exact
 returns-clause-exact g c = λ told newcomer.
-    let n = g.W.Carrier.session c.args.self.now.carrier.now in
+    let n = g.W.Carrier.session c.args.self.now.carrier in
     register_leaves (g.W.Carrier.steps n) g.W.Carrier.machine n (λ q r s t step. g.met.W.Carrier.stepped n q r s t told step) c.payloads_are_read_back.ensures c.whole_pieces_are_heard.ensures _ _ _ _ _ _ _ (c.register_made.ensures.told told) newcomer
