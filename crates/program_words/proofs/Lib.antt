@@ -1,4 +1,5 @@
 pub mod Digits
 pub mod Dashes
 pub mod Matched
+pub mod Numbers
 pub mod Walks

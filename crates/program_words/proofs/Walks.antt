@@ -305,20 +305,54 @@ check_reads (word ∷ []) h = taken (codes "check") (Some word) None (check_take
 check_reads (word ∷ other ∷ []) h = refused (check_longer word other [] h.0 h.1.0) refl
 check_reads (word ∷ other ∷ third ∷ more) h = refused (check_longer word other (third ∷ more) h.0 h.1.0) refl
 
+serve_short : IsRefused (codes "serve" ∷ [])
+unfolding clap_on_literals
+serve_short = record { kind = _; kinds = _; fault = refl }
+
+serve_once : (word : Text) → Plain word → IsRefused (codes "serve" ∷ word ∷ [])
+unfolding clap_on_literals
+serve_once word h =
+    let d = no_dashes word h in let l = no_long word h in let s = no_short word h in
+    record { kind = kinds.MissingRequiredArgument; kinds = []; fault = rw (d, l, s) refl }
+
+serve_taken : (word other : Text) → Plain word → Plain other → IsTaken (codes "serve" ∷ word ∷ other ∷ []) (codes "serve") (Some word) (Some other)
+unfolding clap_on_literals
+serve_taken word other h k =
+    let d = no_dashes word h in let l = no_long word h in let s = no_short word h in
+    let d' = no_dashes other k in let l' = no_long other k in let s' = no_short other k in
+    record { fault = rw (d, l, s, d', l', s') refl; entered = rw (d, l, s, d', l', s') refl }
+
+serve_longer : (word other third : Text) (more : List Text) → Plain word → Plain other → Plain third → IsRefused (codes "serve" ∷ word ∷ other ∷ third ∷ more)
+unfolding clap_on_literals
+serve_longer word other third more h k j =
+    let d = no_dashes word h in let l = no_long word h in let s = no_short word h in
+    let d' = no_dashes other k in let l' = no_long other k in let s' = no_short other k in
+    let d'' = no_dashes third j in let l'' = no_long third j in let s'' = no_short third j in
+    let w : Walk = behind (codes "serve") (word ∷ other ∷ third ∷ []) in
+    let f = no_fault_on top names w (codes "serve", word ∷ other ∷ third ∷ []) more refl in
+    let o = walk_on top.rules names w (codes "serve", word ∷ other ∷ third ∷ []) more refl in
+    record { kind = kinds.UnknownArgument; kinds = []; fault = rw (f, o, d, l, s, d', l', s', d'', l'', s'') refl }
+
+serve_reads : (rest : List Text) → AllByRecursion Plain rest → Reads (codes "serve" ∷ rest)
+serve_reads [] h = refused serve_short refl
+serve_reads (word ∷ []) h = refused (serve_once word h.0) refl
+serve_reads (word ∷ other ∷ []) h = taken (codes "serve") (Some word) (Some other) (serve_taken word other h.0 h.1.0) refl
+serve_reads (word ∷ other ∷ third ∷ more) h = refused (serve_longer word other third more h.0 h.1.0 h.1.1.0) refl
+
 -- a word that is none of the names
 module _ (word : Text) (h : Plain word) (not_run : bytes_eq (codes "run") word ≡ false) (not_undolog : bytes_eq (codes "undolog") word ≡ false) (not_index : bytes_eq (codes "index") word ≡ false) (not_play : bytes_eq (codes "play") word ≡ false) (not_history : bytes_eq (codes "history") word ≡ false)
     (not_show : bytes_eq (codes "show") word ≡ false) (not_digest : bytes_eq (codes "digest") word ≡ false) (not_pack : bytes_eq (codes "pack") word ≡ false)
-    (not_check : bytes_eq (codes "check") word ≡ false) where
+    (not_check : bytes_eq (codes "check") word ≡ false) (not_serve : bytes_eq (codes "serve") word ≡ false) where
   unknown : (rest : List Text) → IsRefused (word ∷ rest)
   unfolding clap_on_literals
   unknown rest =
       let d = no_dashes word h in let l = no_long word h in let s = no_short word h in
-      record { kind = kinds.UnknownArgument; kinds = kinds.InvalidSubcommand ∷ []; fault = rw (not_run, not_undolog, not_history, not_show, not_digest, not_pack, not_check, not_index, not_play, d, l, s) refl }
+      record { kind = kinds.UnknownArgument; kinds = kinds.InvalidSubcommand ∷ []; fault = rw (not_run, not_undolog, not_history, not_show, not_digest, not_pack, not_check, not_index, not_play, not_serve, d, l, s) refl }
 
   unknown_reads : (rest : List Text) → Reads (word ∷ rest)
   unknown_reads [] = refused (unknown []) (rw (not_run, not_undolog, not_index, not_play) refl)
   unknown_reads (argument ∷ []) = refused (unknown (argument ∷ [])) (rw (not_history, not_show, not_digest, not_pack, not_check) refl)
-  unknown_reads (argument ∷ other ∷ []) = refused (unknown (argument ∷ other ∷ [])) (rw not_pack refl)
+  unknown_reads (argument ∷ other ∷ []) = refused (unknown (argument ∷ other ∷ [])) (rw (not_pack, not_serve) refl)
   unknown_reads (argument ∷ other ∷ third ∷ more) = refused (unknown (argument ∷ other ∷ third ∷ more)) refl
 
 -- the word is a name, or it isn't
@@ -341,4 +375,5 @@ reads (word ∷ rest) h =
     by_name (codes "digest") word rest (digest_reads rest h.1) (λ not_digest.
     by_name (codes "pack") word rest (pack_reads rest h.1) (λ not_pack.
     by_name (codes "check") word rest (check_reads rest h.1) (λ not_check.
-    unknown_reads word h.0 not_run not_undolog not_index not_play not_history not_show not_digest not_pack not_check rest)))))))))
+    by_name (codes "serve") word rest (serve_reads rest h.1) (λ not_serve.
+    unknown_reads word h.0 not_run not_undolog not_index not_play not_history not_show not_digest not_pack not_check not_serve rest))))))))))

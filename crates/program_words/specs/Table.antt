@@ -22,6 +22,13 @@ placed name = with_rule (new_app name) position
 abbrev pub placed_twice : List ℕ → App
 placed_twice name = with_rule (with_rule (new_app name) position) more
 
+-- a second word that is to stand there
+abbrev pub other : Rule
+other = record (new_rule (codes "more")) { required = true }
+
+abbrev pub placed_pair : List ℕ → App
+placed_pair name = with_rule (with_rule (new_app name) position) other
+
 -- what a command gives that is added to another
 abbrev pub AddsApp : Command → App → Type 0
 AddsApp c app = (old new : Command) → AddsSubcommand old c new → app_of new ≡ with_subcommand (app_of old) app.top
@@ -32,8 +39,8 @@ program_top = let a = new_app (codes "zodb") in
 
 abbrev pub program_app : App
 program_app =
-    with_subcommand (with_subcommand (with_subcommand (with_subcommand (with_subcommand (with_subcommand (with_subcommand (with_subcommand (with_subcommand program_top (alone (codes "run")).top) (alone (codes "undolog")).top)
-    (placed (codes "history")).top) (placed (codes "show")).top) (placed (codes "digest")).top) (placed_twice (codes "pack")).top) (placed (codes "check")).top) (alone (codes "index")).top) (alone (codes "play")).top
+    with_subcommand (with_subcommand (with_subcommand (with_subcommand (with_subcommand (with_subcommand (with_subcommand (with_subcommand (with_subcommand (with_subcommand program_top (alone (codes "run")).top) (alone (codes "undolog")).top)
+    (placed (codes "history")).top) (placed (codes "show")).top) (placed (codes "digest")).top) (placed_twice (codes "pack")).top) (placed (codes "check")).top) (alone (codes "index")).top) (alone (codes "play")).top) (placed_pair (codes "serve")).top
 
 -- the name of a subcommand, and the values of its positions
 abbrev pub named_in : Option (Text × List Row) → Option (Text × Option Text × Option Text)

@@ -1,8 +1,9 @@
 -- What the words behind the program's name ask. Own.
-use Rattle.std.specs.Prelude.{ℕ, List, [], ◌∷◌, Option, Some, None, Bool, true, false, not, ◌==◌, ◌&&◌, ◌||◌, if◌then◌else◌, codes}
+use Rattle.std.specs.Prelude.{ℕ, List, [], ◌∷◌, Option, Some, None, Bool, true, false, not, ◌==◌, ◌&&◌, ◌||◌, ◌^◌, if◌then◌else◌, codes, decimal, nat_eq, nat_lt}
 use Rattle.std.specs.List.{list_any}
 use Rattle.std.specs.Option.{option_and_then, option_map}
 use Rattle.std.specs.Str.{bytes_eq}
+use Rattle.std.specs.Str.Parse.{digits_value}
 use Rattle.zb_ids.specs.Hex.{number_at}
 use Rattle.zb_ids.specs.Spelling.{time_at, time_number}
 use Rattle.program_words.specs.declared.command.Command.{Command}
@@ -21,7 +22,7 @@ is_path (b ∷ path) = not (b == 45)
 
 -- ---- the table
 
--- the commands that stand alone, those with one position, and those that may have a second one
+-- the commands that stand alone, those with one position, and those that have or may have a second one
 abbrev pub stands_alone : List ℕ → Bool
 stands_alone word = bytes_eq (codes "run") word || (bytes_eq (codes "undolog") word || (bytes_eq (codes "index") word || bytes_eq (codes "play") word))
 
@@ -29,7 +30,7 @@ abbrev pub has_position : List ℕ → Bool
 has_position word = bytes_eq (codes "history") word || (bytes_eq (codes "show") word || (bytes_eq (codes "digest") word || (bytes_eq (codes "pack") word || bytes_eq (codes "check") word)))
 
 abbrev pub may_have_two : List ℕ → Bool
-may_have_two word = bytes_eq (codes "pack") word
+may_have_two word = bytes_eq (codes "pack") word || bytes_eq (codes "serve") word
 
 -- a name of the table, with as many words behind it as it may have
 abbrev pub named_of : List (List ℕ) → Option (List ℕ × Option (List ℕ) × Option (List ℕ))
@@ -62,13 +63,27 @@ object_command word oid =
 abbrev pub pack_command : List ℕ → Bool → Option Command
 pack_command text collect = option_map (λ t. command.Pack (record { tid = time_number t; collect = collect })) (time_at text)
 
+-- the number below 2^16 that a word spells in decimal, without a sign and without zeros in front
+abbrev pub number_word : List ℕ → Option ℕ
+number_word word = if nat_lt (digits_value 10 word) (2 ^ 16) && bytes_eq word (decimal (digits_value 10 word)) then Some (digits_value 10 word) else None
+
+-- so many links at a port: 1 to 64
+abbrev pub serve_with : ℕ → ℕ → Option Command
+serve_with port count = if nat_eq count 0 || nat_lt 64 count then None else Some (command.Serve (record { port = port; count = count }))
+
+abbrev pub serve_command : List ℕ → List ℕ → Option Command
+serve_command port count = option_and_then (λ p. option_and_then (serve_with p) (number_word count)) (number_word port)
+
 -- what a name asks with the word at its position: a stamp, or the sixteen digits of an object
 abbrev pub text_command : List ℕ → List ℕ → Option Command
 text_command word text = if bytes_eq word (codes "pack") then pack_command text true else option_and_then (object_command word) (number_at text)
 
--- and what it asks with a second word: a pack that doesn't collect
+-- and what it asks with a second word: a pack that doesn't collect, or links that are to be served
 abbrev pub long_command : List ℕ → List ℕ → List ℕ → Option Command
-long_command word text more = if bytes_eq word (codes "pack") && bytes_eq more (codes "nogc") then pack_command text false else None
+long_command word text more =
+    if bytes_eq word (codes "pack") && bytes_eq more (codes "nogc") then pack_command text false
+    else if bytes_eq word (codes "serve") then serve_command text more
+    else None
 
 abbrev pub named_command : List ℕ → Option (List ℕ) → Option (List ℕ) → Option Command
 named_command word None more = word_command word

@@ -4,9 +4,10 @@ ghost use Rattle.std.specs.Prelude.{◌≡◌, IfOk, map, string_bytes};
 ghost use Rattle.std.specs.List.{list_any};
 ghost use Rattle.std.specs.Option.{option_and_then, option_map};
 ghost use Rattle.zb_ids.specs.Hex.{number_at};
-ghost use Rattle.program_words.specs.Words.{command_of, is_dashed, is_path, long_command, named_command, object_command, pack_command, text_command, word_command};
+ghost use Rattle.program_words.specs.Words.{command_of, is_dashed, is_path, long_command, named_command, number_word, object_command, pack_command, serve_command, text_command, word_command};
 
 use crate::entering::named;
+use itoa::Buffer;
 use std::alloc::{AllocError, Global};
 use zb_ids::{Oid, Stamp, Tid, read_hex, tid_of_stamp};
 
@@ -46,6 +47,15 @@ pub struct PackRequest {
     pub collect: bool,
 }
 
+/// Links that are to be served.
+#[derive(Clone, Copy, Debug, PartialEq, Eq)]
+pub struct ServeRequest {
+    /// The port at which they come in. At 0 the host picks one.
+    pub port: u16,
+    /// How many: 1 to 64.
+    pub count: u16,
+}
+
 /// What the words ask.
 #[derive(Clone, Copy, Debug, PartialEq, Eq)]
 pub enum Command {
@@ -62,6 +72,11 @@ pub enum Command {
     Index,
     /// The script that the source has is to be run, with the lines of its clients side by side.
     Play,
+    /// Links are to be accepted and served.
+    Serve(
+        /// Which.
+        ServeRequest,
+    ),
 }
 
 /// Whether a word is a path: it isn't empty and doesn't begin with a dash.
@@ -154,6 +169,38 @@ fn pack_command(stamp: &str, collect: bool) -> Option<Command>
     }
 }
 
+/// The number below 2^16 that a word spells in decimal, without a sign and without zeros in front.
+#[tactic(auto, using(crate::proofs::Numbers::no_number))]
+fn number_word(word: &str) -> Option<u16>
+    ensures { result ≡ number_word word.now }
+{
+    let Ok(number) = word.parse::<u16>() else {
+        return None;
+    };
+    let mut buffer = Buffer::new();
+    if buffer.format(number) != word {
+        return None;
+    }
+    Some(number)
+}
+
+/// So many links at a port.
+#[tactic(auto, using(crate::proofs::Numbers::no_port, crate::proofs::Numbers::no_count, crate::proofs::Numbers::count_refused, crate::proofs::Numbers::serve_taken))]
+fn serve_command(port: &str, count: &str) -> Option<Command>
+    ensures { result ≡ serve_command port.now count.now }
+{
+    let Some(port) = number_word(port) else {
+        return None;
+    };
+    let Some(count) = number_word(count) else {
+        return None;
+    };
+    if count == 0 || count > 64 {
+        return None;
+    }
+    Some(Command::Serve(ServeRequest { port, count }))
+}
+
 /// What a name asks with the word at its position.
 fn text_command(word: &str, text: &str) -> Option<Command>
     ensures { result ≡ text_command word.now text.now }
@@ -170,6 +217,9 @@ fn long_command(word: &str, text: &str, more: &str) -> Option<Command>
 {
     if word == "pack" && more == "nogc" {
         return pack_command(text, false);
+    }
+    if word == "serve" {
+        return serve_command(text, more);
     }
     None
 }

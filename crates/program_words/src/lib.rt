@@ -5,4 +5,4 @@ mod command;
 mod entering;
 mod table;
 
-pub use command::{Asked, Command, PackRequest, command_of};
+pub use command::{Asked, Command, PackRequest, ServeRequest, command_of};

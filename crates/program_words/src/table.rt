@@ -2,7 +2,7 @@
 
 ghost use Rattle.std.specs.Prelude.{◌≡◌, IfOk};
 ghost use Rattle.clap.specs.Words.{app_of};
-ghost use Rattle.program_words.specs.Table.{AddsApp, alone, placed, placed_twice, program_app, program_top};
+ghost use Rattle.program_words.specs.Table.{AddsApp, alone, placed, placed_pair, placed_twice, program_app, program_top};
 
 use clap::{Arg, Command};
 use std::alloc::{AllocError, Global};
@@ -27,6 +27,14 @@ fn placed_twice<'a>(alloc: Global, name: &'a str) -> Result<Command<'a>, AllocEr
 {
     let once = Command::new(alloc, name).arg(Arg::new(alloc, "position").required(true))?;
     once.arg(Arg::new(alloc, "more"))
+}
+
+/// A command with two positions.
+fn placed_pair<'a>(alloc: Global, name: &'a str) -> Result<Command<'a>, AllocError>
+    ensures { IfOk result (λ c. AddsApp c (placed_pair name.entry.now)) }
+{
+    let once = Command::new(alloc, name).arg(Arg::new(alloc, "position").required(true))?;
+    once.arg(Arg::new(alloc, "more").required(true))
 }
 
 /// The program, without its commands.
@@ -54,5 +62,6 @@ pub(crate) fn program<'a>(alloc: Global) -> Result<Command<'a>, AllocError>
         .subcommand(placed_twice(alloc, "pack")?)?
         .subcommand(placed(alloc, "check")?)?
         .subcommand(alone(alloc, "index"))?
-        .subcommand(alone(alloc, "play"))
+        .subcommand(alone(alloc, "play"))?
+        .subcommand(placed_pair(alloc, "serve")?)
 }

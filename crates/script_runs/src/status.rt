@@ -20,10 +20,16 @@ pub enum Status {
     StoreFault = 5,
     /// The file is damaged.
     Damaged = 6,
+    /// A worker of a link wasn't started.
+    NoWorkers = 7,
     /// A line is none, or can't stand in its place.
     BadLine = 8,
     /// The script passes a limit.
     Limit = 9,
+    /// No further link came: the doors failed.
+    NoLink = 10,
+    /// The history of all sessions is full.
+    StepsSpent = 11,
 }
 
 impl Status {

@@ -1,4 +1,5 @@
 pub mod Said
+pub mod Serves
 pub mod Sides
 pub mod Nexts
 pub mod Files

@@ -239,7 +239,7 @@ unopened status.NoMemory e pack told before after said harm rose same calm left 
 unopened _ e pack told before after said harm rose same calm left = absurd said
 
 -- at the end of a call, as at each of its moments
-last_left : (P : List Event → Type 0) (old new : List Event) → Along P old new → P new
+pub last_left : (P : List Event → Type 0) (old new : List Event) → Along P old new → P new
 last_left P old _ (here now) = now
 last_left P old _ (more now before) = now
 

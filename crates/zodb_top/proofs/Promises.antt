@@ -18,8 +18,9 @@ use Rattle.zb_volume.specs.Calls.{Event}
 use Rattle.zb_volume.specs.Moments.{StaysAs, here as from_here}
 use Rattle.program_words.specs.declared.command.Asked.{Asked}
 use Rattle.program_words.specs.declared.command.Command.{Command}
-use Rattle.program_words.specs.declared.command.Command.TheVariants.{Ask, Index, Pack, Play, Run}
+use Rattle.program_words.specs.declared.command.Command.TheVariants.{Ask, Index, Pack, Play, Run, Serve}
 use Rattle.program_words.specs.declared.command.PackRequest.{PackRequest}
+use Rattle.program_words.specs.declared.command.ServeRequest.{ServeRequest}
 use Rattle.script_runs.specs.declared.manner.Manner.{Manner}
 use Rattle.script_runs.specs.declared.manner.Manner.TheVariants.{InTurn, SideBySide}
 use Rattle.script_runs.specs.declared.status.Status.{Status}
@@ -32,11 +33,12 @@ use Rattle.zodb_top.specs.Outside.{Outside, main_of}
 use Rattle.zodb_top.specs.Packs.{PackSays}
 use Rattle.zodb_top.specs.Program.{IsInput, PacksNothing, ReadsToEnd, RunSays}
 use Rattle.script_runs.specs.Outcomes.{IsUnlessMemory}
-use Rattle.zodb_top.specs.Promise.{AreLater, ProgramSeen, Promise, SaysUsage}
+use Rattle.zodb_top.specs.Promise.{AreLater, AreLaterLinks, ProgramSeen, Promise, SaysUsage, seen_of}
+use Rattle.zodb_top.specs.Serves.{EndsWell, ServeSays}
 use Rattle.zodb_top.proofs.Complete.{ask_damaged, ask_done}
 use Rattle.zodb_top.proofs.Indexes.{index_damaged, index_done}
 use Rattle.zodb_top.proofs.Sides.{left_side}
-use Rattle.zodb_top.proofs.Untouched.{index_starved, left_untouched, pack_starved, still_honest}
+use Rattle.zodb_top.proofs.Untouched.{index_starved, left_untouched, pack_starved, serve_starved, still_honest}
 
 -- a file that stands for a list is served
 abbrev pub Done : Type 0 → Status → Outside → Outside → Type 0
@@ -104,6 +106,29 @@ pub pack_kept : (told : Type 0) (command : Option Command) (pack : PackRequest) 
     → Harmed told before.outside after.outside → Unfailed s before.outside after.outside → after.left ≡ before.left → Hinted told before.outside after.outside → AreLater before after → after.links ≡ before.links
     → Promise told command s before after
 pack_kept told command pack s before after is says done damaged harmed unfailed left hint later links = subst (λ (c : Option Command). Promise told c s before after) (sym is) (record {
+  says = says;
+  reads = left;
+  links = links;
+  serves = record {
+    done = λ here opens served sinks list cut stands. done here served.reads served.writes sinks list cut stands;
+    damaged = λ here opens served harm. damaged here served.reads served.writes harm;
+  };
+  refuses = λ takes. absurd takes;
+  harmed = harmed;
+  unfailed = unfailed;
+  side = λ here keeps some. absurd keeps;
+  hint = hint;
+  later = later;
+})
+
+-- links that are served
+pub serve_kept : (told : Type 0) (command : Option Command) (request : ServeRequest) (s : Status) (before after : ProgramSeen) → command ≡ Some (Serve request)
+    → ServeSays s request told (seen_of before.links) (seen_of after.links) before.outside after.outside
+    → (told → ¬ Rose before.outside.read_faults after.outside.read_faults → ¬ Rose before.outside.write_faults after.outside.write_faults → ¬ Rose before.outside.sink_faults after.outside.sink_faults
+    → (list : List Transaction) (cut : Option ℕ) → StandsFor (main_of before.outside) list cut → EndsWell s (seen_of before.links) (seen_of after.links))
+    → Damaged told s before.outside after.outside → Harmed told before.outside after.outside → Unfailed s before.outside after.outside → after.left ≡ before.left → Hinted told before.outside after.outside
+    → AreLater before after → AreLaterLinks before.links after.links → Promise told command s before after
+serve_kept told command request s before after is says done damaged harmed unfailed left hint later links = subst (λ (c : Option Command). Promise told c s before after) (sym is) (record {
   says = says;
   reads = left;
   links = links;
@@ -269,3 +294,7 @@ starved told (Some Index) seen honest =
     index_kept told (Some Index) status.NoMemory seen seen refl
     (index_starved told seen.outside) (λ here. left_untouched told seen.outside seen.outside refl refl)
     (λ here harm. refl) (λ other. refl) refl (λ here settled. still_honest seen.outside.log (honest here) settled) (later_same seen) refl
+starved told (Some (Serve request)) seen honest =
+    serve_kept told (Some (Serve request)) request status.NoMemory seen seen refl
+    (serve_starved request told (seen_of seen.links) seen.outside) (λ here reads writes sinks list cut stands doors spawner. inl (inr refl)) (λ here reads writes harm. inr refl)
+    (λ here harm. refl) (λ other. refl) refl (λ here settled. still_honest seen.outside.log (honest here) settled) (later_same seen) (record { doors = omega arith; spawner = omega arith })

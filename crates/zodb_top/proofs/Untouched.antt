@@ -16,9 +16,12 @@ use Rattle.zb_volume.specs.Moments.{LeavesOnly, StaysAs, here}
 use Rattle.zodb_top.specs.Indexing.{IndexSays}
 use Rattle.zodb_top.specs.Opened.{IsLeft, bytes_same}
 use Rattle.program_words.specs.declared.command.PackRequest.{PackRequest}
+use Rattle.program_words.specs.declared.command.ServeRequest.{ServeRequest}
 use Rattle.script_runs.specs.declared.status.Status.TheVariants as status
 use Rattle.zodb_top.specs.Outside.{Outside}
 use Rattle.zodb_top.specs.Packs.{PackSays}
+use Rattle.zodb_top.specs.Serves.{ServeSays}
+use Rattle.zeo_serving_links.specs.Serving.{OutsideSeen}
 
 keeps_at : (log : List Event) → KeepsList log log
 keeps_at log list cut some stands settled = here (settled_leaves log Main (λ bytes. StandsForList bytes list) settled (cut, stands))
@@ -48,3 +51,7 @@ pack_starved pack told before = (refl, inl (left_untouched told before before re
 -- and for those of `index`
 pub index_starved : (told : Type 0) (before : Outside) → IndexSays status.NoMemory told before before
 index_starved told before = (refl, record { reads = refl; writes = refl })
+
+-- and for those of `serve`
+pub serve_starved : (request : ServeRequest) (told : Type 0) (links : OutsideSeen) (before : Outside) → ServeSays status.NoMemory request told links links before before
+serve_starved request told links before = (refl, inl (λ here. left_untouched told before before refl refl, record { reads = refl; writes = refl }))

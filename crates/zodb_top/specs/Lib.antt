@@ -15,3 +15,4 @@ pub mod Packs
 pub mod PackStores
 pub mod Telling
 pub mod Indexing
+pub mod Serves

@@ -8,7 +8,7 @@ use Rattle.zb_script.specs.declared.line.Turn.{Turn}
 use Rattle.zb_script.specs.Limits.{first_limit}
 use Rattle.zb_script.specs.Script.{IsBadLine, IsScript}
 use Rattle.program_words.specs.declared.command.Command.{Command}
-use Rattle.program_words.specs.declared.command.Command.TheVariants.{Pack, Play, Run}
+use Rattle.program_words.specs.declared.command.Command.TheVariants.{Pack, Play, Run, Serve}
 use Rattle.script_runs.specs.declared.status.Status.{Status}
 use Rattle.script_runs.specs.declared.status.Status.TheVariants.{Done, NoMemory, SourceFault, SinkFault, StoreFault, Damaged, BadLine, Limit as LimitPassed}
 use Rattle.script_runs.specs.declared.manner.Manner.{Manner}
@@ -29,11 +29,12 @@ pub record PacksNothing (left : Option (List ℕ)) : Type 0 where
   pub told : left ≡ Some input
   pub none : (turns : List Turn) → IsInput input turns → has_pack turns ≡ false
 
--- and so it is of a script, and of each command that asks, but not of `pack`
+-- and so it is of a script, and of each command that asks, but not of `pack`, nor of `serve`, whose clients may pack
 abbrev pub KeepsSide : Option Command → Option (List ℕ) → Type 0
 KeepsSide (Some Run) left = PacksNothing left
 KeepsSide (Some Play) left = PacksNothing left
 KeepsSide (Some (Pack pack)) left = ⊥
+KeepsSide (Some (Serve request)) left = ⊥
 KeepsSide _ left = Unit {0}
 
 -- this holds of turns, which are those of the input where the source tells

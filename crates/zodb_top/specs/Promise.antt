@@ -15,7 +15,7 @@ use Rattle.zb_volume.specs.declared.areas.Area.TheVariants.{Main, Side}
 use Rattle.zb_volume.specs.Disk.{IsSettled}
 use Rattle.zb_volume.specs.Moments.{StaysAs}
 use Rattle.program_words.specs.declared.command.Command.{Command}
-use Rattle.program_words.specs.declared.command.Command.TheVariants.{Ask, Index, Pack, Play, Run}
+use Rattle.program_words.specs.declared.command.Command.TheVariants.{Ask, Index, Pack, Play, Run, Serve}
 use Rattle.script_runs.specs.declared.manner.Manner.TheVariants.{InTurn, SideBySide}
 use Rattle.script_runs.specs.declared.status.Status.{Status}
 use Rattle.script_runs.specs.declared.status.Status.TheVariants as status
@@ -25,6 +25,8 @@ use Rattle.zodb_top.specs.Inputs.{most_bytes}
 use Rattle.zodb_top.specs.Opened.{IsLeft, IsUnopened}
 use Rattle.zodb_top.specs.Outside.{Outside, main_of}
 use Rattle.zodb_top.specs.Packs.{PackSays}
+use Rattle.zodb_top.specs.Serves.{EndsWell, ServeSays}
+use Rattle.zeo_serving_links.specs.Serving.{OutsideSeen, outside_seen}
 use Rattle.zodb_top.specs.Program.{IsInput, KeepsSide, ReadsToEnd, RunSays}
 use Rattle.script_runs.specs.Outcomes.{IsUnlessMemory}
 use Rattle.zodb_top.specs.Texts.{usage_line}
@@ -40,6 +42,10 @@ pub record LinksSeen : Type 0 where
 abbrev pub links_seen : Option Told → ℕ → ℕ → LinksSeen
 links_seen told door_faults spawner_faults =
     record { told = told; door_faults = door_faults; spawner_faults = spawner_faults }
+
+-- the same, as those who serve links see it
+abbrev pub seen_of : LinksSeen → OutsideSeen
+seen_of links = outside_seen links.told links.door_faults links.spawner_faults
 
 -- What is seen of the whole outside at a moment: what the source has left, where it tells, and its
 -- count of faults; what is seen of the links; and what is seen of the sink, the clock and the volume.
@@ -80,6 +86,9 @@ CommandSays (Some (Ask asked)) s told before after =
     × (told → IsLeft told before.outside after.outside)
 CommandSays (Some (Pack pack)) s told before after =
     PackSays s pack told before.outside after.outside
+CommandSays (Some (Serve request)) s told before after =
+    ServeSays s request told (seen_of before.links) (seen_of after.links)
+    before.outside after.outside
 CommandSays (Some Index) s told before after =
     IndexSays s told before.outside after.outside
     × (told → IsLeft told before.outside after.outside)
@@ -100,8 +109,14 @@ ReadsFor _ s before after = after.left ≡ before.left
 
 -- ---- what is done to links
 
--- no command takes any
+-- the counts of faults of the doors and of the spawner haven't fallen
+pub record AreLaterLinks (before after : LinksSeen) : Type 0 where
+  pub doors : before.door_faults ≤ after.door_faults
+  pub spawner : before.spawner_faults ≤ after.spawner_faults
+
+-- `serve` takes some, as its statuses say, and no other command takes any
 abbrev pub LinksFor : Option Command → ProgramSeen → ProgramSeen → Type 0
+LinksFor (Some (Serve request)) before after = AreLaterLinks before.links after.links
 LinksFor _ before after = after.links ≡ before.links
 
 -- ---- which status comes, where no call fails
@@ -126,13 +141,19 @@ OpensFile (Some Run) before after = HasScript before after
 OpensFile (Some Play) before after = HasScript before after
 OpensFile (Some _) before after = Unit {0}
 
+-- all was done, unless memory ran out; `serve` may also find the history full, and all of it is done
+-- only where neither the doors nor the spawner failed
+abbrev pub IsDoneFor : Option Command → Status → ProgramSeen → ProgramSeen → Type 0
+IsDoneFor (Some (Serve request)) s before after = EndsWell s (seen_of before.links) (seen_of after.links)
+IsDoneFor _ s before after = IsUnlessMemory s status.Done
+
 -- A file that stands for a list is served, and one that stands for none is damaged.
 pub record Serves (told : Type 0) (command : Option Command) (s : Status)
     (before after : ProgramSeen) : Type 0 where
   pub done : told → OpensFile command before after → IsServed before.outside after.outside
       → ¬ Rose before.outside.sink_faults after.outside.sink_faults
       → (list : List Transaction) (cut : Option ℕ) → StandsFor (main_of before.outside) list cut
-      → IsUnlessMemory s status.Done
+      → IsDoneFor command s before after
   pub damaged : told → OpensFile command before after → IsServed before.outside after.outside
       → IsNoList (main_of before.outside) → IsUnlessMemory s status.Damaged
 
@@ -168,7 +189,7 @@ pub record Promise (told : Type 0) (command : Option Command) (s : Status)
   pub says : CommandSays command s told before after
   -- A script is read whole, and nothing else is read.
   pub reads : ReadsFor command s before after
-  -- No link is taken.
+  -- No link is taken, but by `serve`.
   pub links : LinksFor command before after
   -- Each command has its status over each file where no call fails, unless memory runs out.
   pub serves : Serves told command s before after

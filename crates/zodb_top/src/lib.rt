@@ -11,6 +11,7 @@ mod packing;
 mod running;
 mod saying;
 mod script;
+mod serving;
 mod top;
 
 pub use script::{MOST_BYTES, turns_of};

@@ -27,7 +27,7 @@ use zb_script::Turn;
 use zb_volume::Volume;
 
 /// The law that what Main reads is among what a crash leaves of it.
-fn is_left<V: Volume>(volume: &V)
+pub(crate) fn is_left<V: Volume>(volume: &V)
     ensures left { V.told → CrashLeaves (V.state volume.now).log Main (seen (V.state volume.now).log Main) }
 {}
 

@@ -10,6 +10,7 @@ use crate::answering::answer_file;
 use crate::indexing::index_file;
 use crate::packing::pack_file;
 use crate::script::run_source;
+use crate::serving::serve_file;
 use program_words::{Command, command_of};
 use script_runs::{Manner, Status, say};
 use std::alloc::Global;
@@ -70,5 +71,8 @@ where
         Command::Pack(pack) => pack_file(alloc, pack, sink, volume, clock),
         Command::Index => index_file(alloc, sink, volume, clock),
         Command::Play => run_source(rt, alloc, Manner::SideBySide, source, sink, volume, clock),
+        Command::Serve(request) => serve_file(
+            rt, alloc, request, sink, volume, clock, doors, spawner,
+        ),
     }
 }

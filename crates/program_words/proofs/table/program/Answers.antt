@@ -1,7 +1,7 @@
 use Rattle.std.proofs.Common.{ap, codes, ◌∙◌}
 use Rattle.std.proofs.lemmas.Result.{IfOk-weaker}
 use Rattle.clap.specs.Words.{App, with_subcommand}
-use Rattle.program_words.specs.Table.{alone, placed, placed_twice}
+use Rattle.program_words.specs.Table.{alone, placed, placed_pair, placed_twice}
 use Rattle.program_words.proofs.table.program.Goals as goal
 
 pub returns : goal.returns
@@ -14,4 +14,5 @@ returns c =
     let pack = c.in_ok-placed_twice.ensures _ _ c.in_ok-subcommand-6.ensures ∙ ap (λ (x : App). with_subcommand x (placed_twice (codes "pack")).top) digest in
     let check = c.in_ok-placed-4.ensures _ _ c.in_ok-subcommand-7.ensures ∙ ap (λ (x : App). with_subcommand x (placed (codes "check")).top) pack in
     let index = c.alone-3.ensures _ _ c.in_ok-subcommand-8.ensures ∙ ap (λ (x : App). with_subcommand x (alone (codes "index")).top) check in
-    IfOk-weaker c.subcommand-9.result _ _ (λ r h. c.alone-4.ensures _ _ h ∙ ap (λ (x : App). with_subcommand x (alone (codes "play")).top) index) c.subcommand-9.ensures
+    let play = c.alone-4.ensures _ _ c.in_ok-subcommand-9.ensures ∙ ap (λ (x : App). with_subcommand x (alone (codes "play")).top) index in
+    IfOk-weaker c.subcommand-10.result _ _ (λ r h. c.in_ok-placed_pair.ensures _ _ h ∙ ap (λ (x : App). with_subcommand x (placed_pair (codes "serve")).top) play) c.subcommand-10.ensures

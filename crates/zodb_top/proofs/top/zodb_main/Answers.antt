@@ -1,6 +1,6 @@
 use Rattle.std.proofs.Common.{Some, sym, ap, refl, arith, ◌∙◌}
 use Rattle.script_runs.specs.declared.manner.Manner.TheVariants.{InTurn, SideBySide}
-use Rattle.zodb_top.proofs.Promises.{ask_kept, index_kept, pack_kept, run_named, starved}
+use Rattle.zodb_top.proofs.Promises.{ask_kept, index_kept, pack_kept, run_named, serve_kept, starved}
 use Rattle.zodb_top.proofs.top.zodb_main.Goals as goal
 
 pub returns-in_default : goal.returns-in_default
@@ -39,4 +39,11 @@ returns-in-Index g c = let e = c.index_file.ensures in record {
   promise = index_kept g.V.Volume.told _ c.index_file.result.0 _ _ (sym c.in-Ok.ensures ∙ c.in-Some.is ∙ ap Some c.in-Index.is)
       e.outcome e.left e.harmed e.others refl e.hint
       (record { source = omega arith; sink = e.sink_counted; reads = e.read_counted; writes = e.counted }) refl;
+}
+
+pub returns-in-Serve : goal.returns-in-Serve
+returns-in-Serve g c = let e = c.serve_file.ensures in record {
+  promise = serve_kept g.V.Volume.told _ c.in-Serve.request c.serve_file.result.0 _ _ (sym c.in-Ok.ensures ∙ c.in-Some.is ∙ ap Some c.in-Serve.is)
+      e.outcome e.complete e.damaged e.harmed e.others refl e.hint
+      (record { source = omega arith; sink = e.sink_counted; reads = e.read_counted; writes = e.counted }) (record { doors = e.doors_counted; spawner = e.spawner_counted });
 }
