@@ -62,11 +62,12 @@ fn link<'a, R: Wait>(
     alloc: Global,
     heard: &'a Wire,
     sent: &'a Wire,
-    first: (usize, &[u8]),
+    behind: usize,
+    bytes: &[u8],
     end: usize,
 ) -> Result<(WireSource<'a, R>, WireSink<'a, R>), AllocError> {
     let mut pieces = VecDeque::new(alloc);
-    pieces.push_back((first.0, first.1.to_vec(alloc)?))?;
+    pieces.push_back((behind, bytes.to_vec(alloc)?))?;
     pieces.push_back((end, Vec::new(alloc)))?;
     let link_in = WireSource {
         rt,
@@ -81,6 +82,12 @@ fn link<'a, R: Wait>(
     Ok((link_in, link_out))
 }
 
+/// Whether just these bytes were sent on a wire.
+fn has_sent<R: Wait>(rt: &R, wire: &Wire, bytes: &[u8]) -> bool {
+    let sent = wire.bytes.lock(rt);
+    sent.as_slice() == bytes
+}
+
 #[test]
 fn serve_one_link(rt: HostRuntime) -> Result<(), Fail> {
     let alloc = rt.alloc();
@@ -88,7 +95,7 @@ fn serve_one_link(rt: HostRuntime) -> Result<(), Fail> {
     let mut asked = REGISTER.to_vec(alloc)?;
     asked.extend_from_slice(&NEW_OIDS)?;
     let mut links = VecDeque::new(alloc);
-    links.push_back(link(&rt, alloc, &sent, &sent, (0, asked.as_slice()), 0)?)?;
+    links.push_back(link(&rt, alloc, &sent, &sent, 0, asked.as_slice(), 0)?)?;
     let mut doors = WireDoors { links, faults: 0 };
     let mut spawner = CountedSpawner::new(Vec::new(alloc));
     let served = serve_links(&rt, alloc, &mut doors, &mut spawner, 0, 1)?;
@@ -99,7 +106,7 @@ fn serve_one_link(rt: HostRuntime) -> Result<(), Fail> {
             faulty: 0,
         }
     );
-    assert_eq!(rt; sent.bytes.lock(&rt).as_slice(), ANSWERS.as_slice());
+    assert!(rt; has_sent(&rt, &sent, ANSWERS.as_slice()));
     Ok(())
 }
 
@@ -113,15 +120,15 @@ fn a_commit_is_told_to_the_other_link(rt: HostRuntime) -> Result<(), Fail> {
     asked.extend_from_slice(&FINISH)?;
     let mut links = VecDeque::new(alloc);
     // The first client commits once the other was answered, which ends once it was told.
-    links.push_back(link(&rt, alloc, &other, &one, (34, asked.as_slice()), 96)?)?;
-    links.push_back(link(&rt, alloc, &other, &other, (0, REGISTER.as_slice()), 96)?)?;
+    links.push_back(link(&rt, alloc, &other, &one, 34, asked.as_slice(), 96)?)?;
+    links.push_back(link(&rt, alloc, &other, &other, 0, REGISTER.as_slice(), 96)?)?;
     let mut doors = WireDoors { links, faults: 0 };
     let served = serve_links(&rt, alloc, &mut doors, &mut ThreadSpawner::new(), 0, 2)?;
     assert_eq!(rt; served.end, ServingEnd::All);
     assert_eq!(rt; served.faulty, 0);
-    let told = other.bytes.lock(&rt);
-    assert_eq!(rt; &told[..34], &ANSWERS[..34]);
-    assert_eq!(rt; &told[34..], TOLD.as_slice());
+    let mut wanted = Vec::from_slice(alloc, &ANSWERS[..34])?;
+    wanted.extend_from_slice(TOLD.as_slice())?;
+    assert!(rt; has_sent(&rt, &other, wanted.as_slice()));
     Ok(())
 }
 
@@ -176,27 +183,27 @@ fn a_worker_is_not_started(rt: HostRuntime) -> Result<(), Fail> {
     Ok(())
 }
 
-/// Asks a server at a port of this machine, once it is there, and takes so many bytes of its answers.
+/// Sends `register` to a server at a port of this machine, once it is there, and takes the answer.
 fn ask_at<R: Net<Listener = TcpListener, Stream = TcpStream>>(
     net: &R,
     port: u16,
-    asked: &[u8],
-    told: &mut [u8],
-) -> bool {
+) -> Option<[u8; 34]> {
+    let mut told = [0; 34];
     for _ in 0..1_000_000u32 {
         let Ok(mut stream) = TcpStream::connect(net, (Ipv4Addr::LOCALHOST, port)) else {
             thread::yield_now();
             continue;
         };
-        return stream.write_all(asked).is_ok()
-            && stream.shutdown(Shutdown::Write).is_ok()
-            && stream.read_exact(told).is_ok();
+        stream.write_all(&REGISTER).ok()?;
+        stream.shutdown(Shutdown::Write).ok()?;
+        stream.read_exact(&mut told).ok()?;
+        return Some(told);
     }
-    false
+    None
 }
 
 /// A port of this machine that is free.
-fn free_port<R: Net<Listener = TcpListener, Stream = TcpStream> + Drop>(net: R) -> u16 {
+fn free_port<N: Net<Listener = TcpListener, Stream = TcpStream> + Drop>(net: N) -> u16 {
     let mut doors = TcpDoors::new(net);
     if doors.bind(0).is_err() {
         return 0;
@@ -204,19 +211,26 @@ fn free_port<R: Net<Listener = TcpListener, Stream = TcpStream> + Drop>(net: R) 
     doors.port().unwrap_or(0)
 }
 
+/// Serves one link at a port of this machine.
+fn serve_at<N: Net<Listener = TcpListener, Stream = TcpStream> + Drop, R: Threads + Wait + Sync>(
+    net: N,
+    rt: &R,
+    alloc: Global,
+    port: u16,
+) -> Result<Served, Fail> {
+    let mut doors = TcpDoors::new(net);
+    serve_links(rt, alloc, &mut doors, &mut ThreadSpawner::new(), port, 1)
+}
+
 #[test]
 fn tcp_doors_serve_a_link_to_itself(rt: HostRuntime) -> Result<(), Fail> {
     let alloc = rt.alloc();
     let port = free_port(&rt);
-    let mut told = [0; 34];
-    let mut doors = TcpDoors::new(&rt);
-    let mut spawner = ThreadSpawner::new();
-    let (served, asked) = thread::join(
+    let (served, told) = thread::join(
         &rt,
-        || serve_links(&rt, alloc, &mut doors, &mut spawner, port, 1),
-        || ask_at(&rt, port, &REGISTER, &mut told),
+        || serve_at(&rt, &rt, alloc, port),
+        || ask_at(&rt, port),
     );
-    assert!(rt; asked);
     assert_eq!(rt;
         served?,
         Served {
@@ -224,6 +238,6 @@ fn tcp_doors_serve_a_link_to_itself(rt: HostRuntime) -> Result<(), Fail> {
             faulty: 0,
         }
     );
-    assert_eq!(rt; &told[..], &ANSWERS[..34]);
+    assert_eq!(rt; told.is_some_and(|told| told[..] == ANSWERS[..34]), true);
     Ok(())
 }
