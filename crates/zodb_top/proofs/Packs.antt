@@ -1,10 +1,10 @@
 -- A pack of a store, and of the file in Main.
 use Rattle.zb_volume.specs.Disk.{IsSettled}
 use Rattle.std.proofs.Common.{◌≡◌, ℕ, Bool, true, false, List, [], ◌∷◌, ◌++◌, Option, Some, None, inl, inr, refl, sym, ap, subst, ◌∙◌}
-use Rattle.std.specs.Prelude.{IfSome, IsSome, IsTrue, codes, slice_get}
+use Rattle.std.specs.Prelude.{IsTrue, codes}
 use Rattle.std.specs.Io.KnownBytes.{Appends}
 use Rattle.file_store.specs.Kept.{StandsForList}
-use Rattle.file_store.specs.Opening.{Harm, IsNewOr, KeepsList, MakesList, SomeRose, IsNoneOr}
+use Rattle.file_store.specs.Opening.{Harm, KeepsList, SomeRose, IsNoneOr}
 use Rattle.fs_recovery.specs.Opens.{IsNoList}
 use Rattle.fs_recovery.specs.declared.errors.OpenError.{OpenError}
 use Rattle.fs_recovery.specs.declared.errors.OpenError.TheVariants as error

@@ -1,16 +1,14 @@
 -- Links that are served over a store, and over the file in Main.
-use Rattle.std.proofs.Common.{◌≡◌, ◌⊎◌, ℕ, Bool, true, false, List, [], ◌∷◌, ◌++◌, Option, Some, None, inl, inr, refl, sym, ap, subst, arith, ◌∙◌}
-use Rattle.std.specs.Prelude.{IfSome, IsSome, slice_get}
+use Rattle.std.proofs.Common.{◌≡◌, ◌⊎◌, ℕ, Bool, true, false, List, [], ◌∷◌, ◌++◌, Option, inl, inr, refl, sym, ap, subst, arith, ◌∙◌}
 use Rattle.std.specs.Io.KnownBytes.{Appends}
 use Rattle.file_store.specs.Kept.{StandsForList}
 use Rattle.file_store.specs.Opening.{Harm, IsNoneOr, KeepsList, SomeRose}
 use Rattle.fs_recovery.specs.Opens.{IsNoList}
 use Rattle.fs_recovery.specs.declared.errors.OpenError.{OpenError}
 use Rattle.fs_recovery.specs.declared.errors.OpenError.TheVariants as error
-use Rattle.hub_shared.specs.Seats.{IsOfHistory, machine_of}
+use Rattle.hub_shared.specs.Seats.{IsOfHistory}
 use Rattle.zb_base.specs.Counts.{Rose}
 use Rattle.zb_ids.specs.declared.stamp.Stamp.{Stamp}
-use Rattle.zb_links.specs.Told.{Told}
 use Rattle.zb_model.specs.declared.data.Transaction.{Transaction}
 use Rattle.zb_model.specs.Stores.{StoreState}
 use Rattle.zb_outside.specs.Written.{AppendsPrefix}
@@ -29,7 +27,6 @@ use Rattle.zodb_core.specs.Outcomes.{AreLaterCounts, FaultCounts}
 use Rattle.program_words.specs.declared.command.ServeRequest.{ServeRequest}
 use Rattle.script_runs.specs.declared.status.Status.{Status}
 use Rattle.script_runs.specs.declared.status.Status.TheVariants as status
-use Rattle.script_runs.specs.Outcomes.{IsUnlessMemory}
 use Rattle.script_runs.specs.Texts.{joined, store_fault_line}
 use Rattle.script_runs.specs.Written.{IsWritten}
 use Rattle.side_by_side.specs.Runs.{stock}
@@ -37,7 +34,7 @@ use Rattle.zodb_top.specs.Came.{IsCalm}
 use Rattle.zodb_top.specs.Opened.{IsLeft, OpensAs, made as opens_made, there as opens_there}
 use Rattle.zodb_top.specs.Outside.{Outside, main_of}
 use Rattle.zodb_top.specs.PackStores.{IsToldAs}
-use Rattle.zodb_top.specs.Serves.{EndSays, EndsWell, HasServed, IsLeftBehind, IsOfServing, ServeSays, ServesAs, ServesNone, ServesOver, ServesStore, counts_in, no_link_line, no_workers_line, served_line, steps_spent_line}
+use Rattle.zodb_top.specs.Serves.{EndSays, EndsWell, IsLeftBehind, IsOfServing, ServeSays, ServesAs, ServesNone, ServesOver, ServesStore, counts_in, no_link_line, no_workers_line, served_line, steps_spent_line}
 use Rattle.zodb_top.specs.Unopened.{SaysUnopened}
 use Rattle.zodb_top.proofs.Files.{refused}
 use Rattle.zodb_top.proofs.Packs.{last_left}

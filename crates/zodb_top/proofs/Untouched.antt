@@ -1,10 +1,8 @@
 -- What is left where nothing was done.
-use Rattle.std.proofs.Common.{◌≡◌, List, [], Option, Some, None, inl, inr, refl, sym, ap, subst, ◌∙◌}
-use Rattle.std.specs.Prelude.{IfSome, slice_get}
-use Rattle.std.proofs.lemmas.Option.{same_Some}
+use Rattle.std.proofs.Common.{◌≡◌, List, None, inl, refl, sym, ap, subst}
 use Rattle.file_store.specs.Hinting.{HasHonestHint, LeavesHonest}
 use Rattle.file_store.specs.Kept.{StandsForList}
-use Rattle.file_store.specs.Opening.{IsNewOr, KeepsList, MakesFile, MakesList}
+use Rattle.file_store.specs.Opening.{IsNewOr, KeepsList, MakesList}
 use Rattle.fs_index_file.specs.Honest.{IsHonest}
 use Rattle.fs_records.specs.File.{no_bytes}
 use Rattle.zb_ids.specs.declared.stamp.Stamp.{Stamp}
@@ -12,7 +10,7 @@ use Rattle.zb_volume.specs.declared.areas.Area.TheVariants.{Hint, Main, Side}
 use Rattle.zb_volume.specs.Calls.{Event}
 use Rattle.zb_volume.specs.Disk.{seen, IsSettled}
 use Rattle.zb_volume.specs.Lasting.{settled_leaves}
-use Rattle.zb_volume.specs.Moments.{LeavesOnly, StaysAs, here}
+use Rattle.zb_volume.specs.Moments.{StaysAs, here}
 use Rattle.zodb_top.specs.Indexing.{IndexSays}
 use Rattle.zodb_top.specs.Opened.{IsLeft, bytes_same}
 use Rattle.program_words.specs.declared.command.PackRequest.{PackRequest}

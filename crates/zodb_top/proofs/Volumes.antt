@@ -1,9 +1,8 @@
 -- What a run over a store on the file says of the file.
 use Rattle.std.proofs.Common.{◌≡◌, ◌≢◌, ℕ, List, [], ◌++◌, Option, Some, None, inl, inr, refl, sym, ap, subst, ◌∙◌}
-use Rattle.std.specs.Prelude.{IfSome, IsSome, slice_get}
 use Rattle.std.specs.Io.KnownBytes.{Appends}
 use Rattle.file_store.specs.Kept.{StandsForList}
-use Rattle.file_store.specs.Opening.{Harm, IsMade, IsNewFile, IsNewOr, IsUnlessWritten, KeepsList, MakesList, SomeRose, without_tail, IsNoneOr}
+use Rattle.file_store.specs.Opening.{Harm, IsNewFile, IsUnlessWritten, KeepsList, SomeRose, without_tail, IsNoneOr}
 use Rattle.fs_recovery.specs.Opens.{IsNoList}
 use Rattle.fs_recovery.specs.declared.errors.OpenError.{OpenError}
 use Rattle.fs_recovery.specs.declared.errors.OpenError.TheVariants as error

@@ -1,4 +1,4 @@
-use Rattle.std.proofs.Common.{◌∙◌, refl}
+use Rattle.std.proofs.Common.{◌∙◌}
 use Rattle.zodb_top.proofs.Serves.{says_all, says_link, says_spent, says_workers}
 use Rattle.zodb_top.proofs.serving.say_served.Goals as goal
 

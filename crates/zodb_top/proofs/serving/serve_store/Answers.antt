@@ -8,7 +8,7 @@ use Rattle.zodb_top.proofs.Serves.{links_served}
 use Rattle.zodb_top.proofs.serving.serve_store.Goals as goal
 
 pub serve-hub-requires-clause-stands : goal.serve-hub-requires-clause-stands
-serve-hub-requires-clause-stands g c = λ told. subst (λ (s : StoreState). StandsForMachine c.new-hub.result (machine_over s.list)) (sym c.new-hub.ensures.store) (c.new-hub.ensures.stands told)
+serve-hub-requires-clause-stands g c = λ κs within told. subst (λ (s : StoreState). StandsForMachine c.new-hub.result (machine_over s.list)) (sym c.new-hub.ensures.store) (c.new-hub.ensures.stands told)
 
 pub returns-clause-serves : goal.returns-clause-serves
 returns-clause-serves g c =
