@@ -14,7 +14,7 @@ use zodb_top::zodb_main;
 
 /// What the program wrote, and the volume behind it.
 #[derive(Drop)]
-pub struct Ran {
+pub struct Ending {
     pub written: Vec<u8>,
     pub volume: CountedVolume,
 }
@@ -26,7 +26,7 @@ pub fn ran<R: Threads + Wait + Sync>(
     words: &[&str],
     script: &[u8],
     volume: CountedVolume,
-) -> Result<Ran, Fail> {
+) -> Result<Ending, Fail> {
     let mut all = Vec::new(alloc);
     all.push(String::from_str(alloc, "data.fs")?)?;
     for word in words {
@@ -51,7 +51,7 @@ pub fn ran<R: Threads + Wait + Sync>(
     if status != Status::Done {
         return Err(Fail::new("the program ended otherwise"));
     }
-    Ok(Ran {
+    Ok(Ending {
         written: Vec::from_slice(alloc, sink.bytes())?,
         volume,
     })

@@ -23,5 +23,3 @@ mod sinks;
 mod spawners;
 #[cfg(test)]
 mod votes;
-#[cfg(test)]
-mod wires;

@@ -1,13 +1,11 @@
 //! Links that are accepted and served, all in one history.
 
 use crate::made::new_hub;
-use crate::serves::{ANSWERS, NEW_OIDS, REGISTER, VOTE};
-use crate::wires::{Wire, WireDoors, WireSink, WireSource};
+use crate::serves::{ANSWERS, REGISTER};
 use std::alloc::{AllocError, Global};
-use std::collections::VecDeque;
 use std::io::{Read, Write};
 use std::net::{Ipv4Addr, Net, Shutdown, TcpListener, TcpStream};
-use std::sync::{Condvar, Mutex, Wait};
+use std::sync::Wait;
 use std::test::Fail;
 use std::thread;
 use std::thread::Threads;
@@ -15,21 +13,6 @@ use zb_ids::Stamp;
 use zb_links::{CountedSpawner, Doors, MemoryDoors, Spawner, TcpDoors, ThreadSpawner};
 use zb_outside::{ListClock, MemorySink, MemorySource};
 use zeo_serving_links::{Served, ServingEnd, serve};
-
-/// `tpc_finish`, with number 5.
-const FINISH: [u8; 29] = [
-    0x00, 0x00, 0x00, 0x19, 0x80, 0x03, 0x28, 0x4b, 0x05, 0x4b, 0x00, 0x58, 0x0a, 0x00, 0x00, 0x00,
-    0x74, 0x70, 0x63, 0x5f, 0x66, 0x69, 0x6e, 0x69, 0x73, 0x68, 0x29, 0x74, 0x2e,
-];
-
-/// What another session is told of that commit: the first tid of 2024 behind the first transaction,
-/// and object 1.
-const TOLD: [u8; 62] = [
-    0x00, 0x00, 0x00, 0x3a, 0x80, 0x03, 0x28, 0x4b, 0x00, 0x4b, 0x01, 0x58, 0x15, 0x00, 0x00, 0x00,
-    0x69, 0x6e, 0x76, 0x61, 0x6c, 0x69, 0x64, 0x61, 0x74, 0x65, 0x54, 0x72, 0x61, 0x6e, 0x73, 0x61,
-    0x63, 0x74, 0x69, 0x6f, 0x6e, 0x43, 0x08, 0x03, 0xf5, 0x8e, 0x00, 0x00, 0x00, 0x00, 0x01, 0x5d,
-    0x43, 0x08, 0x00, 0x00, 0x00, 0x00, 0x00, 0x00, 0x00, 0x01, 0x61, 0x86, 0x74, 0x2e,
-];
 
 /// Serves links over a new database of 2024.
 fn serve_links<D: Doors, P: Spawner, W: Threads + Wait + Sync>(
@@ -45,91 +28,6 @@ fn serve_links<D: Doors, P: Spawner, W: Threads + Wait + Sync>(
     let mut clock = ListClock::new(stamp, Vec::new(alloc));
     let (_hub, served) = serve(rt, alloc, hub, &mut clock, doors, spawner, port, count);
     Ok(served)
-}
-
-/// A wire on which nothing was sent.
-fn wire(alloc: Global) -> Wire {
-    Wire {
-        bytes: Mutex::new(Vec::new(alloc)),
-        moved: Condvar::new(),
-    }
-}
-
-/// The ends of a link: a client that sends two pieces and then ends, each once so many bytes were
-/// sent on some wire, and the sink at which it is sent to.
-fn link<'a, R: Wait>(
-    rt: &'a R,
-    alloc: Global,
-    heard: &'a Wire,
-    sent: &'a Wire,
-    behind: usize,
-    bytes: &[u8],
-    end: usize,
-) -> Result<(WireSource<'a, R>, WireSink<'a, R>), AllocError> {
-    let mut pieces = VecDeque::new(alloc);
-    pieces.push_back((behind, bytes.to_vec(alloc)?))?;
-    pieces.push_back((end, Vec::new(alloc)))?;
-    let link_in = WireSource {
-        rt,
-        wire: heard,
-        pieces,
-    };
-    let link_out = WireSink {
-        rt,
-        wire: sent,
-        faults: 0,
-    };
-    Ok((link_in, link_out))
-}
-
-/// Whether just these bytes were sent on a wire.
-fn has_sent<R: Wait>(rt: &R, wire: &Wire, bytes: &[u8]) -> bool {
-    let sent = wire.bytes.lock(rt);
-    sent.as_slice() == bytes
-}
-
-#[test]
-fn serve_one_link(rt: HostRuntime) -> Result<(), Fail> {
-    let alloc = rt.alloc();
-    let sent = wire(alloc);
-    let mut asked = REGISTER.to_vec(alloc)?;
-    asked.extend_from_slice(&NEW_OIDS)?;
-    let mut links = VecDeque::new(alloc);
-    links.push_back(link(&rt, alloc, &sent, &sent, 0, asked.as_slice(), 0)?)?;
-    let mut doors = WireDoors { links, faults: 0 };
-    let mut spawner = CountedSpawner::new(Vec::new(alloc));
-    let served = serve_links(&rt, alloc, &mut doors, &mut spawner, 0, 1)?;
-    assert_eq!(rt;
-        served,
-        Served {
-            end: ServingEnd::All,
-            faulty: 0,
-        }
-    );
-    assert!(rt; has_sent(&rt, &sent, ANSWERS.as_slice()));
-    Ok(())
-}
-
-#[test]
-fn a_commit_is_told_to_the_other_link(rt: HostRuntime) -> Result<(), Fail> {
-    let alloc = rt.alloc();
-    let one = wire(alloc);
-    let other = wire(alloc);
-    let mut asked = REGISTER.to_vec(alloc)?;
-    asked.extend_from_slice(&VOTE)?;
-    asked.extend_from_slice(&FINISH)?;
-    let mut links = VecDeque::new(alloc);
-    // The first client commits once the other was answered, which ends once it was told.
-    links.push_back(link(&rt, alloc, &other, &one, 34, asked.as_slice(), 96)?)?;
-    links.push_back(link(&rt, alloc, &other, &other, 0, REGISTER.as_slice(), 96)?)?;
-    let mut doors = WireDoors { links, faults: 0 };
-    let served = serve_links(&rt, alloc, &mut doors, &mut ThreadSpawner::new(), 0, 2)?;
-    assert_eq!(rt; served.end, ServingEnd::All);
-    assert_eq!(rt; served.faulty, 0);
-    let mut wanted = Vec::from_slice(alloc, &ANSWERS[..34])?;
-    wanted.extend_from_slice(TOLD.as_slice())?;
-    assert!(rt; has_sent(&rt, &other, wanted.as_slice()));
-    Ok(())
 }
 
 /// Links in memory, whose clients send `register`; the first one's reads fail as told.
