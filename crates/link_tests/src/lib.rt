@@ -2,10 +2,6 @@
 #![tactic(auto)]
 
 #[cfg(test)]
-mod carried;
-#[cfg(test)]
 mod clients;
-#[cfg(test)]
-mod loads;
 #[cfg(test)]
 mod rings;
