@@ -95,10 +95,15 @@ def all_of(count, work):
 
 
 def counters(program, path):
-    server, port = serve(program, path, CLIENTS + 1)
+    server, port = serve(program, path, CLIENTS + 2)
+    first = linked(port)
+    first.add(COUNTED, 0)
+    set_key(first, "first", 0)
+    first.socket.shutdown(socket.SHUT_WR)
     gone = linked(port)
     gone.send(1, "tpc_begin", b"", b"", b"")
-    gone.send(1, "storea", COUNTED, bytes(8), COUNTER + pickle.dumps(1000000, 3))
+    _, serial = gone.load(COUNTED)
+    gone.send(1, "storea", COUNTED, serial, COUNTER + pickle.dumps(1000000, 3))
     gone.ask("vote")
     gone.socket.shutdown(socket.SHUT_RDWR)
     gone.socket.close()
@@ -116,7 +121,7 @@ def counters(program, path):
     done = all_of(CLIENTS, work)
     said = server.communicate(timeout=120)[0].decode()
     check("each client made all its commits", all(done))
-    check("the server ends once all links have ended", server.returncode == 0 and said.startswith(f"served {CLIENTS + 1}"), said)
+    check("the server ends once all links have ended", server.returncode == 0 and said.startswith(f"served {CLIENTS + 2}"), said)
     shown = subprocess.run([program, path, "show", "0000000000000001"], stdout=subprocess.PIPE).stdout.decode()
     check("no addition is lost, and the vote that was dropped isn't there", shown.rstrip().endswith(f"> {CLIENTS * ROUNDS}"), shown)
     bucket = subprocess.run([program, path, "show", "0000000000000002"], stdout=subprocess.PIPE).stdout.decode()

@@ -1,5 +1,7 @@
 //! A volume that counts the bytes that are read of Main.
 
+ghost use Rattle.std.specs.Prelude.{[]};
+
 use zb_volume::{Area, MemoryVolume, StoreFault, Volume};
 
 /// A volume in memory that counts the bytes that are read of Main. It tells nothing of itself, so that
