@@ -1,7 +1,0 @@
-//! Tests alone: the client's end of a link.
-#![tactic(auto)]
-
-#[cfg(test)]
-mod clients;
-#[cfg(test)]
-mod rings;
