@@ -1,8 +1,0 @@
-//! Tests alone, of whole runs of the program: of a file that is opened with an index file, what is written, what
-//! is believed, and how much of the file is read.
-#![tactic(auto)]
-
-#[cfg(test)]
-mod counted;
-#[cfg(test)]
-mod opening;
