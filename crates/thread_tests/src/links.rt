@@ -1,16 +1,13 @@
 //! Links that are accepted and served, all in one history.
 
 use crate::made::new_hub;
-use crate::serves::{ANSWERS, REGISTER};
+use crate::serves::REGISTER;
 use std::alloc::{AllocError, Global};
-use std::io::{Read, Write};
-use std::net::{Ipv4Addr, Net, Shutdown, TcpListener, TcpStream};
 use std::sync::Wait;
 use std::test::Fail;
-use std::thread;
 use std::thread::Threads;
 use zb_ids::Stamp;
-use zb_links::{CountedSpawner, Doors, MemoryDoors, Spawner, TcpDoors, ThreadSpawner};
+use zb_links::{CountedSpawner, Doors, MemoryDoors, Spawner};
 use zb_outside::{ListClock, MemorySink, MemorySource};
 use zeo_serving_links::{Served, ServingEnd, serve};
 
@@ -78,64 +75,5 @@ fn a_worker_is_not_started(rt: HostRuntime) -> Result<(), Fail> {
     let served = serve_links(&rt, alloc, &mut doors, &mut spawner, 7, 2)?;
     assert_eq!(rt; served.end, ServingEnd::NoWorkers);
     assert_eq!(rt; served.faulty, 0);
-    Ok(())
-}
-
-/// Sends `register` to a server at a port of this machine, once it is there, and takes the answer.
-fn ask_at<R: Net<Listener = TcpListener, Stream = TcpStream>>(
-    net: &R,
-    port: u16,
-) -> Option<[u8; 34]> {
-    let mut told = [0; 34];
-    for _ in 0..1_000_000u32 {
-        let Ok(mut stream) = TcpStream::connect(net, (Ipv4Addr::LOCALHOST, port)) else {
-            thread::yield_now();
-            continue;
-        };
-        stream.write_all(&REGISTER).ok()?;
-        stream.shutdown(Shutdown::Write).ok()?;
-        stream.read_exact(&mut told).ok()?;
-        return Some(told);
-    }
-    None
-}
-
-/// A port of this machine that is free.
-fn free_port<N: Net<Listener = TcpListener, Stream = TcpStream> + Drop>(net: N) -> u16 {
-    let mut doors = TcpDoors::new(net);
-    if doors.bind(0).is_err() {
-        return 0;
-    }
-    doors.port().unwrap_or(0)
-}
-
-/// Serves one link at a port of this machine.
-fn serve_at<N: Net<Listener = TcpListener, Stream = TcpStream> + Drop, R: Threads + Wait + Sync>(
-    net: N,
-    rt: &R,
-    alloc: Global,
-    port: u16,
-) -> Result<Served, Fail> {
-    let mut doors = TcpDoors::new(net);
-    serve_links(rt, alloc, &mut doors, &mut ThreadSpawner::new(), port, 1)
-}
-
-#[test]
-fn tcp_doors_serve_a_link_to_itself(rt: HostRuntime) -> Result<(), Fail> {
-    let alloc = rt.alloc();
-    let port = free_port(&rt);
-    let (served, told) = thread::join(
-        &rt,
-        || serve_at(&rt, &rt, alloc, port),
-        || ask_at(&rt, port),
-    );
-    assert_eq!(rt;
-        served?,
-        Served {
-            end: ServingEnd::All,
-            faulty: 0,
-        }
-    );
-    assert_eq!(rt; told.is_some_and(|told| told[..] == ANSWERS[..34]), true);
     Ok(())
 }

@@ -1,0 +1,8 @@
+//! Tests alone, of the two ends of a link: links that are served over the host's sockets, in one history, and
+//! what a client with a link sends.
+#![tactic(auto)]
+
+#[cfg(test)]
+mod loads;
+#[cfg(test)]
+mod served;
