@@ -1,6 +1,6 @@
 -- How a call on a tree goes from one attempt to the next.
 use Rattle.std.proofs.Common.{◌≡◌, ◌==◌, Bool, true, ◌<◌, ◌≤◌, ◌+◌, ℕ, zero, suc, false, length, List, [], ◌∷◌, ◌++◌, Option, Some, None, Result, Ok, Err, refl, sym, ap, subst, ◌∙◌, arith, inl, inr}
-use Rattle.std.specs.Prelude.{All, IsSome, if◌then◌else◌, nat_eq, slice_get}
+use Rattle.std.specs.Prelude.{All, IsSome, is_some, if◌then◌else◌, nat_eq, slice_get}
 use Rattle.std.proofs.lemmas.Bool.{eqb-true}
 use Rattle.std.proofs.lemmas.List.Elements.{All-cons, All-head, All-nil, All-tail}
 use Rattle.zb_ids.specs.declared.stamp.Stamp.{Stamp}
@@ -15,9 +15,13 @@ use Rattle.zodb_core.specs.Outcomes.{Answered, StepOutcome, outcome_of_refusal}
 use Rattle.tree_calls.specs.declared.attempt.Made.{Made}
 use Rattle.tree_calls.specs.declared.known.Seen.{Seen}
 use Rattle.tree_calls.specs.declared.operation.TreeOperation.{TreeOperation}
-use Rattle.tree_calls.specs.Calls.{IsMade, IsRefused, MayRead, contents_of}
+use Rattle.tree_calls.specs.Calls.{AreKnown, IsMade, IsRefused, MayRead, contents_of}
 use Rattle.tree_calls.specs.Known.{Agrees, known_at}
 use Rattle.client_turns.specs.declared.client.Client.{Client}
+use Rattle.client_turns.specs.declared.linked.LinkedClient.{LinkedClient}
+use Rattle.client_turns.specs.declared.member.Member.{Member}
+use Rattle.client_turns.specs.declared.member.Member.TheVariants.{Near, Far}
+use Rattle.client_turns.specs.Members.{IsFarOf, IsLinkedOf, IsLinkedOpen, IsLinkedWork, IsMemberOf, changes_kept, connection_of, is_lost}
 use Rattle.connection_view.specs.Works.{Work}
 use Rattle.client_turns.specs.Asking.{IsCalm}
 use Rattle.client_turns.specs.Clients.{Moment, OpenTransaction}
@@ -25,20 +29,24 @@ use Rattle.client_turns.specs.Clients as seen
 use Rattle.client_turns.specs.DrawLaws.{new_raised, refused_answers}
 use Rattle.client_turns.specs.Gathering.{AdvancesTo, IsAskedOf, IsCallOf, IsDrawIn, IsDrawOf, IsSightIn, IsSightOf, StandsGathering, objects_of, objects_over}
 use Rattle.client_turns.specs.Steps.{IsReadAt}
-use Rattle.client_turns.specs.Standing.{ClientsState, IsOpenAs, IsWorkOf, LeadsTo, MayReadAt, ReadsHub, StandsForMoment}
+use Rattle.client_turns.specs.Standing.{ClientsState, IsClientOf, IsOpenAs, IsWorkOf, LeadsTo, MayReadAt, MayReadFor, ReadsHub, StandsForMoment}
 use Rattle.client_turns.specs.Views.{server_of}
 use Rattle.connection_view.specs.declared.connection.Connection.{Connection}
-use Rattle.connection_view.specs.Connections.{work_of}
+use Rattle.connection_view.specs.Connections.{InView, work_of}
 use Rattle.connection_view.specs.ViewLaws.{IsSeenFrom, later_later, seen_from}
 use Rattle.connection_view.specs.Views.{Later, view_of}
+use Rattle.connection_view.specs.Views as views
+use Rattle.hub_carrier.specs.Ends.{machine_at}
+use Rattle.local_loads.specs.Local as local
 use Rattle.local_loads.specs.LocalLaws.{view_whole}
+use Rattle.remote_loads.specs.Standing.{Stands}
+use Rattle.zeo_serving.specs.Serving.{view_at}
 use Rattle.client_turns.specs.Trees.{AllCameWhole, CameWhole, Draws, IsDrawn, IsOnWay, IsRaised, IsSeenIn, IsUncalled, MayDraw, NeedsMore, Sees, by_draw, by_read, by_tree, by_want}
 use Rattle.client_turns.proofs.Changing.{opened_work}
 use Rattle.client_turns.proofs.Framing.{calm_counts, calm_other, calm_whole}
 use Rattle.client_turns.proofs.Gathering.{draws_more, known_more, over_agrees, seen_kept, seen_over, seen_same}
 use Rattle.client_turns.proofs.Hubs.{open_whole}
 use Rattle.client_turns.proofs.Placing.{IsKeptAt, kept_at}
-use Rattle.client_turns.proofs.One.{near_open}
 use Rattle.btree_shapes.specs.declared.space.Call.{Call}
 use Rattle.commit_phases.specs.Pending.{pending_of}
 
@@ -91,7 +99,6 @@ none_drawn (n ∷ numbers) is_empty is holds = absurd (omega (arith, eqb-true (l
 pub starts : {R F : Type 0} (m : Moment) (at root : ℕ) (op : TreeOperation) (old : ClientsState R F) (before : Option (List Stamp)) → StandsForMoment old before m → MayReadAt m at → StandsGathering old before m at root op [] []
 starts m at root op old before stands may =
     let t : (u : OpenTransaction) × (may.0.transaction ≡ Some u) = some_there may.0.transaction may.3 in
-    let k : IsKeptAt old.hub old.clients at may.0 = kept_at old.hub old.clients m.clients at may.0 stands.clients may.1 in
     record {
       now = m;
       stands = stands;
@@ -99,19 +106,35 @@ starts m at root op old before stands may =
       there = may.1;
       transaction = t.0;
       begun = t.1;
-      near = near_open k.kept.connection k.is.told (work_of k.kept.connection) t.0 (subst (IsOpenAs k.kept.connection k.is.told (work_of k.kept.connection)) t.1 k.is.transaction);
       may = may.2;
       draws = refl;
       list = refl;
       journal = refl;
       clients = refl;
       sees = λ oid x is. absurd cc;
+      whole = λ oid x is. absurd cc;
       may_draw = inl refl;
     }
   where
     some_there : (o : Option OpenTransaction) → IsSome o → (u : OpenTransaction) × (o ≡ Some u)
     some_there None some = absurd cc
     some_there (Some u) some = (u, refl)
+
+-- ---- what a client with a link was told
+
+whole_view : {R F : Type 0} (h : HubState R F) (b : Bool) → h.store.broken ≡ b → b ≡ false → view_at (machine_at h) ≡ view_of (local.server_of h)
+whole_view h false is calm = sym (ap (λ (z : Bool). view_of (local.server_unless z h.store.list h.journal h.greatest)) is)
+whole_view h true is calm = absurd cc
+
+served_later : {R F : Type 0} (h : HubState R F) (x : LinkedClient) (told : views.Client) → Stands (machine_at h) x.session x.desk x.client told → h.store.broken ≡ false → Later told.told (view_of (local.server_of h))
+served_later h x told stands whole =
+    let at : stands.served.at ≡ machine_at h = stands.served.whole whole in
+    later_later told.told told.known (view_of (local.server_of h)) stands.served.served.told
+    (subst (Later told.known) (ap view_at at ∙ whole_view h h.store.broken refl whole) stands.served.served.knows.later)
+
+linked_work : (k : Connection) (told : views.Client) (wr : Result Work Refusal) (t : OpenTransaction) → IsLinkedOpen k told wr (Some t) → (w : Work) × (wr ≡ Ok w) × IsLinkedWork k told w t
+linked_work k told (Ok w) t is = (w, refl, is)
+linked_work k told (Err r) t is = absurd is
 
 -- ---- what one may read
 
@@ -150,11 +173,18 @@ module _ {R F : Type 0} (m : Moment) (at root : ℕ) (op : TreeOperation) (old :
   pub starves : LeadsTo (IsCallOf m at root op (Err refusal.Memory)) old before
   starves = ends_at refusal.Memory old before g.now g.stands (by_want numbers g.may_draw g.draws refl)
 
+  pub reads_for : MayReadFor old before at
+  reads_for = (g.now, g.stands, may_now)
+
   -- where no number was drawn, nothing was done
   at_start : numbers ≡ [] → g.now ≡ m
   at_start none = subst (λ (ns : List ℕ). Draws m g.client.session ns g.now) none g.draws
 
   -- ---- one more object
+
+  -- it came whole
+  abbrev Whole : ℕ → Option Seen → Type 0
+  Whole oid x = CameWhole g.transaction.framed (pending_of g.transaction.changes.pending.stores oid) x
 
   at_sight : (oid : ℕ) (result : Result (Option Seen) Refusal) (now : Moment) → IsSightOf g.now at oid result now → IsSightIn g.now (Some g.transaction) oid result now
   at_sight oid result now is =
@@ -163,7 +193,7 @@ module _ {R F : Type 0} (m : Moment) (at root : ℕ) (op : TreeOperation) (old :
   pub learns : (oid : ℕ) (x : Option Seen) (more : List (ℕ × Option Seen)) (new : ClientsState R F) (after : Option (List Stamp)) → LeadsTo (IsSightOf g.now at oid (Ok x)) new after
       → ((other : ℕ) → known_at more other ≡ (if nat_eq oid other then Some x else known_at known other)) → AdvancesTo m at root op new after more numbers None
   learns oid x more new after leads learned =
-      let sight : (leads.now ≡ g.now) × IsSeenIn g.now.machine g.transaction oid x = at_sight oid (Ok x) leads.now leads.holds in
+      let sight : (leads.now ≡ g.now) × IsSeenIn g.now.machine g.transaction oid x × Whole oid x = at_sight oid (Ok x) leads.now leads.holds in
       let here : IsSeenIn m.machine g.transaction oid x = seen_same g.now.machine m.machine g.transaction.view oid _ x (sym g.list) (sym g.journal) sight.1 in
       record {
         now = g.now;
@@ -172,19 +202,19 @@ module _ {R F : Type 0} (m : Moment) (at root : ℕ) (op : TreeOperation) (old :
         there = g.there;
         transaction = g.transaction;
         begun = g.begun;
-        near = g.near;
         may = g.may;
         draws = g.draws;
         list = g.list;
         journal = g.journal;
         clients = g.clients;
         sees = known_more (IsSeenIn m.machine g.transaction) known more oid x learned g.sees here;
+        whole = known_more Whole known more oid x learned g.whole sight.2;
         may_draw = g.may_draw;
       }
 
   pub unlearned : (oid : ℕ) (x : Option Seen) (new : ClientsState R F) (after : Option (List Stamp)) → LeadsTo (IsSightOf g.now at oid (Ok x)) new after → LeadsTo (IsCallOf m at root op (Err refusal.Memory)) new after
   unlearned oid x new after leads =
-      let sight : (leads.now ≡ g.now) × IsSeenIn g.now.machine g.transaction oid x = at_sight oid (Ok x) leads.now leads.holds in
+      let sight : (leads.now ≡ g.now) × IsSeenIn g.now.machine g.transaction oid x × Whole oid x = at_sight oid (Ok x) leads.now leads.holds in
       ends_at refusal.Memory new after g.now (subst (StandsForMoment new after) sight.0 leads.stands) (by_want numbers g.may_draw g.draws refl)
 
   -- what is read for the call of the client at the place
@@ -221,13 +251,13 @@ module _ {R F : Type 0} (m : Moment) (at root : ℕ) (op : TreeOperation) (old :
         there = g.there;
         transaction = g.transaction;
         begun = g.begun;
-        near = g.near;
         may = ap (λ (x : Machine). is_open_in x.sessions g.client.session) raised.is ∙ g.may;
         draws = draws_more m g.client.session numbers oid g.now leads.now g.draws drawn;
         list = ap (λ (x : Machine). x.list) raised.is ∙ g.list;
         journal = ap (λ (x : Machine). x.journal) raised.is ∙ g.journal;
         clients = drawn.1.clients ∙ g.clients;
         sees = g.sees;
+        whole = g.whole;
         may_draw = needed_more m.machine g.transaction root op numbers oid needs;
       }
 
@@ -238,49 +268,84 @@ module _ {R F : Type 0} (m : Moment) (at root : ℕ) (op : TreeOperation) (old :
       (by_want (numbers ++ oid ∷ []) (needed_more m.machine g.transaction root op numbers oid needs) (draws_more m g.client.session numbers oid g.now leads.now g.draws drawn) refl)
 
   pub undrawn : (why : Refusal) (new : ClientsState R F) (after : Option (List Stamp)) → NeedsMore m.machine g.transaction root op numbers → LeadsTo (IsDrawOf g.now at (Err why)) new after → LeadsTo (IsCallOf m at root op (Err why)) new after
-  undrawn why new after needs leads = ends_at why new after leads.now leads.stands (by_draw numbers g.now needs g.draws (at_draw (Err why) leads.now leads.holds))
+  undrawn why new after needs leads = ends_at why new after leads.now leads.stands (by_either (at_draw (Err why) leads.now leads.holds))
+    where
+      by_either : IsDrawIn g.now g.client.session (Err why) leads.now → IsUncalled m g.client.session g.transaction root op why leads.now
+      by_either (inl refused) = by_draw numbers g.now needs g.draws refused
+      by_either (inr (starved, inl same)) = by_want numbers g.may_draw (subst (Draws m g.client.session numbers) (sym same) g.draws) starved
+      by_either (inr (starved, inr (oid, drawn))) =
+          by_want (numbers ++ oid ∷ []) (needed_more m.machine g.transaction root op numbers oid needs) (draws_more m g.client.session numbers oid g.now leads.now g.draws drawn) starved
 
   -- ---- an attempt
 
-  pub sees_over : (k : Connection) → ((x : Client) → slice_get old.clients at ≡ Some x → k ≡ x.connection) → Sees m.machine g.transaction (objects_over known old.hub.store.list (work_of k))
-  sees_over k tells oid =
-      let kept : IsKeptAt old.hub old.clients at g.client = kept_at old.hub old.clients g.now.clients at g.client g.stands.clients there_now in
+  known_now : view_of (local.server_of old.hub) ≡ view_of (server_of g.now.machine)
+  known_now = view_whole old.hub g.now.machine g.stands.hub (open_whole old.hub g.now.machine g.client.session g.stands.hub g.may)
+
+  -- over what its connection keeps
+  kept_sees : (k : Connection) (told : views.Client) (w : Work) (oid : ℕ) → g.transaction.changes ≡ changes_kept w → InView k g.transaction.view told → work_of k ≡ Ok w → Later told.told (view_of (local.server_of old.hub))
+      → IsSeenIn m.machine g.transaction oid (objects_over known old.hub.store.list (work_of k) oid)
+  kept_sees k told w oid changes view works told_later =
       let whole : old.hub.store.broken ≡ false = open_whole old.hub g.now.machine g.client.session g.stands.hub g.may in
-      let here : k ≡ kept.kept.connection = tells kept.kept kept.there in
-      let w : (v : Work) × (work_of kept.kept.connection ≡ Ok v) × IsWorkOf kept.kept.connection kept.is.told v g.transaction =
-      opened_work kept.kept.connection kept.is.told (work_of kept.kept.connection) g.transaction (subst (IsOpenAs kept.kept.connection kept.is.told (work_of kept.kept.connection)) g.begun kept.is.transaction) in
-      let from : IsSeenFrom w.0 g.transaction.view kept.is.told = seen_from kept.kept.connection g.transaction.view kept.is.told w.0 w.2.view w.1 in
+      let from : IsSeenFrom w g.transaction.view told = seen_from k g.transaction.view told w view works in
       let later : Later g.transaction.view (view_of (server_of g.now.machine)) =
-      later_later g.transaction.view kept.is.told.told (view_of (server_of g.now.machine)) from.later (subst (Later kept.is.told.told) (view_whole old.hub g.now.machine g.stands.hub whole) kept.is.may.later) in
+      later_later g.transaction.view told.told (view_of (server_of g.now.machine)) from.later (subst (Later told.told) known_now told_later) in
       let over : IsSeenIn g.now.machine g.transaction oid (objects_of old.hub.store.list (work_of k) oid) =
-      subst (λ (wr : Result Work Refusal). IsSeenIn g.now.machine g.transaction oid (objects_of old.hub.store.list wr oid)) (sym (ap work_of here ∙ w.1))
-      (seen_kept g.now.machine kept.kept.connection kept.is.told w.0 g.transaction old.hub.store.list oid w.2 w.1 later (g.stands.hub.list whole)) in
+      subst (λ (wr : Result Work Refusal). IsSeenIn g.now.machine g.transaction oid (objects_of old.hub.store.list wr oid)) (sym works)
+      (seen_kept g.now.machine k told w g.transaction old.hub.store.list oid changes view works later (g.stands.hub.list whole)) in
       seen_over m.machine g.transaction oid (known_at known oid) (objects_of old.hub.store.list (work_of k) oid) (λ y is. g.sees oid y is)
       (seen_same g.now.machine m.machine g.transaction.view oid _ (objects_of old.hub.store.list (work_of k) oid) (sym g.list) (sym g.journal) over)
 
-  -- it sees some objects, with which what is known agrees
-  pub seen_here : (objects : ℕ → Option Seen) × Agrees known objects × Sees m.machine g.transaction objects
-  seen_here =
+  near_sees : (x : Client) (oid : ℕ) → IsClientOf old.hub x g.client → IsSeenIn m.machine g.transaction oid (objects_over known old.hub.store.list (work_of x.connection) oid)
+  near_sees x oid is =
+      let w : (v : Work) × (work_of x.connection ≡ Ok v) × IsWorkOf x.connection is.told v g.transaction =
+      opened_work x.connection is.told (work_of x.connection) g.transaction (subst (IsOpenAs x.connection is.told (work_of x.connection)) g.begun is.transaction) in
+      kept_sees x.connection is.told w.0 oid w.2.changes w.2.view w.1 is.may.later
+
+  far_sees : (x : LinkedClient) (oid : ℕ) → IsLinkedOf old.hub x g.client → IsSeenIn m.machine g.transaction oid (objects_over known old.hub.store.list (work_of x.connection) oid)
+  far_sees x oid is =
+      let w : (v : Work) × (work_of x.connection ≡ Ok v) × IsLinkedWork x.connection is.told v g.transaction =
+      linked_work x.connection is.told (work_of x.connection) g.transaction (subst (IsLinkedOpen x.connection is.told (work_of x.connection)) g.begun is.transaction) in
+      kept_sees x.connection is.told w.0 oid w.2.changes w.2.view w.1 (served_later old.hub x is.told is.stands (open_whole old.hub g.now.machine g.client.session g.stands.hub g.may))
+
+  member_sees : (x : Member) (k : Connection) (oid : ℕ) → IsMemberOf old.hub x g.client → k ≡ connection_of x → is_lost x ≡ false → IsSeenIn m.machine g.transaction oid (objects_over known old.hub.store.list (work_of k) oid)
+  member_sees (Near x) k oid is its held = subst (λ (l : Connection). IsSeenIn m.machine g.transaction oid (objects_over known old.hub.store.list (work_of l) oid)) (sym its) (near_sees x oid is)
+  member_sees (Far x) k oid is its held =
+      subst (λ (l : Connection). IsSeenIn m.machine g.transaction oid (objects_over known old.hub.store.list (work_of l) oid)) (sym its)
+      (far_sees x.client oid (subst (λ (b : Bool). IsFarOf old.hub b x.client g.client) held is))
+
+  pub sees_over : (k : Connection) → ((x : Member) → slice_get old.clients at ≡ Some x → k ≡ connection_of x) → ((x : Member) → slice_get old.clients at ≡ Some x → is_lost x ≡ false) → Sees m.machine g.transaction (objects_over known old.hub.store.list (work_of k))
+  sees_over k tells held oid =
       let kept : IsKeptAt old.hub old.clients at g.client = kept_at old.hub old.clients g.now.clients at g.client g.stands.clients there_now in
-      let work = work_of kept.kept.connection in
-      (objects_over known old.hub.store.list work, over_agrees known old.hub.store.list work, sees_over kept.kept.connection (λ x there. ap (λ (c : Client). c.connection) (same_kept kept.kept x (sym kept.there ∙ there))))
+      member_sees kept.kept k oid kept.is (tells kept.kept kept.there) (held kept.kept kept.there)
+
+  -- it sees some objects, with which what is known agrees
+  pub seen_here : ((x : Member) → slice_get old.clients at ≡ Some x → is_lost x ≡ false) → (objects : ℕ → Option Seen) × Agrees known objects × Sees m.machine g.transaction objects
+  seen_here held =
+      let kept : IsKeptAt old.hub old.clients at g.client = kept_at old.hub old.clients g.now.clients at g.client g.stands.clients there_now in
+      let work = work_of (connection_of kept.kept) in
+      (objects_over known old.hub.store.list work, over_agrees known old.hub.store.list work, sees_over (connection_of kept.kept) (λ x there. ap connection_of (same_kept kept.kept x (sym kept.there ∙ there))) held)
     where
-      same_kept : (a b : Client) → Some a ≡ Some b → a ≡ b
+      same_kept : (a b : Member) → Some a ≡ Some b → a ≡ b
       same_kept a b e = cc
 
-  -- what a local client reads comes in no frame
-  whole_here : (objects : ℕ → Option Seen) (calls : List Call) → AllCameWhole g.transaction objects calls
-  whole_here objects calls oid among = subst (λ (far : Bool). CameWhole far (pending_of g.transaction.changes.pending.stores oid) (objects oid)) (sym g.near) tt
+  -- what was read was known, so it came whole
+  whole_here : (objects : ℕ → Option Seen) (calls : List Call) → Agrees known objects → AreKnown known calls → AllCameWhole g.transaction objects calls
+  whole_here objects calls agrees read oid among = by_known (known_at known oid) refl (read oid among)
+    where
+      by_known : (o : Option (Option Seen)) → known_at known oid ≡ o → is_some o ≡ true → Whole oid (objects oid)
+      by_known None is some = absurd cc
+      by_known (Some x) is some = subst (Whole oid) (sym (agrees oid x is)) (g.whole oid x is)
 
-  pub made_on : (objects : ℕ → Option Seen) (made : Made) → Sees m.machine g.transaction objects → IsMade objects root op numbers made.answer made.puts × All (λ p. 0 < length p.bytes) made.puts → LeadsTo (IsCallOf m at root op (Ok made)) old before
-  made_on objects made sees is = record {
+  pub made_on : (objects : ℕ → Option Seen) (made : Made) → Sees m.machine g.transaction objects → Agrees known objects → ((is : IsMade objects root op numbers made.answer made.puts) × AreKnown known is.calls) → All (λ p. 0 < length p.bytes) made.puts
+      → LeadsTo (IsCallOf m at root op (Ok made)) old before
+  made_on objects made sees agrees is filled = record {
     now = g.now;
-    holds = (g.client, g.there, g.transaction, g.begun, record { objects = objects; sees = sees; numbers = numbers; draws = g.draws; made = is.0; whole = whole_here objects is.0.calls; filled = is.1 });
+    holds = (g.client, g.there, g.transaction, g.begun, record { objects = objects; sees = sees; numbers = numbers; draws = g.draws; made = is.0; whole = whole_here objects is.0.calls agrees is.1; filled = filled });
     stands = g.stands;
   }
 
-  pub refused_on : (objects : ℕ → Option Seen) (why : Refusal) → Sees m.machine g.transaction objects → IsRefused objects root op why × (numbers ≡ []) → LeadsTo (IsCallOf m at root op (Err why)) old before
-  refused_on objects why sees is = ends_at why old before g.now g.stands (by_tree objects sees is.0 (whole_here objects is.0.calls) (at_start is.1))
+  pub refused_on : (objects : ℕ → Option Seen) (why : Refusal) → Sees m.machine g.transaction objects → Agrees known objects → ((is : IsRefused objects root op why) × AreKnown known is.calls) → numbers ≡ [] → LeadsTo (IsCallOf m at root op (Err why)) old before
+  refused_on objects why sees agrees is none = ends_at why old before g.now g.stands (by_tree objects sees is.0 (whole_here objects is.0.calls agrees is.1) (at_start none))
 
 -- what an attempt wants, and what is read ahead
 pub want_asked : {R F : Type 0} (m : Moment) (at root : ℕ) (op : TreeOperation) (old : ClientsState R F) (before : Option (List Stamp)) (known : List (ℕ × Option Seen)) (numbers : List ℕ) → (g : StandsGathering old before m at root op known numbers) → (objects : ℕ → Option Seen) → Sees m.machine g.transaction objects

@@ -22,11 +22,10 @@ use Rattle.connection_view.specs.Loading.{Load, LoadsCall, Reads}
 use Rattle.connection_view.specs.ViewLaws.{IsSeenFrom, later_later, seen_from}
 use Rattle.connection_view.specs.Views.{Later, Server, View, view_of}
 use Rattle.connection_view.specs.Views as views
-use Rattle.local_loads.specs.declared.told.Told.{Told}
 use Rattle.local_loads.specs.Answers.{load_answer}
 use Rattle.local_loads.specs.Local as local
 use Rattle.local_loads.specs.Local.{LocalState, MayBeTold}
-use Rattle.local_loads.specs.LocalLaws.{kept_behind, view_whole}
+use Rattle.local_loads.specs.LocalLaws.{view_whole}
 use Rattle.local_loads.specs.Making.{IsHubStep, IsLocalCall, IsOneStep}
 use Rattle.client_turns.specs.declared.client.Client.{Client}
 use Rattle.client_turns.specs.Asking.{IsSameBut}
@@ -40,7 +39,9 @@ use Rattle.client_turns.specs.Turns.{IsGet}
 use Rattle.client_turns.specs.Views.{server_of}
 use Rattle.client_turns.proofs.Hubs.{open_whole}
 use Rattle.client_turns.proofs.Loading.{load_reads}
-use Rattle.client_turns.proofs.One.{StepsTo, client_kept, own_open, refused_open, set_there, starved_open, stays, steps_to, weaken_one, within_on, writes_on}
+use Rattle.client_turns.specs.Others.{KeepsOthers}
+use Rattle.client_turns.proofs.Others.{others_same, others_step}
+use Rattle.client_turns.proofs.One.{keeps_at, StepsTo, client_kept, own_open, refused_open, set_there, starved_open, stays, steps_to, weaken_one, within_on, writes_on}
 use Rattle.client_turns.specs.Reads.{EndsReading}
 
 -- what there is at a client's end
@@ -96,7 +97,7 @@ pub record ReadsTo {R F : Type 0} (t : OpenTransaction) (oid : ℕ) (result : Re
   pub counts : now.counts ≡ counts_of g.store
   pub stamps : now.stamps ≡ after
   pub last : y.told ≡ x.told
-  pub others : (last : Option Told) (t known : View) → MayBeTold last h t known → MayBeTold last g t known
+  pub others : KeepsOthers x.session h g
 
 module _ {R F S : Type 0} (told lasts : Type 0) (stands : List ℕ → List Transaction → Type 0) (rules_in : R → MergeRules) (named_in : F → List ℕ → Option (List ℕ)) (tells : told) (m : Moment) (at : ℕ) (x y : Client) (c : seen.Client) (h g : HubState R F) (before after : Option (List Stamp)) (takes : MayTakeAt h before m at x c) (makes : S → LoadsCall → S → Type 0) (a b : S) (calls : (call : LoadsCall) → makes a call b → IsLocalCall (IsHubStep told lasts stands rules_in named_in x.session) call (end_of_client h before x) (end_of_client g after y)) (same : b ≡ a → end_of_client g after y ≡ end_of_client h before x) (name : y.name ≡ x.name) (session : y.session ≡ x.session) where
   abbrev pub mine : IsClientOf h x c
@@ -146,7 +147,7 @@ module _ {R F S : Type 0} (told lasts : Type 0) (stands : List ℕ → List Tran
         counts = takes.stands.counts;
         stamps = takes.stands.stamps ∙ sym (same_stamps unasked.0);
         last = same_told unasked.0;
-        others = λ last t known is. is;
+        others = others_same x.session h;
       })
   read_to oid result w works o reads (inr loaded) =
       let v : View = o.transaction.view in
@@ -165,7 +166,7 @@ module _ {R F S : Type 0} (told lasts : Type 0) (stands : List ℕ → List Tran
         counts = s.counts;
         stamps = s.stamps;
         last = made.last;
-        others = λ last t known is. kept_behind told lasts stands rules_in named_in x.session (request.LoadBefore oid w.front) made.reply h g before after tells made.step last t known is;
+        others = others_step told lasts stands rules_in named_in tells x.session (request.LoadBefore oid w.front) made.reply h g before after made.step tt;
       }
 
   pub read_one : (oid : ℕ) (result : Result (ℕ × List ℕ) Refusal) (v : OpenTransaction) → ReadsTo v oid result m h g x y after
@@ -176,8 +177,8 @@ module _ {R F S : Type 0} (told lasts : Type 0) (stands : List ℕ → List Tran
     holds = r.read;
     client = c;
     placed = ap (λ (z : Moment). z.clients) r.read.rest ∙ set_there m.clients at c takes.there;
-    stands = record { hub = r.hub; vote = r.vote; within = r.within; counts = r.counts; stamps = r.stamps; client = client_kept h g x y c mine (same_but r.last) (r.others x.told mine.told.told mine.told.known mine.may) work view between };
-    others = r.others;
+    stands = record { hub = r.hub; vote = r.vote; within = r.within; counts = r.counts; stamps = r.stamps; client = client_kept h g x y c mine (same_but r.last) (r.others.near x.told mine.told.told mine.told.known mine.may) work view between };
+    others = keeps_at m at x.session c h g takes.there (sym mine.session) r.others;
   }
 
   -- `load`
@@ -245,7 +246,7 @@ got_open rules m at oid c t result reply now (Some p) begun is answers (inl got,
     (subst (λ (z : Option PendingStore). IsGet m t oid z reply now) (sym is) (answers ∙ ap object_of got, same))
 got_open rules m at oid c t result reply now (Some p) begun is answers (inr starved, same) = starved_open rules m at c (line.Get oid) reply now (answers ∙ ap object_of starved) same
 
-got_where : (rules : Rules) (m : Moment) (at oid : ℕ) (c : seen.Client) (o : Option OpenTransaction) (result : Result (ℕ × List ℕ) Refusal) (reply : Answer) (now : Moment) → c.transaction ≡ o → reply ≡ object_of result → IsGotWhere m o oid result now
+pub got_where : (rules : Rules) (m : Moment) (at oid : ℕ) (c : seen.Client) (o : Option OpenTransaction) (result : Result (ℕ × List ℕ) Refusal) (reply : Answer) (now : Moment) → c.transaction ≡ o → reply ≡ object_of result → IsGotWhere m o oid result now
     → IsLineOpen rules m at c (line.Get oid) reply now
 got_where rules m at oid c None result reply now begun answers got =
     refused_open rules m at c (line.Get oid) reply now refusal.NoTransaction (ap (λ (z : Option OpenTransaction). line_refusal (option_map (λ (u : OpenTransaction). u.changes) z) (line.Get oid)) begun) (answers ∙ ap object_of got.0) got.1

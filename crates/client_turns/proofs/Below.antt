@@ -194,6 +194,7 @@ module _ (m : Moment) (t : Turn) (root : ℕ) (call : TreeCall) (a : Answer) (gi
         told = made.answer;
         puts = made.puts;
         made = ends.made;
+        whole = ends.whole;
         answer = answered_as m is.behind now at c u made a given end;
       }
       by_result (Err why) ends end = absurd (given why end.0)

@@ -57,7 +57,7 @@ ended_in refusal.Memory error.Memory is = refl
 ended_in refusal.Memory error.StoreFault is = absurd cc
 ended_in _ e is = absurd cc
 
-ended_so : (a : Answer) (e : TurnError) → end_of a ≡ Some e → outcome_of_answer a ≡ outcome_of_error e
+pub ended_so : (a : Answer) (e : TurnError) → end_of a ≡ Some e → outcome_of_answer a ≡ outcome_of_error e
 ended_so (answer.Refused why) e is = ended_in why e is
 ended_so _ e is = absurd cc
 

@@ -1,5 +1,5 @@
 -- A refusal has its cause.
-use Rattle.std.proofs.Common.{Bool, Err, List, None, Ok, Option, Result, Some, [], ap, arith, false, if◌then◌else◌, inl, inr, length, nat_lt, not, refl, subst, suc, sym, true, zero, ℕ, ◌++◌, ◌∙◌, ◌∷◌, ◌≡◌, ◌≤◌}
+use Rattle.std.proofs.Common.{Bool, Err, List, None, Ok, Option, Result, Some, [], ap, arith, false, if◌then◌else◌, inl, inr, length, nat_lt, not, refl, subst, suc, sym, true, zero, ℕ, ◌∙◌, ◌∷◌, ◌≡◌, ◌≤◌}
 use Rattle.std.specs.Option.{option_map, option_or}
 use Rattle.std.specs.Prelude.{slice_get}
 use Rattle.std.proofs.lemmas.Bool.{ltb-false}
@@ -21,21 +21,24 @@ use Rattle.tree_calls.specs.declared.operation.TreeAnswer.TheVariants as answere
 use Rattle.zodb_core.specs.declared.reply.Reply.{Reply}
 use Rattle.zodb_core.specs.declared.reply.Reply.TheVariants as reply
 use Rattle.zodb_core.specs.declared.request.Request.{Request}
-use Rattle.zodb_core.specs.Machine.{Rules, is_open_in, with_session}
+use Rattle.zodb_core.specs.declared.request.Request.TheVariants as request
+use Rattle.zodb_core.specs.Machine.{Rules, is_open_in, session_limit}
 use Rattle.zodb_core.specs.Outcomes.{Answered, EndsFor, NoMemory, ReadingFailed, StepOutcome, StoreFailed, outcome_of}
 use Rattle.zodb_core.specs.Steps.{Stepped, refuse_if, step_of}
 use Rattle.connection_view.specs.Connections.{waiting_as}
 use Rattle.client_turns.specs.declared.errors.TurnError.TheVariants as turn_error
 use Rattle.client_turns.specs.Clients.{Client, Linked, Local, Moment, OpenTransaction, Standing, changes_of, place_of_client}
-use Rattle.client_turns.specs.Laws.{HasOpen, IsNamed, IsRefusedFor, RefusalsHaveTheirCause, WouldPut, by_answer, by_asking, by_call, by_connection, by_delete, by_frame, by_length, by_lengths, by_number, by_reading, by_savepoint, by_step, by_view, by_vote, crowded, unnamed}
+use Rattle.client_turns.specs.Laws.{HasOpen, IsNamed, IsRefusedFor, RefusalsHaveTheirCause, WouldPut, by_answer, by_asking, by_call, by_connection, by_delete, by_frame, by_front, by_length, by_lengths, by_number, by_reading, by_savepoint, by_step, by_view, by_vote, crowded, unnamed}
 use Rattle.client_turns.specs.DrawLaws.{new_reply}
 use Rattle.client_turns.specs.Lines.{Changed, answer_of, answer_to, answering_excess, asking_excess, data_of, end_in, is_committed, is_delivery, object_of, put, request_of, rolled_to, store_unless}
 use Rattle.client_turns.specs.Reads.{EndsFar, EndsNear, EndsReading}
-use Rattle.client_turns.specs.Refusing.{connection_refusal, line_refusal, opens_session}
+use Rattle.client_turns.specs.Refusing.{connection_refusal, line_refusal, opening_in}
 use Rattle.client_turns.specs.Trees.{CallEnds, IsTreeEnd, IsTreeLine, IsUncalled, all_stored, answer_told, by_draw, by_read, by_tree, by_want, operation_of, puts_stored, stores_put}
-use Rattle.client_turns.specs.Turns.{IsClosed, IsClosing, IsGet, IsLineNamed, IsLineOf, IsLineTaken, IsLineUnless, IsOpening, IsOutside, IsOwnLine, IsPut, IsStepLine, IsStepUnless, IsTold, IsWithin, Opening, fronts_behind}
+use Rattle.client_turns.specs.Turns.{IsClosed, IsClosing, IsFarOpening, IsGet, IsLineNamed, IsLineOf, IsLineTaken, IsLineUnless, IsOutside, IsOwnLine, IsPut, IsStepLine, IsStepUnless, IsTold, IsWithin, Opening, fronts_behind, opened_far, opened_if}
 use Rattle.client_turns.proofs.Data.{asks_no_load, is_loaded, step_unread}
-use Rattle.client_turns.specs.TurnLaws.{step_cases, excess_answered}
+use Rattle.client_turns.specs.Views.{server_of}
+use Rattle.connection_view.specs.Views.{view_of}
+use Rattle.client_turns.specs.TurnLaws.{IsOpeningAnswer, as_opened, as_refused, excess_answered, front_reply, step_cases, taken_answer}
 
 -- ---- refusals by their outcome
 
@@ -65,6 +68,7 @@ later_refused rules m t why x y up (by_delete o oid p has said waits absent is) 
 later_refused rules m t why x y up (by_length o p n has excess is) = by_length o p n has excess is
 later_refused rules m t why x y up (by_asking c q n named asks long is) = by_asking c q n named asks long is
 later_refused rules m t why x y up (by_answer c q stamp n named asks long is) = by_answer c q stamp n named asks long is
+later_refused rules m t why x y up (by_front behind stamp opens told is) = by_front behind stamp opens told is
 later_refused rules m t why x y up (by_frame o oid n has framed past is) = by_frame o oid n has framed past is
 later_refused rules m t why x y up (by_call o objects root call has said sees is) = by_call o objects root call has said sees is
 later_refused rules m t why x y up (by_number c o root call numbers behind rules' stamp named has said lacks draws is) = by_number c o root call numbers behind rules' stamp named has said lacks draws is
@@ -240,7 +244,7 @@ tree_refused rules m now t at c o root call why said named has whole is = by_end
         subst (IsRefusedFor rules m t why) (sym end.1)
         (refused_same rules m t why w is.behind end.0 (λ goes. uncalled_refused rules m is.behind t c o root call w said named has goes ends) whole)
 
-within_refused : (rules : Rules) (m now : Moment) (t : Turn) (at : ℕ) (c : Client) (o : OpenTransaction) (l : Line) (why : Refusal) → t.line ≡ l → IsNamed m t.client c → HasOpen m t.client o → end_in why ≡ None → opens_session l ≡ false → line_refusal (Some o.changes) l ≡ None → request_of c.standing (Some o.changes) l ≡ None
+within_refused : (rules : Rules) (m now : Moment) (t : Turn) (at : ℕ) (c : Client) (o : OpenTransaction) (l : Line) (why : Refusal) → t.line ≡ l → IsNamed m t.client c → HasOpen m t.client o → end_in why ≡ None → opening_in l ≡ None → line_refusal (Some o.changes) l ≡ None → request_of c.standing (Some o.changes) l ≡ None
     → IsWithin m at c o l (answer.Refused why) now → IsRefusedFor rules m t why now
 within_refused rules m now t at c o (line.Load oid) why said named has whole opens free asks is = data_refused rules m now t o oid why is.0 has is.1.ends whole is.2
 within_refused rules m now t at c o (line.Get oid) why said named has whole opens free asks is = get_refused rules m now t o oid why (pending_of o.changes.pending.stores oid) has said refl whole is
@@ -264,14 +268,14 @@ within_refused rules m now t at c o (line.Tree root call) why said named has who
 within_refused rules m now t at c o _ why said named has whole opens free asks is = absurd cc
 
 -- without a transaction the connection refuses it
-closed_not : (X : Type 0) (b : Bool) (l : Line) → opens_session l ≡ false → request_of Local None l ≡ None → option_or (refuse_if (not b) refusal.NotOpen) (line_refusal None l) ≡ None → X
-closed_not X true line.Open opens asks passes = absurd cc
+closed_not : (X : Type 0) (b : Bool) (l : Line) → opening_in l ≡ None → request_of Local None l ≡ None → option_or (refuse_if (not b) refusal.NotOpen) (line_refusal None l) ≡ None → X
+closed_not X true (line.Open remote) opens asks passes = absurd cc
 closed_not X true _ opens asks passes = absurd cc
-closed_not X false line.Open opens asks passes = absurd cc
+closed_not X false (line.Open remote) opens asks passes = absurd cc
 closed_not X false _ opens asks passes = absurd cc
 
 own_refused : (rules : Rules) (m now : Moment) (t : Turn) (at : ℕ) (c : Client) (o : Option OpenTransaction) (why : Refusal) → c.transaction ≡ o → IsNamed m t.client c → place_of_client t.client m.clients ≡ Some at → slice_get m.clients at ≡ Some c
-    → end_in why ≡ None → opens_session t.line ≡ false → request_of c.standing (option_map (λ x. x.changes) o) t.line ≡ None
+    → end_in why ≡ None → opening_in t.line ≡ None → request_of c.standing (option_map (λ x. x.changes) o) t.line ≡ None
     → option_or (refuse_if (not (is_open_in m.machine.sessions c.session)) refusal.NotOpen) (line_refusal (option_map (λ x. x.changes) o) t.line) ≡ None
     → IsOwnLine m at c o t.line (answer.Refused why) now → IsRefusedFor rules m t why now
 own_refused rules m now t at c None why begun named place there whole opens asks passes is = by_standing c.standing refl is
@@ -295,34 +299,57 @@ long_unless rules m now t at c d q None why long named asks whole is = step_refu
 long_unless rules m now t at c d q (Some n) why long named asks whole is = by_asking c q n named asks long (same_refusal why (refusal.TooLong n) is.0)
 
 taken_refused : (rules : Rules) (m now : Moment) (t : Turn) (at : ℕ) (c : Client) (q : Option Request) (why : Refusal) → place_of_client t.client m.clients ≡ Some at → slice_get m.clients at ≡ Some c → end_in why ≡ None
-    → opens_session t.line ≡ false → request_of c.standing (changes_of c) t.line ≡ q → connection_refusal m.machine c t.line ≡ None → IsLineTaken rules m at c t.line q (answer.Refused why) now → IsRefusedFor rules m t why now
+    → opening_in t.line ≡ None → request_of c.standing (changes_of c) t.line ≡ q → connection_refusal m.machine c t.line ≡ None → IsLineTaken rules m at c t.line q (answer.Refused why) now → IsRefusedFor rules m t why now
 taken_refused rules m now t at c (Some q) why place there whole opens asks passes is = long_unless rules m now t at c (is_delivery t.line) q (asking_excess c.standing q) why refl (record { at = at; place = place; there = there }) asks whole is
 taken_refused rules m now t at c None why place there whole opens asks passes is =
     own_refused rules m now t at c c.transaction why refl (record { at = at; place = place; there = there }) place there whole opens asks passes is
 
 unless_refused : (rules : Rules) (m now : Moment) (t : Turn) (at : ℕ) (c : Client) (r : Option Refusal) (why : Refusal) → place_of_client t.client m.clients ≡ Some at → slice_get m.clients at ≡ Some c → end_in why ≡ None
-    → opens_session t.line ≡ false → connection_refusal m.machine c t.line ≡ r → IsLineUnless rules m at c t.line r (answer.Refused why) now → IsRefusedFor rules m t why now
+    → opening_in t.line ≡ None → connection_refusal m.machine c t.line ≡ r → IsLineUnless rules m at c t.line r (answer.Refused why) now → IsRefusedFor rules m t why now
 unless_refused rules m now t at c (Some w) why place there whole opens passes is =
     by_connection c (record { at = at; place = place; there = there }) (passes ∙ ap (λ (x : Refusal). Some x) (sym (same_refusal why w is.0)))
 unless_refused rules m now t at c None why place there whole opens passes is = taken_refused rules m now t at c (request_of c.standing (changes_of c) t.line) why place there whole opens refl passes is
 
-line_of_refused : (rules : Rules) (m now : Moment) (t : Turn) (at : Option ℕ) (why : Refusal) → place_of_client t.client m.clients ≡ at → end_in why ≡ None → opens_session t.line ≡ false
+line_of_refused : (rules : Rules) (m now : Moment) (t : Turn) (at : Option ℕ) (why : Refusal) → place_of_client t.client m.clients ≡ at → end_in why ≡ None → opening_in t.line ≡ None
     → IsLineOf rules m at t.line (answer.Refused why) now → IsRefusedFor rules m t why now
 line_of_refused rules m now t None why place whole opens is = unnamed place (same_refusal why refusal.NotOpen is.0)
 line_of_refused rules m now t (Some at) why place whole opens is = unless_refused rules m now t at is.0 (connection_refusal m.machine is.0 t.line) why place is.1 whole opens refl is.2
 
-crowd : (rules : Rules) (m now : Moment) (t : Turn) (why : Refusal) (b : Bool) → nat_lt (length m.machine.sessions) 64 ≡ b
-    → answer.Refused why ≡ (if b then (let o : Opening = record { answer = answer.Opened (length m.machine.sessions); moment = record { machine = with_session m.machine; clients = m.clients ++ record { name = t.client; session = length m.machine.sessions; transaction = None; standing = Local } ∷ []; stamps = m.stamps; counts = m.counts } } in o)
-    else (let o : Opening = record { answer = answer.Refused (refusal.TooManySessions (length m.machine.sessions)); moment = m } in o)).answer → IsRefusedFor rules m t why now
-crowd rules m now t why true many is = absurd cc
-crowd rules m now t why false many is = crowded (ltb-false (length m.machine.sessions) 64 many) (same_refusal why (refusal.TooManySessions (length m.machine.sessions)) is)
+crowd : (rules : Rules) (m now : Moment) (t : Turn) (s : Standing) (why : Refusal) (b : Bool) → nat_lt (length m.machine.sessions) session_limit ≡ b → answer.Refused why ≡ (opened_if b m t.client s).answer → IsRefusedFor rules m t why now
+crowd rules m now t s why true many is = absurd cc
+crowd rules m now t s why false many is = crowded (ltb-false (length m.machine.sessions) 64 many) (same_refusal why (refusal.TooManySessions (length m.machine.sessions)) is)
 
-opening_refused : (rules : Rules) (m now : Moment) (t : Turn) (why : Refusal) → IsOpening m t.client (answer.Refused why) now → IsRefusedFor rules m t why now
-opening_refused rules m now t why is = crowd rules m now t why (nat_lt (length m.machine.sessions) 64) refl (ap (λ (o : Opening). o.answer) is)
+-- a Front step behind an opening
+front_refused : (rules : Rules) (m behind now : Moment) (t : Turn) (stamp : ℕ) (w : Refusal) (ticks : Bool) (o : StepOutcome) → opening_in t.line ≡ Some true → IsTold rules 1 (opened_far m t.client).moment (length m.machine.sessions) behind
+    → end_in w ≡ None → outcome_of (reply.Refused w) ≡ o
+    → EndsFor rules behind.machine (length m.machine.sessions) request.Front stamp (record { reply = reply.Refused w; machine = now.machine; ticks = ticks }) behind.counts now.counts o → IsRefusedFor rules m t w now
+front_refused rules m behind now t stamp w ticks Answered opens told whole outcome ends = by_front behind stamp opens told (sym (ap (λ (s : Stepped). s.reply) ends))
+front_refused rules m behind now t stamp w ticks ReadingFailed opens told whole outcome ends = absurd (never ends.0.one)
+  where
+    never : false ≡ true → ⊥
+    never e = absurd cc
+front_refused rules m behind now t stamp w ticks NoMemory opens told whole outcome ends = absurd (memory_ends w outcome whole)
+front_refused rules m behind now t stamp w ticks StoreFailed opens told whole outcome ends = absurd (store_ends w outcome whole)
 
-line_refused : (rules : Rules) (m now : Moment) (t : Turn) (opens : Bool) (why : Refusal) → opens_session t.line ≡ opens → end_in why ≡ None → IsLineNamed opens rules m t.client t.line (answer.Refused why) now → IsRefusedFor rules m t why now
-line_refused rules m now t true why opens whole is = opening_refused rules m now t why is
-line_refused rules m now t false why opens whole is = line_of_refused rules m now t (place_of_client t.client m.clients) why refl whole opens is
+taken_in_refused : (rules : Rules) (m now : Moment) (t : Turn) (why : Refusal) → opening_in t.line ≡ Some true → end_in why ≡ None → nat_lt (length m.machine.sessions) session_limit ≡ true
+    → IsOpeningAnswer rules (opened_far m t.client) (length m.machine.sessions) (answer.Refused why) now → IsRefusedFor rules m t why now
+taken_in_refused rules m now t why opens whole room (as_opened is) = crowd rules m now t (Linked (view_of (server_of m.machine))) why (nat_lt (length m.machine.sessions) session_limit) refl is
+taken_in_refused rules m now t why opens whole room (as_refused w is refused) =
+    refused_same rules m t why w now is
+    (λ goes. front_refused rules m refused.behind now t refused.step.stamp w refused.step.ticks (outcome_of (reply.Refused w)) opens refused.first goes refl refused.step.made.cause) whole
+
+far_opening_refused : (rules : Rules) (m now : Moment) (t : Turn) (why : Refusal) (room : Bool) → opening_in t.line ≡ Some true → end_in why ≡ None → nat_lt (length m.machine.sessions) session_limit ≡ room
+    → IsFarOpening rules m t.client room (answer.Refused why) now → IsRefusedFor rules m t why now
+far_opening_refused rules m now t why true opens whole room is =
+    taken_in_refused rules m now t why opens whole room
+    (taken_answer rules m t.client (answer.Refused why) now is.between is.first is.second is.registers is.syncs (front_reply rules is.between (length m.machine.sessions) is.second now is.syncs) is.answer)
+far_opening_refused rules m now t why false opens whole room is =
+    crowd rules m now t (Linked (view_of (server_of m.machine))) why (nat_lt (length m.machine.sessions) session_limit) refl (ap (λ (o : Opening). o.answer) is)
+
+line_refused : (rules : Rules) (m now : Moment) (t : Turn) (opens : Option Bool) (why : Refusal) → opening_in t.line ≡ opens → end_in why ≡ None → IsLineNamed opens rules m t.client t.line (answer.Refused why) now → IsRefusedFor rules m t why now
+line_refused rules m now t (Some false) why opens whole is = crowd rules m now t Local why (nat_lt (length m.machine.sessions) session_limit) refl (ap (λ (o : Opening). o.answer) is)
+line_refused rules m now t (Some true) why opens whole is = far_opening_refused rules m now t why (nat_lt (length m.machine.sessions) session_limit) opens whole refl is
+line_refused rules m now t None why opens whole is = line_of_refused rules m now t (place_of_client t.client m.clients) why refl whole opens is
 
 closed_later : (rules : Rules) (m now : Moment) (at : Option ℕ) → IsClosed rules m at now → m.counts.reads ≤ now.counts.reads
 closed_later rules m now None is = omega (arith, ap (λ (x : Moment). x.counts.reads) is)
@@ -334,4 +361,4 @@ closing_later rules m now name true is = closed_later rules m now (place_of_clie
 
 pub refusals_caused : RefusalsHaveTheirCause
 refusals_caused rules m t last why now is =
-    later_refused rules m t why is.behind now (closing_later rules is.behind now t.client last is.closing) (line_refused rules m is.behind t (opens_session t.line) why refl is.whole is.line)
+    later_refused rules m t why is.behind now (closing_later rules is.behind now t.client last is.closing) (line_refused rules m is.behind t (opening_in t.line) why refl is.whole is.line)

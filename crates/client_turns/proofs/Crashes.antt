@@ -26,7 +26,8 @@ use Rattle.zb_script.specs.declared.line.Turn.{Turn}
 use Rattle.connection_view.specs.Works.{Work}
 use Rattle.connection_view.specs.Connections.{work_of}
 use Rattle.connection_view.specs.Views as views
-use Rattle.client_turns.specs.declared.client.Client.{Client}
+use Rattle.client_turns.specs.declared.member.Member.{Member}
+use Rattle.client_turns.specs.declared.member.Member.TheVariants.{Near, Far}
 use Rattle.client_turns.specs.Asking.{plain_request}
 use Rattle.client_turns.specs.Clients.{Changes, Moment, OpenTransaction, changes_of, client_found, client_named, place_of_client}
 use Rattle.client_turns.specs.Clients as clients
@@ -36,8 +37,10 @@ use Rattle.client_turns.specs.Steps.{IsRefusedAt, IsStepAt}
 use Rattle.client_turns.specs.ListLaws.{asked_kept, stepped_kept}
 use Rattle.client_turns.specs.TurnLaws.{IsListBehind, same_request, step_left, told_list}
 use Rattle.client_turns.specs.Turns.{IsLine, IsLineOf, IsLineTaken, IsLineUnless, IsStepLine, IsStepUnless, fronts_behind}
-use Rattle.client_turns.specs.Standing.{AreClientsOf, ClientsState, IsClientOf, IsEndListOf, IsFinishListOf, IsListAsked, IsListIn, IsListOf, IsListStepped, IsOpenAs, IsStepListOf, StandsForMoment, kept_found, kept_named, packs_list, request_unless}
-use Rattle.client_turns.proofs.Placing.{IsClientAt, client_at, same_place}
+use Rattle.connection_view.specs.declared.connection.Connection.{Connection}
+use Rattle.client_turns.specs.Members.{IsFarOf, IsLinkedOpen, IsMemberOf, IsOpenAs, session_of, work_far, work_kept}
+use Rattle.client_turns.specs.Standing.{AreClientsOf, ClientsState, IsEndListOf, IsFinishListOf, IsListAsked, IsListIn, IsListOf, IsListStepped, IsStepListOf, StandsForMoment, kept_found, kept_named, packs_list, request_unless}
+use Rattle.client_turns.proofs.Placing.{member_session, IsClientAt, client_at, same_place}
 
 -- ---- the list behind a step
 
@@ -106,7 +109,7 @@ committed_whole _ is = absurd cc
 
 -- ---- by the line, of a client as it is kept
 
-step_kept : (stands : List ℕ → List Transaction → Type 0) (rules : Rules) (x : Option Client) (q : Request) (m : Machine) (bytes : List ℕ) → stands bytes m.list → IsStepListOf stands rules x q m bytes
+step_kept : (stands : List ℕ → List Transaction → Type 0) (rules : Rules) (x : Option Member) (q : Request) (m : Machine) (bytes : List ℕ) → stands bytes m.list → IsStepListOf stands rules x q m bytes
 step_kept stands rules None q m bytes left = left
 step_kept stands rules (Some x) q m bytes left = inl left
 
@@ -114,28 +117,28 @@ end_kept : (stands : List ℕ → List Transaction → Type 0) (rules : Rules) (
 end_kept stands rules n (Err r) m bytes left = left
 end_kept stands rules n (Ok w) m bytes left = inl left
 
-finish_kept : (stands : List ℕ → List Transaction → Type 0) (rules : Rules) (x : Option Client) (m : Machine) (bytes : List ℕ) → stands bytes m.list → IsFinishListOf stands rules x m bytes
+finish_kept : (stands : List ℕ → List Transaction → Type 0) (rules : Rules) (x : Option Member) (m : Machine) (bytes : List ℕ) → stands bytes m.list → IsFinishListOf stands rules x m bytes
 finish_kept stands rules None m bytes left = left
-finish_kept stands rules (Some x) m bytes left = end_kept stands rules x.session (work_of x.connection) m bytes left
+finish_kept stands rules (Some x) m bytes left = end_kept stands rules (session_of x) (work_kept x) m bytes left
 
 -- a list that only was as it was may be seen in each line
-line_kept : (stands : List ℕ → List Transaction → Type 0) (rules : Rules) (x : Option Client) (l : Line) (m : Machine) (bytes : List ℕ) → stands bytes m.list → IsListOf stands rules x l m bytes
+line_kept : (stands : List ℕ → List Transaction → Type 0) (rules : Rules) (x : Option Member) (l : Line) (m : Machine) (bytes : List ℕ) → stands bytes m.list → IsListOf stands rules x l m bytes
 line_kept stands rules x line.Finish m bytes left = finish_kept stands rules x m bytes left
 line_kept stands rules x (line.Pack tid collect) m bytes left = step_kept stands rules x (request.Pack tid collect) m bytes left
 line_kept stands rules x line.PackTurn m bytes left = step_kept stands rules x request.PackTurn m bytes left
 line_kept stands rules x _ m bytes left = left
 
-pub unmoved_in : (stands : List ℕ → List Transaction → Type 0) (rules : Rules) (x : Option Client) (l : Line) (m : Machine) (old new : List Event) → new ≡ old → Leaves Main (λ bytes. stands bytes m.list) old → LeavesOnly Main (IsListOf stands rules x l m) old new
+pub unmoved_in : (stands : List ℕ → List Transaction → Type 0) (rules : Rules) (x : Option Member) (l : Line) (m : Machine) (old new : List Event) → new ≡ old → Leaves Main (λ bytes. stands bytes m.list) old → LeavesOnly Main (IsListOf stands rules x l m) old new
 unmoved_in stands rules x l m old new is leaves =
     leaves_weaker (λ bytes. stands bytes m.list) (IsListOf stands rules x l m) old new (line_kept stands rules x l m) (unmoved (λ bytes. stands bytes m.list) old new is leaves)
 
 -- a step of a client that leaves the list
-step_same : (stands : List ℕ → List Transaction → Type 0) (rules : Rules) (x : Option Client) (q : Request) (m : Machine) (bytes : List ℕ) → ((n : ℕ) → (step_of rules m n q 0).machine.list ≡ m.list) → IsStepListOf stands rules x q m bytes → stands bytes m.list
+step_same : (stands : List ℕ → List Transaction → Type 0) (rules : Rules) (x : Option Member) (q : Request) (m : Machine) (bytes : List ℕ) → ((n : ℕ) → (step_of rules m n q 0).machine.list ≡ m.list) → IsStepListOf stands rules x q m bytes → stands bytes m.list
 step_same stands rules None q m bytes same left = left
-step_same stands rules (Some x) q m bytes same left = before_of stands rules m x.session q bytes (same x.session) left
+step_same stands rules (Some x) q m bytes same left = before_of stands rules m (session_of x) q bytes (same (session_of x)) left
 
 -- what is seen in a step is seen in its line
-line_of_step : (stands : List ℕ → List Transaction → Type 0) (rules : Rules) (x : Option Client) (l : Line) (q : Request) (m : Machine) (bytes : List ℕ) → Some q ≡ plain_request l → IsStepListOf stands rules x q m bytes → IsListOf stands rules x l m bytes
+line_of_step : (stands : List ℕ → List Transaction → Type 0) (rules : Rules) (x : Option Member) (l : Line) (q : Request) (m : Machine) (bytes : List ℕ) → Some q ≡ plain_request l → IsStepListOf stands rules x q m bytes → IsListOf stands rules x l m bytes
 line_of_step stands rules x line.New q m bytes asks left =
     step_same stands rules x (request.NewOids 1) m bytes (λ n. step_left rules m n (request.NewOids 1) 0) (subst (λ (z : Request). IsStepListOf stands rules x z m bytes) (same_request q (request.NewOids 1) asks) left)
 line_of_step stands rules x (line.History oid) q m bytes asks left =
@@ -151,7 +154,7 @@ line_of_step stands rules x line.Close q m bytes asks left =
     step_same stands rules x request.Close m bytes (λ n. step_left rules m n request.Close 0) (subst (λ (z : Request). IsStepListOf stands rules x z m bytes) (same_request q request.Close asks) left)
 line_of_step stands rules x _ q m bytes asks left = absurd cc
 
-pub in_step : (stands : List ℕ → List Transaction → Type 0) (rules : Rules) (x : Option Client) (l : Line) (q : Request) (m : Machine) (old new : List Event) → Some q ≡ plain_request l → LeavesOnly Main (IsStepListOf stands rules x q m) old new
+pub in_step : (stands : List ℕ → List Transaction → Type 0) (rules : Rules) (x : Option Member) (l : Line) (q : Request) (m : Machine) (old new : List Event) → Some q ≡ plain_request l → LeavesOnly Main (IsStepListOf stands rules x q m) old new
     → LeavesOnly Main (IsListOf stands rules x l m) old new
 in_step stands rules x l q m old new asks only = leaves_weaker (IsStepListOf stands rules x q m) (IsListOf stands rules x l m) old new (λ bytes. line_of_step stands rules x l q m bytes asks) only
 
@@ -163,24 +166,51 @@ open_step : (stands : List ℕ → List Transaction → Type 0) (rules : Rules) 
 open_step stands rules m n q bytes true is left = left
 open_step stands rules m n q bytes false is left = before_of stands rules m n q bytes (closed_step rules m n q is) left
 
-open_finish : {R F : Type 0} (stands : List ℕ → List Transaction → Type 0) (rules : Rules) (m : Machine) (h : HubState R F) (x : Client) (c : clients.Client) (told : views.Client) (w : Result Work Refusal) (t : Option OpenTransaction) (bytes : List ℕ)
-    → x.session ≡ c.session → IsOpenAs x.connection told w t → IsEndListOf stands rules x.session w m bytes
+-- a transaction is kept where one is open
+abbrev pub IsKeptAs : Result Work Refusal → Option OpenTransaction → Type 0
+IsKeptAs (Ok w) None = ⊥
+IsKeptAs _ _ = Unit {0}
+
+near_as : (k : Connection) (told : views.Client) (w : Result Work Refusal) (t : Option OpenTransaction) → IsOpenAs k told w t → IsKeptAs w t
+near_as k told (Ok w) (Some t) is = tt
+near_as k told (Ok w) None is = absurd is
+near_as k told (Err r) t is = tt
+
+far_as : (k : Connection) (told : views.Client) (w : Result Work Refusal) (t : Option OpenTransaction) → IsLinkedOpen k told w t → IsKeptAs w t
+far_as k told (Ok w) (Some t) is = tt
+far_as k told (Ok w) None is = absurd is
+far_as k told (Err r) t is = tt
+
+open_finish : (stands : List ℕ → List Transaction → Type 0) (rules : Rules) (m : Machine) (n : ℕ) (c : clients.Client) (w : Result Work Refusal) (t : Option OpenTransaction) (bytes : List ℕ)
+    → n ≡ c.session → IsKeptAs w t → IsEndListOf stands rules n w m bytes
     → IsListStepped stands rules m c.session (request_unless (option_or (refuse_if (not (is_open_in m.sessions c.session)) refusal.NotOpen) (refusal_within (option_map (λ (u : OpenTransaction). u.changes) t) line.Finish)) (Some request.Finish)) bytes
-open_finish stands rules m h x c told (Ok w) (Some t) bytes session is left =
+open_finish stands rules m n c (Ok w) (Some t) bytes session is left =
     open_step stands rules m c.session request.Finish bytes (is_open_in m.sessions c.session) refl (subst (λ (n : ℕ). IsBeforeOrBehind stands rules m n request.Finish bytes) session left)
-open_finish stands rules m h x c told (Ok w) None bytes session is left = absurd is
-open_finish stands rules m h x c told (Err r) t bytes session is left =
+open_finish stands rules m n c (Ok w) None bytes session is left = absurd is
+open_finish stands rules m n c (Err r) t bytes session is left =
     stepped_kept stands rules m c.session (request_unless (option_or (refuse_if (not (is_open_in m.sessions c.session)) refusal.NotOpen) (refusal_within (option_map (λ (u : OpenTransaction). u.changes) t) line.Finish)) (Some request.Finish)) bytes left
 
 -- what may be seen in a line of a client as it is kept may be seen in that of its client
-asked_of : {R F : Type 0} (stands : List ℕ → List Transaction → Type 0) (rules : Rules) (m : Machine) (h : HubState R F) (x : Client) (c : clients.Client) (l : Line) (bytes : List ℕ) → IsClientOf h x c → IsListOf stands rules (Some x) l m bytes
+asked_by : (stands : List ℕ → List Transaction → Type 0) (rules : Rules) (m : Machine) (x : Member) (c : clients.Client) (l : Line) (bytes : List ℕ) → c.session ≡ session_of x → IsKeptAs (work_kept x) c.transaction → IsListOf stands rules (Some x) l m bytes
     → IsListAsked stands rules m (Some c) l bytes
-asked_of stands rules m h x c line.Finish bytes is left = open_finish stands rules m h x c is.told (work_of x.connection) c.transaction bytes (sym is.session) is.transaction left
-asked_of stands rules m h x c (line.Pack tid collect) bytes is left =
-    open_step stands rules m c.session (request.Pack tid collect) bytes (is_open_in m.sessions c.session) refl (subst (λ (n : ℕ). IsBeforeOrBehind stands rules m n (request.Pack tid collect) bytes) (sym is.session) left)
-asked_of stands rules m h x c line.PackTurn bytes is left =
-    open_step stands rules m c.session request.PackTurn bytes (is_open_in m.sessions c.session) refl (subst (λ (n : ℕ). IsBeforeOrBehind stands rules m n request.PackTurn bytes) (sym is.session) left)
-asked_of stands rules m h x c l bytes is left = asked_kept stands rules m (Some c) l bytes left
+asked_by stands rules m x c line.Finish bytes session kept left = open_finish stands rules m (session_of x) c (work_kept x) c.transaction bytes (sym session) kept left
+asked_by stands rules m x c (line.Pack tid collect) bytes session kept left =
+    open_step stands rules m c.session (request.Pack tid collect) bytes (is_open_in m.sessions c.session) refl (subst (λ (n : ℕ). IsBeforeOrBehind stands rules m n (request.Pack tid collect) bytes) (sym session) left)
+asked_by stands rules m x c line.PackTurn bytes session kept left =
+    open_step stands rules m c.session request.PackTurn bytes (is_open_in m.sessions c.session) refl (subst (λ (n : ℕ). IsBeforeOrBehind stands rules m n request.PackTurn bytes) (sym session) left)
+asked_by stands rules m x c l bytes session kept left = asked_kept stands rules m (Some c) l bytes left
+
+kept_as : {R F : Type 0} (h : HubState R F) (x : Member) (c : clients.Client) → IsMemberOf h x c → IsKeptAs (work_kept x) c.transaction
+kept_as h (Near x) c is = near_as x.connection is.told (work_of x.connection) c.transaction is.transaction
+kept_as h (Far x) c is = by_lost x.is_lost is
+  where
+    by_lost : (b : Bool) → IsFarOf h b x.client c → IsKeptAs (work_far b x.client.connection) c.transaction
+    by_lost false is = far_as x.client.connection is.told (work_of x.client.connection) c.transaction is.transaction
+    by_lost true is = tt
+
+asked_of : {R F : Type 0} (stands : List ℕ → List Transaction → Type 0) (rules : Rules) (m : Machine) (h : HubState R F) (x : Member) (c : clients.Client) (l : Line) (bytes : List ℕ) → IsMemberOf h x c → IsListOf stands rules (Some x) l m bytes
+    → IsListAsked stands rules m (Some c) l bytes
+asked_of stands rules m h x c l bytes is left = asked_by stands rules m x c l bytes (member_session h x c is) (kept_as h x c is) left
 
 none_left : (stands : List ℕ → List Transaction → Type 0) (rules : Rules) (l : Line) (m : Machine) (bytes : List ℕ) → IsListOf stands rules None l m bytes → stands bytes m.list
 none_left stands rules line.Finish m bytes left = left
@@ -188,8 +218,8 @@ none_left stands rules (line.Pack tid collect) m bytes left = left
 none_left stands rules line.PackTurn m bytes left = left
 none_left stands rules _ m bytes left = left
 
-module _ {R F : Type 0} (stands : List ℕ → List Transaction → Type 0) (rules : Rules) (m : Machine) (h : HubState R F) (xs : List Client) (cs : List clients.Client) (l : Line) (bytes : List ℕ) (are : AreClientsOf h xs cs) where
-  asked_at : (at : ℕ) (o : Option Client) → slice_get xs at ≡ o → IsListOf stands rules o l m bytes → IsListAsked stands rules m (slice_get cs at) l bytes
+module _ {R F : Type 0} (stands : List ℕ → List Transaction → Type 0) (rules : Rules) (m : Machine) (h : HubState R F) (xs : List Member) (cs : List clients.Client) (l : Line) (bytes : List ℕ) (are : AreClientsOf h xs cs) where
+  asked_at : (at : ℕ) (o : Option Member) → slice_get xs at ≡ o → IsListOf stands rules o l m bytes → IsListAsked stands rules m (slice_get cs at) l bytes
   asked_at at None is left = asked_kept stands rules m (slice_get cs at) l bytes (none_left stands rules l m bytes left)
   asked_at at (Some x) is left =
       let k : IsClientAt h cs at x = client_at h xs cs at x are is in

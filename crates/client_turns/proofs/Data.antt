@@ -1,5 +1,5 @@
 -- A read answers the revision below its view's front.
-use Rattle.std.proofs.Common.{◌≡◌, ℕ, ◌+◌, ◌-◌, ◌^◌, ◌<◌, Bool, true, false, List, [], ◌∷◌, ◌++◌, filter, length, Option, Some, None, Result, Ok, Err, cond, ltb, refl, sym, ap, subst, ◌∙◌, arith, nat_lt, if◌then◌else◌, ⊎_elim}
+use Rattle.std.proofs.Common.{◌≡◌, ℕ, ◌+◌, ◌-◌, ◌^◌, ◌<◌, Bool, true, false, List, [], ◌∷◌, filter, length, Option, Some, None, Result, Ok, Err, cond, ltb, refl, sym, ap, subst, ◌∙◌, arith, nat_lt, ⊎_elim}
 use Rattle.std.specs.List.{last_or}
 use Rattle.std.specs.Option.{option_and_then}
 use Rattle.std.specs.Prelude.{IfSome, slice_get}
@@ -28,20 +28,21 @@ use Rattle.zodb_core.specs.declared.reply.Reply.TheVariants as reply
 use Rattle.zodb_core.specs.declared.request.Request.{Request}
 use Rattle.zodb_core.specs.declared.request.Request.TheVariants as request
 use Rattle.zodb_core.specs.declared.texts.Texts.{Texts}
-use Rattle.zodb_core.specs.Machine.{Machine, MachineVote, Rules, with_session}
+use Rattle.zodb_core.specs.Machine.{Machine, MachineVote, Rules, session_limit}
 use Rattle.zodb_core.specs.Outcomes.{EndsFor, FaultCounts, is_pack, outcome_of}
 use Rattle.zodb_core.specs.StepCases.{PackCases, by_pack_step}
 use Rattle.zodb_core.specs.Steps.{Stepped, changes_in_journal, early_refusal, finish_gives, finish_step, journal_limit, replied_refusal, request_step, step_of, transaction_with, unless_early, vote_at, vote_counted, vote_step, with_vote}
 use Rattle.connection_view.specs.Connections.{waiting_read}
 use Rattle.client_turns.specs.Clients.{Changes, Client, Linked, Local, Moment, OpenTransaction, Standing, changes_of, place_of_client}
+use Rattle.client_turns.specs.Frames.{HasFitted}
 use Rattle.client_turns.specs.Laws.{IsHeldBelow, IsReadBelow}
 use Rattle.client_turns.specs.Lines.{answer_of, answer_to, asking_excess, data_of, is_delivery, object_of, put, request_of, rolled_to, step_answer, store_unless}
 use Rattle.client_turns.specs.Reads.{EndsReading}
 use Rattle.client_turns.specs.Refusing.{connection_refusal}
 use Rattle.client_turns.specs.DrawLaws.{tree_answer}
 use Rattle.client_turns.specs.Trees.{answer_told}
-use Rattle.client_turns.specs.TurnLaws.{by_name, read_current, request_cases, step_cases}
-use Rattle.client_turns.specs.Turns.{IsGet, IsLineOf, IsLineTaken, IsLineUnless, IsOpening, IsOutside, IsOwnLine, IsPut, IsStepLine, IsStepUnless, IsTurn, IsWithin, Opening}
+use Rattle.client_turns.specs.TurnLaws.{IsOpeningAnswer, Opens, as_opened, as_refused, by_name, read_current, request_cases, step_cases}
+use Rattle.client_turns.specs.Turns.{IsGet, IsLineOf, IsLineTaken, IsLineUnless, IsOutside, IsOwnLine, IsPut, IsStepLine, IsStepUnless, IsTurn, IsWithin, opened, opened_if}
 use Rattle.connection_view.specs.Views.{View, read_as, read_from}
 
 -- ---- no line's request loads
@@ -220,13 +221,26 @@ pub record ReadsWithin (t : OpenTransaction) (l : Line) (serial : ℕ) (bytes : 
   pub oid : ℕ
   pub line : l ≡ line.Load oid
   pub held : IsHeldBelow oid t.view.front t.view.list serial bytes
+  pub whole : t.framed ≡ true → HasFitted (serial, bytes)
+
+-- what was read over a link has fitted a frame
+whole_read : (far : Bool) (m : Machine) (v : View) (oid serial : ℕ) (bytes : List ℕ) (a b : FaultCounts) (result : Result (ℕ × List ℕ) Refusal) → EndsReading far m v oid a b result → answer.Data serial bytes ≡ data_of result → far ≡ true → HasFitted (serial, bytes)
+whole_read far m v oid serial bytes a b (Err why) ends is framed = absurd cc
+whole_read false m v oid serial bytes a b (Ok got) ends is framed = absurd cc
+whole_read true m v oid serial bytes a b (Ok got) ends is framed =
+    let same : got ≡ (serial, bytes) = ap data_in (sym is) in
+    subst HasFitted same ends.1
+  where
+    data_in : Answer → ℕ × List ℕ
+    data_in (answer.Data s b) = (s, b)
+    data_in _ = (0, [])
 
 not_data : (X : Type 0) (a : Answer) → is_data a ≡ true → is_data a ≡ false → X
 not_data X a is not = absurd cc
 
 within_reads : (m now : Moment) (at : ℕ) (c : Client) (t : OpenTransaction) (l : Line) (serial : ℕ) (bytes : List ℕ) → IsWithin m at c t l (answer.Data serial bytes) now → ReadsWithin t l serial bytes
 within_reads m now at c t (line.Load oid) serial bytes is =
-    record { oid = oid; line = refl; held = below_read t.framed m.machine t.view oid serial bytes m.counts now.counts is.0 is.1.ends is.2 }
+    record { oid = oid; line = refl; held = below_read t.framed m.machine t.view oid serial bytes m.counts now.counts is.0 is.1.ends is.2; whole = whole_read t.framed m.machine t.view oid serial bytes m.counts now.counts is.0 is.1.ends is.2 }
 within_reads m now at c t (line.Get oid) serial bytes is =
     not_data (ReadsWithin t (line.Get oid) serial bytes) (answer.Data serial bytes) refl (get_data m now t oid (pending_of t.changes.pending.stores oid) (answer.Data serial bytes) is)
 within_reads m now at c t (line.Store oid base new) serial bytes is =
@@ -286,6 +300,7 @@ read_below_front m t at c serial bytes place there reads = record {
   line = reads.reads.line;
   has = record { at = at; client = c; place = place; there = there; begun = reads.begun };
   held = reads.reads.held;
+  whole = reads.reads.whole;
 }
 
 line_of_reads : (rules : Rules) (m now : Moment) (at : Option ℕ) (t : Turn) (serial : ℕ) (bytes : List ℕ) → place_of_client t.client m.clients ≡ at → IsLineOf rules m at t.line (answer.Data serial bytes) now → IsReadBelow m t serial bytes
@@ -293,15 +308,18 @@ line_of_reads rules m now None t serial bytes place is = not_data (IsReadBelow m
 line_of_reads rules m now (Some at) t serial bytes place is =
     read_below_front m t at is.0 serial bytes place is.1 (unless_reads rules m now at is.0 t.line (connection_refusal m.machine is.0 t.line) serial bytes is.2)
 
-opened_data : (m : Moment) (name : List ℕ) (b : Bool) → is_data (if b then (let o : Opening = record { answer = answer.Opened (length m.machine.sessions); moment = record { machine = with_session m.machine; clients = m.clients ++ record { name = name; session = length m.machine.sessions; transaction = None; standing = Local } ∷ []; stamps = m.stamps; counts = m.counts } } in o)
-    else (let o : Opening = record { answer = answer.Refused (refusal.TooManySessions (length m.machine.sessions)); moment = m } in o)).answer ≡ false
-opened_data m name true = refl
-opened_data m name false = refl
+opened_data : (m : Moment) (name : List ℕ) (s : Standing) (b : Bool) → is_data (opened_if b m name s).answer ≡ false
+opened_data m name s true = refl
+opened_data m name s false = refl
 
-opening_reads : (m now : Moment) (t : Turn) (serial : ℕ) (bytes : List ℕ) → IsOpening m t.client (answer.Data serial bytes) now → IsReadBelow m t serial bytes
-opening_reads m now t serial bytes is =
-    not_data (IsReadBelow m t serial bytes) (answer.Data serial bytes) refl (ap (λ (o : Opening). is_data o.answer) is ∙ opened_data m t.client (nat_lt (length m.machine.sessions) 64))
+opening_reads : (rules : Rules) (m now : Moment) (t : Turn) (serial : ℕ) (bytes : List ℕ) → Opens rules m t.client (answer.Data serial bytes) now → IsReadBelow m t serial bytes
+opening_reads rules m now t serial bytes is = by_answer is.answer
+  where
+    by_answer : IsOpeningAnswer rules (opened m t.client is.standing) (length m.machine.sessions) (answer.Data serial bytes) now → IsReadBelow m t serial bytes
+    by_answer (as_opened same) =
+        not_data (IsReadBelow m t serial bytes) (answer.Data serial bytes) refl (ap is_data same ∙ opened_data m t.client is.standing (nat_lt (length m.machine.sessions) session_limit))
+    by_answer (as_refused why same refused) = not_data (IsReadBelow m t serial bytes) (answer.Data serial bytes) refl (ap is_data same)
 
 pub loads_below : (rules : Rules) (m : Moment) (t : Turn) (last : Bool) (serial : ℕ) (bytes : List ℕ) (now : Moment) → IsTurn rules m t last (Ok (answer.Data serial bytes)) now → IsReadBelow m t serial bytes
 loads_below rules m t last serial bytes now is =
-    by_name rules m is.behind t.client t.line (answer.Data serial bytes) (IsReadBelow m t serial bytes) (opening_reads m is.behind t serial bytes) (line_of_reads rules m is.behind (place_of_client t.client m.clients) t serial bytes refl) is.line
+    by_name rules m is.behind t.client t.line (answer.Data serial bytes) (IsReadBelow m t serial bytes) (opening_reads rules m is.behind t serial bytes) (line_of_reads rules m is.behind (place_of_client t.client m.clients) t serial bytes refl) is.line

@@ -49,6 +49,7 @@ use Rattle.client_turns.specs.Turns.{IsStepLine}
 use Rattle.client_turns.specs.Views.{server_of}
 use Rattle.client_turns.proofs.Hubs.{open_whole}
 use Rattle.client_turns.proofs.Asked.{IsOpened, MayStand, end_of_client, none_of, opened_of}
+use Rattle.client_turns.proofs.Following.{asked_formed}
 use Rattle.client_turns.proofs.One.{BehindIt, StepsTo, client_kept, front_behind, not_closed, opened_to, refused_open, starved_open, stays, step_alone, step_one, step_open, steps_to, within_on, writes_on}
 use Rattle.client_turns.proofs.Served.{Fits, fits_at}
 
@@ -223,7 +224,7 @@ module _ {R F S : Type 0} (told lasts : Type 0) (stands : List ℕ → List Tran
   voted_by l q result w o given left fit plainly free asks answers (inr one) =
       let s : StepsTo (rules_of rules_in named_in h) m x.session q one.reply g after = steps_to told lasts stands rules_in named_in tells m x.session q one.reply h g before after one.step takes.stands.hub takes.stands.counts takes.stands.stamps in
       let fits : FitsVoted one.reply = fit one.reply (fits_at (rules_of rules_in named_in h) m x.session q one.reply s.now s.holds) in
-      step_alone told lasts stands rules_in named_in tells _ m at x y c false q one.reply given h g before after takes one.step s (vote_uncommitted one.reply fits)
+      step_alone told lasts stands rules_in named_in tells _ m at x y c false q one.reply given h g before after (asked_formed c.standing (changes_of c) l q takes.formed asks) takes one.step s (vote_uncommitted one.reply fits)
       (vote_told one.reply given fits (answers ∙ ap (λ (z : Result (Unit {0}) Refusal). answered z answer.Voted) one.answer))
       (voted_client s.now.machine w o result one.reply left fits one.answer)
       (λ is. step_open (rules_of rules_in named_in h) m at c l given _ q mine.local free asks (subst (λ (d : Bool). IsStepLine (rules_of rules_in named_in h) m at c d q given (with_client s.now at (client_left false s.now.machine c one.reply))) (sym plainly) is))
@@ -370,7 +371,7 @@ module _ {R F S : Type 0} (told lasts : Type 0) (stands : List ℕ → List Tran
           done : (r : Reply) → IsHubStep told lasts stands rules_in named_in x.session request.Abort r h g before after → (s : StepsTo (rules_of rules_in named_in h) m x.session request.Abort r g after) → is_committed r ≡ false → given ≡ answer_of r
               → IsClientOf g y (client_left false s.now.machine c r) → OneLeadsTo (IsLineOpen (rules_of rules_in named_in h) m at c line.Abort given) m at h g y after
           done r step s uncommitted told_so client =
-              step_alone told lasts stands rules_in named_in tells _ m at x y c false request.Abort r given h g before after takes step s uncommitted told_so client
+              step_alone told lasts stands rules_in named_in tells _ m at x y c false request.Abort r given h g before after tt takes step s uncommitted told_so client
               (λ is. step_open (rules_of rules_in named_in h) m at c line.Abort given _ request.Abort mine.local (taken_refusal line.Abort c (Some o.transaction) o.begun) (taken_request line.Abort c (Some o.transaction) o.begun) is)
 
           by_reply : (r : Reply) → IsHubStep told lasts stands rules_in named_in x.session request.Abort r h g before after → (s : StepsTo (rules_of rules_in named_in h) m x.session request.Abort r g after) → Fits r request.Abort → result ≡ abort_answer r
@@ -423,7 +424,7 @@ module _ {R F S : Type 0} (told lasts : Type 0) (stands : List ℕ → List Tran
               (subst (λ (z : Option (List Stamp)). IsHubStep told lasts stands rules_in named_in x.session request.Finish r h one.behind before z) (sym still) step) in
               let to : StepsTo (rules_of rules_in named_in h) m x.session request.Finish r g after =
               steps_to told lasts stands rules_in named_in tells m x.session request.Finish r h g before after here takes.stands.hub takes.stands.counts takes.stands.stamps in
-              step_alone told lasts stands rules_in named_in tells _ m at x y c false request.Finish r given h g before after takes here to uncommitted told_so (client to.now.machine here) (λ is. taken given _ is)
+              step_alone told lasts stands rules_in named_in tells _ m at x y c false request.Finish r given h g before after tt takes here to uncommitted told_so (client to.now.machine here) (λ is. taken given _ is)
 
           by_reply : (r : Reply) → IsHubStep told lasts stands rules_in named_in x.session request.Finish r h one.behind before one.left → IsFrontBehind (IsHubStep told lasts stands rules_in named_in x.session) (local_answers.is_committed r) one.behind g one.left after
               → (s : StepsTo (rules_of rules_in named_in h) m x.session request.Finish r one.behind one.left) → Fits r request.Finish → result ≡ finish_answer r → OneLeadsTo (IsLineOpen (rules_of rules_in named_in h) m at c line.Finish given) m at h g y after
@@ -435,7 +436,7 @@ module _ {R F S : Type 0} (told lasts : Type 0) (stands : List ℕ → List Tran
               let over = subst (λ (z : Result (Option ℕ) Refusal). OnOk z (work_of y.connection ≡ Err refusal.NoTransaction)) is ended in
               let still = subst (λ (z : Result (Option ℕ) Refusal). IfOk z (λ tid. MatchOption tid ((u : View) (v : views.Client) → MayStand told h x v → InView x.connection u v → (MayStand told g y (unvoted v)) × (Between y.connection (unvoted v)))
               (λ tid. (u : View) (v : views.Client) → MayStand told h x v → InView x.connection u v → (MayStand told g y (committed (view_of (local.server_of g)) v)) × (Between y.connection (committed (view_of (local.server_of g)) v))))) is left o.transaction.view mine.told may o.is.view in
-              step_one told lasts stands rules_in named_in tells _ m at x y c (record c { transaction = None }) request.Finish (reply.Committed tid) given h one.behind g before one.left after takes step s behind
+              step_one told lasts stands rules_in named_in tells _ m at x y c (record c { transaction = None }) request.Finish (reply.Committed tid) given h one.behind g before one.left after tt takes step s behind
               (answers ∙ ap finished_as is) refl (closed_client g (committed (view_of (local.server_of g)) mine.told) still.0.1 still.1 over) (λ line_is. taken given _ line_is)
           by_reply reply.Empty step front s fits is =
               let over = subst (λ (z : Result (Option ℕ) Refusal). OnOk z (work_of y.connection ≡ Err refusal.NoTransaction)) is ended in
@@ -479,7 +480,7 @@ module _ {R F S : Type 0} (told lasts : Type 0) (stands : List ℕ → List Tran
           done : (r : Reply) → IsHubStep told lasts stands rules_in named_in x.session request.Front r h g before after → (s : StepsTo (rules_of rules_in named_in h) m x.session request.Front r g after) → is_committed r ≡ false → given ≡ answer_of r
               → IsClientOf g y (client_left false s.now.machine c r) → OneLeadsTo (IsLineOpen (rules_of rules_in named_in h) m at c line.Begin given) m at h g y after
           done r step s uncommitted told_so client =
-              step_alone told lasts stands rules_in named_in tells _ m at x y c false request.Front r given h g before after takes step s uncommitted told_so client
+              step_alone told lasts stands rules_in named_in tells _ m at x y c false request.Front r given h g before after tt takes step s uncommitted told_so client
               (λ is. step_open (rules_of rules_in named_in h) m at c line.Begin given _ request.Front mine.local (taken_refusal line.Begin c None none.1) (taken_request line.Begin c None none.1 ∙ ap begin_request mine.local) is)
 
           new_changes : (w : Work) (front : ℕ) → IsNewWork front w → no_changes ≡ changes_kept w
@@ -535,7 +536,7 @@ module _ {R F S : Type 0} (told lasts : Type 0) (stands : List ℕ → List Tran
       done : (r : Reply) → IsHubStep told lasts stands rules_in named_in x.session request.Front r h g before after → (s : StepsTo (rules_of rules_in named_in h) m x.session request.Front r g after) → is_committed r ≡ false → given ≡ answer_to true r
           → IsClientOf g y c → OneLeadsTo (IsLineOpen (rules_of rules_in named_in h) m at c line.Deliver given) m at h g y after
       done r step s uncommitted told_so client =
-          step_alone told lasts stands rules_in named_in tells _ m at x y c true request.Front r given h g before after takes step s uncommitted told_so client
+          step_alone told lasts stands rules_in named_in tells _ m at x y c true request.Front r given h g before after tt takes step s uncommitted told_so client
           (λ is. step_open (rules_of rules_in named_in h) m at c line.Deliver given _ request.Front mine.local refl refl is)
 
       by_reply : (r : Reply) → IsHubStep told lasts stands rules_in named_in x.session request.Front r h g before after → (s : StepsTo (rules_of rules_in named_in h) m x.session request.Front r g after) → y.told ≡ told_after x.told r → Fits r request.Front

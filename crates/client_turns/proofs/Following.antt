@@ -1,5 +1,5 @@
 -- Turns keep a moment sound, and its list only grows and is packed.
-use Rattle.std.proofs.Common.{Bool, Err, List, None, Ok, Option, Result, Some, [], ap, arith, false, if◌then◌else◌, inl, inr, length, nat_lt, refl, subst, suc, sym, true, zero, ℕ, ◌++◌, ◌+◌, ◌<◌, ◌∙◌, ◌∷◌, ◌≡◌}
+use Rattle.std.proofs.Common.{Bool, Err, List, None, Ok, Option, Result, Some, [], ap, arith, false, if◌then◌else◌, inl, inr, length, nat_lt, refl, subst, suc, sym, true, zero, ℕ, ◌+◌, ◌<◌, ◌∙◌, ◌∷◌, ◌≡◌, ◌≤◌}
 use Rattle.std.specs.Prelude.{All, IfSome, nat_eq, slice_get, slice_set, take}
 use Rattle.std.specs.List.{AllByRecursion, IsDistinct}
 use Rattle.std.specs.Option.{option_map}
@@ -26,23 +26,24 @@ use Rattle.zodb_core.specs.declared.request.Request.{Request}
 use Rattle.zodb_core.specs.declared.request.Request.TheVariants as request
 use Rattle.zodb_core.specs.DecisionLaws.{pending_formed}
 use Rattle.zodb_core.specs.HistoryLaws.{left_greatest}
-use Rattle.zodb_core.specs.Machine.{Machine, Rules, with_session}
+use Rattle.zodb_core.specs.Machine.{Machine, Rules, front_of, session_limit, with_session}
 use Rattle.zodb_core.specs.Outcomes.{machine_left, outcome_of}
 use Rattle.zodb_core.specs.Sound.{AreWellFormedStores, GoesOnTo, IsWellFormedRequest, IsSoundMachine, moved, unmoved}
-use Rattle.zodb_core.specs.SoundLaws.{comes_twice, grows_not, grows_to, grows_twice, left_goes_on, left_sound, opened_sound, sound_later}
-use Rattle.client_turns.specs.Clients.{Changes, Client, Linked, Local, Moment, OpenTransaction, Standing, changes_of, place_of_client}
-use Rattle.client_turns.specs.Laws.{AreFormed, Follows, IsFormedPending, IsLocal, IsSoundClient, IsSoundMoment}
-use Rattle.client_turns.specs.Lines.{Changed, asking_excess, checked, client_left, client_told, deleted, is_committed, is_delivery, outcome_of_result, pending_in, put, request_of, rolled_back, rolled_to, saved, standing_behind, store_unless, stored, transaction_left, with_changes}
+use Rattle.zodb_core.specs.SoundLaws.{comes_twice, front_come, grows_not, grows_to, grows_twice, left_goes_on, left_sound, opened_sound, sound_later}
+use Rattle.client_turns.specs.Clients.{Changes, Client, Linked, Local, Moment, OpenTransaction, Standing, begun_far, changes_of, place_of_client, with_transaction}
+use Rattle.client_turns.specs.Laws.{AreFormed, Follows, IsFormedPending, IsFormedClient, IsSoundMoment}
+use Rattle.client_turns.specs.Lines.{Changed, asking_excess, checked, client_left, client_told, deleted, is_committed, is_delivery, outcome_of_result, pending_in, put, request_of, rolled_back, rolled_to, saved, store_unless, stored, transaction_left, with_changes}
 use Rattle.client_turns.specs.Refusing.{IsFittingLine, connection_refusal}
 use Rattle.client_turns.specs.DrawLaws.{LeavesCall, call_leaves}
 use Rattle.client_turns.specs.Trees.{CallEnds, IsRaised, IsTreeEnd, IsTreeLine, all_stored, answer_told, operation_of, puts_stored, stores_put}
-use Rattle.client_turns.specs.TurnLaws.{by_name, own_raised, request_cases}
+use Rattle.client_turns.specs.TurnLaws.{Opens, by_name, own_raised, request_cases}
+use Rattle.client_turns.proofs.Standings.{AllKnow, all_later, closing_clients, go_knows, line_clients, told_clients}
 use Rattle.client_turns.specs.Steps.{IsChange, IsStepAt}
-use Rattle.client_turns.specs.Turns.{IsAnswered, IsClosed, IsClosing, IsGet, IsLine, IsLineOf, IsLineTaken, IsLineUnless, IsOpening, IsOutside, IsOwnLine, IsPut, IsStepLine, IsStepUnless, IsTold, IsWithin, Opening, fronts_behind}
+use Rattle.client_turns.specs.Turns.{IsAnswered, IsClosed, IsClosing, IsGet, IsLine, IsLineOf, IsLineTaken, IsLineUnless, IsOutside, IsOwnLine, IsPut, IsStepLine, IsStepUnless, IsTold, IsWithin, fronts_behind, opened, opened_if}
 
 -- ---- machines that steps lead to
 
-follows_same : (m : Machine) → IsSoundMachine m → Follows m m
+pub follows_same : (m : Machine) → IsSoundMachine m → Follows m m
 follows_same m sound = record { sound = sound; comes = unmoved; switches = omega arith; grows = λ _. grows_not m.list; greatest = omega arith }
 
 follows_as : (m now : Machine) → IsSoundMachine m → now ≡ m → Follows m now
@@ -57,7 +58,7 @@ follows_twice m b now one two = record {
   greatest = omega (arith, one.greatest, two.greatest);
 }
 
-step_follows : (rules : Rules) (m : Moment) (n : ℕ) (q : Request) (r : Reply) (now : Moment) → IsSoundMachine m.machine → IsWellFormedRequest q → IsStepAt rules m n q r now → Follows m.machine now.machine
+pub step_follows : (rules : Rules) (m : Moment) (n : ℕ) (q : Request) (r : Reply) (now : Moment) → IsSoundMachine m.machine → IsWellFormedRequest q → IsStepAt rules m n q r now → Follows m.machine now.machine
 step_follows rules m n q r now sound formed step =
     let left : Machine = machine_left rules m.machine n q step.stamp (outcome_of r) in
     let goes : GoesOnTo m.machine left = left_goes_on rules m.machine n q step.stamp (outcome_of r) (sound_later m.machine sound) sound.within in
@@ -69,13 +70,13 @@ step_follows rules m n q r now sound formed step =
       greatest = left_greatest rules m.machine n q step.stamp (outcome_of r);
     })
 
-told_follows : (rules : Rules) (b t : Moment) (n count : ℕ) → IsSoundMachine b.machine → IsTold rules count b n t → Follows b.machine t.machine
+pub told_follows : (rules : Rules) (b t : Moment) (n count : ℕ) → IsSoundMachine b.machine → IsTold rules count b n t → Follows b.machine t.machine
 told_follows rules b t n zero sound told = follows_as b.machine t.machine sound (ap (λ (x : Moment). x.machine) told)
 told_follows rules b t n (suc count) sound (r, next, step, rest) =
     let first : Follows b.machine next.machine = step_follows rules b n request.Front r next sound tt step in
     follows_twice b.machine next.machine t.machine first (told_follows rules next t n count first.sound rest)
 
-opened_follows : (m : Machine) → IsSoundMachine m → Follows m (with_session m)
+pub opened_follows : (m : Machine) → IsSoundMachine m → Follows m (with_session m)
 opened_follows m sound = record { sound = opened_sound m sound; comes = unmoved; switches = omega arith; grows = λ _. grows_not m.list; greatest = omega arith }
 
 -- ---- what waits is well formed
@@ -162,7 +163,7 @@ records_put [] some = tt
 records_put (p ∷ puts) some = (some.0, records_put puts some.1)
 
 -- what a call puts that is answered has bytes
-abbrev HasPutBytes : Result Made Refusal → Type 0
+abbrev pub HasPutBytes : Result Made Refusal → Type 0
 HasPutBytes (Ok made) = All (λ p. 0 < length p.bytes) made.puts
 HasPutBytes (Err why) = Unit {0}
 
@@ -170,14 +171,14 @@ put_bytes : (m : Moment) (n : ℕ) (t : OpenTransaction) (root : ℕ) (op : Tree
 put_bytes m n t root op (Ok made) now ends = ends.filled
 put_bytes m n t root op (Err why) now ends = tt
 
-set_formed : (cs : List Client) (at : ℕ) (c : Client) → AllByRecursion IsSoundClient cs → IsSoundClient c → AllByRecursion IsSoundClient (slice_set cs at c)
+set_formed : (cs : List Client) (at : ℕ) (c : Client) → AllByRecursion IsFormedClient cs → IsFormedClient c → AllByRecursion IsFormedClient (slice_set cs at c)
 set_formed [] at c all formed = tt
 set_formed (d ∷ cs) zero c all formed = (formed, all.1)
 set_formed (d ∷ cs) (suc at) c all formed = (all.0, set_formed cs at c all.1 formed)
 
-pub at_formed : (cs : List Client) (at : ℕ) (c : Client) → AllByRecursion IsSoundClient cs → slice_get cs at ≡ Some c → IsSoundClient c
+pub at_formed : (cs : List Client) (at : ℕ) (c : Client) → AllByRecursion IsFormedClient cs → slice_get cs at ≡ Some c → IsFormedClient c
 at_formed [] at c all there = absurd cc
-at_formed (d ∷ cs) zero c all there = subst IsSoundClient (same_client d c there) all.0
+at_formed (d ∷ cs) zero c all there = subst IsFormedClient (same_client d c there) all.0
   where
     same_client : (a b : Client) → Some a ≡ Some b → a ≡ b
     same_client a b e = cc
@@ -187,7 +188,7 @@ same_request : (a b : Request) → Some a ≡ Some b → a ≡ b
 same_request a b e = cc
 
 -- the request of a line
-asked_formed : (s : Standing) (ch : Option Changes) (l : Line) (q : Request) → IfSome ch AreFormed → request_of s ch l ≡ Some q → IsWellFormedRequest q
+pub asked_formed : (s : Standing) (ch : Option Changes) (l : Line) (q : Request) → IfSome ch AreFormed → request_of s ch l ≡ Some q → IsWellFormedRequest q
 asked_formed s ch l q formed is =
     request_cases IsWellFormedRequest s ch l q tt tt (λ user description. waiting_formed ch formed) (λ user description tids. tt) tt tt (λ oid. tt) tt (λ tid collect. tt) (λ tid collect. tt) tt tt is
   where
@@ -198,19 +199,19 @@ asked_formed s ch l q formed is =
 -- ---- lines
 
 -- a moment that a sound one led to
-pub record FollowsMoment (m now : Moment) : Type 0 where
+pub record FollowsLine (m now : Moment) : Type 0 where
   pub machine : Follows m.machine now.machine
-  pub formed : AllByRecursion IsSoundClient now.clients
+  pub formed : AllByRecursion IsFormedClient now.clients
 
-pub moment_follows : (m now : Moment) → IsSoundMoment m → now ≡ m → FollowsMoment m now
-moment_follows m now sound is = subst (FollowsMoment m) (sym is) (record { machine = follows_same m.machine sound.machine; formed = sound.formed })
+unmoved_follows : (m now : Moment) → IsSoundMoment m → now ≡ m → FollowsLine m now
+unmoved_follows m now sound is = subst (FollowsLine m) (sym is) (record { machine = follows_same m.machine sound.machine; formed = sound.formed })
 
 -- the clients stay, or the one at a place has other changes
-same_clients : (m now : Moment) → Follows m.machine now.machine → AllByRecursion IsSoundClient now.clients → FollowsMoment m now
+same_clients : (m now : Moment) → Follows m.machine now.machine → AllByRecursion IsFormedClient now.clients → FollowsLine m now
 same_clients m now follows formed = record { machine = follows; formed = formed }
 
 -- a machine with a greatest number that isn't lower
-raised_follows : (m now : Machine) → IsSoundMachine m → IsRaised m now → Follows m now
+pub raised_follows : (m now : Machine) → IsSoundMachine m → IsRaised m now → Follows m now
 raised_follows m now sound raised = subst (Follows m) (sym raised.is) (record {
   sound = record { database = sound.database; next = sound.next; numbered = omega (arith, sound.numbered, raised.up); told = sound.told; within = sound.within };
   comes = unmoved;
@@ -219,132 +220,161 @@ raised_follows m now sound raised = subst (Follows m) (sym raised.is) (record {
   greatest = raised.up;
 })
 
-change_formed : (m now : Moment) (at : ℕ) (c : Client) (t : OpenTransaction) (w : Changed) (a : Answer) → AllByRecursion IsSoundClient m.clients → IsLocal c → AreFormed w.changes → IsChange m at c t w a now → AllByRecursion IsSoundClient now.clients
-change_formed m now at c t w a all near formed is =
-    subst (AllByRecursion IsSoundClient) (sym (ap (λ (x : Moment). x.clients) is.1)) (set_formed m.clients at (with_changes c t w.changes) all (formed, near))
+change_formed : (m now : Moment) (at : ℕ) (c : Client) (t : OpenTransaction) (w : Changed) (a : Answer) → AllByRecursion IsFormedClient m.clients → AreFormed w.changes → IsChange m at c t w a now → AllByRecursion IsFormedClient now.clients
+change_formed m now at c t w a all formed is =
+    subst (AllByRecursion IsFormedClient) (sym (ap (λ (x : Moment). x.clients) is.1)) (set_formed m.clients at (with_changes c t w.changes) all formed)
 
-get_formed : (m now : Moment) (v : OpenTransaction) (oid : ℕ) (o : Option PendingStore) (a : Answer) → AllByRecursion IsSoundClient m.clients → IsGet m v oid o a now → AllByRecursion IsSoundClient now.clients
-get_formed m now v oid None a all is = subst (AllByRecursion IsSoundClient) (sym (ap (λ (x : Moment). x.clients) is.1.rest)) all
-get_formed m now v oid (Some p) a all is = subst (AllByRecursion IsSoundClient) (sym (ap (λ (x : Moment). x.clients) is.1)) all
+get_formed : (m now : Moment) (v : OpenTransaction) (oid : ℕ) (o : Option PendingStore) (a : Answer) → AllByRecursion IsFormedClient m.clients → IsGet m v oid o a now → AllByRecursion IsFormedClient now.clients
+get_formed m now v oid None a all is = subst (AllByRecursion IsFormedClient) (sym (ap (λ (x : Moment). x.clients) is.1.rest)) all
+get_formed m now v oid (Some p) a all is = subst (AllByRecursion IsFormedClient) (sym (ap (λ (x : Moment). x.clients) is.1)) all
 
-putting_formed : (m now : Moment) (at : ℕ) (c : Client) (t : OpenTransaction) (oid : ℕ) (bytes : List ℕ) (o : Option PendingStore) (a : Answer) → AllByRecursion IsSoundClient m.clients → IsLocal c → AreFormed t.changes
-    → 0 < length bytes → IsPut m at c t oid bytes o a now → AllByRecursion IsSoundClient now.clients
-putting_formed m now at c t oid bytes None a all near formed some is =
-    change_formed is.1 now at c t (put t.changes oid bytes is.0) a (subst (AllByRecursion IsSoundClient) (sym (ap (λ (x : Moment). x.clients) is.2.rest)) all) near (put_formed t.changes oid bytes is.0 some formed) is.3
-putting_formed m now at c t oid bytes (Some p) a all near formed some is =
-    change_formed m now at c t (stored t.changes (record { oid = oid; base = p.base; content = Held bytes })) a all near
+putting_formed : (m now : Moment) (at : ℕ) (c : Client) (t : OpenTransaction) (oid : ℕ) (bytes : List ℕ) (o : Option PendingStore) (a : Answer) → AllByRecursion IsFormedClient m.clients → AreFormed t.changes
+    → 0 < length bytes → IsPut m at c t oid bytes o a now → AllByRecursion IsFormedClient now.clients
+putting_formed m now at c t oid bytes None a all formed some is =
+    change_formed is.1 now at c t (put t.changes oid bytes is.0) a (subst (AllByRecursion IsFormedClient) (sym (ap (λ (x : Moment). x.clients) is.2.rest)) all) (put_formed t.changes oid bytes is.0 some formed) is.3
+putting_formed m now at c t oid bytes (Some p) a all formed some is =
+    change_formed m now at c t (stored t.changes (record { oid = oid; base = p.base; content = Held bytes })) a all
     (stored_formed t.changes (record { oid = oid; base = p.base; content = Held bytes }) (excess_with t.changes.pending.stores (record { oid = oid; base = p.base; content = Held bytes })) some formed) is
 
-tree_end_formed : (b now : Moment) (at : ℕ) (c : Client) (t : OpenTransaction) (result : Result Made Refusal) (a : Answer) → AllByRecursion IsSoundClient b.clients → IsLocal c → AreFormed t.changes → HasPutBytes result → IsTreeEnd b at c t result a now
-    → AllByRecursion IsSoundClient now.clients
-tree_end_formed b now at c t (Ok made) a all near formed some (inl change) =
-    change_formed b now at c t (all_stored t.changes (answer_told made.answer) (stores_put made.puts)) a all near
+pub tree_end_formed : (b now : Moment) (at : ℕ) (c : Client) (t : OpenTransaction) (result : Result Made Refusal) (a : Answer) → AllByRecursion IsFormedClient b.clients → AreFormed t.changes → HasPutBytes result → IsTreeEnd b at c t result a now
+    → AllByRecursion IsFormedClient now.clients
+tree_end_formed b now at c t (Ok made) a all formed some (inl change) =
+    change_formed b now at c t (all_stored t.changes (answer_told made.answer) (stores_put made.puts)) a all
     (all_formed t.changes (answer_told made.answer) (stores_put made.puts) (records_put made.puts (recursion_from_All (λ (p : TreePut). 0 < length p.bytes) made.puts some)) formed) change
-tree_end_formed b now at c t (Ok made) a all near formed some (inr starved) = subst (AllByRecursion IsSoundClient) (sym (ap (λ (x : Moment). x.clients) starved.1)) all
-tree_end_formed b now at c t (Err why) a all near formed some refused = subst (AllByRecursion IsSoundClient) (sym (ap (λ (x : Moment). x.clients) refused.1)) all
+tree_end_formed b now at c t (Ok made) a all formed some (inr starved) = subst (AllByRecursion IsFormedClient) (sym (ap (λ (x : Moment). x.clients) starved.1)) all
+tree_end_formed b now at c t (Err why) a all formed some refused = subst (AllByRecursion IsFormedClient) (sym (ap (λ (x : Moment). x.clients) refused.1)) all
 
-tree_formed : (m now : Moment) (at : ℕ) (c : Client) (t : OpenTransaction) (root : ℕ) (call : TreeCall) (a : Answer) → AllByRecursion IsSoundClient m.clients → IsLocal c → AreFormed t.changes → IsTreeLine m at c t root call a now
-    → AllByRecursion IsSoundClient now.clients
-tree_formed m now at c t root call a all near formed is =
+tree_formed : (m now : Moment) (at : ℕ) (c : Client) (t : OpenTransaction) (root : ℕ) (call : TreeCall) (a : Answer) → AllByRecursion IsFormedClient m.clients → AreFormed t.changes → IsTreeLine m at c t root call a now
+    → AllByRecursion IsFormedClient now.clients
+tree_formed m now at c t root call a all formed is =
     let leaves : LeavesCall m (outcome_of_result is.result) is.behind = call_leaves m c.session t root (operation_of call) is.result is.behind is.ends in
-    tree_end_formed is.behind now at c t is.result a (subst (AllByRecursion IsSoundClient) (sym leaves.clients) all) near formed (put_bytes m c.session t root (operation_of call) is.result is.behind is.ends) is.end
+    tree_end_formed is.behind now at c t is.result a (subst (AllByRecursion IsFormedClient) (sym leaves.clients) all) formed (put_bytes m c.session t root (operation_of call) is.result is.behind is.ends) is.end
 
-within_formed : (m now : Moment) (at : ℕ) (c : Client) (t : OpenTransaction) (l : Line) (a : Answer) → AllByRecursion IsSoundClient m.clients → IsLocal c → AreFormed t.changes → IsFittingLine l → IsWithin m at c t l a now → AllByRecursion IsSoundClient now.clients
-within_formed m now at c t (line.Load oid) a all near formed fits is = subst (AllByRecursion IsSoundClient) (sym (ap (λ (x : Moment). x.clients) is.1.rest)) all
-within_formed m now at c t (line.Get oid) a all near formed fits is = get_formed m now t oid (pending_of t.changes.pending.stores oid) a all is
-within_formed m now at c t (line.Store oid base bytes) a all near formed fits is =
-    change_formed m now at c t (stored t.changes (record { oid = oid; base = base; content = Held bytes })) a all near
+within_formed : (m now : Moment) (at : ℕ) (c : Client) (t : OpenTransaction) (l : Line) (a : Answer) → AllByRecursion IsFormedClient m.clients → AreFormed t.changes → IsFittingLine l → IsWithin m at c t l a now → AllByRecursion IsFormedClient now.clients
+within_formed m now at c t (line.Load oid) a all formed fits is = subst (AllByRecursion IsFormedClient) (sym (ap (λ (x : Moment). x.clients) is.1.rest)) all
+within_formed m now at c t (line.Get oid) a all formed fits is = get_formed m now t oid (pending_of t.changes.pending.stores oid) a all is
+within_formed m now at c t (line.Store oid base bytes) a all formed fits is =
+    change_formed m now at c t (stored t.changes (record { oid = oid; base = base; content = Held bytes })) a all
     (stored_formed t.changes (record { oid = oid; base = base; content = Held bytes }) (excess_with t.changes.pending.stores (record { oid = oid; base = base; content = Held bytes })) fits formed) is
-within_formed m now at c t (line.Put oid bytes) a all near formed fits is = putting_formed m now at c t oid bytes (pending_of t.changes.pending.stores oid) a all near formed fits is
-within_formed m now at c t (line.Check oid serial) a all near formed fits is = change_formed m now at c t (checked t.changes (record { oid = oid; serial = serial })) a all near formed is
-within_formed m now at c t (line.Delete oid base) a all near formed fits is = change_formed m now at c t (deleted t.changes oid base) a all near (pending_formed t.changes.pending.stores (record { oid = oid; base = base; content = Absent }) formed.0 tt, formed.1) is
-within_formed m now at c t line.Savepoint a all near formed fits is = change_formed m now at c t (saved t.changes) a all near (saved_formed t.changes formed) is
-within_formed m now at c t (line.Rollback number) a all near formed fits is = change_formed m now at c t (rolled_back t.changes number) a all near (rolled_formed t.changes number formed) is
-within_formed m now at c t (line.Tree root call) a all near formed fits is = tree_formed m now at c t root call a all near formed is
-within_formed m now at c t _ a all near formed fits is = subst (AllByRecursion IsSoundClient) (sym (ap (λ (x : Moment). x.clients) is.1)) all
+within_formed m now at c t (line.Put oid bytes) a all formed fits is = putting_formed m now at c t oid bytes (pending_of t.changes.pending.stores oid) a all formed fits is
+within_formed m now at c t (line.Check oid serial) a all formed fits is = change_formed m now at c t (checked t.changes (record { oid = oid; serial = serial })) a all formed is
+within_formed m now at c t (line.Delete oid base) a all formed fits is = change_formed m now at c t (deleted t.changes oid base) a all (pending_formed t.changes.pending.stores (record { oid = oid; base = base; content = Absent }) formed.0 tt, formed.1) is
+within_formed m now at c t line.Savepoint a all formed fits is = change_formed m now at c t (saved t.changes) a all (saved_formed t.changes formed) is
+within_formed m now at c t (line.Rollback number) a all formed fits is = change_formed m now at c t (rolled_back t.changes number) a all (rolled_formed t.changes number formed) is
+within_formed m now at c t (line.Tree root call) a all formed fits is = tree_formed m now at c t root call a all formed is
+within_formed m now at c t _ a all formed fits is = subst (AllByRecursion IsFormedClient) (sym (ap (λ (x : Moment). x.clients) is.1)) all
 
-outside_formed : (m now : Moment) (at : ℕ) (c : Client) (s : Standing) (a : Answer) → AllByRecursion IsSoundClient m.clients → s ≡ Local → IsOutside m at c s a now → AllByRecursion IsSoundClient now.clients
-outside_formed m now at c Local a all near is = subst (AllByRecursion IsSoundClient) (sym (ap (λ (x : Moment). x.clients) is.1)) all
-outside_formed m now at c (Linked known) a all near is = absurd cc
+outside_formed : (m now : Moment) (at : ℕ) (c : Client) (s : Standing) (a : Answer) → AllByRecursion IsFormedClient m.clients → IsOutside m at c s a now → AllByRecursion IsFormedClient now.clients
+outside_formed m now at c Local a all is = subst (AllByRecursion IsFormedClient) (sym (ap (λ (x : Moment). x.clients) is.1)) all
+outside_formed m now at c (Linked known) a all is =
+    subst (AllByRecursion IsFormedClient) (sym (ap (λ (x : Moment). x.clients) is.1)) (set_formed m.clients at (with_transaction c (begun_far known)) all (none_formed, tt))
 
-own_formed : (m now : Moment) (at : ℕ) (c : Client) (t : Option OpenTransaction) (l : Line) (a : Answer) → AllByRecursion IsSoundClient m.clients → IsLocal c → FormedIfSome t → IsFittingLine l → IsOwnLine m at c t l a now → AllByRecursion IsSoundClient now.clients
-own_formed m now at c None l a all near formed fits is = outside_formed m now at c c.standing a all near is
-own_formed m now at c (Some t) l a all near formed fits is = within_formed m now at c t l a all near formed fits is
+pub own_formed : (m now : Moment) (at : ℕ) (c : Client) (t : Option OpenTransaction) (l : Line) (a : Answer) → AllByRecursion IsFormedClient m.clients → FormedIfSome t → IsFittingLine l → IsOwnLine m at c t l a now → AllByRecursion IsFormedClient now.clients
+own_formed m now at c None l a all formed fits is = outside_formed m now at c c.standing a all is
+own_formed m now at c (Some t) l a all formed fits is = within_formed m now at c t l a all formed fits is
 
-told_same : (rules : Rules) (b t : Moment) (n count : ℕ) → IsTold rules count b n t → t.clients ≡ b.clients
-told_same rules b t n zero told = ap (λ (x : Moment). x.clients) told
-told_same rules b t n (suc count) (r, next, step, rest) = told_same rules next t n count rest ∙ step.clients
+client_formed : (d : Bool) (m : Machine) (c : Client) (r : Reply) → IsFormedClient c → IsFormedClient (client_told m r (client_left d m c r))
+client_formed false m c r formed = left_formed m c.transaction r formed
+client_formed true m c r formed = formed
 
-local_behind : (m : Machine) (s : Standing) (r : Reply) → s ≡ Local → standing_behind m s r ≡ Local
-local_behind m Local r near = refl
-local_behind m (Linked known) r near = absurd cc
-
-client_formed : (d : Bool) (m : Machine) (c : Client) (r : Reply) → IsSoundClient c → IsSoundClient (client_told m r (client_left d m c r))
-client_formed false m c r formed = (left_formed m c.transaction r formed.0, local_behind m c.standing r formed.1)
-client_formed true m c r formed = (formed.0, local_behind m c.standing r formed.1)
-
-step_line_follows : (rules : Rules) (m now : Moment) (at : ℕ) (c : Client) (d : Bool) (q : Request) (a : Answer) → IsSoundMoment m → slice_get m.clients at ≡ Some c → IsWellFormedRequest q → IsStepLine rules m at c d q a now → FollowsMoment m now
+pub step_line_follows : (rules : Rules) (m now : Moment) (at : ℕ) (c : Client) (d : Bool) (q : Request) (a : Answer) → IsSoundMoment m → slice_get m.clients at ≡ Some c → IsWellFormedRequest q → IsStepLine rules m at c d q a now → FollowsLine m now
 step_line_follows rules m now at c d q a sound there formed is =
     let first : Follows m.machine is.behind.machine = step_follows rules m c.session q is.reply is.behind sound.machine formed is.step in
     let second : Follows is.behind.machine is.told.machine = told_follows rules is.behind is.told c.session (fronts_behind (is_committed is.reply) c.standing) first.sound is.front in
-    let clients : is.told.clients ≡ m.clients = told_same rules is.behind is.told c.session (fronts_behind (is_committed is.reply) c.standing) is.front ∙ is.step.clients in
+    let clients : is.told.clients ≡ m.clients = told_clients rules is.behind is.told c.session (fronts_behind (is_committed is.reply) c.standing) is.front ∙ is.step.clients in
     record {
       machine = subst (Follows m.machine) (sym (ap (λ (x : Moment). x.machine) is.left)) (follows_twice m.machine is.behind.machine is.told.machine first second);
-      formed = subst (AllByRecursion IsSoundClient) (sym (ap (λ (x : Moment). x.clients) is.left))
-          (set_formed is.told.clients at (client_told is.told.machine is.reply (client_left d is.told.machine c is.reply)) (subst (AllByRecursion IsSoundClient) (sym clients) sound.formed)
+      formed = subst (AllByRecursion IsFormedClient) (sym (ap (λ (x : Moment). x.clients) is.left))
+          (set_formed is.told.clients at (client_told is.told.machine is.reply (client_left d is.told.machine c is.reply)) (subst (AllByRecursion IsFormedClient) (sym clients) sound.formed)
           (client_formed d is.told.machine c is.reply (at_formed m.clients at c sound.formed there)));
     }
 
-long_follows : (rules : Rules) (m now : Moment) (at : ℕ) (c : Client) (d : Bool) (q : Request) (e : Option ℕ) (a : Answer) → IsSoundMoment m → slice_get m.clients at ≡ Some c → IsWellFormedRequest q → IsStepUnless rules m at c d q e a now → FollowsMoment m now
+long_follows : (rules : Rules) (m now : Moment) (at : ℕ) (c : Client) (d : Bool) (q : Request) (e : Option ℕ) (a : Answer) → IsSoundMoment m → slice_get m.clients at ≡ Some c → IsWellFormedRequest q → IsStepUnless rules m at c d q e a now → FollowsLine m now
 long_follows rules m now at c d q None a sound there formed is = step_line_follows rules m now at c d q a sound there formed is
-long_follows rules m now at c d q (Some n) a sound there formed is = moment_follows m now sound is.1
+long_follows rules m now at c d q (Some n) a sound there formed is = unmoved_follows m now sound is.1
 
 taken_follows : (rules : Rules) (m now : Moment) (at : ℕ) (c : Client) (l : Line) (q : Option Request) (a : Answer) → IsSoundMoment m → slice_get m.clients at ≡ Some c → request_of c.standing (changes_of c) l ≡ q
-    → IsFittingLine l → IsLineTaken rules m at c l q a now → FollowsMoment m now
-taken_follows rules m now at c l (Some q) a sound there asks fits is = long_follows rules m now at c (is_delivery l) q (asking_excess c.standing q) a sound there (asked_formed c.standing (changes_of c) l q (at_formed m.clients at c sound.formed there).0 asks) is
+    → IsFittingLine l → IsLineTaken rules m at c l q a now → FollowsLine m now
+taken_follows rules m now at c l (Some q) a sound there asks fits is = long_follows rules m now at c (is_delivery l) q (asking_excess c.standing q) a sound there (asked_formed c.standing (changes_of c) l q (at_formed m.clients at c sound.formed there) asks) is
 taken_follows rules m now at c l None a sound there asks fits is =
-    same_clients m now (raised_follows m.machine now.machine sound.machine (own_raised m now at c c.transaction l a is)) (let client : IsSoundClient c = at_formed m.clients at c sound.formed there in own_formed m now at c c.transaction l a sound.formed client.1 client.0 fits is)
+    same_clients m now (raised_follows m.machine now.machine sound.machine (own_raised m now at c c.transaction l a is)) (own_formed m now at c c.transaction l a sound.formed (at_formed m.clients at c sound.formed there) fits is)
 
-unless_follows : (rules : Rules) (m now : Moment) (at : ℕ) (c : Client) (l : Line) (r : Option Refusal) (a : Answer) → IsSoundMoment m → slice_get m.clients at ≡ Some c → IsFittingLine l → IsLineUnless rules m at c l r a now → FollowsMoment m now
-unless_follows rules m now at c l (Some why) a sound there fits is = moment_follows m now sound is.1
+pub unless_follows : (rules : Rules) (m now : Moment) (at : ℕ) (c : Client) (l : Line) (r : Option Refusal) (a : Answer) → IsSoundMoment m → slice_get m.clients at ≡ Some c → IsFittingLine l → IsLineUnless rules m at c l r a now → FollowsLine m now
+unless_follows rules m now at c l (Some why) a sound there fits is = unmoved_follows m now sound is.1
 unless_follows rules m now at c l None a sound there fits is = taken_follows rules m now at c l (request_of c.standing (changes_of c) l) a sound there refl fits is
 
-line_of_follows : (rules : Rules) (m now : Moment) (at : Option ℕ) (l : Line) (a : Answer) → IsSoundMoment m → IsFittingLine l → IsLineOf rules m at l a now → FollowsMoment m now
-line_of_follows rules m now None l a sound fits is = moment_follows m now sound is.1
+line_of_follows : (rules : Rules) (m now : Moment) (at : Option ℕ) (l : Line) (a : Answer) → IsSoundMoment m → IsFittingLine l → IsLineOf rules m at l a now → FollowsLine m now
+line_of_follows rules m now None l a sound fits is = unmoved_follows m now sound is.1
 line_of_follows rules m now (Some at) l a sound fits is = unless_follows rules m now at is.0 l (connection_refusal m.machine is.0 l) a sound is.1 fits is.2
 
-opened_moment : (m : Moment) (name : List ℕ) (b : Bool) → IsSoundMoment m → FollowsMoment m (if b then (let o : Opening = record { answer = answer.Opened (length m.machine.sessions); moment = record { machine = with_session m.machine; clients = m.clients ++ record { name = name; session = length m.machine.sessions; transaction = None; standing = Local } ∷ []; stamps = m.stamps; counts = m.counts } } in o)
-    else (let o : Opening = record { answer = answer.Refused (refusal.TooManySessions (length m.machine.sessions)); moment = m } in o)).moment
-opened_moment m name true sound = record {
+pub opened_moment : (m : Moment) (name : List ℕ) (s : Standing) (b : Bool) → IsSoundMoment m → FollowsLine m (opened_if b m name s).moment
+opened_moment m name s true sound = record {
   machine = opened_follows m.machine sound.machine;
-  formed = each_more IsSoundClient m.clients (record { name = name; session = length m.machine.sessions; transaction = None; standing = Local }) sound.formed (tt, refl);
+  formed = each_more IsFormedClient m.clients (record { name = name; session = length m.machine.sessions; transaction = None; standing = s }) sound.formed tt;
 }
-opened_moment m name false sound = record { machine = follows_same m.machine sound.machine; formed = sound.formed }
+opened_moment m name s false sound = record { machine = follows_same m.machine sound.machine; formed = sound.formed }
 
-opening_follows : (m now : Moment) (name : List ℕ) (a : Answer) → IsSoundMoment m → IsOpening m name a now → FollowsMoment m now
-opening_follows m now name a sound is = subst (FollowsMoment m) (sym (ap (λ (o : Opening). o.moment) is)) (opened_moment m name (nat_lt (length m.machine.sessions) 64) sound)
+opening_follows : (rules : Rules) (m now : Moment) (name : List ℕ) (a : Answer) → IsSoundMoment m → Opens rules m name a now → FollowsLine m now
+opening_follows rules m now name a sound is =
+    let n : ℕ = length m.machine.sessions in
+    let begun : Moment = (opened m name is.standing).moment in
+    let first : FollowsLine m begun = opened_moment m name is.standing (nat_lt n session_limit) sound in
+    record {
+      machine = follows_twice m.machine begun.machine now.machine first.machine (told_follows rules begun now n is.count first.machine.sound is.fronts);
+      formed = subst (AllByRecursion IsFormedClient) (sym (told_clients rules begun now n is.count is.fronts)) first.formed;
+    }
+
+line_formed : (rules : Rules) (m now : Moment) (name : List ℕ) (l : Line) (a : Answer) → IsSoundMoment m → IsFittingLine l → IsLine rules m name l a now → FollowsLine m now
+line_formed rules m now name l a sound fits is = by_name rules m now name l a (FollowsLine m now) (opening_follows rules m now name a sound) (line_of_follows rules m now (place_of_client name m.clients) l a sound fits) is
+
+-- ---- what is known
+
+-- a moment that a sound one led to, at which no client with a link knows what is newer than the list
+pub record FollowsMoment (m now : Moment) : Type 0 where
+  pub machine : Follows m.machine now.machine
+  pub formed : AllByRecursion IsFormedClient now.clients
+  pub known : AllKnow (front_of now.machine.list) now.clients
+
+pub moment_follows : (m now : Moment) → IsSoundMoment m → now ≡ m → FollowsMoment m now
+moment_follows m now sound is = subst (FollowsMoment m) (sym is) (record { machine = follows_same m.machine sound.machine; formed = sound.formed; known = sound.known })
+
+pub front_up : (m now : Machine) → Follows m now → front_of m.list ≤ front_of now.list
+front_up m now follows = front_come m.list now.list follows.comes
 
 pub line_follows : (rules : Rules) (m now : Moment) (name : List ℕ) (l : Line) (a : Answer) → IsSoundMoment m → IsFittingLine l → IsLine rules m name l a now → FollowsMoment m now
-line_follows rules m now name l a sound fits is = by_name rules m now name l a (FollowsMoment m now) (opening_follows m now name a sound) (line_of_follows rules m now (place_of_client name m.clients) l a sound fits) is
+line_follows rules m now name l a sound fits is =
+    let line : FollowsLine m now = line_formed rules m now name l a sound fits is in
+    record {
+      machine = line.machine;
+      formed = line.formed;
+      known = go_knows (front_of m.machine.list) (front_of now.machine.list) m.clients now.clients (front_up m.machine now.machine line.machine) (line_clients rules m now name l a is) sound.known;
+    }
 
 -- ---- turns
 
-closed_follows : (rules : Rules) (m now : Moment) (at : Option ℕ) → IsSoundMoment m → IsClosed rules m at now → FollowsMoment m now
-closed_follows rules m now None sound is = moment_follows m now sound is
-closed_follows rules m now (Some at) sound is = record {
-  machine = step_follows rules m is.1.0.session request.Close is.0 now sound.machine tt is.1.2;
-  formed = subst (AllByRecursion IsSoundClient) (sym is.1.2.clients) sound.formed;
-}
+closed_follows : (rules : Rules) (m now : Moment) (at : Option ℕ) → IsSoundMachine m.machine → IsClosed rules m at now → Follows m.machine now.machine
+closed_follows rules m now None sound is = follows_as m.machine now.machine sound (ap (λ (x : Moment). x.machine) is)
+closed_follows rules m now (Some at) sound is = step_follows rules m is.1.0.session request.Close is.0 now sound tt is.1.2
+
+closing_machine : (rules : Rules) (m now : Moment) (name : List ℕ) (last : Bool) → IsSoundMachine m.machine → IsClosing rules m name last now → Follows m.machine now.machine
+closing_machine rules m now name false sound is = follows_as m.machine now.machine sound (ap (λ (x : Moment). x.machine) is)
+closing_machine rules m now name true sound is = closed_follows rules m now (place_of_client name m.clients) sound is
 
 pub closing_follows : (rules : Rules) (m now : Moment) (name : List ℕ) (last : Bool) → IsSoundMoment m → IsClosing rules m name last now → FollowsMoment m now
-closing_follows rules m now name false sound is = moment_follows m now sound is
-closing_follows rules m now name true sound is = closed_follows rules m now (place_of_client name m.clients) sound is
+closing_follows rules m now name last sound is =
+    let machine : Follows m.machine now.machine = closing_machine rules m now name last sound.machine is in
+    let clients : now.clients ≡ m.clients = closing_clients rules m now name last is in
+    record {
+      machine = machine;
+      formed = subst (AllByRecursion IsFormedClient) (sym clients) sound.formed;
+      known = subst (AllKnow (front_of now.machine.list)) (sym clients) (all_later (front_of m.machine.list) (front_of now.machine.list) m.clients (front_up m.machine now.machine machine) sound.known);
+    }
 
 pub sound_of : (m now : Moment) → FollowsMoment m now → IsSoundMoment now
-sound_of m now follows = record { machine = follows.machine.sound; formed = follows.formed }
+sound_of m now follows = record { machine = follows.machine.sound; formed = follows.formed; known = follows.known }
 
 pub turn_follows : (rules : Rules) (m now : Moment) (t : Turn) (last : Bool) (a : Answer) → IsSoundMoment m → IsAnswered rules m t last a now → FollowsMoment m now
 turn_follows rules m now t last a sound is =
     let line : FollowsMoment m is.behind = line_follows rules m is.behind t.client t.line a sound is.fits is.line in
     let closing : FollowsMoment is.behind now = closing_follows rules is.behind now t.client last (sound_of m is.behind line) is.closing in
-    record { machine = follows_twice m.machine is.behind.machine now.machine line.machine closing.machine; formed = closing.formed }
+    record { machine = follows_twice m.machine is.behind.machine now.machine line.machine closing.machine; formed = closing.formed; known = closing.known }

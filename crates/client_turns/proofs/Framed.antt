@@ -25,6 +25,8 @@ use Rattle.connection_view.specs.Views as views
 use Rattle.local_loads.specs.Local.{LocalState}
 use Rattle.local_loads.specs.Making.{IsHubStep, IsLocalCall}
 use Rattle.client_turns.specs.declared.client.Client.{Client}
+use Rattle.client_turns.specs.declared.member.Member.{Member}
+use Rattle.client_turns.specs.declared.member.Member.TheVariants.{Near}
 use Rattle.client_turns.specs.Asking.{IsCalm, answered, begun_as, delivered_with, finished_as, saved_as}
 use Rattle.client_turns.specs.Lines.{data_of, object_of, outcome_of_answer, outcome_of_read, outcome_of_result}
 use Rattle.client_turns.specs.Standing.{LeavesHub, ReadsHub}
@@ -105,62 +107,62 @@ module _ {R F S : Type 0} (told lasts : Type 0) (stands : List ℕ → List Tran
 
   -- `load`
   pub load_framed : (oid : ℕ) (result : Result (ℕ × List ℕ) Refusal) → ((r : Refusal) → work_of x.connection ≡ Err r → (result ≡ Err r) × (b ≡ a)) → ((w : Work) → work_of x.connection ≡ Ok w → IsReadBy Made a b oid w.front w.switches result)
-      → (reply : Answer) → reply ≡ data_of result → LeavesHub told lasts stands (rules_of rules_in named_in h) (Some x) (line.Load oid) (outcome_of_answer reply) h g
+      → (reply : Answer) → reply ≡ data_of result → LeavesHub told lasts stands (rules_of rules_in named_in h) (Some (Near x)) (line.Load oid) (outcome_of_answer reply) h g
   load_framed oid result refused made reply answers = (read_framed oid result refused made (outcome_of_answer reply) (ap outcome_of_answer answers ∙ data_outcome result)).keeps
 
   -- a change, for which no call is made
   pub change_framed : {T : Type 0} → (f : Work → Result Work Refusal) (result : Result T Refusal) → ((w : Work) (r : Refusal) → f w ≡ Err r → IsCalm (outcome_of_refusal r)) → LeavesWork (followed_by (changeable (work_of x.connection)) f) (work_of x.connection) (work_of l) result → b ≡ a
-      → (asked : Line) (o : StepOutcome) → o ≡ outcome_of_result result → LeavesHub told lasts stands (rules_of rules_in named_in h) (Some x) asked o h g
+      → (asked : Line) (o : StepOutcome) → o ≡ outcome_of_result result → LeavesHub told lasts stands (rules_of rules_in named_in h) (Some (Near x)) asked o h g
   change_framed f result calm leaves kept asked o is =
-      none_leaves told lasts stands (rules_of rules_in named_in h) h g (Some x) asked o (subst (λ (z : StepOutcome). IsCalm z) (sym is) (leaves_calm x.connection l f result calm leaves)) (kept_framed kept)
+      none_leaves told lasts stands (rules_of rules_in named_in h) h g (Some (Near x)) asked o (subst (λ (z : StepOutcome). IsCalm z) (sym is) (leaves_calm x.connection l f result calm leaves)) (kept_framed kept)
 
   -- `store`
   pub store_framed : (oid base : ℕ) (bytes : List ℕ) (result : Result (Unit {0}) Refusal) → LeavesWork (followed_by (changeable (work_of x.connection)) (stored_in_work (record { oid = oid; base = base; content = Held bytes }))) (work_of x.connection) (work_of l) result → b ≡ a
-      → (reply : Answer) → reply ≡ answered result answer.Stored → LeavesHub told lasts stands (rules_of rules_in named_in h) (Some x) (line.Store oid base bytes) (outcome_of_answer reply) h g
+      → (reply : Answer) → reply ≡ answered result answer.Stored → LeavesHub told lasts stands (rules_of rules_in named_in h) (Some (Near x)) (line.Store oid base bytes) (outcome_of_answer reply) h g
   store_framed oid base bytes result leaves kept reply answers =
       let p : PendingStore = record { oid = oid; base = base; content = Held bytes } in
       change_framed (stored_in_work p) result (stored_calm p) leaves kept (line.Store oid base bytes) (outcome_of_answer reply) (ap outcome_of_answer answers ∙ answered_outcome result answer.Stored refl)
 
   -- `delete`
   pub delete_framed : (oid base : ℕ) (result : Result (Unit {0}) Refusal) → LeavesWork (followed_by (changeable (work_of x.connection)) (deleted_in_work oid base)) (work_of x.connection) (work_of l) result → b ≡ a
-      → (reply : Answer) → reply ≡ answered result answer.Deleted → LeavesHub told lasts stands (rules_of rules_in named_in h) (Some x) (line.Delete oid base) (outcome_of_answer reply) h g
+      → (reply : Answer) → reply ≡ answered result answer.Deleted → LeavesHub told lasts stands (rules_of rules_in named_in h) (Some (Near x)) (line.Delete oid base) (outcome_of_answer reply) h g
   delete_framed oid base result leaves kept reply answers =
       change_framed (deleted_in_work oid base) result (deleted_calm oid base) leaves kept (line.Delete oid base) (outcome_of_answer reply) (ap outcome_of_answer answers ∙ answered_outcome result answer.Deleted refl)
 
   -- `check`
   pub check_framed : (oid serial : ℕ) (result : Result (Unit {0}) Refusal) → LeavesWork (followed_by (changeable (work_of x.connection)) (checked_in_work (record { oid = oid; serial = serial }))) (work_of x.connection) (work_of l) result → b ≡ a
-      → (reply : Answer) → reply ≡ answered result answer.Checked → LeavesHub told lasts stands (rules_of rules_in named_in h) (Some x) (line.Check oid serial) (outcome_of_answer reply) h g
+      → (reply : Answer) → reply ≡ answered result answer.Checked → LeavesHub told lasts stands (rules_of rules_in named_in h) (Some (Near x)) (line.Check oid serial) (outcome_of_answer reply) h g
   check_framed oid serial result leaves kept reply answers =
       let c : PendingCheck = record { oid = oid; serial = serial } in
       change_framed (checked_in_work c) result (checked_calm c) leaves kept (line.Check oid serial) (outcome_of_answer reply) (ap outcome_of_answer answers ∙ answered_outcome result answer.Checked refl)
 
   -- `savepoint`
   pub save_framed : (result : Result ℕ Refusal) → LeavesWork (followed_by (changeable (work_of x.connection)) saved) (work_of x.connection) (work_of l) result → b ≡ a → (reply : Answer) → reply ≡ saved_as result
-      → LeavesHub told lasts stands (rules_of rules_in named_in h) (Some x) line.Savepoint (outcome_of_answer reply) h g
+      → LeavesHub told lasts stands (rules_of rules_in named_in h) (Some (Near x)) line.Savepoint (outcome_of_answer reply) h g
   save_framed result leaves kept reply answers = change_framed saved result saved_calm leaves kept line.Savepoint (outcome_of_answer reply) (ap outcome_of_answer answers ∙ saved_outcome result)
 
   -- `rollback`
   pub roll_framed : (number : ℕ) (result : Result (Unit {0}) Refusal) → LeavesWork (followed_by (changeable (work_of x.connection)) (rolled_back number)) (work_of x.connection) (work_of l) result → b ≡ a
-      → (reply : Answer) → reply ≡ answered result (answer.Rolled number) → LeavesHub told lasts stands (rules_of rules_in named_in h) (Some x) (line.Rollback number) (outcome_of_answer reply) h g
+      → (reply : Answer) → reply ≡ answered result (answer.Rolled number) → LeavesHub told lasts stands (rules_of rules_in named_in h) (Some (Near x)) (line.Rollback number) (outcome_of_answer reply) h g
   roll_framed number result leaves kept reply answers =
       change_framed (rolled_back number) result (rolled_calm number) leaves kept (line.Rollback number) (outcome_of_answer reply) (ap outcome_of_answer answers ∙ answered_outcome result (answer.Rolled number) refl)
 
   -- ---- lines that make calls
 
-  over : (asked : Line) (o : StepOutcome) → LeavesHub told lasts stands (rules_of rules_in named_in (state a).hub) (Some x) asked o (state a).hub (state b).hub → LeavesHub told lasts stands (rules_of rules_in named_in h) (Some x) asked o h g
+  over : (asked : Line) (o : StepOutcome) → LeavesHub told lasts stands (rules_of rules_in named_in (state a).hub) (Some (Near x)) asked o (state a).hub (state b).hub → LeavesHub told lasts stands (rules_of rules_in named_in h) (Some (Near x)) asked o h g
   over asked o left =
-      subst (λ (z : HubState R F). LeavesHub told lasts stands (rules_of rules_in named_in h) (Some x) asked o h z) ends
-      (subst (λ (z : HubState R F). LeavesHub told lasts stands (rules_of rules_in named_in z) (Some x) asked o z (state b).hub) begins left)
+      subst (λ (z : HubState R F). LeavesHub told lasts stands (rules_of rules_in named_in h) (Some (Near x)) asked o h z) ends
+      (subst (λ (z : HubState R F). LeavesHub told lasts stands (rules_of rules_in named_in z) (Some (Near x)) asked o z (state b).hub) begins left)
 
   -- `begin`
   pub begin_framed : (result : Result ℕ Refusal) → ((r : Refusal) → begin_refusal (work_of x.connection) ≡ Some r → (result ≡ Err r) × (b ≡ a)) → (begin_refusal (work_of x.connection) ≡ None → IsFrontBy Made a b result)
-      → (reply : Answer) → reply ≡ begun_as result → LeavesHub told lasts stands (rules_of rules_in named_in h) (Some x) line.Begin (outcome_of_answer reply) h g
+      → (reply : Answer) → reply ≡ begun_as result → LeavesHub told lasts stands (rules_of rules_in named_in h) (Some (Near x)) line.Begin (outcome_of_answer reply) h g
   begin_framed result refused made reply answers =
       over line.Begin (outcome_of_answer reply) (begin_hub told lasts stands rules_in named_in (number a) x (state a) (state b) Made a b (λ call make. make) (λ e. ap state e) x.connection result reply refused made answers)
 
   -- `deliver`
   pub deliver_framed : (result : Result ℕ Refusal) → (work_of x.connection ≡ Err refusal.NotOpen → (result ≡ Err refusal.NotOpen) × (b ≡ a)) → ((work_of x.connection ≡ Err refusal.NotOpen → ⊥) → IsFrontBy Made a b result)
-      → (reply : Answer) → reply ≡ delivered_with result → LeavesHub told lasts stands (rules_of rules_in named_in h) (Some x) line.Deliver (outcome_of_answer reply) h g
+      → (reply : Answer) → reply ≡ delivered_with result → LeavesHub told lasts stands (rules_of rules_in named_in h) (Some (Near x)) line.Deliver (outcome_of_answer reply) h g
   deliver_framed result refused made reply answers =
       over line.Deliver (outcome_of_answer reply) (deliver_hub told lasts stands rules_in named_in (number a) x (state a) (state b) Made a b (λ call make. make) (λ e. ap state e) x.connection result reply refused made answers)
 
@@ -169,7 +171,7 @@ module _ {R F S : Type 0} (told lasts : Type 0) (stands : List ℕ → List Tran
       → ((w : Work) (p : PendingStore) → changeable (work_of x.connection) ≡ Ok w → pending_of w.pending.stores oid ≡ Some p → LeavesWork (stored_in_work (record { oid = oid; base = p.base; content = Held bytes }) w) (work_of x.connection) (work_of l) result × (b ≡ a))
       → ((w : Work) → changeable (work_of x.connection) ≡ Ok w → pending_of w.pending.stores oid ≡ None → IsPutAsRead Made views_at server a b x.connection l w oid bytes result)
       → ((r : Refusal) → changeable (work_of x.connection) ≡ Err r → (result ≡ Err r) × (b ≡ a) × (work_of l ≡ work_of x.connection))
-      → (reply : Answer) → reply ≡ answered result answer.Stored → LeavesHub told lasts stands (rules_of rules_in named_in h) (Some x) (line.Put oid bytes) (outcome_of_answer reply) h g
+      → (reply : Answer) → reply ≡ answered result answer.Stored → LeavesHub told lasts stands (rules_of rules_in named_in h) (Some (Near x)) (line.Put oid bytes) (outcome_of_answer reply) h g
   put_framed views_at server oid bytes result waiting reads refused reply answers =
       over (line.Put oid bytes) (outcome_of_answer reply)
       (put_hub told lasts stands rules_in named_in (number a) x (state a) (state b) Made a b (λ call make. make) (λ e. ap state e) x.connection l views_at server oid bytes result reply waiting reads refused answers)
@@ -177,7 +179,7 @@ module _ {R F S : Type 0} (told lasts : Type 0) (stands : List ℕ → List Tran
   -- `vote`
   pub vote_framed : (user description : List ℕ) (result : Result (Unit {0}) Refusal) → ((r : Refusal) → changeable (work_of x.connection) ≡ Err r → (result ≡ Err r) × (b ≡ a) × (l ≡ x.connection))
       → ((w : Work) → changeable (work_of x.connection) ≡ Ok w → IsCallMade Made a b (Vote user description w.pending.stores w.pending.checks result) result)
-      → (reply : Answer) → reply ≡ answered result answer.Voted → LeavesHub told lasts stands (rules_of rules_in named_in h) (Some x) (line.Vote user description) (outcome_of_answer reply) h g
+      → (reply : Answer) → reply ≡ answered result answer.Voted → LeavesHub told lasts stands (rules_of rules_in named_in h) (Some (Near x)) (line.Vote user description) (outcome_of_answer reply) h g
   vote_framed user description result refused made reply answers =
       over (line.Vote user description) (outcome_of_answer reply)
       (vote_hub told lasts stands rules_in named_in (number a) x (state a) (state b) Made a b (λ call make. make) (λ e. ap state e) x.connection l user description result reply refused made answers)
@@ -185,29 +187,29 @@ module _ {R F S : Type 0} (told lasts : Type 0) (stands : List ℕ → List Tran
   -- `undo`
   pub undo_framed : (user description tids : List ℕ) (result : Result (Unit {0}) Refusal) → ((r : Refusal) → followed_by (changeable (work_of x.connection)) unmixed ≡ Err r → (result ≡ Err r) × (b ≡ a) × (l ≡ x.connection))
       → (IsOk (followed_by (changeable (work_of x.connection)) unmixed) → Made a (Undo user description tids result) b)
-      → (reply : Answer) → reply ≡ answered result answer.Voted → LeavesHub told lasts stands (rules_of rules_in named_in h) (Some x) (line.Undo user description tids) (outcome_of_answer reply) h g
+      → (reply : Answer) → reply ≡ answered result answer.Voted → LeavesHub told lasts stands (rules_of rules_in named_in h) (Some (Near x)) (line.Undo user description tids) (outcome_of_answer reply) h g
   undo_framed user description tids result refused made reply answers =
       over (line.Undo user description tids) (outcome_of_answer reply)
       (undo_hub told lasts stands rules_in named_in (number a) x (state a) (state b) Made a b (λ call make. make) (λ e. ap state e) x.connection l user description tids result reply refused made answers)
 
   -- `finish`
   pub finish_framed : x.session ≡ number a → (result : Result (Option ℕ) Refusal) → ((r : Refusal) → work_of x.connection ≡ Err r → (result ≡ Err r) × (b ≡ a)) → ((w : Work) → work_of x.connection ≡ Ok w → Made a (Finish result) b)
-      → (reply : Answer) → reply ≡ finished_as result → LeavesHub told lasts stands (rules_of rules_in named_in h) (Some x) line.Finish (outcome_of_answer reply) h g
+      → (reply : Answer) → reply ≡ finished_as result → LeavesHub told lasts stands (rules_of rules_in named_in h) (Some (Near x)) line.Finish (outcome_of_answer reply) h g
   finish_framed session result refused made reply answers =
       over line.Finish (outcome_of_answer reply) (finish_hub told lasts stands rules_in named_in (number a) x (state a) (state b) Made a b (λ call make. make) (λ e. ap state e) session result reply refused made answers)
 
   -- `abort`
   pub abort_framed : (result : Result (Unit {0}) Refusal) → ((r : Refusal) → work_of x.connection ≡ Err r → (result ≡ Err r) × (b ≡ a)) → ((w : Work) → work_of x.connection ≡ Ok w → Made a (Abort result) b)
-      → (reply : Answer) → reply ≡ answered result answer.Aborted → LeavesHub told lasts stands (rules_of rules_in named_in h) (Some x) line.Abort (outcome_of_answer reply) h g
+      → (reply : Answer) → reply ≡ answered result answer.Aborted → LeavesHub told lasts stands (rules_of rules_in named_in h) (Some (Near x)) line.Abort (outcome_of_answer reply) h g
   abort_framed result refused made reply answers =
       over line.Abort (outcome_of_answer reply) (abort_hub told lasts stands rules_in named_in (number a) x (state a) (state b) Made a b (λ call make. make) (λ e. ap state e) x.connection result reply refused made answers)
 
 -- `get`
-pub get_framed : {R F : Type 0} (told lasts : Type 0) (stands : List ℕ → List Transaction → Type 0) (rules : Rules) (h g : HubState R F) (x : Option Client) (oid : ℕ) (result : Result (ℕ × List ℕ) Refusal) → ReadsHub told lasts stands (outcome_of_result result) h g → (reply : Answer) → reply ≡ object_of result
+pub get_framed : {R F : Type 0} (told lasts : Type 0) (stands : List ℕ → List Transaction → Type 0) (rules : Rules) (h g : HubState R F) (x : Option Member) (oid : ℕ) (result : Result (ℕ × List ℕ) Refusal) → ReadsHub told lasts stands (outcome_of_result result) h g → (reply : Answer) → reply ≡ object_of result
     → LeavesHub told lasts stands rules x (line.Get oid) (outcome_of_answer reply) h g
 get_framed told lasts stands rules h g x oid result reads reply answers =
     (subst (λ (z : StepOutcome). ReadsHub told lasts stands z h g) (result_outcome result ∙ sym (object_outcome result) ∙ sym (ap outcome_of_answer answers)) reads).keeps
 
 -- a line for which there was no memory
-pub starved_leaves : {R F : Type 0} (told lasts : Type 0) (stands : List ℕ → List Transaction → Type 0) (rules : Rules) (x : Option Client) (l : Line) (h : HubState R F) → LeavesHub told lasts stands rules x l NoMemory h h
+pub starved_leaves : {R F : Type 0} (told lasts : Type 0) (stands : List ℕ → List Transaction → Type 0) (rules : Rules) (x : Option Member) (l : Line) (h : HubState R F) → LeavesHub told lasts stands rules x l NoMemory h h
 starved_leaves told lasts stands rules x l h = none_leaves told lasts stands rules h h x l NoMemory (inr refl) refl

@@ -1,5 +1,5 @@
 -- What lines and their parts do to a hub, whatever its store tells.
-use Rattle.std.proofs.Common.{◌≡◌, ◌==◌, ◌<◌, ◌⊎◌, ℕ, length, Bool, true, false, List, [], Option, Some, None, Result, Ok, Err, if◌then◌else◌, refl, sym, ap, subst, ◌∙◌, arith, inl, inr}
+use Rattle.std.proofs.Common.{◌≡◌, ◌==◌, ◌⊎◌, ℕ, length, Bool, true, false, List, [], Option, Some, None, Result, Ok, Err, if◌then◌else◌, refl, sym, ap, subst, ◌∙◌, arith, inl, inr}
 use Rattle.std.specs.Prelude.{IsOk, slice_get}
 use Rattle.zb_ids.specs.declared.stamp.Stamp.{Stamp}
 use Rattle.zb_volume.specs.declared.areas.Area.TheVariants.{Main, Side}
@@ -45,16 +45,19 @@ use Rattle.client_turns.specs.Asking.{IsCalm, answered, begun_as, delivered_with
 use Rattle.client_turns.specs.Clients.{Local, Moment}
 use Rattle.client_turns.specs.CountLaws.{waiting_outcome}
 use Rattle.client_turns.specs.declared.errors.TurnError.{TurnError}
+use Rattle.client_turns.specs.declared.errors.TurnError.TheVariants as error
 use Rattle.client_turns.specs.Lines.{IsCountedBy, answer_of, end_in, end_of, outcome_of_answer, outcome_of_end, outcome_of_read, outcome_of_result, request_of}
 use Rattle.client_turns.specs.declared.client.Client.{Client}
+use Rattle.client_turns.specs.declared.member.Member.{Member}
+use Rattle.client_turns.specs.declared.member.Member.TheVariants.{Near}
+use Rattle.client_turns.specs.Members.{session_of}
 use Rattle.client_turns.specs.Standing.{IsEndListOf, IsStepListOf, KeepsHub, LeavesHub, ReadsHub}
 use Rattle.client_turns.specs.Steps.{IsStepAt}
 use Rattle.client_turns.specs.TurnLaws.{step_at_left, step_left}
-use Rattle.client_turns.proofs.Causes.{calm_step, closed_counts, counted_of}
+use Rattle.client_turns.proofs.Causes.{calm_step, closed_counts, counted_of, ended_so}
 use Rattle.client_turns.proofs.Crashes.{asked_no_pack, in_step, kept_moments, left_moments, unmoved_in}
 use Rattle.client_turns.proofs.Hubs.{not_failed}
 use Rattle.client_turns.proofs.One.{StepsTo, steps_to}
-use Rattle.client_turns.proofs.Placing.{there_at}
 
 -- ---- answers that move no count
 
@@ -129,7 +132,7 @@ leaves_calm k l f (Err r) calm (inr starved, stayed) = inr (ap outcome_of_refusa
 -- ---- a hub to which nothing was done
 
 module _ {R F : Type 0} (told lasts : Type 0) (stands : List ℕ → List Transaction → Type 0) (rules : Rules) (h g : HubState R F) where
-  pub none_leaves : (x : Option Client) (l : Line) (o : StepOutcome) → IsCalm o → g ≡ h → LeavesHub told lasts stands rules x l o h g
+  pub none_leaves : (x : Option Member) (l : Line) (o : StepOutcome) → IsCalm o → g ≡ h → LeavesHub told lasts stands rules x l o h g
   none_leaves x l o calm same = subst (λ (z : HubState R F). LeavesHub told lasts stands rules x l o h z) (sym same) (record {
     resolver = refl;
     refs = refl;
@@ -144,7 +147,7 @@ module _ {R F : Type 0} (told lasts : Type 0) (stands : List ℕ → List Transa
   none_reads o calm same = record { keeps = none_leaves None line.Savepoint o calm same; list = λ told whole. ap (λ (z : HubState R F). z.store.list) same; whole = calm_whole o calm }
 
   -- or none to its store
-  pub store_leaves : (x : Option Client) (l : Line) (o : StepOutcome) → IsCalm o → g.store ≡ h.store → g.resolver ≡ h.resolver → g.refs ≡ h.refs → LeavesHub told lasts stands rules x l o h g
+  pub store_leaves : (x : Option Member) (l : Line) (o : StepOutcome) → IsCalm o → g.store ≡ h.store → g.resolver ≡ h.resolver → g.refs ≡ h.refs → LeavesHub told lasts stands rules x l o h g
   store_leaves x l o calm store resolver refs = record {
     resolver = resolver;
     refs = refs;
@@ -156,7 +159,7 @@ module _ {R F : Type 0} (told lasts : Type 0) (stands : List ℕ → List Transa
   }
 
   -- what ended otherwise, with the same counts
-  pub leaves_as : (x : Option Client) (l : Line) (o p : StepOutcome) → (IsCountedBy (counts_of h.store) (counts_of g.store) o → IsCountedBy (counts_of h.store) (counts_of g.store) p) → is_store_failed p ≡ is_store_failed o → LeavesHub told lasts stands rules x l o h g
+  pub leaves_as : (x : Option Member) (l : Line) (o p : StepOutcome) → (IsCountedBy (counts_of h.store) (counts_of g.store) o → IsCountedBy (counts_of h.store) (counts_of g.store) p) → is_store_failed p ≡ is_store_failed o → LeavesHub told lasts stands rules x l o h g
       → LeavesHub told lasts stands rules x l p h g
   leaves_as x l o p counts failed leaves = record {
     resolver = leaves.resolver;
@@ -344,7 +347,7 @@ close_failed _ = refl
 
 module _ {R F : Type 0} (told lasts : Type 0) (stands : List ℕ → List Transaction → Type 0) (rules : Rules) (h g : HubState R F) where
   -- a step is its line
-  pub line_keeps : (x : Option Client) (l : Line) (q : Request) (o : StepOutcome) → Some q ≡ plain_request l → KeepsHub told lasts stands (is_pack q) (IsStepListOf stands rules x q) o h g → LeavesHub told lasts stands rules x l o h g
+  pub line_keeps : (x : Option Member) (l : Line) (q : Request) (o : StepOutcome) → Some q ≡ plain_request l → KeepsHub told lasts stands (is_pack q) (IsStepListOf stands rules x q) o h g → LeavesHub told lasts stands rules x l o h g
   line_keeps x l q o asks keeps = record {
     resolver = keeps.resolver;
     refs = keeps.refs;
@@ -356,15 +359,13 @@ module _ {R F : Type 0} (told lasts : Type 0) (stands : List ℕ → List Transa
   }
 
 -- a step of a client, as its line is answered
-pub plain_keeps : {R F : Type 0} (told lasts : Type 0) (stands : List ℕ → List Transaction → Type 0) (rules_in : R → MergeRules) (named_in : F → List ℕ → Option (List ℕ)) (n : ℕ) (q : Request) (r : Reply) (a : Answer) (h g k : HubState R F) (before after : Option (List Stamp)) (xs : List Client) (at : ℕ)
-    → at < length xs → ((x : Client) → slice_get xs at ≡ Some x → n ≡ x.session)
-    → IsHubStep told lasts stands rules_in named_in n q r h g before after → k ≡ g → a ≡ answer_of r → KeepsHub told lasts stands (is_pack q) (IsStepListOf stands (rules_of rules_in named_in h) (slice_get xs at) q) (outcome_of_answer a) h k
-plain_keeps {R} {F} told lasts stands rules_in named_in n q r a h g k before after xs at within session step same answers =
-    let x : (y : Client) × (slice_get xs at ≡ Some y) = there_at xs at within in
-    subst (λ (o : Option Client). KeepsHub told lasts stands (is_pack q) (IsStepListOf stands (rules_of rules_in named_in h) o q) (outcome_of_answer a) h k) (sym x.1)
-    (subst (λ (s : ℕ). KeepsHub told lasts stands (is_pack q) (λ m. IsBeforeOrBehind stands (rules_of rules_in named_in h) m s q) (outcome_of_answer a) h k) (session x.0 x.1)
-    (subst (λ (o : StepOutcome). KeepsHub told lasts stands (is_pack q) (λ m. IsBeforeOrBehind stands (rules_of rules_in named_in h) m n q) o h k) (sym (ap outcome_of_answer answers ∙ answer_outcome r))
-    (subst (λ (z : HubState R F). KeepsHub told lasts stands (is_pack q) (λ m. IsBeforeOrBehind stands (rules_of rules_in named_in h) m n q) (outcome_of r) h z) (sym same) (step_keeps told lasts stands rules_in named_in n q r h g before after step))))
+pub plain_keeps : {R F : Type 0} (told lasts : Type 0) (stands : List ℕ → List Transaction → Type 0) (rules_in : R → MergeRules) (named_in : F → List ℕ → Option (List ℕ)) (q : Request) (r : Reply) (a : Answer) (h g k : HubState R F) (before after : Option (List Stamp)) (xs : List Member) (at : ℕ) (x : Member)
+    → slice_get xs at ≡ Some x → IsHubStep told lasts stands rules_in named_in (session_of x) q r h g before after → k ≡ g → a ≡ answer_of r
+    → KeepsHub told lasts stands (is_pack q) (IsStepListOf stands (rules_of rules_in named_in h) (slice_get xs at) q) (outcome_of_answer a) h k
+plain_keeps {R} {F} told lasts stands rules_in named_in q r a h g k before after xs at x there step same answers =
+    subst (λ (o : Option Member). KeepsHub told lasts stands (is_pack q) (IsStepListOf stands (rules_of rules_in named_in h) o q) (outcome_of_answer a) h k) (sym there)
+    (subst (λ (o : StepOutcome). KeepsHub told lasts stands (is_pack q) (λ m. IsBeforeOrBehind stands (rules_of rules_in named_in h) m (session_of x) q) o h k) (sym (ap outcome_of_answer answers ∙ answer_outcome r))
+    (subst (λ (z : HubState R F). KeepsHub told lasts stands (is_pack q) (λ m. IsBeforeOrBehind stands (rules_of rules_in named_in h) m (session_of x) q) (outcome_of r) h z) (sym same) (step_keeps told lasts stands rules_in named_in (session_of x) q r h g before after step)))
 
 -- the closing of a session, as it ends a run
 pub close_keeps : {R F : Type 0} (told lasts : Type 0) (stands : List ℕ → List Transaction → Type 0) (rules_in : R → MergeRules) (named_in : F → List ℕ → Option (List ℕ)) (n : ℕ) (r : Reply) (a : Answer) (ended : Option TurnError) (h g : HubState R F) (before after : Option (List Stamp))
@@ -380,6 +381,10 @@ close_keeps told lasts stands rules_in named_in n r a ended h g before after ste
       side = keeps.side;
       moments = keeps.moments;
     }
+
+-- it doesn't end it for want of memory
+pub closed_fed : (r : Reply) (a : Answer) (ended : Option TurnError) → ended ≡ end_of a → a ≡ answer_of r → (outcome_of r ≡ NoMemory → ⊥) → ended ≡ Some error.Memory → ⊥
+closed_fed r a ended ends answers fed is = fed (sym (answer_outcome r) ∙ ap outcome_of_answer (sym answers) ∙ ended_so a error.Memory (sym ends ∙ is))
 
 -- nothing was done behind a line
 pub none_closed : {R F : Type 0} (told lasts : Type 0) (stands : List ℕ → List Transaction → Type 0) (rules : Rules) (h : HubState R F) → KeepsHub told lasts stands false (λ m bytes. stands bytes m.list) Answered h h
@@ -514,14 +519,14 @@ module _ {R F : Type 0} (told lasts : Type 0) (stands : List ℕ → List Transa
 module _ {R F S : Type 0} (told lasts : Type 0) (stands : List ℕ → List Transaction → Type 0) (rules_in : R → MergeRules) (named_in : F → List ℕ → Option (List ℕ)) (n : ℕ) (x : Client) (old new : LocalState R F) (makes : S → LoadsCall → S → Type 0) (a b : S) (calls : (call : LoadsCall) → makes a call b → IsLocalCall (IsHubStep told lasts stands rules_in named_in n) call old new) (same : b ≡ a → new ≡ old) where
   -- what a line of this answer leaves
   abbrev Left : Line → Answer → Type 0
-  Left l said = LeavesHub told lasts stands (rules_of rules_in named_in old.hub) (Some x) l (outcome_of_answer said) old.hub new.hub
+  Left l said = LeavesHub told lasts stands (rules_of rules_in named_in old.hub) (Some (Near x)) l (outcome_of_answer said) old.hub new.hub
 
   abbrev LeftAs : Line → StepOutcome → Type 0
-  LeftAs l o = LeavesHub told lasts stands (rules_of rules_in named_in old.hub) (Some x) l o old.hub new.hub
+  LeftAs l o = LeavesHub told lasts stands (rules_of rules_in named_in old.hub) (Some (Near x)) l o old.hub new.hub
 
   -- nothing was done
   pub none_left : (l : Line) (said : Answer) → IsCalm (outcome_of_answer said) → new ≡ old → Left l said
-  none_left l said calm is = none_leaves told lasts stands (rules_of rules_in named_in old.hub) old.hub new.hub (Some x) l (outcome_of_answer said) calm (ap (λ (z : LocalState R F). z.hub) is)
+  none_left l said calm is = none_leaves told lasts stands (rules_of rules_in named_in old.hub) old.hub new.hub (Some (Near x)) l (outcome_of_answer said) calm (ap (λ (z : LocalState R F). z.hub) is)
 
   refused_left : {T : Type 0} (l : Line) (to : Result T Refusal → Answer) (result : Result T Refusal) (r : Refusal) (said : Answer) → to (Err r) ≡ answer.Refused r → said ≡ to result → result ≡ Err r → IsCalm (outcome_of_refusal r) → new ≡ old → Left l said
   refused_left l to result r said errs answers is calm still =
@@ -533,7 +538,7 @@ module _ {R F S : Type 0} (told lasts : Type 0) (stands : List ℕ → List Tran
 
   -- `begin`
   pub begin_hub : (k : Connection) (result : Result ℕ Refusal) (said : Answer) → ((r : Refusal) → begin_refusal (work_of k) ≡ Some r → (result ≡ Err r) × (b ≡ a)) → (begin_refusal (work_of k) ≡ None → IsFrontBy makes a b result)
-      → said ≡ begun_as result → LeavesHub told lasts stands (rules_of rules_in named_in old.hub) (Some x) line.Begin (outcome_of_answer said) old.hub new.hub
+      → said ≡ begun_as result → LeavesHub told lasts stands (rules_of rules_in named_in old.hub) (Some (Near x)) line.Begin (outcome_of_answer said) old.hub new.hub
   begin_hub k result said refused made answers = by_refusal (begin_refusal (work_of k)) refl
     where
       by_refusal : (o : Option Refusal) → begin_refusal (work_of k) ≡ o → Left line.Begin said
@@ -546,7 +551,7 @@ module _ {R F S : Type 0} (told lasts : Type 0) (stands : List ℕ → List Tran
 
   -- `deliver`
   pub deliver_hub : (k : Connection) (result : Result ℕ Refusal) (said : Answer) → (work_of k ≡ Err refusal.NotOpen → (result ≡ Err refusal.NotOpen) × (b ≡ a)) → ((work_of k ≡ Err refusal.NotOpen → ⊥) → IsFrontBy makes a b result)
-      → said ≡ delivered_with result → LeavesHub told lasts stands (rules_of rules_in named_in old.hub) (Some x) line.Deliver (outcome_of_answer said) old.hub new.hub
+      → said ≡ delivered_with result → LeavesHub told lasts stands (rules_of rules_in named_in old.hub) (Some (Near x)) line.Deliver (outcome_of_answer said) old.hub new.hub
   deliver_hub k result said refused made answers = by_open k.is_open refl
     where
       not_so : (w : Option Work) → open_work true w ≡ Err refusal.NotOpen → ⊥
@@ -567,7 +572,7 @@ module _ {R F S : Type 0} (told lasts : Type 0) (stands : List ℕ → List Tran
   -- `vote`
   pub vote_hub : (k l : Connection) (user description : List ℕ) (result : Result (Unit {0}) Refusal) (reply : Answer) → ((r : Refusal) → changeable (work_of k) ≡ Err r → (result ≡ Err r) × (b ≡ a) × (l ≡ k))
       → ((w : Work) → changeable (work_of k) ≡ Ok w → IsCallMade makes a b (Vote user description w.pending.stores w.pending.checks result) result) → reply ≡ answered result answer.Voted
-      → LeavesHub told lasts stands (rules_of rules_in named_in old.hub) (Some x) (line.Vote user description) (outcome_of_answer reply) old.hub new.hub
+      → LeavesHub told lasts stands (rules_of rules_in named_in old.hub) (Some (Near x)) (line.Vote user description) (outcome_of_answer reply) old.hub new.hub
   vote_hub k l user description result reply refused made answers = by_work (changeable (work_of k)) refl
     where
       starved : result ≡ Err refusal.Memory → new ≡ old → Left (line.Vote user description) reply
@@ -591,7 +596,7 @@ module _ {R F S : Type 0} (told lasts : Type 0) (stands : List ℕ → List Tran
   -- `undo`
   pub undo_hub : (k l : Connection) (user description tids : List ℕ) (result : Result (Unit {0}) Refusal) (reply : Answer) → ((r : Refusal) → followed_by (changeable (work_of k)) unmixed ≡ Err r → (result ≡ Err r) × (b ≡ a) × (l ≡ k))
       → (IsOk (followed_by (changeable (work_of k)) unmixed) → makes a (Undo user description tids result) b) → reply ≡ answered result answer.Voted
-      → LeavesHub told lasts stands (rules_of rules_in named_in old.hub) (Some x) (line.Undo user description tids) (outcome_of_answer reply) old.hub new.hub
+      → LeavesHub told lasts stands (rules_of rules_in named_in old.hub) (Some (Near x)) (line.Undo user description tids) (outcome_of_answer reply) old.hub new.hub
   undo_hub k l user description tids result reply refused made answers = by_work (followed_by (changeable (work_of k)) unmixed) refl
     where
       by_step : IsStarved old new result ⊎ IsOneStep (IsHubStep told lasts stands rules_in named_in n) (request.Undo user description tids) locals.vote_answer old new result → Left (line.Undo user description tids) reply
@@ -607,7 +612,7 @@ module _ {R F S : Type 0} (told lasts : Type 0) (stands : List ℕ → List Tran
 
   -- `abort`
   pub abort_hub : (k : Connection) (result : Result (Unit {0}) Refusal) (reply : Answer) → ((r : Refusal) → work_of k ≡ Err r → (result ≡ Err r) × (b ≡ a)) → ((w : Work) → work_of k ≡ Ok w → makes a (Abort result) b)
-      → reply ≡ answered result answer.Aborted → LeavesHub told lasts stands (rules_of rules_in named_in old.hub) (Some x) line.Abort (outcome_of_answer reply) old.hub new.hub
+      → reply ≡ answered result answer.Aborted → LeavesHub told lasts stands (rules_of rules_in named_in old.hub) (Some (Near x)) line.Abort (outcome_of_answer reply) old.hub new.hub
   abort_hub k result reply refused made answers = by_work (work_of k) refl
     where
       by_work : (c : Result Work Refusal) → work_of k ≡ c → Left line.Abort reply
@@ -620,7 +625,7 @@ module _ {R F S : Type 0} (told lasts : Type 0) (stands : List ℕ → List Tran
 
   -- `finish`
   pub finish_hub : x.session ≡ n → (result : Result (Option ℕ) Refusal) (reply : Answer) → ((r : Refusal) → work_of x.connection ≡ Err r → (result ≡ Err r) × (b ≡ a)) → ((w : Work) → work_of x.connection ≡ Ok w → makes a (Finish result) b)
-      → reply ≡ finished_as result → LeavesHub told lasts stands (rules_of rules_in named_in old.hub) (Some x) line.Finish (outcome_of_answer reply) old.hub new.hub
+      → reply ≡ finished_as result → LeavesHub told lasts stands (rules_of rules_in named_in old.hub) (Some (Near x)) line.Finish (outcome_of_answer reply) old.hub new.hub
   finish_hub session result reply refused made answers = by_work (work_of x.connection) refl
     where
       over : (w : Work) → work_of x.connection ≡ Ok w → (o : StepOutcome) → KeepsHub told lasts stands false (λ m. IsBeforeOrBehind stands (rules_of rules_in named_in old.hub) m n request.Finish) o old.hub new.hub → LeftAs line.Finish o
@@ -640,7 +645,7 @@ module _ {R F S : Type 0} (told lasts : Type 0) (stands : List ℕ → List Tran
       → ((w : Work) (p : PendingStore) → changeable (work_of k) ≡ Ok w → pending_of w.pending.stores oid ≡ Some p → LeavesWork (stored_in_work (record { oid = oid; base = p.base; content = Held bytes }) w) (work_of k) (work_of l) result × (b ≡ a))
       → ((w : Work) → changeable (work_of k) ≡ Ok w → pending_of w.pending.stores oid ≡ None → IsPutAsRead makes stands_for state a b k l w oid bytes result)
       → ((r : Refusal) → changeable (work_of k) ≡ Err r → (result ≡ Err r) × (b ≡ a) × (work_of l ≡ work_of k)) → reply ≡ answered result answer.Stored
-      → LeavesHub told lasts stands (rules_of rules_in named_in old.hub) (Some x) (line.Put oid bytes) (outcome_of_answer reply) old.hub new.hub
+      → LeavesHub told lasts stands (rules_of rules_in named_in old.hub) (Some (Near x)) (line.Put oid bytes) (outcome_of_answer reply) old.hub new.hub
   put_hub k l stands_for state oid bytes result reply waiting reads refused answers = by_work (changeable (work_of k)) refl
     where
       so : outcome_of_answer reply ≡ outcome_of_result result

@@ -20,14 +20,15 @@ use Rattle.zodb_core.specs.HubState.{vote_of_hub}
 use Rattle.zodb_core.specs.Machine.{Rules, is_open_in}
 use Rattle.zodb_core.specs.Steps.{busy_for, refuse_if}
 use Rattle.zodb_core.specs.Waiting.{is_held_by_another, needs_vote}
-use Rattle.client_turns.specs.declared.client.Client.{Client as Kept}
+use Rattle.client_turns.specs.declared.member.Member.{Member as Kept}
+use Rattle.client_turns.specs.Members.{name_of, session_of}
 use Rattle.client_turns.specs.Clients.{Changes, Client, Moment, Standing, changes_of, place_of_client}
 use Rattle.client_turns.specs.Lines.{answer_of, answer_to, answering_excess, asking_excess, delivered_as, is_delivery, request_of, step_answer, unless_long}
 use Rattle.client_turns.specs.Refusing.{connection_refusal, line_refusal, mixed, pending_count}
 use Rattle.client_turns.specs.Standing.{ClientsState, StandsForMoment, kept_found, kept_named}
 use Rattle.client_turns.specs.Turns.{IsLine, IsLineOf, IsLineTaken, IsLineUnless, IsStepLine, IsStepUnless}
 use Rattle.client_turns.specs.Waiting.{FreeTurnsAreServed, is_busy as is_busy_answer, waits_for_vote}
-use Rattle.client_turns.proofs.Placing.{kept_at, same_place}
+use Rattle.client_turns.proofs.Placing.{member_session, kept_at, same_place}
 
 -- ---- the vote
 
@@ -91,13 +92,13 @@ undo_other (Some t) user description tids =
 module _ {R F : Type 0} (rules : Rules) (seen : ClientsState R F) (left : Option (List Stamp)) (m : Moment) (stands : StandsForMoment seen left m) (whole : seen.hub.store.broken ≡ false) where
   -- the vote is free for the client at the place of its name
   free_at : (name : List ℕ) (at : ℕ) (c : Client) → place_of_client name m.clients ≡ Some at → slice_get m.clients at ≡ Some c
-      → option_map_or (λ (x : Kept). is_held_by_another x.session seen.hub.vote) (kept_named name seen.clients) false ≡ false → busy_for c.session m.machine.vote ≡ None
+      → option_map_or (λ (x : Kept). is_held_by_another (session_of x) seen.hub.vote) (kept_named name seen.clients) false ≡ false → busy_for c.session m.machine.vote ≡ None
   free_at name at c place there free =
       let k = kept_at seen.hub seen.clients m.clients at c stands.clients there in
-      let here : position (λ (x : Kept). bytes_eq x.name name) seen.clients ≡ Some at = same_place seen.hub seen.clients m.clients name stands.clients ∙ place in
+      let here : position (λ (x : Kept). bytes_eq (name_of x) name) seen.clients ≡ Some at = same_place seen.hub seen.clients m.clients name stands.clients ∙ place in
       let kept : kept_named name seen.clients ≡ Some k.kept = ap (kept_found seen.clients) here ∙ k.there in
-      let mine : is_held_by_another k.kept.session seen.hub.vote ≡ false = sym (ap (λ (o : Option Kept). option_map_or (λ (x : Kept). is_held_by_another x.session seen.hub.vote) o false) kept) ∙ free in
-      let his : is_held_by_another c.session seen.hub.vote ≡ false = ap (λ (n : ℕ). is_held_by_another n seen.hub.vote) k.is.session ∙ mine in
+      let mine : is_held_by_another (session_of k.kept) seen.hub.vote ≡ false = sym (ap (λ (o : Option Kept). option_map_or (λ (x : Kept). is_held_by_another (session_of x) seen.hub.vote) o false) kept) ∙ free in
+      let his : is_held_by_another c.session seen.hub.vote ≡ false = ap (λ (n : ℕ). is_held_by_another n seen.hub.vote) (member_session seen.hub k.kept c k.is) ∙ mine in
       ap (busy_for c.session) (stands.hub.vote whole) ∙ none_busy c.session seen.hub.store.voted seen.hub.vote his
 
   step_served : (at : ℕ) (c : Client) (delivers : Bool) (q : Request) (a : Answer) (now : Moment) (holder : ℕ) → needs_vote q ≡ true → busy_for c.session m.machine.vote ≡ None
@@ -133,7 +134,7 @@ module _ {R F : Type 0} (rules : Rules) (seen : ClientsState R F) (left : Option
 
   place_served : (name : List ℕ) (l : Line) (o : Option ℕ) (a : Answer) (now : Moment) (holder : ℕ)
       → ((c : Client) → IsOther (connection_refusal m.machine c l)) → ((c : Client) → (q : Request) × (request_of c.standing (changes_of c) l ≡ Some q) × (needs_vote q ≡ true))
-      → option_map_or (λ (x : Kept). is_held_by_another x.session seen.hub.vote) (kept_named name seen.clients) false ≡ false
+      → option_map_or (λ (x : Kept). is_held_by_another (session_of x) seen.hub.vote) (kept_named name seen.clients) false ≡ false
       → place_of_client name m.clients ≡ o → IsLineOf rules m o l a now → a ≡ answer.Refused (refusal.Busy holder) → ⊥
   place_served name l None a now holder other asks free place (is, same) busy = never a is busy
     where
@@ -144,7 +145,7 @@ module _ {R F : Type 0} (rules : Rules) (seen : ClientsState R F) (left : Option
       unless_served at c l q.0 (connection_refusal m.machine c l) a now holder q.1 q.2 (free_at name at c place there free) (other c) unless busy
 
   line_served : (name : List ℕ) (l : Line) (a : Answer) (now : Moment) (holder : ℕ) → waits_for_vote l ≡ true
-      → option_map_or (λ (x : Kept). is_held_by_another x.session seen.hub.vote) (kept_named name seen.clients) false ≡ false
+      → option_map_or (λ (x : Kept). is_held_by_another (session_of x) seen.hub.vote) (kept_named name seen.clients) false ≡ false
       → IsLine rules m name l a now → a ≡ answer.Refused (refusal.Busy holder) → ⊥
   line_served name (line.Vote user description) a now holder waits free is busy =
       place_served name (line.Vote user description) (place_of_client name m.clients) a now holder

@@ -27,6 +27,11 @@ open_whole hub m n stands is = by_broken hub.store.broken (subst (λ (s : List M
     by_broken false is = refl
     by_broken true is = absurd (closed_open hub.sessions n is)
 
+-- the same, as the hub itself sees its sessions
+pub seen_whole : (broken : Bool) (sessions : List MachineSession) (n : ℕ) → true ≡ is_open_in (sessions_with broken sessions) n → broken ≡ false
+seen_whole false sessions n is = refl
+seen_whole true sessions n is = absurd (closed_open sessions n (sym is))
+
 pub not_failed : (o : StepOutcome) → (o ≡ StoreFailed → ⊥) → is_store_failed o ≡ false
 not_failed StoreFailed fine = absurd (fine refl)
 not_failed _ fine = refl

@@ -69,7 +69,7 @@ no_content : (m : Machine) (oid s : ℕ) (c : Content) (e : Option ℕ) (P : Rep
 no_content m oid s (Held b) e P held none = held _ _ _ _
 no_content m oid s Absent e P held none = none _ _
 
-each_load : (m : Machine) (oid : ℕ) (r : Option ObjectRevision) (e : Option ℕ) (P : Reply → Type 0) → ((serial : ℕ) (bytes : List ℕ) (end : Option ℕ) (upto : ℕ) → P (reply.Loaded serial bytes end upto))
+pub each_load : (m : Machine) (oid : ℕ) (r : Option ObjectRevision) (e : Option ℕ) (P : Reply → Type 0) → ((serial : ℕ) (bytes : List ℕ) (end : Option ℕ) (upto : ℕ) → P (reply.Loaded serial bytes end upto))
     → ((o packed : ℕ) → P (reply.Nothing o packed)) → P (loaded m oid (found_of r e))
 each_load m oid None e P held none = none _ _
 each_load m oid (Some r) e P held none = no_content m oid r.serial r.content e P held none
@@ -169,7 +169,7 @@ load_left rules m n oid front stamp made before now StoreFailed is_open ends = a
     false_true e = absurd cc
 
 -- the clock wasn't read
-unread_clock : (b : Bool) (stamp : ℕ) (before after : Option (List Stamp)) → (IsTrue b → ⊥) → HasTicked b stamp before after → after ≡ before
+pub unread_clock : (b : Bool) (stamp : ℕ) (before after : Option (List Stamp)) → (IsTrue b → ⊥) → HasTicked b stamp before after → after ≡ before
 unread_clock true stamp before after never ticked = absurd (never refl)
 unread_clock false stamp before after never ticked = ticked
 
@@ -179,11 +179,27 @@ load_quiet rules m n oid front stamp is_open ticks = false_true (subst IsTrue (a
     false_true : false ≡ true → ⊥
     false_true e = absurd cc
 
-moment_is : (m now : Moment) → now.machine ≡ m.machine → now.clients ≡ m.clients → now.stamps ≡ m.stamps → now ≡ record { machine = m.machine; clients = m.clients; stamps = m.stamps; counts = now.counts }
+pub moment_is : (m now : Moment) → now.machine ≡ m.machine → now.clients ≡ m.clients → now.stamps ≡ m.stamps → now ≡ record { machine = m.machine; clients = m.clients; stamps = m.stamps; counts = now.counts }
 moment_is m now machine others stamps =
     ap (λ (x : Machine). let n : Moment = record { machine = x; clients = now.clients; stamps = now.stamps; counts = now.counts } in n) machine
     ∙ ap (λ (x : List clients.Client). let n : Moment = record { machine = m.machine; clients = x; stamps = now.stamps; counts = now.counts } in n) others
     ∙ ap (λ (x : Option (List Stamp)). let n : Moment = record { machine = m.machine; clients = m.clients; stamps = x; counts = now.counts } in n) stamps
+
+-- but for the counts a load in an open session leaves all as it was
+pub load_rest : (rules : Rules) (m : Moment) (n oid front : ℕ) (r : Reply) (now : Moment) → is_open_in m.machine.sessions n ≡ true → IsStepAt rules m n (request.LoadBefore oid front) r now → now ≡ record m { counts = now.counts }
+load_rest rules m n oid front r now is_open step =
+    moment_is m now (step.made.left ∙ load_left rules m.machine n oid front step.stamp (record { reply = r; machine = now.machine; ticks = step.ticks }) m.counts now.counts (outcome_of r) is_open step.made.cause) step.clients
+    (unread_clock step.ticks step.stamp m.stamps now.stamps (λ ticks. load_quiet rules m.machine n oid front step.stamp is_open (step.made.ticks ticks)) step.clock)
+
+-- and where it is answered, it is so as the machine stands
+pub load_said : (rules : Rules) (m : Moment) (n oid front : ℕ) (r : Reply) (now : Moment) → is_open_in m.machine.sessions n ≡ true → IsStepAt rules m n (request.LoadBefore oid front) r now → outcome_of r ≡ Answered → r ≡ loaded m.machine oid (found_below oid front m.machine.list)
+load_said rules m n oid front r now is_open step said = by_outcome (outcome_of r) said step.made.cause
+  where
+    by_outcome : (o : StepOutcome) → o ≡ Answered → EndsFor rules m.machine n (request.LoadBefore oid front) step.stamp (record { reply = r; machine = now.machine; ticks = step.ticks }) m.counts now.counts o → r ≡ loaded m.machine oid (found_below oid front m.machine.list)
+    by_outcome Answered is ends = ap (λ (s : Stepped). s.reply) (ends ∙ load_step rules m.machine n oid front step.stamp is_open)
+    by_outcome ReadingFailed is ends = absurd cc
+    by_outcome NoMemory is ends = absurd cc
+    by_outcome StoreFailed is ends = absurd cc
 
 -- a load in an open session is a read of a local client, in a view of which the list came
 pub load_reads : (rules : Rules) (m : Moment) (n oid : ℕ) (t : OpenTransaction) (r : Reply) (result : Result (ℕ × List ℕ) Refusal) (now : Moment) → t.framed ≡ false → Later t.view (view_of (server_of m.machine)) → is_open_in m.machine.sessions n ≡ true
@@ -195,8 +211,5 @@ load_reads rules m n oid t r result now near later is_open step answered =
       later = step.made.later;
       ends = subst (λ (far : Bool). EndsReading far m.machine t.view oid m.counts now.counts result) (sym near) so.ends;
       counts = so.counts;
-      rest = moment_is m now
-          (step.made.left ∙ load_left rules m.machine n oid t.view.front step.stamp (record { reply = r; machine = now.machine; ticks = step.ticks }) m.counts now.counts (outcome_of r) is_open step.made.cause)
-          step.clients
-          (unread_clock step.ticks step.stamp m.stamps now.stamps (λ ticks. load_quiet rules m.machine n oid t.view.front step.stamp is_open (step.made.ticks ticks)) step.clock);
+      rest = load_rest rules m n oid t.view.front r now is_open step;
     }

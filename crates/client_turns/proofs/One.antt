@@ -1,6 +1,7 @@
 -- One client over a hub, and the others beside it.
-use Rattle.std.proofs.Common.{◌≡◌, ℕ, zero, suc, Bool, true, false, List, [], ◌∷◌, Option, Some, None, Result, Ok, Err, refl, sym, ap, subst, ◌∙◌, inl, inr}
+use Rattle.std.proofs.Common.{◌≡◌, ℕ, zero, suc, Bool, true, false, List, [], ◌∷◌, length, Option, Some, None, Result, Ok, Err, refl, sym, ap, subst, ◌∙◌, inl, inr}
 use Rattle.std.specs.Prelude.{slice_get, slice_set}
+use Rattle.std.proofs.lemmas.List.{length-map}
 use Rattle.zb_ids.specs.declared.stamp.Stamp.{Stamp}
 use Rattle.zb_model.specs.declared.data.Transaction.{Transaction}
 use Rattle.zb_model.specs.declared.refusal.Refusal.{Refusal}
@@ -12,10 +13,10 @@ use Rattle.zb_script.specs.declared.line.Line.{Line}
 use Rattle.zodb_core.specs.declared.reply.Reply.{Reply}
 use Rattle.zodb_core.specs.declared.request.Request.{Request}
 use Rattle.zodb_core.specs.declared.request.Request.TheVariants as request
-use Rattle.zodb_core.specs.HubState.{HasTicked, HubState, StandsForMachine, counts_of, rules_of}
-use Rattle.zodb_core.specs.Machine.{Machine, Rules}
-use Rattle.zodb_core.specs.Outcomes.{FaultCounts, IsStepMade, outcome_of}
-use Rattle.zodb_core.specs.Sound.{IsPackWithin}
+use Rattle.zodb_core.specs.HubState.{HasTicked, HubState, StandsForMachine, counts_of, rules_of, sessions_with}
+use Rattle.zodb_core.specs.Machine.{Machine, MachineSession, Rules}
+use Rattle.zodb_core.specs.Outcomes.{FaultCounts, IsStepMade, closed_session, outcome_of}
+use Rattle.zodb_core.specs.Sound.{IsPackWithin, IsWellFormedRequest}
 use Rattle.zodb_core.specs.SoundLaws.{left_within}
 use Rattle.zodb_core.specs.Steps.{Stepped}
 use Rattle.connection_view.specs.declared.connection.Connection.{Connection}
@@ -25,19 +26,25 @@ use Rattle.connection_view.specs.Views.{View}
 use Rattle.connection_view.specs.Views as views
 use Rattle.local_loads.specs.declared.told.Told.{Told}
 use Rattle.local_loads.specs.Local.{MayBeTold, WritesLater}
-use Rattle.local_loads.specs.LocalLaws.{kept_behind, left_writes, votes_later}
+use Rattle.local_loads.specs.LocalLaws.{left_writes, votes_later}
 use Rattle.local_loads.specs.Making.{IsHubStep}
 use Rattle.client_turns.specs.declared.client.Client.{Client}
+use Rattle.client_turns.specs.declared.member.Member.{Member}
+use Rattle.client_turns.specs.declared.member.Member.TheVariants.{Near}
 use Rattle.client_turns.specs.Asking.{IsSameBut}
 use Rattle.client_turns.specs.Clients.{Moment, OpenTransaction, changes_of, with_client}
 use Rattle.client_turns.specs.Clients as seen
 use Rattle.client_turns.specs.Lines.{IsCountedBy, answer_of, answer_to, asking_excess, client_left, client_told, is_committed, is_delivery, request_of, standing_behind, step_answer}
 use Rattle.client_turns.specs.Refusing.{line_refusal}
-use Rattle.client_turns.specs.Standing.{AreClientsOf, ClientsState, IsClientOf, IsLineOpen, IsOpenAs, LeadsTo, MayTakeAt, OneLeadsTo, StandsForMoment}
+use Rattle.client_turns.specs.Members.{IsClientOf, IsOpenAs}
+use Rattle.client_turns.specs.Others.{KeepsOthers}
+use Rattle.client_turns.specs.Standing.{AreClientsOf, ClientsState, IsLineOpen, LeadsTo, MayTakeAt, MemberLeadsTo, OneLeadsTo, RiseBelow, StandsForMoment}
 use Rattle.client_turns.specs.Steps.{IsStepAt}
 use Rattle.client_turns.specs.Turns.{IsLineTaken, IsLineUnless, IsOwnLine, IsStepLine, IsStepUnless, IsTold, IsWithin, fronts_behind}
 use Rattle.client_turns.proofs.Causes.{counted_of}
-use Rattle.client_turns.proofs.Placing.{set_at}
+use Rattle.client_turns.proofs.Keeping.{others_kept, set_kept}
+use Rattle.client_turns.proofs.Others.{others_behind, others_same, others_step}
+use Rattle.client_turns.proofs.Sounding.{MovesOn, go_rises, set_length}
 
 -- ---- steps
 
@@ -82,14 +89,6 @@ within_on rules m n q r now step writes within =
 
 -- ---- the others
 
-pub clients_later : {R F : Type 0} (old new : HubState R F) → ((last : Option Told) (told known : View) → MayBeTold last old told known → MayBeTold last new told known) → (xs : List Client) (cs : List seen.Client)
-    → AreClientsOf old xs cs → AreClientsOf new xs cs
-clients_later old new others [] [] are = tt
-clients_later old new others [] (c ∷ cs) are = absurd are
-clients_later old new others (x ∷ xs) [] are = absurd are
-clients_later old new others (x ∷ xs) (c ∷ cs) are =
-    (record { name = are.0.name; session = are.0.session; local = are.0.local; told = are.0.told; may = others x.told are.0.told.told are.0.told.known are.0.may; transaction = are.0.transaction }, clients_later old new others xs cs are.1)
-
 pub set_there : (cs : List seen.Client) (at : ℕ) (c : seen.Client) → slice_get cs at ≡ Some c → cs ≡ slice_set cs at c
 set_there [] at c is = absurd cc
 set_there (d ∷ cs) zero c is = ap (λ (x : seen.Client). x ∷ cs) (same d c is)
@@ -98,21 +97,57 @@ set_there (d ∷ cs) zero c is = ap (λ (x : seen.Client). x ∷ cs) (same d c i
     same a b e = cc
 set_there (d ∷ cs) (suc at) c is = ap (λ (xs : List seen.Client). d ∷ xs) (set_there cs at c is)
 
+-- as many sessions as a hub has
+sessions_counted : (b : Bool) (sessions : List MachineSession) → length (sessions_with b sessions) ≡ length sessions
+sessions_counted false sessions = refl
+sessions_counted true sessions = length-map sessions closed_session
+
+pub sessions_of : {R F : Type 0} (hub : HubState R F) (m : Machine) → StandsForMachine hub m → length m.sessions ≡ length hub.sessions
+sessions_of hub m stands = ap length stands.sessions ∙ sessions_counted hub.store.broken hub.sessions
+
+-- the client that stands at a place has this session
+pub its_session : (m : Moment) (at n : ℕ) (c d : seen.Client) → slice_get m.clients at ≡ Some c → n ≡ c.session → slice_get m.clients at ≡ Some d → n ≡ d.session
+its_session m at n c d there number here = number ∙ ap (λ (z : seen.Client). z.session) (same c d (sym there ∙ here))
+  where
+    same : (a b : seen.Client) → Some a ≡ Some b → a ≡ b
+    same a b e = cc
+
+pub keeps_at : {R F : Type 0} (m : Moment) (at n : ℕ) (c : seen.Client) (old new : HubState R F) → slice_get m.clients at ≡ Some c → n ≡ c.session → KeepsOthers n old new → (d : seen.Client) → slice_get m.clients at ≡ Some d → KeepsOthers d.session old new
+keeps_at m at n c old new there number keeps d here = subst (λ (k : ℕ). KeepsOthers k old new) (its_session m at n c d there number here) keeps
+
 -- one client's way is that of all
-pub lift : {R F : Type 0} (Q : Moment → Type 0) (m : Moment) (at : ℕ) (old new : ClientsState R F) (y : Client) (before after : Option (List Stamp)) → StandsForMoment old before m → OneLeadsTo Q m at old.hub new.hub y after
-    → new.clients ≡ slice_set old.clients at y → LeadsTo Q new after
-lift Q m at old new y before after stands leads is = record {
+pub lift : {R F : Type 0} (Q : Moment → Type 0) (m : Moment) (at : ℕ) (c : seen.Client) (old new : ClientsState R F) (y : Member) (before after : Option (List Stamp)) → StandsForMoment old before m → slice_get m.clients at ≡ Some c
+    → MemberLeadsTo Q m at c.session old.hub new.hub y after → new.clients ≡ slice_set old.clients at y → ((now : Moment) → Q now → MovesOn m now) → LeadsTo Q new after
+lift Q m at c old new y before after stands there leads is moves =
+    let count : length leads.now.machine.sessions ≡ length m.machine.sessions = sessions_of new.hub leads.now.machine leads.stands.hub ∙ leads.others.count ∙ sym (sessions_of old.hub m.machine stands.hub) in
+    let more : MovesOn m leads.now = moves leads.now leads.holds in
+    record {
+      now = leads.now;
+      holds = leads.holds;
+      stands = record {
+        hub = leads.stands.hub;
+        vote = leads.stands.vote;
+        within = leads.stands.within;
+        clients = subst (λ (xs : List Member). AreClientsOf new.hub xs leads.now.clients) (sym is) (subst (λ (cs : List seen.Client). AreClientsOf new.hub (slice_set old.clients at y) cs) (sym leads.placed)
+            (set_kept c.session old.hub new.hub (others_kept c.session old.hub new.hub leads.others) 0 (length m.machine.sessions) old.clients m.clients at c leads.client y stands.apart stands.clients there refl leads.is));
+        apart = subst (λ (k : ℕ). RiseBelow 0 k leads.now.clients) (sym count)
+            (go_rises _ (length m.machine.sessions) m.clients leads.now.clients more.clients (ap length leads.placed ∙ set_length m.clients at leads.client) stands.apart);
+        sound = more.sound;
+        counts = leads.stands.counts;
+        stamps = leads.stands.stamps;
+      };
+    }
+
+-- that of a local one
+pub near_leads : {R F : Type 0} {Q : Moment → Type 0} {m : Moment} {at : ℕ} {old new : HubState R F} {y : Client} {left : Option (List Stamp)} (c : seen.Client) → slice_get m.clients at ≡ Some c → OneLeadsTo Q m at old new y left → MemberLeadsTo Q m at c.session old new (Near y) left
+near_leads c there leads = record {
   now = leads.now;
   holds = leads.holds;
-  stands = record {
-    hub = leads.stands.hub;
-    vote = leads.stands.vote;
-    within = leads.stands.within;
-    clients = subst (λ (xs : List Client). AreClientsOf new.hub xs leads.now.clients) (sym is) (subst (λ (cs : List seen.Client). AreClientsOf new.hub (slice_set old.clients at y) cs) (sym leads.placed)
-        (set_at new.hub old.clients m.clients at y leads.client (clients_later old.hub new.hub leads.others old.clients m.clients stands.clients) leads.stands.client));
-    counts = leads.stands.counts;
-    stamps = leads.stands.stamps;
-  };
+  stands = record { hub = leads.stands.hub; vote = leads.stands.vote; within = leads.stands.within; counts = leads.stands.counts; stamps = leads.stands.stamps };
+  client = leads.client;
+  placed = leads.placed;
+  is = leads.stands.client;
+  others = leads.others c there;
 }
 
 -- ---- one client
@@ -162,7 +197,7 @@ stays {R} {F} Q m at old new x y c before after takes same ticks client holds =
       client = c;
       placed = set_there m.clients at c takes.there;
       stands = record { hub = takes.stands.hub; vote = takes.stands.vote; within = takes.stands.within; counts = takes.stands.counts; stamps = takes.stands.stamps; client = client };
-      others = λ last told known may. may;
+      others = λ d there. others_same d.session old;
     }))
 
 -- nothing was done, but the client's transaction has become another
@@ -175,7 +210,7 @@ changes_to {R} {F} Q m at old new x y c d before after takes same ticks client h
       client = d;
       placed = refl;
       stands = record { hub = takes.stands.hub; vote = takes.stands.vote; within = takes.stands.within; counts = takes.stands.counts; stamps = takes.stands.stamps; client = client };
-      others = λ last told known may. may;
+      others = λ d there. others_same d.session old;
     }))
 
 -- what holds less is led to as well
@@ -184,7 +219,7 @@ weaken_one leads less = record { now = leads.now; holds = less leads.now leads.h
 
 -- ---- of a local client
 
-near_asks : (s : seen.Standing) (q : Request) → s ≡ seen.Local → asking_excess s q ≡ None
+pub near_asks : (s : seen.Standing) (q : Request) → s ≡ seen.Local → asking_excess s q ≡ None
 near_asks seen.Local q near = refl
 near_asks (seen.Linked known) q near = absurd cc
 
@@ -227,6 +262,12 @@ module _ (rules : Rules) (m : Moment) (at : ℕ) (c : seen.Client) (l : Line) (a
       inl (subst (λ (o : Option Refusal). IsLineUnless rules m at c l o a now) (sym free) (subst (λ (o : Option Request). IsLineTaken rules m at c l o a now) (sym asks)
       (subst (λ (e : Option ℕ). IsStepUnless rules m at c (is_delivery l) q e a now) (sym (near_asks c.standing q near)) line)))
 
+  -- which asks nothing that is too long
+  pub short_open : (q : Request) → asking_excess c.standing q ≡ None → line_refusal (changes_of c) l ≡ None → request_of c.standing (changes_of c) l ≡ Some q → IsStepLine rules m at c (is_delivery l) q a now → IsLineOpen rules m at c l a now
+  short_open q short free asks line =
+      inl (subst (λ (o : Option Refusal). IsLineUnless rules m at c l o a now) (sym free) (subst (λ (o : Option Request). IsLineTaken rules m at c l o a now) (sym asks)
+      (subst (λ (e : Option ℕ). IsStepUnless rules m at c (is_delivery l) q e a now) (sym short) line)))
+
   pub own_open : (t : OpenTransaction) → c.transaction ≡ Some t → line_refusal (changes_of c) l ≡ None → request_of c.standing (changes_of c) l ≡ None → IsWithin m at c t l a now → IsLineOpen rules m at c l a now
   own_open t begun free asks within =
       inl (subst (λ (o : Option Refusal). IsLineUnless rules m at c l o a now) (sym free) (subst (λ (o : Option Request). IsLineTaken rules m at c l o a now) (sym asks)
@@ -243,13 +284,13 @@ pub record BehindIt {R F : Type 0} (rules : Rules) (b : Bool) (m : Moment) (n : 
   pub counts : now.counts ≡ counts_of new.store
   pub stamps : now.stamps ≡ after
   pub clients : now.clients ≡ m.clients
-  pub others : (last : Option Told) (told known : View) → MayBeTold last old told known → MayBeTold last new told known
+  pub others : KeepsOthers n old new
 
 pub none_behind : {R F : Type 0} (rules : Rules) (m : Moment) (n : ℕ) (old : HubState R F) (after : Option (List Stamp)) → StandsForMachine old m.machine → WritesLater m.machine.list m.machine.vote → IsPackWithin m.machine.list m.machine.pack
     → m.counts ≡ counts_of old.store → m.stamps ≡ after
     → BehindIt rules false m n old old after
 none_behind rules m n old after hub vote within counts stamps =
-    record { now = m; told = refl; hub = hub; vote = vote; within = within; counts = counts; stamps = stamps; clients = refl; others = λ last told known may. may }
+    record { now = m; told = refl; hub = hub; vote = vote; within = within; counts = counts; stamps = stamps; clients = refl; others = others_same n old }
 
 module _ {R F : Type 0} (told lasts : Type 0) (stands : List ℕ → List Transaction → Type 0) (rules_in : R → MergeRules) (named_in : F → List ℕ → Option (List ℕ)) (tells : told) where
   pub front_behind : (rules : Rules) (m : Moment) (n : ℕ) (r : Reply) (old new : HubState R F) (before after : Option (List Stamp)) → IsHubStep told lasts stands rules_in named_in n request.Front r old new before after → rules ≡ rules_of rules_in named_in old
@@ -265,18 +306,18 @@ module _ {R F : Type 0} (told lasts : Type 0) (stands : List ℕ → List Transa
         counts = s.counts;
         stamps = s.stamps;
         clients = s.holds.clients;
-        others = λ last v known may. kept_behind told lasts stands rules_in named_in n request.Front r old new before after tells step last v known may;
+        others = others_step told lasts stands rules_in named_in tells n request.Front r old new before after step tt;
       }
 
   -- the line, by its step, what is behind it, and what is left of the client
   pub step_one : (Q : Moment → Type 0) (m : Moment) (at : ℕ) (x y : Client) (c d : seen.Client) (q : Request) (r : Reply) (a : Answer) (old mid new : HubState R F) (before between after : Option (List Stamp))
-      → MayTakeAt old before m at x c → IsHubStep told lasts stands rules_in named_in x.session q r old mid before between
+      → IsWellFormedRequest q → MayTakeAt old before m at x c → IsHubStep told lasts stands rules_in named_in x.session q r old mid before between
       → (s : StepsTo (rules_of rules_in named_in old) m x.session q r mid between)
       → (b : BehindIt (rules_of rules_in named_in old) (is_committed r) s.now x.session mid new after)
       → a ≡ answer_of r → d ≡ client_left false b.now.machine c r → IsClientOf new y d
       → (IsStepLine (rules_of rules_in named_in old) m at c false q a (with_client b.now at d) → Q (with_client b.now at d))
       → OneLeadsTo Q m at old new y after
-  step_one Q m at x y c d q r a old mid new before between after takes step s b answers left client holds =
+  step_one Q m at x y c d q r a old mid new before between after formed takes step s b answers left client holds =
       let number : x.session ≡ c.session = sym takes.stands.client.session in
       let near : c.standing ≡ seen.Local = takes.stands.client.local in
       record {
@@ -294,16 +335,16 @@ module _ {R F : Type 0} (told lasts : Type 0) (stands : List ℕ → List Transa
         client = d;
         placed = ap (λ (cs : List seen.Client). slice_set cs at d) (b.clients ∙ s.holds.clients);
         stands = record { hub = b.hub; vote = b.vote; within = b.within; counts = b.counts; stamps = b.stamps; client = client };
-        others = λ last v known may. b.others last v known (kept_behind told lasts stands rules_in named_in x.session q r old mid before between tells step last v known may);
+        others = keeps_at m at x.session c old new takes.there number (others_behind x.session old mid new (others_step told lasts stands rules_in named_in tells x.session q r old mid before between step formed) b.others);
       }
 
   -- the line, by its step alone
   pub step_alone : (Q : Moment → Type 0) (m : Moment) (at : ℕ) (x y : Client) (c : seen.Client) (d : Bool) (q : Request) (r : Reply) (a : Answer) (old new : HubState R F) (before after : Option (List Stamp))
-      → MayTakeAt old before m at x c → IsHubStep told lasts stands rules_in named_in x.session q r old new before after → (s : StepsTo (rules_of rules_in named_in old) m x.session q r new after)
+      → IsWellFormedRequest q → MayTakeAt old before m at x c → IsHubStep told lasts stands rules_in named_in x.session q r old new before after → (s : StepsTo (rules_of rules_in named_in old) m x.session q r new after)
       → is_committed r ≡ false → a ≡ answer_to d r → IsClientOf new y (client_left d s.now.machine c r)
       → (IsStepLine (rules_of rules_in named_in old) m at c d q a (with_client s.now at (client_left d s.now.machine c r)) → Q (with_client s.now at (client_left d s.now.machine c r)))
       → OneLeadsTo Q m at old new y after
-  step_alone Q m at x y c d q r a old new before after takes step s uncommitted answers client holds =
+  step_alone Q m at x y c d q r a old new before after formed takes step s uncommitted answers client holds =
       let number : x.session ≡ c.session = sym takes.stands.client.session in
       let near : c.standing ≡ seen.Local = takes.stands.client.local in
       record {
@@ -320,5 +361,5 @@ module _ {R F : Type 0} (told lasts : Type 0) (stands : List ℕ → List Transa
         client = client_left d s.now.machine c r;
         placed = ap (λ (cs : List seen.Client). slice_set cs at (client_left d s.now.machine c r)) s.holds.clients;
         stands = record { hub = s.hub; vote = writes_on _ m x.session q r s.now s.holds takes.stands.vote; within = within_on _ m x.session q r s.now s.holds takes.stands.vote takes.stands.within; counts = s.counts; stamps = s.stamps; client = client };
-        others = λ last v known may. kept_behind told lasts stands rules_in named_in x.session q r old new before after tells step last v known may;
+        others = keeps_at m at x.session c old new takes.there number (others_step told lasts stands rules_in named_in tells x.session q r old new before after step formed);
       }

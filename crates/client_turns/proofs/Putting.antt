@@ -35,7 +35,8 @@ use Rattle.client_turns.specs.Turns.{IsPut}
 use Rattle.client_turns.proofs.Asked.{IsOpened, MayStand, ReadsTo, end_of_client, opened_of, read_to}
 use Rattle.client_turns.proofs.Changing.{TakesUnvoted, closed_change, next_to, put_agrees, put_done, stored_agrees, stored_done, unvoted_free, voted_change}
 use Rattle.client_turns.proofs.Hubs.{counts_same}
-use Rattle.client_turns.proofs.One.{client_kept, own_open, starved_open}
+use Rattle.client_turns.proofs.Others.{others_behind}
+use Rattle.client_turns.proofs.One.{keeps_at, client_kept, own_open, starved_open}
 
 put_takes : (oid : ℕ) (bytes : List ℕ) → TakesUnvoted (line.Put oid bytes)
 put_takes oid bytes = record { closed = refl; voted = λ t. refl; asks = λ s t. refl }
@@ -87,8 +88,9 @@ module _ {R F S : Type 0} (told lasts : Type 0) (stands : List ℕ → List Tran
           within = rd.within;
           counts = rd.counts;
           stamps = rd.stamps;
-          client = client_kept h g x x c mine (record { name = refl; session = refl; told = refl }) (rd.others x.told mine.told.told mine.told.known mine.may) refl (λ u z. z) (λ z. z);
+          client = client_kept h g x x c mine (record { name = refl; session = refl; told = refl }) (rd.others.near x.told mine.told.told mine.told.known mine.may) refl (λ u z. z) (λ z. z);
         };
+        formed = takes.formed;
         there = ap (λ (n : Moment). slice_get n.clients at) rd.read.rest ∙ takes.there;
         may = ap (λ (n : Moment). is_open_in n.machine.sessions c.session) rd.read.rest ∙ takes.may;
       } in
@@ -108,7 +110,7 @@ module _ {R F S : Type 0} (told lasts : Type 0) (stands : List ℕ → List Tran
         client = leads.client;
         placed = leads.placed ∙ ap (λ (n : Moment). slice_set n.clients at leads.client) rd.read.rest;
         stands = leads.stands;
-        others = λ last z known is. leads.others last z known (rd.others last z known is);
+        others = λ d here. others_behind d.session h g g (keeps_at m at x.session c h g takes.there (sym mine.session) rd.others d here) (leads.others d (ap (λ (n : Moment). slice_get n.clients at) rd.read.rest ∙ here));
       }
 
   pub put_leads : (oid : ℕ) (bytes : List ℕ) (result : Result (Unit {0}) Refusal)

@@ -1,5 +1,5 @@
 -- What a client's connection is asked, and what comes of it. Own.
-use Rattle.std.specs.Prelude.{◌≡◌, ◌≢◌, ◌⊎◌, ℕ, List, Option, Some, None, Result, Ok, Err, Bool, true, false}
+use Rattle.std.specs.Prelude.{◌≡◌, ◌≢◌, ◌⊎◌, ◌||◌, ℕ, List, [], Option, Some, None, Result, Ok, Err, Bool, true, false}
 use Rattle.zb_ids.specs.declared.stamp.Stamp.{Stamp}
 use Rattle.zb_model.specs.declared.pending.PendingStore.{PendingStore}
 use Rattle.zb_model.specs.declared.refusal.Refusal.{Refusal}
@@ -16,10 +16,15 @@ use Rattle.zodb_core.specs.HubState.{HubState}
 use Rattle.zodb_core.specs.Machine.{Rules}
 use Rattle.zodb_core.specs.Outcomes.{Answered, NoMemory, StepOutcome}
 use Rattle.client_turns.specs.declared.client.Client.{Client}
+use Rattle.client_turns.specs.declared.member.FarClient.{FarClient}
+use Rattle.client_turns.specs.declared.member.Member.{Member}
+use Rattle.client_turns.specs.declared.member.Member.TheVariants.{Near, Far}
 use Rattle.client_turns.specs.Clients.{Moment, OpenTransaction}
 use Rattle.client_turns.specs.Clients as clients
-use Rattle.client_turns.specs.Standing.{IsLineOpen, IsOpenAs, MayTakeAt, OneLeadsTo}
+use Rattle.client_turns.specs.Members.{IsOpenAs}
+use Rattle.client_turns.specs.Standing.{IsLineOpen, MayTakeAt, OneLeadsTo}
 use Rattle.client_turns.specs.Trees.{all_stored}
+use Rattle.connection_view.specs.declared.connection.Connection.{Connection}
 use Rattle.connection_view.specs.Connections.{Between, work_of}
 use Rattle.connection_view.specs.Views as views
 
@@ -40,6 +45,21 @@ is_of_connection line.Finish = true
 is_of_connection line.Abort = true
 is_of_connection line.Deliver = true
 is_of_connection _ = false
+
+-- a line that asks nothing of the connection, and whose answer comes in a message over a link
+abbrev pub is_question_line : Line → Bool
+is_question_line line.New = true
+is_question_line (line.History oid) = true
+is_question_line line.UndoLog = true
+is_question_line (line.Pack tid collect) = true
+is_question_line (line.PackBegin tid collect) = true
+is_question_line line.PackTurn = true
+is_question_line _ = false
+
+-- a line that is asked by the client itself: of its connection, or, where it has a link, over that
+abbrev pub asks_by : Bool → Line → Bool
+asks_by false l = is_of_connection l
+asks_by true l = is_of_connection l || is_question_line l
 
 -- the request of a line that asks nothing of the connection
 abbrev pub plain_request : Line → Option Request
@@ -112,7 +132,17 @@ IsLeftBy x y reply.Closed =
     IsSameBut x y × ((work_of x.connection ≢ Err refusal.NotOpen) → work_of y.connection ≡ Err refusal.NoTransaction) × ((told : views.Client) → ((oid : ℕ) → told.voted oid ≡ false) → Between y.connection told)
 IsLeftBy x y _ = y ≡ x
 
+-- and so of either kind: one with a link keeps nothing that is known
+abbrev pub IsMemberLeft : Member → Member → Reply → Type 0
+IsMemberLeft (Near x) (Near y) r = IsLeftBy x y r
+IsMemberLeft (Far x) (Far y) r = (y.client.name ≡ x.client.name) × (y.client.session ≡ x.client.session) × (y.is_lost ≡ x.is_lost)
+IsMemberLeft _ _ r = ⊥
+
 -- ---- puts
+
+-- whatever client has this connection
+abbrev pub client_over : Connection → Client
+client_over k = record { name = []; session = 0; told = None; connection = k }
 
 -- an answer that moves no count
 abbrev pub IsCalm : StepOutcome → Type 0
@@ -126,3 +156,14 @@ pub record IsPutAs (x y : Client) (a : Answer) (puts : List PendingStore) (resul
 
 abbrev pub IsPutAll : Client → Client → Answer → List PendingStore → Answer → Type 0
 IsPutAll x y a puts result = (told : views.Client) (t : OpenTransaction) → IsOpenAs x.connection told (work_of x.connection) (Some t) → IsPutAs x y a puts result told t
+
+-- and so of a client that has a link, by its connection, which doesn't see how what it reads comes
+abbrev pub IsFarPut : Bool → FarClient → FarClient → Answer → List PendingStore → Answer → Type 0
+IsFarPut false x y a puts result = (y ≡ record { client = record x.client { connection = y.client.connection }; is_lost = false }) × IsPutAll (client_over x.client.connection) (client_over y.client.connection) a puts result
+IsFarPut true x y a puts result = (y ≡ x) × (result ≡ answer.Refused refusal.Memory)
+
+-- or either
+abbrev pub IsMemberPut : Member → Member → Answer → List PendingStore → Answer → Type 0
+IsMemberPut (Near x) (Near y) a puts result = IsPutAll x y a puts result
+IsMemberPut (Far x) (Far y) a puts result = IsFarPut x.is_lost x y a puts result
+IsMemberPut _ _ a puts result = ⊥

@@ -1,5 +1,5 @@
 -- What turns leave of the counts of faults. For the proofs of those who follow turns.
-use Rattle.std.proofs.Common.{Bool, Err, List, None, Ok, Option, Result, Some, [], ap, false, if◌then◌else◌, length, nat_lt, not, refl, subst, suc, sym, true, zero, ℕ, ◌++◌, ◌||◌, ◌∙◌, ◌∷◌, ◌≡◌}
+use Rattle.std.proofs.Common.{Bool, Err, List, None, Ok, Option, Result, Some, [], ap, false, length, nat_lt, not, refl, subst, suc, sym, true, zero, ℕ, ◌||◌, ◌∙◌, ◌∷◌, ◌≡◌}
 use Rattle.std.specs.Prelude.{IfOk, IsErrOf, slice_get}
 use Rattle.zb_model.specs.declared.data.Content.TheVariants.{Held, Absent}
 use Rattle.zb_model.specs.declared.data.Content.{Content}
@@ -17,7 +17,7 @@ use Rattle.zodb_core.specs.declared.reply.Reply.TheVariants as reply
 use Rattle.zodb_core.specs.declared.request.Request.{Request}
 use Rattle.zodb_core.specs.declared.request.Request.TheVariants as request
 use Rattle.zodb_core.specs.DecisionLaws.{AnswersIfSome, answers_or}
-use Rattle.zodb_core.specs.Machine.{Machine, Rules, is_open_in, with_session}
+use Rattle.zodb_core.specs.Machine.{Machine, Rules, is_open_in, session_limit, with_session}
 use Rattle.zodb_core.specs.Outcomes.{Answered, EndsFor, FaultCounts, NoMemory, ReadingFailed, StepOutcome, StoreFailed, outcome_of, outcome_of_refusal}
 use Rattle.zodb_core.specs.Steps.{Stepped, refuse_if}
 use Rattle.connection_view.specs.Connections.{waiting_as, waiting_read}
@@ -28,9 +28,9 @@ use Rattle.client_turns.specs.Lines.{Changed, IsCountedBy, answer_of, answer_to,
 use Rattle.client_turns.specs.Output.{FlaggedTurn, Out, TurnAnswer, has_read_fault, is_read_fault}
 use Rattle.client_turns.specs.Refusing.{connection_refusal, line_refusal, mixed, pending_count, refusal_within, transaction_refusal}
 use Rattle.client_turns.specs.Steps.{IsChange, IsStepAt}
-use Rattle.client_turns.specs.Turns.{IsAnswered, IsBroken, IsClosed, IsClosing, IsGet, IsLine, IsLineOf, IsLineTaken, IsLineUnless, IsOpening, IsOutside, IsOwnLine, IsPut, IsStepLine, IsStepUnless, IsTold, IsWithin, Opening, by_closing, by_line, by_memory, fronts_behind}
+use Rattle.client_turns.specs.Turns.{IsAnswered, IsBroken, IsClosed, IsClosing, IsGet, IsLine, IsLineOf, IsLineTaken, IsCutLine, IsCutOff, IsLineUnless, IsOutside, IsOwnLine, IsPut, IsStepLine, IsStepUnless, IsTold, IsWithin, by_closing, by_line, by_link, by_memory, by_opening, by_step, fronts_behind, opened, opened_if}
 use Rattle.client_turns.specs.DrawLaws.{tree_counts}
-use Rattle.client_turns.specs.TurnLaws.{step_cases, by_name, excess_answered, reply_fine, starved_so}
+use Rattle.client_turns.specs.TurnLaws.{IsOpeningAnswer, Opens, as_opened, as_refused, by_name, step_cases, excess_answered, reply_fine, starved_so}
 
 -- ---- steps beside a line
 
@@ -92,7 +92,7 @@ within_answers None l = (refl, refl, refl, refl)
 within_answers (Some t) l = transaction_answers t l
 
 line_answers : (t : Option Changes) (l : Line) → AnswersIfSome (line_refusal t l)
-line_answers t line.Open = tt
+line_answers t (line.Open remote) = tt
 line_answers None line.Begin = tt
 line_answers (Some t) line.Begin = (refl, refl, refl, refl)
 line_answers t line.New = tt
@@ -222,16 +222,33 @@ line_of_by : (rules : Rules) (m now : Moment) (at : Option ℕ) (l : Line) (a : 
 line_of_by rules m now None l a is = refused_by m refusal.NotOpen a now refl is
 line_of_by rules m now (Some at) l a is = unless_by rules m now at is.0 l (connection_refusal m.machine is.0 l) a (connection_answers m.machine is.0 l) is.2
 
-opened_by : (m : Moment) (name : List ℕ) (b : Bool) → (o : Opening) → o ≡ (if b then (let x : Opening = record { answer = answer.Opened (length m.machine.sessions); moment = record { machine = with_session m.machine; clients = m.clients ++ record { name = name; session = length m.machine.sessions; transaction = None; standing = Local } ∷ []; stamps = m.stamps; counts = m.counts } } in x)
-    else (let x : Opening = record { answer = answer.Refused (refusal.TooManySessions (length m.machine.sessions)); moment = m } in x)) → CountsBy m o.answer o.moment
-opened_by m name true o is = calm_by m o.answer (answer.Opened (length m.machine.sessions)) o.moment (ap (λ (x : Opening). x.answer) is) refl (ap (λ (x : Opening). x.moment.counts) is)
-opened_by m name false o is = calm_by m o.answer (answer.Refused (refusal.TooManySessions (length m.machine.sessions))) o.moment (ap (λ (x : Opening). x.answer) is) refl (ap (λ (x : Opening). x.moment.counts) is)
+-- an opening moves none
+opened_calm : (m : Moment) (name : List ℕ) (s : Standing) (b : Bool) → (opened_if b m name s).moment.counts ≡ m.counts
+opened_calm m name s true = refl
+opened_calm m name s false = refl
 
-opening_by : (m now : Moment) (name : List ℕ) (a : Answer) → IsOpening m name a now → CountsBy m a now
-opening_by m now name a is = opened_by m name (nat_lt (length m.machine.sessions) 64) (record { answer = a; moment = now }) is
+opened_answers : (m : Moment) (name : List ℕ) (s : Standing) (b : Bool) → outcome_of_answer (opened_if b m name s).answer ≡ Answered
+opened_answers m name s true = refl
+opened_answers m name s false = refl
+
+opening_by : (rules : Rules) (m now : Moment) (name : List ℕ) (a : Answer) → Opens rules m name a now → CountsBy m a now
+opening_by rules m now name a is = by_answer is.answer
+  where
+    n : ℕ
+    n = length m.machine.sessions
+
+    calm : (opened m name is.standing).moment.counts ≡ m.counts
+    calm = opened_calm m name is.standing (nat_lt n session_limit)
+
+    by_answer : IsOpeningAnswer rules (opened m name is.standing) n a now → CountsBy m a now
+    by_answer (as_opened same) =
+        calm_by m a (opened m name is.standing).answer now same (opened_answers m name is.standing (nat_lt n session_limit)) (told_calm rules (opened m name is.standing).moment now n is.count is.fronts ∙ calm)
+    by_answer (as_refused why same refused) =
+        subst (λ (x : Answer). CountsBy m x now) (sym same)
+        (subst (λ (k : FaultCounts). IsCountedBy k now.counts (outcome_of_refusal why)) (told_calm rules (opened m name is.standing).moment refused.behind n 1 refused.first ∙ calm) refused.step.counts)
 
 pub line_by : (rules : Rules) (m now : Moment) (name : List ℕ) (l : Line) (a : Answer) → IsLine rules m name l a now → CountsBy m a now
-line_by rules m now name l a is = by_name rules m now name l a (CountsBy m a now) (opening_by m now name a) (line_of_by rules m now (place_of_client name m.clients) l a) is
+line_by rules m now name l a is = by_name rules m now name l a (CountsBy m a now) (opening_by rules m now name a) (line_of_by rules m now (place_of_client name m.clients) l a) is
 
 -- ---- a turn
 
@@ -257,10 +274,20 @@ starved_by : (m : Moment) (a : Answer) (now : Moment) → end_of a ≡ Some erro
 starved_by m (answer.Refused why) now ends counts = subst (λ (o : StepOutcome). IsCountedBy m.counts now.counts o) (starved_outcome why ends) counts
 starved_by m _ now ends counts = absurd cc
 
+-- what is lost over a link moved no count
+cut_off_calm : (rules : Rules) (m now : Moment) (c : Client) (q : Request) → IsCutOff rules m c q now → now.counts ≡ m.counts
+cut_off_calm rules m now c q is =
+    told_calm rules is.behind now c.session is.count is.fronts ∙ subst (IsCountedBy m.counts is.behind.counts) is.answered is.step.counts
+
+cut_calm : (rules : Rules) (m now : Moment) (name : List ℕ) (l : Line) → IsCutLine rules m name l now → now.counts ≡ m.counts
+cut_calm rules m now name l (by_step at c place there is) = cut_off_calm rules m now c is.request is.cut
+cut_calm rules m now name l (by_opening opens is) = told_calm rules (record m { machine = with_session m.machine }) now (length m.machine.sessions) is.count is.fronts
+
 broken_so : (rules : Rules) (m now : Moment) (t : Turn) (last : Bool) (why : TurnError) → why ≡ error.Memory → IsBroken rules m t last why now → now.counts ≡ m.counts
 broken_so rules m now t last why is (by_line a l ends) = starved_by m a now (ends ∙ ap Some is) (line_by rules m now t.client t.line a l)
 broken_so rules m now t last why is (by_closing a behind at r closes l whole place closing ends) = absurd (close_fed rules behind closing.0.session r now closing.2 (ends ∙ ap Some is))
 broken_so rules m now t last why is (by_memory memory same) = ap (λ (x : Moment). x.counts) same
+broken_so rules m now t last why is (by_link memory cut) = cut_calm rules m now t.client t.line cut
 
 -- a turn that broke off for want of memory moved none
 pub broken_calm : (rules : Rules) (m now : Moment) (t : Turn) (last : Bool) → IsBroken rules m t last error.Memory now → now.counts ≡ m.counts

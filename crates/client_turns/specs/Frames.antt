@@ -1,5 +1,6 @@
 -- What fits a frame of the link between a client and its session. From: ZEO; that what doesn't fit is refused is own.
 use Rattle.std.specs.Prelude.{◌≡◌, ℕ, List, Option, Some, None, nat_le, if◌then◌else◌}
+use Rattle.zb_model.specs.declared.refusal.Refusal.TheVariants as refusal
 use Rattle.zb_model.specs.Queries.{found_below}
 use Rattle.zodb_core.specs.declared.reply.Reply.{Reply}
 use Rattle.zodb_core.specs.declared.reply.Reply.TheVariants as reply
@@ -22,11 +23,12 @@ abbrev pub call_excess : Request → Option ℕ
 call_excess (request.Undo user description tids) = past_frame (length_of (Asked 0 (calls.Undoa user description tids)))
 call_excess _ = None
 
--- and so the answer to a step: a revision, or one of the lists
+-- and so the answer to a step: a revision, one of the lists, or a conflict, which may name a key
 abbrev pub reply_excess : Reply → Option ℕ
 reply_excess (reply.Loaded serial bytes end upto) = past_frame (length_of (Answered 0 (answers.Loaded bytes serial end upto)))
 reply_excess (reply.History list) = past_frame (length_of (Answered 0 (answers.Revisions list)))
 reply_excess (reply.UndoLog list) = past_frame (length_of (Answered 0 (answers.LogLines list)))
+reply_excess (reply.Refused (refusal.Conflict oid base current why)) = past_frame (length_of (Answered 0 (answers.Refused (refusal.Conflict oid base current why))))
 reply_excess _ = None
 
 -- what was read has fitted a frame: the shortest that it may have come in, without the serial of a revision behind it

@@ -1,6 +1,6 @@
 -- Laws of turns: what holds of all that scripts are answered, over whatever rules, stamps and faults. Own.
 use Rattle.std.specs.Prelude.{◌≡◌, ◌⊎◌, ℕ, ◌<◌, ◌≤◌, List, ◌∷◌, Option, Some, None, Ok, Err, length, All, IfSome, slice_get, Bool, true, false}
-use Rattle.std.specs.List.{AllByRecursion, AllPairs, filter_map}
+use Rattle.std.specs.List.{AllByRecursion, AllPairs}
 use Rattle.zb_base.specs.Counts.{Rose}
 use Rattle.zb_ids.specs.declared.stamp.Stamp.{Stamp}
 use Rattle.zb_model.specs.declared.data.Content.TheVariants.{Held, Absent}
@@ -23,22 +23,23 @@ use Rattle.tree_calls.specs.Calls.{IsMade, IsRefused}
 use Rattle.zodb_core.specs.declared.reply.Reply.TheVariants as reply
 use Rattle.zodb_core.specs.declared.request.Request.{Request}
 use Rattle.zodb_core.specs.declared.request.Request.TheVariants as request
-use Rattle.zodb_core.specs.Machine.{Machine, Rules, session_limit, switches_of}
+use Rattle.zodb_core.specs.Machine.{Machine, Rules, front_of, session_limit, switches_of}
 use Rattle.zodb_core.specs.Outcomes.{FaultCounts}
 use Rattle.zodb_core.specs.Sound.{AreWellFormedStores, ComesTo, GrowsTo, IsSoundMachine}
 use Rattle.zodb_core.specs.Steps.{step_of}
-use Rattle.client_turns.specs.Clients.{Changes, Client, Local, Moment, OpenTransaction, changes_of, first_moment, place_of_client}
+use Rattle.client_turns.specs.Clients.{Changes, Client, Linked, Local, Moment, OpenTransaction, Standing, changes_of, first_moment, place_of_client}
+use Rattle.client_turns.specs.Fronts.{IsNotBelow, fronts_given}
 use Rattle.client_turns.specs.Lines.{answering_excess, asking_excess, request_of, waiting, with_changes}
 use Rattle.client_turns.specs.Numbers.{numbers_given}
 use Rattle.client_turns.specs.Output.{FlaggedTurn, Out, TurnAnswer}
 use Rattle.client_turns.specs.Reads.{IsMissedFor}
-use Rattle.client_turns.specs.Refusing.{connection_refusal}
-use Rattle.client_turns.specs.Trees.{Draws, NeedsMore, Sees, answer_told, operation_of, seen_waiting, stores_put}
-use Rattle.client_turns.specs.Turns.{IsTurn}
+use Rattle.client_turns.specs.Refusing.{connection_refusal, opening_in}
+use Rattle.client_turns.specs.Trees.{AllCameWhole, Draws, NeedsMore, Sees, answer_told, operation_of, seen_waiting, stores_put}
+use Rattle.client_turns.specs.Turns.{IsTold, IsTurn, opened_far}
 use Rattle.client_turns.specs.Views.{server_of}
 use Rattle.connection_view.specs.Loading.{IsMissing}
 use Rattle.connection_view.specs.Views.{View}
-use Rattle.client_turns.specs.Frames.{IsPastFrame}
+use Rattle.client_turns.specs.Frames.{HasFitted, IsPastFrame}
 
 -- ---- words
 
@@ -54,17 +55,16 @@ AreFormed ch = IsFormedPending ch.pending × AllByRecursion IsFormedPending ch.s
 abbrev pub IsFormedClient : Client → Type 0
 IsFormedClient c = IfSome (changes_of c) AreFormed
 
--- a client of the same program
-abbrev pub IsLocal : Client → Type 0
-IsLocal c = c.standing ≡ Local
+-- what is known behind a link is no newer than a list with this front
+abbrev pub KnowsUpTo : ℕ → Standing → Type 0
+KnowsUpTo front Local = Unit {0}
+KnowsUpTo front (Linked known) = known.front ≤ front
 
-abbrev pub IsSoundClient : Client → Type 0
-IsSoundClient c = IsFormedClient c × IsLocal c
-
--- the machine is sound, and so are the stores that wait; and each client is a local one, since no line opens another
+-- the machine is sound, and so are the stores that wait; and no client with a link knows what is newer than the list
 pub record IsSoundMoment (m : Moment) : Type 0 where
   pub machine : IsSoundMachine m.machine
-  pub formed : AllByRecursion IsSoundClient m.clients
+  pub formed : AllByRecursion IsFormedClient m.clients
+  pub known : AllByRecursion (λ c. KnowsUpTo (front_of m.machine.list) c.standing) m.clients
 
 -- A machine that steps led to: its list has only grown, by later transactions, or was packed; neither the number of packs nor the greatest number fell; and where
 -- there was no pack, the list has only grown.
@@ -74,16 +74,6 @@ pub record Follows (m now : Machine) : Type 0 where
   pub switches : switches_of m.journal ≤ switches_of now.journal
   pub grows : switches_of now.journal ≡ switches_of m.journal → GrowsTo m.list now.list
   pub greatest : m.greatest ≤ now.greatest
-
--- the front that an answer gives, if it gives one
-abbrev pub front_given : Answer → Option ℕ
-front_given (answer.Begun front) = Some front
-front_given (answer.Delivered front) = Some front
-front_given _ = None
-
--- the fronts that turns were given, in their order
-abbrev pub fronts_given : List TurnAnswer → List ℕ
-fronts_given out = filter_map (λ (o : TurnAnswer). front_given o.answer) out
 
 -- ---- the list
 
@@ -99,10 +89,10 @@ TheListStaysADatabase = (rules : Rules) (list : List Transaction) (stamps : Opti
 
 -- ---- fronts
 
--- no front that a turn is given is below one that was given before, to whatever client
+-- no front that a turn is given is below one that was given before, to whatever client; but a client with a link begins with what it knows, which isn't below what it was given before
 abbrev pub FrontsNeverFall : Type 0
 FrontsNeverFall = (rules : Rules) (list : List Transaction) (stamps : Option (List Stamp)) (counts : FaultCounts) (turns : List FlaggedTurn) (out : List TurnAnswer) (now : Moment)
-    → IsDatabase list → Out rules (first_moment list stamps counts) turns out now → AllPairs (λ earlier later. earlier ≤ later) (fronts_given out)
+    → IsDatabase list → (output : Out rules (first_moment list stamps counts) turns out now) → AllPairs IsNotBelow (fronts_given rules (first_moment list stamps counts) turns out now output)
 
 -- ---- new numbers
 
@@ -135,13 +125,14 @@ pub record IsHeldBelow (oid front : ℕ) (list : List Transaction) (serial : ℕ
 abbrev pub IsInViewBelow : View → ℕ → ℕ → List ℕ → Type 0
 IsInViewBelow v oid serial bytes = IsHeldBelow oid v.front v.list serial bytes
 
--- `load`: what is read is the object's revision below the front, in the view's list
+-- `load`: what is read is the object's revision below the front, in the view's list; over a link it has fitted a frame
 pub record IsReadBelow (m : Moment) (t : Turn) (serial : ℕ) (bytes : List ℕ) : Type 0 where
   pub transaction : OpenTransaction
   pub oid : ℕ
   pub line : t.line ≡ line.Load oid
   pub has : HasOpen m t.client transaction
   pub held : IsInViewBelow transaction.view oid serial bytes
+  pub whole : transaction.framed ≡ true → HasFitted (serial, bytes)
 
 -- `get`: what waits for the object, with its base, or else that revision
 abbrev pub IsGotFrom : View → ℕ → Option PendingStore → ℕ → List ℕ → Type 0
@@ -165,7 +156,8 @@ pub record IsPutBelow (m : Moment) (t : Turn) (oid : ℕ) (bytes : List ℕ) (no
   pub from : IsBaseFrom m.machine transaction.view oid (pending_of transaction.changes.pending.stores oid) base
   pub left : slice_get now.clients has.at ≡ Some (with_changes has.client transaction (waiting transaction.changes (record { oid = oid; base = base; content = Held bytes })))
 
--- a line of a tree: each object that its call sees is what waits for it, or else that revision, or nothing, where the view hasn't got it
+-- a line of a tree: each object that its call sees is what waits for it, or else that revision, or nothing, where the view hasn't got it; over a link what it read has
+-- fitted frames
 abbrev pub IsSeenFrom : Machine → View → ℕ → Option PendingStore → Option Seen → Type 0
 IsSeenFrom m v oid (Some p) x = x ≡ seen_waiting p.base p.content
 IsSeenFrom m v oid None (Some x) = IsInViewBelow v oid x.serial x.bytes
@@ -180,6 +172,7 @@ pub record IsCalledBelow (m : Moment) (t : Turn) (root : ℕ) (call : TreeCall) 
   pub told : TreeAnswer
   pub puts : List TreePut
   pub made : IsMade objects root (operation_of call) numbers told puts
+  pub whole : AllCameWhole transaction objects made.calls
   pub answer : a ≡ answer_told told
 
 -- Whatever a turn reads is below the front of its client's view, in the list that the view was taken of.
@@ -203,7 +196,7 @@ pub record IsNamed (m : Moment) (name : List ℕ) (c : Client) : Type 0 where
 abbrev pub WouldPut : Moment → OpenTransaction → ℕ → TreeCall → List PendingStore → Type 0
 WouldPut m o root call puts = (objects : ℕ → Option Seen) × (numbers : List ℕ) × (x : TreeAnswer) × (made : List TreePut) × (puts ≡ stores_put made) × Sees m.machine o objects × IsMade objects root (operation_of call) numbers x made
 
--- Why a turn was refused so: the client never opened a session; too many are open; its connection refuses the line; the machine refuses the line's step; the
+-- Why a turn was refused so: the client never opened a session; too many are open; its connection refuses the line; the machine refuses the line's step, or a Front step behind the opening of a client with a link; the
 -- view hasn't got the object, or the transaction is to delete it; what would wait is too long, or what is asked for, answered or read doesn't fit a frame; a tree refuses the call, over what the transaction has; the machine
 -- refuses a number that the call needs, over what the transaction has, once fewer were drawn; a call would put something once the transaction is voted; there is no
 -- such savepoint; or reading failed, and the count of failed reads rose.
@@ -220,6 +213,8 @@ pub data IsRefusedFor (rules : Rules) (m : Moment) (t : Turn) (why : Refusal) (n
   by_asking : (c : Client) (q : Request) (n : ℕ) → IsNamed m t.client c → request_of c.standing (changes_of c) t.line ≡ Some q → asking_excess c.standing q ≡ Some n → why ≡ refusal.TooLong n → IsRefusedFor rules m t why now
   by_answer : (c : Client) (q : Request) (stamp n : ℕ) → IsNamed m t.client c → request_of c.standing (changes_of c) t.line ≡ Some q → answering_excess c.standing (step_of rules m.machine c.session q stamp).reply ≡ Some n → why ≡ refusal.TooLong n
       → IsRefusedFor rules m t why now
+  by_front : (behind : Moment) (stamp : ℕ) → opening_in t.line ≡ Some true → IsTold rules 1 (opened_far m t.client).moment (length m.machine.sessions) behind
+      → (step_of rules behind.machine (length m.machine.sessions) request.Front stamp).reply ≡ reply.Refused why → IsRefusedFor rules m t why now
   by_frame : (o : OpenTransaction) (oid n : ℕ) → HasOpen m t.client o → o.framed ≡ true → IsPastFrame m.machine oid o.view.front n → why ≡ refusal.TooLong n → IsRefusedFor rules m t why now
   by_call : (o : OpenTransaction) (objects : ℕ → Option Seen) (root : ℕ) (call : TreeCall) → HasOpen m t.client o → t.line ≡ line.Tree root call → Sees m.machine o objects
       → IsRefused objects root (operation_of call) why → IsRefusedFor rules m t why now

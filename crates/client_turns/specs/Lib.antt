@@ -1,5 +1,6 @@
 pub mod Views
 pub mod Frames
+pub mod Fronts
 pub mod Reads
 pub mod Clients
 pub mod Refusing
@@ -10,6 +11,8 @@ pub mod Trees
 pub mod Turns
 pub mod Output
 pub mod Numbers
+pub mod Others
+pub mod Members
 pub mod Standing
 pub mod Asking
 pub mod Gathering
@@ -18,3 +21,8 @@ pub mod ListLaws
 pub mod TurnLaws
 pub mod CountLaws
 pub mod Waiting
+pub mod Settling
+pub mod OverCarrier
+pub mod Linked
+pub mod Joining
+pub mod OverQuestions

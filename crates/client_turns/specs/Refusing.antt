@@ -1,5 +1,5 @@
 -- What a connection refuses by itself, in its order. Source: `Connection` and `Transaction` of ZODB.
-use Rattle.std.specs.Prelude.{ℕ, ◌+◌, ◌<◌, ◌≤◌, Option, Some, None, Bool, true, false, not, nat_lt, length, is_some}
+use Rattle.std.specs.Prelude.{ℕ, ◌+◌, ◌<◌, ◌≤◌, Option, Some, None, Bool, not, nat_lt, length, is_some}
 use Rattle.std.specs.Option.{option_or}
 use Rattle.zb_model.specs.declared.refusal.Refusal.{Refusal}
 use Rattle.zb_model.specs.declared.refusal.Refusal.TheVariants as refusal
@@ -37,7 +37,7 @@ refusal_within (Some t) l = transaction_refusal t l
 
 -- what an open connection refuses, with these changes in its transaction, where one is open
 abbrev pub line_refusal : Option Changes → Line → Option Refusal
-line_refusal t line.Open = None
+line_refusal t (line.Open remote) = None
 line_refusal t line.Begin = refuse_if (is_some t) refusal.InTransaction
 line_refusal t line.New = None
 line_refusal t line.Deliver = None
@@ -61,7 +61,7 @@ IsFittingLine (line.Vote user description) = (length user ≤ 65535) × (length 
 IsFittingLine (line.Undo user description tids) = (length user ≤ 65535) × (length description ≤ 65535)
 IsFittingLine _ = Unit {0}
 
--- the line that opens a session
-abbrev pub opens_session : Line → Bool
-opens_session line.Open = true
-opens_session _ = false
+-- the line that opens a session, with whether its client has a link to it
+abbrev pub opening_in : Line → Option Bool
+opening_in (line.Open remote) = Some remote
+opening_in _ = None

@@ -1,5 +1,5 @@
 -- What contracts see of clients over a hub, and the moments that they stand for. Own.
-use Rattle.std.specs.Prelude.{◌≡◌, ◌⊎◌, ℕ, List, [], ◌∷◌, Option, Some, None, Result, Ok, Err, Bool, true, false, IsSome, bytes_eq, slice_get, slice_set}
+use Rattle.std.specs.Prelude.{◌≡◌, ◌⊎◌, ℕ, ◌+◌, ◌<◌, ◌≤◌, length, List, [], ◌∷◌, Option, Some, None, Result, Ok, Err, Bool, true, false, IsSome, bytes_eq, slice_get, slice_set}
 use Rattle.std.specs.List.{position}
 use Rattle.zb_ids.specs.declared.stamp.Stamp.{Stamp}
 use Rattle.zb_model.specs.declared.data.Transaction.{Transaction}
@@ -18,20 +18,20 @@ use Rattle.zodb_core.specs.HubState.{HubState, IsBeforeOrBehind, StandsForMachin
 use Rattle.zodb_core.specs.Machine.{Machine, Rules, is_open_in}
 use Rattle.zodb_core.specs.Outcomes.{Answered, AreLaterCounts, FaultCounts, StepOutcome, outcome_of, outcome_of_refusal}
 use Rattle.client_turns.specs.declared.client.Client.{Client}
+use Rattle.client_turns.specs.declared.member.Member.{Member}
 use Rattle.connection_view.specs.Works.{Work}
 use Rattle.client_turns.specs.declared.errors.TurnError.{TurnError}
 use Rattle.client_turns.specs.Clients.{Changes, Moment, OpenTransaction, changes_of, client_named, place_of_client}
 use Rattle.client_turns.specs.Clients as clients
-use Rattle.client_turns.specs.Lines.{IsCountedBy, answer_of, end_of, outcome_of_answer, request_of}
+use Rattle.client_turns.specs.Laws.{IsFormedClient, IsSoundMoment}
+use Rattle.client_turns.specs.Lines.{IsCountedBy, answer_of, asking_excess, end_of, outcome_of_answer, request_of}
+pub use Rattle.client_turns.specs.Members.{IsClientOf, IsFarOf, IsMemberOf, IsOpenAs, IsWorkOf, StandsForHub, changes_kept, connection_of, far, name_of, session_of, work_kept}
+use Rattle.client_turns.specs.Others.{KeepsOthers}
 use Rattle.client_turns.specs.Refusing.{connection_refusal, line_refusal}
 use Rattle.client_turns.specs.Steps.{IsReadAt}
-use Rattle.client_turns.specs.Turns.{IsClosingAt, IsLineUnless, IsOwnLine, IsStepLine}
-use Rattle.connection_view.specs.declared.connection.Connection.{Connection}
-use Rattle.connection_view.specs.Connections.{Between, InView, work_of, waiting_read}
-use Rattle.connection_view.specs.Views.{View}
-use Rattle.connection_view.specs.Views as views
-use Rattle.local_loads.specs.declared.told.Told.{Told}
-use Rattle.local_loads.specs.Local.{MayBeTold, WritesLater}
+use Rattle.client_turns.specs.Turns.{IsClosingAt, IsCutAt, IsLineUnless, IsOwnLine, IsStepLine}
+use Rattle.connection_view.specs.Connections.{waiting_read}
+use Rattle.local_loads.specs.Local.{WritesLater}
 use Rattle.commit_phases.specs.Pending.{pending_of}
 use Rattle.zb_model.specs.declared.pending.PendingStore.{PendingStore}
 use Rattle.zb_volume.specs.declared.areas.Area.TheVariants.{Main, Side}
@@ -40,53 +40,36 @@ use Rattle.zb_volume.specs.Moments.{Leaves, LeavesOnly, StaysAs}
 -- what contracts see of clients over a hub
 pub record ClientsState (R F : Type 0) : Type 0 where
   pub hub : HubState R F
-  pub clients : List Client
-
--- what a transaction would change, as it is kept
-abbrev pub changes_kept : Work → Changes
-changes_kept w = record { pending = w.pending; savepoints = w.savepoints; is_voted = w.is_voted }
+  pub clients : List Member
 
 -- a transaction that is kept, with these changes
 abbrev pub with_kept : Work → Changes → Work
 with_kept w ch = record { front = w.front; switches = w.switches; pending = ch.pending; savepoints = ch.savepoints; is_voted = ch.is_voted }
 
--- a transaction of a local client that is kept by a connection which has it: what it would change is the same, and what is read in it is its view
-pub record IsWorkOf (k : Connection) (told : views.Client) (w : Work) (t : OpenTransaction) : Type 0 where
-  pub changes : t.changes ≡ changes_kept w
-  pub near : t.framed ≡ false
-  pub view : InView k t.view told
-
--- the open transaction of a connection, or that none is open
-abbrev pub IsOpenAs : Connection → views.Client → Result Work Refusal → Option OpenTransaction → Type 0
-IsOpenAs k told (Ok w) (Some t) = IsWorkOf k told w t
-IsOpenAs k told (Err r) None = (r ≡ refusal.NoTransaction) × Between k told
-IsOpenAs k told _ _ = ⊥
-
--- A local client as it is kept, over a hub. What its session told it, and what its connection may have cached, is right for one of those that may be at its session.
-pub record IsClientOf {R F : Type 0} (hub : HubState R F) (x : Client) (c : clients.Client) : Type 0 where
-  pub name : c.name ≡ x.name
-  pub session : c.session ≡ x.session
-  pub local : c.standing ≡ clients.Local
-  pub told : views.Client
-  pub may : MayBeTold x.told hub told.told told.known
-  pub transaction : IsOpenAs x.connection told (work_of x.connection) c.transaction
-
-abbrev pub AreClientsOf : {R F : Type 0} → HubState R F → List Client → List clients.Client → Type 0
+-- each client that is kept is one
+abbrev pub AreClientsOf : {R F : Type 0} → HubState R F → List Member → List clients.Client → Type 0
 AreClientsOf hub [] [] = Unit {0}
-AreClientsOf hub (x ∷ xs) (c ∷ cs) = IsClientOf hub x c × AreClientsOf hub xs cs
+AreClientsOf hub (x ∷ xs) (c ∷ cs) = IsMemberOf hub x c × AreClientsOf hub xs cs
 AreClientsOf hub _ _ = ⊥
+
+-- sessions of clients rise in the order of their openings, from a number on, and are below a count
+abbrev pub RiseBelow : ℕ → ℕ → List clients.Client → Type 0
+RiseBelow low count [] = Unit {0}
+RiseBelow low count (c ∷ cs) = (low ≤ c.session) × (c.session < count) × RiseBelow (c.session + 1) count cs
 
 -- what is voted is later than the list, and the open pack leaves its newest transaction whole
 pub record IsAhead (m : Machine) : Type 0 where
   pub writes : WritesLater m.list m.vote
   pub within : IsPackWithin m.list m.pack
 
--- The clients stand for a moment: their hub for its machine, and each of them for its client there.
+-- The clients stand for a moment, which is sound: their hub for its machine, and each of them, with a session of its own, for its client there.
 pub record StandsForMoment {R F : Type 0} (seen : ClientsState R F) (left : Option (List Stamp)) (m : Moment) : Type 0 where
   pub hub : StandsForMachine seen.hub m.machine
   pub vote : WritesLater m.machine.list m.machine.vote
   pub within : IsPackWithin m.machine.list m.machine.pack
   pub clients : AreClientsOf seen.hub seen.clients m.clients
+  pub apart : RiseBelow 0 (length m.machine.sessions) m.clients
+  pub sound : IsSoundMoment m
   pub counts : m.counts ≡ counts_of seen.hub.store
   pub stamps : m.stamps ≡ left
 
@@ -100,6 +83,13 @@ pub record LeadsTo {R F : Type 0} (Q : Moment → Type 0) (seen : ClientsState R
 abbrev pub OrStarved : (Answer → Moment → Type 0) → Moment → Answer → Moment → Type 0
 OrStarved Q m a now = Q a now ⊎ ((a ≡ answer.Refused refusal.Memory) × (now ≡ m))
 
+-- and so it is, or its answer was lost over a link: it is answered want of memory
+abbrev pub OrCut : (Answer → Moment → Type 0) → (Moment → Type 0) → Answer → Moment → Type 0
+OrCut Q cut a now = Q a now ⊎ ((a ≡ answer.Refused refusal.Memory) × cut now)
+
+abbrev pub IsCutOf : Rules → Moment → ℕ → Line → Moment → Type 0
+IsCutOf rules m at l now = (c : clients.Client) × (slice_get m.clients at ≡ Some c) × IsCutAt rules m c l now
+
 -- what a line of the client at a place is answered whose session is open
 abbrev pub IsLineOpen : Rules → Moment → ℕ → clients.Client → Line → Answer → Moment → Type 0
 IsLineOpen rules m at c l = OrStarved (IsLineUnless rules m at c l (line_refusal (changes_of c) l)) m
@@ -108,9 +98,9 @@ IsLineOpen rules m at c l = OrStarved (IsLineUnless rules m at c l (line_refusal
 abbrev pub IsOpenLineOf : Rules → Moment → ℕ → Line → Answer → Moment → Type 0
 IsOpenLineOf rules m at l a now = (c : clients.Client) × (slice_get m.clients at ≡ Some c) × IsLineOpen rules m at c l a now
 
--- a line that is one step and no delivery, of the client at a place, a local one
+-- a line that is one step and no delivery, of the client at a place, for which it asks nothing that is too long
 abbrev pub IsStepOf : Rules → Moment → ℕ → Request → Answer → Moment → Type 0
-IsStepOf rules m at q a now = (c : clients.Client) × (slice_get m.clients at ≡ Some c) × (c.standing ≡ clients.Local) × IsStepLine rules m at c false q a now
+IsStepOf rules m at q a now = (c : clients.Client) × (slice_get m.clients at ≡ Some c) × (asking_excess c.standing q ≡ None) × IsStepLine rules m at c false q a now
 
 -- a line that is none, of the client at a place
 abbrev pub IsOwnOf : Moment → ℕ → Line → Answer → Moment → Type 0
@@ -137,21 +127,54 @@ pub record StandsForOne {R F : Type 0} (h : HubState R F) (left : Option (List S
   pub stamps : m.stamps ≡ left
   pub client : IsClientOf h x c
 
--- and the client stands at this place, in an open session
+-- and the client stands at this place, in an open session; what waits there is well formed
 pub record MayTakeAt {R F : Type 0} (hub : HubState R F) (left : Option (List Stamp)) (m : Moment) (at : ℕ) (x : Client) (c : clients.Client) : Type 0 where
   pub stands : StandsForOne hub left m x c
+  pub formed : IsFormedClient c
   pub there : slice_get m.clients at ≡ Some c
   pub may : is_open_in m.machine.sessions c.session ≡ true
 
--- A moment of which this holds, and for which the hub and this client stand, which has the place of that one; any other client may be told behind it what it may
--- have been told before.
+-- A moment of which this holds, and for which the hub and this client stand, which has the place of that one; the clients of all other sessions are kept.
 pub record OneLeadsTo {R F : Type 0} (Q : Moment → Type 0) (m : Moment) (at : ℕ) (old new : HubState R F) (y : Client) (left : Option (List Stamp)) : Type 0 where
   pub now : Moment
   pub holds : Q now
   pub client : clients.Client
   pub placed : now.clients ≡ slice_set m.clients at client
   pub stands : StandsForOne new left now y client
-  pub others : (last : Option Told) (told known : View) → MayBeTold last old told known → MayBeTold last new told known
+  pub others : (c : clients.Client) → slice_get m.clients at ≡ Some c → KeepsOthers c.session old new
+
+-- ---- one client, of either kind
+
+-- a hub stands for that of a moment, and a client for the one at a place, in an open session; what waits there is well formed
+pub record MayTakeMember {R F : Type 0} (hub : HubState R F) (left : Option (List Stamp)) (m : Moment) (at : ℕ) (x : Member) (c : clients.Client) : Type 0 where
+  pub stands : StandsForHub hub left m
+  pub client : IsMemberOf hub x c
+  pub formed : IsFormedClient c
+  pub there : slice_get m.clients at ≡ Some c
+  pub may : is_open_in m.machine.sessions c.session ≡ true
+
+-- a moment of which this holds, and for which the hub and this client stand, which has the place of that one, of session n; the clients of all others are kept
+pub record MemberLeadsTo {R F : Type 0} (Q : Moment → Type 0) (m : Moment) (at n : ℕ) (old new : HubState R F) (y : Member) (left : Option (List Stamp)) : Type 0 where
+  pub now : Moment
+  pub holds : Q now
+  pub stands : StandsForHub new left now
+  pub client : clients.Client
+  pub placed : now.clients ≡ slice_set m.clients at client
+  pub is : IsMemberOf new y client
+  pub others : KeepsOthers n old new
+
+-- a line of a client, at whatever moment it takes its turn
+abbrev pub TakesMember : {R F : Type 0} → Type 0 → Rules → Line → Answer → HubState R F → HubState R F → Member → Member → Option (List Stamp) → Option (List Stamp) → Type 0
+TakesMember told rules l a old new x y before after =
+    told → (m : Moment) (at : ℕ) (c : clients.Client) → MayTakeMember old before m at x c → MemberLeadsTo (OrCut (IsLineOpen rules m at c l) (IsCutAt rules m c l) a) m at c.session old new y after
+
+-- clients stand for some moment
+abbrev pub MayStandFor : {R F : Type 0} → ClientsState R F → Option (List Stamp) → Type 0
+MayStandFor seen left = (m : Moment) × StandsForMoment seen left m
+
+-- and a client at some place of one
+abbrev pub MayBeThere : {R F : Type 0} → HubState R F → Member → Type 0
+MayBeThere hub x = (c : clients.Client) × IsMemberOf hub x c
 
 -- ---- reads
 
@@ -171,6 +194,11 @@ IsGotWhere m (Some t) oid result now = IsGotAs m t oid (pending_of t.changes.pen
 
 abbrev pub IsGotOf : Moment → ℕ → ℕ → Result (ℕ × List ℕ) Refusal → Moment → Type 0
 IsGotOf m at oid result now = (c : clients.Client) × (slice_get m.clients at ≡ Some c) × IsGotWhere m c.transaction oid result now
+
+-- what a client of either kind has of an object, at whatever moment it reads in an open transaction
+abbrev pub TakesMemberRead : {R F : Type 0} → Type 0 → ℕ → Result (ℕ × List ℕ) Refusal → HubState R F → HubState R F → Member → Member → Option (List Stamp) → Option (List Stamp) → Type 0
+TakesMemberRead told oid result old new x y before after =
+    told → (m : Moment) (at : ℕ) (c : clients.Client) → MayTakeMember old before m at x c → IsSome c.transaction → MemberLeadsTo (IsGotWhere m c.transaction oid result) m at c.session old new y after
 
 -- ---- what holds whatever the store tells
 
@@ -194,6 +222,13 @@ MayAskAt m at = (c : clients.Client) × (slice_get m.clients at ≡ Some c) × (
 -- and so is a transaction
 abbrev pub MayReadAt : Moment → ℕ → Type 0
 MayReadAt m at = (c : clients.Client) × (slice_get m.clients at ≡ Some c) × (is_open_in m.machine.sessions c.session ≡ true) × IsSome c.transaction
+
+-- clients stand for such a moment
+abbrev pub MayAskFor : {R F : Type 0} → ClientsState R F → Option (List Stamp) → ℕ → Type 0
+MayAskFor seen left at = (m : Moment) × StandsForMoment seen left m × MayAskAt m at
+
+abbrev pub MayReadFor : {R F : Type 0} → ClientsState R F → Option (List Stamp) → ℕ → Type 0
+MayReadFor seen left at = (m : Moment) × StandsForMoment seen left m × MayReadAt m at
 
 -- ---- what a crash leaves
 
@@ -220,33 +255,33 @@ IsListIn stands rules m t = IsListAsked stands rules m.machine (client_named t.c
 -- ---- the same of a client as it is kept
 
 -- in a step of a client
-abbrev pub IsStepListOf : (List ℕ → List Transaction → Type 0) → Rules → Option Client → Request → Machine → List ℕ → Type 0
+abbrev pub IsStepListOf : (List ℕ → List Transaction → Type 0) → Rules → Option Member → Request → Machine → List ℕ → Type 0
 IsStepListOf stands rules None q = λ m bytes. stands bytes m.list
-IsStepListOf stands rules (Some x) q = λ m. IsBeforeOrBehind stands rules m x.session q
+IsStepListOf stands rules (Some x) q = λ m. IsBeforeOrBehind stands rules m (session_of x) q
 
 -- in a finish of a session, where a transaction is open
 abbrev pub IsEndListOf : (List ℕ → List Transaction → Type 0) → Rules → ℕ → Result Work Refusal → Machine → List ℕ → Type 0
 IsEndListOf stands rules n (Err r) = λ m bytes. stands bytes m.list
 IsEndListOf stands rules n (Ok w) = λ m. IsBeforeOrBehind stands rules m n request.Finish
 
-abbrev pub IsFinishListOf : (List ℕ → List Transaction → Type 0) → Rules → Option Client → Machine → List ℕ → Type 0
+abbrev pub IsFinishListOf : (List ℕ → List Transaction → Type 0) → Rules → Option Member → Machine → List ℕ → Type 0
 IsFinishListOf stands rules None = λ m bytes. stands bytes m.list
-IsFinishListOf stands rules (Some x) = IsEndListOf stands rules x.session (work_of x.connection)
+IsFinishListOf stands rules (Some x) = IsEndListOf stands rules (session_of x) (work_kept x)
 
 -- in a line of a client
-abbrev pub IsListOf : (List ℕ → List Transaction → Type 0) → Rules → Option Client → Line → Machine → List ℕ → Type 0
+abbrev pub IsListOf : (List ℕ → List Transaction → Type 0) → Rules → Option Member → Line → Machine → List ℕ → Type 0
 IsListOf stands rules x line.Finish = IsFinishListOf stands rules x
 IsListOf stands rules x (line.Pack tid collect) = IsStepListOf stands rules x (request.Pack tid collect)
 IsListOf stands rules x line.PackTurn = IsStepListOf stands rules x request.PackTurn
 IsListOf stands rules x _ = λ m bytes. stands bytes m.list
 
 -- the client at a place, if there is one, and the first one of a name
-abbrev pub kept_found : List Client → Option ℕ → Option Client
+abbrev pub kept_found : List Member → Option ℕ → Option Member
 kept_found xs None = None
 kept_found xs (Some at) = slice_get xs at
 
-abbrev pub kept_named : List ℕ → List Client → Option Client
-kept_named name xs = kept_found xs (position (λ x. bytes_eq x.name name) xs)
+abbrev pub kept_named : List ℕ → List Member → Option Member
+kept_named name xs = kept_found xs (position (λ x. bytes_eq (name_of x) name) xs)
 
 -- a line that packs, in one step or in turns
 abbrev pub packs_list : Line → Bool
@@ -268,7 +303,7 @@ pub record KeepsHub {R F : Type 0} (told lasts : Type 0) (stands : List ℕ → 
       → LeavesOnly Main (may m) old.store.log new.store.log
 
 -- and so a whole line of a client
-abbrev pub LeavesHub : {R F : Type 0} → Type 0 → Type 0 → (List ℕ → List Transaction → Type 0) → Rules → Option Client → Line → StepOutcome → HubState R F → HubState R F → Type 0
+abbrev pub LeavesHub : {R F : Type 0} → Type 0 → Type 0 → (List ℕ → List Transaction → Type 0) → Rules → Option Member → Line → StepOutcome → HubState R F → HubState R F → Type 0
 LeavesHub told lasts stands rules x l o old new = KeepsHub told lasts stands (packs_list l) (IsListOf stands rules x l) o old new
 
 -- A part of a line that changes no list.

@@ -1,5 +1,5 @@
 -- What turns leave of the list, and that it stays whole. For the proofs of those who follow turns.
-use Rattle.std.proofs.Common.{Bool, Err, List, None, Ok, Option, Result, Some, [], ap, cond, false, if◌then◌else◌, length, nat_lt, refl, subst, suc, sym, true, zero, ℕ, ◌++◌, ◌+◌, ◌-◌, ◌^◌, ◌∙◌, ◌∷◌, ◌≡◌}
+use Rattle.std.proofs.Common.{Bool, Err, List, None, Ok, Option, Result, Some, [], ap, cond, false, length, nat_lt, refl, subst, suc, sym, true, zero, ℕ, ◌++◌, ◌+◌, ◌-◌, ◌^◌, ◌∙◌, ◌∷◌, ◌≡◌}
 use Rattle.zb_ids.specs.declared.stamp.Stamp.{Stamp}
 use Rattle.zb_ids.specs.Tids.{tid_after}
 use Rattle.zb_model.specs.declared.data.Change.{Change}
@@ -19,7 +19,7 @@ use Rattle.zb_model.specs.declared.refusal.Refusal.TheVariants as refusal
 use Rattle.zodb_core.specs.declared.request.Request.{Request}
 use Rattle.zodb_core.specs.declared.texts.Texts.{Texts}
 use Rattle.zodb_core.specs.declared.request.Request.TheVariants as request
-use Rattle.zodb_core.specs.Machine.{Machine, MachineVote, Rules, with_session}
+use Rattle.zodb_core.specs.Machine.{Machine, MachineVote, Rules, session_limit}
 use Rattle.zodb_core.specs.Outcomes.{Answered, EndsFor, FaultCounts, NoMemory, ReadingFailed, StepOutcome, StoreFailed, is_pack, is_packed, machine_left, outcome_of, outcome_of_refusal}
 use Rattle.zodb_core.specs.Laws.{IsPackedTo}
 use Rattle.zodb_core.specs.Seen.{PackGoal, goal_of_open, pack_goal}
@@ -31,13 +31,13 @@ use Rattle.client_turns.specs.Clients.{Changes, Client, Linked, Local, Moment, O
 use Rattle.client_turns.specs.declared.errors.TurnError.TheVariants as error
 use Rattle.client_turns.specs.Lines.{answer_of, answer_to, answering_excess, asking_excess, end_in, end_of, is_committed, is_delivery, pending_in, request_of, step_answer, unless_long}
 use Rattle.client_turns.specs.Output.{FlaggedTurn, Out, TurnAnswer}
-use Rattle.client_turns.specs.Refusing.{connection_refusal, opens_session}
+use Rattle.client_turns.specs.Refusing.{connection_refusal, opening_in}
 use Rattle.client_turns.specs.Standing.{IsAhead}
 use Rattle.client_turns.specs.Steps.{IsStepAt}
 use Rattle.client_turns.specs.DrawLaws.{raised_same, tree_raised}
 use Rattle.client_turns.specs.Trees.{IsRaised}
-use Rattle.client_turns.specs.Turns.{IsAnswered, IsClosed, IsClosing, IsGet, IsLine, IsLineNamed, IsLineOf, IsLineTaken, IsLineUnless, IsOpening, IsOutside, IsOwnLine, IsPut, IsStepLine, IsStepUnless, IsTold, IsWithin, Opening, fronts_behind}
-use Rattle.connection_view.specs.Views.{View, current}
+use Rattle.client_turns.specs.Turns.{IsAnswered, IsClosed, IsClosing, IsGet, IsLine, IsLineNamed, IsLineOf, IsLineTaken, IsFarOpening, IsLineUnless, IsOpening, IsOutside, IsOwnLine, IsPut, IsStepLine, IsStepUnless, IsTold, IsWithin, Opening, first_told, fronts_behind, opened, opened_far, opened_if}
+use Rattle.connection_view.specs.Views.{View, current, view_of}
 use Rattle.local_loads.specs.LocalLaws.{left_writes, votes_later}
 use Rattle.client_turns.specs.Reads.{EndsReading}
 use Rattle.connection_view.specs.Loading.{IsMissing}
@@ -303,27 +303,104 @@ same_whole rules m l now a is = record {
   ahead = λ ahead. subst IsAhead (sym is) ahead;
 }
 
-opened_list : (m : Moment) (name : List ℕ) (b : Bool) → (if b then (let o : Opening = record { answer = answer.Opened (length m.machine.sessions); moment = record { machine = with_session m.machine; clients = m.clients ++ record { name = name; session = length m.machine.sessions; transaction = None; standing = Local } ∷ []; stamps = m.stamps; counts = m.counts } } in o)
-    else (let o : Opening = record { answer = answer.Refused (refusal.TooManySessions (length m.machine.sessions)); moment = m } in o)).moment.machine.list ≡ m.machine.list
-opened_list m name true = refl
-opened_list m name false = refl
+-- ---- openings
 
-opened_whole : (m : Moment) (name : List ℕ) (b : Bool) → (if b then (let o : Opening = record { answer = answer.Opened (length m.machine.sessions); moment = record { machine = with_session m.machine; clients = m.clients ++ record { name = name; session = length m.machine.sessions; transaction = None; standing = Local } ∷ []; stamps = m.stamps; counts = m.counts } } in o)
-    else (let o : Opening = record { answer = answer.Refused (refusal.TooManySessions (length m.machine.sessions)); moment = m } in o)).moment.machine.failed ≡ m.machine.failed
-opened_whole m name true = refl
-opened_whole m name false = refl
+-- a front is answered with one, or refused
+abbrev pub IsFrontReply : Reply → Type 0
+IsFrontReply (reply.Front front news switches) = Unit {0}
+IsFrontReply (reply.Refused why) = Unit {0}
+IsFrontReply _ = ⊥
 
-opened_ahead : (m : Moment) (name : List ℕ) (b : Bool) → IsAhead m.machine → IsAhead (if b then (let o : Opening = record { answer = answer.Opened (length m.machine.sessions); moment = record { machine = with_session m.machine; clients = m.clients ++ record { name = name; session = length m.machine.sessions; transaction = None; standing = Local } ∷ []; stamps = m.stamps; counts = m.counts } } in o)
-    else (let o : Opening = record { answer = answer.Refused (refusal.TooManySessions (length m.machine.sessions)); moment = m } in o)).moment.machine
-opened_ahead m name true ahead = record { writes = ahead.writes; within = ahead.within }
-opened_ahead m name false ahead = ahead
+front_early : (o : Option Refusal) (m : Machine) (made : Stepped) → IsFrontReply made.reply → IsFrontReply (unless_early o m made).reply
+front_early None m made is = is
+front_early (Some r) m made is = tt
 
-opening_whole : (rules : Rules) (m : Moment) (l : Line) (now : Moment) (name : List ℕ) (a : Answer) → IsOpening m name a now → LeavesWhole rules m l now a
-opening_whole rules m l now name a is = record {
-  list = same_behind rules m.machine l now.machine.list (ap (λ (o : Opening). o.moment.machine.list) is ∙ opened_list m name (nat_lt (length m.machine.sessions) 64));
-  whole = λ ends whole. ap (λ (o : Opening). o.moment.machine.failed) is ∙ opened_whole m name (nat_lt (length m.machine.sessions) 64) ∙ whole;
-  ahead = λ ahead. subst IsAhead (sym (ap (λ (o : Opening). o.moment.machine) is)) (opened_ahead m name (nat_lt (length m.machine.sessions) 64) ahead);
+front_made : (rules : Rules) (m : Machine) (n stamp : ℕ) (made : Stepped) → made ≡ step_of rules m n request.Front stamp → IsFrontReply made.reply
+front_made rules m n stamp made is = subst (λ (s : Stepped). IsFrontReply s.reply) (sym is) (front_early (early_refusal m n request.Front) m (request_step rules m n request.Front stamp) tt)
+
+pub front_reply : (rules : Rules) (m : Moment) (n : ℕ) (r : Reply) (now : Moment) → IsStepAt rules m n request.Front r now → IsFrontReply r
+front_reply rules m n (reply.Front front news switches) now step = tt
+front_reply rules m n (reply.Refused why) now step = tt
+front_reply rules m n r now step = front_made rules m.machine n step.stamp (record { reply = r; machine = now.machine; ticks = step.ticks }) step.made.cause
+
+-- How the Front steps behind an opening were refused, so that it is: by the one behind this moment.
+pub record IsOpeningRefused (rules : Rules) (opened_at : Moment) (n : ℕ) (why : Refusal) (now : Moment) : Type 0 where
+  pub behind : Moment
+  pub first : IsTold rules 1 opened_at n behind
+  pub step : IsStepAt rules behind n request.Front (reply.Refused why) now
+
+-- an opening's answer: its own, or the refusal of a Front step behind it
+pub data IsOpeningAnswer (rules : Rules) (opening : Opening) (n : ℕ) (a : Answer) (now : Moment) : Type 0 where
+  as_opened : a ≡ opening.answer → IsOpeningAnswer rules opening n a now
+  as_refused : (why : Refusal) → a ≡ answer.Refused why → IsOpeningRefused rules opening.moment n why now → IsOpeningAnswer rules opening n a now
+
+-- A client opens its session, and stands so; so many Front steps follow.
+pub record Opens (rules : Rules) (m : Moment) (name : List ℕ) (a : Answer) (now : Moment) : Type 0 where
+  pub standing : Standing
+  pub is_new : (known : View) → standing ≡ Linked known → known ≡ view_of (server_of m.machine)
+  pub count : ℕ
+  pub fronts : IsTold rules count (opened m name standing).moment (length m.machine.sessions) now
+  pub answer : IsOpeningAnswer rules (opened m name standing) (length m.machine.sessions) a now
+
+never_linked : (known : View) → Local ≡ Linked known → ⊥
+never_linked known is = absurd cc
+
+same_known : (v w : View) → Linked v ≡ Linked w → w ≡ v
+same_known v w is = cc
+
+pub near_opens : (rules : Rules) (m : Moment) (name : List ℕ) (a : Answer) (now : Moment) → IsOpening m name a now → Opens rules m name a now
+near_opens rules m name a now is = record {
+  standing = Local;
+  is_new = λ known linked. absurd (never_linked known linked);
+  count = 0;
+  fronts = ap (λ (o : Opening). o.moment) is;
+  answer = as_opened (ap (λ (o : Opening). o.answer) is);
 }
+
+-- the second of its fronts tells what an opening over a link is answered
+pub taken_answer : (rules : Rules) (m : Moment) (name : List ℕ) (a : Answer) (now between : Moment) (first second : Reply) → IsStepAt rules (opened_far m name).moment (length m.machine.sessions) request.Front first between
+    → IsStepAt rules between (length m.machine.sessions) request.Front second now → IsFrontReply second → a ≡ first_told second (opened_far m name).answer
+    → IsOpeningAnswer rules (opened_far m name) (length m.machine.sessions) a now
+taken_answer rules m name a now between first (reply.Front front news switches) registers syncs told is = as_opened is
+taken_answer rules m name a now between first (reply.Refused why) registers syncs told is = as_refused why is (record { behind = between; first = (first, between, registers, refl); step = syncs })
+taken_answer rules m name a now between first _ registers syncs told is = absurd told
+
+pub far_opens : (rules : Rules) (m : Moment) (name : List ℕ) (room : Bool) (a : Answer) (now : Moment) → IsFarOpening rules m name room a now → Opens rules m name a now
+far_opens rules m name true a now is = record {
+  standing = Linked (view_of (server_of m.machine));
+  is_new = λ known linked. same_known (view_of (server_of m.machine)) known linked;
+  count = 2;
+  fronts = (is.first, is.between, is.registers, (is.second, now, is.syncs, refl));
+  answer = taken_answer rules m name a now is.between is.first is.second is.registers is.syncs (front_reply rules is.between (length m.machine.sessions) is.second now is.syncs) is.answer;
+}
+far_opens rules m name false a now is = record {
+  standing = Linked (view_of (server_of m.machine));
+  is_new = λ known linked. same_known (view_of (server_of m.machine)) known linked;
+  count = 0;
+  fronts = ap (λ (o : Opening). o.moment) is;
+  answer = as_opened (ap (λ (o : Opening). o.answer) is);
+}
+
+opened_list : (m : Moment) (name : List ℕ) (s : Standing) (b : Bool) → (opened_if b m name s).moment.machine.list ≡ m.machine.list
+opened_list m name s true = refl
+opened_list m name s false = refl
+
+opened_whole : (m : Moment) (name : List ℕ) (s : Standing) (b : Bool) → (opened_if b m name s).moment.machine.failed ≡ m.machine.failed
+opened_whole m name s true = refl
+opened_whole m name s false = refl
+
+opened_ahead : (m : Moment) (name : List ℕ) (s : Standing) (b : Bool) → IsAhead m.machine → IsAhead (opened_if b m name s).moment.machine
+opened_ahead m name s true ahead = record { writes = ahead.writes; within = ahead.within }
+opened_ahead m name s false ahead = ahead
+
+opening_whole : (rules : Rules) (m : Moment) (l : Line) (now : Moment) (name : List ℕ) (a : Answer) → Opens rules m name a now → LeavesWhole rules m l now a
+opening_whole rules m l now name a is = let room = nat_lt (length m.machine.sessions) session_limit in record {
+  list = same_behind rules m.machine l now.machine.list (told_list rules (opened m name is.standing).moment now (length m.machine.sessions) is.count is.fronts ∙ opened_list m name is.standing room);
+  whole = λ ends whole. told_whole rules (opened m name is.standing).moment now (length m.machine.sessions) is.count is.fronts ∙ opened_whole m name is.standing room ∙ whole;
+  ahead = λ ahead. told_ahead rules (opened m name is.standing).moment now (length m.machine.sessions) is.count is.fronts (opened_ahead m name is.standing room ahead);
+}
+
+-- ---- lines that are no step
 
 get_same : (m now : Moment) (v : OpenTransaction) (oid : ℕ) (o : Option PendingStore) (a : Answer) → IsGet m v oid o a now → now.machine ≡ m.machine
 get_same m now v oid None a is = ap (λ (x : Moment). x.machine) is.1.rest
@@ -370,12 +447,13 @@ read_missing true m v oid before now o gone ends = ends
 
 -- ---- what a step is answered
 
--- an answer that may not fit a frame is no refusal, and tells of no commit
+-- an answer that may not fit a frame tells of no failure, and of no commit
 pub excess_answered : (s : Standing) (r : Reply) (n : ℕ) → answering_excess s r ≡ Some n → (outcome_of r ≡ Answered) × (end_of (answer_of r) ≡ None) × (is_committed r ≡ false)
 excess_answered Local r n is = absurd cc
 excess_answered (Linked known) (reply.Loaded serial bytes end upto) n is = (refl, refl, refl)
 excess_answered (Linked known) (reply.History list) n is = (refl, refl, refl)
 excess_answered (Linked known) (reply.UndoLog list) n is = (refl, refl, refl)
+excess_answered (Linked known) (reply.Refused (refusal.Conflict oid base current why)) n is = (refl, refl, refl)
 excess_answered (Linked known) _ n is = absurd cc
 
 -- what holds of the answer of a step, and of TooLong where it may be too long, holds of what its line is answered
@@ -425,12 +503,14 @@ line_of_whole : (rules : Rules) (m now : Moment) (at : Option ℕ) (l : Line) (a
 line_of_whole rules m now None l a is = same_whole rules m l now a (ap (λ (x : Moment). x.machine) is.1)
 line_of_whole rules m now (Some at) l a is = unless_whole rules m now at is.0 l (connection_refusal m.machine is.0 l) a is.2
 
-pub by_either : (rules : Rules) (m now : Moment) (name : List ℕ) (l : Line) (a : Answer) (P : Type 0) (opens : Bool) → (IsOpening m name a now → P) → (IsLineOf rules m (place_of_client name m.clients) l a now → P) → IsLineNamed opens rules m name l a now → P
-by_either rules m now name l a P true opening named is = opening is
-by_either rules m now name l a P false opening named is = named is
+named_by : (rules : Rules) (m now : Moment) (name : List ℕ) (l : Line) (a : Answer) (P : Type 0) (opens : Option Bool) → (Opens rules m name a now → P) → (IsLineOf rules m (place_of_client name m.clients) l a now → P) → IsLineNamed opens rules m name l a now → P
+named_by rules m now name l a P (Some false) opening named is = opening (near_opens rules m name a now is)
+named_by rules m now name l a P (Some true) opening named is = opening (far_opens rules m name (nat_lt (length m.machine.sessions) session_limit) a now is)
+named_by rules m now name l a P None opening named is = named is
 
-pub by_name : (rules : Rules) (m now : Moment) (name : List ℕ) (l : Line) (a : Answer) (P : Type 0) → (IsOpening m name a now → P) → (IsLineOf rules m (place_of_client name m.clients) l a now → P) → IsLine rules m name l a now → P
-by_name rules m now name l a P opening named is = by_either rules m now name l a P (opens_session l) opening named is
+-- what holds of an opening and of each line of a client that has opened its session, or never did, holds of a line
+pub by_name : (rules : Rules) (m now : Moment) (name : List ℕ) (l : Line) (a : Answer) (P : Type 0) → (Opens rules m name a now → P) → (IsLineOf rules m (place_of_client name m.clients) l a now → P) → IsLine rules m name l a now → P
+by_name rules m now name l a P opening named is = named_by rules m now name l a P (opening_in l) opening named is
 
 -- a line leaves a list that it may leave, and a store that has not failed, where the run goes on
 pub line_whole : (rules : Rules) (m now : Moment) (name : List ℕ) (l : Line) (a : Answer) → IsLine rules m name l a now → LeavesWhole rules m l now a

@@ -1,5 +1,5 @@
 -- A turn: one line of a client, with its steps and reads. Source: connections of ZODB; that a turn is taken at once is own.
-use Rattle.std.specs.Prelude.{Bool, Err, List, None, Ok, Option, Result, Some, [], false, if◌then◌else◌, length, nat_lt, slice_get, suc, true, zero, ℕ, ◌++◌, ◌∷◌, ◌≡◌}
+use Rattle.std.specs.Prelude.{Bool, Err, List, None, Ok, Option, Result, Some, [], false, length, nat_lt, slice_get, suc, true, zero, ℕ, ◌++◌, ◌<◌, ◌∷◌, ◌≡◌, ◌≤◌}
 use Rattle.zb_model.specs.declared.data.Content.TheVariants.{Held}
 use Rattle.zb_model.specs.declared.refusal.Refusal.{Refusal}
 use Rattle.zb_model.specs.declared.refusal.Refusal.TheVariants as refusal
@@ -14,6 +14,7 @@ use Rattle.zodb_core.specs.declared.reply.Reply.TheVariants as reply
 use Rattle.zodb_core.specs.declared.request.Request.{Request}
 use Rattle.zodb_core.specs.declared.request.Request.TheVariants as request
 use Rattle.zodb_core.specs.Machine.{Rules, session_limit, with_session}
+use Rattle.zodb_core.specs.Outcomes.{Answered, outcome_of}
 use Rattle.connection_view.specs.Connections.{waiting_read}
 use Rattle.client_turns.specs.declared.errors.TurnError.{TurnError}
 use Rattle.client_turns.specs.declared.errors.TurnError.TheVariants as error
@@ -22,8 +23,8 @@ use Rattle.client_turns.specs.Clients.{Client, Linked, Local, Moment, OpenTransa
 use Rattle.client_turns.specs.Lines.{answer_of, asking_excess, checked, client_left, client_told, data_of, deleted, end_of, is_committed, is_delivery, object_of, put, request_of, rolled_back, saved, step_answer, stored}
 use Rattle.client_turns.specs.Steps.{IsChange, IsReadAt, IsRefusedAt, IsStepAt}
 use Rattle.client_turns.specs.Trees.{IsTreeLine}
-use Rattle.client_turns.specs.Refusing.{IsFittingLine, connection_refusal, opens_session}
-use Rattle.connection_view.specs.Views.{view_of}
+use Rattle.client_turns.specs.Refusing.{IsFittingLine, connection_refusal, opening_in}
+use Rattle.connection_view.specs.Views.{View, view_of}
 use Rattle.client_turns.specs.Views.{server_of}
 
 -- ---- lines of an open connection
@@ -117,12 +118,17 @@ pub record Opening : Type 0 where
   pub moment : Moment
 
 -- open: the next session is the client's, which stands so, while there are fewer than 64
-abbrev pub opened : Moment → List ℕ → Standing → Opening
-opened m name standing =
+abbrev pub opened_if : Bool → Moment → List ℕ → Standing → Opening
+opened_if true m name standing =
     let n = length m.machine.sessions in
-    if nat_lt n session_limit
-    then (record { answer = answer.Opened n; moment = record m { machine = with_session m.machine; clients = m.clients ++ (record { name = name; session = n; transaction = None; standing = standing }) ∷ [] } })
-    else (record { answer = answer.Refused (refusal.TooManySessions n); moment = m })
+    record {
+      answer = answer.Opened n;
+      moment = record m { machine = with_session m.machine; clients = m.clients ++ (record { name = name; session = n; transaction = None; standing = standing }) ∷ [] };
+    }
+opened_if false m name standing = record { answer = answer.Refused (refusal.TooManySessions (length m.machine.sessions)); moment = m }
+
+abbrev pub opened : Moment → List ℕ → Standing → Opening
+opened m name standing = opened_if (nat_lt (length m.machine.sessions) session_limit) m name standing
 
 -- the opening of a local client
 abbrev pub IsOpening : Moment → List ℕ → Answer → Moment → Type 0
@@ -151,14 +157,15 @@ IsFarOpening rules m name false a now = record { answer = a; moment = now } ≡ 
 abbrev pub IsLinkOpening : Rules → Moment → List ℕ → Answer → Moment → Type 0
 IsLinkOpening rules m name a now = IsFarOpening rules m name (nat_lt (length m.machine.sessions) session_limit) a now
 
--- a line that opens a session, or another, of a client by its name
-abbrev pub IsLineNamed : Bool → Rules → Moment → List ℕ → Line → Answer → Moment → Type 0
-IsLineNamed true rules m name l a now = IsOpening m name a now
-IsLineNamed false rules m name l a now = IsLineOf rules m (place_of_client name m.clients) l a now
+-- a line that opens a session, without a link or over one, or another, of a client by its name
+abbrev pub IsLineNamed : Option Bool → Rules → Moment → List ℕ → Line → Answer → Moment → Type 0
+IsLineNamed (Some false) rules m name l a now = IsOpening m name a now
+IsLineNamed (Some true) rules m name l a now = IsLinkOpening rules m name a now
+IsLineNamed None rules m name l a now = IsLineOf rules m (place_of_client name m.clients) l a now
 
 -- a line of a client, by its name
 abbrev pub IsLine : Rules → Moment → List ℕ → Line → Answer → Moment → Type 0
-IsLine rules m name l a now = IsLineNamed (opens_session l) rules m name l a now
+IsLine rules m name l a now = IsLineNamed (opening_in l) rules m name l a now
 
 -- the closing of the session of the client at a place
 abbrev pub IsClosingAt : Rules → Moment → ℕ → Reply → Moment → Type 0
@@ -182,13 +189,48 @@ pub record IsAnswered (rules : Rules) (m : Moment) (t : Turn) (last : Bool) (a :
   pub whole : end_of a ≡ None
   pub closing : IsClosing rules behind t.client last now
 
+-- ---- turns that aren't answered
+
+-- Want of memory over a link: a step of the client's session was answered, and the answer was lost, behind as many of the Front steps that follow it as were made by
+-- then. An answer that says that reading or the store failed isn't lost.
+pub record IsCutOff (rules : Rules) (m : Moment) (c : Client) (q : Request) (now : Moment) : Type 0 where
+  pub reply : Reply
+  pub behind : Moment
+  pub step : IsStepAt rules m c.session q reply behind
+  pub answered : outcome_of reply ≡ Answered
+  pub count : ℕ
+  pub few : count ≤ fronts_behind (is_committed reply) c.standing
+  pub fronts : IsTold rules count behind c.session now
+
+-- so may a line of a client with a link be cut off that is one step
+pub record IsCutAt (rules : Rules) (m : Moment) (c : Client) (l : Line) (now : Moment) : Type 0 where
+  pub known : View
+  pub linked : c.standing ≡ Linked known
+  pub taken : connection_refusal m.machine c l ≡ None
+  pub request : Request
+  pub asks : request_of c.standing (changes_of c) l ≡ Some request
+  pub cut : IsCutOff rules m c request now
+
+-- and an opening, behind some of its two Front steps: the session is there, and no client has it
+pub record IsCutOpening (rules : Rules) (m : Moment) (now : Moment) : Type 0 where
+  pub room : length m.machine.sessions < session_limit
+  pub count : ℕ
+  pub few : count ≤ 2
+  pub fronts : IsTold rules count (record m { machine = with_session m.machine }) (length m.machine.sessions) now
+
+-- a line of a client, by its name
+pub data IsCutLine (rules : Rules) (m : Moment) (name : List ℕ) (l : Line) (now : Moment) : Type 0 where
+  by_step : (at : ℕ) (c : Client) → place_of_client name m.clients ≡ Some at → slice_get m.clients at ≡ Some c → IsCutAt rules m c l now → IsCutLine rules m name l now
+  by_opening : opening_in l ≡ Some true → IsCutOpening rules m now → IsCutLine rules m name l now
+
 -- A turn in which the store failed or memory ran out, so that it isn't answered: in its line, in the closing behind it, or, for want of memory, around
--- its steps, and then nothing else has changed.
+-- its steps, and then nothing else has changed; or over a link, and then steps of its line were made.
 pub data IsBroken (rules : Rules) (m : Moment) (t : Turn) (last : Bool) (why : TurnError) (now : Moment) : Type 0 where
   by_line : (a : Answer) → IsLine rules m t.client t.line a now → end_of a ≡ Some why → IsBroken rules m t last why now
   by_closing : (a : Answer) (behind : Moment) (at : ℕ) (r : Reply) → last ≡ true → IsLine rules m t.client t.line a behind → end_of a ≡ None
       → place_of_client t.client behind.clients ≡ Some at → IsClosingAt rules behind at r now → end_of (answer_of r) ≡ Some why → IsBroken rules m t last why now
   by_memory : why ≡ error.Memory → now ≡ m → IsBroken rules m t last why now
+  by_link : why ≡ error.Memory → IsCutLine rules m t.client t.line now → IsBroken rules m t last why now
 
 -- how a turn ends
 abbrev pub IsTurn : Rules → Moment → Turn → Bool → Result Answer TurnError → Moment → Type 0

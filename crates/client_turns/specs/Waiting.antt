@@ -11,6 +11,7 @@ use Rattle.zb_script.specs.declared.line.Turn.{Turn}
 use Rattle.zodb_core.specs.Waiting.{is_held_by_another}
 use Rattle.zodb_core.specs.Machine.{Rules}
 use Rattle.client_turns.specs.Clients.{Moment}
+use Rattle.client_turns.specs.Members.{session_of}
 use Rattle.client_turns.specs.Standing.{ClientsState, StandsForMoment, kept_named}
 use Rattle.client_turns.specs.Turns.{IsTurn}
 
@@ -22,7 +23,7 @@ waits_for_vote _ = false
 
 -- a turn whose line needs the vote while a session holds it that isn't its client's
 abbrev pub is_held_up : {R F : Type 0} → ClientsState R F → Turn → Bool
-is_held_up seen t = waits_for_vote t.line && option_map_or (λ x. is_held_by_another x.session seen.hub.vote) (kept_named t.client seen.clients) false
+is_held_up seen t = waits_for_vote t.line && option_map_or (λ x. is_held_by_another (session_of x) seen.hub.vote) (kept_named t.client seen.clients) false
 
 -- an answer says that another session holds the vote
 abbrev pub is_busy : Answer → Bool

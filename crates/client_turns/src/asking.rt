@@ -2,6 +2,7 @@
 
 ghost use Rattle.std.specs.Prelude.{◌≡◌, ◌<◌, ◌≤◌, Some, length, true};
 ghost use Rattle.zodb_core.specs.HubState.{rules_of};
+ghost use Rattle.client_turns.specs.declared.member.Member.TheVariants.{Near};
 ghost use Rattle.client_turns.specs.Asking.{TakesLine, TakesRead, is_of_connection};
 ghost use Rattle.client_turns.specs.Lines.{outcome_of_answer, outcome_of_result};
 ghost use Rattle.client_turns.specs.Refusing.{IsFittingLine};
@@ -27,7 +28,7 @@ fn begin_line<St: Store, R: Resolver, F: Refs, C: Clock>(
 ) -> Answer
     ensures line { TakesLine St.told (rules_of R.rules F.named hub.old) (Line.Begin) result hub.old hub.new client.old
         client.new (C.stamps clock.old) (C.stamps clock.new) }
-    ensures hub { LeavesHub St.told St.lasts St.stands (rules_of R.rules F.named hub.old) (Some client.old) (Line.Begin)
+    ensures hub { LeavesHub St.told St.lasts St.stands (rules_of R.rules F.named hub.old) (Some (Near client.old)) (Line.Begin)
         (outcome_of_answer result) hub.old hub.new }
 {
     let mut loads = LocalLoads::new(alloc, hub, client.session, clock, client.told);
@@ -47,7 +48,7 @@ fn load_line<St: Store, R: Resolver, F: Refs, C: Clock>(
 ) -> Answer
     ensures line { TakesLine St.told (rules_of R.rules F.named hub.old) (Line.Load oid) result hub.old hub.new client.old
         client.new (C.stamps clock.old) (C.stamps clock.new) }
-    ensures hub { LeavesHub St.told St.lasts St.stands (rules_of R.rules F.named hub.old) (Some client.old) (Line.Load oid)
+    ensures hub { LeavesHub St.told St.lasts St.stands (rules_of R.rules F.named hub.old) (Some (Near client.old)) (Line.Load oid)
         (outcome_of_answer result) hub.old hub.new }
 {
     let mut loads = LocalLoads::new(alloc, hub, client.session, clock, client.told);
@@ -67,7 +68,7 @@ fn get_line<St: Store, R: Resolver, F: Refs, C: Clock>(
 ) -> Answer
     ensures line { TakesLine St.told (rules_of R.rules F.named hub.old) (Line.Get oid) result hub.old hub.new client.old
         client.new (C.stamps clock.old) (C.stamps clock.new) }
-    ensures hub { LeavesHub St.told St.lasts St.stands (rules_of R.rules F.named hub.old) (Some client.old) (Line.Get oid)
+    ensures hub { LeavesHub St.told St.lasts St.stands (rules_of R.rules F.named hub.old) (Some (Near client.old)) (Line.Get oid)
         (outcome_of_answer result) hub.old hub.new }
 {
     object_of(get_of(alloc, hub, client, oid, clock))
@@ -85,7 +86,7 @@ fn put_line<St: Store, R: Resolver, F: Refs, C: Clock>(
     requires filled { 0 < length bytes }
     ensures line { TakesLine St.told (rules_of R.rules F.named hub.old) (Line.Put oid bytes) result hub.old hub.new client.old
         client.new (C.stamps clock.old) (C.stamps clock.new) }
-    ensures hub { LeavesHub St.told St.lasts St.stands (rules_of R.rules F.named hub.old) (Some client.old) (Line.Put oid bytes)
+    ensures hub { LeavesHub St.told St.lasts St.stands (rules_of R.rules F.named hub.old) (Some (Near client.old)) (Line.Put oid bytes)
         (outcome_of_answer result) hub.old hub.new }
 {
     let mut loads = LocalLoads::new(alloc, hub, client.session, clock, client.told);
@@ -111,7 +112,7 @@ fn store_line<St: Store, R: Resolver, F: Refs, C: Clock>(
     requires filled { 0 < length bytes }
     ensures line { TakesLine St.told (rules_of R.rules F.named hub.old) (Line.Store oid base bytes) result hub.old hub.new client.old
         client.new (C.stamps clock.old) (C.stamps clock.new) }
-    ensures hub { LeavesHub St.told St.lasts St.stands (rules_of R.rules F.named hub.old) (Some client.old) (Line.Store oid base bytes)
+    ensures hub { LeavesHub St.told St.lasts St.stands (rules_of R.rules F.named hub.old) (Some (Near client.old)) (Line.Store oid base bytes)
         (outcome_of_answer result) hub.old hub.new }
 {
     let mut loads = LocalLoads::new(alloc, hub, client.session, clock, client.told);
@@ -135,7 +136,7 @@ fn delete_line<St: Store, R: Resolver, F: Refs, C: Clock>(
 ) -> Answer
     ensures line { TakesLine St.told (rules_of R.rules F.named hub.old) (Line.Delete oid base) result hub.old hub.new client.old
         client.new (C.stamps clock.old) (C.stamps clock.new) }
-    ensures hub { LeavesHub St.told St.lasts St.stands (rules_of R.rules F.named hub.old) (Some client.old) (Line.Delete oid base)
+    ensures hub { LeavesHub St.told St.lasts St.stands (rules_of R.rules F.named hub.old) (Some (Near client.old)) (Line.Delete oid base)
         (outcome_of_answer result) hub.old hub.new }
 {
     let mut loads = LocalLoads::new(alloc, hub, client.session, clock, client.told);
@@ -159,7 +160,7 @@ fn check_line<St: Store, R: Resolver, F: Refs, C: Clock>(
 ) -> Answer
     ensures line { TakesLine St.told (rules_of R.rules F.named hub.old) (Line.Check oid serial) result hub.old hub.new client.old
         client.new (C.stamps clock.old) (C.stamps clock.new) }
-    ensures hub { LeavesHub St.told St.lasts St.stands (rules_of R.rules F.named hub.old) (Some client.old) (Line.Check oid serial)
+    ensures hub { LeavesHub St.told St.lasts St.stands (rules_of R.rules F.named hub.old) (Some (Near client.old)) (Line.Check oid serial)
         (outcome_of_answer result) hub.old hub.new }
 {
     let mut loads = LocalLoads::new(alloc, hub, client.session, clock, client.told);
@@ -181,7 +182,7 @@ fn savepoint_line<St: Store, R: Resolver, F: Refs, C: Clock>(
 ) -> Answer
     ensures line { TakesLine St.told (rules_of R.rules F.named hub.old) (Line.Savepoint) result hub.old hub.new client.old
         client.new (C.stamps clock.old) (C.stamps clock.new) }
-    ensures hub { LeavesHub St.told St.lasts St.stands (rules_of R.rules F.named hub.old) (Some client.old) (Line.Savepoint)
+    ensures hub { LeavesHub St.told St.lasts St.stands (rules_of R.rules F.named hub.old) (Some (Near client.old)) (Line.Savepoint)
         (outcome_of_answer result) hub.old hub.new }
 {
     let mut loads = LocalLoads::new(alloc, hub, client.session, clock, client.told);
@@ -201,7 +202,7 @@ fn rollback_line<St: Store, R: Resolver, F: Refs, C: Clock>(
 ) -> Answer
     ensures line { TakesLine St.told (rules_of R.rules F.named hub.old) (Line.Rollback number) result hub.old hub.new client.old
         client.new (C.stamps clock.old) (C.stamps clock.new) }
-    ensures hub { LeavesHub St.told St.lasts St.stands (rules_of R.rules F.named hub.old) (Some client.old) (Line.Rollback number)
+    ensures hub { LeavesHub St.told St.lasts St.stands (rules_of R.rules F.named hub.old) (Some (Near client.old)) (Line.Rollback number)
         (outcome_of_answer result) hub.old hub.new }
 {
     let mut loads = LocalLoads::new(alloc, hub, client.session, clock, client.told);
@@ -227,7 +228,7 @@ fn vote_line<St: Store, R: Resolver, F: Refs, C: Clock>(
     requires description { length description.now ≤ 65535 }
     ensures line { TakesLine St.told (rules_of R.rules F.named hub.old) (Line.Vote user.now description.now) result hub.old hub.new client.old
         client.new (C.stamps clock.old) (C.stamps clock.new) }
-    ensures hub { LeavesHub St.told St.lasts St.stands (rules_of R.rules F.named hub.old) (Some client.old) (Line.Vote user.now description.now)
+    ensures hub { LeavesHub St.told St.lasts St.stands (rules_of R.rules F.named hub.old) (Some (Near client.old)) (Line.Vote user.now description.now)
         (outcome_of_answer result) hub.old hub.new }
 {
     let mut loads = LocalLoads::new(alloc, hub, client.session, clock, client.told);
@@ -254,7 +255,7 @@ fn undo_line<St: Store, R: Resolver, F: Refs, C: Clock>(
     requires description { length description.now ≤ 65535 }
     ensures line { TakesLine St.told (rules_of R.rules F.named hub.old) (Line.Undo user.now description.now tids.now) result hub.old hub.new client.old
         client.new (C.stamps clock.old) (C.stamps clock.new) }
-    ensures hub { LeavesHub St.told St.lasts St.stands (rules_of R.rules F.named hub.old) (Some client.old) (Line.Undo user.now description.now tids.now)
+    ensures hub { LeavesHub St.told St.lasts St.stands (rules_of R.rules F.named hub.old) (Some (Near client.old)) (Line.Undo user.now description.now tids.now)
         (outcome_of_answer result) hub.old hub.new }
 {
     let mut loads = LocalLoads::new(alloc, hub, client.session, clock, client.told);
@@ -276,7 +277,7 @@ fn finish_line<St: Store, R: Resolver, F: Refs, C: Clock>(
 ) -> Answer
     ensures line { TakesLine St.told (rules_of R.rules F.named hub.old) (Line.Finish) result hub.old hub.new client.old
         client.new (C.stamps clock.old) (C.stamps clock.new) }
-    ensures hub { LeavesHub St.told St.lasts St.stands (rules_of R.rules F.named hub.old) (Some client.old) (Line.Finish)
+    ensures hub { LeavesHub St.told St.lasts St.stands (rules_of R.rules F.named hub.old) (Some (Near client.old)) (Line.Finish)
         (outcome_of_answer result) hub.old hub.new }
 {
     let mut loads = LocalLoads::new(alloc, hub, client.session, clock, client.told);
@@ -295,7 +296,7 @@ fn abort_line<St: Store, R: Resolver, F: Refs, C: Clock>(
 ) -> Answer
     ensures line { TakesLine St.told (rules_of R.rules F.named hub.old) (Line.Abort) result hub.old hub.new client.old
         client.new (C.stamps clock.old) (C.stamps clock.new) }
-    ensures hub { LeavesHub St.told St.lasts St.stands (rules_of R.rules F.named hub.old) (Some client.old) (Line.Abort)
+    ensures hub { LeavesHub St.told St.lasts St.stands (rules_of R.rules F.named hub.old) (Some (Near client.old)) (Line.Abort)
         (outcome_of_answer result) hub.old hub.new }
 {
     let mut loads = LocalLoads::new(alloc, hub, client.session, clock, client.told);
@@ -314,7 +315,7 @@ fn deliver_line<St: Store, R: Resolver, F: Refs, C: Clock>(
 ) -> Answer
     ensures line { TakesLine St.told (rules_of R.rules F.named hub.old) (Line.Deliver) result hub.old hub.new client.old
         client.new (C.stamps clock.old) (C.stamps clock.new) }
-    ensures hub { LeavesHub St.told St.lasts St.stands (rules_of R.rules F.named hub.old) (Some client.old) (Line.Deliver)
+    ensures hub { LeavesHub St.told St.lasts St.stands (rules_of R.rules F.named hub.old) (Some (Near client.old)) (Line.Deliver)
         (outcome_of_answer result) hub.old hub.new }
 {
     let mut loads = LocalLoads::new(alloc, hub, client.session, clock, client.told);
@@ -336,7 +337,7 @@ pub(crate) fn connection_line<St: Store, R: Resolver, F: Refs, C: Clock>(
     requires asked { is_of_connection line.now ≡ true }
     ensures line { TakesLine St.told (rules_of R.rules F.named hub.old) line.now result hub.old hub.new client.old
         client.new (C.stamps clock.old) (C.stamps clock.new) }
-    ensures hub { LeavesHub St.told St.lasts St.stands (rules_of R.rules F.named hub.old) (Some client.old) line.now
+    ensures hub { LeavesHub St.told St.lasts St.stands (rules_of R.rules F.named hub.old) (Some (Near client.old)) line.now
         (outcome_of_answer result) hub.old hub.new }
 {
     match line {

@@ -1,21 +1,25 @@
 //! The clients of one hub.
 
-ghost use Rattle.std.specs.Prelude.{◌≡◌, None, Option, List, false};
+ghost use Rattle.std.specs.Prelude.{◌≡◌, ◌<◌, None, Some, Option, List, false, length, slice_get};
 ghost use Rattle.zb_ids.specs.declared.stamp.Stamp.{Stamp};
 ghost use Rattle.zb_volume.specs.declared.areas.Area.TheVariants.{Main};
 ghost use Rattle.zb_volume.specs.Moments.{Leaves};
 ghost use Rattle.zodb_core.specs.HubState.{IsFitting, counts_of, rules_of};
 ghost use Rattle.local_loads.specs.Making.{IsHubStep};
+ghost use Rattle.client_turns.specs.declared.member.Member.{Member};
+ghost use Rattle.client_turns.specs.Asking.{IsPlain};
 ghost use Rattle.client_turns.specs.Clients.{Moment, first_moment};
+ghost use Rattle.client_turns.specs.Members.{holds_link, session_of};
 ghost use Rattle.client_turns.specs.Standing.{LeadsTo, StandsForMoment};
 ghost use Rattle.client_turns.specs.Steps.{IsStepAt};
 
-use crate::client::Client;
+use crate::member::{Member, bytes_sent, place_of, session_at};
 use std::alloc::Global;
 use std::marker::Model;
 use tree_calls::NodeCache;
 use zb_model::{Refs, Resolver, Store};
 use zb_outside::Clock;
+use zb_script::Name;
 use zodb_core::{Hub, Reply, Request};
 
 /// The clients of one hub, whose lines are taken one at a time. Contracts see the hub and the clients,
@@ -25,7 +29,7 @@ pub struct Clients<St: Store, R: Resolver, F: Refs> {
     /// The hub.
     pub(crate) hub: Hub<St, R, F>,
     /// The clients, in the order in which they opened their sessions.
-    pub(crate) clients: Vec<Client>,
+    pub(crate) clients: Vec<Member>,
     /// What objects of trees held when they were read.
     pub(crate) cache: NodeCache,
 }
@@ -45,7 +49,6 @@ impl<St: Store, R: Resolver, F: Refs> Model for Clients<St, R, F> {
 
 impl<St: Store, R: Resolver, F: Refs> Clients<St, R, F> {
     /// A hub without clients over a store. It takes no memory.
-    #[tactic(auto, using(crate::proofs::Stepping::first_stands))]
     pub fn new(alloc: Global, store: St, resolver: R, refs: F) -> Clients<St, R, F>
         requires whole { (St.state store).broken ≡ false }
         requires free { (St.state store).voted ≡ None }
@@ -70,22 +73,36 @@ impl<St: Store, R: Resolver, F: Refs> Clients<St, R, F> {
         self.hub.lasting();
     }
 
-    /// A step of a session.
+    /// How many bytes the first client of this name has sent over its link, with the frames around its messages: from 0 to
+    /// 2^64-1, where the count stays. It is 0 where the client has no link, and `None` where no client has the name. What
+    /// a client is answered never tells it: it shows that a link is used, and that a cache is.
+    pub fn bytes_sent(&self, name: &Name) -> Option<u64> {
+        let at = place_of(self.clients.as_slice(), name)?;
+        Some(bytes_sent(&self.clients[at]))
+    }
+
+    /// A step of the session of the client at a place, which asks nothing of a connection. Where it has a link, what is at that
+    /// isn't known any more.
     pub(crate) fn step<C: Clock>(
         &mut self,
         alloc: Global,
-        session: u32,
+        at: usize,
         request: Request,
         clock: &mut C,
     ) -> Reply
+        requires place { at < length self.old.clients }
         requires fitting { IsFitting request }
+        requires plain { IsPlain request }
         ensures step { St.told → (m : Moment) → StandsForMoment self.old (C.stamps clock.old) m →
-            LeadsTo (IsStepAt (rules_of R.rules F.named self.old.hub) m session request result)
+            (x : Member) → slice_get self.old.clients at ≡ Some x → holds_link x ≡ false →
+            LeadsTo (IsStepAt (rules_of R.rules F.named self.old.hub) m (session_of x) request result)
             self.new (C.stamps clock.new) }
-        ensures made { IsHubStep St.told St.lasts St.stands R.rules F.named session request result
+        ensures made { (x : Member) → slice_get self.old.clients at ≡ Some x →
+            IsHubStep St.told St.lasts St.stands R.rules F.named (session_of x) request result
             self.old.hub self.new.hub (C.stamps clock.old) (C.stamps clock.new) }
         ensures clients { self.new.clients ≡ self.old.clients }
     {
+        let session = session_at(self.clients.as_slice(), at);
         self.hub.step(alloc, session, request, clock)
     }
 }

@@ -9,7 +9,8 @@ pub fn the_list_stays_a_database()
     ensures { TheListStaysADatabase }
 {}
 
-/// No client is given a front below one that was given before, to it or to another.
+/// No client is given a front below one that was given before, to it or to another; of what a client with a link
+/// begins with it holds among its own.
 pub fn fronts_never_fall()
     ensures { FrontsNeverFall }
 {}

@@ -27,6 +27,24 @@ pub(crate) fn is_of_connection(line: &Line) -> bool
     }
 }
 
+/// Whether a line asks nothing of a connection, and its answer comes in a message over a link.
+pub(crate) fn is_question_line(line: &Line) -> bool
+    ensures { result ≡ Asking.is_question_line line.now }
+{
+    match line {
+        Line::New | Line::History { .. } | Line::UndoLog => true,
+        Line::Pack { .. } | Line::PackBegin { .. } | Line::PackTurn => true,
+        _ => false,
+    }
+}
+
+/// Whether a line is asked by the client itself: of its connection, or, where it has a link, over that.
+pub(crate) fn asks_by(is_linked: bool, line: &Line) -> bool
+    ensures { result ≡ Asking.asks_by is_linked line.now }
+{
+    is_of_connection(line) || (is_linked && is_question_line(line))
+}
+
 /// The request of a line that asks nothing of the connection.
 pub(crate) fn plain_request(line: &Line) -> Option<Request>
     ensures request { result ≡ plain_request line.now }

@@ -4,24 +4,30 @@ ghost use Rattle.std.specs.Prelude.{◌≡◌, ◌<◌, ◌≤◌, ℕ, List, []
 ghost use Rattle.zb_model.specs.Database.{IsRecord};
 ghost use Rattle.zodb_core.specs.HubState.{rules_of};
 ghost use Rattle.zodb_core.specs.Outcomes.{Answered};
-ghost use Rattle.tree_calls.specs.Calls.{IsAttempt, IsWanted};
+ghost use Rattle.tree_calls.specs.Calls.{HasRead, IsAttempt, IsWanted};
 ghost use Rattle.tree_calls.specs.declared.known.Seen.{Seen};
-ghost use Rattle.tree_calls.specs.Known.{known_at};
+ghost use Rattle.tree_calls.specs.Known.{Agrees, known_at};
 ghost use Rattle.tree_calls.specs.declared.operation.TreeOperation.{TreeOperation};
 ghost use Rattle.connection_view.specs.declared.connection.Connection.{Connection as Open};
 ghost use Rattle.connection_view.specs.Connections.{work_of};
-ghost use Rattle.client_turns.specs.declared.client.Client.{Client};
-ghost use Rattle.client_turns.specs.Asking.{IsCalm, IsPutAll};
+ghost use Rattle.client_turns.specs.declared.member.Member.{Member};
+ghost use Rattle.client_turns.specs.declared.member.Member.TheVariants.{Far};
+ghost use Rattle.client_turns.specs.Members.{connection_of, is_linked};
+ghost use Rattle.client_turns.specs.Asking.{IsCalm, IsFarPut, IsMemberPut, IsPutAll};
 ghost use Rattle.client_turns.specs.Clients.{Moment};
 ghost use Rattle.client_turns.specs.Gathering;
-ghost use Rattle.client_turns.specs.Gathering.{AdvancesTo, Gathers, IsAskedOf, IsCallOf, IsDrawOf, IsFilled, IsSightOf, StandsGathering, gathered, objects_over, outcome_of_advance};
+ghost use Rattle.client_turns.specs.Gathering.{AdvancesTo, Gathers, IsAskedOf, IsCallOf, IsDrawOf, IsFilled, IsSightOf, MayGather, MayGo, MayLearn, MayLearnAll, StandsGathering, TakesMemberDraw, gathered, objects_over, outcome_of_advance};
 ghost use Rattle.client_turns.specs.Lines.{outcome_of_answer, outcome_of_result};
-ghost use Rattle.client_turns.specs.Standing.{IsOpenLineOf, IsOwnOf, LeadsTo, LeavesHub, MayAskAt, MayReadAt, OrStarved, ReadsHub, StandsForMoment};
+ghost use Rattle.client_turns.specs.Linked.{end_of_result};
+ghost use Rattle.client_turns.specs.OverQuestions.{ReadsLinked};
+ghost use Rattle.client_turns.specs.Standing.{IsOpenLineOf, IsOwnOf, LeadsTo, LeavesHub, MayAskAt, MayAskFor, MayBeThere, MayReadAt, MayReadFor, OrStarved, StandsForMoment};
 ghost use Rattle.client_turns.specs.Trees.{NeedsMore, Sees, answer_told, operation_of, stores_put};
 
 use crate::answers::answered;
-use crate::client::{Client, connection_at, session_at};
+use crate::client::Client;
 use crate::clients::Clients;
+use crate::linked_asking::linked_number;
+use crate::member::{FarClient, Member, connection_at, is_linked_at, is_lost_at};
 use connection_view::Connection;
 use std::alloc::{AllocError, Global};
 use std::marker::Brand;
@@ -138,9 +144,38 @@ fn put_all(client: &mut Client, answer: Answer, puts: ListOf<PendingStore>) -> A
     answered(client.connection.store_all(puts), answer)
 }
 
+/// And so of a client with a link.
+fn put_far(far: &mut FarClient, answer: Answer, puts: ListOf<PendingStore>) -> Answer
+    requires records { All (λ p. IsRecord p.content) puts }
+    requires answered { outcome_of_answer answer ≡ Answered }
+    ensures put { IsFarPut far.old.is_lost far.old far.new answer puts result }
+    ensures calm { IsCalm (outcome_of_answer result) }
+{
+    if far.is_lost {
+        return Answer::Refused(Refusal::Memory);
+    }
+    if puts.is_empty() {
+        return answer;
+    }
+    answered(far.client.connection.store_all(puts), answer)
+}
+
+/// And so of either.
+fn put_all_of(member: &mut Member, answer: Answer, puts: ListOf<PendingStore>) -> Answer
+    requires records { All (λ p. IsRecord p.content) puts }
+    requires answered { outcome_of_answer answer ≡ Answered }
+    ensures put { IsMemberPut member.old member.new answer puts result }
+    ensures calm { IsCalm (outcome_of_answer result) }
+{
+    match member {
+        Member::Near(client) => put_all(client, answer, puts),
+        Member::Far(far) => put_far(far, answer, puts),
+    }
+}
+
 /// What a call on a tree puts waits for the vote of the client at a place.
 fn put_all_at(
-    clients: &mut Vec<Client>,
+    clients: &mut Vec<Member>,
     at: usize,
     answer: Answer,
     puts: ListOf<PendingStore>,
@@ -148,12 +183,12 @@ fn put_all_at(
     requires place { at < length clients.old.items }
     requires records { All (λ p. IsRecord p.content) puts }
     requires answered { outcome_of_answer answer ≡ Answered }
-    ensures put { (x : Client) → slice_get clients.old.items at ≡ Some x → (y : Client)
-        × (clients.new.items ≡ slice_set clients.old.items at y) × IsPutAll x y answer puts result }
+    ensures put { (x : Member) → slice_get clients.old.items at ≡ Some x → (y : Member)
+        × (clients.new.items ≡ slice_set clients.old.items at y) × IsMemberPut x y answer puts result }
     ensures calm { IsCalm (outcome_of_answer result) }
     ensures kept { length clients.new.items ≡ length clients.old.items }
 {
-    put_all(&mut clients[at], answer, puts)
+    put_all_of(&mut clients[at], answer, puts)
 }
 
 /// Attempts a call over what is known, and over what else the transaction has.
@@ -171,10 +206,81 @@ fn attempt<St: Store, R: Resolver, F: Refs>(
     ensures attempt { IfOk result (IsAttempt (objects_over known.now hub.now.store.list (work_of connection.now))
         root operation.now numbers.now) }
     ensures wants { IfOk result (IsWanted known.now) }
+    ensures reads { IfOk result (HasRead known.now (objects_over known.now hub.now.store.list (work_of connection.now))
+        root operation.now numbers.now) }
 {
     call_tree::<Brand, Hub<St, R, F>, Connection>(
         alloc, hub, connection, known, cache, numbers, root, operation,
     )
+}
+
+/// Whether the run ends with a draw, so that what is at the link isn't known any more.
+fn ends_run(number: &Result<Oid, Refusal>) -> bool
+    ensures { result ≡ is_some (end_of_result number.now) }
+{
+    match number {
+        Err(Refusal::StoreFault | Refusal::Memory) => true,
+        _ => false,
+    }
+}
+
+/// A number for a new object, which the session of a client with a link draws.
+fn draw_far<St: Store, R: Resolver, F: Refs, C: Clock>(
+    alloc: Global,
+    hub: &mut Hub<St, R, F>,
+    far: &mut FarClient,
+    clock: &mut C,
+) -> Result<Oid, Refusal>
+    ensures draw { TakesMemberDraw St.told result hub.old hub.new (Far far.old) (Far far.new) (C.stamps clock.old)
+        (C.stamps clock.new) }
+    ensures hub { ReadsLinked (St.told × MayBeThere hub.old (Far far.old)) St.lasts St.stands (outcome_of_result result)
+        hub.old hub.new }
+{
+    if far.is_lost {
+        return Err(Refusal::Memory);
+    }
+    let number = linked_number(alloc, hub, &mut far.client, clock);
+    far.is_lost = ends_run(&number);
+    number
+}
+
+/// And so that of a client that has one.
+fn draw_of<St: Store, R: Resolver, F: Refs, C: Clock>(
+    alloc: Global,
+    hub: &mut Hub<St, R, F>,
+    member: &mut Member,
+    clock: &mut C,
+) -> Result<Oid, Refusal>
+    requires linked { is_linked member.old ≡ true }
+    ensures draw { TakesMemberDraw St.told result hub.old hub.new member.old member.new (C.stamps clock.old)
+        (C.stamps clock.new) }
+    ensures hub { ReadsLinked (St.told × MayBeThere hub.old member.old) St.lasts St.stands (outcome_of_result result)
+        hub.old hub.new }
+{
+    match member {
+        Member::Near(_) => unreachable!(),
+        Member::Far(far) => draw_far(alloc, hub, far, clock),
+    }
+}
+
+/// And so that of the client at a place.
+fn draw_at<St: Store, R: Resolver, F: Refs, C: Clock>(
+    alloc: Global,
+    hub: &mut Hub<St, R, F>,
+    clients: &mut Vec<Member>,
+    at: usize,
+    clock: &mut C,
+) -> Result<Oid, Refusal>
+    requires place { at < length clients.old.items }
+    requires linked { (x : Member) → slice_get clients.old.items at ≡ Some x → is_linked x ≡ true }
+    ensures draw { (x : Member) → slice_get clients.old.items at ≡ Some x → (y : Member)
+        × (clients.new.items ≡ slice_set clients.old.items at y)
+        × TakesMemberDraw St.told result hub.old hub.new x y (C.stamps clock.old) (C.stamps clock.new) }
+    ensures hub { (x : Member) → slice_get clients.old.items at ≡ Some x →
+        ReadsLinked (St.told × MayBeThere hub.old x) St.lasts St.stands (outcome_of_result result) hub.old hub.new }
+    ensures kept { length clients.new.items ≡ length clients.old.items }
+{
+    draw_of(alloc, hub, &mut clients[at], clock)
 }
 
 impl<St: Store, R: Resolver, F: Refs> Clients<St, R, F> {
@@ -189,7 +295,8 @@ impl<St: Store, R: Resolver, F: Refs> Clients<St, R, F> {
         requires place { at < length self.old.clients }
         ensures sight { St.told → (m : Moment) → StandsForMoment self.old (C.stamps clock.old) m →
             MayReadAt m at → LeadsTo (IsSightOf m at oid result) self.new (C.stamps clock.new) }
-        ensures hub { ReadsHub St.told St.lasts St.stands (outcome_of_result result) self.old.hub self.new.hub }
+        ensures hub { ReadsLinked (St.told × MayReadFor self.old (C.stamps clock.old) at) St.lasts
+            St.stands (outcome_of_result result) self.old.hub self.new.hub }
         ensures kept { length self.new.clients ≡ length self.old.clients }
     {
         seen_read(self.get(alloc, at, oid, clock))
@@ -198,13 +305,16 @@ impl<St: Store, R: Resolver, F: Refs> Clients<St, R, F> {
     /// A number for a new object, which the session of the client at a place draws.
     fn draw<C: Clock>(&mut self, alloc: Global, at: usize, clock: &mut C) -> Result<Oid, Refusal>
         requires place { at < length self.old.clients }
-        ensures draw { St.told → (m : Moment) → StandsForMoment self.old (C.stamps clock.old) m →
+        ensures draw { St.told → (m : Moment) → StandsForMoment self.old (C.stamps clock.old) m → MayReadAt m at →
             LeadsTo (IsDrawOf m at result) self.new (C.stamps clock.new) }
-        ensures hub { ReadsHub St.told St.lasts St.stands (outcome_of_result result) self.old.hub self.new.hub }
-        ensures clients { self.new.clients ≡ self.old.clients }
+        ensures hub { ReadsLinked (St.told × MayReadFor self.old (C.stamps clock.old) at) St.lasts
+            St.stands (outcome_of_result result) self.old.hub self.new.hub }
+        ensures kept { length self.new.clients ≡ length self.old.clients }
     {
-        let session = session_at(self.clients.as_slice(), at);
-        number_in(self.step(alloc, session, Request::NewOids { count: 1 }, clock))
+        if is_linked_at(self.clients.as_slice(), at) {
+            return draw_at(alloc, &mut self.hub, &mut self.clients, at, clock);
+        }
+        number_in(self.step(alloc, at, Request::NewOids { count: 1 }, clock))
     }
 
     /// One more object is known, or the call has ended.
@@ -220,7 +330,8 @@ impl<St: Store, R: Resolver, F: Refs> Clients<St, R, F> {
         ensures advances { (root : ℕ) (op : TreeOperation) → St.told → (m : Moment)
             → StandsGathering self.old (C.stamps clock.old) m at root op known.old [] → IsAskedOf m at root op oid
             → AdvancesTo m at root op self.new (C.stamps clock.new) known.new [] result }
-        ensures hub { ReadsHub St.told St.lasts St.stands (outcome_of_advance result) self.old.hub self.new.hub }
+        ensures hub { ReadsLinked (St.told × MayLearn self.old (C.stamps clock.old) at known.old oid) St.lasts
+            St.stands (outcome_of_advance result) self.old.hub self.new.hub }
         ensures filled { IfSome result (λ ended. IfOk ended IsFilled) }
         ensures learnt { result ≡ None → is_some (known_at known.new oid) ≡ true }
         ensures more { known_at known.old oid ≡ None → Gathers (length known.old) (length known.new) result }
@@ -249,7 +360,8 @@ impl<St: Store, R: Resolver, F: Refs> Clients<St, R, F> {
         ensures advances { (root : ℕ) (op : TreeOperation) → St.told → (m : Moment)
             → StandsGathering self.old (C.stamps clock.old) m at root op known.old [] → IsAskedOf m at root op oid
             → AdvancesTo m at root op self.new (C.stamps clock.new) known.new [] result }
-        ensures hub { ReadsHub St.told St.lasts St.stands (outcome_of_advance result) self.old.hub self.new.hub }
+        ensures hub { ReadsLinked (St.told × MayLearn self.old (C.stamps clock.old) at known.old oid) St.lasts
+            St.stands (outcome_of_advance result) self.old.hub self.new.hub }
         ensures filled { IfSome result (λ ended. IfOk ended IsFilled) }
         ensures learnt { result ≡ None → is_some (known_at known.new oid) ≡ true }
         ensures grows { length known.old ≤ length known.new }
@@ -275,7 +387,8 @@ impl<St: Store, R: Resolver, F: Refs> Clients<St, R, F> {
             → StandsGathering self.old (C.stamps clock.old) m at root op known.old []
             → All (IsAskedOf m at root op) oids.now
             → AdvancesTo m at root op self.new (C.stamps clock.new) known.new [] result }
-        ensures hub { ReadsHub St.told St.lasts St.stands (outcome_of_advance result) self.old.hub self.new.hub }
+        ensures hub { ReadsLinked (St.told × MayLearnAll self.old (C.stamps clock.old) at known.old oids.now) St.lasts
+            St.stands (outcome_of_advance result) self.old.hub self.new.hub }
         ensures filled { IfSome result (λ ended. IfOk ended IsFilled) }
         ensures grows { length known.old ≤ length known.new }
         ensures kept { length self.new.clients ≡ length self.old.clients }
@@ -305,11 +418,15 @@ impl<St: Store, R: Resolver, F: Refs> Clients<St, R, F> {
         ensures advances { St.told → (m : Moment)
             → StandsGathering self.old (C.stamps clock.old) m at root operation.now known.old []
             → AdvancesTo m at root operation.now self.new (C.stamps clock.new) known.new [] result }
-        ensures hub { ReadsHub St.told St.lasts St.stands (outcome_of_advance result) self.old.hub self.new.hub }
+        ensures hub { ReadsLinked (St.told × MayGather self.old (C.stamps clock.old) at root operation.now known.old []) St.lasts
+            St.stands (outcome_of_advance result) self.old.hub self.new.hub }
         ensures filled { IfSome result (λ ended. IfOk ended IsFilled) }
         ensures grows { length known.old ≤ length known.new }
         ensures kept { length self.new.clients ≡ length self.old.clients }
     {
+        if is_lost_at(self.clients.as_slice(), at) {
+            return Some(Err(Refusal::Memory));
+        }
         match objects_ahead(alloc, known, root, operation) {
             Ok(oids) => self.learn_all(alloc, at, oids.as_slice(), known, clock),
             Err(_) => Some(Err(Refusal::Memory)),
@@ -329,7 +446,8 @@ impl<St: Store, R: Resolver, F: Refs> Clients<St, R, F> {
             → (g : StandsGathering self.old (C.stamps clock.old) m at root op known numbers.old.items)
             → NeedsMore m.machine g.transaction root op numbers.old.items
             → AdvancesTo m at root op self.new (C.stamps clock.new) known numbers.new.items result }
-        ensures hub { ReadsHub St.told St.lasts St.stands (outcome_of_advance result) self.old.hub self.new.hub }
+        ensures hub { ReadsLinked (St.told × MayReadFor self.old (C.stamps clock.old) at) St.lasts
+            St.stands (outcome_of_advance result) self.old.hub self.new.hub }
         ensures filled { IfSome result (λ ended. IfOk ended IsFilled) }
         ensures more { Gathers (length numbers.old.items) (length numbers.new.items) result }
         ensures kept { length self.new.clients ≡ length self.old.clients }
@@ -359,11 +477,14 @@ impl<St: Store, R: Resolver, F: Refs> Clients<St, R, F> {
         requires wanted { IsWanted known.old attempt }
         ensures advances { (objects : ℕ → Option Seen) (root : ℕ) (op : TreeOperation)
             → IsAttempt objects root op numbers.old.items attempt
+            → HasRead known.old objects root op numbers.old.items attempt → Agrees known.old objects
             → St.told → (m : Moment)
             → (g : StandsGathering self.old (C.stamps clock.old) m at root op known.old numbers.old.items)
             → Sees m.machine g.transaction objects
             → AdvancesTo m at root op self.new (C.stamps clock.new) known.new numbers.new.items result }
-        ensures hub { ReadsHub St.told St.lasts St.stands (outcome_of_advance result) self.old.hub self.new.hub }
+        ensures hub { ReadsLinked (St.told × MayGo self.old (C.stamps clock.old) at known.old numbers.old.items
+            (λ objects root op. IsAttempt objects root op numbers.old.items attempt)) St.lasts St.stands
+            (outcome_of_advance result) self.old.hub self.new.hub }
         ensures filled { IfSome result (λ ended. IfOk ended IsFilled) }
         ensures more { Gathers (gathered known.old numbers.old.items) (gathered known.new numbers.new.items) result }
         ensures kept { length self.new.clients ≡ length self.old.clients }
@@ -388,8 +509,10 @@ impl<St: Store, R: Resolver, F: Refs> Clients<St, R, F> {
     ) -> Result<Attempt, AllocError>
         requires place { at < length self.old.clients }
         ensures attempt { IfOk result (λ attempt. (connection : Open)
-            × ((x : Client) → slice_get self.old.clients at ≡ Some x → connection ≡ x.connection)
+            × ((x : Member) → slice_get self.old.clients at ≡ Some x → connection ≡ connection_of x)
             × IsAttempt (objects_over known.now self.old.hub.store.list (work_of connection)) root operation.now
+            numbers.now attempt
+            × HasRead known.now (objects_over known.now self.old.hub.store.list (work_of connection)) root operation.now
             numbers.now attempt) }
         ensures wants { IfOk result (IsWanted known.now) }
         ensures same { self.new ≡ self.old }
@@ -423,11 +546,15 @@ impl<St: Store, R: Resolver, F: Refs> Clients<St, R, F> {
         ensures advances { St.told → (m : Moment)
             → StandsGathering self.old (C.stamps clock.old) m at root operation.now known.old numbers.old.items
             → AdvancesTo m at root operation.now self.new (C.stamps clock.new) known.new numbers.new.items result }
-        ensures hub { ReadsHub St.told St.lasts St.stands (outcome_of_advance result) self.old.hub self.new.hub }
+        ensures hub { ReadsLinked (St.told × MayGather self.old (C.stamps clock.old) at root operation.now known.old numbers.old.items) St.lasts
+            St.stands (outcome_of_advance result) self.old.hub self.new.hub }
         ensures filled { IfSome result (λ ended. IfOk ended IsFilled) }
         ensures more { Gathers (gathered known.old numbers.old.items) (gathered known.new numbers.new.items) result }
         ensures kept { length self.new.clients ≡ length self.old.clients }
     {
+        if is_lost_at(self.clients.as_slice(), at) {
+            return Some(Err(Refusal::Memory));
+        }
         let Ok(attempt) = self.attempt_at(alloc, at, known, numbers.as_slice(), root, operation)
         else {
             return Some(Err(Refusal::Memory));
@@ -450,7 +577,8 @@ impl<St: Store, R: Resolver, F: Refs> Clients<St, R, F> {
         ensures advances { St.told → (m : Moment)
             → StandsGathering self.old (C.stamps clock.old) m at root operation.now known.old numbers.old.items
             → AdvancesTo m at root operation.now self.new (C.stamps clock.new) known.new numbers.new.items result }
-        ensures hub { ReadsHub St.told St.lasts St.stands (outcome_of_advance result) self.old.hub self.new.hub }
+        ensures hub { ReadsLinked (St.told × MayGather self.old (C.stamps clock.old) at root operation.now known.old numbers.old.items) St.lasts
+            St.stands (outcome_of_advance result) self.old.hub self.new.hub }
         ensures filled { IfSome result (λ ended. IfOk ended IsFilled) }
         ensures more { Gathers (gathered known.old numbers.old.items) (gathered known.new numbers.new.items) result }
         ensures kept { length self.new.clients ≡ length self.old.clients }
@@ -476,7 +604,8 @@ impl<St: Store, R: Resolver, F: Refs> Clients<St, R, F> {
         requires place { at < length self.old.clients }
         ensures ends { St.told → (m : Moment) → StandsForMoment self.old (C.stamps clock.old) m →
             MayReadAt m at → LeadsTo (IsCallOf m at root operation.now result) self.new (C.stamps clock.new) }
-        ensures hub { ReadsHub St.told St.lasts St.stands (outcome_of_result result) self.old.hub self.new.hub }
+        ensures hub { ReadsLinked (St.told × MayReadFor self.old (C.stamps clock.old) at) St.lasts
+            St.stands (outcome_of_result result) self.old.hub self.new.hub }
         ensures filled { IfOk result IsFilled }
         ensures kept { length self.new.clients ≡ length self.old.clients }
     {
@@ -511,9 +640,9 @@ impl<St: Store, R: Resolver, F: Refs> Clients<St, R, F> {
         ensures line { St.told → (m : Moment) → StandsForMoment self.old (C.stamps clock.old) m →
             MayReadAt m at → LeadsTo (OrStarved (IsOwnOf m at (Line.Tree root call.now)) m result)
             self.new (C.stamps clock.new) }
-        ensures hub { LeavesHub St.told St.lasts St.stands (rules_of R.rules F.named self.old.hub)
-            (slice_get self.old.clients at) (Line.Tree root call.now) (outcome_of_answer result) self.old.hub
-            self.new.hub }
+        ensures hub { LeavesHub (St.told × MayReadFor self.old (C.stamps clock.old) at) St.lasts St.stands
+            (rules_of R.rules F.named self.old.hub) (slice_get self.old.clients at) (Line.Tree root call.now)
+            (outcome_of_answer result) self.old.hub self.new.hub }
         ensures kept { length self.new.clients ≡ length self.old.clients }
     {
         let Ok(operation) = operation_of(call) else {
@@ -543,10 +672,13 @@ impl<St: Store, R: Resolver, F: Refs> Clients<St, R, F> {
         ensures line { St.told → (m : Moment) → StandsForMoment self.old (C.stamps clock.old) m → MayAskAt m at →
             LeadsTo (IsOpenLineOf (rules_of R.rules F.named self.old.hub) m at (Line.Tree root call.now) result)
             self.new (C.stamps clock.new) }
-        ensures hub { LeavesHub St.told St.lasts St.stands (rules_of R.rules F.named self.old.hub)
-            (slice_get self.old.clients at) (Line.Tree root call.now) (outcome_of_answer result) self.old.hub
-            self.new.hub }
+        ensures hub { LeavesHub (St.told × MayAskFor self.old (C.stamps clock.old) at) St.lasts St.stands
+            (rules_of R.rules F.named self.old.hub) (slice_get self.old.clients at) (Line.Tree root call.now)
+            (outcome_of_answer result) self.old.hub self.new.hub }
     {
+        if is_lost_at(self.clients.as_slice(), at) {
+            return Answer::Refused(Refusal::Memory);
+        }
         if !connection_at(self.clients.as_slice(), at).is_in_transaction() {
             return Answer::Refused(Refusal::NoTransaction);
         }

@@ -1,6 +1,6 @@
 //! Turns.
 
-ghost use Rattle.std.specs.Prelude.{◌≡◌, ◌<◌, ◌∷◌, ◌++◌, [], List, Option, Some, IfOk, IsErrOf, OnOk, None, false, length, slice_get, vec_capacity};
+ghost use Rattle.std.specs.Prelude.{◌≡◌, ◌<◌, [], List, Option, Some, IfOk, IsErrOf, OnOk, None, false, length, slice_get};
 ghost use Rattle.zb_base.specs.Counts.{Rose};
 ghost use Rattle.zb_ids.specs.declared.stamp.Stamp.{Stamp};
 ghost use Rattle.zb_volume.specs.declared.areas.Area.TheVariants.{Main, Side};
@@ -10,14 +10,16 @@ ghost use Rattle.zodb_core.specs.Outcomes.{AreLaterCounts};
 ghost use Rattle.client_turns.specs.Asking.{IsCalm};
 ghost use Rattle.client_turns.specs.Clients.{Moment, place_of_client};
 ghost use Rattle.client_turns.specs.Lines.{IsCountedBy, end_of, outcome_of_answer, outcome_of_end, outcome_of_turn};
-ghost use Rattle.client_turns.specs.Refusing.{IsFittingLine, opens_session};
-ghost use Rattle.client_turns.specs.Standing.{ClosesAs, ClosesIf, IsListIn, IsOpenLineOf, KeepsHub, LeadsTo, LeavesHub, MayAskAt, OrStarved, StandsForMoment, kept_named, packs_list};
-ghost use Rattle.client_turns.specs.Turns.{IsLine, IsLineAt, IsOpening, IsTurn};
+ghost use Rattle.client_turns.specs.Refusing.{IsFittingLine, opening_in};
+ghost use Rattle.client_turns.specs.Standing.{ClosesAs, ClosesIf, IsListIn, IsOpenLineOf, IsCutOf, KeepsHub, LeadsTo, LeavesHub, MayAskAt, MayAskFor, MayStandFor, OrCut, OrStarved, StandsForMoment, kept_named, packs_list};
+ghost use Rattle.client_turns.specs.Turns.{IsCutLine, IsLine, IsLineAt, IsOpening, IsTurn};
 
-use crate::client::{Client, place_of, session_at};
+use crate::client::Client;
 use crate::clients::Clients;
 use crate::errors::TurnError;
-use crate::requests::{answer_of, end_of, is_of_connection, plain_request};
+use crate::member::{Member, is_linked_at, place_of, push_client, session_at};
+use crate::requests::{answer_of, asks_by, end_of, plain_request};
+use crate::steps::lose_at;
 use connection_view::Connection;
 use std::alloc::Global;
 use zb_answers::Answer;
@@ -26,19 +28,14 @@ use zb_outside::Clock;
 use zb_script::{Line, Name, Turn};
 use zodb_core::{Request, SessionRefusal};
 
-/// Puts a client behind the others, for whom there is room.
-fn push_client(clients: &mut Vec<Client>, client: Client)
-    requires room { length clients.old.items < vec_capacity clients.old }
-    ensures { clients.new.items ≡ clients.old.items ++ client ∷ [] }
+/// Of a line that opens a session, whether its client has a link to it.
+fn opening_in(line: &Line) -> Option<bool>
+    ensures { result ≡ opening_in line.now }
 {
-    let _ = clients.push(client);
-}
-
-/// Whether a line opens a session.
-fn opens_session(line: &Line) -> bool
-    ensures { result ≡ opens_session line.now }
-{
-    matches!(line, Line::Open)
+    match line {
+        Line::Open { remote } => Some(*remote),
+        _ => None,
+    }
 }
 
 impl<St: Store, R: Resolver, F: Refs> Clients<St, R, F> {
@@ -65,7 +62,7 @@ impl<St: Store, R: Resolver, F: Refs> Clients<St, R, F> {
                     told: None,
                     connection,
                 };
-                push_client(&mut self.clients, client);
+                push_client(&mut self.clients, Member::Near(client));
                 Answer::Opened { session }
             }
             Err(SessionRefusal::TooManySessions { count }) => {
@@ -86,14 +83,15 @@ impl<St: Store, R: Resolver, F: Refs> Clients<St, R, F> {
     ) -> Answer
         requires place { at < length self.old.clients }
         requires fitting { IsFittingLine line.now }
-        requires opened { opens_session line.now ≡ false }
+        requires opened { opening_in line.now ≡ None }
         ensures line { St.told → (m : Moment) → StandsForMoment self.old (C.stamps clock.old) m → MayAskAt m at →
-            LeadsTo (IsOpenLineOf (rules_of R.rules F.named self.old.hub) m at line.now result)
-            self.new (C.stamps clock.new) }
-        ensures hub { LeavesHub St.told St.lasts St.stands (rules_of R.rules F.named self.old.hub)
-            (slice_get self.old.clients at) line.now (outcome_of_answer result) self.old.hub self.new.hub }
+            LeadsTo (OrCut (IsOpenLineOf (rules_of R.rules F.named self.old.hub) m at line.now)
+            (IsCutOf (rules_of R.rules F.named self.old.hub) m at line.now) result) self.new (C.stamps clock.new) }
+        ensures hub { LeavesHub (St.told × MayAskFor self.old (C.stamps clock.old) at) St.lasts St.stands
+            (rules_of R.rules F.named self.old.hub) (slice_get self.old.clients at) line.now (outcome_of_answer result)
+            self.old.hub self.new.hub }
     {
-        if is_of_connection(line) {
+        if asks_by(is_linked_at(self.clients.as_slice(), at), line) {
             return self.ask(alloc, at, line, clock);
         }
         if let Some(request) = plain_request(line) {
@@ -115,12 +113,13 @@ impl<St: Store, R: Resolver, F: Refs> Clients<St, R, F> {
     ) -> Answer
         requires place { at < length self.old.clients }
         requires fitting { IsFittingLine line.now }
-        requires opened { opens_session line.now ≡ false }
+        requires opened { opening_in line.now ≡ None }
         ensures line { St.told → (m : Moment) → StandsForMoment self.old (C.stamps clock.old) m →
-            LeadsTo (OrStarved (IsLineAt (rules_of R.rules F.named self.old.hub) m at line.now) m result)
-            self.new (C.stamps clock.new) }
-        ensures hub { LeavesHub St.told St.lasts St.stands (rules_of R.rules F.named self.old.hub)
-            (slice_get self.old.clients at) line.now (outcome_of_answer result) self.old.hub self.new.hub }
+            LeadsTo (OrCut (OrStarved (IsLineAt (rules_of R.rules F.named self.old.hub) m at line.now) m)
+            (IsCutOf (rules_of R.rules F.named self.old.hub) m at line.now) result) self.new (C.stamps clock.new) }
+        ensures hub { LeavesHub (St.told × MayStandFor self.old (C.stamps clock.old)) St.lasts St.stands
+            (rules_of R.rules F.named self.old.hub) (slice_get self.old.clients at) line.now (outcome_of_answer result)
+            self.old.hub self.new.hub }
     {
         if !self.hub.is_open(session_at(self.clients.as_slice(), at)) {
             return Answer::Refused(Refusal::NotOpen);
@@ -132,13 +131,16 @@ impl<St: Store, R: Resolver, F: Refs> Clients<St, R, F> {
     fn line<C: Clock>(&mut self, alloc: Global, name: Name, line: &Line, clock: &mut C) -> Answer
         requires fitting { IsFittingLine line.now }
         ensures line { St.told → (m : Moment) → StandsForMoment self.old (C.stamps clock.old) m →
-            LeadsTo (OrStarved (IsLine (rules_of R.rules F.named self.old.hub) m name line.now) m result)
-            self.new (C.stamps clock.new) }
-        ensures hub { LeavesHub St.told St.lasts St.stands (rules_of R.rules F.named self.old.hub)
-            (kept_named name self.old.clients) line.now (outcome_of_answer result) self.old.hub self.new.hub }
+            LeadsTo (OrCut (OrStarved (IsLine (rules_of R.rules F.named self.old.hub) m name line.now) m)
+            (IsCutLine (rules_of R.rules F.named self.old.hub) m name line.now) result) self.new (C.stamps clock.new) }
+        ensures hub { LeavesHub (St.told × MayStandFor self.old (C.stamps clock.old)) St.lasts St.stands
+            (rules_of R.rules F.named self.old.hub) (kept_named name self.old.clients) line.now (outcome_of_answer result)
+            self.old.hub self.new.hub }
     {
-        if opens_session(line) {
-            return self.open(alloc, name);
+        match opening_in(line) {
+            Some(false) => return self.open(alloc, name),
+            Some(true) => return self.open_far(alloc, name, clock),
+            None => {}
         }
         match place_of(self.clients.as_slice(), &name) {
             Some(at) => self.take_line(alloc, at, line, clock),
@@ -158,8 +160,8 @@ impl<St: Store, R: Resolver, F: Refs> Clients<St, R, F> {
         let Some(at) = place_of(self.clients.as_slice(), name) else {
             return None;
         };
-        let session = session_at(self.clients.as_slice(), at);
-        let reply = self.step(alloc, session, Request::Close, clock);
+        lose_at(&mut self.clients, at);
+        let reply = self.step(alloc, at, Request::Close, clock);
         end_of(&answer_of(reply))
     }
 

@@ -3,8 +3,8 @@
 ghost use Rattle.std.specs.Prelude.{◌≡◌, false};
 ghost use Rattle.client_turns.specs.Waiting.{FreeTurnsAreServed, is_held_up, waits_for_vote};
 
-use crate::client::{place_of, session_at};
 use crate::clients::Clients;
+use crate::member::{place_of, session_at};
 use zb_model::{Refs, Resolver, Store};
 use zb_script::{Line, Turn};
 

@@ -1,6 +1,6 @@
 -- How long the values of answers are at most.
 use Rattle.std.proofs.Common.{◌≡◌, ℕ, ◌+◌, ◌*◌, ◌-◌, ◌≤◌, ◌<◌, ◌^◌, Bool, true, false, cond, List, [], ◌∷◌, map, Option, Some, None, length, length-append, refl, arith}
-use Rattle.std.specs.Prelude.{nat_lt, nat_eq}
+use Rattle.std.specs.Prelude.{codes, nat_lt, nat_eq}
 use Rattle.std.specs.List.{AllByRecursion}
 use Rattle.std.proofs.lemmas.Bool.{ltb-false}
 use Rattle.zb_model.specs.declared.lists.LogLine.{LogLine}
@@ -16,6 +16,7 @@ use Rattle.zeo_messages.specs.Answers.{commit_text, kind_of, line_text, refusal_
 use Rattle.zeo_messages.specs.LengthLaws.{payload_length}
 use Rattle.zeo_values.specs.LengthLaws.{count_short, id_length, long_bytes_length, name_length, zero_length}
 use Rattle.zeo_values.specs.Values.{bytes_text, closing, count_text, ended, id_text, list_of, list_text, maybe_text, name_text, opening, tuple_text}
+use Rattle.zeo_frames.specs.declared.limit.TheConstants.{FRAME_LIMIT}
 use Rattle.zeo_desk.specs.Answering.{counted_length}
 use Rattle.hub_carrier.specs.Telling.{IsShortCommit, IsShortRefusal, IsShortWhy}
 
@@ -178,54 +179,64 @@ refusal_length (refusals.Connected session) = omega arith
 refusal_length refusals.StepsSpent = omega arith
 refusal_length refusals.Memory = omega arith
 
-one_count : (n : ℕ) → total (count_text n ∷ []) ≤ 2 ^ 41
+one_count : (n : ℕ) → total (count_text n ∷ []) ≤ 60
 one_count n = let a = count_short n in omega (arith, a)
 
-one_id : (n : ℕ) → total (id_text n ∷ []) ≤ 2 ^ 41
+one_id : (n : ℕ) → total (id_text n ∷ []) ≤ 60
 one_id n = let a = id_length n in omega (arith, a)
 
-two_ids : (n k : ℕ) → total (id_text n ∷ id_text k ∷ []) ≤ 2 ^ 41
+two_ids : (n k : ℕ) → total (id_text n ∷ id_text k ∷ []) ≤ 60
 two_ids n k = let a = id_length n in let b = id_length k in omega (arith, a, b)
 
-fields_short : (r : Refusal) → IsShortRefusal r → total (refusal_fields r) ≤ 2 ^ 41
-fields_short (refusals.Conflict oid base current reason) few =
+-- what a conflict says beside its objects
+abbrev conflict_rest : Refusal → ℕ
+conflict_rest (refusals.Conflict oid base current reason) = total (why_fields reason)
+conflict_rest _ = 0
+
+-- the fields of a refusal are short, but for that
+fields_within : (r : Refusal) → total (refusal_fields r) ≤ conflict_rest r + 60
+fields_within (refusals.Conflict oid base current reason) =
     let a = id_length oid in
     let b = id_length base in
     let c = id_length current in
     let d = name_length (why_name reason) in
     let e = why_length reason in
-    let f = why_rest reason few in
-    omega (arith, a, b, c, d, e, f)
-fields_short (refusals.ReadConflict oid base current) few = let a = id_length oid in let b = id_length base in let c = id_length current in omega (arith, a, b, c)
-fields_short (refusals.TooLong n) few = one_count n
-fields_short (refusals.UndoUnknown tid) few = one_id tid
-fields_short (refusals.UndoPacked tid) few = one_id tid
-fields_short (refusals.UndoConflict oid later) few = two_ids oid later
-fields_short (refusals.Overtaken oid tid) few = two_ids oid tid
-fields_short (refusals.Unreadable oid tid) few = two_ids oid tid
-fields_short (refusals.PackedAlready packed) few = one_id packed
-fields_short (refusals.Missing oid true) few = let a = id_length oid in omega (arith, a)
-fields_short (refusals.Missing oid false) few = let a = id_length oid in omega (arith, a)
-fields_short (refusals.Busy holder) few = one_count holder
-fields_short (refusals.PackRunning session) few = one_count session
-fields_short (refusals.JournalFull count) few = one_count count
-fields_short (refusals.TooManySessions count) few = one_count count
-fields_short (refusals.NoSavepoint number) few = one_count number
-fields_short (refusals.FrameTooLong n) few = one_count n
-fields_short (refusals.Mixed stores) few = one_count stores
-fields_short (refusals.NotATree oid) few = one_id oid
-fields_short (refusals.NodeMissing oid) few = one_id oid
-fields_short (refusals.NothingToDelete oid current) few = two_ids oid current
-fields_short (refusals.Connected session) few = one_count session
-fields_short _ few = omega arith
+    omega (arith, a, b, c, d, e)
+fields_within (refusals.ReadConflict oid base current) = let a = id_length oid in let b = id_length base in let c = id_length current in omega (arith, a, b, c)
+fields_within (refusals.TooLong n) = one_count n
+fields_within (refusals.UndoUnknown tid) = one_id tid
+fields_within (refusals.UndoPacked tid) = one_id tid
+fields_within (refusals.UndoConflict oid later) = two_ids oid later
+fields_within (refusals.Overtaken oid tid) = two_ids oid tid
+fields_within (refusals.Unreadable oid tid) = two_ids oid tid
+fields_within (refusals.PackedAlready packed) = one_id packed
+fields_within (refusals.Missing oid true) = let a = id_length oid in omega (arith, a)
+fields_within (refusals.Missing oid false) = let a = id_length oid in omega (arith, a)
+fields_within (refusals.Busy holder) = one_count holder
+fields_within (refusals.PackRunning session) = one_count session
+fields_within (refusals.JournalFull count) = one_count count
+fields_within (refusals.TooManySessions count) = one_count count
+fields_within (refusals.NoSavepoint number) = one_count number
+fields_within (refusals.FrameTooLong n) = one_count n
+fields_within (refusals.Mixed stores) = one_count stores
+fields_within (refusals.NotATree oid) = one_id oid
+fields_within (refusals.NodeMissing oid) = one_id oid
+fields_within (refusals.NothingToDelete oid current) = two_ids oid current
+fields_within (refusals.Connected session) = one_count session
+fields_within _ = omega arith
+
+rest_short : (r : Refusal) → IsShortRefusal r → conflict_rest r ≤ 2 ^ 40
+rest_short (refusals.Conflict oid base current reason) few = why_rest reason few
+rest_short _ few = omega arith
 
 pub refusal_short : (r : Refusal) → IsShortRefusal r → length (refusal_text r) ≤ 2 ^ 42
 refusal_short r few =
     let a = tuple_length (name_text (refusal_name r) ∷ refusal_fields r) in
     let b = name_length (refusal_name r) in
     let c = refusal_length r in
-    let d = fields_short r few in
-    omega (arith, a, b, c, d)
+    let d = fields_within r in
+    let e = rest_short r few in
+    omega (arith, a, b, c, d, e)
 
 -- ---- payloads
 
@@ -242,3 +253,26 @@ counted_short answer short =
     let d = name_length (kind_of answer) in
     let e = kind_length answer in
     omega (arith, a, b, c, d, e, short)
+
+-- a refusal that is no conflict
+abbrev pub IsNoConflict : Refusal → Type 0
+IsNoConflict (refusals.Conflict oid base current reason) = ⊥
+IsNoConflict _ = Unit {0}
+
+no_rest : (r : Refusal) → IsNoConflict r → conflict_rest r ≡ 0
+no_rest (refusals.Conflict oid base current reason) is = absurd is
+no_rest _ is = refl
+
+-- it fits a frame
+pub refusal_fits : (r : Refusal) → IsNoConflict r → counted_length (answers.Refused r) ≤ FRAME_LIMIT
+refusal_fits r is =
+    let a = tuple_length (name_text (refusal_name r) ∷ refusal_fields r) in
+    let b = name_length (refusal_name r) in
+    let c = refusal_length r in
+    let d = fields_within r in
+    let e = no_rest r is in
+    let f = payload_length (2 ^ 31 - 1) 0 (codes ".error") (refusal_text r) in
+    let g = count_short (2 ^ 31 - 1) in
+    let h = zero_length in
+    let i = name_length (codes ".error") in
+    omega (arith, a, b, c, d, e, f, g, h, i)

@@ -8,7 +8,7 @@ use Rattle.std.proofs.lemmas.Bool.Decides.{nat_tests}
 use Rattle.std.proofs.lemmas.Fmt.{decimal_is_IsNumeral, parse-decimal}
 use Rattle.std.proofs.lemmas.Slice.Eq.{bytes_eq-Decides}
 use Rattle.program_words.specs.declared.command.Command.TheVariants as command
-use Rattle.program_words.specs.Words.{number_word, serve_command, serve_with}
+use Rattle.program_words.specs.Words.{gen_command, gen_with, number_word, serve_command, serve_with}
 
 -- a word that spells a number reads as it
 spells : (word : List ℕ) (n : ℕ) → n < 2 ^ 16 → word ≡ decimal n → number_word word ≡ Some n
@@ -75,3 +75,17 @@ count_refused port count p n is are many = sym (with_both port count p n is are 
 pub serve_taken : (port count : List ℕ) (p n : ℕ) → number_word port ≡ Some p → number_word count ≡ Some n → (nat_eq n 0 || nat_lt 64 n) ≡ false
     → Some (command.Serve (record { port = p; count = n })) ≡ serve_command port count
 serve_taken port count p n is are few = sym (with_both port count p n is are ∙ ap (λ (b : Bool). cond b None (Some (command.Serve (record { port = p; count = n })))) few)
+
+-- ---- rounds of a script
+
+with_rounds : (text : List ℕ) (n : ℕ) → number_word text ≡ Some n → gen_command text ≡ gen_with n
+with_rounds text n is = ap (option_and_then gen_with) is
+
+pub no_rounds : (text : List ℕ) → number_word text ≡ None → None ≡ gen_command text
+no_rounds text none = sym (ap (option_and_then gen_with) none)
+
+pub rounds_refused : (text : List ℕ) (n : ℕ) → number_word text ≡ Some n → (nat_eq n 0 || nat_lt 8000 n) ≡ true → None ≡ gen_command text
+rounds_refused text n is many = sym (with_rounds text n is ∙ ap (λ (b : Bool). cond b None (Some (command.Gen n))) many)
+
+pub rounds_taken : (text : List ℕ) (n : ℕ) → number_word text ≡ Some n → (nat_eq n 0 || nat_lt 8000 n) ≡ false → Some (command.Gen n) ≡ gen_command text
+rounds_taken text n is few = sym (with_rounds text n is ∙ ap (λ (b : Bool). cond b None (Some (command.Gen n))) few)

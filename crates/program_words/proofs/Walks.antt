@@ -305,6 +305,32 @@ check_reads (word ∷ []) h = taken (codes "check") (Some word) None (check_take
 check_reads (word ∷ other ∷ []) h = refused (check_longer word other [] h.0 h.1.0) refl
 check_reads (word ∷ other ∷ third ∷ more) h = refused (check_longer word other (third ∷ more) h.0 h.1.0) refl
 
+gen_short : IsRefused (codes "gen" ∷ [])
+unfolding clap_on_literals
+gen_short = record { kind = _; kinds = _; fault = refl }
+
+gen_taken : (word : Text) → Plain word → IsTaken (codes "gen" ∷ word ∷ []) (codes "gen") (Some word) None
+unfolding clap_on_literals
+gen_taken word h =
+    let d = no_dashes word h in let l = no_long word h in let s = no_short word h in
+    record { fault = rw (d, l, s) refl; entered = rw (d, l, s) refl }
+
+gen_longer : (word other : Text) (more : List Text) → Plain word → Plain other → IsRefused (codes "gen" ∷ word ∷ other ∷ more)
+unfolding clap_on_literals
+gen_longer word other more h k =
+    let d = no_dashes word h in let l = no_long word h in let s = no_short word h in
+    let d' = no_dashes other k in let l' = no_long other k in let s' = no_short other k in
+    let w : Walk = behind (codes "gen") (word ∷ other ∷ []) in
+    let f = no_fault_on top names w (codes "gen", word ∷ other ∷ []) more refl in
+    let o = walk_on top.rules names w (codes "gen", word ∷ other ∷ []) more refl in
+    record { kind = kinds.UnknownArgument; kinds = []; fault = rw (f, o, d, l, s, d', l', s') refl }
+
+gen_reads : (rest : List Text) → AllByRecursion Plain rest → Reads (codes "gen" ∷ rest)
+gen_reads [] h = refused gen_short refl
+gen_reads (word ∷ []) h = taken (codes "gen") (Some word) None (gen_taken word h.0) refl
+gen_reads (word ∷ other ∷ []) h = refused (gen_longer word other [] h.0 h.1.0) refl
+gen_reads (word ∷ other ∷ third ∷ more) h = refused (gen_longer word other (third ∷ more) h.0 h.1.0) refl
+
 serve_short : IsRefused (codes "serve" ∷ [])
 unfolding clap_on_literals
 serve_short = record { kind = _; kinds = _; fault = refl }
@@ -342,16 +368,16 @@ serve_reads (word ∷ other ∷ third ∷ more) h = refused (serve_longer word o
 -- a word that is none of the names
 module _ (word : Text) (h : Plain word) (not_run : bytes_eq (codes "run") word ≡ false) (not_undolog : bytes_eq (codes "undolog") word ≡ false) (not_index : bytes_eq (codes "index") word ≡ false) (not_play : bytes_eq (codes "play") word ≡ false) (not_history : bytes_eq (codes "history") word ≡ false)
     (not_show : bytes_eq (codes "show") word ≡ false) (not_digest : bytes_eq (codes "digest") word ≡ false) (not_pack : bytes_eq (codes "pack") word ≡ false)
-    (not_check : bytes_eq (codes "check") word ≡ false) (not_serve : bytes_eq (codes "serve") word ≡ false) where
+    (not_check : bytes_eq (codes "check") word ≡ false) (not_serve : bytes_eq (codes "serve") word ≡ false) (not_gen : bytes_eq (codes "gen") word ≡ false) where
   unknown : (rest : List Text) → IsRefused (word ∷ rest)
   unfolding clap_on_literals
   unknown rest =
       let d = no_dashes word h in let l = no_long word h in let s = no_short word h in
-      record { kind = kinds.UnknownArgument; kinds = kinds.InvalidSubcommand ∷ []; fault = rw (not_run, not_undolog, not_history, not_show, not_digest, not_pack, not_check, not_index, not_play, not_serve, d, l, s) refl }
+      record { kind = kinds.UnknownArgument; kinds = kinds.InvalidSubcommand ∷ []; fault = rw (not_run, not_undolog, not_history, not_show, not_digest, not_pack, not_check, not_index, not_play, not_serve, not_gen, d, l, s) refl }
 
   unknown_reads : (rest : List Text) → Reads (word ∷ rest)
   unknown_reads [] = refused (unknown []) (rw (not_run, not_undolog, not_index, not_play) refl)
-  unknown_reads (argument ∷ []) = refused (unknown (argument ∷ [])) (rw (not_history, not_show, not_digest, not_pack, not_check) refl)
+  unknown_reads (argument ∷ []) = refused (unknown (argument ∷ [])) (rw (not_history, not_show, not_digest, not_pack, not_check, not_gen) refl)
   unknown_reads (argument ∷ other ∷ []) = refused (unknown (argument ∷ other ∷ [])) (rw (not_pack, not_serve) refl)
   unknown_reads (argument ∷ other ∷ third ∷ more) = refused (unknown (argument ∷ other ∷ third ∷ more)) refl
 
@@ -376,4 +402,5 @@ reads (word ∷ rest) h =
     by_name (codes "pack") word rest (pack_reads rest h.1) (λ not_pack.
     by_name (codes "check") word rest (check_reads rest h.1) (λ not_check.
     by_name (codes "serve") word rest (serve_reads rest h.1) (λ not_serve.
-    unknown_reads word h.0 not_run not_undolog not_index not_play not_history not_show not_digest not_pack not_check not_serve rest))))))))))
+    by_name (codes "gen") word rest (gen_reads rest h.1) (λ not_gen.
+    unknown_reads word h.0 not_run not_undolog not_index not_play not_history not_show not_digest not_pack not_check not_serve not_gen rest)))))))))))

@@ -39,8 +39,8 @@ program_top = let a = new_app (codes "zodb") in
 
 abbrev pub program_app : App
 program_app =
-    with_subcommand (with_subcommand (with_subcommand (with_subcommand (with_subcommand (with_subcommand (with_subcommand (with_subcommand (with_subcommand (with_subcommand program_top (alone (codes "run")).top) (alone (codes "undolog")).top)
-    (placed (codes "history")).top) (placed (codes "show")).top) (placed (codes "digest")).top) (placed_twice (codes "pack")).top) (placed (codes "check")).top) (alone (codes "index")).top) (alone (codes "play")).top) (placed_pair (codes "serve")).top
+    with_subcommand (with_subcommand (with_subcommand (with_subcommand (with_subcommand (with_subcommand (with_subcommand (with_subcommand (with_subcommand (with_subcommand (with_subcommand program_top (alone (codes "run")).top) (alone (codes "undolog")).top)
+    (placed (codes "history")).top) (placed (codes "show")).top) (placed (codes "digest")).top) (placed_twice (codes "pack")).top) (placed (codes "check")).top) (alone (codes "index")).top) (alone (codes "play")).top) (placed_pair (codes "serve")).top) (placed (codes "gen")).top
 
 -- the name of a subcommand, and the values of its positions
 abbrev pub named_in : Option (Text × List Row) → Option (Text × Option Text × Option Text)

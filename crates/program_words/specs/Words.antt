@@ -27,7 +27,7 @@ abbrev pub stands_alone : List ℕ → Bool
 stands_alone word = bytes_eq (codes "run") word || (bytes_eq (codes "undolog") word || (bytes_eq (codes "index") word || bytes_eq (codes "play") word))
 
 abbrev pub has_position : List ℕ → Bool
-has_position word = bytes_eq (codes "history") word || (bytes_eq (codes "show") word || (bytes_eq (codes "digest") word || (bytes_eq (codes "pack") word || bytes_eq (codes "check") word)))
+has_position word = bytes_eq (codes "history") word || (bytes_eq (codes "show") word || (bytes_eq (codes "digest") word || (bytes_eq (codes "pack") word || (bytes_eq (codes "check") word || bytes_eq (codes "gen") word))))
 
 abbrev pub may_have_two : List ℕ → Bool
 may_have_two word = bytes_eq (codes "pack") word || bytes_eq (codes "serve") word
@@ -74,9 +74,19 @@ serve_with port count = if nat_eq count 0 || nat_lt 64 count then None else Some
 abbrev pub serve_command : List ℕ → List ℕ → Option Command
 serve_command port count = option_and_then (λ p. option_and_then (serve_with p) (number_word count)) (number_word port)
 
--- what a name asks with the word at its position: a stamp, or the sixteen digits of an object
+-- the script of so many rounds: 1 to 8,000
+abbrev pub gen_with : ℕ → Option Command
+gen_with rounds = if nat_eq rounds 0 || nat_lt 8000 rounds then None else Some (command.Gen rounds)
+
+abbrev pub gen_command : List ℕ → Option Command
+gen_command text = option_and_then gen_with (number_word text)
+
+-- what a name asks with the word at its position: a stamp, a number of rounds, or the sixteen digits of an object
 abbrev pub text_command : List ℕ → List ℕ → Option Command
-text_command word text = if bytes_eq word (codes "pack") then pack_command text true else option_and_then (object_command word) (number_at text)
+text_command word text =
+    if bytes_eq word (codes "pack") then pack_command text true
+    else if bytes_eq word (codes "gen") then gen_command text
+    else option_and_then (object_command word) (number_at text)
 
 -- and what it asks with a second word: a pack that doesn't collect, or links that are to be served
 abbrev pub long_command : List ℕ → List ℕ → List ℕ → Option Command

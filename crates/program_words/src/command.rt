@@ -4,7 +4,7 @@ ghost use Rattle.std.specs.Prelude.{◌≡◌, IfOk, map, string_bytes};
 ghost use Rattle.std.specs.List.{list_any};
 ghost use Rattle.std.specs.Option.{option_and_then, option_map};
 ghost use Rattle.zb_ids.specs.Hex.{number_at};
-ghost use Rattle.program_words.specs.Words.{command_of, is_dashed, is_path, long_command, named_command, number_word, object_command, pack_command, serve_command, text_command, word_command};
+ghost use Rattle.program_words.specs.Words.{command_of, gen_command, is_dashed, is_path, long_command, named_command, number_word, object_command, pack_command, serve_command, text_command, word_command};
 
 use crate::entering::named;
 use itoa::Buffer;
@@ -77,6 +77,11 @@ pub enum Command {
         /// Which.
         ServeRequest,
     ),
+    /// The script that is made of a number is to be run, and what its replies come to is told.
+    Gen {
+        /// The number, and how many rounds the script has: 1 to 8,000.
+        rounds: u64,
+    },
 }
 
 /// Whether a word is a path: it isn't empty and doesn't begin with a dash.
@@ -201,12 +206,31 @@ fn serve_command(port: &str, count: &str) -> Option<Command>
     Some(Command::Serve(ServeRequest { port, count }))
 }
 
+/// The script of so many rounds.
+#[tactic(auto, using(crate::proofs::Numbers::no_rounds, crate::proofs::Numbers::rounds_refused, crate::proofs::Numbers::rounds_taken))]
+fn gen_command(rounds: &str) -> Option<Command>
+    ensures { result ≡ gen_command rounds.now }
+{
+    let Some(rounds) = number_word(rounds) else {
+        return None;
+    };
+    if rounds == 0 || rounds > 8_000 {
+        return None;
+    }
+    Some(Command::Gen {
+        rounds: u64::from(rounds),
+    })
+}
+
 /// What a name asks with the word at its position.
 fn text_command(word: &str, text: &str) -> Option<Command>
     ensures { result ≡ text_command word.now text.now }
 {
     if word == "pack" {
         return pack_command(text, true);
+    }
+    if word == "gen" {
+        return gen_command(text);
     }
     digits_command(word, text)
 }

@@ -63,5 +63,6 @@ pub(crate) fn program<'a>(alloc: Global) -> Result<Command<'a>, AllocError>
         .subcommand(placed(alloc, "check")?)?
         .subcommand(alone(alloc, "index"))?
         .subcommand(alone(alloc, "play"))?
-        .subcommand(placed_pair(alloc, "serve")?)
+        .subcommand(placed_pair(alloc, "serve")?)?
+        .subcommand(placed(alloc, "gen")?)
 }

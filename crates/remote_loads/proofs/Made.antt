@@ -1,5 +1,5 @@
 -- Calls that are made, of the messages that they are made of.
-use Rattle.std.proofs.Common.{◌≡◌, ℕ, true, false, List, Option, Some, None, Result, Ok, Err, refl, sym, subst}
+use Rattle.std.proofs.Common.{◌≡◌, ◌<◌, ◌≤◌, ℕ, true, false, List, Option, Some, None, Result, Ok, Err, refl, sym, subst}
 use Rattle.std.specs.Prelude.{is_ok}
 use Rattle.zb_model.specs.declared.pending.PendingCheck.{PendingCheck}
 use Rattle.zb_model.specs.declared.pending.PendingStore.{PendingStore}
@@ -9,6 +9,7 @@ use Rattle.zodb_core.specs.declared.reply.Reply.{Reply}
 use Rattle.zodb_core.specs.declared.request.Request.{Request}
 use Rattle.connection_view.specs.declared.loads.Loaded.{Loaded}
 use Rattle.connection_view.specs.declared.loads.Loaded.TheVariants as loaded
+use Rattle.zeo_frames.specs.declared.limit.TheConstants.{FRAME_LIMIT}
 use Rattle.zeo_messages.specs.declared.answer.Answer.{Answer}
 use Rattle.zeo_messages.specs.declared.call.Call.{Call}
 use Rattle.zeo_messages.specs.declared.call.Call.TheVariants as calls
@@ -16,17 +17,20 @@ use Rattle.zeo_messages.specs.Calls.{fits_call, is_falling}
 use Rattle.zeo_values.specs.Values.{AreIds}
 use Rattle.zeo_desk.specs.Desks.{DeskState}
 use Rattle.zeo_cache.specs.Intervals.{HoldsSame}
-use Rattle.zeo_client.specs.declared.asking.AskError.{AskError}
-use Rattle.zeo_client.specs.Asking.{call_frames, number_behind, vote_calls}
+use Rattle.zeo_client.specs.Asking.{IsTooLong, call_frames, call_length, number_behind, vote_calls}
 use Rattle.zeo_client.specs.Renewing.{HoldsUnless, IsAskedBeside, IsButCache, found_known, standing_as}
 use Rattle.zeo_client.specs.Taking.{ClientState}
 use Rattle.zeo_serving.specs.Serving.{asks_for}
 use Rattle.remote_loads.specs.Answers.{count_answer, done_answer, finish_answer, load_answer, tid_answer}
-use Rattle.remote_loads.specs.Causes.{IsUndoRefused, behind_commit, unasked}
+use Rattle.remote_loads.specs.Causes.{IsUndoRefused, behind_commit}
 use Rattle.remote_loads.specs.Finishing.{IsDropped, IsFinishMade, IsToldBehind, asks_nothing, finish_commits, finish_empty, finish_refused, told_behind}
 use Rattle.remote_loads.specs.Making.{AreHeld, IsLoadMade, IsMadeBy, IsUndoMade, IsVoteMade, asks_all, free_if_done, hit, left_alone, made_by, miss, no_room, undo_asked, undo_unasked, vote_sent, vote_unsent, waiting_for_vote}
 use Rattle.remote_loads.specs.Registering.{IsRegistered, register_refused, register_synced}
 use Rattle.remote_loads.specs.Talking.{IsAsked, Talks}
+
+-- a call that is so long doesn't fit
+pub too_long : (call : Call) (n : ℕ) → n ≡ call_length call → FRAME_LIMIT < n → IsTooLong call n
+too_long call n is above = record { long = sym is; above = above }
 
 module _ {S : Type 0} (steps : Request → Reply → S → S → Type 0) (before : S) (d : DeskState) (old : ClientState) where
   -- ---- a call by its message alone
@@ -84,8 +88,8 @@ module _ {S : Type 0} (steps : Request → Reply → S → S → Type 0) (before
 
   module _ (user description : List ℕ) (stores : List PendingStore) (checks : List PendingCheck) (mid : ClientState) (asked : IsAskedBeside stores old.held.standing.asked mid.held.standing.asked)
       (others : mid ≡ standing_as old (record old.held.standing { asked = mid.held.standing.asked })) where
-    pub vote_stays : (e : AskError) (new : ClientState) → new ≡ mid → IsVoteMade steps before d old user description stores checks (Err (unasked e)) new before d
-    vote_stays e new is = subst (λ (k : ClientState). IsVoteMade steps before d old user description stores checks (Err (unasked e)) k before d) (sym is) (vote_unsent e mid (record { asked = asked; others = others }))
+    pub vote_stays : (new : ClientState) → new ≡ mid → IsVoteMade steps before d old user description stores checks (Err refusal.Memory) new before d
+    vote_stays new is = subst (λ (k : ClientState). IsVoteMade steps before d old user description stores checks (Err refusal.Memory) k before d) (sym is) (vote_unsent mid (record { asked = asked; others = others }))
 
     module _ (text : List ℕ) (waits : ClientState) (spelled : text ≡ call_frames mid.number (vote_calls user description stores checks))
         (waiting : waits ≡ record mid { number = number_behind mid.number (vote_calls user description stores checks); last = Some calls.Vote }) (held : AreHeld (vote_calls user description stores checks)) where
@@ -107,7 +111,7 @@ module _ {S : Type 0} (steps : Request → Reply → S → S → Type 0) (before
   -- ---- an undo
 
   module _ (user description tids : List ℕ) (mid : ClientState) (all : mid ≡ asks_all old) where
-    pub undo_stays : (r : Refusal) → IsUndoRefused (is_falling tids) r → IsUndoMade steps before d old user description tids (Err r) mid before d
+    pub undo_stays : (r : Refusal) → IsUndoRefused (calls.Undoa user description tids) (is_falling tids) r → IsUndoMade steps before d old user description tids (Err r) mid before d
     undo_stays r why = subst (λ (k : ClientState). IsUndoMade steps before d old user description tids (Err r) k before d) (sym all) (undo_unasked r why)
 
     asked_so : (call : Call) (result : Result Answer Refusal) (new : ClientState) (now : S) (left : DeskState) → call ≡ calls.Undoa user description tids → IsAsked steps before d mid call result new now left
@@ -115,15 +119,15 @@ module _ {S : Type 0} (steps : Request → Reply → S → S → Type 0) (before
     asked_so call result new now left is asked =
         subst (λ (k : Call). IsAsked steps before d (asks_all old) k result new now left) is (subst (λ (k : ClientState). IsAsked steps before d k call result new now left) all asked)
 
-    pub undo_refused : (call : Call) (r : Refusal) (new : ClientState) (now : S) (left : DeskState) → call ≡ calls.Undoa user description tids → fits_call call ≡ true → AreIds tids
+    pub undo_refused : (call : Call) (r : Refusal) (new : ClientState) (now : S) (left : DeskState) → call ≡ calls.Undoa user description tids → fits_call call ≡ true → call_length call ≤ FRAME_LIMIT → AreIds tids
         → IsAsked steps before d mid call (Err r) new now left → IsUndoMade steps before d old user description tids (Err r) new now left
-    undo_refused call r new now left is fits ids asked = undo_asked (Err r) new now left ids (subst (λ (k : Call). fits_call k ≡ true) is fits) (asked_so call (Err r) new now left is asked)
+    undo_refused call r new now left is fits within ids asked = undo_asked (Err r) new now left ids (subst (λ (k : Call). fits_call k ≡ true) is fits) (subst (λ (k : Call). call_length k ≤ FRAME_LIMIT) is within) (asked_so call (Err r) new now left is asked)
 
-    pub undo_answers : (call : Call) (answer : Answer) (result : Result (Unit {0}) Refusal) (new : ClientState) (now : S) (left : DeskState) → call ≡ calls.Undoa user description tids → fits_call call ≡ true → AreIds tids
+    pub undo_answers : (call : Call) (answer : Answer) (result : Result (Unit {0}) Refusal) (new : ClientState) (now : S) (left : DeskState) → call ≡ calls.Undoa user description tids → fits_call call ≡ true → call_length call ≤ FRAME_LIMIT → AreIds tids
         → IsAsked steps before d mid call (Ok answer) new now left → result ≡ done_answer answer → IsUndoMade steps before d old user description tids result new now left
-    undo_answers call answer result new now left is fits ids asked same =
+    undo_answers call answer result new now left is fits within ids asked same =
         subst (λ (k : Result (Unit {0}) Refusal). IsUndoMade steps before d old user description tids k new now left) (sym same)
-        (undo_asked (Ok answer) new now left ids (subst (λ (k : Call). fits_call k ≡ true) is fits) (asked_so call (Ok answer) new now left is asked))
+        (undo_asked (Ok answer) new now left ids (subst (λ (k : Call). fits_call k ≡ true) is fits) (subst (λ (k : Call). call_length k ≤ FRAME_LIMIT) is within) (asked_so call (Ok answer) new now left is asked))
 
   -- ---- a finish
 

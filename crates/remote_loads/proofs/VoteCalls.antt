@@ -117,7 +117,7 @@ module _ {S : Type 0} (steps : Request → Reply → S → S → Type 0) (machin
     stands = record { served = all_asked (machine before) n old c x.served; rest = record { registered = x.rest.registered; end = x.rest.end; reading = x.rest.reading } };
     made = not_undone r why;
   }
-  undo_leaves before _ d _ old _ user description tids _ (undo_asked result new now left held fits asked) c x =
+  undo_leaves before _ d _ old _ user description tids _ (undo_asked result new now left held fits within asked) c x =
       let names : NamesOne (calls.Undoa user description tids) (request.Undo user description tids) = record { held = held; row = fits; once = record { last = λ r. refl; answer = λ r. refl; long = λ k. refl }; names = λ k number. refl } in
       let called = asked_so steps whole (calls.Undoa user description tids) (request.Undo user description tids)
       (λ reply s t step. undo_row (machine s) n user description tids reply (machine t) (stepped (request.Undo user description tids) reply s t step)) names.once read_back names before d (asks_all old)
@@ -127,7 +127,7 @@ module _ {S : Type 0} (steps : Request → Reply → S → S → Type 0) (machin
       (all_asked (machine before) n old c x.served, refl) in
       record {
         stands = record { served = kept.0; rest = called.1 };
-        made = undone (answered_so done_answer result) now (makes_one steps (request.Undo user description tids) (calls.Undoa user description tids) done_answer before now (asks_all old).held new.held result called.0);
+        made = undone (answered_so done_answer result) now within (makes_one steps (request.Undo user description tids) (calls.Undoa user description tids) done_answer before now (asks_all old).held new.held result called.0);
       }
 
   module _ (user description : List ℕ) (stores : List PendingStore) (checks : List PendingCheck) (short_user : IsShortText user) (short_description : IsShortText description) (votable : AreVotable stores) where
@@ -184,8 +184,8 @@ module _ {S : Type 0} (steps : Request → Reply → S → S → Type 0) (machin
 
     pub vote_leaves : (before now : S) (d left : DeskState) (old new : ClientState) (result : Result (Unit {0}) Refusal) → IsVoteMade steps before d old user description stores checks result new now left
         → (c : Client) → Stands (machine before) n d old c → VoteLeaves steps machine n before user description stores checks c result new now left
-    vote_leaves before _ d _ old _ _ (vote_unsent error new asked) c x =
-        record { stands = record { served = asked_at stores old new asked (machine before) n c x.served; rest = asked_rest stores old new asked d x.rest }; made = not_voted error }
+    vote_leaves before _ d _ old _ _ (vote_unsent new asked) c x =
+        record { stands = record { served = asked_at stores old new asked (machine before) n c x.served; rest = asked_rest stores old new asked d x.rest }; made = not_voted }
     vote_leaves before _ d _ old _ _ (vote_sent mid result new now left asked held talks) c x =
         let called = vote_called before d mid (asked_rest stores old mid asked d x.rest) held result new now left talks in
         let kept : VotedAt c now new.held = called_stays steps asked_vote calls.Vote (VotedAt c) (λ a h k same. same)

@@ -8,6 +8,8 @@ use Rattle.zeo_client.specs.declared.asking.AskError.{AskError}
 use Rattle.zeo_client.specs.declared.asking.AskError.TheVariants as asking
 use Rattle.zeo_client.specs.declared.error.ClientError.{ClientError}
 use Rattle.zeo_client.specs.declared.error.ClientError.TheVariants as client
+use Rattle.zeo_client.specs.Asking.{IsTooLong}
+use Rattle.zeo_messages.specs.declared.call.Call.{Call}
 
 -- ---- carriers
 
@@ -78,7 +80,8 @@ IsCallCaused cause (Finish result) = HasCauseIfErr cause result
 IsCallCaused cause (Abort result) = HasCauseIfErr cause result
 
 -- an undo isn't asked for: its tids don't fall, or there is none; or there was no memory
-abbrev pub IsUndoRefused : Bool → Refusal → Type 0
-IsUndoRefused falling refusal.BadMessage = falling ≡ false
-IsUndoRefused falling refusal.Memory = Unit {0}
-IsUndoRefused falling _ = ⊥
+abbrev pub IsUndoRefused : Call → Bool → Refusal → Type 0
+IsUndoRefused call falling refusal.BadMessage = falling ≡ false
+IsUndoRefused call falling (refusal.TooLong n) = IsTooLong call n
+IsUndoRefused call falling refusal.Memory = Unit {0}
+IsUndoRefused call falling _ = ⊥

@@ -1,5 +1,5 @@
 -- What the calls of a remote client make at the other end of a carrier that tells. Own.
-use Rattle.std.specs.Prelude.{◌≡◌, ℕ, List, [], Some, None, Result, Ok, Err, true}
+use Rattle.std.specs.Prelude.{◌≡◌, ◌≤◌, ℕ, List, [], Some, None, Result, Ok, Err, true}
 use Rattle.std.specs.List.{AllByRecursion}
 use Rattle.zb_model.specs.declared.pending.PendingCheck.{PendingCheck}
 use Rattle.zb_model.specs.declared.pending.PendingStore.{PendingStore}
@@ -10,6 +10,7 @@ use Rattle.zodb_core.specs.declared.request.Request.{Request}
 use Rattle.zodb_core.specs.declared.request.Request.TheVariants as request
 use Rattle.connection_view.specs.declared.loads.Loaded.{Loaded}
 use Rattle.connection_view.specs.declared.loads.Loaded.TheVariants as loaded
+use Rattle.zeo_frames.specs.declared.limit.TheConstants.{FRAME_LIMIT}
 use Rattle.zeo_messages.specs.declared.answer.Answer.{Answer}
 use Rattle.zeo_messages.specs.declared.call.Call.{Call}
 use Rattle.zeo_messages.specs.declared.call.Call.TheVariants as calls
@@ -17,7 +18,7 @@ use Rattle.zeo_messages.specs.Calls.{HoldsCall, fits_call, is_falling}
 use Rattle.zeo_values.specs.Values.{AreIds}
 use Rattle.zeo_desk.specs.Desks.{DeskState}
 use Rattle.zeo_client.specs.declared.asking.AskError.{AskError}
-use Rattle.zeo_client.specs.Asking.{call_frames, number_behind, vote_calls}
+use Rattle.zeo_client.specs.Asking.{call_frames, call_length, number_behind, vote_calls}
 use Rattle.zeo_client.specs.Hearing.{Held}
 use Rattle.zeo_client.specs.Renewing.{IsAskedBeside, IsButCache, found_known, nothing, standing_as}
 use Rattle.zeo_client.specs.Taking.{ClientState}
@@ -99,16 +100,16 @@ pub record IsAskedFor (stores : List PendingStore) (old new : ClientState) : Typ
 abbrev pub waiting_for_vote : ClientState → List Call → ClientState
 waiting_for_vote client made = record client { number = number_behind client.number made; last = Some calls.Vote }
 
--- A vote: its messages don't fit, or there was no memory for them; or they went out.
+-- A vote: there was no memory for its messages; or they went out.
 pub data IsVoteMade {S : Type 0} (steps : Request → Reply → S → S → Type 0) (before : S) (d : DeskState) (old : ClientState) (user description : List ℕ) (stores : List PendingStore) (checks : List PendingCheck) : Result (Unit {0}) Refusal → ClientState → S → DeskState → Type 0 where
-  vote_unsent : (error : AskError) (new : ClientState) → IsAskedFor stores old new → IsVoteMade steps before d old user description stores checks (Err (unasked error)) new before d
+  vote_unsent : (new : ClientState) → IsAskedFor stores old new → IsVoteMade steps before d old user description stores checks (Err refusal.Memory) new before d
   vote_sent : (mid : ClientState) (result : Result Answer Refusal) (new : ClientState) (now : S) (left : DeskState) → IsAskedFor stores old mid → AreHeld (vote_calls user description stores checks)
       → Talks steps before d (waiting_for_vote mid (vote_calls user description stores checks)) (call_frames mid.number (vote_calls user description stores checks)) result new now left
       → IsVoteMade steps before d old user description stores checks (answered_so done_answer result) new now left
 
 -- A vote makes one step at most, behind messages that make none.
 pub data IsRemoteVote {S : Type 0} (steps : Request → Reply → S → S → Type 0) (before : S) (user description : List ℕ) (stores : List PendingStore) (checks : List PendingCheck) : Result (Unit {0}) Refusal → S → Type 0 where
-  not_voted : (error : AskError) → IsRemoteVote steps before user description stores checks (Err (unasked error)) before
+  not_voted : IsRemoteVote steps before user description stores checks (Err refusal.Memory) before
   voted : (result : Result (Unit {0}) Refusal) (now : S) → MakesOne steps (request.Vote user description [] (record { stores = stores; checks = checks })) calls.Vote done_answer before result now
       → IsRemoteVote steps before user description stores checks result now
 
@@ -116,13 +117,13 @@ pub data IsRemoteVote {S : Type 0} (steps : Request → Reply → S → S → Ty
 abbrev pub asks_all : ClientState → ClientState
 asks_all client = standing_as client (record client.held.standing { asked = record client.held.standing.asked { all = true } })
 
--- An undo: its tids don't fall, or there was no memory for its call; or that was made.
+-- An undo: its tids don't fall, or its call doesn't fit a frame, or there was no memory for it; or that was made.
 pub data IsUndoMade {S : Type 0} (steps : Request → Reply → S → S → Type 0) (before : S) (d : DeskState) (old : ClientState) (user description tids : List ℕ) : Result (Unit {0}) Refusal → ClientState → S → DeskState → Type 0 where
-  undo_unasked : (r : Refusal) → IsUndoRefused (is_falling tids) r → IsUndoMade steps before d old user description tids (Err r) (asks_all old) before d
-  undo_asked : (result : Result Answer Refusal) (new : ClientState) (now : S) (left : DeskState) → AreIds tids → fits_call (calls.Undoa user description tids) ≡ true
+  undo_unasked : (r : Refusal) → IsUndoRefused (calls.Undoa user description tids) (is_falling tids) r → IsUndoMade steps before d old user description tids (Err r) (asks_all old) before d
+  undo_asked : (result : Result Answer Refusal) (new : ClientState) (now : S) (left : DeskState) → AreIds tids → fits_call (calls.Undoa user description tids) ≡ true → call_length (calls.Undoa user description tids) ≤ FRAME_LIMIT
       → IsAsked steps before d (asks_all old) (calls.Undoa user description tids) result new now left → IsUndoMade steps before d old user description tids (answered_so done_answer result) new now left
 
 pub data IsRemoteUndo {S : Type 0} (steps : Request → Reply → S → S → Type 0) (before : S) (user description tids : List ℕ) : Result (Unit {0}) Refusal → S → Type 0 where
-  not_undone : (r : Refusal) → IsUndoRefused (is_falling tids) r → IsRemoteUndo steps before user description tids (Err r) before
-  undone : (result : Result (Unit {0}) Refusal) (now : S) → MakesOne steps (request.Undo user description tids) (calls.Undoa user description tids) done_answer before result now
+  not_undone : (r : Refusal) → IsUndoRefused (calls.Undoa user description tids) (is_falling tids) r → IsRemoteUndo steps before user description tids (Err r) before
+  undone : (result : Result (Unit {0}) Refusal) (now : S) → call_length (calls.Undoa user description tids) ≤ FRAME_LIMIT → MakesOne steps (request.Undo user description tids) (calls.Undoa user description tids) done_answer before result now
       → IsRemoteUndo steps before user description tids result now

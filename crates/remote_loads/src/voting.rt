@@ -10,7 +10,6 @@ ghost use Rattle.remote_loads.specs.Standing.{Stands};
 
 use crate::answers::done_answer;
 use crate::carrier::Carrier;
-use crate::causes::unasked;
 use crate::holding::{checks_are_held, stores_are_held};
 use crate::remote::Remote;
 use crate::undoing::undo_call;
@@ -52,7 +51,7 @@ impl<'c, W: Carrier> Remote<'c, W> {
         self.client.ask_for(stores);
         let text = match self.client.vote(user, description, stores, checks) {
             Ok(text) => text,
-            Err(error) => return Err(unasked(error)),
+            Err(_) => return Err(Refusal::Memory),
         };
         let answer = match self.talk(text) {
             Ok(answer) => answer,

@@ -5,3 +5,8 @@ pub mod Replies
 pub mod Stores
 pub mod Played
 pub mod Lining
+pub mod MadeTurns
+pub mod MadeOver
+pub mod MadeSides
+pub mod Held
+pub mod LastLines

@@ -30,7 +30,7 @@ use Rattle.script_runs.specs.Outcomes.{IsUnlessMemory, has_pack}
 use Rattle.script_runs.specs.Running.{AllPlayedOver, PlaySays, PlayedOver, SaysEnded, WritesPlayed}
 use Rattle.script_runs.specs.Texts.{cut_lines, joined, store_fault_line}
 use Rattle.script_runs.specs.Written.{IsWritten}
-use Rattle.script_runs.proofs.Stores.{IsWholeAt, ran_nothing, whole_memory, whole_none}
+use Rattle.script_runs.proofs.Stores.{ran_nothing, whole_memory, whole_none}
 
 -- ---- the text
 
@@ -58,7 +58,7 @@ lines_text names taken = ap (λ (text : List ℕ). order_line (order_of taken) +
 
 -- ---- how far the clients came
 
-ends_off : (behind : Moment) (broken : List FlaggedTurn) (ended : Option TurnError) (now : Moment) → EndsSo behind broken ended now → BreaksOff behind broken ended now
+pub ends_off : (behind : Moment) (broken : List FlaggedTurn) (ended : Option TurnError) (now : Moment) → EndsSo behind broken ended now → BreaksOff behind broken ended now
 ends_off behind broken None now ends = ends.1
 ends_off behind broken (Some why) now (t, is, broke) = subst (λ (ts : List FlaggedTurn). BreaksOff behind ts (Some why) now) (sym is) broke
 
@@ -74,12 +74,12 @@ module _ (lasts : Type 0) (stands : List ℕ → List Transaction → Type 0) (o
   came_so ended c = record { taken = c.turns; later = c.broken; parts = refl; answers = answers_of taken; behind = c.behind; answered = c.out; ends = ends_off c.behind c.broken ended c.now c.ends }
 
   -- the images, where the store hasn't failed
-  images_so : (ended : Option TurnError) (c : Ends ended) → IsWholeAt c.behind c.now → lasts → Leaves Main (λ bytes. stands bytes c.behind.machine.list) new.log
+  images_so : (ended : Option TurnError) (c : Ends ended) → c.now.machine.failed ≡ false → lasts → Leaves Main (λ bytes. stands bytes c.now.machine.list) new.log
   images_so ended c whole known image left =
-      let sound : new.broken ≡ false = sym c.failed ∙ whole.whole in
-      subst (λ (l : List Transaction). stands image l) (sym (c.list sound) ∙ whole.list) (lasting known sound image left)
+      let sound : new.broken ≡ false = sym c.failed ∙ whole in
+      subst (λ (l : List Transaction). stands image l) (sym (c.list sound)) (lasting known sound image left)
 
-  main_so : (ended : Option TurnError) (c : Ends ended) → lasts → Leaves Main (IsMainBy stands ended c.behind c.broken) new.log
+  main_so : (ended : Option TurnError) (c : Ends ended) → lasts → Leaves Main (IsMainBy stands ended c.behind c.broken c.now) new.log
   main_so None c known = images_so None c (whole_none first (c.turns ++ c.broken) c.now refl (came_so None c)) known
   main_so (Some turn_error.Memory) c known = images_so (Some turn_error.Memory) c (whole_memory first (c.turns ++ c.broken) c.now refl (came_so (Some turn_error.Memory) c)) known
   main_so (Some turn_error.StoreFault) c known = c.around refl known

@@ -26,41 +26,32 @@ use Rattle.script_runs.specs.Texts.{cut_lines, joined, store_fault_line}
 use Rattle.script_runs.specs.Written.{IsWritten}
 use Rattle.side_by_side.specs.RunLaws.{next_kept}
 use Rattle.script_runs.specs.PrefixLaws.{behind_prefix, prefix_before}
-use Rattle.script_runs.specs.Turning.{BrokenKeeps, broken_keeps, out_failed}
+use Rattle.script_runs.specs.Turning.{broken_keeps, out_failed}
 
 -- ---- texts
 
-then_written : (a b c : Option (List ℕ)) (before now : ℕ) (known rest : List ℕ) → Appends a b known → IsWritten b c before now rest → IsWritten a c before now (known ++ rest)
+pub then_written : (a b c : Option (List ℕ)) (before now : ℕ) (known rest : List ℕ) → Appends a b known → IsWritten b c before now rest → IsWritten a c before now (known ++ rest)
 then_written a b c before now known rest first wrote = record {
   prefix = behind_prefix a b c known rest first wrote.prefix;
   whole = λ calm. Appends-trans a b c known rest first (wrote.whole calm);
 }
 
 -- the count of the sink's faults may have risen before
-sooner : (a b : Option (List ℕ)) (before mid now : ℕ) (text : List ℕ) → before ≤ mid → IsWritten a b mid now text → IsWritten a b before now text
+pub sooner : (a b : Option (List ℕ)) (before mid now : ℕ) (text : List ℕ) → before ≤ mid → IsWritten a b mid now text → IsWritten a b before now text
 sooner a b before mid now text le wrote = record { prefix = wrote.prefix; whole = λ calm. wrote.whole (λ rose. calm (rose_after before mid now le rose)) }
 
 -- ---- how far turns came
 
-broken_off : (behind : Moment) (later : List FlaggedTurn) (now : Moment) → BreaksOff behind later (Some turn_error.Memory) now → BrokenKeeps behind now
+broken_off : (behind : Moment) (later : List FlaggedTurn) (now : Moment) → BreaksOff behind later (Some turn_error.Memory) now → now.machine.failed ≡ behind.machine.failed
 broken_off behind [] now ends = absurd ends
 broken_off behind (t ∷ later) now ends = broken_keeps stock behind t.turn t.is_last now ends
 
--- the list behind the answered turns is that of the moment, and the store hasn't failed, unless it did in the turn that broke off
-pub record IsWholeAt (behind now : Moment) : Type 0 where
-  pub list : now.machine.list ≡ behind.machine.list
-  pub whole : now.machine.failed ≡ false
+-- the store hasn't failed, unless it did in the turn that broke off
+pub whole_none : (m : Moment) (turns : List FlaggedTurn) (now : Moment) → m.machine.failed ≡ false → (c : Came m turns None now) → now.machine.failed ≡ false
+whole_none m turns now whole c = ap (λ (x : Moment). x.machine.failed) c.ends ∙ out_failed stock m c.taken c.answers c.behind c.answered ∙ whole
 
-pub whole_none : (m : Moment) (turns : List FlaggedTurn) (now : Moment) → m.machine.failed ≡ false → (c : Came m turns None now) → IsWholeAt c.behind now
-whole_none m turns now whole c = record {
-  list = ap (λ (x : Moment). x.machine.list) c.ends;
-  whole = ap (λ (x : Moment). x.machine.failed) c.ends ∙ out_failed stock m c.taken c.answers c.behind c.answered ∙ whole;
-}
-
-pub whole_memory : (m : Moment) (turns : List FlaggedTurn) (now : Moment) → m.machine.failed ≡ false → (c : Came m turns (Some turn_error.Memory) now) → IsWholeAt c.behind now
-whole_memory m turns now whole c =
-    let keeps = broken_off c.behind c.later now c.ends in
-    record { list = keeps.list; whole = keeps.failed ∙ out_failed stock m c.taken c.answers c.behind c.answered ∙ whole }
+pub whole_memory : (m : Moment) (turns : List FlaggedTurn) (now : Moment) → m.machine.failed ≡ false → (c : Came m turns (Some turn_error.Memory) now) → now.machine.failed ≡ false
+whole_memory m turns now whole c = broken_off c.behind c.later now c.ends ∙ out_failed stock m c.taken c.answers c.behind c.answered ∙ whole
 
 -- ---- nothing was run
 
@@ -102,10 +93,10 @@ module _ (lasts : Type 0) (stands : List ℕ → List Transaction → Type 0) wh
     counts_so now is = ap counts_of kept ∙ sym is.counts
 
     -- the images, where the store hasn't failed
-    images_so : (behind now : Moment) → StandsForMoment clients left now → IsWholeAt behind now → lasts → Leaves Main (λ bytes. stands bytes behind.machine.list) state.log
-    images_so behind now is whole known image left =
-        let sound : state.broken ≡ false = ap (λ (s : StoreState). s.broken) kept ∙ sym is.hub.failed ∙ whole.whole in
-        let list : state.list ≡ behind.machine.list = ap (λ (s : StoreState). s.list) kept ∙ sym (is.hub.list (sym is.hub.failed ∙ whole.whole)) ∙ whole.list in
+    images_so : (now : Moment) → StandsForMoment clients left now → now.machine.failed ≡ false → lasts → Leaves Main (λ bytes. stands bytes now.machine.list) state.log
+    images_so now is whole known image left =
+        let sound : state.broken ≡ false = ap (λ (s : StoreState). s.broken) kept ∙ sym is.hub.failed ∙ whole in
+        let list : state.list ≡ now.machine.list = ap (λ (s : StoreState). s.list) kept ∙ sym (is.hub.list (sym is.hub.failed ∙ whole)) in
         subst (λ (l : List Transaction). stands image l) list (lasting known sound image left)
 
     moments_so : (may : List ℕ → Type 0) → LeavesOnly Main may old.log clients.hub.store.log → LeavesOnly Main may old.log state.log
@@ -119,7 +110,7 @@ module _ (lasts : Type 0) (stands : List ℕ → List Transaction → Type 0) wh
         text = Appends-trans taken mid new (joined (cut_lines cut)) (answers_text runs.answers) first runs.text;
         stamps = sym runs.stands_for.stamps;
         counts = counts_so runs.now runs.stands_for;
-        images = images_so runs.now runs.now runs.stands_for (record { list = refl; whole = runs.whole });
+        images = images_so runs.now runs.stands_for runs.whole;
         moments = λ known. moments_so (IsOfRun stands m (flagged turns) [] runs.answers runs.now) (runs.moments known);
       };
       all = refl;
@@ -132,7 +123,7 @@ module _ (lasts : Type 0) (stands : List ℕ → List Transaction → Type 0) wh
       text = behind_prefix taken mid new (joined (cut_lines cut)) (answers_text s.came.answers) first s.text;
       stamps = sym s.stands_for.stamps;
       counts = counts_so s.now s.stands_for;
-      images = images_so s.came.behind s.now s.stands_for (whole_none m (flagged turns) s.now whole s.came);
+      images = images_so s.now s.stands_for (whole_none m (flagged turns) s.now whole s.came);
       moments = λ known. moments_so (IsOfCame stands s.came) (s.moments known);
     }
 
@@ -143,7 +134,7 @@ module _ (lasts : Type 0) (stands : List ℕ → List Transaction → Type 0) wh
       text = behind_prefix taken mid new (joined (cut_lines cut)) (answers_text s.came.answers) first s.text;
       stamps = sym s.stands_for.stamps;
       counts = counts_so s.now s.stands_for;
-      images = images_so s.came.behind s.now s.stands_for (whole_memory m (flagged turns) s.now whole s.came);
+      images = images_so s.now s.stands_for (whole_memory m (flagged turns) s.now whole s.came);
       moments = λ known. moments_so (IsOfCame stands s.came) (s.moments known);
     }
 
@@ -155,7 +146,7 @@ module _ (lasts : Type 0) (stands : List ℕ → List Transaction → Type 0) wh
       text = says _ (Appends-trans taken mid new (joined (cut_lines cut)) (answers_text s.came.answers) first s.text);
       stamps = sym s.stands_for.stamps;
       counts = counts_so s.now s.stands_for;
-      images = λ known. subst (λ (x : StoreState). Leaves Main (IsMainBy stands (Some turn_error.StoreFault) s.came.behind s.came.later) x.log) (sym kept) (s.around refl known);
+      images = λ known. subst (λ (x : StoreState). Leaves Main (IsMainBy stands (Some turn_error.StoreFault) s.came.behind s.came.later s.now) x.log) (sym kept) (s.around refl known);
       moments = λ known. moments_so (IsOfCame stands s.came) (s.moments known);
     }
 

@@ -37,10 +37,11 @@ pub record Came (m : Moment) (turns : List FlaggedTurn) (broke : Option TurnErro
 abbrev pub began : List Transaction → Option (List Stamp) → ℕ → ℕ → Moment
 began list stamps reads others = first_moment list stamps (record { reads = reads; others = others })
 
--- bytes stand for the list at a moment; where the store failed in the first of these turns, for that or for what its step would have left
-abbrev pub IsMainBy : (List ℕ → List Transaction → Type 0) → Option TurnError → Moment → List FlaggedTurn → List ℕ → Type 0
-IsMainBy stands (Some StoreFault) m later bytes = IsListNext stands m later bytes
-IsMainBy stands _ m later bytes = stands bytes m.machine.list
+-- bytes stand for the list as it stands now, behind these turns or behind what memory left of the first of the later ones; where the store failed in that one, for the list
+-- before it or for what its step would have left
+abbrev pub IsMainBy : (List ℕ → List Transaction → Type 0) → Option TurnError → Moment → List FlaggedTurn → Moment → List ℕ → Type 0
+IsMainBy stands (Some StoreFault) m later now bytes = IsListNext stands m later bytes
+IsMainBy stands _ m later now bytes = stands bytes now.machine.list
 
 -- bytes stand for the list at a moment that a run which came so far came by, or for what the step of the turn that was taken then leaves of it
 abbrev pub IsOfCame : {m : Moment} {turns : List FlaggedTurn} {broke : Option TurnError} {now : Moment} → (List ℕ → List Transaction → Type 0) → Came m turns broke now → List ℕ → Type 0

@@ -9,3 +9,7 @@ pub mod Came
 pub mod Played
 pub mod Outcomes
 pub mod Running
+pub mod Summary
+pub mod Made
+pub mod Tallies
+pub mod Counted

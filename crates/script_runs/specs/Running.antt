@@ -95,7 +95,7 @@ pub record RanOver (lasts : Type 0) (stands : List ℕ → List Transaction → 
   pub text : written (joined (cut_lines cut) ++ text_of came.answers)
   pub stamps : left ≡ now.stamps
   pub counts : counts_of new ≡ now.counts
-  pub images : lasts → Leaves Main (IsMainBy stands broke came.behind came.later) new.log
+  pub images : lasts → Leaves Main (IsMainBy stands broke came.behind came.later now) new.log
   pub moments : lasts → LeavesOnly Main (IsOfCame stands came) old.log new.log
 
 pub record RanAllOver (lasts : Type 0) (stands : List ℕ → List Transaction → Type 0) (m : Moment) (cut : Option ℕ) (turns : List FlaggedTurn) (text_of : List TurnAnswer → List ℕ) (written : List ℕ → Type 0) (old new : StoreState) (left : Option (List Stamp)) : Type 0 where

@@ -1,5 +1,5 @@
 -- What a turn leaves of the list, and a run.
-use Rattle.std.proofs.Common.{Bool, List, None, Option, Some, [], ap, append-nil, append_assoc, cond, false, length, ltb, refl, subst, suc, sym, true, zero, ℕ, ◌++◌, ◌∙◌, ◌∷◌, ◌≡◌}
+use Rattle.std.proofs.Common.{Bool, List, None, Option, Some, [], ap, append-nil, append_assoc, false, length, ltb, refl, subst, suc, sym, true, zero, ℕ, ◌++◌, ◌∙◌, ◌∷◌, ◌≡◌}
 use Rattle.std.specs.Prelude.{Result, Ok, Err, slice_get, ◌||◌}
 use Rattle.zb_model.specs.declared.data.Content.TheVariants.{Held}
 use Rattle.zb_model.specs.declared.data.Transaction.{Transaction}
@@ -20,18 +20,19 @@ use Rattle.zodb_core.specs.declared.reply.Reply.TheVariants as reply
 use Rattle.zodb_core.specs.declared.request.Request.{Request}
 use Rattle.zodb_core.specs.declared.request.Request.TheVariants as request
 use Rattle.zodb_core.specs.Machine.{Machine, Rules, session_limit, with_session}
+use Rattle.zodb_core.specs.Outcomes.{Answered, StoreFailed}
 use Rattle.client_turns.specs.declared.errors.TurnError.{TurnError}
 use Rattle.client_turns.specs.declared.errors.TurnError.TheVariants as turn_error
 use Rattle.client_turns.specs.Clients.{Changes, Client, Linked, Local, Moment, OpenTransaction, Standing, changes_of, first_moment, place_of_client}
 use Rattle.client_turns.specs.Lines.{Changed, answer_of, answer_to, answering_excess, asking_excess, data_of, deleted, end_of, is_committed, is_delivery, object_of, put, request_of, rolled_back, rolled_to, saved, step_answer, store_unless, stored}
 use Rattle.client_turns.specs.DrawLaws.{tree_answer, tree_raised}
 use Rattle.client_turns.specs.Trees.{IsRaised, IsTreeLine, answer_told}
-use Rattle.client_turns.specs.TurnLaws.{by_name, first_ahead, out_ahead, starved_so, step_at_left, step_cases, told_end, turn_whole}
+use Rattle.client_turns.specs.TurnLaws.{IsOpeningAnswer, Opens, as_opened, as_refused, by_name, first_ahead, out_ahead, starved_so, step_at_left, step_cases, told_end, turn_whole}
 use Rattle.client_turns.specs.Output.{FlaggedTurn, Out, TurnAnswer}
 use Rattle.client_turns.specs.Refusing.{connection_refusal}
 use Rattle.client_turns.specs.Standing.{IsAhead}
 use Rattle.client_turns.specs.Steps.{IsChange, IsRefusedAt, IsStepAt}
-use Rattle.client_turns.specs.Turns.{IsBroken, IsClosed, IsClosing, IsClosingAt, IsGet, IsLine, IsLineOf, IsLineTaken, IsLineUnless, IsOpening, IsOutside, IsOwnLine, IsPut, IsReadLine, IsStepLine, IsStepUnless, IsTold, IsTurn, IsWithin, Opening, by_closing, by_line, by_memory, fronts_behind}
+use Rattle.client_turns.specs.Turns.{IsBroken, IsClosed, IsClosing, IsClosingAt, IsGet, IsLine, IsLineOf, IsLineTaken, IsCutLine, IsLineUnless, IsOutside, IsOwnLine, IsPut, IsReadLine, IsStepLine, IsStepUnless, IsTold, IsTurn, IsWithin, by_closing, by_line, by_link, by_memory, by_opening, by_step, fronts_behind, opened, opened_if}
 use Rattle.connection_view.specs.Connections.{waiting_read}
 use Rattle.side_by_side.specs.Runs.{CameBy}
 use Rattle.script_runs.specs.Committed.{AnswerLeaves, AnswersLeave, BeginsWith, CommittedStays, EndsWith, HasCommitted, IsCommittedTo, IsLeftSince, has_packed, is_packed}
@@ -64,7 +65,6 @@ told_keeps rules (suc count) m n now (r, next, step, rest) =
 pub record LineKeeps (rules : Rules) (m : Moment) (a : Answer) (now : Moment) : Type 0 where
   pub leaves : IsAhead m.machine → AnswerLeaves rules a m.machine.list now.machine.list
   pub failed : ¬ (end_of a ≡ Some turn_error.StoreFault) → now.machine.failed ≡ m.machine.failed
-  pub memory : end_of a ≡ Some turn_error.Memory → now.machine.list ≡ m.machine.list
 
 -- an answer tells of no commit and of no pack
 abbrev IsPlain : Answer → Type 0
@@ -82,27 +82,30 @@ same_line : (rules : Rules) (m : Moment) (a b : Answer) (now : Moment) → a ≡
 same_line rules m a b now is plain same = record {
   leaves = λ ahead. subst (λ (x : Answer). AnswerLeaves rules x m.machine.list now.machine.list) (sym is) (plain_left rules b m.machine.list now.machine.list plain (ap (λ (x : Machine). x.list) same));
   failed = λ other. ap (λ (x : Machine). x.failed) same;
-  memory = λ none. ap (λ (x : Machine). x.list) same;
 }
 
-abbrev opening_of : Moment → List ℕ → Bool → Opening
-opening_of m name true = record { answer = answer.Opened (length m.machine.sessions); moment = record m { machine = with_session m.machine; clients = m.clients ++ (record { name = name; session = length m.machine.sessions; transaction = None; standing = Local }) ∷ [] } }
-opening_of m name false = record { answer = answer.Refused (refusal.TooManySessions (length m.machine.sessions)); moment = m }
+opened_plain : (m : Moment) (name : List ℕ) (s : Standing) (b : Bool) → IsPlain (opened_if b m name s).answer
+opened_plain m name s true = tt
+opened_plain m name s false = tt
 
-opening_keeps : (rules : Rules) (m : Moment) (name : List ℕ) (b : Bool) → LineKeeps rules m (opening_of m name b).answer (opening_of m name b).moment
-opening_keeps rules m name true = record { leaves = λ ahead. refl; failed = λ other. refl; memory = λ none. refl }
-opening_keeps rules m name false = record { leaves = λ ahead. refl; failed = λ other. refl; memory = λ none. refl }
+opened_keeps : (m : Moment) (name : List ℕ) (s : Standing) (b : Bool) → Keeps m (opened_if b m name s).moment
+opened_keeps m name s true = record { list = refl; failed = refl }
+opened_keeps m name s false = record { list = refl; failed = refl }
 
-opened_so : (m : Moment) (name : List ℕ) (b : Bool)
-    → cond {A = Opening} b (record { answer = answer.Opened (length m.machine.sessions); moment = record m { machine = with_session m.machine; clients = m.clients ++ (record { name = name; session = length m.machine.sessions; transaction = None; standing = Local }) ∷ [] } })
-    (record { answer = answer.Refused (refusal.TooManySessions (length m.machine.sessions)); moment = m }) ≡ opening_of m name b
-opened_so m name true = refl
-opened_so m name false = refl
-
-open_keeps : (rules : Rules) (m : Moment) (name : List ℕ) (a : Answer) (now : Moment) → IsOpening m name a now → LineKeeps rules m a now
+open_keeps : (rules : Rules) (m : Moment) (name : List ℕ) (a : Answer) (now : Moment) → Opens rules m name a now → LineKeeps rules m a now
 open_keeps rules m name a now is =
-    let b = ltb (length m.machine.sessions) session_limit in
-    subst (λ (o : Opening). LineKeeps rules m o.answer o.moment) (sym (is ∙ opened_so m name b)) (opening_keeps rules m name b)
+    let n = length m.machine.sessions in
+    let room = ltb n session_limit in
+    let first = opened_keeps m name is.standing room in
+    let on = told_keeps rules is.count (opened m name is.standing).moment n now is.fronts in
+    record {
+      leaves = λ ahead. subst (λ (x : Answer). AnswerLeaves rules x m.machine.list now.machine.list) (sym (said room is.answer).1) (plain_left rules (said room is.answer).0 m.machine.list now.machine.list (said room is.answer).2 (on.list ∙ first.list));
+      failed = λ other. on.failed ∙ first.failed;
+    }
+  where
+    said : (room : Bool) → IsOpeningAnswer rules (opened m name is.standing) (length m.machine.sessions) a now → (x : Answer) × (a ≡ x) × IsPlain x
+    said room (as_opened same) = ((opened m name is.standing).answer, same, opened_plain m name is.standing (ltb (length m.machine.sessions) session_limit))
+    said room (as_refused why same refused) = (answer.Refused why, same, tt)
 
 -- a delivery says of the list what its step says
 told_so : (rules : Rules) (d : Bool) (r : Reply) (list now : List Transaction) → AnswerLeaves rules (answer_of r) list now → AnswerLeaves rules (answer_to d r) list now
@@ -131,7 +134,6 @@ step_line rules m at c d q a now l =
           (answered_so rules c.standing d l.reply m.machine.list now.machine.list
           (subst (AnswerLeaves rules (answer_of l.reply) m.machine.list) (sym list) (leaves_so rules l.reply m.machine.list l.behind.machine.list (keeps.leaves ahead))));
       failed = λ other. ap (λ (x : Machine). x.failed) machine ∙ told.failed ∙ keeps.failed (λ lost. other (ap end_of l.answer ∙ told_end c.standing d l.reply ∙ fails_so l.reply lost));
-      memory = λ none. list ∙ keeps.memory (starved_so l.reply (sym (ap end_of l.answer ∙ told_end c.standing d l.reply) ∙ none));
     }
 
 -- ---- lines that are no step
@@ -197,7 +199,6 @@ tree_line rules m at c t root call a now l =
     record {
       leaves = λ ahead. plain_left rules a m.machine.list now.machine.list (tree_answer IsPlain m at c t root call a now plain_told (λ why. tt) l) list;
       failed = λ other. ap (λ (x : Machine). x.failed) raised.is;
-      memory = λ none. list;
     }
 
 within_line : (rules : Rules) (m : Moment) (at : ℕ) (c : Client) (t : OpenTransaction) (l : Line) (a : Answer) (now : Moment) → IsWithin m at c t l a now → LineKeeps rules m a now
@@ -276,21 +277,26 @@ never_starved : (rules : Rules) (m : Moment) (at : ℕ) (r : Reply) (now : Momen
 never_starved rules m at r now (c, there, step) none = close_fed rules m.machine c.session step.stamp r now.machine step.ticks m.counts now.counts step.made (starved_so r none)
 
 -- and one that broke off for want of memory
-pub record BrokenKeeps (m now : Moment) : Type 0 where
-  pub list : now.machine.list ≡ m.machine.list
-  pub failed : now.machine.failed ≡ m.machine.failed
+cut_keeps : (rules : Rules) (m : Moment) (name : List ℕ) (l : Line) (now : Moment) → IsCutLine rules m name l now → now.machine.failed ≡ m.machine.failed
+cut_keeps rules m name l now (by_step at c place there is) =
+    (told_keeps rules is.cut.count is.cut.behind c.session now is.cut.fronts).failed
+    ∙ (step_at rules m c.session is.request is.cut.reply is.cut.behind is.cut.step).failed (λ lost. never is.cut.reply (sym is.cut.answered ∙ lost))
+  where
+    never : (r : Reply) → Answered ≡ StoreFailed → ⊥
+    never r e = absurd cc
+cut_keeps rules m name l now (by_opening opens is) = (told_keeps rules is.count (record m { machine = with_session m.machine }) (length m.machine.sessions) now is.fronts).failed
 
-broken_by : (rules : Rules) (m : Moment) (t : Turn) (last : Bool) (why : TurnError) (now : Moment) → why ≡ turn_error.Memory → IsBroken rules m t last why now → BrokenKeeps m now
+broken_by : (rules : Rules) (m : Moment) (t : Turn) (last : Bool) (why : TurnError) (now : Moment) → why ≡ turn_error.Memory → IsBroken rules m t last why now → now.machine.failed ≡ m.machine.failed
 broken_by rules m t last why now is (by_line a l ends) =
     let keeps = line_keeps rules m t.client t.line a now l in
     let none : end_of a ≡ Some turn_error.Memory = ends ∙ ap Some is in
-    record { list = keeps.memory none; failed = keeps.failed (λ lost. absurd cc) }
+    keeps.failed (λ lost. absurd cc)
 broken_by rules m t last why now is (by_closing a behind at r closes l whole place closing ends) =
     absurd (never_starved rules behind at r now closing (ends ∙ ap Some is))
-broken_by rules m t last why now is (by_memory memory same) =
-    record { list = ap (λ (x : Moment). x.machine.list) same; failed = ap (λ (x : Moment). x.machine.failed) same }
+broken_by rules m t last why now is (by_memory memory same) = ap (λ (x : Moment). x.machine.failed) same
+broken_by rules m t last why now is (by_link memory cut) = cut_keeps rules m t.client t.line now cut
 
-pub broken_keeps : (rules : Rules) (m : Moment) (t : Turn) (last : Bool) (now : Moment) → IsTurn rules m t last (Err turn_error.Memory) now → BrokenKeeps m now
+pub broken_keeps : (rules : Rules) (m : Moment) (t : Turn) (last : Bool) (now : Moment) → IsTurn rules m t last (Err turn_error.Memory) now → now.machine.failed ≡ m.machine.failed
 broken_keeps rules m t last now is = broken_by rules m t last turn_error.Memory now refl is
 
 -- ---- runs

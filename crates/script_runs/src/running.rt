@@ -26,7 +26,7 @@ use zb_script::Turn;
 use zeo_server::Workers;
 
 /// Says why a run stopped, where that has a line.
-fn say_stopped<K: Sink>(sink: &mut K, error: RunError) -> Status
+pub(crate) fn say_stopped<K: Sink>(sink: &mut K, error: RunError) -> Status
     ensures said { SaysStopped error result (K.taken sink.old) (K.taken sink.new) (K.faults sink.old) (K.faults sink.new) }
     ensures counted { K.faults sink.old ≤ K.faults sink.new }
 {

@@ -10,7 +10,6 @@ use Rattle.zb_volume.specs.declared.areas.Area.TheVariants.{Main, Side}
 use Rattle.zb_volume.specs.Moments.{Leaves, LeavesOnly, here}
 use Rattle.zodb_core.specs.HubState.{counts_of}
 use Rattle.client_turns.specs.declared.errors.TurnError.{TurnError}
-use Rattle.client_turns.specs.declared.errors.TurnError.TheVariants as turn_error
 use Rattle.client_turns.specs.Clients.{first_moment}
 use Rattle.client_turns.specs.Standing.{ClientsState, StandsForMoment}
 use Rattle.zeo_server.specs.declared.playing.Taken.{Taken}

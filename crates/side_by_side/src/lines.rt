@@ -92,7 +92,7 @@ fn lines_of<'t>(
 fn is_open(line: &Line) -> bool
     ensures { result ≡ is_open line.now }
 {
-    matches!(line, Line::Open)
+    matches!(line, Line::Open { .. })
 }
 
 /// The clients of a script with all their lines, in the order of their `open` lines. The one error is want of

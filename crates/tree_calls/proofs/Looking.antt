@@ -1,22 +1,19 @@
 -- What is read ahead.
-use Rattle.std.proofs.Common.{◌≡◌, ℕ, zero, suc, ◌+◌, ◌≤◌, ◌<◌, ◌^◌, Bool, true, List, [], ◌∷◌, ◌++◌, Option, Some, None, Result, Ok, Err, ◌⊎◌, inl, inr, refl, sym, ◌∙◌, ap, subst, arith, append_assoc, append-nil}
-use Rattle.std.specs.Prelude.{All, IfOk, OnOk, slice_get, nat_eq, ◌||◌}
-use Rattle.std.specs.Option.{option_map}
+use Rattle.std.proofs.Common.{◌≡◌, ℕ, zero, suc, ◌≤◌, ◌^◌, true, List, [], ◌∷◌, ◌++◌, Option, Some, None, Result, Ok, Err, inl, inr, sym, ◌∙◌, ap, subst, append_assoc, append-nil}
+use Rattle.std.specs.Prelude.{All, IfOk, OnOk, slice_get, nat_eq}
 use Rattle.std.proofs.lemmas.List.Elements.{All-append, All-cons, All-head, All-nil, All-push, All-tail}
 use Rattle.pickle_graph.specs.Graph.{Graph}
 use Rattle.btree_family.specs.Classes.{Class}
 use Rattle.btree_family.specs.Buckets.{BucketContents}
 use Rattle.bucket_state.specs.declared.tree.Inner.{Inner}
-use Rattle.zb_record.specs.declared.error.RecordError.{RecordError}
-use Rattle.zb_record.specs.Records.{record_of}
 use Rattle.btree_shapes.specs.declared.node.Node.{Node}
 use Rattle.btree_shapes.specs.declared.node.Node.TheVariants as node
 use Rattle.btree_shapes.specs.Classes.{class_named}
-use Rattle.btree_shapes.specs.Nodes.{Held, class_held, held_in, held_node, held_record, node_of, objects_of, record_class}
+use Rattle.btree_shapes.specs.Nodes.{class_held, held_in, held_node, held_record, node_of, objects_of, record_class}
 use Rattle.btree_shapes.specs.Reading.{HoldsRecord}
 use Rattle.btree_shapes.specs.Ways.{stands_in}
 use Rattle.btree_nodes.specs.declared.span.Span.{Span}
-use Rattle.btree_nodes.specs.Visits.{children_in, children_within, met_at}
+use Rattle.btree_nodes.specs.Visits.{children_in, children_within}
 use Rattle.tree_calls.specs.declared.known.Seen.{Seen}
 use Rattle.tree_calls.specs.declared.operation.TreeOperation.{TreeOperation}
 use Rattle.tree_calls.specs.declared.operation.TreeOperation.TheVariants as operation

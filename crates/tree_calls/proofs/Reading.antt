@@ -1,5 +1,5 @@
 -- What calls read is on their way.
-use Rattle.std.proofs.Common.{◌≡◌, ◌⊎◌, ℕ, zero, suc, ◌^◌, Bool, true, false, List, [], ◌∷◌, ◌++◌, map, Option, Some, None, Result, Ok, Err, refl, sym, ap, subst, ◌∙◌, inl, inr}
+use Rattle.std.proofs.Common.{◌≡◌, ℕ, suc, Bool, true, false, List, [], ◌∷◌, ◌++◌, map, Option, Some, Err, refl, sym, ap, subst, ◌∙◌, inl, inr}
 use Rattle.std.specs.Prelude.{◌||◌, nat_eq}
 use Rattle.std.proofs.lemmas.Bool.{eq-eqb}
 use Rattle.btree_family.specs.declared.key.Key.{Key}
@@ -21,7 +21,7 @@ use Rattle.btree_removing.specs.Plans as removing
 use Rattle.btree_nodes.specs.Visits.{items_met, range_met}
 use Rattle.tree_calls.specs.declared.operation.TreeOperation.{TreeOperation}
 use Rattle.tree_calls.specs.declared.operation.TreeOperation.TheVariants as operation
-use Rattle.tree_calls.specs.Calls.{IsAmong, IsLacked, MayRead, ReadsOnWay, reads_in, sizes}
+use Rattle.tree_calls.specs.Calls.{IsAmong, IsLacked, ReadsOnWay, reads_in, sizes}
 
 -- ---- lists
 

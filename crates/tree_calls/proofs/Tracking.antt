@@ -1,8 +1,9 @@
 -- What a call's space keeps of its calls.
 use Rattle.std.proofs.Common.{◌≡◌, ℕ, zero, suc, ◌+◌, ◌<◌, Bool, true, false, List, [], ◌∷◌, ◌++◌, length, map, take, Option, Some, None, Result, Ok, Err, refl, sym, ap, subst, ◌∙◌, arith}
-use Rattle.std.specs.Prelude.{All, IfOk, if◌then◌else◌, nat_lt, slice_get}
+use Rattle.std.specs.Prelude.{All, IfOk, if◌then◌else◌, is_some, nat_eq, nat_lt, slice_get, ◌&&◌, ◌||◌}
+use Rattle.std.specs.List.{list_all}
 use Rattle.std.specs.Option.{option_map}
-use Rattle.std.proofs.lemmas.Bool.{ltb-true, lt-ltb}
+use Rattle.std.proofs.lemmas.Bool.{eqb-true, ltb-true, lt-ltb}
 use Rattle.std.proofs.lemmas.List.Elements.{All-cons}
 use Rattle.pickle_graph.specs.Graph.{Graph}
 use Rattle.pickle_writing.specs.Spelling.{Spelled, pickled, spelling_of, pickle_text}
@@ -22,7 +23,7 @@ use Rattle.tree_calls.specs.declared.attempt.Attempt.TheVariants as attempt
 use Rattle.tree_calls.specs.declared.known.Seen.{Seen}
 use Rattle.tree_calls.specs.declared.operation.TreeAnswer.{TreeAnswer}
 use Rattle.tree_calls.specs.declared.operation.TreeOperation.{TreeOperation}
-use Rattle.tree_calls.specs.Calls.{CallEnds, CallFails, IsAttempt, IsLacked, IsMade, IsRefused, IsWant, ReadsOnWay, bases_of, contents_after, contents_of, has_members, oids_of, refusal_of, written_in}
+use Rattle.tree_calls.specs.Calls.{AreKnown, CallEnds, CallFails, HasRead, IsAttempt, IsLacked, IsMade, IsRefused, IsWant, ReadsOnWay, bases_of, contents_after, contents_of, has_members, is_read_known, oids_of, reads_in, refusal_of, written_in}
 use Rattle.tree_calls.specs.Known.{Agrees, known_at}
 use Rattle.tree_calls.specs.Puts.{are_filled, based_on, serial_seen}
 use Rattle.tree_calls.proofs.Refused.{none_drawn}
@@ -208,3 +209,46 @@ pub made_by : (objects : ℕ → Option Seen) (root : ℕ) (op : TreeOperation) 
     → IsMade objects root op numbers a puts × All (λ p. 0 < length p.bytes) puts
 made_by objects root op numbers supply puts calls a ends drawn written based filled =
     (record { calls = calls; answers = ends; drawn = drawn; written = written; based = based }, all_filled puts filled)
+
+-- ---- what an attempt has read
+
+pub all_known : (known : List (ℕ × Option Seen)) (calls : List Call) → list_all (is_read_known known) calls ≡ true → AreKnown known calls
+all_known known [] all oid among = absurd cc
+all_known known (Read o ∷ calls) all oid among = by_first (λ rest. all_known known calls rest oid) (is_some (known_at known o)) refl all
+  where
+    Behind : Type 0
+    Behind = list_all (is_read_known known) calls ≡ true → stands_in (reads_in calls) oid ≡ true → is_some (known_at known oid) ≡ true
+
+    by_same : is_some (known_at known o) ≡ true → (stands_in (reads_in calls) oid ≡ true → is_some (known_at known oid) ≡ true) → (b : Bool) → nat_eq o oid ≡ b → (b || stands_in (reads_in calls) oid) ≡ true → is_some (known_at known oid) ≡ true
+    by_same there behind true eq found = subst (λ (n : ℕ). is_some (known_at known n) ≡ true) (eqb-true o oid eq) there
+    by_same there behind false eq found = behind found
+
+    by_first : Behind → (here : Bool) → is_some (known_at known o) ≡ here → (here && list_all (is_read_known known) calls) ≡ true → is_some (known_at known oid) ≡ true
+    by_first behind true there rest = by_same there (behind rest) (nat_eq o oid) refl among
+    by_first behind false there rest = absurd cc
+all_known known (Drew o ∷ calls) all oid among = all_known known calls all oid among
+all_known known (Wrote o ∷ calls) all oid among = all_known known calls all oid among
+
+pub made_reads : (known : List (ℕ × Option Seen)) (objects : ℕ → Option Seen) (root : ℕ) (op : TreeOperation) (numbers : List ℕ) (supply : ℕ) (puts : List TreePut) (calls : List Call) (a : TreeAnswer) → AreKnown known calls
+    → CallEnds (contents_of objects) (contents_after puts (contents_of objects)) calls root op supply (Ok (Some a))
+    → drawn_in calls ≡ numbers → written_in calls ≡ oids_of puts → bases_of puts ≡ map (based_on numbers objects) (oids_of puts)
+    → (m : IsMade objects root op numbers a puts) × AreKnown known m.calls
+made_reads known objects root op numbers supply puts calls a reads ends drawn written based =
+    (record { calls = calls; answers = ends; drawn = drawn; written = written; based = based }, reads)
+
+pub refused_reads : (known : List (ℕ × Option Seen)) (objects : ℕ → Option Seen) (root : ℕ) (op : TreeOperation) (numbers : List ℕ) (supply : ℕ) (puts : List TreePut) (calls : List Call) (e : TreeError) (why : Refusal) (is_whole : Bool) (result : Result Attempt AllocError) → Some why ≡ refusal_of e
+    → CallEnds (contents_of objects) (contents_after puts (contents_of objects)) calls root op supply (Err e) → (is_whole ≡ true → AreKnown known calls) → IfOk result (λ a. (is_whole ≡ true) × (a ≡ attempt.Refused why)) → IfOk result (HasRead known objects root op numbers)
+refused_reads known objects root op numbers supply puts calls e why is_whole (Ok a) is ends reads same =
+    let fails = fails_of (contents_of objects) (contents_after puts (contents_of objects)) calls root op supply e why (sym is) ends in
+    let none = none_drawn (contents_of objects) (contents_after puts (contents_of objects)) calls root op e why (sym is) fails in
+    let r : IsRefused objects root op why = record { e = e; told = sym is; after = contents_after puts (contents_of objects); calls = calls; fails = fails; undrawn = none } in
+    let has : HasRead known objects root op numbers (attempt.Refused why) = (r, reads same.0) in
+    subst (HasRead known objects root op numbers) (sym same.1) has
+refused_reads known objects root op numbers supply puts calls e why is_whole (Err x) is ends reads same = tt
+
+pub want_reads : (known : List (ℕ × Option Seen)) (objects : ℕ → Option Seen) (root : ℕ) (op : TreeOperation) (numbers : List ℕ) (lacked : Option ℕ) (result : Result Attempt AllocError) → IfOk result (IsWant numbers lacked) → IfOk result (HasRead known objects root op numbers)
+want_reads known objects root op numbers lacked (Ok (attempt.Made made)) want = absurd want
+want_reads known objects root op numbers lacked (Ok (attempt.Refused why)) want = absurd want
+want_reads known objects root op numbers lacked (Ok (attempt.WantsObject oid)) want = tt
+want_reads known objects root op numbers lacked (Ok attempt.WantsNumber) want = absurd want
+want_reads known objects root op numbers lacked (Err x) want = tt

@@ -1,5 +1,5 @@
 -- What calls on a tree answer, draw and put, over the objects that a client sees. Own.
-use Rattle.std.specs.Prelude.{◌≡◌, ◌⊎◌, ◌<◌, ℕ, Bool, true, false, List, [], ◌∷◌, map, length, All, Option, Some, None, Result, Ok, Err}
+use Rattle.std.specs.Prelude.{◌≡◌, ◌⊎◌, ◌<◌, ℕ, Bool, true, false, List, [], ◌∷◌, map, length, All, Option, Some, None, Result, Ok, Err, is_some}
 use Rattle.std.specs.Option.{ForSome, option_map, option_map_or}
 use Rattle.tree_calls.specs.declared.put.TreePut.{TreePut}
 use Rattle.zb_model.specs.declared.refusal.Refusal.{Refusal}
@@ -146,6 +146,15 @@ reads_in (Wrote oid ∷ calls) = reads_in calls
 abbrev pub IsAmong : List ℕ → ℕ → Type 0
 IsAmong oids oid = stands_in oids oid ≡ true
 
+-- what calls read was all known
+abbrev pub is_read_known : List (ℕ × Option Seen) → Call → Bool
+is_read_known known (Read oid) = is_some (known_at known oid)
+is_read_known known (Drew oid) = true
+is_read_known known (Wrote oid) = true
+
+abbrev pub AreKnown : List (ℕ × Option Seen) → List Call → Type 0
+AreKnown known calls = (oid : ℕ) → IsAmong (reads_in calls) oid → is_some (known_at known oid) ≡ true
+
 -- The objects that a call may read, on every tree: those on the way for its key, as far as it goes, and for a change those besides the way; or those that a walk comes
 -- to, of which one over a range goes only into children that may have a key of it.
 abbrev pub MayRead : (ℕ → Option (List ℕ)) → ℕ → TreeOperation → ℕ → Type 0
@@ -184,6 +193,13 @@ IsAttempt objects root op numbers (attempt.Made made) = IsMade objects root op n
 IsAttempt objects root op numbers (attempt.Refused why) = IsRefused objects root op why × (numbers ≡ [])
 IsAttempt objects root op numbers (attempt.WantsObject oid) = (numbers ≡ []) × MayRead (contents_of objects) root op oid
 IsAttempt objects root op numbers attempt.WantsNumber = LacksNumbers (contents_of objects) root op (length numbers)
+
+-- a call that is answered or refused has read nothing but what is known
+abbrev pub HasRead : List (ℕ × Option Seen) → (ℕ → Option Seen) → ℕ → TreeOperation → List ℕ → Attempt → Type 0
+HasRead known objects root op numbers (attempt.Made made) = (m : IsMade objects root op numbers made.answer made.puts) × AreKnown known m.calls
+HasRead known objects root op numbers (attempt.Refused why) = (r : IsRefused objects root op why) × AreKnown known r.calls
+HasRead known objects root op numbers (attempt.WantsObject oid) = Unit {0}
+HasRead known objects root op numbers attempt.WantsNumber = Unit {0}
 
 -- an object is wanted first, which was lacked, and no number was drawn
 abbrev pub IsWant : List ℕ → Option ℕ → Attempt → Type 0

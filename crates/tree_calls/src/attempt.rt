@@ -1,12 +1,13 @@
 //! An attempt at a call.
 
 ghost use Rattle.std.specs.Prelude.{◌≡◌, [], ℕ, Option, IfOk, Some, length, map, true};
+ghost use Rattle.std.specs.List.{list_all};
 ghost use Rattle.std.specs.Option.{option_map};
 ghost use Rattle.btree_nodes.specs.Drawn.{drawn_in};
 ghost use Rattle.btree_shapes.specs.Spaces.{handed_on};
 ghost use Rattle.tree_calls.specs.declared.known.Seen.{Seen};
 ghost use Rattle.tree_calls.specs.Calls;
-ghost use Rattle.tree_calls.specs.Calls.{CallEnds, IsAttempt, IsLacked, IsWant, IsWanted, bases_of, contents_after, contents_of, has_members, is_set_kind, oids_of, written_in};
+ghost use Rattle.tree_calls.specs.Calls.{CallEnds, HasRead, IsAttempt, IsLacked, IsWant, IsWanted, bases_of, contents_after, contents_of, has_members, is_set_kind, oids_of, written_in};
 ghost use Rattle.tree_calls.specs.Known.{Agrees};
 ghost use Rattle.tree_calls.specs.Puts.{are_filled, based_on};
 
@@ -285,7 +286,25 @@ fn refused_if(is_whole: bool, why: Refusal) -> Result<Attempt, AllocError>
     }
 }
 
-/// How an attempt ends that was answered so, with these calls of the space; whether it took each of the numbers.
+/// Whether a call of the space reads nothing but what is known.
+fn is_read_known(known: &Known, call: &Call) -> bool
+    ensures { result ≡ Calls.is_read_known known.now call.now }
+{
+    match call {
+        Call::Read(oid) => known.find(*oid).is_some(),
+        _ => true,
+    }
+}
+
+/// Whether calls of the space read nothing but what is known.
+fn are_known(known: &Known, calls: &[Call]) -> bool
+    ensures { result ≡ list_all (Calls.is_read_known known.now) calls.now }
+{
+    calls.iter().all(|call| is_read_known(known, call))
+}
+
+/// How an attempt ends that was answered so, with these calls of the space; whether it took each of the numbers, and
+/// read nothing but what is known.
 fn end<B: Sight>(
     is_whole: bool,
     puts: ListOf<TreePut>,
@@ -299,6 +318,7 @@ fn end<B: Sight>(
 ) -> Result<Attempt, AllocError>
     requires numbered { numbers.now ≡ B.numbers }
     requires whole { is_whole ≡ true → drawn_in _calls.now ≡ B.numbers }
+    requires known { is_whole ≡ true → list_all (Calls.is_read_known known.now) _calls.now ≡ true }
     requires written { written_in _calls.now ≡ oids_of puts }
     requires based { bases_of puts ≡ map (based_on B.numbers B.objects) (oids_of puts) }
     requires filled { are_filled puts ≡ true }
@@ -307,6 +327,7 @@ fn end<B: Sight>(
     requires lacking { IsLacked _calls.now lacked }
     ensures attempt { IfOk result (IsAttempt B.objects _root _operation.now B.numbers) }
     ensures wants { IfOk result (IsWanted known.now) }
+    ensures reads { IfOk result (HasRead known.now B.objects _root _operation.now B.numbers) }
 {
     match answered {
         Ok(given) => match given {
@@ -331,7 +352,7 @@ fn end<B: Sight>(
 /// only where the call needs more than there are. `_whose` and `_changes` are what the objects belong to; only proofs look at
 /// them. `cache` spares the reading of bytes that were read before; it changes no answer. The one error is want of memory; it
 /// also comes where a call takes fewer of the numbers than were drawn for it, lacks an object that is known, or one once
-/// numbers were drawn, or puts an object that it hasn't read. None of this comes up, since a call that is made again over the
+/// numbers were drawn, reads an object that isn't known, or puts one that it hasn't read. None of this comes up, since a call that is made again over the
 /// same objects draws as many numbers (`calls_draw_alike`) and reads nothing else.
 pub fn call_tree<B: Sight, W, V>(
     alloc: Global,
@@ -347,6 +368,7 @@ pub fn call_tree<B: Sight, W, V>(
     requires numbered { numbers.now ≡ B.numbers }
     ensures attempt { IfOk result (IsAttempt B.objects root operation.now B.numbers) }
     ensures wants { IfOk result (IsWanted known.now) }
+    ensures reads { IfOk result (HasRead known.now B.objects root operation.now B.numbers) }
 {
     let mut space = KnownSpace::<B> {
         alloc,
@@ -367,7 +389,7 @@ pub fn call_tree<B: Sight, W, V>(
         lacked,
         ..
     } = space;
-    let is_whole = used == numbers.len();
+    let is_whole = used == numbers.len() && are_known(known, calls.as_slice());
     end::<B>(
         is_whole,
         puts,

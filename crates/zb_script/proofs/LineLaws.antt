@@ -17,7 +17,7 @@ use Rattle.zb_script.specs.declared.line.Line.TheVariants as lines
 use Rattle.zb_script.specs.declared.line.Turn.{Turn}
 use Rattle.zb_script.specs.Names.{is_name, IsName}
 use Rattle.zb_script.specs.Lines.{Lacks}
-use Rattle.zb_script.specs.Spelling.{IsNumbered, IsStore, IsPut, IsPaired, IsPackText, collecting_text, IsVote, IsUndo, IsRollback, IsLineText, IsTurnText, AreTurnTexts, IsLine, IsTurn, tids_text}
+use Rattle.zb_script.specs.Spelling.{IsNumbered, IsStore, IsPut, IsPaired, IsPackText, collecting_text, IsVote, IsUndo, IsRollback, IsLineText, IsTurnText, AreTurnTexts, IsLine, IsTurn, opening_text, tids_text}
 use Rattle.zb_script.specs.Reading.{cut_at, behind_word, literal_cut, field_at, payload_at, short_at, short_field_at, sixteen_at, tids_at, record_at, small_at, numbered_at, store_at, put_at, collecting_at, packed_at, paired_at, vote_at, undo_at, rollback_at, words_at, short_line_at, line_at, name_at, turn_at}
 use Rattle.zb_script.proofs.Froms.{From, From-append, From-weaker, from_test, hex_from, number_from, name_from, Lacks-from, chosen}
 use Rattle.zb_script.proofs.GapLaws.{IsWord, quoted_word, literal_word, word_cut, cut_is, all_digits_high}
@@ -139,7 +139,8 @@ word_takes bytes word l t other e spells then =
 words_take : Exact → (bytes : List ℕ) (l : Line) → words_at bytes ≡ Some l → IsLineText bytes l
 unfolding words_at
 words_take exact bytes l e =
-    word_takes bytes (codes "open local") lines.Open l _ e (λ is. is) (λ e.
+    word_takes bytes (codes "open local") (lines.Open false) l _ e (λ is. is) (λ e.
+    word_takes bytes (codes "open remote") (lines.Open true) l _ e (λ is. is) (λ e.
     word_takes bytes (codes "begin") lines.Begin l _ e (λ is. is) (λ e.
     word_takes bytes (codes "new") lines.New l _ e (λ is. is) (λ e.
     word_takes bytes (codes "finish") lines.Finish l _ e (λ is. is) (λ e.
@@ -148,7 +149,7 @@ words_take exact bytes l e =
     word_takes bytes (codes "close") lines.Close l _ e (λ is. is) (λ e.
     word_takes bytes (codes "savepoint") lines.Savepoint l _ e (λ is. is) (λ e.
     word_takes bytes (codes "packturn") lines.PackTurn l _ e (λ is. is) (λ e.
-    word_takes bytes (codes "deliver") lines.Deliver l _ e (λ is. is) (λ e. tree_takes exact bytes l e))))))))))
+    word_takes bytes (codes "deliver") lines.Deliver l _ e (λ is. is) (λ e. tree_takes exact bytes l e)))))))))))
 
 short_line_takes : Exact → (bytes : List ℕ) (l : Line) → short_line_at bytes ≡ Some l → IsLineText bytes l
 unfolding short_line_at
@@ -161,7 +162,7 @@ short_line_takes exact bytes l e =
     begun_takes (codes "rollback ") bytes rollback_at _ l e (λ rest. rollback_takes exact rest l) (λ e.
     words_take exact bytes l e))))))
 
-line_takes : Exact → (bytes : List ℕ) (l : Line) → line_at bytes ≡ Some l → IsLineText bytes l
+pub line_takes : Exact → (bytes : List ℕ) (l : Line) → line_at bytes ≡ Some l → IsLineText bytes l
 unfolding line_at
 line_takes exact bytes l e =
     begun_takes (codes "store ") bytes store_at _ l e (λ rest. store_takes rest l) (λ e.
@@ -228,9 +229,10 @@ undo_again exact text user description [] h = absurd (omega (arith, h.undone.som
 undo_again exact text user description (tid ∷ tids) h =
     rw (short_field_again exact user (quoted_text description ++ 32 ∷ (hex_number tid ++ tids_text tids)) h.user_short, short_field_again exact description (hex_number tid ++ tids_text tids) h.description_short, tids_again tid tids h.undone.fall) refl
 
-open_again : IsRead (codes "open local") lines.Open
+open_again : (remote : Bool) → IsRead (opening_text remote) (lines.Open remote)
 unfolding line_at behind_word short_line_at words_at
-open_again = refl
+open_again false = refl
+open_again true = refl
 
 begin_again : IsRead (codes "begin") lines.Begin
 unfolding line_at behind_word short_line_at words_at
@@ -272,8 +274,8 @@ rollback_again : Exact → (number : ℕ) → number < 2 ^ 32 → IsRead (codes 
 unfolding line_at behind_word short_line_at rollback_at
 rollback_again exact number h = rw (small_again exact number h) refl
 
-line_again : Exact → (text : List ℕ) (l : Line) → IsLineText text l → line_at text ≡ Some l
-line_again exact text lines.Open h = word_again lines.Open text _ h open_again
+pub line_again : Exact → (text : List ℕ) (l : Line) → IsLineText text l → line_at text ≡ Some l
+line_again exact text (lines.Open remote) h = word_again (lines.Open remote) text _ h (open_again remote)
 line_again exact text lines.Begin h = word_again lines.Begin text _ h begin_again
 line_again exact text (lines.Load oid) h = word_again (lines.Load oid) text _ h.is (load_again oid h.small)
 line_again exact text (lines.Get oid) h = word_again (lines.Get oid) text _ h.is (get_again oid h.small)
@@ -339,7 +341,8 @@ decimal_from : (number : ℕ) → number < 2 ^ 32 → From 32 (decimal number)
 decimal_from number h = From-weaker 35 32 (decimal number) (omega arith) (all_digits_high (decimal number) (decimal_is_IsNumeral number (omega (arith, h))).0.1)
 
 line_from : (l : Line) (text : List ℕ) → IsLineText text l → From 32 text
-line_from lines.Open text h = subst (From 32) (sym h) (from_test 32 (codes "open local") refl)
+line_from (lines.Open false) text h = subst (From 32) (sym h) (from_test 32 (codes "open local") refl)
+line_from (lines.Open true) text h = subst (From 32) (sym h) (from_test 32 (codes "open remote") refl)
 line_from lines.Begin text h = subst (From 32) (sym h) (from_test 32 (codes "begin") refl)
 line_from (lines.Load oid) text h = numbered_from (codes "load ") oid text (from_test 32 (codes "load ") refl) h
 line_from (lines.Get oid) text h = numbered_from (codes "get ") oid text (from_test 32 (codes "get ") refl) h
@@ -384,8 +387,8 @@ turn_some (b ∷ text) t h = omega arith
 
 -- ---- fields
 
-line_is : (l : Line) (text : List ℕ) → IsLineText text l → IsLine l
-line_is lines.Open text h = tt
+pub line_is : (l : Line) (text : List ℕ) → IsLineText text l → IsLine l
+line_is (lines.Open remote) text h = tt
 line_is lines.Begin text h = tt
 line_is (lines.Load oid) text h = h.small
 line_is (lines.Get oid) text h = h.small

@@ -7,7 +7,8 @@ use Rattle.std.proofs.lemmas.Option.{cond_some}
 use Rattle.zb_script.specs.declared.line.Turn.{Turn}
 use Rattle.zb_script.specs.Lines.{pieces, lines_text, Spells, Lacks, IsEnd}
 use Rattle.zb_script.specs.Spelling.{IsTurnText, AreTurnTexts}
-use Rattle.zb_script.specs.Shape.{openers, stands_behind, can_stand, all_stand}
+use Rattle.zb_script.specs.declared.opened.Opened.{Opened}
+use Rattle.zb_script.specs.Shape.{opened_by, stands_behind, can_stand, all_stand}
 use Rattle.zb_script.specs.Script.{IsScript, IsBadLine}
 use Rattle.zb_script.specs.Reading.{turn_at, turn_placed, then_turns, turns_at}
 use Rattle.zb_script.proofs.FieldLaws.{Exact}
@@ -24,20 +25,20 @@ not_chosen : {A : Type 0} (b : Bool) (x : A) → cond b (Some x) None ≡ None �
 not_chosen true x e = absurd cc
 not_chosen false x e = refl
 
-placed_some : (names : List (List ℕ)) (o : Option Turn) (t : Turn) → turn_placed names o ≡ Some t → (o ≡ Some t) × (stands_behind names t ≡ true)
-placed_some names None t e = absurd cc
-placed_some names (Some s) t e =
-    let p = cond_some (stands_behind names s) s t e in
-    (ap (λ (x : Turn). Some x) p.1, subst (λ (x : Turn). stands_behind names x ≡ true) p.1 p.0)
+placed_some : (opened : Opened) (o : Option Turn) (t : Turn) → turn_placed opened o ≡ Some t → (o ≡ Some t) × (stands_behind opened t ≡ true)
+placed_some opened None t e = absurd cc
+placed_some opened (Some s) t e =
+    let p = cond_some (stands_behind opened s) s t e in
+    (ap (λ (x : Turn). Some x) p.1, subst (λ (x : Turn). stands_behind opened x ≡ true) p.1 p.0)
 
-none_stands : Exact → (before : List Turn) (bad : List ℕ) → turn_placed (openers before) (turn_at bad) ≡ None → (t : Turn) → IsTurnText bad t → can_stand before t ≡ false
+none_stands : Exact → (before : List Turn) (bad : List ℕ) → turn_placed (opened_by before) (turn_at bad) ≡ None → (t : Turn) → IsTurnText bad t → can_stand before t ≡ false
 none_stands exact before bad none t h =
-    not_chosen (can_stand before t) t (sym (ap (turn_placed (openers before)) (turn_again exact bad t h)) ∙ none)
+    not_chosen (can_stand before t) t (sym (ap (turn_placed (opened_by before)) (turn_again exact bad t h)) ∙ none)
 
-none_placed : Exact → (before : List Turn) (bad : List ℕ) → ((t : Turn) → IsTurnText bad t → can_stand before t ≡ false) → turn_placed (openers before) (turn_at bad) ≡ None
+none_placed : Exact → (before : List Turn) (bad : List ℕ) → ((t : Turn) → IsTurnText bad t → can_stand before t ≡ false) → turn_placed (opened_by before) (turn_at bad) ≡ None
 none_placed exact before bad none = by_cases (turn_at bad) refl
   where
-    by_cases : (r : Option Turn) → turn_at bad ≡ r → turn_placed (openers before) r ≡ None
+    by_cases : (r : Option Turn) → turn_at bad ≡ r → turn_placed (opened_by before) r ≡ None
     by_cases None e = refl
     by_cases (Some t) e = rw (none t (turn_takes exact bad t e)) refl
 
@@ -65,8 +66,8 @@ turns_take exact before [] whole e =
     let same : before ≡ whole = cc in
     record { new = []; parts = sym same ∙ sym (append-nil before); each = tt; shape = refl }
 turns_take exact before (p ∷ ps) whole e =
-    then_ok before (turn_placed (openers before) (turn_at p)) (λ turns. turns_at turns ps) whole e (λ t at_turn at_rest.
-    let q = placed_some (openers before) (turn_at p) t at_turn in
+    then_ok before (turn_placed (opened_by before) (turn_at p)) (λ turns. turns_at turns ps) whole e (λ t at_turn at_rest.
+    let q = placed_some (opened_by before) (turn_at p) t at_turn in
     let later = turns_take exact (before ++ t ∷ []) ps whole at_rest in
     record {
       new = t ∷ later.new;
@@ -93,16 +94,16 @@ record FailsAt (before : List Turn) (ps : List (List ℕ)) (k : ℕ) : Type 0 wh
   shape : IsTrue (all_stand before front)
   parts : ps ≡ texts ++ bad ∷ others
   place : k ≡ length before + length front + 1
-  none : turn_placed (openers (before ++ front)) (turn_at bad) ≡ None
+  none : turn_placed (opened_by (before ++ front)) (turn_at bad) ≡ None
 
 turns_fail : Exact → (before : List Turn) (k : ℕ) (ps : List (List ℕ)) → turns_at before ps ≡ Err k → FailsAt before ps k
 unfolding turns_at
 turns_fail exact before k [] e = absurd cc
 turns_fail exact before k (p ∷ ps) e =
-    elim (then_err before k (turn_placed (openers before) (turn_at p)) (λ turns. turns_at turns ps) e) [
+    elim (then_err before k (turn_placed (opened_by before) (turn_at p)) (λ turns. turns_at turns ps) e) [
       | inl bad ↦ record { texts = []; front = []; bad = p; others = ps; each = tt; shape = refl; parts = refl; place = omega (arith, bad.1); none = rw (append-nil before) (bad.0) }
       | inr good ↦
-          let q = placed_some (openers before) (turn_at p) good.0 good.1 in
+          let q = placed_some (opened_by before) (turn_at p) good.0 good.1 in
           let later = turns_fail exact (before ++ good.0 ∷ []) k ps good.2 in
           record {
             texts = p ∷ later.texts;
@@ -113,23 +114,23 @@ turns_fail exact before k (p ∷ ps) e =
             shape = both_true _ _ q.1 later.shape;
             parts = ap (λ (x : List (List ℕ)). p ∷ x) later.parts;
             place = omega (arith, later.place, length-append before (good.0 ∷ []));
-            none = subst (λ (x : List Turn). turn_placed (openers x) (turn_at later.bad) ≡ None) (append_assoc before (good.0 ∷ []) later.front) later.none;
+            none = subst (λ (x : List Turn). turn_placed (opened_by x) (turn_at later.bad) ≡ None) (append_assoc before (good.0 ∷ []) later.front) later.none;
           }
     ]
 
 turns_fail_again : Exact → (before : List Turn) (k : ℕ) (texts : List (List ℕ)) (front : List Turn) (bad : List ℕ) (others : List (List ℕ)) → AreTurnTexts texts front → IsTrue (all_stand before front)
-    → turn_placed (openers (before ++ front)) (turn_at bad) ≡ None → k ≡ length before + length front + 1
+    → turn_placed (opened_by (before ++ front)) (turn_at bad) ≡ None → k ≡ length before + length front + 1
     → turns_at before (texts ++ bad ∷ others) ≡ Err k
 unfolding turns_at
 turns_fail_again exact before k [] [] bad others each shape none place =
-    let here : turn_placed (openers before) (turn_at bad) ≡ None = subst (λ (x : List Turn). turn_placed (openers x) (turn_at bad) ≡ None) (append-nil before) none in
+    let here : turn_placed (opened_by before) (turn_at bad) ≡ None = subst (λ (x : List Turn). turn_placed (opened_by x) (turn_at bad) ≡ None) (append-nil before) none in
     let n : length before + 1 ≡ k = omega (arith, place) in
     rw here (ap (λ (x : ℕ). Err x) n)
 turns_fail_again exact before k [] (t ∷ front) bad others each shape none place = absurd each
 turns_fail_again exact before k (p ∷ texts) [] bad others each shape none place = absurd each
 turns_fail_again exact before k (p ∷ texts) (t ∷ front) bad others each shape none place =
     let s = and_parts (can_stand before t) (all_stand (before ++ t ∷ []) front) shape in
-    let later = subst (λ (x : List Turn). turn_placed (openers x) (turn_at bad) ≡ None) (sym (append_assoc before (t ∷ []) front)) none in
+    let later = subst (λ (x : List Turn). turn_placed (opened_by x) (turn_at bad) ≡ None) (sym (append_assoc before (t ∷ []) front)) none in
     rw (turn_again exact p t each.0, s.0) (turns_fail_again exact (before ++ t ∷ []) k texts front bad others each.1 s.1 later (omega (arith, place, length-append before (t ∷ []))))
 
 -- ---- pieces from lines

@@ -23,7 +23,8 @@ use Rattle.zb_script.specs.declared.tree_call.TreeCall.{TreeCall}
 use Rattle.zb_script.specs.declared.tree_call.TreeCall.TheVariants as calls
 use Rattle.zb_script.specs.Names.{is_name}
 use Rattle.zb_script.specs.Keys.{text_or_none}
-use Rattle.zb_script.specs.Shape.{openers, stands_behind}
+use Rattle.zb_script.specs.declared.opened.Opened.{Opened}
+use Rattle.zb_script.specs.Shape.{linked, opened_by, openers, stands_behind}
 
 -- What a function returned, seen by view, is what reading gives, unless memory ran out.
 abbrev pub RefusesToRead : {Y : Type 0} → ReadError → Option Y → Type 0
@@ -268,7 +269,8 @@ tree_line_at bytes =
 -- a line without a field, or one of a tree
 unfoldable pub words_at : List ℕ → Option Line
 words_at bytes =
-    if bytes_eq bytes (codes "open local") then Some lines.Open
+    if bytes_eq bytes (codes "open local") then Some (lines.Open false)
+    else if bytes_eq bytes (codes "open remote") then Some (lines.Open true)
     else if bytes_eq bytes (codes "begin") then Some lines.Begin
     else if bytes_eq bytes (codes "new") then Some lines.New
     else if bytes_eq bytes (codes "finish") then Some lines.Finish
@@ -312,9 +314,9 @@ turn_at bytes = do
 -- ---- scripts
 
 -- the turn, where it can stand behind the opens of these clients
-abbrev pub turn_placed : List (List ℕ) → Option Turn → Option Turn
-turn_placed names None = None
-turn_placed names (Some t) = if stands_behind names t then Some t else None
+abbrev pub turn_placed : Opened → Option Turn → Option Turn
+turn_placed opened None = None
+turn_placed opened (Some t) = if stands_behind opened t then Some t else None
 
 abbrev pub then_turns : List Turn → Option Turn → (List Turn → Result (List Turn) ℕ) → Result (List Turn) ℕ
 then_turns before None rest = Err (length before + 1)
@@ -323,8 +325,8 @@ then_turns before (Some t) rest = rest (before ++ t ∷ [])
 -- the turns that the pieces spell behind those before them, or the number of the first bad piece
 unfoldable pub turns_at : List Turn → List (List ℕ) → Result (List Turn) ℕ
 turns_at before [] = Ok before
-turns_at before (piece ∷ others) = then_turns before (turn_placed (openers before) (turn_at piece)) (λ turns. turns_at turns others)
+turns_at before (piece ∷ others) = then_turns before (turn_placed (opened_by before) (turn_at piece)) (λ turns. turns_at turns others)
 
 -- the clients that have opened their session, and a turn's client behind them where it opens one
-abbrev pub with_opener : List (List ℕ) → Turn → List (List ℕ)
-with_opener names t = names ++ openers (t ∷ [])
+abbrev pub with_opener : Opened → Turn → Opened
+with_opener opened t = record { clients = opened.clients ++ openers (t ∷ []); linked = opened.linked ++ linked (t ∷ []) }

@@ -136,9 +136,14 @@ pub record IsRollback (text : List ℕ) (number : ℕ) : Type 0 where
   pub small : number < 2 ^ 32
   pub is : text ≡ codes "rollback " ++ decimal number
 
+-- a session is opened over a link, or without one
+abbrev pub opening_text : Bool → List ℕ
+opening_text false = codes "open local"
+opening_text true = codes "open remote"
+
 -- the text is what stands behind the client's name and a blank
 abbrev pub IsLineText : List ℕ → Line → Type 0
-IsLineText text lines.Open = text ≡ codes "open local"
+IsLineText text (lines.Open remote) = text ≡ opening_text remote
 IsLineText text lines.Begin = text ≡ codes "begin"
 IsLineText text (lines.Load oid) = IsNumbered text (codes "load ") oid
 IsLineText text (lines.Get oid) = IsNumbered text (codes "get ") oid

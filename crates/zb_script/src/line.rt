@@ -8,9 +8,12 @@ use zb_ids::{ListOf, Oid, Text8, Tid};
 /// What a client does in one turn.
 #[derive(Drop)]
 pub enum Line {
-    /// `open local`: a session begins.
-    Open,
-    /// `begin`: a transaction begins, with a view of the list as it stands.
+    /// `open local`, `open remote`: a session begins.
+    Open {
+        /// Whether its client has a link to it.
+        remote: bool,
+    },
+    /// `begin`: a transaction begins, with a view of the list as it stands, or, over a link, as it is known there.
     Begin,
     /// `load OID`: reads the bytes of an object in the view.
     Load {

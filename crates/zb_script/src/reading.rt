@@ -161,7 +161,9 @@ fn words_of(alloc: Global, bytes: &[u8]) -> Result<Line, ReadError>
     ensures { ReadsAs (λ line. line) result (words_at bytes.now) }
 {
     if bytes == b"open local".as_slice() {
-        Ok(Line::Open)
+        Ok(Line::Open { remote: false })
+    } else if bytes == b"open remote".as_slice() {
+        Ok(Line::Open { remote: true })
     } else if bytes == b"begin".as_slice() {
         Ok(Line::Begin)
     } else if bytes == b"new".as_slice() {
@@ -207,8 +209,9 @@ fn short_line_of(alloc: Global, bytes: &[u8]) -> Result<Line, ReadError>
     }
 }
 
+/// The line that bytes spell.
 #[tactic(auto, unfolding(crate::specs::Reading::line_at, crate::specs::Reading::behind_word))]
-fn line_of(alloc: Global, bytes: &[u8]) -> Result<Line, ReadError>
+pub(crate) fn line_of(alloc: Global, bytes: &[u8]) -> Result<Line, ReadError>
     ensures { ReadsAs (λ line. line) result (line_at bytes.now) }
 {
     if let Some(rest) = bytes.strip_prefix(b"store ") {

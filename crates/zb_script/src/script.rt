@@ -3,28 +3,29 @@
 ghost use Rattle.std.specs.Prelude.{◌≡◌, ◌≤◌, ◌⊎◌, ℕ, List, Option, Some, None, length, IfOk, Ok, Err, IsOkUnless, []};
 ghost use Rattle.std.specs.List.{AllByRecursion};
 ghost use Rattle.zb_script.specs.declared.limits.Limit.{Limit};
+ghost use Rattle.zb_script.specs.declared.line.Line.{Line};
 ghost use Rattle.zb_script.specs.declared.line.Turn.{Turn};
 ghost use Rattle.zb_script.specs.Limits;
 ghost use Rattle.zb_script.specs.Lines.{pieces};
 ghost use Rattle.zb_script.specs.Reading.{ReadsAs, turn_at, turn_placed, turns_at};
 ghost use Rattle.zb_script.specs.Script.{IsBadLine, IsScript};
 ghost use Rattle.zb_script.specs.Shape.{ClientsOpenFirst};
-ghost use Rattle.zb_script.specs.Spelling.{IsTurn};
+ghost use Rattle.zb_script.specs.Spelling.{IsLine, IsLineText, IsTurn};
 ghost use Rattle.zb_script.specs.Turns.{GivesTurns};
 
 use crate::cutting::first_line;
 use crate::errors::{ReadError, ScriptError};
 use crate::limits::first_limit;
-use crate::line::Turn;
-use crate::name::Name;
-use crate::reading::turn_of;
+use crate::line::{Line, Turn};
+use crate::opened::Opened;
+use crate::reading::{line_of, turn_of};
 use crate::shape::{can_stand, note_open};
 use literal_reading::literals_are_exact;
 use std::alloc::Global;
 use zb_ids::ListOf;
 
 /// The turn that a line spells, where it can stand behind the opens of these clients.
-fn placed_turn(alloc: Global, opened: &[Name], text: &[u8]) -> Result<Turn, ReadError>
+fn placed_turn(alloc: Global, opened: &Opened, text: &[u8]) -> Result<Turn, ReadError>
     ensures { ReadsAs (λ turn. turn) result (turn_placed opened.now (turn_at text.now)) }
 {
     let turn = turn_of(alloc, text)?;
@@ -39,11 +40,14 @@ fn turns_of(alloc: Global, bytes: &[u8]) -> Result<ListOf<Turn>, ScriptError>
     ensures fewer { IfOk result (λ turns. length turns ≤ length bytes.now) }
 {
     let mut turns = ListOf::new(alloc);
-    let mut opened = ListOf::new(alloc);
+    let mut opened = Opened {
+        clients: ListOf::new(alloc),
+        linked: ListOf::new(alloc),
+    };
     let mut rest = bytes;
     while !rest.is_empty() {
         let (text, after) = first_line(rest);
-        match placed_turn(alloc, opened.as_slice(), text) {
+        match placed_turn(alloc, &opened, text) {
             Ok(turn) => {
                 note_open(&mut opened, &turn)?;
                 turns.push(turn)?;
@@ -98,6 +102,27 @@ pub fn read_script(alloc: Global, bytes: &[u8]) -> Result<ListOf<Turn>, ScriptEr
     }
 }
 
+/// The line that bytes spell, without a client's name before it.
+///
+/// `BadLine`, with the number 1, is answered exactly where they spell none, and `Memory` only for want of it.
+pub fn read_line(alloc: Global, text: &[u8]) -> Result<Line, ScriptError>
+    // What is read is spelled so.
+    ensures found { IfOk result (λ line. IsLineText text.now line) }
+
+    // What is spelled so is read, unless memory runs out.
+    ensures only { (line : Line) → IsLineText text.now line → (result ≡ Ok line) ⊎ (result ≡ Err ScriptError.Memory) }
+
+    // What the line holds is in its range.
+    ensures fields { IfOk result IsLine }
+{
+    literals_are_exact();
+    match line_of(alloc, text) {
+        Ok(line) => Ok(line),
+        Err(ReadError::Memory) => Err(ScriptError::Memory),
+        Err(ReadError::Bad) => Err(ScriptError::BadLine { number: 1 }),
+    }
+}
+
 /// The law that bytes are at most one script.
 pub fn one_script()
     ensures { (bytes : List ℕ) (one other : List Turn) → IsScript bytes one → IsScript bytes other → one ≡ other }
@@ -106,7 +131,7 @@ pub fn one_script()
 }
 
 /// The law of where lines stand: they stand in their places exactly where each client's first line is its
-/// open, and it has no other.
+/// open, it has no other, and a client with a link has none that needs no link.
 pub fn clients_open_first()
     ensures { ClientsOpenFirst }
 {}

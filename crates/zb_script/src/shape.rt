@@ -7,8 +7,8 @@ ghost use Rattle.zb_script.specs.Shape.{stands_behind};
 
 use crate::line::{Line, Turn};
 use crate::name::Name;
+use crate::opened::Opened;
 use std::alloc::AllocError;
-use zb_ids::ListOf;
 
 /// Whether a name is one of these.
 pub(crate) fn is_among(client: Name, names: &[Name]) -> bool
@@ -23,24 +23,52 @@ pub(crate) fn is_among(client: Name, names: &[Name]) -> bool
 fn is_open(line: &Line) -> bool
     ensures { result ≡ Shape.is_open line.now }
 {
-    matches!(line, Line::Open)
+    matches!(line, Line::Open { .. })
+}
+
+/// Whether a line opens a session over a link.
+fn opens_link(line: &Line) -> bool
+    ensures { result ≡ Shape.opens_link line.now }
+{
+    match line {
+        Line::Open { remote } => *remote,
+        _ => false,
+    }
+}
+
+/// Whether a client with a link can't have a line.
+fn needs_no_link(line: &Line) -> bool
+    ensures { result ≡ Shape.needs_no_link line.now }
+{
+    match line {
+        Line::Delete { .. } => true,
+        Line::Pack { collect, .. } => !*collect,
+        Line::PackBegin { collect, .. } => !*collect,
+        _ => false,
+    }
 }
 
 /// Whether a turn can stand where these clients have opened their sessions.
-pub(crate) fn can_stand(opened: &[Name], turn: &Turn) -> bool
+pub(crate) fn can_stand(opened: &Opened, turn: &Turn) -> bool
     ensures { result ≡ stands_behind opened.now turn.now }
 {
-    let opens = is_open(&turn.line);
-    let opened = is_among(turn.client, opened);
-    opens != opened
+    let has_opened = is_among(turn.client, opened.clients.as_slice());
+    if is_open(&turn.line) {
+        return !has_opened;
+    }
+    let is_barred = needs_no_link(&turn.line) && is_among(turn.client, opened.linked.as_slice());
+    has_opened && !is_barred
 }
 
 /// Puts a turn's client behind those that have opened their sessions, where it opens one.
-pub(crate) fn note_open(opened: &mut ListOf<Name>, turn: &Turn) -> Result<(), AllocError>
+pub(crate) fn note_open(opened: &mut Opened, turn: &Turn) -> Result<(), AllocError>
     ensures { OnOk result (opened.new ≡ with_opener opened.old turn.now) }
 {
     if is_open(&turn.line) {
-        opened.push(turn.client)?;
+        opened.clients.push(turn.client)?;
+    }
+    if opens_link(&turn.line) {
+        opened.linked.push(turn.client)?;
     }
     Ok(())
 }

@@ -21,6 +21,9 @@ use zb_model::Refusal;
 use zeo_messages::Call;
 use zodb_core::{Reply, Request};
 
+/// How many bytes of a frame stand before its payload.
+const LENGTH_BYTES: u64 = 4;
+
 /// The server's end of one link: whether the client has registered, the texts of its votes and what waits
 /// for them, the first refusal of that, and the step whose reply is awaited.
 ///
@@ -43,6 +46,8 @@ pub struct Desk {
     refused: Option<u64>,
     /// The step whose reply is awaited.
     awaited: Option<Awaited>,
+    /// How many bytes the frames had whose payloads were handed to it, where the count stays at 2^64-1.
+    bytes: u64,
 }
 
 impl Model for Desk {
@@ -77,7 +82,14 @@ impl Desk {
             pending: Pending::new(alloc),
             refused: None,
             awaited: None,
+            bytes: 0,
         }
+    }
+
+    /// How many bytes the frames had whose payloads were handed to it, with the four of each frame's length: from 0 to
+    /// 2^64-1, where the count stays. No message and no contract tells it: it shows what a client asks its server.
+    pub fn bytes_taken(&self) -> u64 {
+        self.bytes
     }
 
     /// Takes one message: its payload names a step of the session, or frames are sent for it, which may be
@@ -90,6 +102,8 @@ impl Desk {
         ensures err { OnErr result (self.new ≡ self.old) }
         ensures fitting { IfOk result IsFittingNext }
     {
+        self.bytes = self.bytes.saturating_add(payload.len() as u64);
+        self.bytes = self.bytes.saturating_add(LENGTH_BYTES);
         let NumberedCall { number, call } = read_call(alloc, payload)?;
         if self.registered {
             let next = self.take_call(alloc, number, call)?;

@@ -13,3 +13,4 @@ pub mod Packs
 pub mod Untouched
 pub mod Checks
 pub mod Indexes
+pub mod Mades

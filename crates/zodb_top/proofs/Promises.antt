@@ -1,6 +1,6 @@
 -- What the program promises, from what each command does.
-use Rattle.std.proofs.Common.{◌≡◌, ℕ, List, [], Option, Some, None, length, inl, inr, refl, sym, subst, arith}
-use Rattle.std.specs.Prelude.{◌≢◌, ◌≤◌, ◌+◌, IfSome}
+use Rattle.std.proofs.Common.{◌≡◌, ℕ, List, [], map, Option, Some, None, length, inl, inr, refl, sym, subst, ◌∙◌, arith}
+use Rattle.std.specs.Prelude.{◌≢◌, ◌≤◌, ◌<◌, ◌+◌, IfSome}
 use Rattle.std.specs.Io.KnownBytes.{Consumes, IsAtEnd}
 use Rattle.std.proofs.lemmas.Option.{same_Some}
 use Rattle.file_store.specs.Hinting.{HasHonestHint, LeavesHonest}
@@ -18,7 +18,9 @@ use Rattle.zb_volume.specs.Calls.{Event}
 use Rattle.zb_volume.specs.Moments.{StaysAs, here as from_here}
 use Rattle.program_words.specs.declared.command.Asked.{Asked}
 use Rattle.program_words.specs.declared.command.Command.{Command}
-use Rattle.program_words.specs.declared.command.Command.TheVariants.{Ask, Index, Pack, Play, Run, Serve}
+use Rattle.program_words.specs.declared.command.Command.TheVariants.{Ask, Gen, Index, Pack, Play, Run, Serve}
+use Rattle.program_words.specs.Ranges.{IsInRange, command_fits}
+use Rattle.program_words.specs.Words.{command_of}
 use Rattle.program_words.specs.declared.command.PackRequest.{PackRequest}
 use Rattle.program_words.specs.declared.command.ServeRequest.{ServeRequest}
 use Rattle.script_runs.specs.declared.manner.Manner.{Manner}
@@ -28,6 +30,7 @@ use Rattle.script_runs.specs.declared.status.Status.TheVariants as status
 use Rattle.zodb_top.specs.Asked.{AskSays}
 use Rattle.zodb_top.specs.Indexing.{IndexSays}
 use Rattle.zodb_top.specs.Inputs.{most_bytes}
+use Rattle.zodb_top.specs.Made.{GenSays}
 use Rattle.zodb_top.specs.Opened.{IsLeft, IsUnopened}
 use Rattle.zodb_top.specs.Outside.{Outside, main_of}
 use Rattle.zodb_top.specs.Packs.{PackSays}
@@ -38,7 +41,7 @@ use Rattle.zodb_top.specs.Serves.{EndsWell, ServeSays}
 use Rattle.zodb_top.proofs.Complete.{ask_damaged, ask_done}
 use Rattle.zodb_top.proofs.Indexes.{index_damaged, index_done}
 use Rattle.zodb_top.proofs.Sides.{left_side}
-use Rattle.zodb_top.proofs.Untouched.{index_starved, left_untouched, pack_starved, serve_starved, still_honest}
+use Rattle.zodb_top.proofs.Untouched.{gen_starved, index_starved, left_untouched, pack_starved, serve_starved, still_honest}
 
 -- a file that stands for a list is served
 abbrev pub Done : Type 0 → Status → Outside → Outside → Type 0
@@ -117,6 +120,32 @@ pack_kept told command pack s before after is says done damaged harmed unfailed 
   harmed = harmed;
   unfailed = unfailed;
   side = λ here keeps some. absurd keeps;
+  hint = hint;
+  later = later;
+})
+
+-- a script that is made has so many rounds at most
+pub gen_in_range : {A : Type 0} (bytes_of : A → List ℕ) (words : List A) (read : Option Command) (rounds : ℕ) → read ≡ command_of (map bytes_of words) → read ≡ Some (Gen rounds) → rounds ≤ 8000
+gen_in_range bytes_of words read rounds says is = subst (λ (o : Option Command). IfSome o IsInRange) (sym says ∙ is) (command_fits (map bytes_of words))
+
+-- a script that is made
+pub gen_kept : (told : Type 0) (command : Option Command) (rounds : ℕ) (s : Status) (before after : ProgramSeen) → command ≡ Some (Gen rounds)
+    → GenSays s rounds told before.outside after.outside → Done told s before.outside after.outside → Damaged told s before.outside after.outside
+    → Harmed told before.outside after.outside → Unfailed s before.outside after.outside → after.left ≡ before.left
+    → (told → rounds < 100 → main_of before.outside ≢ [] → StaysAs Side before.outside.log after.outside.log)
+    → Hinted told before.outside after.outside → AreLater before after → after.links ≡ before.links → Promise told command s before after
+gen_kept told command rounds s before after is says done damaged harmed unfailed left side hint later links = subst (λ (c : Option Command). Promise told c s before after) (sym is) (record {
+  says = says;
+  reads = left;
+  links = links;
+  serves = record {
+    done = λ here opens served sinks list cut stands. done here served.reads served.writes sinks list cut stands;
+    damaged = λ here opens served harm. damaged here served.reads served.writes harm;
+  };
+  refuses = λ takes. absurd takes;
+  harmed = harmed;
+  unfailed = unfailed;
+  side = side;
   hint = hint;
   later = later;
 })
@@ -298,3 +327,7 @@ starved told (Some (Serve request)) seen honest =
     serve_kept told (Some (Serve request)) request status.NoMemory seen seen refl
     (serve_starved request told (seen_of seen.links) seen.outside) (λ here reads writes sinks list cut stands doors spawner. inl (inr refl)) (λ here reads writes harm. inr refl)
     (λ here harm. refl) (λ other. refl) refl (λ here settled. still_honest seen.outside.log (honest here) settled) (later_same seen) (record { doors = omega arith; spawner = omega arith })
+starved told (Some (Gen rounds)) seen honest =
+    gen_kept told (Some (Gen rounds)) rounds status.NoMemory seen seen refl
+    (gen_starved rounds told seen.outside) (λ here reads writes sinks list cut stands. inr refl) (λ here reads writes harm. inr refl)
+    (λ here harm. refl) (λ other. refl) refl (λ here few some. from_here refl) (λ here settled. still_honest seen.outside.log (honest here) settled) (later_same seen) refl

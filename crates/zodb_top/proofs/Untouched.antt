@@ -1,5 +1,5 @@
 -- What is left where nothing was done.
-use Rattle.std.proofs.Common.{◌≡◌, List, None, inl, refl, sym, ap, subst}
+use Rattle.std.proofs.Common.{◌≡◌, ℕ, List, None, inl, refl, sym, ap, subst}
 use Rattle.file_store.specs.Hinting.{HasHonestHint, LeavesHonest}
 use Rattle.file_store.specs.Kept.{StandsForList}
 use Rattle.file_store.specs.Opening.{IsNewOr, KeepsList, MakesList}
@@ -16,6 +16,7 @@ use Rattle.zodb_top.specs.Opened.{IsLeft, bytes_same}
 use Rattle.program_words.specs.declared.command.PackRequest.{PackRequest}
 use Rattle.program_words.specs.declared.command.ServeRequest.{ServeRequest}
 use Rattle.script_runs.specs.declared.status.Status.TheVariants as status
+use Rattle.zodb_top.specs.Made.{GenSays}
 use Rattle.zodb_top.specs.Outside.{Outside}
 use Rattle.zodb_top.specs.Packs.{PackSays}
 use Rattle.zodb_top.specs.Serves.{ServeSays}
@@ -53,3 +54,7 @@ index_starved told before = (refl, record { reads = refl; writes = refl })
 -- and for those of `serve`
 pub serve_starved : (request : ServeRequest) (told : Type 0) (links : OutsideSeen) (before : Outside) → ServeSays status.NoMemory request told links links before before
 serve_starved request told links before = (refl, inl (λ here. left_untouched told before before refl refl, record { reads = refl; writes = refl }))
+
+-- and for those of `gen`
+pub gen_starved : (rounds : ℕ) (told : Type 0) (before : Outside) → GenSays status.NoMemory rounds told before before
+gen_starved rounds told before = inl (refl, left_untouched told before before refl refl, record { reads = refl; writes = refl })

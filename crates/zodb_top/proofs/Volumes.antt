@@ -109,10 +109,10 @@ module _ (before : Outside) (state : StoreState) (left : Option (List Stamp)) (c
   module _ (turns : List FlaggedTurn) (text_of : List TurnAnswer → List ℕ) (after : Outside) (state' : StoreState) (whole : state.faults ≡ before.write_faults) (first : state.read_faults ≡ before.read_faults)
       (log : after.log ≡ state'.log) (reads : after.read_faults ≡ state'.read_faults) (faults : after.write_faults ≡ state'.faults)
       (shown : CrashLeaves after.log Main (main_of after)) (lasts : Type 0) (lasting : lasts) where
-    abbrev reached_so : (broke : Option TurnError) (written : List ℕ → Type 0) → RanOver lasts StandsForList (began state.list left before.read_faults before.write_faults) cut turns text_of broke written state state' after.stamps
+    abbrev pub reached_so : (broke : Option TurnError) (written : List ℕ → Type 0) → RanOver lasts StandsForList (began state.list left before.read_faults before.write_faults) cut turns text_of broke written state state' after.stamps
         → Reached turns text_of broke written before after
     reached_so broke written ran =
-        let images : Leaves Main (IsMainOf broke ran.came.behind ran.came.later) after.log = subst (λ (l : List Event). Leaves Main (IsMainOf broke ran.came.behind ran.came.later) l) (sym log) (ran.images lasting) in
+        let images : Leaves Main (IsMainOf broke ran.came.behind ran.came.later ran.now) after.log = subst (λ (l : List Event). Leaves Main (IsMainOf broke ran.came.behind ran.came.later ran.now) l) (sym log) (ran.images lasting) in
         let reads_left : after.read_faults ≡ ran.now.counts.reads = reads ∙ ap (λ (c : FaultCounts). c.reads) ran.counts in
         let faults_left : after.write_faults ≡ ran.now.counts.others = faults ∙ ap (λ (c : FaultCounts). c.others) ran.counts in record {
           list = state.list;

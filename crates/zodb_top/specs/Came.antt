@@ -21,8 +21,8 @@ use Rattle.zodb_top.specs.Outside.{Outside, main_of}
 use Rattle.script_runs.specs.Texts.{cut_lines, joined, store_fault_line}
 use Rattle.script_runs.specs.Written.{IsWritten}
 
-abbrev pub IsMainOf : Option TurnError → Moment → List FlaggedTurn → List ℕ → Type 0
-IsMainOf broke m later bytes = IsMainBy StandsForList broke m later bytes
+abbrev pub IsMainOf : Option TurnError → Moment → List FlaggedTurn → Moment → List ℕ → Type 0
+IsMainOf broke m later now bytes = IsMainBy StandsForList broke m later now bytes
 
 -- Unless the store failed, no call of the volume has failed but reads, and none of these unless a turn was answered that one did.
 abbrev pub CountsLeft : Option TurnError → List TurnAnswer → Outside → Outside → Type 0
@@ -53,8 +53,8 @@ pub record Reached (turns : List FlaggedTurn) (text_of : List TurnAnswer → Lis
   pub reads_left : after.read_faults ≡ now.counts.reads
   pub faults_left : after.write_faults ≡ now.counts.others
   pub counts : CountsLeft broke came.answers before after
-  pub main : IsMainOf broke came.behind came.later (main_of after)
-  pub images : Leaves Main (IsMainOf broke came.behind came.later) after.log
+  pub main : IsMainOf broke came.behind came.later now (main_of after)
+  pub images : Leaves Main (IsMainOf broke came.behind came.later now) after.log
   pub acknowledged : HasCommitted stock (began list stamps before.read_faults before.write_faults) came.taken came.answers came.behind
   pub moments : IsCalm before → LeavesOnly Main (IsOfCameOrEmpty (main_of before) came) before.log after.log
 

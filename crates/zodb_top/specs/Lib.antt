@@ -16,3 +16,4 @@ pub mod PackStores
 pub mod Telling
 pub mod Indexing
 pub mod Serves
+pub mod Made

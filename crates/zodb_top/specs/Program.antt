@@ -1,5 +1,5 @@
 -- What the program writes, and what its statuses say of `run`. Own.
-use Rattle.std.specs.Prelude.{◌≡◌, ◌≢◌, ◌⊎◌, ℕ, List, Option, Some, None, false, IfSome}
+use Rattle.std.specs.Prelude.{◌≡◌, ◌≢◌, ◌<◌, ◌⊎◌, ℕ, List, Option, Some, None, false, IfSome}
 use Rattle.std.specs.Option.{IsSomeAnd}
 use Rattle.zb_base.specs.Counts.{Rose}
 use Rattle.zb_script.specs.declared.limits.Limit.{Limit}
@@ -8,7 +8,7 @@ use Rattle.zb_script.specs.declared.line.Turn.{Turn}
 use Rattle.zb_script.specs.Limits.{first_limit}
 use Rattle.zb_script.specs.Script.{IsBadLine, IsScript}
 use Rattle.program_words.specs.declared.command.Command.{Command}
-use Rattle.program_words.specs.declared.command.Command.TheVariants.{Pack, Play, Run, Serve}
+use Rattle.program_words.specs.declared.command.Command.TheVariants.{Gen, Pack, Play, Run, Serve}
 use Rattle.script_runs.specs.declared.status.Status.{Status}
 use Rattle.script_runs.specs.declared.status.Status.TheVariants.{Done, NoMemory, SourceFault, SinkFault, StoreFault, Damaged, BadLine, Limit as LimitPassed}
 use Rattle.script_runs.specs.declared.manner.Manner.{Manner}
@@ -29,12 +29,13 @@ pub record PacksNothing (left : Option (List ℕ)) : Type 0 where
   pub told : left ≡ Some input
   pub none : (turns : List Turn) → IsInput input turns → has_pack turns ≡ false
 
--- and so it is of a script, and of each command that asks, but not of `pack`, nor of `serve`, whose clients may pack
+-- and so it is of a script, of one that is made with less than a hundred rounds, and of each command that asks, but not of `pack`, nor of `serve`, whose clients may pack
 abbrev pub KeepsSide : Option Command → Option (List ℕ) → Type 0
 KeepsSide (Some Run) left = PacksNothing left
 KeepsSide (Some Play) left = PacksNothing left
 KeepsSide (Some (Pack pack)) left = ⊥
 KeepsSide (Some (Serve request)) left = ⊥
+KeepsSide (Some (Gen rounds)) left = rounds < 100
 KeepsSide _ left = Unit {0}
 
 -- this holds of turns, which are those of the input where the source tells

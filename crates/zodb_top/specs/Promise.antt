@@ -15,13 +15,14 @@ use Rattle.zb_volume.specs.declared.areas.Area.TheVariants.{Main, Side}
 use Rattle.zb_volume.specs.Disk.{IsSettled}
 use Rattle.zb_volume.specs.Moments.{StaysAs}
 use Rattle.program_words.specs.declared.command.Command.{Command}
-use Rattle.program_words.specs.declared.command.Command.TheVariants.{Ask, Index, Pack, Play, Run, Serve}
+use Rattle.program_words.specs.declared.command.Command.TheVariants.{Ask, Gen, Index, Pack, Play, Run, Serve}
 use Rattle.script_runs.specs.declared.manner.Manner.TheVariants.{InTurn, SideBySide}
 use Rattle.script_runs.specs.declared.status.Status.{Status}
 use Rattle.script_runs.specs.declared.status.Status.TheVariants as status
 use Rattle.zodb_top.specs.Asked.{AskSays}
 use Rattle.zodb_top.specs.Indexing.{IndexSays}
 use Rattle.zodb_top.specs.Inputs.{most_bytes}
+use Rattle.zodb_top.specs.Made.{GenSays}
 use Rattle.zodb_top.specs.Opened.{IsLeft, IsUnopened}
 use Rattle.zodb_top.specs.Outside.{Outside, main_of}
 use Rattle.zodb_top.specs.Packs.{PackSays}
@@ -92,6 +93,8 @@ CommandSays (Some (Serve request)) s told before after =
 CommandSays (Some Index) s told before after =
     IndexSays s told before.outside after.outside
     × (told → IsLeft told before.outside after.outside)
+CommandSays (Some (Gen rounds)) s told before after =
+    GenSays s rounds told before.outside after.outside
 
 -- ---- what is read of the script
 

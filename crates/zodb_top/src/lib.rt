@@ -6,6 +6,7 @@
 mod answering;
 mod asking;
 mod checking;
+mod generating;
 mod indexing;
 mod packing;
 mod running;

@@ -7,6 +7,7 @@ ghost use Rattle.zodb_top.specs.Promise.{Promise, links_seen, program_seen};
 ghost use Rattle.program_words.specs.Words.{command_of};
 
 use crate::answering::answer_file;
+use crate::generating::gen_file;
 use crate::indexing::index_file;
 use crate::packing::pack_file;
 use crate::script::run_source;
@@ -74,5 +75,6 @@ where
         Command::Serve(request) => serve_file(
             rt, alloc, request, sink, volume, clock, doors, spawner,
         ),
+        Command::Gen { rounds } => gen_file(alloc, rounds, sink, volume, clock),
     }
 }

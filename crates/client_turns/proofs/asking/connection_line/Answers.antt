@@ -1,6 +1,7 @@
 use Rattle.std.proofs.Common.{rules, ◌≡◌, ◌∙◌, Some, ap, sym}
 use Rattle.zb_script.specs.declared.line.Line.TheVariants as line
 use Rattle.zodb_core.specs.HubState.{rules_of}
+use Rattle.client_turns.specs.declared.member.Member.TheVariants.{Near}
 use Rattle.client_turns.proofs.Framed.{starved_leaves}
 use Rattle.client_turns.proofs.Lined.{line_at, starved_takes}
 use Rattle.client_turns.proofs.asking.connection_line.Goals as goal
@@ -9,13 +10,13 @@ pub returns-in_default-from_slice-clause-line : goal.returns-in_default-from_sli
 returns-in_default-from_slice-clause-line g c = starved_takes g.St.Store.told (rules_of g.R.Resolver.rules g.F.Refs.named c.args.hub.now) c.args.line.now c.args.hub.now c.args.client.now (g.C.Clock.stamps c.args.clock.now)
 
 pub returns-in_default-from_slice-clause-hub : goal.returns-in_default-from_slice-clause-hub
-returns-in_default-from_slice-clause-hub g c = starved_leaves g.St.Store.told g.St.Store.lasts g.St.Store.stands (rules_of g.R.Resolver.rules g.F.Refs.named c.args.hub.now) (Some c.args.client.now) c.args.line.now c.args.hub.now
+returns-in_default-from_slice-clause-hub g c = starved_leaves g.St.Store.told g.St.Store.lasts g.St.Store.stands (rules_of g.R.Resolver.rules g.F.Refs.named c.args.hub.now) (Some (Near c.args.client.now)) c.args.line.now c.args.hub.now
 
 pub returns-in_default-from_slice-2-clause-line : goal.returns-in_default-from_slice-2-clause-line
 returns-in_default-from_slice-2-clause-line g c = starved_takes g.St.Store.told (rules_of g.R.Resolver.rules g.F.Refs.named c.args.hub.now) c.args.line.now c.args.hub.now c.args.client.now (g.C.Clock.stamps c.args.clock.now)
 
 pub returns-in_default-from_slice-2-clause-hub : goal.returns-in_default-from_slice-2-clause-hub
-returns-in_default-from_slice-2-clause-hub g c = starved_leaves g.St.Store.told g.St.Store.lasts g.St.Store.stands (rules_of g.R.Resolver.rules g.F.Refs.named c.args.hub.now) (Some c.args.client.now) c.args.line.now c.args.hub.now
+returns-in_default-from_slice-2-clause-hub g c = starved_leaves g.St.Store.told g.St.Store.lasts g.St.Store.stands (rules_of g.R.Resolver.rules g.F.Refs.named c.args.hub.now) (Some (Near c.args.client.now)) c.args.line.now c.args.hub.now
 
 pub returns-in-Begin-clause-line : goal.returns-in-Begin-clause-line
 returns-in-Begin-clause-line g c =

@@ -15,4 +15,5 @@ returns c =
     let check = c.in_ok-placed-4.ensures _ _ c.in_ok-subcommand-7.ensures ∙ ap (λ (x : App). with_subcommand x (placed (codes "check")).top) pack in
     let index = c.alone-3.ensures _ _ c.in_ok-subcommand-8.ensures ∙ ap (λ (x : App). with_subcommand x (alone (codes "index")).top) check in
     let play = c.alone-4.ensures _ _ c.in_ok-subcommand-9.ensures ∙ ap (λ (x : App). with_subcommand x (alone (codes "play")).top) index in
-    IfOk-weaker c.subcommand-10.result _ _ (λ r h. c.in_ok-placed_pair.ensures _ _ h ∙ ap (λ (x : App). with_subcommand x (placed_pair (codes "serve")).top) play) c.subcommand-10.ensures
+    let serve = c.in_ok-placed_pair.ensures _ _ c.in_ok-subcommand-10.ensures ∙ ap (λ (x : App). with_subcommand x (placed_pair (codes "serve")).top) play in
+    IfOk-weaker c.subcommand-11.result _ _ (λ r h. c.in_ok-placed-5.ensures _ _ h ∙ ap (λ (x : App). with_subcommand x (placed (codes "gen")).top) serve) c.subcommand-11.ensures

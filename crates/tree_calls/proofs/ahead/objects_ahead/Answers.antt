@@ -1,6 +1,6 @@
 -- What a call is going to read is what it may read.
-use Rattle.std.proofs.Common.{◌≡◌, ◌∙◌, ◌^◌, Option, Some, sym, subst}
-use Rattle.std.specs.Prelude.{All, IfSome}
+use Rattle.std.proofs.Common.{◌≡◌, ◌∙◌, Some, sym, subst}
+use Rattle.std.specs.Prelude.{IfSome}
 use Rattle.btree_family.specs.Classes.{class_seen}
 use Rattle.btree_shapes.specs.Nodes.{class_held}
 use Rattle.tree_calls.specs.Ahead.{span_of}

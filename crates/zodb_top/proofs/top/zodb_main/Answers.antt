@@ -1,6 +1,7 @@
 use Rattle.std.proofs.Common.{Some, sym, ap, refl, arith, ◌∙◌}
+use Rattle.std.specs.Prelude.{string_bytes}
 use Rattle.script_runs.specs.declared.manner.Manner.TheVariants.{InTurn, SideBySide}
-use Rattle.zodb_top.proofs.Promises.{ask_kept, index_kept, pack_kept, run_named, serve_kept, starved}
+use Rattle.zodb_top.proofs.Promises.{ask_kept, gen_in_range, gen_kept, index_kept, pack_kept, run_named, serve_kept, starved}
 use Rattle.zodb_top.proofs.top.zodb_main.Goals as goal
 
 pub returns-in_default : goal.returns-in_default
@@ -46,4 +47,17 @@ returns-in-Serve g c = let e = c.serve_file.ensures in record {
   promise = serve_kept g.V.Volume.told _ c.in-Serve.request c.serve_file.result.0 _ _ (sym c.in-Ok.ensures ∙ c.in-Some.is ∙ ap Some c.in-Serve.is)
       e.outcome e.complete e.damaged e.harmed e.others refl e.hint
       (record { source = omega arith; sink = e.sink_counted; reads = e.read_counted; writes = e.counted }) (record { doors = e.doors_counted; spawner = e.spawner_counted });
+}
+
+pub gen_file-requires : goal.gen_file-requires
+gen_file-requires g c = record {
+  rounds = gen_in_range string_bytes c.args.words.now _ c.in-Gen.rounds c.in-Ok.ensures (c.in-Some.is ∙ ap Some c.in-Gen.is);
+  honest = c.requires.honest;
+}
+
+pub returns-in-Gen : goal.returns-in-Gen
+returns-in-Gen g c = let e = c.gen_file.ensures in record {
+  promise = gen_kept g.V.Volume.told _ c.in-Gen.rounds c.gen_file.result.0 _ _ (sym c.in-Ok.ensures ∙ c.in-Some.is ∙ ap Some c.in-Gen.is)
+      e.outcome e.complete e.damaged e.harmed e.others refl e.side e.hint
+      (record { source = omega arith; sink = e.sink_counted; reads = e.read_counted; writes = e.counted }) refl;
 }

@@ -1,0 +1,27 @@
+use Rattle.std.proofs.Common.{rules, ap, refl, ◌∙◌}
+use Rattle.client_turns.specs.declared.linked.LinkedClient.{LinkedClient}
+use Rattle.client_turns.proofs.LinkEnds.{link_is}
+use Rattle.client_turns.proofs.LinkAsked.{got_takes_at}
+use Rattle.client_turns.proofs.LinkReadHub.{got_hub_at}
+use Rattle.client_turns.proofs.linked_asking.linked_get.Goals as goal
+
+pub returns-clause-read : goal.returns-clause-read
+returns-clause-read g c =
+    got_takes_at g.St.Store.told g.St.Store.lasts g.St.Store.stands g.R.Resolver.rules g.F.Refs.named c.args.client.now _ c.args.hub.now _ _ _ c.read_over-read.new.remote.carrier.packs c.read_over-read.new.remote.carrier.trouble _ _
+    (link_is _ _ _ _ _ _ _ _ _ _ _ _ _ _ (ap (λ k. k.hub.now) c.new-remote.ensures.carrier ∙ c.new-carrier.ensures.hub) (ap (λ k. g.C.Clock.stamps k.clock.now) c.new-remote.ensures.carrier ∙ ap g.C.Clock.stamps c.new-carrier.ensures.clock)
+    (ap (λ k. k.packs) c.new-remote.ensures.carrier ∙ c.new-carrier.ensures.packs) (ap (λ k. k.trouble) c.new-remote.ensures.carrier ∙ c.new-carrier.ensures.trouble)
+    (ap (λ k. k.session) c.new-remote.ensures.carrier ∙ c.new-carrier.ensures.session) (ap (λ k. k.desk.now) c.new-remote.ensures.carrier ∙ c.new-carrier.ensures.desk) c.new-remote.ensures.client)
+    (link_is _ _ _ _ _ _ _ _ _ _ _ _ _ _ (search rules) (ap g.C.Clock.stamps (search rules)) refl refl (search rules) (search rules) (search rules)) _ c.read_over-read.new.connection (search rules) (search rules) (search rules) (search rules)
+    c.args.oid c.read_over-read.result c.settled_read.result c.read_over-read.ensures.got c.settled_read.ensures
+
+pub returns-clause-hub : goal.returns-clause-hub
+returns-clause-hub g c =
+    got_hub_at
+    g.St.Store.told g.St.Store.lasts g.St.Store.stands g.R.Resolver.rules g.F.Refs.named c.args.client.now
+    (let y : LinkedClient = record { name = c.args.client.now.name; session = c.args.client.now.session; connection = c.read_over-read.new.connection; client = c.read_over-read.new.remote.client.now; desk = c.read_over-read.new.remote.carrier.desk.now } in y)
+    c.args.hub.now _ _ (g.C.Clock.stamps c.read_over-read.new.remote.carrier.clock.now) c.read_over-read.new.remote.carrier.packs c.read_over-read.new.remote.carrier.trouble _ _
+    (link_is _ _ _ _ _ _ _ _ _ _ _ _ _ _ (ap (λ k. k.hub.now) c.new-remote.ensures.carrier ∙ c.new-carrier.ensures.hub) (ap (λ k. g.C.Clock.stamps k.clock.now) c.new-remote.ensures.carrier ∙ ap g.C.Clock.stamps c.new-carrier.ensures.clock)
+    (ap (λ k. k.packs) c.new-remote.ensures.carrier ∙ c.new-carrier.ensures.packs) (ap (λ k. k.trouble) c.new-remote.ensures.carrier ∙ c.new-carrier.ensures.trouble)
+    (ap (λ k. k.session) c.new-remote.ensures.carrier ∙ c.new-carrier.ensures.session) (ap (λ k. k.desk.now) c.new-remote.ensures.carrier ∙ c.new-carrier.ensures.desk) c.new-remote.ensures.client)
+    (link_is _ _ _ _ _ _ _ _ _ _ _ _ _ _ (search rules) refl refl refl (c.read_over-read.ensures.session ∙ (ap (λ k. k.session) c.new-remote.ensures.carrier ∙ c.new-carrier.ensures.session)) refl refl)
+    _ c.read_over-read.new.connection c.args.oid c.read_over-read.result c.settled_read.result c.read_over-read.ensures.got c.settled_read.ensures c.read_over-read.ensures.later
