@@ -78,11 +78,11 @@ fn free_port<N: Net<Listener = TcpListener, Stream = TcpStream> + Drop>(net: N) 
     doors.port().unwrap_or(0)
 }
 
-/// Serves so many links at a port of this machine, over a new database of 2024.
-fn serve_at<N: Net<Listener = TcpListener, Stream = TcpStream> + Drop, R: Threads + Wait + Sync>(
-    net: N,
+/// Serves so many links over a new database of 2024.
+pub(crate) fn serve_through<D: Doors, R: Threads + Wait + Sync>(
     rt: &R,
     alloc: Global,
+    doors: &mut D,
     port: u16,
     count: u32,
 ) -> Result<Served, Fail> {
@@ -90,19 +90,21 @@ fn serve_at<N: Net<Listener = TcpListener, Stream = TcpStream> + Drop, R: Thread
     let store = MappingStore::new(alloc, first_transaction(alloc, stamp)?)?;
     let hub = Hub::new(alloc, store, NoRules, NoRefs);
     let mut clock = ListClock::new(stamp, Vec::new(alloc));
-    let mut doors = TcpDoors::new(net);
     let mut spawner = ThreadSpawner::new();
-    let (_hub, served) = serve(
-        rt,
-        alloc,
-        hub,
-        &mut clock,
-        &mut doors,
-        &mut spawner,
-        port,
-        count,
-    );
+    let (_hub, served) = serve(rt, alloc, hub, &mut clock, doors, &mut spawner, port, count);
     Ok(served)
+}
+
+/// Serves so many links at a port of this machine.
+fn serve_at<N: Net<Listener = TcpListener, Stream = TcpStream> + Drop, R: Threads + Wait + Sync>(
+    net: N,
+    rt: &R,
+    alloc: Global,
+    port: u16,
+    count: u32,
+) -> Result<Served, Fail> {
+    let mut doors = TcpDoors::new(net);
+    serve_through(rt, alloc, &mut doors, port, count)
 }
 
 /// A link to a server at a port of this machine, once it is there.
@@ -120,7 +122,7 @@ fn link_to<N: Net<Listener = TcpListener, Stream = TcpStream>>(
 }
 
 /// A link at whose other end everything was answered.
-const ALL: Served = Served {
+pub(crate) const ALL: Served = Served {
     end: ServingEnd::All,
     faulty: 0,
 };
@@ -193,7 +195,7 @@ fn serial_of(loaded: &Loaded) -> u64 {
 }
 
 /// The serial of the root as a client loads it behind its registration, and a number that it draws.
-fn load_over<W: Carrier>(remote: &mut Remote<'_, W>) -> Option<(u64, u64)> {
+pub(crate) fn load_over<W: Carrier>(remote: &mut Remote<'_, W>) -> Option<(u64, u64)> {
     if remote.register().is_err() {
         return None;
     }
