@@ -5,10 +5,12 @@
     examples/play.py PROGRAM [RUNS]
 
 PROGRAM is the built `zodb`. Each of RUNS runs (200 if none is named) has eight clients with 200 lines each over a
-new file: they set keys of one tree, and vote, finish and abort. The first line that `play` writes is the order; the
+new file: they set keys of one tree, and vote, finish and abort; every second one is remote, and asks for the news
+before it begins. The first line that `play` writes is the order; the
 script with its lines in that order is run over another new file. What each client is answered must be the same,
-but for the stamps of the two clocks: a tid is compared by its place among the tids of its run. The last line says
-how many runs were alike, and the exit status is 0 where all were.
+but for the stamps of the two clocks: a tid is compared by its place among the tids of its run. The last line but one
+says how many runs were alike. Before them, eight clients set 25 keys each: the tree has those whose commit was
+answered, and no other, which the last line says. The exit status is 0 where all this holds.
 """
 import os
 import random
@@ -30,15 +32,23 @@ SETUP = [
 ]
 
 
+def is_remote(name):
+    """Every second client is remote."""
+    return int(name[1:]) % 2 == 1
+
+
 def lines_of(name, rng):
     """The lines of a client, which opens its session and then sets keys, votes and reads."""
-    lines = [f"{name} open local"]
+    remote = is_remote(name)
+    lines = [f"{name} open {'remote' if remote else 'local'}"]
     rounds = 0
     while len(lines) < LINES:
         key = f"k{rng.randrange(40):02}" if rng.random() < 0.2 else f"k{name}{rounds:03}"
         round_lines = ["begin", f'set {TREE} "{key}" {rounds}', 'vote "" ""', "finish", "abort"]
         if rng.random() < 0.3:
             round_lines.insert(1, f"items {TREE}")
+        if remote:
+            round_lines.insert(0, "deliver")
         lines += [f"{name} {line}" for line in round_lines]
         rounds += 1
     return lines[:LINES]
@@ -89,7 +99,7 @@ def is_alike(program, folder, seed):
     for path in paths:
         ran(program, path, "run", SETUP)
     played = ran(program, paths[0], "play", script)
-    opened = [line.split()[0] for line in script if line.endswith(" open local")]
+    opened = [line.split()[0] for line in script if " open " in line]
     order = [opened[int(number)] for number in played[0].split()[1:]]
     if sorted(order) != sorted(line.split()[0] for line in script):
         return False
@@ -105,13 +115,45 @@ def is_alike(program, folder, seed):
     return played[1:] == together and levels[0] == levels[1]
 
 
+def keys_set(name):
+    """The lines of a client that sets 25 keys, each in a transaction of its own."""
+    remote = is_remote(name)
+    lines = [f"open {'remote' if remote else 'local'}"]
+    for number in range(25):
+        lines += ["deliver"] if remote else []
+        lines += ["begin", f'set {TREE} "k{name[1:]}{number:02}" {number}', 'vote "" ""', "finish", "abort"]
+    return [f"{name} {line}" for line in lines]
+
+
+def has_what_was_committed(program, folder):
+    """Eight clients set keys; then the tree has exactly those whose `finish` was answered as committed."""
+    path = os.path.join(folder, "keys.fs")
+    ran(program, path, "run", SETUP)
+    names = [f"c{number}" for number in range(CLIENTS)]
+    parts = {name: keys_set(name) for name in names}
+    played = ran(program, path, "play", mixed(parts.values(), random.Random(27)))
+    wanted = set()
+    for name in names:
+        answers = [line for line in played[1:] if line.split(" ", 1)[0] == name]
+        for line, answer in zip(parts[name], answers):
+            if f" set {TREE}" in line:
+                key = line.split('"')[1]
+            if answer.split()[1] == "committed":
+                wanted.add(key)
+    items = ran(program, path, "run", ["r open local", "r begin", f"r items {TREE}"])[-1]
+    has = set(re.findall(r'"(k\d{3})"', items))
+    return len(played[0].split()) == 1 + 1108 and 0 < len(wanted) and has == wanted
+
+
 def main():
     program = os.path.abspath(sys.argv[1])
     runs = int(sys.argv[2]) if len(sys.argv) > 2 else 200
     with tempfile.TemporaryDirectory() as folder:
+        right = has_what_was_committed(program, folder)
         alike = sum(is_alike(program, folder, seed) for seed in range(runs))
     print(f"{alike} of {runs} alike")
-    sys.exit(alike != runs)
+    print("the tree has what was committed" if right else "the tree has not what was committed")
+    sys.exit(alike != runs or not right)
 
 
 main()

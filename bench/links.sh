@@ -1,0 +1,46 @@
+#!/bin/bash
+# Loads and commits a second of 1, 8 and 32 links of one server, beside redis-server where it is there (GET; SET with
+# `appendfsync always`), and beside what two syncs a commit allow. It is no part of the gate:
+#
+#     bench/links.sh [PROGRAM]
+#
+# PROGRAM is the built program; without it that is crates/zodb/out/zodb. It needs cc, works in a folder below TMPDIR, which
+# is removed at the end, binds ports of 127.0.0.1, and ends by itself. A row has ours, redis's and the ratio. SECONDS_EACH
+# (3) is how long a row measures.
+set -u
+here=$(dirname "$(realpath "$0")")
+program=$(realpath "${1:-$here/../crates/zodb/out/zodb}")
+each=${SECONDS_EACH:-3}
+folder=$(mktemp -d "${TMPDIR:-/tmp}/links.XXXXXX") || exit 1
+redis=
+trap '[ -z "$redis" ] || kill "$redis"; rm -rf "$folder"' EXIT
+for name in links pairs; do
+    cc -O2 -o "$folder/$name" "$here/$name.c" -lpthread || { echo "cc doesn't compile $name.c"; exit 1; }
+done
+port_of() { python3 -c 'import socket
+with socket.socket() as it:
+    it.bind(("127.0.0.1", 0)); print(it.getsockname()[1])'; }
+cd "$folder" || exit 1
+if command -v redis-server >/dev/null; then
+    at=$(port_of)
+    redis-server --port "$at" --bind 127.0.0.1 --save '' --appendonly yes --appendfsync always --dir "$folder" >/dev/null 2>&1 &
+    redis=$!
+fi
+printf '%-7s %5s %10s %10s %7s\n' work links ours redis ratio
+for work in load commit; do
+    for count in 1 8 32; do
+        port=$(port_of)
+        "$program" data.fs serve "$port" "$count" >served &
+        server=$!
+        ours=$(./links "$port" "$count" "$each" ours "$work")
+        wait "$server"
+        theirs=-
+        [ -z "$redis" ] || theirs=$(./links "$at" "$count" "$each" redis "$work")
+        printf '%-7s %5d %10s %10s %7s\n' "$work" "$count" "$ours" "$theirs" \
+            "$(awk -v a="$ours" -v b="$theirs" 'BEGIN { if (b > 0) printf "%.2f", a / b; else printf "-" }')"
+        rm -f data.fs*
+    done
+done
+begun=$(date +%s.%N)
+./pairs pairs.data 500
+awk -v a="$begun" -v b="$(date +%s.%N)" 'BEGIN { printf "pairs of syncs a second: %.0f\n", 500 / (b - a) }'
