@@ -8,7 +8,7 @@ Each row has the processor time of a line in microseconds, the median of five ru
 taken off: loads of one object, which a client answers from its cache; loads of more objects in turn than its cache
 holds; loads of one of 8 and of 64 clients; commits of one object beside others that only stand open; and `gen N` beside
 its script with four local clients.
-COUNT is the number of loads (100,000 where it is not given).
+COUNT is the number of loads (99,900 where it is not given: a script has at most 100,000 lines).
 """
 import os
 import statistics
@@ -95,7 +95,7 @@ def gen_lines(number, kinds):
 
 
 def main():
-    program, count = os.path.realpath(sys.argv[1]), int(sys.argv[2]) if len(sys.argv) > 2 else 100_000
+    program, count = os.path.realpath(sys.argv[1]), int(sys.argv[2]) if len(sys.argv) > 2 else 99_900
     with tempfile.TemporaryDirectory(prefix="remote.") as folder:
         kept = made(program, folder)
         for name, oids in (("loads of one object", [1] * count), ("loads of more than are cached", [n % OBJECTS + 1 for n in range(count)])):
