@@ -1,6 +1,7 @@
 //! Lines that the connection of a client with a link answers, over a carrier to its session.
 
 ghost use Rattle.std.specs.Prelude.{◌≡◌, ◌<◌, ◌≤◌, length, true};
+ghost use Rattle.remote_loads.specs.Keeping.{KeepsWay};
 ghost use Rattle.client_turns.specs.Asking.{is_of_connection};
 ghost use Rattle.client_turns.specs.OverCarrier.{CalledOver, LineOver, link_at};
 ghost use Rattle.client_turns.specs.Refusing.{IsFittingLine};
@@ -23,10 +24,8 @@ pub(crate) fn begin_over<'c, W: Carrier>(
         (link_at (W.end remote.old.carrier) (W.session remote.old.carrier) (W.desk remote.old.carrier) remote.old.client.now)
         result connection.new
         (link_at (W.end remote.new.carrier) (W.session remote.new.carrier) (W.desk remote.new.carrier) remote.new.client.now) }
-    ensures later { W.later remote.old.carrier remote.new.carrier }
-    ensures client_place { remote.new.client.ghost_name ≡ remote.old.client.ghost_name }
-    ensures session { W.session remote.new.carrier ≡ W.session remote.old.carrier }
-    ensures inner_place { W.place remote.new.carrier ≡ W.place remote.old.carrier }
+    ensures keeps { KeepsWay W.session W.place W.later remote.old.carrier remote.new.carrier
+        remote.old.client.ghost_name remote.new.client.ghost_name }
 {
     begun(connection.begin(remote))
 }
@@ -44,10 +43,8 @@ pub(crate) fn store_over<'c, W: Carrier>(
         (link_at (W.end remote.old.carrier) (W.session remote.old.carrier) (W.desk remote.old.carrier) remote.old.client.now)
         result connection.new
         (link_at (W.end remote.new.carrier) (W.session remote.new.carrier) (W.desk remote.new.carrier) remote.new.client.now) }
-    ensures later { W.later remote.old.carrier remote.new.carrier }
-    ensures client_place { remote.new.client.ghost_name ≡ remote.old.client.ghost_name }
-    ensures session { W.session remote.new.carrier ≡ W.session remote.old.carrier }
-    ensures inner_place { W.place remote.new.carrier ≡ W.place remote.old.carrier }
+    ensures keeps { KeepsWay W.session W.place W.later remote.old.carrier remote.new.carrier
+        remote.old.client.ghost_name remote.new.client.ghost_name }
 {
     answered(connection.store(remote, oid, base, bytes), Answer::Stored)
 }
@@ -63,10 +60,8 @@ pub(crate) fn delete_over<'c, W: Carrier>(
         (link_at (W.end remote.old.carrier) (W.session remote.old.carrier) (W.desk remote.old.carrier) remote.old.client.now)
         result connection.new
         (link_at (W.end remote.new.carrier) (W.session remote.new.carrier) (W.desk remote.new.carrier) remote.new.client.now) }
-    ensures later { W.later remote.old.carrier remote.new.carrier }
-    ensures client_place { remote.new.client.ghost_name ≡ remote.old.client.ghost_name }
-    ensures session { W.session remote.new.carrier ≡ W.session remote.old.carrier }
-    ensures inner_place { W.place remote.new.carrier ≡ W.place remote.old.carrier }
+    ensures keeps { KeepsWay W.session W.place W.later remote.old.carrier remote.new.carrier
+        remote.old.client.ghost_name remote.new.client.ghost_name }
 {
     answered(connection.delete(remote, oid, base), Answer::Deleted)
 }
@@ -82,10 +77,8 @@ pub(crate) fn check_over<'c, W: Carrier>(
         (link_at (W.end remote.old.carrier) (W.session remote.old.carrier) (W.desk remote.old.carrier) remote.old.client.now)
         result connection.new
         (link_at (W.end remote.new.carrier) (W.session remote.new.carrier) (W.desk remote.new.carrier) remote.new.client.now) }
-    ensures later { W.later remote.old.carrier remote.new.carrier }
-    ensures client_place { remote.new.client.ghost_name ≡ remote.old.client.ghost_name }
-    ensures session { W.session remote.new.carrier ≡ W.session remote.old.carrier }
-    ensures inner_place { W.place remote.new.carrier ≡ W.place remote.old.carrier }
+    ensures keeps { KeepsWay W.session W.place W.later remote.old.carrier remote.new.carrier
+        remote.old.client.ghost_name remote.new.client.ghost_name }
 {
     answered(connection.check(remote, oid, serial), Answer::Checked)
 }
@@ -99,10 +92,8 @@ pub(crate) fn savepoint_over<'c, W: Carrier>(
         (link_at (W.end remote.old.carrier) (W.session remote.old.carrier) (W.desk remote.old.carrier) remote.old.client.now)
         result connection.new
         (link_at (W.end remote.new.carrier) (W.session remote.new.carrier) (W.desk remote.new.carrier) remote.new.client.now) }
-    ensures later { W.later remote.old.carrier remote.new.carrier }
-    ensures client_place { remote.new.client.ghost_name ≡ remote.old.client.ghost_name }
-    ensures session { W.session remote.new.carrier ≡ W.session remote.old.carrier }
-    ensures inner_place { W.place remote.new.carrier ≡ W.place remote.old.carrier }
+    ensures keeps { KeepsWay W.session W.place W.later remote.old.carrier remote.new.carrier
+        remote.old.client.ghost_name remote.new.client.ghost_name }
 {
     saved(connection.savepoint(remote))
 }
@@ -117,10 +108,8 @@ pub(crate) fn rollback_over<'c, W: Carrier>(
         (link_at (W.end remote.old.carrier) (W.session remote.old.carrier) (W.desk remote.old.carrier) remote.old.client.now)
         result connection.new
         (link_at (W.end remote.new.carrier) (W.session remote.new.carrier) (W.desk remote.new.carrier) remote.new.client.now) }
-    ensures later { W.later remote.old.carrier remote.new.carrier }
-    ensures client_place { remote.new.client.ghost_name ≡ remote.old.client.ghost_name }
-    ensures session { W.session remote.new.carrier ≡ W.session remote.old.carrier }
-    ensures inner_place { W.place remote.new.carrier ≡ W.place remote.old.carrier }
+    ensures keeps { KeepsWay W.session W.place W.later remote.old.carrier remote.new.carrier
+        remote.old.client.ghost_name remote.new.client.ghost_name }
 {
     answered(
         connection.rollback(remote, number),
@@ -137,10 +126,8 @@ pub(crate) fn finish_over<'c, W: Carrier>(
         (link_at (W.end remote.old.carrier) (W.session remote.old.carrier) (W.desk remote.old.carrier) remote.old.client.now)
         result connection.new
         (link_at (W.end remote.new.carrier) (W.session remote.new.carrier) (W.desk remote.new.carrier) remote.new.client.now) }
-    ensures later { W.later remote.old.carrier remote.new.carrier }
-    ensures client_place { remote.new.client.ghost_name ≡ remote.old.client.ghost_name }
-    ensures session { W.session remote.new.carrier ≡ W.session remote.old.carrier }
-    ensures inner_place { W.place remote.new.carrier ≡ W.place remote.old.carrier }
+    ensures keeps { KeepsWay W.session W.place W.later remote.old.carrier remote.new.carrier
+        remote.old.client.ghost_name remote.new.client.ghost_name }
 {
     finished(connection.finish(remote))
 }
@@ -154,10 +141,8 @@ pub(crate) fn abort_over<'c, W: Carrier>(
         (link_at (W.end remote.old.carrier) (W.session remote.old.carrier) (W.desk remote.old.carrier) remote.old.client.now)
         result connection.new
         (link_at (W.end remote.new.carrier) (W.session remote.new.carrier) (W.desk remote.new.carrier) remote.new.client.now) }
-    ensures later { W.later remote.old.carrier remote.new.carrier }
-    ensures client_place { remote.new.client.ghost_name ≡ remote.old.client.ghost_name }
-    ensures session { W.session remote.new.carrier ≡ W.session remote.old.carrier }
-    ensures inner_place { W.place remote.new.carrier ≡ W.place remote.old.carrier }
+    ensures keeps { KeepsWay W.session W.place W.later remote.old.carrier remote.new.carrier
+        remote.old.client.ghost_name remote.new.client.ghost_name }
 {
     answered(connection.abort(remote), Answer::Aborted)
 }
@@ -171,10 +156,8 @@ pub(crate) fn deliver_over<'c, W: Carrier>(
         (link_at (W.end remote.old.carrier) (W.session remote.old.carrier) (W.desk remote.old.carrier) remote.old.client.now)
         result connection.new
         (link_at (W.end remote.new.carrier) (W.session remote.new.carrier) (W.desk remote.new.carrier) remote.new.client.now) }
-    ensures later { W.later remote.old.carrier remote.new.carrier }
-    ensures client_place { remote.new.client.ghost_name ≡ remote.old.client.ghost_name }
-    ensures session { W.session remote.new.carrier ≡ W.session remote.old.carrier }
-    ensures inner_place { W.place remote.new.carrier ≡ W.place remote.old.carrier }
+    ensures keeps { KeepsWay W.session W.place W.later remote.old.carrier remote.new.carrier
+        remote.old.client.ghost_name remote.new.client.ghost_name }
 {
     match remote.sync() {
         Ok(_) => {}
@@ -195,10 +178,8 @@ pub(crate) fn line_over<'c, W: Carrier>(
         (link_at (W.end remote.old.carrier) (W.session remote.old.carrier) (W.desk remote.old.carrier) remote.old.client.now)
         result connection.new
         (link_at (W.end remote.new.carrier) (W.session remote.new.carrier) (W.desk remote.new.carrier) remote.new.client.now) }
-    ensures later { W.later remote.old.carrier remote.new.carrier }
-    ensures client_place { remote.new.client.ghost_name ≡ remote.old.client.ghost_name }
-    ensures session { W.session remote.new.carrier ≡ W.session remote.old.carrier }
-    ensures inner_place { W.place remote.new.carrier ≡ W.place remote.old.carrier }
+    ensures keeps { KeepsWay W.session W.place W.later remote.old.carrier remote.new.carrier
+        remote.old.client.ghost_name remote.new.client.ghost_name }
 {
     match line {
         Line::Begin => begin_over(connection, remote),

@@ -2,6 +2,7 @@
 //! session.
 
 ghost use Rattle.std.specs.Prelude.{◌≡◌, true};
+ghost use Rattle.remote_loads.specs.Keeping.{KeepsWay};
 ghost use Rattle.remote_loads.specs.Requesting.{is_question};
 ghost use Rattle.client_turns.specs.OverCarrier.{link_at};
 ghost use Rattle.client_turns.specs.OverQuestions.{NumberOver, QuestionOver, number_answer, question_answer, question_heard};
@@ -53,10 +54,8 @@ pub(crate) fn question_over<'c, W: Carrier>(remote: &mut Remote<'c, W>, request:
         (link_at (W.end remote.old.carrier) (W.session remote.old.carrier) (W.desk remote.old.carrier) remote.old.client.now)
         request result
         (link_at (W.end remote.new.carrier) (W.session remote.new.carrier) (W.desk remote.new.carrier) remote.new.client.now) }
-    ensures later { W.later remote.old.carrier remote.new.carrier }
-    ensures client_place { remote.new.client.ghost_name ≡ remote.old.client.ghost_name }
-    ensures session { W.session remote.new.carrier ≡ W.session remote.old.carrier }
-    ensures inner_place { W.place remote.new.carrier ≡ W.place remote.old.carrier }
+    ensures keeps { KeepsWay W.session W.place W.later remote.old.carrier remote.new.carrier
+        remote.old.client.ghost_name remote.new.client.ghost_name }
 {
     question_answer(question_heard(remote.request(request)))
 }
@@ -67,10 +66,8 @@ pub(crate) fn number_over<'c, W: Carrier>(remote: &mut Remote<'c, W>) -> Result<
         (link_at (W.end remote.old.carrier) (W.session remote.old.carrier) (W.desk remote.old.carrier) remote.old.client.now)
         result
         (link_at (W.end remote.new.carrier) (W.session remote.new.carrier) (W.desk remote.new.carrier) remote.new.client.now) }
-    ensures later { W.later remote.old.carrier remote.new.carrier }
-    ensures client_place { remote.new.client.ghost_name ≡ remote.old.client.ghost_name }
-    ensures session { W.session remote.new.carrier ≡ W.session remote.old.carrier }
-    ensures inner_place { W.place remote.new.carrier ≡ W.place remote.old.carrier }
+    ensures keeps { KeepsWay W.session W.place W.later remote.old.carrier remote.new.carrier
+        remote.old.client.ghost_name remote.new.client.ghost_name }
 {
     remote.new_oid()
 }

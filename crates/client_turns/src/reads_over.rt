@@ -2,6 +2,7 @@
 
 ghost use Rattle.std.specs.Prelude.{◌≡◌, ◌<◌, ◌≤◌, length};
 ghost use Rattle.connection_view.specs.Connections;
+ghost use Rattle.remote_loads.specs.Keeping.{KeepsWay};
 ghost use Rattle.client_turns.specs.OverCarrier.{CalledOver, FittingOver, fitting, heard_of, link_at};
 
 use crate::answers::{answered, data_of, object_of};
@@ -70,10 +71,8 @@ pub(crate) fn load_over<'c, W: Carrier>(
         (link_at (W.end remote.old.carrier) (W.session remote.old.carrier) (W.desk remote.old.carrier) remote.old.client.now)
         result connection.new
         (link_at (W.end remote.new.carrier) (W.session remote.new.carrier) (W.desk remote.new.carrier) remote.new.client.now) }
-    ensures later { W.later remote.old.carrier remote.new.carrier }
-    ensures client_place { remote.new.client.ghost_name ≡ remote.old.client.ghost_name }
-    ensures session { W.session remote.new.carrier ≡ W.session remote.old.carrier }
-    ensures inner_place { W.place remote.new.carrier ≡ W.place remote.old.carrier }
+    ensures keeps { KeepsWay W.session W.place W.later remote.old.carrier remote.new.carrier
+        remote.old.client.ghost_name remote.new.client.ghost_name }
 {
     data_of(fitting(connection.load(remote, oid)))
 }
@@ -88,10 +87,8 @@ pub(crate) fn read_over<'c, W: Carrier>(
         (link_at (W.end remote.old.carrier) (W.session remote.old.carrier) (W.desk remote.old.carrier) remote.old.client.now)
         oid result connection.new
         (link_at (W.end remote.new.carrier) (W.session remote.new.carrier) (W.desk remote.new.carrier) remote.new.client.now) }
-    ensures later { W.later remote.old.carrier remote.new.carrier }
-    ensures client_place { remote.new.client.ghost_name ≡ remote.old.client.ghost_name }
-    ensures session { W.session remote.new.carrier ≡ W.session remote.old.carrier }
-    ensures inner_place { W.place remote.new.carrier ≡ W.place remote.old.carrier }
+    ensures keeps { KeepsWay W.session W.place W.later remote.old.carrier remote.new.carrier
+        remote.old.client.ghost_name remote.new.client.ghost_name }
 {
     fitting(connection.get(remote, oid))
 }
@@ -106,10 +103,8 @@ pub(crate) fn get_over<'c, W: Carrier>(
         (link_at (W.end remote.old.carrier) (W.session remote.old.carrier) (W.desk remote.old.carrier) remote.old.client.now)
         result connection.new
         (link_at (W.end remote.new.carrier) (W.session remote.new.carrier) (W.desk remote.new.carrier) remote.new.client.now) }
-    ensures later { W.later remote.old.carrier remote.new.carrier }
-    ensures client_place { remote.new.client.ghost_name ≡ remote.old.client.ghost_name }
-    ensures session { W.session remote.new.carrier ≡ W.session remote.old.carrier }
-    ensures inner_place { W.place remote.new.carrier ≡ W.place remote.old.carrier }
+    ensures keeps { KeepsWay W.session W.place W.later remote.old.carrier remote.new.carrier
+        remote.old.client.ghost_name remote.new.client.ghost_name }
 {
     object_of(read_over(connection, remote, oid))
 }
@@ -127,10 +122,8 @@ pub(crate) fn put_over<'c, W: Carrier>(
         (link_at (W.end remote.old.carrier) (W.session remote.old.carrier) (W.desk remote.old.carrier) remote.old.client.now)
         result connection.new
         (link_at (W.end remote.new.carrier) (W.session remote.new.carrier) (W.desk remote.new.carrier) remote.new.client.now) }
-    ensures later { W.later remote.old.carrier remote.new.carrier }
-    ensures client_place { remote.new.client.ghost_name ≡ remote.old.client.ghost_name }
-    ensures session { W.session remote.new.carrier ≡ W.session remote.old.carrier }
-    ensures inner_place { W.place remote.new.carrier ≡ W.place remote.old.carrier }
+    ensures keeps { KeepsWay W.session W.place W.later remote.old.carrier remote.new.carrier
+        remote.old.client.ghost_name remote.new.client.ghost_name }
 {
     match connection.store_all(ListOf::new(remote.alloc)) {
         Ok(()) => {}
@@ -156,10 +149,8 @@ pub(crate) fn vote_over<'c, W: Carrier>(
         (link_at (W.end remote.old.carrier) (W.session remote.old.carrier) (W.desk remote.old.carrier) remote.old.client.now)
         result connection.new
         (link_at (W.end remote.new.carrier) (W.session remote.new.carrier) (W.desk remote.new.carrier) remote.new.client.now) }
-    ensures later { W.later remote.old.carrier remote.new.carrier }
-    ensures client_place { remote.new.client.ghost_name ≡ remote.old.client.ghost_name }
-    ensures session { W.session remote.new.carrier ≡ W.session remote.old.carrier }
-    ensures inner_place { W.place remote.new.carrier ≡ W.place remote.old.carrier }
+    ensures keeps { KeepsWay W.session W.place W.later remote.old.carrier remote.new.carrier
+        remote.old.client.ghost_name remote.new.client.ghost_name }
 {
     answered(
         heard_of(connection.vote(remote, user, description)),
@@ -181,10 +172,8 @@ pub(crate) fn undo_over<'c, W: Carrier>(
         (link_at (W.end remote.old.carrier) (W.session remote.old.carrier) (W.desk remote.old.carrier) remote.old.client.now)
         result connection.new
         (link_at (W.end remote.new.carrier) (W.session remote.new.carrier) (W.desk remote.new.carrier) remote.new.client.now) }
-    ensures later { W.later remote.old.carrier remote.new.carrier }
-    ensures client_place { remote.new.client.ghost_name ≡ remote.old.client.ghost_name }
-    ensures session { W.session remote.new.carrier ≡ W.session remote.old.carrier }
-    ensures inner_place { W.place remote.new.carrier ≡ W.place remote.old.carrier }
+    ensures keeps { KeepsWay W.session W.place W.later remote.old.carrier remote.new.carrier
+        remote.old.client.ghost_name remote.new.client.ghost_name }
 {
     answered(
         heard_of(connection.undo(remote, user, description, tids)),

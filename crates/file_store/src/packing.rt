@@ -1,21 +1,18 @@
 //! The file is packed: the copy of its packed list is made whole, and takes its place.
 
-ghost use Rattle.std.specs.Prelude.{IfOk, OnOk, OnErr};
-ghost use Rattle.zb_volume.specs.declared.areas.Area.TheVariants.{Main, Side, Hint};
+ghost use Rattle.std.specs.Prelude.{IfOk};
+ghost use Rattle.zb_volume.specs.declared.areas.Area.TheVariants.{Main, Side};
 ghost use Rattle.zb_volume.specs.Disk.{seen, IsSettled};
-ghost use Rattle.zb_volume.specs.Moments.{Along, LeavesOnly, StaysAs};
+ghost use Rattle.zb_volume.specs.Moments.{LeavesOnly};
 ghost use Rattle.zb_model.specs.Packing.{packed_by};
 ghost use Rattle.zb_model.specs.Packs.{IsPackCount, IsPrefixOf, StandsForOneOfTwo};
-ghost use Rattle.zb_model.specs.Stores.{UnlessFault};
 ghost use Rattle.fs_records.specs.Listed.{listed};
 ghost use Rattle.fs_recovery.specs.Numbers.{AreNumbersOf};
 ghost use Rattle.fs_recovery.specs.Opens.{IsBounded};
 ghost use Rattle.pack_copy.specs.Copying.{IsCopied, IsSource};
 ghost use Rattle.pack_copy.specs.Counting.{IsCopyCounted};
-ghost use Rattle.fs_index_file.specs.Writes.{IsClosed};
-ghost use Rattle.file_store.specs.Hinting.{LeavesOfFront};
 ghost use Rattle.file_store.specs.Kept.{StandsForList};
-ghost use Rattle.file_store.specs.Packing.{IsPackedMain};
+ghost use Rattle.file_store.specs.Packing.{IsPackedMain, PackWrites};
 
 use crate::staging::StagedIndex;
 use crate::switching::{Switched, switch};
@@ -53,19 +50,12 @@ pub(crate) fn pack_file<V: Volume>(
     ensures counts { V.told → IfOk result (λ s.
         IsPackCount (listed (seen (V.state volume.old).log Main))
         (listed (seen (V.state volume.new).log Main)) s.packed) }
-    ensures main { V.told → OnErr result
-        (UnlessFault result (StaysAs Main (V.state volume.old).log (V.state volume.new).log)) }
     ensures any_moment { V.told → LeavesOnly Main
         (StandsForOneOfTwo StandsForList (listed (seen (V.state volume.old).log Main))
         (packed_by copy.tid keep.now (listed (seen (V.state volume.old).log Main))))
         (V.state volume.old).log (V.state volume.new).log }
-    ensures hint { V.told → IsSettled (V.state volume.old).log Hint
-        → LeavesOfFront (V.state volume.old).log
-        → Along LeavesOfFront (V.state volume.old).log (V.state volume.new).log }
-    ensures closed { V.told → IsSettled (V.state volume.old).log Hint → OnOk result
-        (IsClosed (seen (V.state volume.new).log Hint) × IsSettled (V.state volume.new).log Hint) }
-    ensures unclosed { V.told → OnErr result
-        (UnlessFault result (StaysAs Hint (V.state volume.old).log (V.state volume.new).log)) }
+    ensures writes { V.told
+        → PackWrites (V.state volume.old).log (V.state volume.new).log result }
     ensures faults { IsCopyCounted (V.state volume.old) (V.state volume.new) result }
 {
     copy_rest(alloc, volume, index.index(), &mut copy, keep)?;

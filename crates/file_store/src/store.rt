@@ -12,16 +12,17 @@ ghost use Rattle.zb_model.specs.Packing.{packed_by};
 ghost use Rattle.zb_model.specs.Packs.{IsCopyOf, IsCopyTurn, IsPackCount, StandsForOneOfTwo};
 ghost use Rattle.zb_model.specs.Packs.{new_pack};
 ghost use Rattle.zb_model.specs.Stores.{AbortLeaves, BreaksByFault, CopyLeaves, FinishLeaves};
-ghost use Rattle.zb_model.specs.Stores.{HasStoreCause, MayBreak, SideIsEmpty, StandsForOneOf};
-ghost use Rattle.zb_model.specs.Stores.{SwitchLeaves, UnlessFault, VoteLeaves, tid_of_begun};
+ghost use Rattle.zb_model.specs.Stores.{HasStoreCause, MayBreak, StandsForOneOf};
+ghost use Rattle.zb_model.specs.Stores.{SwitchLeaves, VoteLeaves, tid_of_begun};
 ghost use Rattle.zb_model.specs.Voting.{IsVotable, IsWellFormed, voted_of};
 ghost use Rattle.file_store.specs.Hinting.{HasHonestHint, IsHintedUpTo, KeepsStore, IsHinted, LeavesHonest, StaysHonest};
 ghost use Rattle.file_store.specs.HintingLaws.{hinted_once};
 ghost use Rattle.file_store.specs.Kept.{HasRoomForTally, IsCopyKept, IsKept, IsVotedIn, StandsForList};
 ghost use Rattle.file_store.specs.KeptLaws.{copied_once, kept_once, voted_once};
 ghost use Rattle.file_store.specs.Outcomes.{AsksClock, IsOpenStore, IsRefusal};
-ghost use Rattle.file_store.specs.Written.{IsAbortWritten, IsCopyInFull, IsFinishWritten, IsInFull};
-ghost use Rattle.file_store.specs.Written.{IsListPacked, IsVoteWritten, LeavesList, LeavesOneOfTwo};
+ghost use Rattle.file_store.specs.Written.{IsAbortWritten, IsCopyInFull, IsFinishWritten};
+ghost use Rattle.file_store.specs.Written.{IsListPacked, LeavesList, LeavesOneOfTwo};
+ghost use Rattle.file_store.specs.Written.{SwitchWrites, VoteWrites};
 ghost use Rattle.file_store.specs.Outlined.{IsOutlinedIn};
 ghost use Rattle.file_store.specs.OutlinedLaws.{outlined_once};
 
@@ -337,13 +338,8 @@ impl<V: Volume + Drop> Store for FileStore<V> {
             (⟦<FileStore<V> as Store>⟧.state self.new) result }
         ensures any_moment { V.told → LeavesList (⟦<FileStore<V> as Store>⟧.state self.old)
             (⟦<FileStore<V> as Store>⟧.state self.new) }
-        ensures side { V.told → StaysAs Area.Side (⟦<FileStore<V> as Store>⟧.state self.old).log
-            (⟦<FileStore<V> as Store>⟧.state self.new).log }
-        ensures text { V.told → OnOk result (IsVoteWritten
-            (⟦<FileStore<V> as Store>⟧.state self.old).log
-            (⟦<FileStore<V> as Store>⟧.state self.new).log new.now) }
-        ensures hint { V.told → StaysHonest (⟦<FileStore<V> as Store>⟧.state self.old).log
-            (⟦<FileStore<V> as Store>⟧.state self.new).log }
+        ensures writes { V.told → VoteWrites (⟦<FileStore<V> as Store>⟧.state self.old).log
+            (⟦<FileStore<V> as Store>⟧.state self.new).log new.now result }
     {
         self.outline = None;
         let text = prepare(alloc, &mut self.index, &mut self.numbers, new)?;
@@ -507,17 +503,10 @@ impl<V: Volume + Drop> Store for FileStore<V> {
         ensures fault { BreaksByFault (⟦<FileStore<V> as Store>⟧.state self.new) result }
         ensures cause { HasStoreCause (⟦<FileStore<V> as Store>⟧.state self.old)
             (⟦<FileStore<V> as Store>⟧.state self.new) result }
-        ensures main { V.told → OnErr result (UnlessFault result (StaysAs Area.Main
-            (⟦<FileStore<V> as Store>⟧.state self.old).log
-            (⟦<FileStore<V> as Store>⟧.state self.new).log)) }
         ensures any_moment { V.told → LeavesOneOfTwo keep.now
             (⟦<FileStore<V> as Store>⟧.state self.old) (⟦<FileStore<V> as Store>⟧.state self.new) }
-        ensures side { V.told → OnOk result (SideIsEmpty
-            (⟦<FileStore<V> as Store>⟧.state self.new).log) }
-        ensures text { V.told → OnOk result (IsInFull
-            (⟦<FileStore<V> as Store>⟧.state self.new).log Area.Main) }
-        ensures hint { V.told → StaysHonest (⟦<FileStore<V> as Store>⟧.state self.old).log
-            (⟦<FileStore<V> as Store>⟧.state self.new).log }
+        ensures writes { V.told → SwitchWrites (⟦<FileStore<V> as Store>⟧.state self.old).log
+            (⟦<FileStore<V> as Store>⟧.state self.new).log result }
     {
         let Some(copy) = self.copy.take() else {
             return Err(StoreError::Memory);

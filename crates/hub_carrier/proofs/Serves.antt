@@ -11,10 +11,11 @@ use Rattle.zeo_desk.specs.declared.asked.Awaited.{Awaited}
 use Rattle.zeo_desk.specs.declared.next.Next.{Next}
 use Rattle.zeo_desk.specs.declared.next.Next.TheVariants.{Send, Step}
 use Rattle.zeo_desk.specs.Desks.{DeskState, Turn, answered, committed, replied, replied_to, taken}
+use Rattle.zeo_client.specs.declared.error.ClientError.{ClientError}
 use Rattle.remote_loads.specs.Carrying.{BreaksOff, Carries}
 use Rattle.remote_loads.specs.Served.{Does, DoesFront, Serves, ServesFront, asked_on, begins, done, goes_on, sent, serves_none, serves_on as front_on, steps_off, steps_on, stops}
 use Rattle.hub_carrier.specs.Cutting.{AreItsPayloads}
-use Rattle.hub_carrier.specs.Served.{AreSentFor, HasAsked, HasDone, IsSend, IsStepReplied}
+use Rattle.hub_carrier.specs.Served.{AreSentFor, HasDone, IsSend, IsStepReplied}
 
 -- ---- a desk asks for at most two steps one after the other
 
@@ -56,21 +57,19 @@ module _ {S : Type 0} (steps : Request → Reply → S → S → Type 0) where
     asked_more next left u out a does =
         asked_on d q a.reply s t u out left a.step a.held (subst (λ (turn : Turn). Does steps turn.desk turn.next t out left u) (sym a.turn) does)
 
-    -- nothing more was done
-    pub asked_none : {E F : Type 0} (error : E) (other : F) → HasAsked {E = E} steps q s t d desk (Err error) → HasDone {E = F} steps d (Step q) s t desk (Err other)
-    asked_none error other front = front
-
     -- frames are sent behind it
     pub asked_frames : (next : Next) (frames : List (List ℕ)) → IsStepReplied steps q s t d desk next → next ≡ Send frames → Does steps d (Step q) s frames desk t
     asked_frames next frames a is = asked_more next desk t frames a (subst (λ (n : Next). Does steps desk n t frames desk t) (sym is) (sent desk frames t))
 
     -- another one is made behind it
-    pub asked_again : {F : Type 0} (next : Next) (further : Request) (u : S) (left : DeskState) (r : Result (List (List ℕ)) F) → IsStepReplied steps q s t d desk next → next ≡ Step further
-        → HasDone {E = F} steps desk (Step further) t u left r → HasDone {E = F} steps d (Step q) s u left r
+    pub asked_again : (next : Next) (further : Request) (u : S) (left : DeskState) (r : Result (List (List ℕ)) ClientError) → IsStepReplied steps q s t d desk next → next ≡ Step further
+        → HasDone steps desk (Step further) t u left r → HasDone steps d (Step q) s u left r
     asked_again next further u left (Ok frames) a is does = asked_more next left u frames a (subst (λ (n : Next). Does steps desk n t frames left u) (sym is) does)
-    asked_again next further u left (Err error) a is front =
-        steps_on d q a.reply s t u left a.step
-        (subst (λ (turn : Turn). DoesFront steps turn.desk turn.next t left u) (sym a.turn) (subst (λ (n : Next). DoesFront steps desk n t left u) (sym is) front))
+    asked_again next further u left (Err error) a is front = (
+      steps_on d q a.reply s t u left a.step
+          (subst (λ (turn : Turn). DoesFront steps turn.desk turn.next t left u) (sym a.turn) (subst (λ (n : Next). DoesFront steps desk n t left u) (sym is) front.0)),
+      front.1,
+    )
 
     -- behind the first step no more than one is made
     pub last_behind : (next : Next) → IsStepReplied steps q s t d desk next → (reply : Reply) → IsSend (replied desk reply).next
@@ -134,20 +133,20 @@ module _ {S : Type 0} (steps : Request → Reply → S → S → Type 0) where
   pub message_refused : (d left : DeskState) (payloads : List (List ℕ)) (s : S) → left ≡ d → ServesFront steps d payloads s left s
   message_refused d left payloads s same = subst (λ (k : DeskState). ServesFront steps d payloads s k s) (sym same) (serves_none d payloads s)
 
-  module _ {E : Type 0} (d mid left : DeskState) (payload : List ℕ) (next : Next) (s t : S) (r : Result (List (List ℕ)) E) (takes : taken d payload ≡ Some (record { desk = mid; next = next })) (does : HasDone {E = E} steps mid next s t left r) where
+  module _ (d mid left : DeskState) (payload : List ℕ) (next : Next) (s t : S) (r : Result (List (List ℕ)) ClientError) (takes : taken d payload ≡ Some (record { desk = mid; next = next })) (does : HasDone steps mid next s t left r) where
     -- it was, and some first steps of it were made, or all
-    pub message_begun : (error : E) → r ≡ Err error → ServesFront steps d (payload ∷ []) s left t
-    message_begun error is = begins d left payload [] (record { desk = mid; next = next }) s t takes (subst (λ (x : Result (List (List ℕ)) E). HasDone {E = E} steps mid next s t left x) is does)
+    pub message_begun : (error : ClientError) → r ≡ Err error → ServesFront steps d (payload ∷ []) s left t
+    message_begun error is = begins d left payload [] (record { desk = mid; next = next }) s t takes (subst (λ (x : Result (List (List ℕ)) ClientError). HasDone steps mid next s t left x) is does).0
 
     pub message_lost : (frames : List (List ℕ)) → r ≡ Ok frames → ServesFront steps d (payload ∷ []) s left t
     message_lost frames is =
         begins d left payload [] (record { desk = mid; next = next }) s t takes
-        (does_front mid left next s t frames (subst (λ (x : Result (List (List ℕ)) E). HasDone {E = E} steps mid next s t left x) is does))
+        (does_front mid left next s t frames (subst (λ (x : Result (List (List ℕ)) ClientError). HasDone steps mid next s t left x) is does))
 
     -- and its frames were put behind others
     pub message_sent : (frames given : List (List ℕ)) (before after : List ℕ) → r ≡ Ok frames → given ≡ frames → after ≡ before ++ concat given → AreSentFor steps d (payload ∷ []) s t left before after
     message_sent frames given before after is same bytes =
-        one_sent d left payload (record { desk = mid; next = next }) s t frames before after takes (subst (λ (x : Result (List (List ℕ)) E). HasDone {E = E} steps mid next s t left x) is does)
+        one_sent d left payload (record { desk = mid; next = next }) s t frames before after takes (subst (λ (x : Result (List (List ℕ)) ClientError). HasDone steps mid next s t left x) is does)
         (bytes ∙ ap (λ (fs : List (List ℕ)). before ++ concat fs) same)
 
   pub sent_on : (d between left : DeskState) (ps qs : List (List ℕ)) (s middle behind : S) (a b c : List ℕ) → AreSentFor steps d ps s middle between a b

@@ -1,11 +1,10 @@
 //! The carrier.
 
 ghost use Rattle.std.specs.Prelude.{◌≡◌, ◌<◌, Err, IfErr, IfOk, OnErr, OnOk, false, true, length};
-ghost use Rattle.remote_loads.specs.Carrying.{BreaksOff, Carries};
 ghost use Rattle.hub_carrier.specs.declared.trouble.Trouble.{Trouble};
 ghost use Rattle.hub_carrier.specs.Ends.{StepsThere, end_at};
 ghost use Rattle.hub_carrier.specs.Later.{IsLaterEnd};
-ghost use Rattle.hub_carrier.specs.Served.{IsEndOrMemory, counted_on};
+ghost use Rattle.hub_carrier.specs.Served.{HasCarried, HasCounted, IsEndOrMemory};
 
 use crate::cutting::payloads_of;
 use crate::serving::serve_messages;
@@ -92,33 +91,29 @@ impl<'h, 'd, 'c, St: Store, R: Resolver, F: Refs, C: Clock> HubCarrier<'h, 'd, '
     #[tactic(auto, using(crate::proofs::Serves::piece_kept, crate::proofs::Serves::piece_broken, crate::proofs::Serves::piece_lost, crate::proofs::Serves::piece_carried, crate::proofs::Later::kept_later, crate::proofs::Later::front_later, crate::proofs::Later::sent_later))]
     pub fn exchange(&mut self, alloc: Global, piece: &[u8]) -> Result<Text8, ClientError>
         ensures some { IfOk result (λ given. 0 < length given) }
-        ensures carried { IfOk result (λ given.
-            Carries (StepsThere St.told St.lasts St.stands R.rules F.named self.old.session)
-            (end_at self.old.hub.now (C.stamps self.old.clock.now) self.old.packs self.old.trouble) self.old.desk.now piece.now given
-            (end_at self.new.hub.now (C.stamps self.new.clock.now) self.new.packs self.new.trouble) self.new.desk.now) }
-        ensures broken { OnErr result
-            (BreaksOff (StepsThere St.told St.lasts St.stands R.rules F.named self.old.session)
-            (end_at self.old.hub.now (C.stamps self.old.clock.now) self.old.packs self.old.trouble) self.old.desk.now piece.now
-            (end_at self.new.hub.now (C.stamps self.new.clock.now) self.new.packs self.new.trouble) self.new.desk.now) }
+        ensures carried { HasCarried
+            (StepsThere St.told St.lasts St.stands R.rules F.named self.old.session)
+            (end_at self.old.hub.now (C.stamps self.old.clock.now) self.old.packs self.old.trouble)
+            self.old.desk.now piece.now
+            (end_at self.new.hub.now (C.stamps self.new.clock.now) self.new.packs self.new.trouble)
+            self.new.desk.now result }
         ensures later { IsLaterEnd St.lasts
             (end_at self.old.hub.now (C.stamps self.old.clock.now) self.old.packs self.old.trouble)
             (end_at self.new.hub.now (C.stamps self.new.clock.now) self.new.packs self.new.trouble) }
-        ensures counted { IfOk result (λ given. (self.new.pieces ≡ counted_on self.old.pieces 1)
-            × (self.new.sent ≡ counted_on self.old.sent (length piece.now))
-            × (self.new.came ≡ counted_on self.old.came (length given))) }
-        ensures uncounted { OnErr result ((self.new.pieces ≡ self.old.pieces) × (self.new.sent ≡ self.old.sent)
-            × (self.new.came ≡ self.old.came)) }
+        ensures counted { HasCounted (self.old.pieces, self.old.sent, self.old.came) piece.now result
+            (self.new.pieces, self.new.sent, self.new.came) }
         ensures ended { self.old.ended ≡ true → result ≡ Err ClientError.Closed }
-        ensures undone { OnErr result (self.new.ended ≡ self.old.ended → (self.new.hub.now ≡ self.old.hub.now)
-            × (self.new.desk.now ≡ self.old.desk.now) × (C.stamps self.new.clock.now ≡ C.stamps self.old.clock.now)
+        ensures undone { OnErr result (self.new.ended ≡ self.old.ended
+            → (self.new.hub.now ≡ self.old.hub.now) × (self.new.desk.now ≡ self.old.desk.now)
+            × (C.stamps self.new.clock.now ≡ C.stamps self.old.clock.now)
             × (self.new.trouble ≡ self.old.trouble)) }
         ensures cause { IfErr result (λ error. (error ≡ ClientError.Closed → self.new.ended ≡ true)
             × IsEndOrMemory error) }
         ensures goes_on { OnOk result (self.new.ended ≡ false) }
         ensures session { self.new.session ≡ self.old.session }
-        ensures hub_place { self.new.hub.ghost_name ≡ self.old.hub.ghost_name }
-        ensures desk_place { self.new.desk.ghost_name ≡ self.old.desk.ghost_name }
-        ensures clock_place { self.new.clock.ghost_name ≡ self.old.clock.ghost_name }
+        ensures places { (self.new.hub.ghost_name ≡ self.old.hub.ghost_name)
+            × (self.new.desk.ghost_name ≡ self.old.desk.ghost_name)
+            × (self.new.clock.ghost_name ≡ self.old.clock.ghost_name) }
     {
         if self.ended {
             return Err(ClientError::Closed);

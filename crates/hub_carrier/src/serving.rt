@@ -1,6 +1,6 @@
 //! A desk serves what a client sends, over a hub.
 
-ghost use Rattle.std.specs.Prelude.{◌≡◌, ◌++◌, [], ◌∷◌, IfOk, IfErr, false};
+ghost use Rattle.std.specs.Prelude.{◌≡◌, ◌++◌, [], ◌∷◌, IfOk, false};
 ghost use Rattle.std.specs.List.{concat};
 ghost use Rattle.zodb_core.specs.HubState.{IsFitting};
 ghost use Rattle.zodb_core.specs.Outcomes;
@@ -67,7 +67,6 @@ fn ask<St: Store, R: Resolver, F: Refs, C: Clock>(
         (end_at hub.old (C.stamps clock.old) packs trouble.old)
         (end_at hub.new (C.stamps clock.new) packs trouble.new) desk.old desk.new result }
     ensures fitting { IfOk result IsFittingNext }
-    ensures cause { IfErr result IsEndOrMemory }
 {
     if !packs && is_pack(&request) {
         return Err(ClientError::Closed);
@@ -99,7 +98,6 @@ fn ask_last<St: Store, R: Resolver, F: Refs, C: Clock>(
     ensures done { HasDone (StepsThere St.told St.lasts St.stands R.rules F.named session) desk.old
         (Next.Step request) (end_at hub.old (C.stamps clock.old) packs trouble.old)
         (end_at hub.new (C.stamps clock.new) packs trouble.new) desk.new result }
-    ensures cause { IfErr result IsEndOrMemory }
 {
     let next = match ask(alloc, hub, clock, session, packs, trouble, desk, request) {
         Ok(next) => next,
@@ -128,7 +126,6 @@ fn ask_first<St: Store, R: Resolver, F: Refs, C: Clock>(
     ensures done { HasDone (StepsThere St.told St.lasts St.stands R.rules F.named session) desk.old
         (Next.Step request) (end_at hub.old (C.stamps clock.old) packs trouble.old)
         (end_at hub.new (C.stamps clock.new) packs trouble.new) desk.new result }
-    ensures cause { IfErr result IsEndOrMemory }
 {
     let next = match ask(alloc, hub, clock, session, packs, trouble, desk, request) {
         Ok(next) => next,
@@ -156,7 +153,6 @@ fn carry_out<St: Store, R: Resolver, F: Refs, C: Clock>(
     ensures done { HasDone (StepsThere St.told St.lasts St.stands R.rules F.named session) desk.old next
         (end_at hub.old (C.stamps clock.old) packs trouble.old)
         (end_at hub.new (C.stamps clock.new) packs trouble.new) desk.new result }
-    ensures cause { IfErr result IsEndOrMemory }
 {
     match next {
         Next::Send(frames) => Ok(frames),
@@ -201,7 +197,6 @@ fn serve_message<St: Store, R: Resolver, F: Refs, C: Clock>(
         (payload.now ∷ []) (end_at hub.old (C.stamps clock.old) packs trouble.old)
         (end_at hub.new (C.stamps clock.new) packs trouble.new)
         desk.new text.old.items text.new.items result }
-    ensures cause { IfErr result IsEndOrMemory }
 {
     let next = match desk.take(alloc, payload) {
         Ok(next) => next,
@@ -234,7 +229,6 @@ pub(crate) fn serve_messages<St: Store, R: Resolver, F: Refs, C: Clock>(
         payloads (end_at hub.old (C.stamps clock.old) packs trouble.old)
         (end_at hub.new (C.stamps clock.new) packs trouble.new) desk.new
         text.old.items text.new.items result }
-    ensures cause { IfErr result IsEndOrMemory }
 {
     for payload in payloads.into_vec() {
         match serve_message(

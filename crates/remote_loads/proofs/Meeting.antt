@@ -1,5 +1,5 @@
 -- What the calls of a remote client are to whoever may be the client at this end.
-use Rattle.std.proofs.Common.{◌≡◌, ℕ, ◌≤◌, List, Option, Some, None, Result, Ok, Err, refl, sym, subst}
+use Rattle.std.proofs.Common.{◌≡◌, ℕ, ◌≤◌, Bool, List, Option, Some, None, Result, Ok, Err, refl, sym, subst}
 use Rattle.std.specs.Prelude.{IfErr, IfOk, MatchOption, OnErr, OnOk}
 use Rattle.zb_model.specs.declared.pending.PendingCheck.{PendingCheck}
 use Rattle.zb_model.specs.declared.pending.PendingStore.{PendingStore}
@@ -17,10 +17,11 @@ use Rattle.zeo_desk.specs.Desks.{DeskState}
 use Rattle.zeo_serving.specs.FrontLaws.{later_itself}
 use Rattle.zeo_serving.specs.MayLaws.{may_alone}
 use Rattle.zeo_serving.specs.Serving.{server_at}
+use Rattle.zeo_client.specs.declared.error.ClientError.{ClientError}
 use Rattle.zeo_client.specs.Renewing.{no_news, standing_as}
 use Rattle.zeo_client.specs.Taking.{ClientState}
 use Rattle.remote_loads.specs.Answers.{done_answer, oid_answer}
-use Rattle.remote_loads.specs.Causes.{HasCauseIfErr}
+use Rattle.remote_loads.specs.Causes.{HasCauseIfErr, HasLinkCause, IsRemoteRefusal}
 use Rattle.remote_loads.specs.Finishing.{FinishLeaves, IsRemoteFinish}
 use Rattle.remote_loads.specs.Leaving.{AbortLeaves, LoadLeaves, OidLeaves, UndoLeaves, VoteLeaves}
 use Rattle.remote_loads.specs.Making.{IsRemoteLoad, IsRemoteUndo, IsRemoteVote, MakesOne}
@@ -28,9 +29,10 @@ use Rattle.remote_loads.specs.Standing.{Stands}
 
 -- ---- causes
 
-pub caused : {X : Type 0} (P : Refusal → Type 0) (result : Result X Refusal) → IfErr result P → HasCauseIfErr P result
-caused P (Ok x) cause = tt
-caused P (Err r) cause = cause
+pub caused : {X : Type 0} (before now : ℕ) (closed : Bool) (ended : Option ClientError) (result : Result X Refusal) → IfErr result (IsRemoteRefusal before now closed ended)
+    → HasCauseIfErr (HasLinkCause before now closed ended) result
+caused before now closed ended (Ok x) refused = tt
+caused before now closed ended (Err r) refused = refused.1
 
 -- ---- a front
 

@@ -3,7 +3,7 @@ use Rattle.std.specs.Prelude.{◌≡◌, ℕ, Bool, true, false, Option, Some, R
 use Rattle.zb_base.specs.Counts.{Rose}
 use Rattle.zb_model.specs.declared.refusal.Refusal.{Refusal}
 use Rattle.zb_model.specs.declared.refusal.Refusal.TheVariants as refusal
-use Rattle.connection_view.specs.Loading.{Abort, Finish, Front, Load, LoadsCall, NewOid, Undo, Vote}
+use Rattle.connection_view.specs.Loading.{Abort, Finish, Front, IsServerRefusal, Load, LoadsCall, NewOid, Undo, Vote}
 use Rattle.zeo_client.specs.declared.asking.AskError.{AskError}
 use Rattle.zeo_client.specs.declared.asking.AskError.TheVariants as asking
 use Rattle.zeo_client.specs.declared.error.ClientError.{ClientError}
@@ -64,6 +64,10 @@ HasLinkCause before now closed ended refusal.LinkFault = Rose before now
 HasLinkCause before now closed ended refusal.Closed = closed ≡ true
 HasLinkCause before now closed ended (refusal.FrameTooLong length) = ended ≡ Some (client.FrameTooLong length)
 HasLinkCause before now closed ended _ = Unit {0}
+
+-- why a call of a remote client is refused: as a server may, or a link, and then with its cause
+abbrev pub IsRemoteRefusal : ℕ → ℕ → Bool → Option ClientError → Refusal → Type 0
+IsRemoteRefusal before now closed ended r = IsServerRefusal r × HasLinkCause before now closed ended r
 
 -- and so of each call that is refused
 abbrev pub HasCauseIfErr : {T : Type 0} → (Refusal → Type 0) → Result T Refusal → Type 0

@@ -2,6 +2,7 @@ pub mod Answers
 pub mod Carrying
 pub mod Causes
 pub mod Finishing
+pub mod Keeping
 pub mod Leaving
 pub mod Making
 pub mod Registering

@@ -1,10 +1,10 @@
 //! The finish of a remote client, exactly as the machine at the other end of a carrier that tells makes it.
 
-ghost use Rattle.std.specs.Prelude.{◌≡◌, ◌≤◌, IfErr};
-ghost use Rattle.connection_view.specs.Loading.{IsServerRefusal};
+ghost use Rattle.std.specs.Prelude.{◌≤◌, IfErr};
 ghost use Rattle.connection_view.specs.Views.{Client};
-ghost use Rattle.remote_loads.specs.Causes.{HasLinkCause};
+ghost use Rattle.remote_loads.specs.Causes.{IsRemoteRefusal};
 ghost use Rattle.remote_loads.specs.Finishing.{FinishLeaves, IsFinishMade, IsToldBehind};
+ghost use Rattle.remote_loads.specs.Keeping.{KeepsWay};
 ghost use Rattle.remote_loads.specs.Standing.{Stands};
 
 use crate::answers::finish_answer;
@@ -21,16 +21,12 @@ impl<'c, W: Carrier> Remote<'c, W> {
     /// A sync behind a commit, which is answered behind it.
     #[tactic(auto, using(crate::proofs::Made::behind_refused, crate::proofs::Made::behind_told))]
     fn told_behind(&mut self, tid: Tid) -> Result<Option<Tid>, Refusal>
-        ensures refusal { IfErr result IsServerRefusal }
-        ensures cause { IfErr result (HasLinkCause (W.faults self.old.carrier)
+        ensures refused { IfErr result (IsRemoteRefusal (W.faults self.old.carrier)
             (W.faults self.new.carrier) (W.closed self.new.carrier) self.new.client.now.ended) }
-        ensures counted { W.faults self.old.carrier ≤ W.faults self.new.carrier }
-        ensures never_falls { self.old.client.now.held.standing.known
-            ≤ self.new.client.now.held.standing.known }
-        ensures client_place { self.new.client.ghost_name ≡ self.old.client.ghost_name }
-        ensures session { W.session self.new.carrier ≡ W.session self.old.carrier }
-        ensures inner_place { W.place self.new.carrier ≡ W.place self.old.carrier }
-        ensures later { W.later self.old.carrier self.new.carrier }
+        ensures never_falls { (W.faults self.old.carrier ≤ W.faults self.new.carrier)
+            × (self.old.client.now.held.standing.known ≤ self.new.client.now.held.standing.known) }
+        ensures keeps { KeepsWay W.session W.place W.later self.old.carrier self.new.carrier
+            self.old.client.ghost_name self.new.client.ghost_name }
         ensures told { W.told → IsToldBehind (W.steps (W.session self.old.carrier))
             (W.end self.old.carrier) (W.desk self.old.carrier) self.old.client.now tid result
             self.new.client.now (W.end self.new.carrier) (W.desk self.new.carrier) }
@@ -44,16 +40,12 @@ impl<'c, W: Carrier> Remote<'c, W> {
     /// A finish, by a call, and the sync behind a commit.
     #[tactic(auto, using(crate::proofs::Made::finish_unheard, crate::proofs::Made::finish_refuses, crate::proofs::Made::finish_empties, crate::proofs::Made::finish_commits_so,))]
     fn finish_made(&mut self) -> Result<Option<Tid>, Refusal>
-        ensures refusal { IfErr result IsServerRefusal }
-        ensures cause { IfErr result (HasLinkCause (W.faults self.old.carrier)
+        ensures refused { IfErr result (IsRemoteRefusal (W.faults self.old.carrier)
             (W.faults self.new.carrier) (W.closed self.new.carrier) self.new.client.now.ended) }
-        ensures counted { W.faults self.old.carrier ≤ W.faults self.new.carrier }
-        ensures never_falls { self.old.client.now.held.standing.known
-            ≤ self.new.client.now.held.standing.known }
-        ensures client_place { self.new.client.ghost_name ≡ self.old.client.ghost_name }
-        ensures session { W.session self.new.carrier ≡ W.session self.old.carrier }
-        ensures inner_place { W.place self.new.carrier ≡ W.place self.old.carrier }
-        ensures later { W.later self.old.carrier self.new.carrier }
+        ensures never_falls { (W.faults self.old.carrier ≤ W.faults self.new.carrier)
+            × (self.old.client.now.held.standing.known ≤ self.new.client.now.held.standing.known) }
+        ensures keeps { KeepsWay W.session W.place W.later self.old.carrier self.new.carrier
+            self.old.client.ghost_name self.new.client.ghost_name }
         ensures told { W.told → IsFinishMade (W.steps (W.session self.old.carrier))
             (W.end self.old.carrier) (W.desk self.old.carrier) self.old.client.now
             result self.new.client.now (W.end self.new.carrier) (W.desk self.new.carrier) }
@@ -76,16 +68,12 @@ impl<'c, W: Carrier> Remote<'c, W> {
 
     /// Commits what is voted. Behind a commit the client knows the list as it stands then.
     pub(crate) fn finish_vote(&mut self) -> Result<Option<Tid>, Refusal>
-        ensures refusal { IfErr result IsServerRefusal }
-        ensures cause { IfErr result (HasLinkCause (W.faults self.old.carrier)
+        ensures refused { IfErr result (IsRemoteRefusal (W.faults self.old.carrier)
             (W.faults self.new.carrier) (W.closed self.new.carrier) self.new.client.now.ended) }
-        ensures counted { W.faults self.old.carrier ≤ W.faults self.new.carrier }
-        ensures never_falls { self.old.client.now.held.standing.known
-            ≤ self.new.client.now.held.standing.known }
-        ensures client_place { self.new.client.ghost_name ≡ self.old.client.ghost_name }
-        ensures session { W.session self.new.carrier ≡ W.session self.old.carrier }
-        ensures inner_place { W.place self.new.carrier ≡ W.place self.old.carrier }
-        ensures later { W.later self.old.carrier self.new.carrier }
+        ensures never_falls { (W.faults self.old.carrier ≤ W.faults self.new.carrier)
+            × (self.old.client.now.held.standing.known ≤ self.new.client.now.held.standing.known) }
+        ensures keeps { KeepsWay W.session W.place W.later self.old.carrier self.new.carrier
+            self.old.client.ghost_name self.new.client.ghost_name }
         ensures exact { W.told → (c : Client) → Stands (W.machine (W.end self.old.carrier))
             (W.session self.old.carrier) (W.desk self.old.carrier) self.old.client.now c
             → FinishLeaves (W.steps (W.session self.old.carrier)) W.machine

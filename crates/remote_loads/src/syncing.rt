@@ -1,11 +1,11 @@
 //! How a remote client asks for the news, and what it knows behind that.
 
 ghost use Rattle.std.specs.Prelude.{◌≡◌, ◌≤◌, IfErr, IfOk};
-ghost use Rattle.connection_view.specs.Loading.{IsServerRefusal};
 ghost use Rattle.connection_view.specs.Views.{Client};
 ghost use Rattle.zeo_messages.specs.declared.call.Call.{Call};
 ghost use Rattle.remote_loads.specs.Answers.{count_answer};
-ghost use Rattle.remote_loads.specs.Causes.{HasLinkCause};
+ghost use Rattle.remote_loads.specs.Causes.{IsRemoteRefusal};
+ghost use Rattle.remote_loads.specs.Keeping.{KeepsWay};
 ghost use Rattle.remote_loads.specs.Leaving.{SyncLeaves};
 ghost use Rattle.remote_loads.specs.Making.{IsMadeBy, left_alone};
 ghost use Rattle.remote_loads.specs.Registering.{IsNewcomer, IsRegistered, RegisterLeaves};
@@ -24,16 +24,12 @@ impl<'c, W: Carrier> Remote<'c, W> {
     /// A sync, by a call.
     #[tactic(auto, using(crate::proofs::Made::made_refused, crate::proofs::Made::made_answers))]
     pub(crate) fn sync_made(&mut self) -> Result<Tid, Refusal>
-        ensures refusal { IfErr result IsServerRefusal }
-        ensures cause { IfErr result (HasLinkCause (W.faults self.old.carrier)
+        ensures refused { IfErr result (IsRemoteRefusal (W.faults self.old.carrier)
             (W.faults self.new.carrier) (W.closed self.new.carrier) self.new.client.now.ended) }
-        ensures counted { W.faults self.old.carrier ≤ W.faults self.new.carrier }
-        ensures never_falls { self.old.client.now.held.standing.known
-            ≤ self.new.client.now.held.standing.known }
-        ensures client_place { self.new.client.ghost_name ≡ self.old.client.ghost_name }
-        ensures session { W.session self.new.carrier ≡ W.session self.old.carrier }
-        ensures inner_place { W.place self.new.carrier ≡ W.place self.old.carrier }
-        ensures later { W.later self.old.carrier self.new.carrier }
+        ensures never_falls { (W.faults self.old.carrier ≤ W.faults self.new.carrier)
+            × (self.old.client.now.held.standing.known ≤ self.new.client.now.held.standing.known) }
+        ensures keeps { KeepsWay W.session W.place W.later self.old.carrier self.new.carrier
+            self.old.client.ghost_name self.new.client.ghost_name }
         ensures told { W.told → IsMadeBy (W.steps (W.session self.old.carrier))
             (W.end self.old.carrier) (W.desk self.old.carrier) self.old.client.now Call.Sync
             count_answer left_alone result self.new.client.now (W.end self.new.carrier)
@@ -48,16 +44,12 @@ impl<'c, W: Carrier> Remote<'c, W> {
 
     /// A sync. Behind one that is answered, the client knows the list as it stood.
     fn hear_news(&mut self) -> Result<Tid, Refusal>
-        ensures refusal { IfErr result IsServerRefusal }
-        ensures cause { IfErr result (HasLinkCause (W.faults self.old.carrier)
+        ensures refused { IfErr result (IsRemoteRefusal (W.faults self.old.carrier)
             (W.faults self.new.carrier) (W.closed self.new.carrier) self.new.client.now.ended) }
-        ensures counted { W.faults self.old.carrier ≤ W.faults self.new.carrier }
-        ensures never_falls { self.old.client.now.held.standing.known
-            ≤ self.new.client.now.held.standing.known }
-        ensures client_place { self.new.client.ghost_name ≡ self.old.client.ghost_name }
-        ensures session { W.session self.new.carrier ≡ W.session self.old.carrier }
-        ensures inner_place { W.place self.new.carrier ≡ W.place self.old.carrier }
-        ensures later { W.later self.old.carrier self.new.carrier }
+        ensures never_falls { (W.faults self.old.carrier ≤ W.faults self.new.carrier)
+            × (self.old.client.now.held.standing.known ≤ self.new.client.now.held.standing.known) }
+        ensures keeps { KeepsWay W.session W.place W.later self.old.carrier self.new.carrier
+            self.old.client.ghost_name self.new.client.ghost_name }
         ensures exact { W.told → (c : Client) → Stands (W.machine (W.end self.old.carrier))
             (W.session self.old.carrier) (W.desk self.old.carrier) self.old.client.now c
             → SyncLeaves (W.steps (W.session self.old.carrier)) W.machine
@@ -73,16 +65,12 @@ impl<'c, W: Carrier> Remote<'c, W> {
     /// the list as it stood; an error leaves open what it knows.
     pub fn sync(&mut self) -> Result<Tid, Refusal>
         ensures front { IfOk result (λ front. front ≡ self.new.client.now.held.standing.known) }
-        ensures refusal { IfErr result IsServerRefusal }
-        ensures cause { IfErr result (HasLinkCause (W.faults self.old.carrier)
+        ensures refused { IfErr result (IsRemoteRefusal (W.faults self.old.carrier)
             (W.faults self.new.carrier) (W.closed self.new.carrier) self.new.client.now.ended) }
-        ensures counted { W.faults self.old.carrier ≤ W.faults self.new.carrier }
-        ensures never_falls { self.old.client.now.held.standing.known
-            ≤ self.new.client.now.held.standing.known }
-        ensures client_place { self.new.client.ghost_name ≡ self.old.client.ghost_name }
-        ensures session { W.session self.new.carrier ≡ W.session self.old.carrier }
-        ensures inner_place { W.place self.new.carrier ≡ W.place self.old.carrier }
-        ensures later { W.later self.old.carrier self.new.carrier }
+        ensures never_falls { (W.faults self.old.carrier ≤ W.faults self.new.carrier)
+            × (self.old.client.now.held.standing.known ≤ self.new.client.now.held.standing.known) }
+        ensures keeps { KeepsWay W.session W.place W.later self.old.carrier self.new.carrier
+            self.old.client.ghost_name self.new.client.ghost_name }
         ensures exact { W.told → (c : Client) → Stands (W.machine (W.end self.old.carrier))
             (W.session self.old.carrier) (W.desk self.old.carrier) self.old.client.now c
             → SyncLeaves (W.steps (W.session self.old.carrier)) W.machine
@@ -98,16 +86,12 @@ impl<'c, W: Carrier> Remote<'c, W> {
     /// A registering, by a call, and the sync behind it.
     #[tactic(auto, using(crate::proofs::Made::register_unheard, crate::proofs::Made::register_refuses, crate::proofs::Made::register_syncs,))]
     fn register_made(&mut self) -> Result<Tid, Refusal>
-        ensures refusal { IfErr result IsServerRefusal }
-        ensures cause { IfErr result (HasLinkCause (W.faults self.old.carrier)
+        ensures refused { IfErr result (IsRemoteRefusal (W.faults self.old.carrier)
             (W.faults self.new.carrier) (W.closed self.new.carrier) self.new.client.now.ended) }
-        ensures counted { W.faults self.old.carrier ≤ W.faults self.new.carrier }
-        ensures never_falls { self.old.client.now.held.standing.known
-            ≤ self.new.client.now.held.standing.known }
-        ensures client_place { self.new.client.ghost_name ≡ self.old.client.ghost_name }
-        ensures session { W.session self.new.carrier ≡ W.session self.old.carrier }
-        ensures inner_place { W.place self.new.carrier ≡ W.place self.old.carrier }
-        ensures later { W.later self.old.carrier self.new.carrier }
+        ensures never_falls { (W.faults self.old.carrier ≤ W.faults self.new.carrier)
+            × (self.old.client.now.held.standing.known ≤ self.new.client.now.held.standing.known) }
+        ensures keeps { KeepsWay W.session W.place W.later self.old.carrier self.new.carrier
+            self.old.client.ghost_name self.new.client.ghost_name }
         ensures told { W.told → IsRegistered (W.steps (W.session self.old.carrier))
             (W.end self.old.carrier) (W.desk self.old.carrier) self.old.client.now
             result self.new.client.now (W.end self.new.carrier) (W.desk self.new.carrier) }
@@ -124,16 +108,12 @@ impl<'c, W: Carrier> Remote<'c, W> {
 
     /// A registering. Behind one that is answered, the client knows the list as it stands.
     fn register_told(&mut self) -> Result<Tid, Refusal>
-        ensures refusal { IfErr result IsServerRefusal }
-        ensures cause { IfErr result (HasLinkCause (W.faults self.old.carrier)
+        ensures refused { IfErr result (IsRemoteRefusal (W.faults self.old.carrier)
             (W.faults self.new.carrier) (W.closed self.new.carrier) self.new.client.now.ended) }
-        ensures counted { W.faults self.old.carrier ≤ W.faults self.new.carrier }
-        ensures never_falls { self.old.client.now.held.standing.known
-            ≤ self.new.client.now.held.standing.known }
-        ensures client_place { self.new.client.ghost_name ≡ self.old.client.ghost_name }
-        ensures session { W.session self.new.carrier ≡ W.session self.old.carrier }
-        ensures inner_place { W.place self.new.carrier ≡ W.place self.old.carrier }
-        ensures later { W.later self.old.carrier self.new.carrier }
+        ensures never_falls { (W.faults self.old.carrier ≤ W.faults self.new.carrier)
+            × (self.old.client.now.held.standing.known ≤ self.new.client.now.held.standing.known) }
+        ensures keeps { KeepsWay W.session W.place W.later self.old.carrier self.new.carrier
+            self.old.client.ghost_name self.new.client.ghost_name }
         ensures exact { W.told → IsNewcomer (W.machine (W.end self.old.carrier))
             (W.session self.old.carrier) (W.desk self.old.carrier) self.old.client.now
             → RegisterLeaves (W.steps (W.session self.old.carrier)) W.machine
@@ -149,16 +129,12 @@ impl<'c, W: Carrier> Remote<'c, W> {
     /// then on. Where the carrier tells, the client knows the list as it stands; an error leaves open what it knows.
     pub fn register(&mut self) -> Result<Tid, Refusal>
         ensures front { IfOk result (λ front. front ≡ self.new.client.now.held.standing.known) }
-        ensures refusal { IfErr result IsServerRefusal }
-        ensures cause { IfErr result (HasLinkCause (W.faults self.old.carrier)
+        ensures refused { IfErr result (IsRemoteRefusal (W.faults self.old.carrier)
             (W.faults self.new.carrier) (W.closed self.new.carrier) self.new.client.now.ended) }
-        ensures counted { W.faults self.old.carrier ≤ W.faults self.new.carrier }
-        ensures never_falls { self.old.client.now.held.standing.known
-            ≤ self.new.client.now.held.standing.known }
-        ensures client_place { self.new.client.ghost_name ≡ self.old.client.ghost_name }
-        ensures session { W.session self.new.carrier ≡ W.session self.old.carrier }
-        ensures inner_place { W.place self.new.carrier ≡ W.place self.old.carrier }
-        ensures later { W.later self.old.carrier self.new.carrier }
+        ensures never_falls { (W.faults self.old.carrier ≤ W.faults self.new.carrier)
+            × (self.old.client.now.held.standing.known ≤ self.new.client.now.held.standing.known) }
+        ensures keeps { KeepsWay W.session W.place W.later self.old.carrier self.new.carrier
+            self.old.client.ghost_name self.new.client.ghost_name }
         ensures exact { W.told → IsNewcomer (W.machine (W.end self.old.carrier))
             (W.session self.old.carrier) (W.desk self.old.carrier) self.old.client.now
             → RegisterLeaves (W.steps (W.session self.old.carrier)) W.machine

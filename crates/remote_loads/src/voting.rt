@@ -1,9 +1,10 @@
 //! Votes and undos of a remote client, exactly as the machine at the other end of a carrier that tells makes them.
 
-ghost use Rattle.std.specs.Prelude.{◌≡◌, ◌≤◌, IfErr};
-ghost use Rattle.connection_view.specs.Loading.{AreVotable, IsServerRefusal, IsShortText};
+ghost use Rattle.std.specs.Prelude.{◌≤◌, IfErr};
+ghost use Rattle.connection_view.specs.Loading.{AreVotable, IsShortText};
 ghost use Rattle.connection_view.specs.Views.{Client};
-ghost use Rattle.remote_loads.specs.Causes.{HasLinkCause};
+ghost use Rattle.remote_loads.specs.Causes.{IsRemoteRefusal};
+ghost use Rattle.remote_loads.specs.Keeping.{KeepsWay};
 ghost use Rattle.remote_loads.specs.Leaving.{UndoLeaves, VoteLeaves};
 ghost use Rattle.remote_loads.specs.Making.{IsUndoMade, IsVoteMade};
 ghost use Rattle.remote_loads.specs.Standing.{Stands};
@@ -31,16 +32,12 @@ impl<'c, W: Carrier> Remote<'c, W> {
         requires user { IsShortText user.now }
         requires description { IsShortText description.now }
         requires stores { AreVotable stores.now }
-        ensures refusal { IfErr result IsServerRefusal }
-        ensures cause { IfErr result (HasLinkCause (W.faults self.old.carrier)
+        ensures refused { IfErr result (IsRemoteRefusal (W.faults self.old.carrier)
             (W.faults self.new.carrier) (W.closed self.new.carrier) self.new.client.now.ended) }
-        ensures counted { W.faults self.old.carrier ≤ W.faults self.new.carrier }
-        ensures never_falls { self.old.client.now.held.standing.known
-            ≤ self.new.client.now.held.standing.known }
-        ensures client_place { self.new.client.ghost_name ≡ self.old.client.ghost_name }
-        ensures session { W.session self.new.carrier ≡ W.session self.old.carrier }
-        ensures inner_place { W.place self.new.carrier ≡ W.place self.old.carrier }
-        ensures later { W.later self.old.carrier self.new.carrier }
+        ensures never_falls { (W.faults self.old.carrier ≤ W.faults self.new.carrier)
+            × (self.old.client.now.held.standing.known ≤ self.new.client.now.held.standing.known) }
+        ensures keeps { KeepsWay W.session W.place W.later self.old.carrier self.new.carrier
+            self.old.client.ghost_name self.new.client.ghost_name }
         ensures told { W.told → IsVoteMade (W.steps (W.session self.old.carrier))
             (W.end self.old.carrier) (W.desk self.old.carrier) self.old.client.now user.now
             description.now stores.now checks.now
@@ -71,16 +68,12 @@ impl<'c, W: Carrier> Remote<'c, W> {
         requires user { IsShortText user.now }
         requires description { IsShortText description.now }
         requires stores { AreVotable stores.now }
-        ensures refusal { IfErr result IsServerRefusal }
-        ensures cause { IfErr result (HasLinkCause (W.faults self.old.carrier)
+        ensures refused { IfErr result (IsRemoteRefusal (W.faults self.old.carrier)
             (W.faults self.new.carrier) (W.closed self.new.carrier) self.new.client.now.ended) }
-        ensures counted { W.faults self.old.carrier ≤ W.faults self.new.carrier }
-        ensures never_falls { self.old.client.now.held.standing.known
-            ≤ self.new.client.now.held.standing.known }
-        ensures client_place { self.new.client.ghost_name ≡ self.old.client.ghost_name }
-        ensures session { W.session self.new.carrier ≡ W.session self.old.carrier }
-        ensures inner_place { W.place self.new.carrier ≡ W.place self.old.carrier }
-        ensures later { W.later self.old.carrier self.new.carrier }
+        ensures never_falls { (W.faults self.old.carrier ≤ W.faults self.new.carrier)
+            × (self.old.client.now.held.standing.known ≤ self.new.client.now.held.standing.known) }
+        ensures keeps { KeepsWay W.session W.place W.later self.old.carrier self.new.carrier
+            self.old.client.ghost_name self.new.client.ghost_name }
         ensures exact { W.told → (c : Client) → Stands (W.machine (W.end self.old.carrier))
             (W.session self.old.carrier) (W.desk self.old.carrier) self.old.client.now c
             → VoteLeaves (W.steps (W.session self.old.carrier)) W.machine
@@ -98,16 +91,12 @@ impl<'c, W: Carrier> Remote<'c, W> {
     fn undo_made(&mut self, user: &Text8, description: &Text8, tids: &[Tid]) -> Result<(), Refusal>
         requires user { IsShortText user.now }
         requires description { IsShortText description.now }
-        ensures refusal { IfErr result IsServerRefusal }
-        ensures cause { IfErr result (HasLinkCause (W.faults self.old.carrier)
+        ensures refused { IfErr result (IsRemoteRefusal (W.faults self.old.carrier)
             (W.faults self.new.carrier) (W.closed self.new.carrier) self.new.client.now.ended) }
-        ensures counted { W.faults self.old.carrier ≤ W.faults self.new.carrier }
-        ensures never_falls { self.old.client.now.held.standing.known
-            ≤ self.new.client.now.held.standing.known }
-        ensures client_place { self.new.client.ghost_name ≡ self.old.client.ghost_name }
-        ensures session { W.session self.new.carrier ≡ W.session self.old.carrier }
-        ensures inner_place { W.place self.new.carrier ≡ W.place self.old.carrier }
-        ensures later { W.later self.old.carrier self.new.carrier }
+        ensures never_falls { (W.faults self.old.carrier ≤ W.faults self.new.carrier)
+            × (self.old.client.now.held.standing.known ≤ self.new.client.now.held.standing.known) }
+        ensures keeps { KeepsWay W.session W.place W.later self.old.carrier self.new.carrier
+            self.old.client.ghost_name self.new.client.ghost_name }
         ensures told { W.told → IsUndoMade (W.steps (W.session self.old.carrier))
             (W.end self.old.carrier) (W.desk self.old.carrier) self.old.client.now user.now
             description.now tids.now
@@ -134,16 +123,12 @@ impl<'c, W: Carrier> Remote<'c, W> {
     ) -> Result<(), Refusal>
         requires user { IsShortText user.now }
         requires description { IsShortText description.now }
-        ensures refusal { IfErr result IsServerRefusal }
-        ensures cause { IfErr result (HasLinkCause (W.faults self.old.carrier)
+        ensures refused { IfErr result (IsRemoteRefusal (W.faults self.old.carrier)
             (W.faults self.new.carrier) (W.closed self.new.carrier) self.new.client.now.ended) }
-        ensures counted { W.faults self.old.carrier ≤ W.faults self.new.carrier }
-        ensures never_falls { self.old.client.now.held.standing.known
-            ≤ self.new.client.now.held.standing.known }
-        ensures client_place { self.new.client.ghost_name ≡ self.old.client.ghost_name }
-        ensures session { W.session self.new.carrier ≡ W.session self.old.carrier }
-        ensures inner_place { W.place self.new.carrier ≡ W.place self.old.carrier }
-        ensures later { W.later self.old.carrier self.new.carrier }
+        ensures never_falls { (W.faults self.old.carrier ≤ W.faults self.new.carrier)
+            × (self.old.client.now.held.standing.known ≤ self.new.client.now.held.standing.known) }
+        ensures keeps { KeepsWay W.session W.place W.later self.old.carrier self.new.carrier
+            self.old.client.ghost_name self.new.client.ghost_name }
         ensures exact { W.told → (c : Client) → Stands (W.machine (W.end self.old.carrier))
             (W.session self.old.carrier) (W.desk self.old.carrier) self.old.client.now c
             → UndoLeaves (W.steps (W.session self.old.carrier)) W.machine

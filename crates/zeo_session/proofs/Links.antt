@@ -2,6 +2,7 @@
 use Rattle.std.proofs.Common.{◌≡◌, ℕ, arith, List, [], ◌∷◌, ◌++◌, Option, None, Some, Result, Ok, Err, length, ap, sym, ◌∙◌, refl, subst, append-nil, append_assoc}
 use Rattle.std.specs.Io.KnownBytes.{Consumes, IsAtEnd, Keeps}
 use Rattle.std.proofs.KnownBytes.{Consumes-nil, Consumes-trans}
+use Rattle.zb_base.specs.Counts.{Rose}
 use Rattle.zb_model.specs.declared.data.Transaction.{Transaction}
 use Rattle.zodb_core.specs.declared.reply.Reply.{Reply}
 use Rattle.zodb_core.specs.declared.request.Request.{Request}
@@ -15,7 +16,7 @@ use Rattle.hub_shared.specs.Seats.{Known}
 use Rattle.zeo_session.specs.declared.ending.SessionEnd.{SessionEnd}
 use Rattle.zeo_session.specs.declared.ending.SessionEnd.TheVariants.{Ended, LinkFault, FrameTooLong, Memory}
 use Rattle.zeo_session.specs.Served.{Asks, Progress, started}
-use Rattle.zeo_session.specs.Serving.{AreTaken, HasComeOn, HasComeSo, HasServedAll, HasServedSoFar, HasTaken, HasTakenAll, IsEndOf}
+use Rattle.zeo_session.specs.Serving.{AreTaken, CountsFaults, HasComeOn, HasComeSo, HasServedAll, HasServedSoFar, HasTaken, HasTakenAll, IsEndOf}
 use Rattle.zeo_session.proofs.Serves.{feed_failed, feed_gave, feed_none, none_taken, over_behind, over_by, taken_more, taken_on}
 
 -- ---- pieces that are read
@@ -87,6 +88,10 @@ pub kept_none : (left next : Option (List ℕ)) → Keeps left next → Consumes
 kept_none None next kept = tt
 kept_none (Some xs) None kept = absurd kept
 kept_none (Some xs) (Some ys) kept = sym kept
+
+-- what ended the session with a link fault let the count rise
+pub fault_rose : {E : Type 0} (before now : ℕ) (r : Result E SessionEnd) (end : SessionEnd) → r ≡ Err end → CountsFaults before now r → end ≡ LinkFault → Rose before now
+fault_rose {E = E} before now r end is counts = (subst (λ (q : Result E SessionEnd). CountsFaults before now q) is counts).fault
 
 pub none_left : {A : Type 0} (xs : List A) → length xs ≡ 0 → xs ≡ []
 none_left [] none = refl

@@ -1,7 +1,8 @@
 -- What the parts of serving a link do. Own.
-use Rattle.std.specs.Prelude.{◌≡◌, ◌≢◌, ℕ, Some, List, [], ◌∷◌, ◌++◌, Option, Result, MatchResult, IfOk}
+use Rattle.std.specs.Prelude.{◌≡◌, ◌≢◌, ◌≤◌, ◌⊎◌, ℕ, Some, List, [], ◌∷◌, ◌++◌, Option, Result, MatchResult, IfErr, IfOk}
 use Rattle.std.specs.Io.KnownBytes.{Appends, Consumes}
 use Rattle.std.specs.List.{concat}
+use Rattle.zb_base.specs.Counts.{Rose}
 use Rattle.zb_model.specs.declared.data.Transaction.{Transaction}
 use Rattle.zb_outside.specs.Written.{AppendsPrefix}
 use Rattle.zodb_core.specs.declared.reply.Reply.{Reply}
@@ -17,6 +18,17 @@ use Rattle.hub_shared.specs.Seats.{Known}
 use Rattle.zeo_session.specs.declared.ending.SessionEnd.{SessionEnd}
 use Rattle.zeo_session.specs.declared.ending.SessionEnd.TheVariants.{LinkFault, Memory}
 use Rattle.zeo_session.specs.Served.{Asks, Does, DoesFront, HasServed, IsCutShort, IsRestOf, IsServed, Progress, Serves, started}
+
+-- the count of a link's faults has not fallen, and a link fault ends the session only where it rose
+pub record CountsFaults {E : Type 0} (before now : ℕ) (r : Result E SessionEnd) : Type 0 where
+  pub counted : before ≤ now
+  pub fault : IfErr r (λ end. end ≡ LinkFault → Rose before now)
+
+-- neither count of a link's faults, of reads and of writes, has fallen, and a link fault ends the session only where one of them rose
+pub record CountsBothFaults (read_before read_now sent_before sent_now : ℕ) (end : SessionEnd) : Type 0 where
+  pub counted_in : read_before ≤ read_now
+  pub counted_out : sent_before ≤ sent_now
+  pub fault : end ≡ LinkFault → Rose read_before read_now ⊎ Rose sent_before sent_now
 
 -- a step was asked for, and its reply handed to the desk, which tells what is done next unless memory was wanting
 pub record HasAsked {E : Type 0} (told : Type 0) (rules : Rules) (list : List Transaction) (counts : FaultCounts) (q : Request) (v w : Known) (d left : DeskState) (r : Result Next E) : Type 0 where

@@ -1,11 +1,10 @@
 //! A message is taken, and answered in one write.
 
-ghost use Rattle.std.specs.Prelude.{◌≡◌, ◌≤◌, IfErr, OnOk, IfOk};
+ghost use Rattle.std.specs.Prelude.{◌≡◌, IfErr, OnOk, IfOk};
 ghost use Rattle.std.specs.Io.KnownBytes.{Appends};
 ghost use Rattle.std.specs.List.{concat};
-ghost use Rattle.zb_base.specs.Counts.{Rose};
 ghost use Rattle.zeo_session.specs.Served.{Progress};
-ghost use Rattle.zeo_session.specs.Serving.{HasTaken, IsNotSent};
+ghost use Rattle.zeo_session.specs.Serving.{CountsFaults, HasTaken, IsNotSent};
 
 use crate::asking::carry_out;
 use crate::ending::SessionEnd;
@@ -36,9 +35,7 @@ fn send_answer<O: Sink>(alloc: Global, link_out: &mut O, frames: &[Text8]) -> Re
         (Appends (O.taken link_out.old) (O.taken link_out.new) (concat frames.now)) }
     ensures err { IfErr result (λ end. IsNotSent end (O.taken link_out.old) (O.taken link_out.new)
         (concat frames.now)) }
-    ensures counted { O.faults link_out.old ≤ O.faults link_out.new }
-    ensures fault { IfErr result (λ end. end ≡ SessionEnd.LinkFault
-        → Rose (O.faults link_out.old) (O.faults link_out.new)) }
+    ensures faults { CountsFaults (O.faults link_out.old) (O.faults link_out.new) result }
 {
     let sent = if frames.len() == 1 {
         send_frame(link_out, frames[0].as_slice())
@@ -87,9 +84,7 @@ pub(crate) fn serve_message<
     ensures taken { (s : Progress) → s.known ≡ pass → HasTaken St.told J.rules J.list J.counts s
         result.0 desk.old desk.new payload.now (O.taken link_out.old) (O.taken link_out.new)
         result.1 }
-    ensures counted { O.faults link_out.old ≤ O.faults link_out.new }
-    ensures fault { IfErr result.1 (λ end. end ≡ SessionEnd.LinkFault
-        → Rose (O.faults link_out.old) (O.faults link_out.new)) }
+    ensures faults { CountsFaults (O.faults link_out.old) (O.faults link_out.new) result.1 }
 {
     let next = match desk.take(alloc, payload) {
         Ok(next) => next,

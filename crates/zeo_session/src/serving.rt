@@ -1,10 +1,10 @@
 //! A session serves its link.
 
-ghost use Rattle.std.specs.Prelude.{◌≡◌, ◌≤◌, ◌<◌, ◌⊎◌, ℕ, List, IfErr, length};
+ghost use Rattle.std.specs.Prelude.{◌≡◌, ◌<◌, ℕ, List, length};
 ghost use mathlib.Core.List.{IsPrefix};
-ghost use Rattle.zb_base.specs.Counts.{Rose};
 ghost use Rattle.zodb_core.specs.History.{IsLegalOver};
 ghost use Rattle.zeo_session.specs.Served.{IsSessionOver, Progress};
+ghost use Rattle.zeo_session.specs.Serving.{CountsBothFaults, CountsFaults};
 ghost use Rattle.zeo_session.specs.Serving.{HasComeOn, HasComeSo, HasServedAll, HasTakenAll};
 
 use crate::answering::serve_message;
@@ -45,9 +45,7 @@ fn next_payloads<I: Source, W: Wait>(
     requires { 0 < length piece.old }
     ensures come { (came : List ℕ) (given : List (List ℕ)) → HasComeSo came given frames.old
         → HasComeOn came given (I.left link_in.old) (I.left link_in.new) frames.new result }
-    ensures counted { I.faults link_in.old ≤ I.faults link_in.new }
-    ensures fault { IfErr result (λ end. end ≡ SessionEnd.LinkFault
-        → Rose (I.faults link_in.old) (I.faults link_in.new)) }
+    ensures faults { CountsFaults (I.faults link_in.old) (I.faults link_in.new) result }
 {
     let mut count = 0;
     'reading: for _ in rt.forever() {
@@ -89,9 +87,7 @@ fn serve_payloads<
 ) -> (Pass<J>, Result<(), SessionEnd>)
     ensures taken { (s : Progress) → s.known ≡ pass → HasTakenAll St.told J.rules J.list J.counts s
         result.0 desk.old desk.new payloads (O.taken link_out.old) (O.taken link_out.new) result.1 }
-    ensures counted { O.faults link_out.old ≤ O.faults link_out.new }
-    ensures fault { IfErr result.1 (λ end. end ≡ SessionEnd.LinkFault
-        → Rose (O.faults link_out.old) (O.faults link_out.new)) }
+    ensures faults { CountsFaults (O.faults link_out.old) (O.faults link_out.new) result.1 }
 {
     let mut now = pass;
     for payload in payloads.into_vec() {
@@ -132,11 +128,8 @@ fn serve_link<
 ) -> (Pass<J>, SessionEnd)
     ensures served { HasServedAll St.told J.rules J.list J.counts result.1 pass result.0
         (I.left link_in.old) (I.left link_in.new) (O.taken link_out.old) (O.taken link_out.new) }
-    ensures counted_in { I.faults link_in.old ≤ I.faults link_in.new }
-    ensures counted_out { O.faults link_out.old ≤ O.faults link_out.new }
-    ensures fault { result.1 ≡ SessionEnd.LinkFault
-        → Rose (I.faults link_in.old) (I.faults link_in.new)
-        ⊎ Rose (O.faults link_out.old) (O.faults link_out.new) }
+    ensures faults { CountsBothFaults (I.faults link_in.old) (I.faults link_in.new)
+        (O.faults link_out.old) (O.faults link_out.new) result.1 }
 {
     let Ok(mut piece) = vec![in alloc; 0u8; PIECE] else {
         return (pass, SessionEnd::Memory);
@@ -191,11 +184,8 @@ pub fn serve_session<
     ensures legal { St.told → IsLegalOver J.rules J.list J.counts result.0.seen }
     ensures over { IsSessionOver St.told J.rules J.list J.counts result.1 pass result.0
         (I.left link_in.old) (I.left link_in.new) (O.taken link_out.old) (O.taken link_out.new) }
-    ensures counted_in { I.faults link_in.old ≤ I.faults link_in.new }
-    ensures counted_out { O.faults link_out.old ≤ O.faults link_out.new }
-    ensures fault { result.1 ≡ SessionEnd.LinkFault
-        → Rose (I.faults link_in.old) (I.faults link_in.new)
-        ⊎ Rose (O.faults link_out.old) (O.faults link_out.new) }
+    ensures faults { CountsBothFaults (I.faults link_in.old) (I.faults link_in.new)
+        (O.faults link_out.old) (O.faults link_out.new) result.1 }
 {
     let (served, end) = serve_link(rt, alloc, shared, pass, link_in, link_out);
     let (closed, _) = shared.call(rt, alloc, served, Request::Close);

@@ -1,6 +1,6 @@
 -- Steps that only read, and what they are answered.
-use Rattle.std.proofs.Common.{◌≡◌, ℕ, Bool, true, false, List, Option, Some, None, refl, sym, ap, subst, ◌∙◌}
-use Rattle.std.specs.Prelude.{IfOk, IsTrue, Result, Ok, Err}
+use Rattle.std.proofs.Common.{◌≡◌, ℕ, Bool, true, false, List, Option, Some, None, arith, refl, sym, ap, subst, ◌∙◌}
+use Rattle.std.specs.Prelude.{IfOk, IsErrOf, IsTrue, Result, Ok, Err}
 use Rattle.zb_base.specs.Counts.{Rose}
 use Rattle.zodb_top.specs.declared.asking.AskError.{AskError}
 use Rattle.zodb_top.specs.declared.asking.AskError.TheVariants as error
@@ -23,11 +23,11 @@ use Rattle.zodb_core.specs.declared.request.Request.TheVariants as request
 use Rattle.zodb_core.specs.DecisionLaws.{AnswersIfSome}
 use Rattle.zodb_core.specs.HubState.{HasTicked, HubState, IsCauseOf, MakesStep, StandsForMachine, StepsSafely, counts_of, is_store_failed, may_write}
 use Rattle.zodb_core.specs.Machine.{Machine, front_of, machine_over, with_session}
-use Rattle.zodb_core.specs.Outcomes.{Answered, EndsFor, FaultCounts, NoMemory, ReadingFailed, StepOutcome, StoreFailed, changes_store, is_pack, keeps_store, machine_left, outcome_of, outcome_of_refusal}
+use Rattle.zodb_core.specs.Outcomes.{Answered, AreLaterCounts, EndsFor, FaultCounts, NoMemory, ReadingFailed, StepOutcome, StoreFailed, changes_store, is_pack, keeps_store, machine_left, outcome_of, outcome_of_refusal}
 use Rattle.zodb_core.specs.StepCases.{by_unanswered, early_answers}
 use Rattle.zodb_core.specs.Steps.{Stepped, early_refusal, loaded, replied, request_step, step_of, unless_early}
 use Rattle.zodb_top.specs.Asked.{content_of, digested, last_of, shown}
-use Rattle.zodb_top.specs.Asking.{IsLast, IsStepped, KeepsList, KeepsStore, ask_refusal, digested_reply, only_reads, reply_content, shown_reply}
+use Rattle.zodb_top.specs.Asking.{AsksOnly, IsLast, IsStepped, KeepsList, KeepsStore, ask_refusal, digested_reply, only_reads, reply_content, shown_reply}
 use Rattle.side_by_side.specs.Runs.{stock}
 
 -- ---- a step that only reads
@@ -260,3 +260,50 @@ reading_calm q r o before now reads whole cause says other = calm_outcome before
 
 pub whole_by : (q : Request) (r : Reply) (P : Type 0) → only_reads q ≡ true → (keeps_store q ≡ true → ¬ (outcome_of r ≡ StoreFailed)) → (is_store_failed (outcome_of r) ≡ false → P) → P
 whole_by q r P reads whole then = then (failed_so (outcome_of r) (whole (keeps_by q reads)))
+
+-- ---- what only asks
+
+-- counts that have not fallen twice
+pub later_on : (a b c : FaultCounts) → AreLaterCounts a b → AreLaterCounts b c → AreLaterCounts a c
+later_on a b c first second = record { reads = omega arith; others = omega arith }
+
+rose_on : (a b : FaultCounts) (c : ℕ) → b ≡ a → Rose b.reads c → Rose a.reads c
+rose_on a b c same rose = subst (λ (x : FaultCounts). Rose x.reads c) same rose
+
+module _ {R F : Type 0} (told : Type 0) where
+  -- what is made of an answer with no call of the hub: a failed read is told where it was answered, and there alone
+  pub asks_told : {A B : Type 0} (old new : HubState R F) (a b : Option (List Stamp)) (r : Result A AskError) (s : Result B AskError) → (IsErrOf s error.ReadFault → IsErrOf r error.ReadFault)
+      → (IsErrOf r error.ReadFault → IsErrOf s error.ReadFault) → AsksOnly told old new a b r → AsksOnly told old new a b s
+  asks_told old new a b r s first second asks = record {
+    keeps = asks.keeps;
+    failed = λ is. asks.failed (first is);
+    calm = λ other. asks.calm (λ is. other (second is));
+    others = asks.others;
+    later = asks.later;
+  }
+
+  pub asks_answered : {A B : Type 0} (old new : HubState R F) (a b : Option (List Stamp)) (r : Result A AskError) (x : A) (y : B) → r ≡ Ok x → AsksOnly told old new a b r → AsksOnly told old new a b (Ok y)
+  asks_answered old new a b r x y is asks = asks_told old new a b r (Ok y) (λ e. absurd cc) (λ e. absurd cc) asks
+
+  -- one call behind some that were answered
+  pub asks_behind : {B : Type 0} (old mid new : HubState R F) (a b c : Option (List Stamp)) (s : Result B AskError)
+      → (told → (m : Machine) → StandsForMachine old m → old.store.broken ≡ false → KeepsList m old mid a b) → counts_of mid.store ≡ counts_of old.store → mid.store.faults ≡ old.store.faults
+      → AreLaterCounts (counts_of old.store) (counts_of mid.store) → AsksOnly told mid new b c s → AsksOnly told old new a c s
+  asks_behind old mid new a b c s keeps calm others later asks = record {
+    keeps = λ here m stands whole.
+        let k = keeps here m stands whole in
+        keeps_on m old mid new a b c k (asks.keeps here k.left k.stands k.whole);
+    failed = λ is. rose_on (counts_of old.store) (counts_of mid.store) new.store.read_faults calm (asks.failed is);
+    calm = λ other. asks.calm other ∙ calm;
+    others = asks.others ∙ others;
+    later = later_on (counts_of old.store) (counts_of mid.store) (counts_of new.store) later asks.later;
+  }
+
+  pub asks_on : {A B : Type 0} (old mid new : HubState R F) (a b c : Option (List Stamp)) (r : Result A AskError) (x : A) (s : Result B AskError) → r ≡ Ok x → AsksOnly told old mid a b r
+      → AsksOnly told mid new b c s → AsksOnly told old new a c s
+  asks_on old mid new a b c r x s is first second = asks_behind old mid new a b c s first.keeps (first.calm (λ e. absurd cc)) first.others first.later second
+
+  -- an error is handed on
+  pub asks_refused : {A B : Type 0} (old new : HubState R F) (a b : Option (List Stamp)) (r : Result A AskError) (s : Result B AskError) (x e : AskError) → r ≡ Err e → s ≡ Err x → x ≡ e
+      → AsksOnly told old new a b r → AsksOnly told old new a b s
+  asks_refused old new a b r s x e from to same asks = asks_told old new a b r s (λ is. cc) (λ is. cc) asks

@@ -1,12 +1,11 @@
 -- A check of a tree, over a session.
-use Rattle.std.proofs.Common.{◌≡◌, ℕ, List, arith, sym, subst}
+use Rattle.std.proofs.Common.{◌≡◌, ℕ, List, sym, subst}
 use Rattle.btree_checking.specs.declared.checking.Checking.{Checking}
 use Rattle.btree_checking.specs.declared.checking.Progress.{Progress}
 use Rattle.btree_checking.specs.declared.checking.Progress.TheVariants.{Ended, Wants}
 use Rattle.btree_checking.specs.declared.verdict.Verdict.{Verdict}
 use Rattle.btree_checking.specs.Fed.{IsCheckOf, IsProgressOf}
 use Rattle.zb_model.specs.declared.data.Transaction.{Transaction}
-use Rattle.zodb_core.specs.Outcomes.{AreLaterCounts, FaultCounts}
 use Rattle.zodb_top.specs.Asked.{last_contents, last_verdict}
 
 -- a list that is the same has the same contents
@@ -20,7 +19,3 @@ wants_on a b root progress check same wants is =
 pub ended_on : (a b : List Transaction) (root : ℕ) (progress : Progress) (verdict : Verdict) → a ≡ b → progress ≡ Ended verdict → IsProgressOf (last_contents a) root progress → verdict ≡ last_verdict root b
 ended_on a b root progress verdict same ended is =
     subst (λ (list : List Transaction). verdict ≡ last_verdict root list) same (subst (IsProgressOf (last_contents a) root) ended is)
-
--- counts that have not fallen twice
-pub later_on : (a b c : FaultCounts) → AreLaterCounts a b → AreLaterCounts b c → AreLaterCounts a c
-later_on a b c first second = record { reads = omega arith; others = omega arith }

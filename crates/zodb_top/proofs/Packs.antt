@@ -36,7 +36,7 @@ use Rattle.side_by_side.specs.Runs.{stock}
 use Rattle.zodb_top.specs.Came.{IsCalm}
 use Rattle.zodb_top.specs.Opened.{IsLeft, OpensAs, made as opens_made, there as opens_there}
 use Rattle.zodb_top.specs.Outside.{Outside, main_of}
-use Rattle.zodb_top.specs.PackStores.{IsListBehind, IsStorePacked, IsToldAs, PacksStore}
+use Rattle.zodb_top.specs.PackStores.{CountsPack, IsListBehind, IsStorePacked, IsToldAs, PacksStore}
 use Rattle.zodb_top.specs.Packs.{IsLeftBy, IsListOrPacked, IsOfPack, IsPacked, IsReplyTo, PackSays, ReplySays, is_told, reply_line}
 use Rattle.script_runs.specs.Outcomes.{IsUnlessMemory}
 use Rattle.zodb_top.specs.Telling.{told_of}
@@ -120,6 +120,11 @@ moments_still stands pack list old new same lasting = subst (λ (l : List Event)
 -- no session was opened for want of memory
 pub unopened_packs : (pack : PackRequest) (state state' : StoreState) (stamps : Option (List Stamp)) → state' ≡ state → state.broken ≡ false → IsStorePacked pack (reply.Refused refusal.Memory) state state' stamps stamps
 unopened_packs pack state state' stamps same whole = record { made = tt; list = ap (λ (s : StoreState). s.list) same; whole = ap (λ (s : StoreState). s.broken) same ∙ whole; clock = refl }
+
+-- the counts over a store that a hub is made of and gives back
+pub counts_store : (old new : StoreState) (r : Reply) (state state' : StoreState) → old ≡ state → state' ≡ new → CountsPack old new r → CountsPack state state' r
+counts_store old new r state state' first last counts =
+    subst (λ (s : StoreState). CountsPack s state' r) first (subst (λ (s : StoreState). CountsPack old s r) (sym last) counts)
 
 -- no memory for the line of a tail
 pub nothing_packs : (told lasts : Type 0) (stands : List ℕ → List Transaction → Type 0) (pack : PackRequest) (cut : Option ℕ) (taken : Option (List ℕ)) (before : ℕ) (state : StoreState) (stamps : Option (List Stamp)) → state.broken ≡ false

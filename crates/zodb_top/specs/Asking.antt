@@ -1,5 +1,5 @@
 -- What the code of a command that takes no script says of replies.
-use Rattle.std.specs.Prelude.{◌≡◌, ℕ, List, [], ◌∷◌, ◌++◌, Option, Some, None, Result, Ok, Err, Bool, true, false}
+use Rattle.std.specs.Prelude.{◌≡◌, ℕ, List, [], ◌∷◌, ◌++◌, Option, Some, None, Result, Ok, Err, IsErrOf, Bool, true, false}
 use Rattle.std.specs.Io.KnownBytes.{Appends}
 use Rattle.zb_base.specs.Counts.{Rose}
 use Rattle.zb_ids.specs.declared.stamp.Stamp.{Stamp}
@@ -9,12 +9,15 @@ use Rattle.zb_model.specs.declared.refusal.Refusal.{Refusal}
 use Rattle.zb_model.specs.declared.refusal.Refusal.TheVariants as refusal
 use Rattle.zb_model.specs.Stores.{StoreState}
 use Rattle.zb_answers.specs.Objects.{shown_line}
+use Rattle.zb_volume.specs.declared.areas.Area.TheVariants.{Main}
+use Rattle.zb_volume.specs.Moments.{Leaves}
 use Rattle.zodb_core.specs.declared.reply.Reply.{Reply}
 use Rattle.zodb_core.specs.declared.reply.Reply.TheVariants as reply
 use Rattle.zodb_core.specs.declared.request.Request.{Request}
 use Rattle.zodb_core.specs.declared.request.Request.TheVariants as request
 use Rattle.zodb_core.specs.HubState.{HubState, StandsForMachine, counts_of}
 use Rattle.zodb_core.specs.Machine.{Machine}
+use Rattle.zodb_core.specs.Outcomes.{AreLaterCounts}
 use Rattle.zodb_core.specs.Steps.{step_of}
 use Rattle.zodb_top.specs.declared.asking.AskError.{AskError}
 use Rattle.zodb_top.specs.declared.asking.AskError.TheVariants as error
@@ -69,6 +72,23 @@ pub record KeepsStore (old new : StoreState) (before after : Option (List Stamp)
   pub log : new.log ≡ old.log
   pub whole : new.broken ≡ false
   pub clock : after ≡ before
+
+-- What is asked of a hub only reads: it keeps the list, where the store tells and hasn't failed; a failed read is answered only where its count rose, and with any
+-- other answer no count has moved; that of other faults never moves, and none falls.
+pub record AsksOnly {R F A : Type 0} (told : Type 0) (old new : HubState R F) (before after : Option (List Stamp)) (result : Result A AskError) : Type 0 where
+  pub keeps : told → (m : Machine) → StandsForMachine old m → old.store.broken ≡ false → KeepsList m old new before after
+  pub failed : IsErrOf result error.ReadFault → Rose old.store.read_faults new.store.read_faults
+  pub calm : ¬ IsErrOf result error.ReadFault → counts_of new.store ≡ counts_of old.store
+  pub others : new.store.faults ≡ old.store.faults
+  pub later : AreLaterCounts (counts_of old.store) (counts_of new.store)
+
+-- What is left of a store that was asked, and is handed back: it keeps the list, where it tells, and a crash leaves that; the count of other faults has not moved,
+-- and none has fallen.
+pub record LeavesStore (told lasts : Type 0) (stands : List ℕ → List Transaction → Type 0) (old new : StoreState) (before after : Option (List Stamp)) : Type 0 where
+  pub keeps : told → KeepsStore old new before after
+  pub images : lasts → new.broken ≡ false → Leaves Main (λ bytes. stands bytes new.list) new.log
+  pub others : new.faults ≡ old.faults
+  pub later : AreLaterCounts (counts_of old) (counts_of new)
 
 -- A step that only reads was answered by the machine.
 pub record IsStepped (m : Machine) (n : ℕ) (q : Request) (r : Reply) : Type 0 where

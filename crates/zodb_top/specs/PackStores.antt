@@ -1,5 +1,5 @@
 -- What the code of the command `pack` says of a store.
-use Rattle.std.specs.Prelude.{◌≡◌, ℕ, List, Option, false}
+use Rattle.std.specs.Prelude.{◌≡◌, ◌≤◌, ℕ, List, Option, false}
 use Rattle.std.specs.Io.KnownBytes.{Appends}
 use Rattle.zb_base.specs.Counts.{Rose}
 use Rattle.zb_ids.specs.declared.stamp.Stamp.{Stamp}
@@ -10,7 +10,7 @@ use Rattle.zb_volume.specs.declared.areas.Area.TheVariants.{Main}
 use Rattle.zb_volume.specs.Moments.{Leaves, LeavesOnly}
 use Rattle.zodb_core.specs.declared.reply.Reply.{Reply}
 use Rattle.zodb_core.specs.HubState.{IsCauseOf, counts_of, is_store_failed}
-use Rattle.zodb_core.specs.Outcomes.{Answered, StepOutcome, StoreFailed, outcome_of}
+use Rattle.zodb_core.specs.Outcomes.{Answered, AreLaterCounts, StepOutcome, StoreFailed, outcome_of}
 use Rattle.program_words.specs.declared.command.PackRequest.{PackRequest}
 use Rattle.script_runs.specs.declared.status.Status.{Status}
 use Rattle.zodb_top.specs.Packs.{IsListOrPacked, IsReplyTo, ReplySays, packed_list}
@@ -35,6 +35,18 @@ pub record IsStorePacked (pack : PackRequest) (r : Reply) (old new : StoreState)
   pub list : IsListBehind pack old.list new.list (outcome_of r)
   pub whole : new.broken ≡ is_store_failed (outcome_of r)
   pub clock : after ≡ before
+
+-- the counts of faults behind a pack: what the reply says has its cause, that of other faults moved only where the store failed, and none has fallen
+pub record CountsPack (old new : StoreState) (r : Reply) : Type 0 where
+  pub cause : IsCauseOf (counts_of old) (counts_of new) (outcome_of r)
+  pub others : ¬ (outcome_of r ≡ StoreFailed) → new.faults ≡ old.faults
+  pub later : AreLaterCounts (counts_of old) (counts_of new)
+
+-- The counts of a store and of a sink: no call that would change the store has failed, unless the status says so, and no count has fallen.
+pub record CountsOver (s : Status) (before now : ℕ) (old new : StoreState) : Type 0 where
+  pub others : ¬ (s ≡ status.StoreFault) → new.faults ≡ old.faults
+  pub sink_counted : before ≤ now
+  pub later : AreLaterCounts (counts_of old) (counts_of new)
 
 -- a store was packed, and the reply written, behind the line of a tail that was cut off, where one was
 pub record PacksStore (s : Status) (told lasts : Type 0) (stands : List ℕ → List Transaction → Type 0) (pack : PackRequest) (cut : Option ℕ) (taken taken' : Option (List ℕ)) (before now : ℕ) (old new : StoreState) (stamps stamps' : Option (List Stamp)) : Type 0 where

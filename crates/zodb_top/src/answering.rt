@@ -1,22 +1,14 @@
 //! What is asked of the file in Main is answered.
 
-ghost use Rattle.std.specs.Prelude.{◌≡◌, ◌++◌, ◌∷◌, ◌≤◌, [], None, OnErr, OnOk, false};
-ghost use Rattle.std.specs.Io.KnownBytes.{Appends};
+ghost use Rattle.std.specs.Prelude.{◌≡◌, ◌≤◌, None, false};
 ghost use Rattle.file_store.specs.Hinting.{HasHonestHint, LeavesHonest};
 ghost use Rattle.fs_recovery.specs.Opens.{IsNoList};
-ghost use Rattle.zb_base.specs.Counts.{Rose};
-ghost use Rattle.zb_outside.specs.Written.{AppendsPrefix};
 ghost use Rattle.zb_volume.specs.declared.areas.Area.TheVariants.{Main};
 ghost use Rattle.zb_volume.specs.Disk.{IsSettled, seen};
-ghost use Rattle.zb_volume.specs.Moments.{Leaves};
-ghost use Rattle.zodb_core.specs.HubState.{counts_of};
-ghost use Rattle.zodb_core.specs.Outcomes.{AreLaterCounts};
 ghost use Rattle.zodb_top.specs.Asked.{AskSays};
-ghost use Rattle.zodb_top.specs.Asking.{AnswerSays, KeepsStore, StoreAnswers};
+ghost use Rattle.zodb_top.specs.Asking.{AnswerSays, LeavesStore, StoreAnswers};
 ghost use Rattle.zodb_top.specs.Opened.{IsLeft};
 ghost use Rattle.zodb_top.specs.Outside.{outside};
-ghost use Rattle.script_runs.specs.Texts.{joined};
-ghost use Rattle.zodb_top.specs.Texts.{refused_line};
 
 use crate::asking::{AskError, store_lines};
 use crate::saying::say_unopened;
@@ -64,11 +56,8 @@ fn answer_store<St: Store, K: Sink, C: Clock>(
     requires whole { (St.state store).broken ≡ false }
     requires free { (St.state store).voted ≡ None }
     ensures says { StoreAnswers result.0 asked St.told cut (K.taken sink.old) (K.taken sink.new) (K.faults sink.old) (K.faults sink.new) (St.state store) (St.state result.1) }
-    ensures keeps { St.told → KeepsStore (St.state store) (St.state result.1) (C.stamps clock.old) (C.stamps clock.new) }
-    ensures images { St.lasts → (St.state result.1).broken ≡ false →
-        Leaves Main (λ bytes. St.stands bytes (St.state result.1).list) (St.state result.1).log }
-    ensures later { AreLaterCounts (counts_of (St.state store)) (counts_of (St.state result.1)) }
-    ensures others { (St.state result.1).faults ≡ (St.state store).faults }
+    ensures leaves { LeavesStore St.told St.lasts St.stands (St.state store) (St.state result.1)
+        (C.stamps clock.old) (C.stamps clock.new) }
     ensures counted { K.faults sink.old ≤ K.faults sink.new }
 {
     let Ok(lines) = cut_lines(alloc, cut) else {

@@ -4,13 +4,11 @@ ghost use Rattle.std.specs.Prelude.{◌≡◌, ◌∷◌, [], None, false, true,
 ghost use Rattle.zb_base.specs.Counts.{Rose};
 ghost use Rattle.zb_model.specs.Lists.{history_of, undo_log_of};
 ghost use Rattle.zb_answers.specs.Lists.{log_text, revision_text};
-ghost use Rattle.zb_volume.specs.declared.areas.Area.TheVariants.{Main};
-ghost use Rattle.zb_volume.specs.Moments.{Leaves};
 ghost use Rattle.zodb_core.specs.HubState.{IsFitting, StandsForMachine, counts_of};
 ghost use Rattle.zodb_core.specs.Machine.{Machine, front_of};
-ghost use Rattle.zodb_core.specs.Outcomes.{AreLaterCounts};
 ghost use Rattle.zodb_top.specs.Asked.{digested, last_of, lines_of, shown};
-ghost use Rattle.zodb_top.specs.Asking.{IsLast, IsStepped, KeepsList, KeepsStore, ask_refusal, digested_reply, only_reads, shown_reply};
+ghost use Rattle.zodb_top.specs.Asking.{AsksOnly, IsLast, IsStepped, LeavesStore, ask_refusal};
+ghost use Rattle.zodb_top.specs.Asking.{digested_reply, only_reads, shown_reply};
 ghost use Rattle.zodb_top.specs.Texts.{digest_line};
 
 use crate::checking::check;
@@ -66,11 +64,8 @@ pub(crate) fn ask<St: Store, C: Clock>(
     requires reads { only_reads request ≡ true }
     requires fitting { IsFitting request }
     ensures reply { St.told → (m : Machine) → StandsForMachine hub.old m → IfOk result (λ r. IsStepped m session request r) }
-    ensures keeps { St.told → (m : Machine) → StandsForMachine hub.old m → hub.old.store.broken ≡ false → KeepsList m hub.old hub.new (C.stamps clock.old) (C.stamps clock.new) }
-    ensures failed { IsErrOf result AskError.ReadFault → Rose hub.old.store.read_faults hub.new.store.read_faults }
-    ensures calm { ¬ IsErrOf result AskError.ReadFault → counts_of hub.new.store ≡ counts_of hub.old.store }
-    ensures others { hub.new.store.faults ≡ hub.old.store.faults }
-    ensures later { AreLaterCounts (counts_of hub.old.store) (counts_of hub.new.store) }
+    ensures asks { AsksOnly St.told hub.old hub.new
+        (C.stamps clock.old) (C.stamps clock.new) result }
 {
     let reply = hub.step(alloc, session, request, clock);
     match refusal_in(&reply) {
@@ -150,11 +145,8 @@ pub(crate) fn front<St: Store, C: Clock>(
     clock: &mut C,
 ) -> Result<Tid, AskError>
     ensures front { St.told → (m : Machine) → StandsForMachine hub.old m → IfOk result (λ f. f ≡ front_of m.list) }
-    ensures keeps { St.told → (m : Machine) → StandsForMachine hub.old m → hub.old.store.broken ≡ false → KeepsList m hub.old hub.new (C.stamps clock.old) (C.stamps clock.new) }
-    ensures failed { IsErrOf result AskError.ReadFault → Rose hub.old.store.read_faults hub.new.store.read_faults }
-    ensures calm { ¬ IsErrOf result AskError.ReadFault → counts_of hub.new.store ≡ counts_of hub.old.store }
-    ensures others { hub.new.store.faults ≡ hub.old.store.faults }
-    ensures later { AreLaterCounts (counts_of hub.old.store) (counts_of hub.new.store) }
+    ensures asks { AsksOnly St.told hub.old hub.new
+        (C.stamps clock.old) (C.stamps clock.new) result }
 {
     match ask(alloc, hub, session, Request::Front, clock)? {
         Reply::Front { front, .. } => Ok(front),
@@ -171,11 +163,8 @@ fn load_last<St: Store, C: Clock>(
     clock: &mut C,
 ) -> Result<Reply, AskError>
     ensures last { St.told → (m : Machine) → StandsForMachine hub.old m → hub.old.store.broken ≡ false → IfOk result (IsLast oid m.list) }
-    ensures keeps { St.told → (m : Machine) → StandsForMachine hub.old m → hub.old.store.broken ≡ false → KeepsList m hub.old hub.new (C.stamps clock.old) (C.stamps clock.new) }
-    ensures failed { IsErrOf result AskError.ReadFault → Rose hub.old.store.read_faults hub.new.store.read_faults }
-    ensures calm { ¬ IsErrOf result AskError.ReadFault → counts_of hub.new.store ≡ counts_of hub.old.store }
-    ensures others { hub.new.store.faults ≡ hub.old.store.faults }
-    ensures later { AreLaterCounts (counts_of hub.old.store) (counts_of hub.new.store) }
+    ensures asks { AsksOnly St.told hub.old hub.new
+        (C.stamps clock.old) (C.stamps clock.new) result }
 {
     let front = front(alloc, hub, session, clock)?;
     ask(
@@ -194,11 +183,8 @@ fn undo_log<St: Store, C: Clock>(
     clock: &mut C,
 ) -> Result<ListOf<Text8>, AskError>
     ensures lines { St.told → (m : Machine) → StandsForMachine hub.old m → IfOk result (λ lines. lines ≡ map log_text (undo_log_of m.list)) }
-    ensures keeps { St.told → (m : Machine) → StandsForMachine hub.old m → hub.old.store.broken ≡ false → KeepsList m hub.old hub.new (C.stamps clock.old) (C.stamps clock.new) }
-    ensures failed { IsErrOf result AskError.ReadFault → Rose hub.old.store.read_faults hub.new.store.read_faults }
-    ensures calm { ¬ IsErrOf result AskError.ReadFault → counts_of hub.new.store ≡ counts_of hub.old.store }
-    ensures others { hub.new.store.faults ≡ hub.old.store.faults }
-    ensures later { AreLaterCounts (counts_of hub.old.store) (counts_of hub.new.store) }
+    ensures asks { AsksOnly St.told hub.old hub.new
+        (C.stamps clock.old) (C.stamps clock.new) result }
 {
     match ask(alloc, hub, session, Request::UndoLog, clock)? {
         Reply::UndoLog { list } => Ok(log_lines(alloc, list.as_slice())?),
@@ -214,11 +200,8 @@ fn history<St: Store, C: Clock>(
     clock: &mut C,
 ) -> Result<ListOf<Text8>, AskError>
     ensures lines { St.told → (m : Machine) → StandsForMachine hub.old m → IfOk result (λ lines. lines ≡ map revision_text (history_of oid m.list)) }
-    ensures keeps { St.told → (m : Machine) → StandsForMachine hub.old m → hub.old.store.broken ≡ false → KeepsList m hub.old hub.new (C.stamps clock.old) (C.stamps clock.new) }
-    ensures failed { IsErrOf result AskError.ReadFault → Rose hub.old.store.read_faults hub.new.store.read_faults }
-    ensures calm { ¬ IsErrOf result AskError.ReadFault → counts_of hub.new.store ≡ counts_of hub.old.store }
-    ensures others { hub.new.store.faults ≡ hub.old.store.faults }
-    ensures later { AreLaterCounts (counts_of hub.old.store) (counts_of hub.new.store) }
+    ensures asks { AsksOnly St.told hub.old hub.new
+        (C.stamps clock.old) (C.stamps clock.new) result }
 {
     match ask(alloc, hub, session, Request::History { oid }, clock)? {
         Reply::History { list } => Ok(revision_lines(alloc, list.as_slice())?),
@@ -234,11 +217,8 @@ fn show<St: Store, C: Clock>(
     clock: &mut C,
 ) -> Result<ListOf<Text8>, AskError>
     ensures lines { St.told → (m : Machine) → StandsForMachine hub.old m → hub.old.store.broken ≡ false → IfOk result (λ lines. lines ≡ shown (last_of oid m.list) ∷ []) }
-    ensures keeps { St.told → (m : Machine) → StandsForMachine hub.old m → hub.old.store.broken ≡ false → KeepsList m hub.old hub.new (C.stamps clock.old) (C.stamps clock.new) }
-    ensures failed { IsErrOf result AskError.ReadFault → Rose hub.old.store.read_faults hub.new.store.read_faults }
-    ensures calm { ¬ IsErrOf result AskError.ReadFault → counts_of hub.new.store ≡ counts_of hub.old.store }
-    ensures others { hub.new.store.faults ≡ hub.old.store.faults }
-    ensures later { AreLaterCounts (counts_of hub.old.store) (counts_of hub.new.store) }
+    ensures asks { AsksOnly St.told hub.old hub.new
+        (C.stamps clock.old) (C.stamps clock.new) result }
 {
     let reply = load_last(alloc, hub, session, oid, clock)?;
     Ok(only_line(alloc, show_line(alloc, &reply)?)?)
@@ -252,11 +232,8 @@ fn digest<St: Store, C: Clock>(
     clock: &mut C,
 ) -> Result<ListOf<Text8>, AskError>
     ensures lines { St.told → (m : Machine) → StandsForMachine hub.old m → hub.old.store.broken ≡ false → IfOk result (λ lines. lines ≡ digested (last_of oid m.list) ∷ []) }
-    ensures keeps { St.told → (m : Machine) → StandsForMachine hub.old m → hub.old.store.broken ≡ false → KeepsList m hub.old hub.new (C.stamps clock.old) (C.stamps clock.new) }
-    ensures failed { IsErrOf result AskError.ReadFault → Rose hub.old.store.read_faults hub.new.store.read_faults }
-    ensures calm { ¬ IsErrOf result AskError.ReadFault → counts_of hub.new.store ≡ counts_of hub.old.store }
-    ensures others { hub.new.store.faults ≡ hub.old.store.faults }
-    ensures later { AreLaterCounts (counts_of hub.old.store) (counts_of hub.new.store) }
+    ensures asks { AsksOnly St.told hub.old hub.new
+        (C.stamps clock.old) (C.stamps clock.new) result }
 {
     let reply = load_last(alloc, hub, session, oid, clock)?;
     Ok(only_line(alloc, digested_line(alloc, &reply)?)?)
@@ -271,11 +248,8 @@ fn session_lines<St: Store, C: Clock>(
     clock: &mut C,
 ) -> Result<ListOf<Text8>, AskError>
     ensures lines { St.told → (m : Machine) → StandsForMachine hub.old m → hub.old.store.broken ≡ false → IfOk result (λ lines. lines ≡ lines_of asked m.list) }
-    ensures keeps { St.told → (m : Machine) → StandsForMachine hub.old m → hub.old.store.broken ≡ false → KeepsList m hub.old hub.new (C.stamps clock.old) (C.stamps clock.new) }
-    ensures failed { IsErrOf result AskError.ReadFault → Rose hub.old.store.read_faults hub.new.store.read_faults }
-    ensures calm { ¬ IsErrOf result AskError.ReadFault → counts_of hub.new.store ≡ counts_of hub.old.store }
-    ensures others { hub.new.store.faults ≡ hub.old.store.faults }
-    ensures later { AreLaterCounts (counts_of hub.old.store) (counts_of hub.new.store) }
+    ensures asks { AsksOnly St.told hub.old hub.new
+        (C.stamps clock.old) (C.stamps clock.new) result }
 {
     match asked {
         Asked::UndoLog => undo_log(alloc, hub, session, clock),
@@ -294,11 +268,8 @@ fn hub_lines<St: Store, C: Clock>(
     clock: &mut C,
 ) -> Result<ListOf<Text8>, AskError>
     ensures lines { St.told → (m : Machine) → StandsForMachine hub.old m → hub.old.store.broken ≡ false → IfOk result (λ lines. lines ≡ lines_of asked m.list) }
-    ensures keeps { St.told → (m : Machine) → StandsForMachine hub.old m → hub.old.store.broken ≡ false → KeepsList m hub.old hub.new (C.stamps clock.old) (C.stamps clock.new) }
-    ensures failed { IsErrOf result AskError.ReadFault → Rose hub.old.store.read_faults hub.new.store.read_faults }
-    ensures calm { ¬ IsErrOf result AskError.ReadFault → counts_of hub.new.store ≡ counts_of hub.old.store }
-    ensures others { hub.new.store.faults ≡ hub.old.store.faults }
-    ensures later { AreLaterCounts (counts_of hub.old.store) (counts_of hub.new.store) }
+    ensures asks { AsksOnly St.told hub.old hub.new
+        (C.stamps clock.old) (C.stamps clock.new) result }
 {
     match hub.open_session() {
         Ok(session) => session_lines(alloc, hub, session, asked, clock),
@@ -316,13 +287,10 @@ pub(crate) fn store_lines<St: Store, C: Clock>(
     requires whole { (St.state store).broken ≡ false }
     requires free { (St.state store).voted ≡ None }
     ensures lines { St.told → IfOk result.0 (λ lines. lines ≡ lines_of asked (St.state store).list) }
-    ensures keeps { St.told → KeepsStore (St.state store) (St.state result.1) (C.stamps clock.old) (C.stamps clock.new) }
-    ensures images { St.lasts → (St.state result.1).broken ≡ false →
-        Leaves Main (λ bytes. St.stands bytes (St.state result.1).list) (St.state result.1).log }
+    ensures leaves { LeavesStore St.told St.lasts St.stands (St.state store) (St.state result.1)
+        (C.stamps clock.old) (C.stamps clock.new) }
     ensures failed { IsErrOf result.0 AskError.ReadFault → Rose (St.state store).read_faults (St.state result.1).read_faults }
     ensures calm { ¬ IsErrOf result.0 AskError.ReadFault → counts_of (St.state result.1) ≡ counts_of (St.state store) }
-    ensures others { (St.state result.1).faults ≡ (St.state store).faults }
-    ensures later { AreLaterCounts (counts_of (St.state store)) (counts_of (St.state result.1)) }
 {
     let mut hub = Hub::new(alloc, store, StockResolver, StockRefs);
     let lines = hub_lines(alloc, &mut hub, asked, clock);

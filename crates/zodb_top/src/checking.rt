@@ -1,14 +1,12 @@
 //! A tree of the file is checked, by steps of one session of a hub.
 
-ghost use Rattle.std.specs.Prelude.{◌≡◌, ◌∷◌, ◌++◌, [], ℕ, false, decimal, IfOk, IsErrOf, OnOk};
+ghost use Rattle.std.specs.Prelude.{◌≡◌, ◌∷◌, ◌++◌, [], ℕ, false, decimal, IfOk, OnOk};
 ghost use Rattle.btree_checking.specs.declared.verdict.Verdict.TheVariants as verdict;
 ghost use Rattle.btree_checking.specs.Fed.{HasLessRoom, IsCheckOf, IsProgressOf, room_of};
-ghost use Rattle.zb_base.specs.Counts.{Rose};
-ghost use Rattle.zodb_core.specs.HubState.{StandsForMachine, counts_of};
+ghost use Rattle.zodb_core.specs.HubState.{StandsForMachine};
 ghost use Rattle.zodb_core.specs.Machine.{Machine, front_of};
-ghost use Rattle.zodb_core.specs.Outcomes.{AreLaterCounts};
 ghost use Rattle.zodb_top.specs.Asked.{last_contents, last_verdict};
-ghost use Rattle.zodb_top.specs.Asking.{KeepsList, reply_content};
+ghost use Rattle.zodb_top.specs.Asking.{AsksOnly, reply_content};
 ghost use Rattle.zodb_top.specs.Texts.{verdict_line};
 
 use crate::asking::{AskError, ask, front, only_line};
@@ -83,11 +81,8 @@ fn content_below<St: Store, C: Clock>(
     clock: &mut C,
 ) -> Result<Option<Text8>, AskError>
     ensures content { St.told → (m : Machine) → StandsForMachine hub.old m → front ≡ front_of m.list → IfOk result (λ content. content ≡ last_contents m.list oid) }
-    ensures keeps { St.told → (m : Machine) → StandsForMachine hub.old m → hub.old.store.broken ≡ false → KeepsList m hub.old hub.new (C.stamps clock.old) (C.stamps clock.new) }
-    ensures failed { IsErrOf result AskError.ReadFault → Rose hub.old.store.read_faults hub.new.store.read_faults }
-    ensures calm { ¬ IsErrOf result AskError.ReadFault → counts_of hub.new.store ≡ counts_of hub.old.store }
-    ensures others { hub.new.store.faults ≡ hub.old.store.faults }
-    ensures later { AreLaterCounts (counts_of hub.old.store) (counts_of hub.new.store) }
+    ensures asks { AsksOnly St.told hub.old hub.new
+        (C.stamps clock.old) (C.stamps clock.new) result }
 {
     let reply = ask(
         alloc,
@@ -111,11 +106,8 @@ fn feed<St: Store, C: Clock>(
     ensures progress { St.told → (m : Machine) → StandsForMachine hub.old m → front ≡ front_of m.list
         → (root : ℕ) → IsCheckOf (last_contents m.list) root check → IfOk result (IsProgressOf (last_contents m.list) root) }
     ensures room { IfOk result (HasLessRoom (room_of check)) }
-    ensures keeps { St.told → (m : Machine) → StandsForMachine hub.old m → hub.old.store.broken ≡ false → KeepsList m hub.old hub.new (C.stamps clock.old) (C.stamps clock.new) }
-    ensures failed { IsErrOf result AskError.ReadFault → Rose hub.old.store.read_faults hub.new.store.read_faults }
-    ensures calm { ¬ IsErrOf result AskError.ReadFault → counts_of hub.new.store ≡ counts_of hub.old.store }
-    ensures others { hub.new.store.faults ≡ hub.old.store.faults }
-    ensures later { AreLaterCounts (counts_of hub.old.store) (counts_of hub.new.store) }
+    ensures asks { AsksOnly St.told hub.old hub.new
+        (C.stamps clock.old) (C.stamps clock.new) result }
 {
     let content = content_below(alloc, hub, session, check.wanted(), front, clock)?;
     Ok(check.told(alloc, &content)?)
@@ -132,11 +124,8 @@ fn run<St: Store, C: Clock>(
 ) -> Result<Verdict, AskError>
     ensures verdict { St.told → (m : Machine) → StandsForMachine hub.old m → hub.old.store.broken ≡ false → front ≡ front_of m.list
         → (root : ℕ) → IsCheckOf (last_contents m.list) root check → IfOk result (λ v. v ≡ last_verdict root m.list) }
-    ensures keeps { St.told → (m : Machine) → StandsForMachine hub.old m → hub.old.store.broken ≡ false → KeepsList m hub.old hub.new (C.stamps clock.old) (C.stamps clock.new) }
-    ensures failed { IsErrOf result AskError.ReadFault → Rose hub.old.store.read_faults hub.new.store.read_faults }
-    ensures calm { ¬ IsErrOf result AskError.ReadFault → counts_of hub.new.store ≡ counts_of hub.old.store }
-    ensures others { hub.new.store.faults ≡ hub.old.store.faults }
-    ensures later { AreLaterCounts (counts_of hub.old.store) (counts_of hub.new.store) }
+    ensures asks { AsksOnly St.told hub.old hub.new
+        (C.stamps clock.old) (C.stamps clock.new) result }
 {
     let mut check = check;
     'steps: loop {
@@ -156,11 +145,8 @@ fn last_verdict<St: Store, C: Clock>(
     clock: &mut C,
 ) -> Result<Verdict, AskError>
     ensures verdict { St.told → (m : Machine) → StandsForMachine hub.old m → hub.old.store.broken ≡ false → IfOk result (λ v. v ≡ last_verdict root m.list) }
-    ensures keeps { St.told → (m : Machine) → StandsForMachine hub.old m → hub.old.store.broken ≡ false → KeepsList m hub.old hub.new (C.stamps clock.old) (C.stamps clock.new) }
-    ensures failed { IsErrOf result AskError.ReadFault → Rose hub.old.store.read_faults hub.new.store.read_faults }
-    ensures calm { ¬ IsErrOf result AskError.ReadFault → counts_of hub.new.store ≡ counts_of hub.old.store }
-    ensures others { hub.new.store.faults ≡ hub.old.store.faults }
-    ensures later { AreLaterCounts (counts_of hub.old.store) (counts_of hub.new.store) }
+    ensures asks { AsksOnly St.told hub.old hub.new
+        (C.stamps clock.old) (C.stamps clock.new) result }
 {
     let front = front(alloc, hub, session, clock)?;
     let check = Checking::new(alloc, root);
@@ -176,11 +162,8 @@ pub(crate) fn check<St: Store, C: Clock>(
     clock: &mut C,
 ) -> Result<ListOf<Text8>, AskError>
     ensures lines { St.told → (m : Machine) → StandsForMachine hub.old m → hub.old.store.broken ≡ false → IfOk result (λ lines. lines ≡ verdict_line (last_verdict root m.list) ∷ []) }
-    ensures keeps { St.told → (m : Machine) → StandsForMachine hub.old m → hub.old.store.broken ≡ false → KeepsList m hub.old hub.new (C.stamps clock.old) (C.stamps clock.new) }
-    ensures failed { IsErrOf result AskError.ReadFault → Rose hub.old.store.read_faults hub.new.store.read_faults }
-    ensures calm { ¬ IsErrOf result AskError.ReadFault → counts_of hub.new.store ≡ counts_of hub.old.store }
-    ensures others { hub.new.store.faults ≡ hub.old.store.faults }
-    ensures later { AreLaterCounts (counts_of hub.old.store) (counts_of hub.new.store) }
+    ensures asks { AsksOnly St.told hub.old hub.new
+        (C.stamps clock.old) (C.stamps clock.new) result }
 {
     let verdict = last_verdict(alloc, hub, session, root, clock)?;
     Ok(only_line(alloc, verdict_line(alloc, verdict)?)?)

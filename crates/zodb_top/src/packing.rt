@@ -1,6 +1,6 @@
 //! The command `pack`: the list of the file in Main is packed in one step of a session.
 
-ghost use Rattle.std.specs.Prelude.{◌≡◌, ◌≢◌, ◌≤◌, [], ◌∷◌, ◌++◌, None, Option, List, ℕ, false, true};
+ghost use Rattle.std.specs.Prelude.{◌≡◌, ◌≤◌, [], ◌∷◌, ◌++◌, None, Option, List, ℕ, false};
 ghost use Rattle.file_store.specs.Hinting.{HasHonestHint, LeavesHonest};
 ghost use Rattle.fs_records.specs.File.{StandsFor};
 ghost use Rattle.fs_recovery.specs.Opens.{IsNoList};
@@ -9,11 +9,10 @@ ghost use Rattle.zb_model.specs.declared.data.Transaction.{Transaction};
 ghost use Rattle.zb_volume.specs.declared.areas.Area.TheVariants.{Main};
 ghost use Rattle.zb_volume.specs.Disk.{IsSettled, seen};
 ghost use Rattle.zb_volume.specs.Moments.{Leaves, LeavesOnly};
-ghost use Rattle.zodb_core.specs.HubState.{IsCauseOf, StandsForMachine, counts_of};
+ghost use Rattle.zodb_core.specs.HubState.{StandsForMachine};
 ghost use Rattle.zodb_core.specs.Machine.{machine_over};
-ghost use Rattle.zodb_core.specs.Outcomes.{AreLaterCounts, StoreFailed, outcome_of};
 ghost use Rattle.zodb_top.specs.Outside.{outside};
-ghost use Rattle.zodb_top.specs.PackStores.{IsStorePacked, IsToldAs, PacksStore};
+ghost use Rattle.zodb_top.specs.PackStores.{CountsOver, CountsPack, IsStorePacked, IsToldAs, PacksStore};
 ghost use Rattle.zodb_top.specs.Telling.{told_of};
 ghost use Rattle.zodb_top.specs.Packs.{IsListOrPacked, PackSays, ReplySays};
 ghost use Rattle.script_runs.specs.Outcomes.{IsUnlessMemory};
@@ -46,9 +45,7 @@ fn pack_hub<St: Store, C: Clock>(
     ensures moments { St.lasts → St.told → StandsForMachine hub.old (machine_over hub.old.store.list) →
         Leaves Main (λ bytes. St.stands bytes hub.old.store.list) hub.old.store.log →
         LeavesOnly Main (IsListOrPacked St.stands pack hub.old.store.list) hub.old.store.log hub.new.store.log }
-    ensures cause { IsCauseOf (counts_of hub.old.store) (counts_of hub.new.store) (outcome_of result) }
-    ensures others { ¬ (outcome_of result ≡ StoreFailed) → hub.new.store.faults ≡ hub.old.store.faults }
-    ensures later { AreLaterCounts (counts_of hub.old.store) (counts_of hub.new.store) }
+    ensures counts { CountsPack hub.old.store hub.new.store result }
 {
     match hub.open_session() {
         Ok(session) => {
@@ -75,9 +72,7 @@ fn pack_store<St: Store, C: Clock>(
     ensures moments { St.lasts → St.told → LeavesOnly Main (IsListOrPacked St.stands pack (St.state store).list) (St.state store).log (St.state result.1).log }
     ensures images { St.lasts → (St.state result.1).broken ≡ false →
         Leaves Main (λ bytes. St.stands bytes (St.state result.1).list) (St.state result.1).log }
-    ensures cause { IsCauseOf (counts_of (St.state store)) (counts_of (St.state result.1)) (outcome_of result.0) }
-    ensures others { ¬ (outcome_of result.0 ≡ StoreFailed) → (St.state result.1).faults ≡ (St.state store).faults }
-    ensures later { AreLaterCounts (counts_of (St.state store)) (counts_of (St.state result.1)) }
+    ensures counts { CountsPack (St.state store) (St.state result.1) result.0 }
 {
     let mut hub = Hub::new(alloc, store, StockResolver, StockRefs);
     let reply = pack_hub(alloc, &mut hub, pack, clock);
@@ -155,9 +150,8 @@ fn pack_over<St: Store, K: Sink, C: Clock>(
     ensures packs { PacksStore result.0 St.told St.lasts St.stands pack cut (K.taken sink.old) (K.taken sink.new) (K.faults sink.old) (K.faults sink.new)
         (St.state store) (St.state result.1) (C.stamps clock.old) (C.stamps clock.new) }
     ensures complete { ¬ Rose (St.state store).faults (St.state result.1).faults → ¬ Rose (K.faults sink.old) (K.faults sink.new) → IsUnlessMemory result.0 Status.Done }
-    ensures others { ¬ (result.0 ≡ Status.StoreFault) → (St.state result.1).faults ≡ (St.state store).faults }
-    ensures sink_counted { K.faults sink.old ≤ K.faults sink.new }
-    ensures later { AreLaterCounts (counts_of (St.state store)) (counts_of (St.state result.1)) }
+    ensures counts { CountsOver result.0 (K.faults sink.old) (K.faults sink.new)
+        (St.state store) (St.state result.1) }
 {
     let Ok(lines) = cut_lines(alloc, cut) else {
         return (Status::NoMemory, store);

@@ -23,5 +23,5 @@ returns-clause-hub g c =
     (link_is _ _ _ _ _ _ _ _ _ _ _ _ _ _ (ap (λ k. k.hub.now) c.new-remote.ensures.carrier ∙ c.new-carrier.ensures.hub) (ap (λ k. g.C.Clock.stamps k.clock.now) c.new-remote.ensures.carrier ∙ ap g.C.Clock.stamps c.new-carrier.ensures.clock)
     (ap (λ k. k.packs) c.new-remote.ensures.carrier ∙ c.new-carrier.ensures.packs) (ap (λ k. k.trouble) c.new-remote.ensures.carrier ∙ c.new-carrier.ensures.trouble)
     (ap (λ k. k.session) c.new-remote.ensures.carrier ∙ c.new-carrier.ensures.session) (ap (λ k. k.desk.now) c.new-remote.ensures.carrier ∙ c.new-carrier.ensures.desk) c.new-remote.ensures.client)
-    (link_is _ _ _ _ _ _ _ _ _ _ _ _ _ _ (search rules) refl refl refl (c.read_over-read.ensures.session ∙ (ap (λ k. k.session) c.new-remote.ensures.carrier ∙ c.new-carrier.ensures.session)) refl refl)
-    _ c.read_over-read.new.connection c.args.oid c.read_over-read.result c.settled_read.result c.read_over-read.ensures.got c.settled_read.ensures c.read_over-read.ensures.later
+    (link_is _ _ _ _ _ _ _ _ _ _ _ _ _ _ (search rules) refl refl refl (c.read_over-read.ensures.keeps.session ∙ (ap (λ k. k.session) c.new-remote.ensures.carrier ∙ c.new-carrier.ensures.session)) refl refl)
+    _ c.read_over-read.new.connection c.args.oid c.read_over-read.result c.settled_read.result c.read_over-read.ensures.got c.settled_read.ensures c.read_over-read.ensures.keeps.later

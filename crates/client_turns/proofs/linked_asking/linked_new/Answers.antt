@@ -23,5 +23,5 @@ returns-clause-hub g c =
     (link_is _ _ _ _ _ _ _ _ _ _ _ _ _ _ (ap (λ k. k.hub.now) c.new-remote.ensures.carrier ∙ c.new-carrier.ensures.hub) (ap (λ k. g.C.Clock.stamps k.clock.now) c.new-remote.ensures.carrier ∙ ap g.C.Clock.stamps c.new-carrier.ensures.clock)
     (ap (λ k. k.packs) c.new-remote.ensures.carrier ∙ c.new-carrier.ensures.packs) (ap (λ k. k.trouble) c.new-remote.ensures.carrier ∙ c.new-carrier.ensures.trouble)
     (ap (λ k. k.session) c.new-remote.ensures.carrier ∙ c.new-carrier.ensures.session) (ap (λ k. k.desk.now) c.new-remote.ensures.carrier ∙ c.new-carrier.ensures.desk) c.new-remote.ensures.client)
-    (link_is _ _ _ _ _ _ _ _ _ _ _ _ _ _ (search rules) refl refl refl (c.number_over-number.ensures.session ∙ (ap (λ k. k.session) c.new-remote.ensures.carrier ∙ c.new-carrier.ensures.session)) refl refl)
-    c.number_over-number.result c.settled.result c.number_over-number.ensures.number (c.settled.ensures ∙ ap (λ z. settled z c.number_over-number.new.remote.carrier.trouble) c.number_answer.ensures) c.number_over-number.ensures.later
+    (link_is _ _ _ _ _ _ _ _ _ _ _ _ _ _ (search rules) refl refl refl (c.number_over-number.ensures.keeps.session ∙ (ap (λ k. k.session) c.new-remote.ensures.carrier ∙ c.new-carrier.ensures.session)) refl refl)
+    c.number_over-number.result c.settled.result c.number_over-number.ensures.number (c.settled.ensures ∙ ap (λ z. settled z c.number_over-number.new.remote.carrier.trouble) c.number_answer.ensures) c.number_over-number.ensures.keeps.later

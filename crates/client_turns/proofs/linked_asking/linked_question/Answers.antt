@@ -22,5 +22,5 @@ returns-clause-hub g c =
     (link_is _ _ _ _ _ _ _ _ _ _ _ _ _ _ (ap (λ k. k.hub.now) c.new-remote.ensures.carrier ∙ c.new-carrier.ensures.hub) (ap (λ k. g.C.Clock.stamps k.clock.now) c.new-remote.ensures.carrier ∙ ap g.C.Clock.stamps c.new-carrier.ensures.clock)
     (ap (λ k. k.packs) c.new-remote.ensures.carrier ∙ (c.new-carrier.ensures.packs ∙ c.packs_list-packs.ensures)) (ap (λ k. k.trouble) c.new-remote.ensures.carrier ∙ c.new-carrier.ensures.trouble)
     (ap (λ k. k.session) c.new-remote.ensures.carrier ∙ c.new-carrier.ensures.session) (ap (λ k. k.desk.now) c.new-remote.ensures.carrier ∙ c.new-carrier.ensures.desk) c.new-remote.ensures.client)
-    (link_is _ _ _ _ _ _ _ _ _ _ _ _ _ _ (search rules) refl refl refl (c.question_over-answer.ensures.session ∙ (ap (λ k. k.session) c.new-remote.ensures.carrier ∙ c.new-carrier.ensures.session)) refl refl)
-    c.args.request c.question_over-answer.result c.settled.result c.requires.asks c.requires.question c.question_over-answer.ensures.asked c.settled.ensures c.question_over-answer.ensures.later
+    (link_is _ _ _ _ _ _ _ _ _ _ _ _ _ _ (search rules) refl refl refl (c.question_over-answer.ensures.keeps.session ∙ (ap (λ k. k.session) c.new-remote.ensures.carrier ∙ c.new-carrier.ensures.session)) refl refl)
+    c.args.request c.question_over-answer.result c.settled.result c.requires.asks c.requires.question c.question_over-answer.ensures.asked c.settled.ensures c.question_over-answer.ensures.keeps.later

@@ -1,3 +1,4 @@
+use Rattle.std.proofs.Common.{ap}
 use Rattle.client_turns.proofs.OverCalls.{change_called, same_later}
 use Rattle.client_turns.proofs.over.delete_over.Goals as goal
 
@@ -5,6 +6,10 @@ pub returns-clause-line : goal.returns-clause-line
 returns-clause-line g c =
     change_called (λ s. s.carrier) (λ s. s.client.now) g.W.Carrier.faults g.W.Carrier.closed g.W.Carrier.told g.W.Carrier.end g.W.Carrier.desk g.W.Carrier.session g.W.Carrier.machine g.W.Carrier.steps g.W.Carrier.later c.args.connection.now c.delete.new.self c.args.remote.now c.delete.new._loads _ _ c.delete.result c.delete.ensures.leaves c.delete.ensures.view c.delete.ensures.between c.delete.ensures.loads c.answered.result c.answered.ensures
 
-pub returns-clause-later : goal.returns-clause-later
-returns-clause-later g c =
-    same_later (λ s. s.carrier) (λ s. s.client.now) g.W.Carrier.faults g.W.Carrier.closed g.W.Carrier.told g.W.Carrier.end g.W.Carrier.desk g.W.Carrier.session g.W.Carrier.machine g.W.Carrier.steps g.W.Carrier.later (λ w. g.met.W.Carrier.at_once w) c.args.remote.now c.delete.new._loads c.delete.ensures.loads
+pub returns-clause-keeps : goal.returns-clause-keeps
+returns-clause-keeps g c = record {
+  client_place = ap (λ s. s.client.ghost_name) c.delete.ensures.loads;
+  session = ap (λ s. g.W.Carrier.session s.carrier) c.delete.ensures.loads;
+  inner_place = ap (λ s. g.W.Carrier.place s.carrier) c.delete.ensures.loads;
+  later = same_later (λ s. s.carrier) (λ s. s.client.now) g.W.Carrier.faults g.W.Carrier.closed g.W.Carrier.told g.W.Carrier.end g.W.Carrier.desk g.W.Carrier.session g.W.Carrier.machine g.W.Carrier.steps g.W.Carrier.later (λ w. g.met.W.Carrier.at_once w) c.args.remote.now c.delete.new._loads c.delete.ensures.loads;
+}

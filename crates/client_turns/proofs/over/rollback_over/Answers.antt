@@ -1,3 +1,4 @@
+use Rattle.std.proofs.Common.{ap}
 use Rattle.client_turns.proofs.OverCalls.{change_called, same_later}
 use Rattle.client_turns.proofs.over.rollback_over.Goals as goal
 
@@ -5,6 +6,10 @@ pub returns-clause-line : goal.returns-clause-line
 returns-clause-line g c =
     change_called (λ s. s.carrier) (λ s. s.client.now) g.W.Carrier.faults g.W.Carrier.closed g.W.Carrier.told g.W.Carrier.end g.W.Carrier.desk g.W.Carrier.session g.W.Carrier.machine g.W.Carrier.steps g.W.Carrier.later c.args.connection.now c.rollback.new.self c.args.remote.now c.rollback.new._loads _ _ c.rollback.result c.rollback.ensures.leaves c.rollback.ensures.view c.rollback.ensures.between c.rollback.ensures.loads c.answered.result c.answered.ensures
 
-pub returns-clause-later : goal.returns-clause-later
-returns-clause-later g c =
-    same_later (λ s. s.carrier) (λ s. s.client.now) g.W.Carrier.faults g.W.Carrier.closed g.W.Carrier.told g.W.Carrier.end g.W.Carrier.desk g.W.Carrier.session g.W.Carrier.machine g.W.Carrier.steps g.W.Carrier.later (λ w. g.met.W.Carrier.at_once w) c.args.remote.now c.rollback.new._loads c.rollback.ensures.loads
+pub returns-clause-keeps : goal.returns-clause-keeps
+returns-clause-keeps g c = record {
+  client_place = ap (λ s. s.client.ghost_name) c.rollback.ensures.loads;
+  session = ap (λ s. g.W.Carrier.session s.carrier) c.rollback.ensures.loads;
+  inner_place = ap (λ s. g.W.Carrier.place s.carrier) c.rollback.ensures.loads;
+  later = same_later (λ s. s.carrier) (λ s. s.client.now) g.W.Carrier.faults g.W.Carrier.closed g.W.Carrier.told g.W.Carrier.end g.W.Carrier.desk g.W.Carrier.session g.W.Carrier.machine g.W.Carrier.steps g.W.Carrier.later (λ w. g.met.W.Carrier.at_once w) c.args.remote.now c.rollback.new._loads c.rollback.ensures.loads;
+}

@@ -8,15 +8,10 @@ returns-clause-line g c =
     undo_called (λ s. s.carrier) (λ s. s.client.now) g.W.Carrier.faults g.W.Carrier.closed g.W.Carrier.told g.W.Carrier.end g.W.Carrier.desk g.W.Carrier.session g.W.Carrier.machine g.W.Carrier.steps g.W.Carrier.later c.args.connection.now c.undo.new.self c.args.remote.now c.undo.new.loads c.args.user.now c.args.description.now c.args.tids.now c.undo.result c.undo.ensures.voted c.undo.ensures.err c.undo.ensures.view c.undo.ensures.refused c.undo.ensures.makes
     c.heard_of.result c.heard_of.ensures c.answered.result c.answered.ensures
 
-pub returns-clause-later : goal.returns-clause-later
-returns-clause-later g c =
-    undo_later (λ s. s.carrier) (λ s. s.client.now) g.W.Carrier.faults g.W.Carrier.closed g.W.Carrier.told g.W.Carrier.end g.W.Carrier.desk g.W.Carrier.session g.W.Carrier.machine g.W.Carrier.steps g.W.Carrier.later (λ w. g.met.W.Carrier.at_once w) c.args.remote.now c.undo.new.loads c.args.connection.now c.undo.new.self c.args.user.now c.args.description.now c.args.tids.now c.undo.result (followed_by (changeable (work_of c.args.connection.now)) unmixed) c.undo.ensures.refused c.undo.ensures.makes
-
-pub returns-clause-client_place : goal.returns-clause-client_place
-returns-clause-client_place g c = ap (λ p. p.0) c.undo.ensures.place
-
-pub returns-clause-session : goal.returns-clause-session
-returns-clause-session g c = ap (λ p. p.2) c.undo.ensures.place
-
-pub returns-clause-inner_place : goal.returns-clause-inner_place
-returns-clause-inner_place g c = ap (λ p. p.1) c.undo.ensures.place
+pub returns-clause-keeps : goal.returns-clause-keeps
+returns-clause-keeps g c = record {
+  client_place = ap (λ p. p.0) c.undo.ensures.place;
+  session = ap (λ p. p.2) c.undo.ensures.place;
+  inner_place = ap (λ p. p.1) c.undo.ensures.place;
+  later = undo_later (λ s. s.carrier) (λ s. s.client.now) g.W.Carrier.faults g.W.Carrier.closed g.W.Carrier.told g.W.Carrier.end g.W.Carrier.desk g.W.Carrier.session g.W.Carrier.machine g.W.Carrier.steps g.W.Carrier.later (λ w. g.met.W.Carrier.at_once w) c.args.remote.now c.undo.new.loads c.args.connection.now c.undo.new.self c.args.user.now c.args.description.now c.args.tids.now c.undo.result (followed_by (changeable (work_of c.args.connection.now)) unmixed) c.undo.ensures.refused c.undo.ensures.makes;
+}

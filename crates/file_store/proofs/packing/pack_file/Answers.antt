@@ -1,4 +1,4 @@
-use Rattle.std.proofs.Common.{◌≡◌, List, ℕ, refl, sym, ap, subst, ◌∙◌}
+use Rattle.std.proofs.Common.{◌≡◌, List, ℕ, refl, rules, sym, ap, subst, ◌∙◌}
 use Rattle.std.proofs.lemmas.Result.{err_from_is_err_and}
 use Rattle.zb_volume.specs.declared.areas.Area.TheVariants.{Main, Side, Hint}
 use Rattle.zb_volume.specs.Disk.{IsSettled, seen}
@@ -34,12 +34,6 @@ returns-in_err-copy_rest-clause-any_moment g c = λ told.
     let log = (g.V.Volume.state c.args.volume.now).log in
     copy_moments log (g.V.Volume.state c.copy_rest.new.volume).log (c.copy_rest.ensures.main told) (c.requires.settled told) (packed_by c.args.copy.tid c.args.keep.now (listed (seen log Main))) c.args.index.now.kept (c.requires.source told)
 
-pub returns-in_err-copy_rest-clause-hint : goal.returns-in_err-copy_rest-clause-hint
-returns-in_err-copy_rest-clause-hint g c = λ told settled honest. keeps_both _ _ honest (c.copy_rest.ensures.main told) (c.copy_rest.ensures.hint told)
-
-pub returns-in_err-close_hint-clause-main : goal.returns-in_err-close_hint-clause-main
-returns-in_err-close_hint-clause-main g c = λ told. unless_refused _ _ (main g (goal.at.returns-in_err-close_hint-clause-main g c).After-close_hint told)
-
 pub returns-in_err-close_hint-clause-any_moment : goal.returns-in_err-close_hint-clause-any_moment
 returns-in_err-close_hint-clause-any_moment g c = λ told.
     let log = (g.V.Volume.state c.args.volume.now).log in
@@ -52,14 +46,6 @@ until_closed g c told settled honest =
     let first = keeps_both _ _ honest (c.copy_rest.ensures.main told) (c.copy_rest.ensures.hint told) in
     let there = stays_settled _ _ (c.copy_rest.ensures.hint told) settled in
     joined_on _ _ _ first (closing _ _ (at_last _ _ first) there (c.close_hint.ensures.others told Main refl) (c.close_hint.ensures.any_moment told there))
-
-pub returns-in_err-close_hint-clause-hint : goal.returns-in_err-close_hint-clause-hint
-returns-in_err-close_hint-clause-hint g c = λ told settled honest. until_closed g (goal.at.returns-in_err-close_hint-clause-hint g c).After-close_hint told settled honest
-
-pub returns-in_err-close_hint-clause-unclosed : goal.returns-in_err-close_hint-clause-unclosed
-returns-in_err-close_hint-clause-unclosed g c = λ told.
-    let p = err_from_is_err_and c.from_residual-in_err-close_hint.result c.from_residual-in_err-close_hint.ensures.1 in
-    unclosed (g.V.Volume.state c.args.volume.now) (g.V.Volume.state c.copy_rest.new.volume) (g.V.Volume.state c.close_hint.new.volume) c.from_residual-in_err-close_hint.result p.0 c.in_err-close_hint.field-0.0 p.1 p.2 c.in_err-close_hint.ensures.causes (c.copy_rest.ensures.hint told)
 
 pub returns-in_err-close_hint-clause-faults : goal.returns-in_err-close_hint-clause-faults
 returns-in_err-close_hint-clause-faults g c =
@@ -102,18 +88,49 @@ returns-in-Err-clause-any_moment g c = λ told.
     pack_moments log (g.V.Volume.state c.close_hint.new.volume).log (main g there told) (c.requires.settled told) (packed_by c.args.copy.tid c.args.keep.now (listed (seen log Main))) c.args.index.now.kept (g.V.Volume.state c.switch.new.volume).log c.copy_rest.new.to
     (c.requires.source told) (copied g there told) (side_list g there told) (c.switch.ensures.any_moment told)
 
-pub returns-in-Ok-clause-hint : goal.returns-in-Ok-clause-hint
-returns-in-Ok-clause-hint g c = λ told settled honest.
-    let there = stays_settled _ _ (c.copy_rest.ensures.hint told) settled in
-    joined_on _ _ _ (until_closed g (goal.at.returns-in-Ok-clause-hint g c).After-close_hint told settled honest) (closed_stays _ _ (c.in_ok-close_hint.ensures.closed told) (c.in_ok-close_hint.ensures.settled told there) (c.switch.ensures.hint told))
+pub returns-in_err-copy_rest-clause-writes : goal.returns-in_err-copy_rest-clause-writes
+returns-in_err-copy_rest-clause-writes g c = λ told. record {
+  main = unless_refused _ _ (c.copy_rest.ensures.main told);
+  hint = λ settled honest. keeps_both _ _ honest (c.copy_rest.ensures.main told) (c.copy_rest.ensures.hint told);
+  closed = λ settled. search rules;
+  unclosed = unless_refused _ _ (c.copy_rest.ensures.hint told);
+}
 
-pub returns-in-Err-clause-hint : goal.returns-in-Err-clause-hint
-returns-in-Err-clause-hint g c = λ told settled honest.
-    let there = stays_settled _ _ (c.copy_rest.ensures.hint told) settled in
-    joined_on _ _ _ (until_closed g (goal.at.returns-in-Err-clause-hint g c).After-close_hint told settled honest) (closed_stays _ _ (c.in_ok-close_hint.ensures.closed told) (c.in_ok-close_hint.ensures.settled told there) (c.switch.ensures.hint told))
+pub returns-in_err-close_hint-clause-writes : goal.returns-in_err-close_hint-clause-writes
+returns-in_err-close_hint-clause-writes g c = λ told.
+    let there = (goal.at.returns-in_err-close_hint-clause-writes g c).After-close_hint in
+    let p = err_from_is_err_and c.from_residual-in_err-close_hint.result c.from_residual-in_err-close_hint.ensures.1 in
+    record {
+      main = unless_refused _ _ (main g there told);
+      hint = λ settled honest. until_closed g there told settled honest;
+      closed = λ settled. search rules;
+      unclosed = unclosed (g.V.Volume.state c.args.volume.now) (g.V.Volume.state c.copy_rest.new.volume) (g.V.Volume.state c.close_hint.new.volume) c.from_residual-in_err-close_hint.result p.0 c.in_err-close_hint.field-0.0 p.1 p.2 c.in_err-close_hint.ensures.causes (c.copy_rest.ensures.hint told);
+    }
 
-pub returns-in-Ok-clause-closed : goal.returns-in-Ok-clause-closed
-returns-in-Ok-clause-closed g c = λ told settled.
-    let there = stays_settled _ _ (c.copy_rest.ensures.hint told) settled in
+pub returns-in-Ok-clause-writes : goal.returns-in-Ok-clause-writes
+returns-in-Ok-clause-writes g c = λ told.
+    let there = (goal.at.returns-in-Ok-clause-writes g c).After-close_hint in
+    let closed = c.in_ok-close_hint.ensures.closed told in
     let stays = c.switch.ensures.hint told in
-    (subst (λ (b : List ℕ). IsClosed b) (sym (seen_hint _ _ stays)) (c.in_ok-close_hint.ensures.closed told), stays_settled _ _ stays (c.in_ok-close_hint.ensures.settled told there))
+    record {
+      main = tt;
+      hint = λ settled honest.
+          let first = stays_settled _ _ (c.copy_rest.ensures.hint told) settled in
+          joined_on _ _ _ (until_closed g there told settled honest) (closed_stays _ _ closed (c.in_ok-close_hint.ensures.settled told first) stays);
+      closed = λ settled.
+          let first = stays_settled _ _ (c.copy_rest.ensures.hint told) settled in
+          (subst (λ (b : List ℕ). IsClosed b) (sym (seen_hint _ _ stays)) closed, stays_settled _ _ stays (c.in_ok-close_hint.ensures.settled told first));
+      unclosed = tt;
+    }
+
+pub returns-in-Err-clause-writes : goal.returns-in-Err-clause-writes
+returns-in-Err-clause-writes g c = λ told.
+    let there = (goal.at.returns-in-Err-clause-writes g c).After-close_hint in
+    record {
+      main = tt;
+      hint = λ settled honest.
+          let first = stays_settled _ _ (c.copy_rest.ensures.hint told) settled in
+          joined_on _ _ _ (until_closed g there told settled honest) (closed_stays _ _ (c.in_ok-close_hint.ensures.closed told) (c.in_ok-close_hint.ensures.settled told first) (c.switch.ensures.hint told));
+      closed = λ settled. tt;
+      unclosed = tt;
+    }

@@ -3,13 +3,13 @@ use Rattle.std.specs.Vec.Iter.{into_iter_items, into_iter_len}
 use Rattle.hub_carrier.proofs.Serves.{one_more, stopped}
 use Rattle.hub_carrier.proofs.serving.serve_messages.Goals as goal
 
-pub returns-in-Err-clause-served : goal.returns-in-Err-clause-served
-returns-in-Err-clause-served g c =
+pub returns-in-Err : goal.returns-in-Err
+returns-in-Err g c =
     let items : List (List ℕ) = into_iter_items c.loop-payload.payload-iterator in
     let left : List (List ℕ) = into_iter_items c.next.new.self in
     let payload : List ℕ = c.in-Some.payload in
     let is : items ≡ payload ∷ left = c.in-Some.ensures.steps.0 in
-    stopped _ _ _ _ _ items _ _ _ c.loop-payload.invariant.so payload _ left _ _ is c.as_slice.ensures.value c.in-Err.ensures.served
+    record { served = (stopped _ _ _ _ _ items _ _ _ c.loop-payload.invariant.so payload _ left _ _ is c.as_slice.ensures.value c.in-Err.ensures.served.0, c.in-Err.ensures.served.1) }
 
 pub loop-payload-preserved : goal.loop-payload-preserved
 loop-payload-preserved g c =

@@ -1,7 +1,8 @@
-use Rattle.std.proofs.Common.{ℕ, ◌<◌, ◌++◌, List, arith, ap, drop, length, length-append, length-take, ◌∙◌, sym, subst}
+use Rattle.std.proofs.Common.{ℕ, ◌<◌, ◌++◌, List, arith, inl, inr, ap, drop, length, length-append, length-take, ◌∙◌, sym, subst}
+use Rattle.zb_base.specs.Counts.{rose_after}
 use Rattle.zeo_desk.specs.Desks.{DeskState}
 use Rattle.zeo_session.specs.Serving.{HasServedSoFar}
-use Rattle.zeo_session.proofs.Links.{link_begun, link_on, link_over, link_stopped, link_unread}
+use Rattle.zeo_session.proofs.Links.{fault_rose, link_begun, link_on, link_over, link_stopped, link_unread}
 use Rattle.zeo_session.proofs.serving.serve_link.Goals as goal
 
 pub returns-in_default-clause-served : goal.returns-in_default-clause-served
@@ -35,6 +36,25 @@ returns-in-Err-served-clause-served g c =
     let so = c.serving.invariant.served in
     link_stopped _ _ _ _ _ _ _ _ _ _ _ _ so _ _ _ _ _ _ (c.in-Ok-next_payloads.ensures.come so.came so.given so.come) _ _ c.in-Err-served.is c.serve_payloads-behind.ensures.taken
 
+pub returns-in-Err-clause-faults : goal.returns-in-Err-clause-faults
+returns-in-Err-clause-faults g c =
+    let so = c.serving.invariant in
+    record {
+      counted_in = omega (arith, so.counted_in, c.next_payloads.ensures.faults.counted);
+      counted_out = so.counted_out;
+      fault = λ is. inl (rose_after _ _ _ so.counted_in (c.in-Err.ensures.faults.fault is));
+    }
+
+pub returns-in-Err-served-clause-faults : goal.returns-in-Err-served-clause-faults
+returns-in-Err-served-clause-faults g c =
+    let so = c.serving.invariant in
+    let sent = c.serve_payloads-behind.ensures.faults in
+    record {
+      counted_in = omega (arith, so.counted_in, c.next_payloads.ensures.faults.counted);
+      counted_out = omega (arith, so.counted_out, sent.counted);
+      fault = λ is. inr (rose_after _ _ _ so.counted_out (fault_rose _ _ _ _ c.in-Err-served.is sent is));
+    }
+
 pub serving-preserved : goal.serving-preserved
 serving-preserved g c =
     let so = c.serving.invariant.served in
@@ -44,7 +64,7 @@ serving-preserved g c =
       can = tt;
       finite = tt;
       some = omega (arith, c.serving.invariant.some, ap (λ (bs : List ℕ). length bs) c.deref_mut.ensures.value, c.deref_mut.ensures.len, c.next_payloads.auto.piece, length-take c.serving.piece.len (read ++ more), length-append read more);
-      counted_in = omega (arith, c.serving.invariant.counted_in, c.next_payloads.ensures.counted);
-      counted_out = omega (arith, c.serving.invariant.counted_out, c.serve_payloads-behind.ensures.counted);
+      counted_in = omega (arith, c.serving.invariant.counted_in, c.next_payloads.ensures.faults.counted);
+      counted_out = omega (arith, c.serving.invariant.counted_out, c.serve_payloads-behind.ensures.faults.counted);
       served = link_on _ _ _ _ _ _ _ _ _ _ _ _ so _ _ _ _ _ _ (c.in-Ok-next_payloads.ensures.come so.came so.given so.come) _ _ c.in_default-served.is c.serve_payloads-behind.ensures.taken;
     }

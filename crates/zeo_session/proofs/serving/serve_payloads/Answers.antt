@@ -28,7 +28,7 @@ loop-payload-preserved g c =
     let fewer : into_iter_len c.next.new.self + 1 ≡ into_iter_len c.loop-payload.payload-iterator = c.in-Some.ensures.steps.1 in
     record {
       ends = omega (arith, fewer, c.loop-payload.invariant.ends, ap (λ (ps : List (List ℕ)). length ps) is);
-      counted = omega (arith, c.loop-payload.invariant.counted, c.serve_message-behind.ensures.counted);
+      counted = omega (arith, c.loop-payload.invariant.counted, c.serve_message-behind.ensures.faults.counted);
       taken = λ s knows.
           next_served _ _ _ _ s _ _ _ _ _ _ _ _ _ _ _ _ _ _ is c.as_slice.ensures.value (c.loop-payload.invariant.taken s knows) c.serve_message-behind.ensures.taken _ c.in_default.is;
     }

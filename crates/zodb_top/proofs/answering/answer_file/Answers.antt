@@ -55,8 +55,8 @@ returns-in-Ok-clause-outcome g c =
         bytes = λ some. ((c.in-Ok.ensures.store.main told).reopened some).content;
         new_file = λ empty. ((c.in-Ok.ensures.store.main told).anew empty).new_file;
       };
-      keeps = c.answer_store-status.ensures.keeps told;
-      images = c.answer_store-status.ensures.images told (c.answer_store-status.ensures.keeps told).whole;
+      keeps = c.answer_store-status.ensures.leaves.keeps told;
+      images = c.answer_store-status.ensures.leaves.images told (c.answer_store-status.ensures.leaves.keeps told).whole;
     })
 
 pub returns-in-Ok-clause-left : goal.returns-in-Ok-clause-left
@@ -88,7 +88,7 @@ returns-in-Ok-clause-left g c = λ told.
       faults = (V.state t.volume).write_faults;
       read_faults = (V.state t.volume).read_faults;
     } in
-    left_open V.told before after state state' (C.stamps c.create_or_open.new.clock) (c.answer_store-status.ensures.keeps told) c.into_volume.ensures.log state.list c.in-Ok.cut
+    left_open V.told before after state state' (C.stamps c.create_or_open.new.clock) (c.answer_store-status.ensures.leaves.keeps told) c.into_volume.ensures.log state.list c.in-Ok.cut
     (λ here some. opens_as _ _ _ _ _ (λ some. ((c.in-Ok.ensures.store.main here).reopened some).opened) (λ empty. ((c.in-Ok.ensures.store.main here).anew empty).made) (c.in-Ok.ensures.clock.kept here) (c.in-Ok.ensures.clock.left here)) (λ here some. ((c.in-Ok.ensures.store.main here).reopened some).content)
     (record {
       stamps = c.in-Ok.ensures.clock.given;
@@ -124,7 +124,7 @@ returns-in-Err-clause-left g c = λ told. record {
 }
 
 pub returns-in-Ok-clause-others : goal.returns-in-Ok-clause-others
-returns-in-Ok-clause-others g c = λ other. c.into_volume.ensures.faults ∙ c.answer_store-status.ensures.others ∙ c.in-Ok.ensures.store.faults
+returns-in-Ok-clause-others g c = λ other. c.into_volume.ensures.faults ∙ c.answer_store-status.ensures.leaves.others ∙ c.in-Ok.ensures.store.faults
 
 pub returns-in-Err-clause-others : goal.returns-in-Err-clause-others
 returns-in-Err-clause-others g c = λ other. (c.in-Err.ensures.refused.cause.unfailed (unopened_other _ _ _ _ _ _ c.say_unopened.ensures.said other)).writes

@@ -1,12 +1,14 @@
-use Rattle.std.proofs.Common.{◌∙◌}
+use Rattle.std.proofs.Common.{refl, rules, ◌∙◌}
 use Rattle.zodb_top.proofs.Commands.{over_answer, store_same}
 use Rattle.zodb_top.proofs.answering.answer_store.Goals as goal
 
-pub returns-in_default-clause-keeps : goal.returns-in_default-clause-keeps
-returns-in_default-clause-keeps g c = λ told. store_same (g.St.Store.state c.args.store) (g.C.Clock.stamps c.args.clock.now) c.requires.whole
-
-pub returns-in_default-clause-images : goal.returns-in_default-clause-images
-returns-in_default-clause-images g c = λ lasts whole. g.met.St.Store.lasting c.args.store lasts whole
+pub returns-in_default-clause-leaves : goal.returns-in_default-clause-leaves
+returns-in_default-clause-leaves g c = record {
+  keeps = λ told. store_same (g.St.Store.state c.args.store) (g.C.Clock.stamps c.args.clock.now) c.requires.whole;
+  images = λ lasts whole. g.met.St.Store.lasting c.args.store lasts whole;
+  others = refl;
+  later = search rules;
+}
 
 pub returns-clause-says : goal.returns-clause-says
 returns-clause-says g c =

@@ -1,8 +1,9 @@
 -- A check to its end.
 use Rattle.std.proofs.Common.{refl, rules, sym, ap, ◌∙◌}
+use Rattle.std.proofs.lemmas.Result.{err_from_is_err_and}
 use Rattle.zodb_core.specs.Machine.{front_of}
-use Rattle.zodb_top.proofs.Asks.{keeps_all, keeps_on}
-use Rattle.zodb_top.proofs.Checks.{check_on, ended_on, later_on, wants_on}
+use Rattle.zodb_top.proofs.Asks.{asks_answered, asks_behind, asks_refused, keeps_all, keeps_on, later_on}
+use Rattle.zodb_top.proofs.Checks.{check_on, ended_on, wants_on}
 use Rattle.zodb_top.proofs.checking.run.Goals as goal
 
 pub steps-init : goal.steps-init
@@ -25,10 +26,10 @@ steps-preserved g c =
           (n.progress told k.left k.stands (at ∙ ap front_of (sym k.list)) root (check_on k.left.list m.list root c.steps.check k.list (i.check told m stands whole at root is)));
       keeps = λ told m stands whole.
           let k = i.keeps told m stands whole in
-          keeps_on m c.args.hub.now c.steps.hub c.feed.new.hub _ _ _ k (n.keeps told k.left k.stands k.whole);
-      calm = n.calm (λ is. absurd cc) ∙ i.calm;
-      others = n.others ∙ i.others;
-      later = later_on _ _ _ i.later n.later;
+          keeps_on m c.args.hub.now c.steps.hub c.feed.new.hub _ _ _ k (n.asks.keeps told k.left k.stands k.whole);
+      calm = n.asks.calm (λ is. absurd cc) ∙ i.calm;
+      others = n.asks.others ∙ i.others;
+      later = later_on _ _ _ i.later n.asks.later;
     }
 
 pub returns-in-Ended-clause-verdict : goal.returns-in-Ended-clause-verdict
@@ -37,12 +38,14 @@ returns-in-Ended-clause-verdict g c = λ told m stands whole at root is.
     ended_on k.left.list m.list root _ c.in-Ended.verdict k.list c.in-Ended.is
     (c.in_ok-next.ensures.progress told k.left k.stands (at ∙ ap front_of (sym k.list)) root (check_on k.left.list m.list root c.steps.check k.list (c.steps.invariant.check told m stands whole at root is)))
 
-pub returns-in_err-next-clause-keeps : goal.returns-in_err-next-clause-keeps
-returns-in_err-next-clause-keeps g c = λ told m stands whole.
-    let k = c.steps.invariant.keeps told m stands whole in
-    keeps_on m c.args.hub.now c.steps.hub c.feed.new.hub _ _ _ k (c.feed.ensures.keeps told k.left k.stands k.whole)
+pub returns-in_err-next-clause-asks : goal.returns-in_err-next-clause-asks
+returns-in_err-next-clause-asks g c =
+    let i = c.steps.invariant in
+    let p = err_from_is_err_and c.from_residual.result c.from_residual.ensures.1 in
+    asks_refused g.St.Store.told c.args.hub.now c.feed.new.hub _ _ c.feed.result c.from_residual.result p.0 _ c.in_err-next.was p.1 p.2
+    (asks_behind g.St.Store.told c.args.hub.now c.steps.hub c.feed.new.hub _ _ _ c.feed.result i.keeps i.calm i.others i.later c.feed.ensures.asks)
 
-pub returns-in-Ended-clause-keeps : goal.returns-in-Ended-clause-keeps
-returns-in-Ended-clause-keeps g c = λ told m stands whole.
-    let k = c.steps.invariant.keeps told m stands whole in
-    keeps_on m c.args.hub.now c.steps.hub c.feed.new.hub _ _ _ k (c.feed.ensures.keeps told k.left k.stands k.whole)
+pub returns-in-Ended-clause-asks : goal.returns-in-Ended-clause-asks
+returns-in-Ended-clause-asks g c =
+    let i = c.steps.invariant in
+    asks_answered g.St.Store.told c.args.hub.now c.feed.new.hub _ _ c.feed.result _ _ c.in_ok-next.was (asks_behind g.St.Store.told c.args.hub.now c.steps.hub c.feed.new.hub _ _ _ c.feed.result i.keeps i.calm i.others i.later c.feed.ensures.asks)

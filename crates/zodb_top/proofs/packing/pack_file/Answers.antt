@@ -78,7 +78,7 @@ returns-in-Err-clause-complete g c = λ told reads writes sinks list cut stands.
     unopened_done c.say_unopened.result c.in-Err.error _ list cut _ _ _ _ _ _ _ _ c.say_unopened.ensures.said (c.in-Err.ensures.refused.harm told) c.in-Err.ensures.refused.cause.fault reads writes stands
 
 pub returns-in-Ok-clause-others : goal.returns-in-Ok-clause-others
-returns-in-Ok-clause-others g c = λ other. c.into_volume.ensures.faults ∙ c.pack_over-status.ensures.others other ∙ c.in-Ok.ensures.store.faults
+returns-in-Ok-clause-others g c = λ other. c.into_volume.ensures.faults ∙ c.pack_over-status.ensures.counts.others other ∙ c.in-Ok.ensures.store.faults
 
 pub returns-in-Err-clause-others : goal.returns-in-Err-clause-others
 returns-in-Err-clause-others g c = λ other. (c.in-Err.ensures.refused.cause.unfailed (unopened_other _ _ _ _ _ _ c.say_unopened.ensures.said other)).writes

@@ -6,6 +6,7 @@ use Rattle.zodb_core.specs.HubState.{StandsForMachine}
 use Rattle.zodb_core.specs.Machine.{machine_over}
 use Rattle.zodb_top.specs.PackStores.{IsStorePacked}
 use Rattle.zodb_top.specs.Packs.{IsListOrPacked}
+use Rattle.zodb_top.proofs.Packs.{counts_store}
 use Rattle.zodb_top.proofs.packing.pack_store.Goals as goal
 
 pub returns-clause-step : goal.returns-clause-step
@@ -26,5 +27,7 @@ returns-clause-moments g c = λ lasts told.
 pub returns-clause-images : goal.returns-clause-images
 returns-clause-images g c = λ lasts whole. g.met.St.Store.lasting c.into_store.result lasts whole
 
-pub returns-clause-others : goal.returns-clause-others
-returns-clause-others g c = λ other. ap (λ (s : StoreState). s.faults) c.into_store.ensures ∙ c.pack_hub-reply.ensures.others other ∙ ap (λ (s : StoreState). s.faults) c.new-hub.ensures.store
+pub returns-clause-counts : goal.returns-clause-counts
+returns-clause-counts g c =
+    let counts = c.pack_hub-reply.ensures.counts in
+    counts_store c.new-hub.result.store c.pack_hub-reply.new.hub.store c.pack_hub-reply.result _ _ c.new-hub.ensures.store c.into_store.ensures counts

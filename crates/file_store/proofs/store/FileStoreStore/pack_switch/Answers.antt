@@ -24,11 +24,11 @@ pack_file-requires-clause-copied g c = λ told.
 
 -- Main, unless a call of the volume failed
 stays : (g : _) (c : goal.After-eq-self g) → g.V.Volume.told → c.eq-self.result ≡ false → StaysAs Main (g.V.Volume.state c.args.self.now.volume).log (g.V.Volume.state c.pack_file.new.volume).log
-stays g c told whole = unbroken Switched c.in-Err.error c.eq-self.result _ c.eq-self.ensures whole (c.in-Err.ensures.main told)
+stays g c told whole = unbroken Switched c.in-Err.error c.eq-self.result _ c.eq-self.ensures whole (c.in-Err.ensures.writes told).main
 
 -- and so does Hint
 hint_stays : (g : _) (c : goal.After-eq-self g) → g.V.Volume.told → c.eq-self.result ≡ false → StaysAs Hint (g.V.Volume.state c.args.self.now.volume).log (g.V.Volume.state c.pack_file.new.volume).log
-hint_stays g c told whole = unbroken Switched c.in-Err.error c.eq-self.result _ c.eq-self.ensures whole (c.in-Err.ensures.unclosed told)
+hint_stays g c told whole = unbroken Switched c.in-Err.error c.eq-self.result _ c.eq-self.ensures whole (c.in-Err.ensures.writes told).unclosed
 
 pub invariant_of-self-in-Err : goal.invariant_of-self-in-Err
 invariant_of-self-in-Err g c =
@@ -44,7 +44,7 @@ invariant_of-self-in-Err g c =
       outlined = λ told whole x some. absurd cc;
       hint = λ told.
           let was = whole_before log self.broken self.index.end c.requires.whole (self.hint told) in
-          hinted_or log now _ self.index.end was (c.pack_file.ensures.hint told (was.settled refl) was.honest) (λ whole. hint_stays g c told whole);
+          hinted_or log now _ self.index.end was ((c.pack_file.ensures.writes told).hint (was.settled refl) was.honest) (λ whole. hint_stays g c told whole);
     }
 
 pub invariant_of-self-in-Ok : goal.invariant_of-self-in-Ok
@@ -61,7 +61,7 @@ invariant_of-self-in-Ok g c =
       hint = λ told.
           let log = (g.V.Volume.state c.args.self.now.volume).log in
           let was = whole_before log c.args.self.now.broken c.args.self.now.index.end c.requires.whole (c.args.self.now.hint told) in
-          let shut = c.in-Ok.ensures.closed told (was.settled refl) in
+          let shut = (c.in-Ok.ensures.writes told).closed (was.settled refl) in
           hinted_closed now index.end shut.0 shut.1;
     }
 
@@ -76,9 +76,6 @@ returns-in-Ok-clause-number g c = λ told.
     let is = c.in-Ok.ensures.packed told in
     newest_is main c.keep-ready.result.index c.keep-ready.result.numbers (c.keep-ready.ensures.kept main is.whole is.fits is.long)
 
-pub returns-in-Ok-clause-side : goal.returns-in-Ok-clause-side
-returns-in-Ok-clause-side g c = λ told. (c.in-Ok.ensures.packed told).side
-
 pub returns-in-Ok-clause-leaves : goal.returns-in-Ok-clause-leaves
 returns-in-Ok-clause-leaves g c = switch_leaves _ _ _ _ (ap (option_map _) c.keep-ready.ensures.free ∙ sym c.requires.free)
     (ap (λ (o : Option CopyKept). begun_of o (seen (g.V.Volume.state c.pack_file.new.volume).log Side)) c.take.ensures.after) (λ told. tt) tt
@@ -86,23 +83,19 @@ returns-in-Ok-clause-leaves g c = switch_leaves _ _ _ _ (ap (option_map _) c.kee
 pub returns-in-Err-clause-leaves : goal.returns-in-Err-clause-leaves
 returns-in-Err-clause-leaves g c = switch_leaves _ _ _ _ (ap (option_map _) (none_staged c.args.self.now.index.staged _ c.requires.free) ∙ sym c.requires.free)
     (ap (λ (o : Option CopyKept). begun_of o (seen (g.V.Volume.state c.pack_file.new.volume).log Side)) c.take.ensures.after)
-    (λ told. unless_less Switched Packed c.in-Err.error _ _ (λ stays. list_stays (g.V.Volume.state c.args.self.now.volume).log (g.V.Volume.state c.pack_file.new.volume).log stays) (c.in-Err.ensures.main told)) refl
+    (λ told. unless_less Switched Packed c.in-Err.error _ _ (λ stays. list_stays (g.V.Volume.state c.args.self.now.volume).log (g.V.Volume.state c.pack_file.new.volume).log stays) (c.in-Err.ensures.writes told).main) refl
 
-pub returns-in-Ok-clause-hint : goal.returns-in-Ok-clause-hint
-returns-in-Ok-clause-hint g c = λ told.
+pub returns-in-Ok-clause-writes : goal.returns-in-Ok-clause-writes
+returns-in-Ok-clause-writes g c = λ told.
     let self = c.args.self.now in
     let log = (g.V.Volume.state self.volume).log in
-    let new = (g.V.Volume.state c.pack_file.new.volume).log in
     let was = whole_before log self.broken self.index.end c.requires.whole (self.hint told) in
-    stays_honest _ _ (c.pack_file.ensures.hint told (was.settled refl) was.honest)
+    let is = c.in-Ok.ensures.packed told in
+    record { main = tt; side = is.side; text = is.full; hint = stays_honest _ _ ((c.pack_file.ensures.writes told).hint (was.settled refl) was.honest) }
 
-pub returns-in-Err-clause-hint : goal.returns-in-Err-clause-hint
-returns-in-Err-clause-hint g c = λ told.
+pub returns-in-Err-clause-writes : goal.returns-in-Err-clause-writes
+returns-in-Err-clause-writes g c = λ told.
     let self = c.args.self.now in
     let log = (g.V.Volume.state self.volume).log in
-    let new = (g.V.Volume.state c.pack_file.new.volume).log in
     let was = whole_before log self.broken self.index.end c.requires.whole (self.hint told) in
-    stays_honest _ _ (c.pack_file.ensures.hint told (was.settled refl) was.honest)
-
-pub returns-in-Ok-clause-text : goal.returns-in-Ok-clause-text
-returns-in-Ok-clause-text g c = λ told. (c.in-Ok.ensures.packed told).full
+    record { main = unless_less Switched Packed c.in-Err.error _ _ (λ stays. stays) (c.in-Err.ensures.writes told).main; side = tt; text = tt; hint = stays_honest _ _ ((c.pack_file.ensures.writes told).hint (was.settled refl) was.honest) }

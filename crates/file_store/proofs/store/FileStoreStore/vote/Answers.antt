@@ -1,4 +1,4 @@
-use Rattle.std.proofs.Common.{refl, option_map, length, Some, sym, ap, subst, ◌∙◌, arith}
+use Rattle.std.proofs.Common.{refl, rules, option_map, length, Some, sym, ap, subst, ◌∙◌, arith}
 use Rattle.zb_volume.specs.declared.areas.Area.TheVariants.{Main}
 use Rattle.zb_volume.specs.Disk.{seen}
 use Rattle.zb_volume.specs.Moments.{here}
@@ -105,35 +105,34 @@ returns-in-Err-clause-leaves g c = vote_leaves _ _ _ _ (ap (λ (i : StagedKept).
     (keeps_begun g.V.Volume.told (g.V.Volume.state c.args.self.now.volume).log (g.V.Volume.state c.vote.new.volume).log c.args.self.now.copy _ _ refl refl (λ told. c.vote.ensures.side told))
     (λ told. tt) tt
 
-pub returns-in_err-text-clause-side : goal.returns-in_err-text-clause-side
-returns-in_err-text-clause-side g c = λ told. here refl
-
-pub returns-in_err-text-clause-hint : goal.returns-in_err-text-clause-hint
-returns-in_err-text-clause-hint g c = λ told.
+pub returns-in_err-text-clause-writes : goal.returns-in_err-text-clause-writes
+returns-in_err-text-clause-writes g c = λ told.
     let self = c.args.self.now in
     let log = (g.V.Volume.state self.volume).log in
-    let new = (g.V.Volume.state self.volume).log in
     let was = whole_before log self.broken self.index.end c.requires.whole (self.hint told) in
-    no_call_honest log was.honest
+    record { side = here refl; text = search rules; hint = no_call_honest log was.honest }
 
-pub returns-in-Err-clause-hint : goal.returns-in-Err-clause-hint
-returns-in-Err-clause-hint g c = λ told.
+pub returns-in-Err-clause-writes : goal.returns-in-Err-clause-writes
+returns-in-Err-clause-writes g c = λ told.
     let self = c.args.self.now in
     let log = (g.V.Volume.state self.volume).log in
     let new = (g.V.Volume.state c.vote.new.volume).log in
     let was = whole_before log self.broken self.index.end c.requires.whole (self.hint told) in
-    stays_honest _ _ (fronts_stay log new self.index.end c.end.result (self.settled told c.requires.whole) was (c.end.ensures.value ∙ c.prepare.ensures.end) (c.vote.ensures.front told) (c.vote.ensures.hint told))
+    record {
+      side = c.vote.ensures.side told;
+      text = tt;
+      hint = stays_honest _ _ (fronts_stay log new self.index.end c.end.result (self.settled told c.requires.whole) was (c.end.ensures.value ∙ c.prepare.ensures.end) (c.vote.ensures.front told) (c.vote.ensures.hint told));
+    }
 
-pub returns-clause-hint : goal.returns-clause-hint
-returns-clause-hint g c = λ told.
+pub returns-clause-writes : goal.returns-clause-writes
+returns-clause-writes g c = λ told.
     let self = c.args.self.now in
     let log = (g.V.Volume.state self.volume).log in
     let new = (g.V.Volume.state c.vote.new.volume).log in
     let was = whole_before log self.broken self.index.end c.requires.whole (self.hint told) in
-    stays_honest _ _ (fronts_stay log new self.index.end c.end.result (self.settled told c.requires.whole) was (c.end.ensures.value ∙ c.prepare.ensures.end) (c.vote.ensures.front told) (c.vote.ensures.hint told))
-
-pub returns-clause-text : goal.returns-clause-text
-returns-clause-text g c = λ told.
-    let self = c.args.self.now in
     let free = none_staged self.index.staged _ c.requires.free in
-    vote_written (g.V.Volume.state self.volume).log self.index self.numbers (self.settled told c.requires.whole) (self.kept told c.requires.whole) (g.V.Volume.state c.vote.new.volume).log c.prepare.new.index c.prepare.new.numbers c.args.new.now c.end.result c.in_ok-text.text c.as_slice.result.now free c.in_ok-text.ensures.prepared (c.end.ensures.value ∙ c.prepare.ensures.end) c.as_slice.ensures.value (c.in-Ok.ensures.content told)
+    record {
+      side = c.vote.ensures.side told;
+      text = vote_written log self.index self.numbers (self.settled told c.requires.whole) (self.kept told c.requires.whole) new c.prepare.new.index c.prepare.new.numbers c.args.new.now c.end.result c.in_ok-text.text c.as_slice.result.now free c.in_ok-text.ensures.prepared (c.end.ensures.value ∙ c.prepare.ensures.end) c.as_slice.ensures.value (c.in-Ok.ensures.content told);
+      hint = stays_honest _ _ (fronts_stay log new self.index.end c.end.result (self.settled told c.requires.whole) was (c.end.ensures.value ∙ c.prepare.ensures.end) (c.vote.ensures.front told) (c.vote.ensures.hint told));
+    }
