@@ -1,54 +1,39 @@
--- Sets of numbers, kept as lists.
-use Rattle.std.proofs.Common.{◌≡◌, ℕ, ◌+◌, ◌⊎◌, inl, inr, ⊎_elim, Bool, true, false, cond, ◌||◌, eqb, nat_eq, List, [], ◌∷◌, length, refl, sym, ap, ◌∙◌, arith}
-use Rattle.std.specs.List.{AllByRecursion, IsDistinct, list_any}
-use Rattle.std.specs.Cmp.{nat_cmp_total}
-use Rattle.std.specs.Ordering.{nat_cmp}
-use Rattle.std.specs.FinSet.{FinSet, contains, contains-from_list_nat, from_list, from_list_push, insert, len, len-empty, len-insert, nat_cmp-IsAntisymmetric, same_set}
-use Rattle.std.proofs.lemmas.Bool.{cases_Bool, eqb-true, eq-eqb, ne_eqb}
-use Rattle.std.proofs.lemmas.Map.Keys.{IsDistinct-head, IsDistinct-tail}
-use Rattle.indexmap.specs.IndexSet.{insert_key}
-use Rattle.zb_model.specs.SetLaws.{in_inserted}
+-- Sets of numbers, kept as lists in order.
+use Rattle.std.proofs.Common.{◌≡◌, ℕ, ◌+◌, Bool, true, false, cond, ◌||◌, List, [], ◌∷◌, length, Less, refl, sym, ap, ◌∙◌, arith}
+use Rattle.std.specs.List.{AllByRecursion, list_any}
+use Rattle.std.specs.List.Sorted.{IsStrictlySortedBy}
+use Rattle.std.specs.Cmp.{nat_cmp_total, nat_eq_equiv, unsigned_tied}
+use Rattle.std.specs.Ordering.{eq_by_cmp, is_eq, nat_cmp}
+use Rattle.std.specs.FinSet.{contains, contains-from_list, contains-insert, from_list, insert, len, len-empty, len-insert, nat_cmp-IsAntisymmetric, same_set}
 
-eqb_swap : (a b : ℕ) → eqb a b ≡ eqb b a
-eqb_swap a b = ⊎_elim (λ (e : eqb a b ≡ true). e ∙ sym (eq-eqb b a (sym (eqb-true a b e)))) (λ (e : eqb a b ≡ false). e ∙ sym (ne_eqb b a (λ q. both e (eq-eqb a b (sym q))))) (cases_Bool (eqb a b))
-  where
-    both : eqb a b ≡ false → eqb a b ≡ true → ⊥
-    both e f = cc
+-- whether a number is among these
+abbrev pub is_among : ℕ → List ℕ → Bool
+is_among q ks = list_any (eq_by_cmp nat_cmp q) ks
 
-any_swap : (ks : List ℕ) (q : ℕ) → list_any (λ y. nat_eq y q) ks ≡ list_any (nat_eq q) ks
-any_swap [] q = refl
-any_swap (k ∷ ks) q = ap (λ (b : Bool). b || list_any (λ y. nat_eq y q) ks) (eqb_swap k q) ∙ ap (λ (b : Bool). nat_eq q k || b) (any_swap ks q)
+pub in_set : (ks : List ℕ) (q : ℕ) → contains (from_list {R = nat_cmp} ks) q ≡ is_among q ks
+in_set ks q = contains-from_list nat_cmp_total ks q
 
-pub in_set : (ks : List ℕ) (q : ℕ) → contains (from_list {R = nat_cmp} ks) q ≡ list_any (nat_eq q) ks
-in_set ks q = contains-from_list_nat ks q ∙ any_swap ks q
+tied_swap : (a b : ℕ) → eq_by_cmp nat_cmp a b ≡ eq_by_cmp nat_cmp b a
+tied_swap a b = unsigned_tied a b ∙ nat_eq_equiv.symm a b ∙ sym (unsigned_tied b a)
 
-or-true : (a b : Bool) → b ≡ true → (a || b) ≡ b
-or-true true b e = sym e
-or-true false b e = refl
+or_cond : (b c : Bool) → cond b true c ≡ (b || c)
+or_cond true c = refl
+or_cond false c = refl
 
--- what is there already changes nothing
-pub insert_there : (s : FinSet nat_cmp) (k : ℕ) → contains s k ≡ true → insert s k ≡ s
-insert_there s k h = same_set nat_cmp_total nat_cmp-IsAntisymmetric (insert s k) s (λ q. in_inserted s k q ∙ by_same q (cases_Bool (eqb q k)))
-  where
-    by_same : (q : ℕ) → (eqb q k ≡ true) ⊎ (eqb q k ≡ false) → (eqb q k || contains s q) ≡ contains s q
-    by_same q (inl e) =
-        let same : contains s q ≡ true = ap (contains s) (eqb-true q k e) ∙ h in
-        or-true (eqb q k) (contains s q) same
-    by_same q (inr e) = ap (λ (b : Bool). b || contains s q) e
+-- one number more
+pub insert_set : (old new : List ℕ) (k : ℕ) → ((q : ℕ) → is_among q new ≡ cond (eq_by_cmp nat_cmp k q) true (is_among q old)) → from_list {R = nat_cmp} new ≡ insert (from_list old) k
+insert_set old new k has = same_set nat_cmp_total nat_cmp-IsAntisymmetric (from_list new) (insert (from_list old) k) (λ q.
+    in_set new q ∙ has q ∙ or_cond (eq_by_cmp nat_cmp k q) (is_among q old) ∙ ap (λ (b : Bool). b || is_among q old) (tied_swap k q)
+    ∙ sym (contains-insert nat_cmp_total (from_list old) k q ∙ ap (λ (b : Bool). eq_by_cmp nat_cmp q k || b) (in_set old q)))
 
-pub insert_set : (ks : List ℕ) (k : ℕ) → from_list {R = nat_cmp} (insert_key nat_eq ks k) ≡ insert (from_list ks) k
-insert_set ks k =
-    ⊎_elim (λ (e : list_any (nat_eq k) ks ≡ true). rw e (sym (insert_there (from_list ks) k (in_set ks k ∙ e))))
-    (λ (e : list_any (nat_eq k) ks ≡ false). rw e (from_list_push nat_cmp_total nat_cmp-IsAntisymmetric ks k))
-    (cases_Bool (list_any (nat_eq k) ks))
-
-none_equal : (k : ℕ) (ks : List ℕ) → AllByRecursion (λ n. nat_eq k n ≡ false) ks → list_any (nat_eq k) ks ≡ false
+none_equal : (k : ℕ) (ks : List ℕ) → AllByRecursion (λ n. nat_cmp k n ≡ Less) ks → is_among k ks ≡ false
 none_equal k [] all = refl
-none_equal k (n ∷ ks) all = ap (λ (b : Bool). b || list_any (nat_eq k) ks) all.0 ∙ none_equal k ks all.1
+none_equal k (n ∷ ks) all = ap (λ (b : Bool). b || is_among k ks) (ap is_eq all.0) ∙ none_equal k ks all.1
 
-pub len_set : (ks : List ℕ) → IsDistinct nat_eq ks → len (from_list {R = nat_cmp} ks) ≡ length ks
-len_set [] distinct = len-empty nat_cmp
-len_set (k ∷ ks) distinct =
-    let apart : contains (from_list {R = nat_cmp} ks) k ≡ false = in_set ks k ∙ none_equal k ks (IsDistinct-head nat_eq k ks distinct) in
-    let rest : len (from_list {R = nat_cmp} ks) ≡ length ks = len_set ks (IsDistinct-tail nat_eq k ks distinct) in
+pub len_set : (ks : List ℕ) → IsStrictlySortedBy nat_cmp ks → len (from_list {R = nat_cmp} ks) ≡ length ks
+unfolding IsStrictlySortedBy
+len_set [] sorted = len-empty nat_cmp
+len_set (k ∷ ks) sorted =
+    let apart : contains (from_list {R = nat_cmp} ks) k ≡ false = in_set ks k ∙ none_equal k ks sorted.0 in
+    let rest : len (from_list {R = nat_cmp} ks) ≡ length ks = len_set ks sorted.1 in
     len-insert nat_cmp_total (from_list ks) k ∙ ap (λ (b : Bool). cond b (len (from_list {R = nat_cmp} ks)) (len (from_list {R = nat_cmp} ks) + 1)) apart ∙ omega (arith, rest)

@@ -3,15 +3,16 @@
 ghost use Rattle.std.specs.Prelude.{◌≡◌, ◌<◌, ◌^◌, not, IfOk, OnOk, OnErr};
 ghost use Rattle.std.specs.FinSet as set;
 
-use indexmap::IndexSet;
 use std::alloc::{AllocError, Global};
+use std::collections::BTreeSet;
 use std::marker::Model;
 use zb_ids::Oid;
 
-/// Objects, each once. Contracts see the set of their numbers.
+/// Objects, each once, in a tree: a call costs a path of it, and never a move of all of them.
+/// Contracts see the set of their numbers.
 #[derive(Drop)]
 pub struct OidSet {
-    oids: IndexSet<Oid>,
+    oids: BTreeSet<Oid>,
 }
 
 impl Model for OidSet {
@@ -32,7 +33,7 @@ impl OidSet {
         ensures { result ≡ set.empty }
     {
         OidSet {
-            oids: IndexSet::new(alloc),
+            oids: BTreeSet::new(alloc),
         }
     }
 
