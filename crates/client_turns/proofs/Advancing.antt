@@ -12,11 +12,11 @@ use Rattle.zodb_core.specs.declared.reply.Reply.TheVariants as reply
 use Rattle.zodb_core.specs.HubState.{HubState, counts_of}
 use Rattle.zodb_core.specs.Machine.{Machine, is_open_in}
 use Rattle.zodb_core.specs.Outcomes.{Answered, StepOutcome, outcome_of_refusal}
-use Rattle.tree_calls.specs.declared.attempt.Made.{Made}
-use Rattle.tree_calls.specs.declared.known.Seen.{Seen}
-use Rattle.tree_calls.specs.declared.operation.TreeOperation.{TreeOperation}
-use Rattle.tree_calls.specs.Calls.{AreKnown, IsMade, IsRefused, MayRead, contents_of}
-use Rattle.tree_calls.specs.Known.{Agrees, known_at}
+use Rattle.tree_attempts.specs.declared.attempt.Made.{Made}
+use Rattle.tree_attempts.specs.declared.known.Seen.{Seen}
+use Rattle.tree_attempts.specs.declared.operation.TreeOperation.{TreeOperation}
+use Rattle.tree_attempts.specs.Calls.{AreKnown, IsMade, IsRefused, MayRead, contents_of}
+use Rattle.tree_attempts.specs.Known.{Agrees, known_at}
 use Rattle.client_turns.specs.declared.client.Client.{Client}
 use Rattle.client_turns.specs.declared.linked.LinkedClient.{LinkedClient}
 use Rattle.client_turns.specs.declared.member.Member.{Member}

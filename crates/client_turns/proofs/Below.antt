@@ -14,8 +14,8 @@ use Rattle.zb_script.specs.declared.line.Line.TheVariants as line
 use Rattle.zb_script.specs.declared.line.Turn.{Turn}
 use Rattle.zb_script.specs.declared.tree_call.TreeCall.{TreeCall}
 use Rattle.commit_phases.specs.Pending.{excess_with, pending_of}
-use Rattle.tree_calls.specs.declared.attempt.Made.{Made}
-use Rattle.tree_calls.specs.declared.known.Seen.{Seen}
+use Rattle.tree_attempts.specs.declared.attempt.Made.{Made}
+use Rattle.tree_attempts.specs.declared.known.Seen.{Seen}
 use Rattle.zodb_core.specs.declared.request.Request.{Request}
 use Rattle.zodb_core.specs.Machine.{Machine, Rules, is_open_in}
 use Rattle.zodb_core.specs.Outcomes.{FaultCounts}

@@ -21,9 +21,9 @@ use Rattle.connection_view.specs.Views.{View}
 use Rattle.connection_view.specs.Views as views
 use Rattle.local_loads.specs.declared.told.Told.{Told}
 use Rattle.local_loads.specs.Local.{MayBeTold}
-use Rattle.tree_calls.specs.declared.attempt.Made.{Made}
-use Rattle.tree_calls.specs.declared.put.TreePut.{TreePut}
-use Rattle.tree_calls.specs.declared.operation.TreeOperation.{TreeOperation}
+use Rattle.tree_attempts.specs.declared.attempt.Made.{Made}
+use Rattle.tree_attempts.specs.declared.put.TreePut.{TreePut}
+use Rattle.tree_attempts.specs.declared.operation.TreeOperation.{TreeOperation}
 use Rattle.client_turns.specs.declared.client.Client.{Client}
 use Rattle.client_turns.specs.declared.linked.LinkedClient.{LinkedClient}
 use Rattle.client_turns.specs.declared.member.FarClient.{FarClient}

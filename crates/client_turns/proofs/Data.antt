@@ -21,8 +21,8 @@ use Rattle.zb_script.specs.declared.line.Line.TheVariants as line
 use Rattle.zb_script.specs.declared.line.Turn.{Turn}
 use Rattle.commit_phases.specs.Decision.{vote_decision}
 use Rattle.commit_phases.specs.Pending.{PendingChanges, excess_with, pending_of}
-use Rattle.tree_calls.specs.declared.operation.TreeAnswer.{TreeAnswer}
-use Rattle.tree_calls.specs.declared.operation.TreeAnswer.TheVariants as answered
+use Rattle.tree_attempts.specs.declared.operation.TreeAnswer.{TreeAnswer}
+use Rattle.tree_attempts.specs.declared.operation.TreeAnswer.TheVariants as answered
 use Rattle.zodb_core.specs.declared.reply.Reply.{Reply}
 use Rattle.zodb_core.specs.declared.reply.Reply.TheVariants as reply
 use Rattle.zodb_core.specs.declared.request.Request.{Request}

@@ -17,9 +17,9 @@ use Rattle.zb_script.specs.declared.line.Line.TheVariants as line
 use Rattle.zb_script.specs.declared.line.Turn.{Turn}
 use Rattle.zb_script.specs.declared.tree_call.TreeCall.{TreeCall}
 use Rattle.commit_phases.specs.Pending.{PendingChanges, behind_stored, excess_with, pending_of, stored_on, stores_after, with_pending}
-use Rattle.tree_calls.specs.declared.attempt.Made.{Made}
-use Rattle.tree_calls.specs.declared.operation.TreeOperation.{TreeOperation}
-use Rattle.tree_calls.specs.declared.put.TreePut.{TreePut}
+use Rattle.tree_attempts.specs.declared.attempt.Made.{Made}
+use Rattle.tree_attempts.specs.declared.operation.TreeOperation.{TreeOperation}
+use Rattle.tree_attempts.specs.declared.put.TreePut.{TreePut}
 use Rattle.zodb_core.specs.declared.reply.Reply.{Reply}
 use Rattle.zodb_core.specs.declared.reply.Reply.TheVariants as reply
 use Rattle.zodb_core.specs.declared.request.Request.{Request}

@@ -18,8 +18,8 @@ use Rattle.zodb_core.specs.Machine.{Machine, Rules, switches_of}
 use Rattle.zodb_core.specs.HubState.{HubState}
 use Rattle.zodb_core.specs.Outcomes.{FaultCounts, StepOutcome, outcome_of}
 use Rattle.zodb_core.specs.Steps.{early_refusal, oids_step, unless_early}
-use Rattle.tree_calls.specs.declared.known.Seen.{Seen}
-use Rattle.tree_calls.specs.Known.{Agrees, known_at}
+use Rattle.tree_attempts.specs.declared.known.Seen.{Seen}
+use Rattle.tree_attempts.specs.Known.{Agrees, known_at}
 use Rattle.client_turns.specs.declared.member.Member.{Member}
 use Rattle.client_turns.specs.Members.{changes_kept, session_of}
 use Rattle.connection_view.specs.Works.{Work}

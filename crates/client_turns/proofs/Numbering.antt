@@ -7,8 +7,8 @@ use Rattle.zb_model.specs.declared.refusal.Refusal.{Refusal}
 use Rattle.zb_answers.specs.declared.answer.Answer.{Answer}
 use Rattle.zb_script.specs.declared.line.Line.TheVariants as line
 use Rattle.zb_script.specs.declared.tree_call.TreeCall.{TreeCall}
-use Rattle.tree_calls.specs.declared.attempt.Made.{Made}
-use Rattle.tree_calls.specs.declared.operation.TreeOperation.{TreeOperation}
+use Rattle.tree_attempts.specs.declared.attempt.Made.{Made}
+use Rattle.tree_attempts.specs.declared.operation.TreeOperation.{TreeOperation}
 use Rattle.zodb_core.specs.declared.reply.Reply.TheVariants as reply
 use Rattle.zodb_core.specs.declared.request.Request.TheVariants as request
 use Rattle.zodb_core.specs.Machine.{Machine, Rules}

@@ -16,7 +16,7 @@ use Rattle.client_turns.specs.Refusing.{IsFittingLine}
 use Rattle.client_turns.specs.Standing.{IsLineOpen, OrCut, RiseBelow}
 use Rattle.client_turns.specs.Steps.{IsReadAt, IsStepAt}
 use Rattle.client_turns.specs.Trees.{IsTreeEnd}
-use Rattle.tree_calls.specs.declared.attempt.Made.{Made}
+use Rattle.tree_attempts.specs.declared.attempt.Made.{Made}
 use Rattle.client_turns.specs.Turns.{IsCutAt, IsLineUnless, IsStepLine}
 use Rattle.client_turns.proofs.Following.{FollowsLine, asked_formed, at_formed, follows_twice, front_up, HasPutBytes, step_follows, step_line_follows, tree_end_formed, told_follows, unless_follows}
 use Rattle.client_turns.proofs.Keeping.{rise_set}

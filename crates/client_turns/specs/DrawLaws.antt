@@ -8,12 +8,12 @@ use Rattle.zb_answers.specs.declared.answer.Answer.{Answer}
 use Rattle.zb_answers.specs.declared.answer.Answer.TheVariants as answer
 use Rattle.zb_script.specs.declared.tree_call.TreeCall.{TreeCall}
 use Rattle.commit_phases.specs.Pending.{stores_after}
-use Rattle.tree_calls.specs.declared.attempt.Made.{Made}
-use Rattle.tree_calls.specs.declared.operation.TreeAnswer.{TreeAnswer}
-use Rattle.tree_calls.specs.declared.operation.TreeAnswer.TheVariants as answered
-use Rattle.tree_calls.specs.declared.operation.TreeOperation.{TreeOperation}
-use Rattle.tree_calls.specs.Calls.{IsRefused}
-use Rattle.tree_calls.specs.CallLaws.{refused_as}
+use Rattle.tree_attempts.specs.declared.attempt.Made.{Made}
+use Rattle.tree_attempts.specs.declared.operation.TreeAnswer.{TreeAnswer}
+use Rattle.tree_attempts.specs.declared.operation.TreeAnswer.TheVariants as answered
+use Rattle.tree_attempts.specs.declared.operation.TreeOperation.{TreeOperation}
+use Rattle.tree_attempts.specs.Calls.{IsRefused}
+use Rattle.tree_attempts.specs.CallLaws.{refused_as}
 use Rattle.zodb_core.specs.declared.reply.Reply.{Reply}
 use Rattle.zodb_core.specs.declared.reply.Reply.TheVariants as reply
 use Rattle.zodb_core.specs.declared.request.Request.TheVariants as request

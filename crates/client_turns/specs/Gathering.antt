@@ -12,10 +12,10 @@ use Rattle.zodb_core.specs.declared.reply.Reply.{Reply}
 use Rattle.zodb_core.specs.declared.reply.Reply.TheVariants as reply
 use Rattle.zodb_core.specs.Machine.{is_open_in}
 use Rattle.zodb_core.specs.Outcomes.{Answered, StepOutcome}
-use Rattle.tree_calls.specs.declared.attempt.Made.{Made}
-use Rattle.tree_calls.specs.declared.known.Seen.{Seen}
-use Rattle.tree_calls.specs.declared.operation.TreeOperation.{TreeOperation}
-use Rattle.tree_calls.specs.Known.{known_at}
+use Rattle.tree_attempts.specs.declared.attempt.Made.{Made}
+use Rattle.tree_attempts.specs.declared.known.Seen.{Seen}
+use Rattle.tree_attempts.specs.declared.operation.TreeOperation.{TreeOperation}
+use Rattle.tree_attempts.specs.Known.{known_at}
 use Rattle.connection_view.specs.Works.{Work}
 use Rattle.client_turns.specs.declared.member.Member.{Member}
 use Rattle.client_turns.specs.Clients.{Client, Moment, OpenTransaction}

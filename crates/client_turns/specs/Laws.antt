@@ -16,10 +16,10 @@ use Rattle.zb_script.specs.declared.line.Line.TheVariants as line
 use Rattle.zb_script.specs.declared.line.Turn.{Turn}
 use Rattle.zb_script.specs.declared.tree_call.TreeCall.{TreeCall}
 use Rattle.commit_phases.specs.Pending.{PendingChanges, excess_with, pending_of, stores_after}
-use Rattle.tree_calls.specs.declared.known.Seen.{Seen}
-use Rattle.tree_calls.specs.declared.put.TreePut.{TreePut}
-use Rattle.tree_calls.specs.declared.operation.TreeAnswer.{TreeAnswer}
-use Rattle.tree_calls.specs.Calls.{IsMade, IsRefused}
+use Rattle.tree_attempts.specs.declared.known.Seen.{Seen}
+use Rattle.tree_attempts.specs.declared.put.TreePut.{TreePut}
+use Rattle.tree_attempts.specs.declared.operation.TreeAnswer.{TreeAnswer}
+use Rattle.tree_attempts.specs.Calls.{IsMade, IsRefused}
 use Rattle.zodb_core.specs.declared.reply.Reply.TheVariants as reply
 use Rattle.zodb_core.specs.declared.request.Request.{Request}
 use Rattle.zodb_core.specs.declared.request.Request.TheVariants as request

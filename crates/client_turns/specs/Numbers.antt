@@ -6,8 +6,8 @@ use Rattle.zb_answers.specs.declared.answer.Answer.TheVariants as answer
 use Rattle.zb_script.specs.declared.line.Line.{Line}
 use Rattle.zb_script.specs.declared.line.Line.TheVariants as line
 use Rattle.zb_script.specs.declared.tree_call.TreeCall.{TreeCall}
-use Rattle.tree_calls.specs.declared.attempt.Made.{Made}
-use Rattle.tree_calls.specs.declared.operation.TreeOperation.{TreeOperation}
+use Rattle.tree_attempts.specs.declared.attempt.Made.{Made}
+use Rattle.tree_attempts.specs.declared.operation.TreeOperation.{TreeOperation}
 use Rattle.zodb_core.specs.Machine.{Rules}
 use Rattle.client_turns.specs.Clients.{Client, Moment, OpenTransaction, place_of_client}
 use Rattle.client_turns.specs.Output.{FlaggedTurn, Out, TurnAnswer}

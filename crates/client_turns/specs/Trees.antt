@@ -10,17 +10,17 @@ use Rattle.zb_answers.specs.declared.answer.Answer.TheVariants as answer
 use Rattle.zb_script.specs.declared.tree_call.TreeCall.{TreeCall}
 use Rattle.zb_script.specs.declared.tree_call.TreeCall.TheVariants as tree
 use Rattle.commit_phases.specs.Pending.{pending_of, stores_after}
-use Rattle.tree_calls.specs.declared.known.Seen.{Seen}
-use Rattle.tree_calls.specs.declared.put.TreePut.{TreePut}
-use Rattle.tree_calls.specs.declared.operation.TreeAnswer.{TreeAnswer}
-use Rattle.tree_calls.specs.declared.operation.TreeAnswer.TheVariants as answered
-use Rattle.tree_calls.specs.declared.operation.TreeOperation.{TreeOperation}
-use Rattle.tree_calls.specs.declared.operation.TreeOperation.TheVariants as operation
-use Rattle.tree_calls.specs.Calls.{IsAmong, IsMade, IsRefused, LacksNumbers, MayRead, NeedsNumbers, contents_of, reads_in}
+use Rattle.tree_attempts.specs.declared.known.Seen.{Seen}
+use Rattle.tree_attempts.specs.declared.put.TreePut.{TreePut}
+use Rattle.tree_attempts.specs.declared.operation.TreeAnswer.{TreeAnswer}
+use Rattle.tree_attempts.specs.declared.operation.TreeAnswer.TheVariants as answered
+use Rattle.tree_attempts.specs.declared.operation.TreeOperation.{TreeOperation}
+use Rattle.tree_attempts.specs.declared.operation.TreeOperation.TheVariants as operation
+use Rattle.tree_attempts.specs.Calls.{IsAmong, IsMade, IsRefused, LacksNumbers, MayRead, NeedsNumbers, contents_of, reads_in}
 use Rattle.zodb_core.specs.declared.reply.Reply.TheVariants as reply
 use Rattle.zodb_core.specs.declared.request.Request.TheVariants as request
 use Rattle.zodb_core.specs.Machine.{Machine, Rules}
-use Rattle.tree_calls.specs.declared.attempt.Made.{Made}
+use Rattle.tree_attempts.specs.declared.attempt.Made.{Made}
 use Rattle.client_turns.specs.Clients.{Changes, Client, Moment, OpenTransaction}
 use Rattle.client_turns.specs.Lines.{Changed, unchanged}
 use Rattle.connection_view.specs.Loading.{IsMissing}

@@ -16,7 +16,7 @@ ghost use Rattle.client_turns.specs.Steps.{IsStepAt};
 use crate::member::{Member, bytes_sent, place_of, session_at};
 use std::alloc::Global;
 use std::marker::Model;
-use tree_calls::NodeCache;
+use tree_attempts::NodeCache;
 use zb_model::{Refs, Resolver, Store};
 use zb_outside::Clock;
 use zb_script::Name;

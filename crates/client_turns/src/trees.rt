@@ -4,10 +4,10 @@ ghost use Rattle.std.specs.Prelude.{◌≡◌, ◌<◌, ◌≤◌, ℕ, List, []
 ghost use Rattle.zb_model.specs.Database.{IsRecord};
 ghost use Rattle.zodb_core.specs.HubState.{rules_of};
 ghost use Rattle.zodb_core.specs.Outcomes.{Answered};
-ghost use Rattle.tree_calls.specs.Calls.{HasRead, IsAttempt, IsWanted};
-ghost use Rattle.tree_calls.specs.declared.known.Seen.{Seen};
-ghost use Rattle.tree_calls.specs.Known.{Agrees, known_at};
-ghost use Rattle.tree_calls.specs.declared.operation.TreeOperation.{TreeOperation};
+ghost use Rattle.tree_attempts.specs.Calls.{HasRead, IsAttempt, IsWanted};
+ghost use Rattle.tree_attempts.specs.declared.known.Seen.{Seen};
+ghost use Rattle.tree_attempts.specs.Known.{Agrees, known_at};
+ghost use Rattle.tree_attempts.specs.declared.operation.TreeOperation.{TreeOperation};
 ghost use Rattle.connection_view.specs.declared.connection.Connection.{Connection as Open};
 ghost use Rattle.connection_view.specs.Connections.{work_of};
 ghost use Rattle.client_turns.specs.declared.member.Member.{Member};
@@ -31,7 +31,7 @@ use crate::member::{FarClient, Member, connection_at, is_linked_at, is_lost_at};
 use connection_view::Connection;
 use std::alloc::{AllocError, Global};
 use std::marker::Brand;
-use tree_calls::{
+use tree_attempts::{
     Attempt, Known, Made, NodeCache, Seen, TreeAnswer, TreeOperation, TreePut, call_tree,
     objects_ahead,
 };

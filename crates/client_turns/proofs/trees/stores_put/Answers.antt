@@ -5,7 +5,7 @@ use Rattle.std.proofs.lemmas.List.Elements.{All-head, All-push, All-rest}
 use Rattle.zb_model.specs.declared.data.Content.TheVariants.{Held}
 use Rattle.zb_model.specs.declared.pending.PendingStore.{PendingStore}
 use Rattle.zb_model.specs.Database.{IsRecord}
-use Rattle.tree_calls.specs.declared.put.TreePut.{TreePut}
+use Rattle.tree_attempts.specs.declared.put.TreePut.{TreePut}
 use Rattle.client_turns.specs.Trees.{stores_put}
 use Rattle.client_turns.proofs.Calling.{stores_more}
 use Rattle.client_turns.proofs.trees.stores_put.Goals as goal

@@ -1,7 +1,7 @@
 -- An attempt, and what the call is going to read besides.
 use Rattle.std.proofs.Common.{◌≡◌, ◌∙◌, ℕ, true, List, [], Option, Result, subst, sym}
 use Rattle.zb_model.specs.declared.refusal.Refusal.{Refusal}
-use Rattle.tree_calls.specs.declared.attempt.Made.{Made}
+use Rattle.tree_attempts.specs.declared.attempt.Made.{Made}
 use Rattle.client_turns.specs.Gathering.{AdvancesTo, MayGather, StandsGathering, outcome_of_advance}
 use Rattle.client_turns.specs.OverQuestions.{ReadsLinked}
 use Rattle.client_turns.proofs.Advancing.{none_drawn}

@@ -1,7 +1,7 @@
 -- An attempt of a client.
 use Rattle.std.proofs.Common.{◌∙◌, List, ap, subst}
 use Rattle.std.specs.Prelude.{slice_get}
-use Rattle.tree_calls.specs.Calls.{HasRead, IsAttempt}
+use Rattle.tree_attempts.specs.Calls.{HasRead, IsAttempt}
 use Rattle.connection_view.specs.Connections.{work_of}
 use Rattle.client_turns.specs.declared.member.Member.{Member}
 use Rattle.client_turns.specs.Gathering.{objects_over}

@@ -1,7 +1,7 @@
 -- An attempt, and what follows it.
 use Rattle.std.proofs.Common.{◌≡◌, ◌∙◌, ◌<◌, ℕ, List, Some, false, ap, inr, length, refl, subst, sym}
 use Rattle.std.specs.Prelude.{slice_get}
-use Rattle.tree_calls.specs.Calls.{HasRead, IsAttempt}
+use Rattle.tree_attempts.specs.Calls.{HasRead, IsAttempt}
 use Rattle.connection_view.specs.Connections.{work_of}
 use Rattle.zodb_core.specs.Outcomes.{NoMemory}
 use Rattle.client_turns.specs.Gathering.{AdvancesTo, MayGather, MayGo, StandsGathering, objects_over, outcome_of_advance}

@@ -1,7 +1,7 @@
 -- A call, attempt by attempt.
 use Rattle.std.proofs.Common.{◌∙◌, ℕ, List, [], Option, Result, inl, inr, refl, subst, sym}
 use Rattle.zb_model.specs.declared.refusal.Refusal.{Refusal}
-use Rattle.tree_calls.specs.declared.attempt.Made.{Made}
+use Rattle.tree_attempts.specs.declared.attempt.Made.{Made}
 use Rattle.zodb_core.specs.Outcomes.{Answered, NoMemory}
 use Rattle.client_turns.specs.Gathering.{AdvancesTo, MayGather, StandsGathering, outcome_of_advance}
 use Rattle.client_turns.specs.Lines.{outcome_of_result}

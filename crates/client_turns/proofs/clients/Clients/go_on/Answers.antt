@@ -1,6 +1,6 @@
 -- What follows an attempt.
 use Rattle.std.proofs.Common.{◌≡◌, ℕ, List, [], inl, refl, subst, sym}
-use Rattle.tree_calls.specs.Calls.{HasRead, IsAttempt}
+use Rattle.tree_attempts.specs.Calls.{HasRead, IsAttempt}
 use Rattle.zodb_core.specs.Outcomes.{Answered, outcome_of_refusal}
 use Rattle.client_turns.specs.Gathering.{AdvancesTo, MayGo, MayLearn, StandsGathering, outcome_of_advance}
 use Rattle.client_turns.specs.Standing.{MayReadFor}

@@ -1,7 +1,7 @@
 -- One more object is known.
 use Rattle.std.proofs.Common.{[], Err, inr, refl}
 use Rattle.zodb_core.specs.Outcomes.{Answered, NoMemory}
-use Rattle.tree_calls.specs.declared.attempt.Made.{Made}
+use Rattle.tree_attempts.specs.declared.attempt.Made.{Made}
 use Rattle.client_turns.specs.Gathering.{MayLearn}
 use Rattle.client_turns.specs.Lines.{outcome_of_result}
 use Rattle.client_turns.specs.Standing.{MayReadFor}

@@ -2,7 +2,7 @@
 use Rattle.std.proofs.Common.{◌∙◌, [], Option, Result, arith, inl, length, refl, subst}
 use Rattle.std.proofs.lemmas.Option.{slice_get_read}
 use Rattle.zb_model.specs.declared.refusal.Refusal.{Refusal}
-use Rattle.tree_calls.specs.declared.attempt.Made.{Made}
+use Rattle.tree_attempts.specs.declared.attempt.Made.{Made}
 use Rattle.zodb_core.specs.Outcomes.{Answered}
 use Rattle.client_turns.specs.Gathering.{AdvancesTo, IsAskedOf, MayLearn, MayLearnAll, outcome_of_advance}
 use Rattle.client_turns.specs.Lines.{outcome_of_result}

@@ -2,7 +2,7 @@
 use Rattle.std.proofs.Common.{◌≡◌, ◌≤◌, ℕ, [], length}
 use Rattle.std.specs.Prelude.{All}
 use Rattle.zodb_core.specs.Outcomes.{Answered}
-use Rattle.tree_calls.specs.declared.operation.TreeOperation.{TreeOperation}
+use Rattle.tree_attempts.specs.declared.operation.TreeOperation.{TreeOperation}
 use Rattle.client_turns.specs.Clients.{Moment}
 use Rattle.client_turns.specs.OverQuestions.{ReadsLinked}
 use Rattle.client_turns.specs.Gathering.{MayLearnAll, IsAskedOf, StandsGathering}
