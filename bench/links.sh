@@ -1,6 +1,7 @@
 #!/bin/bash
 # Loads and commits a second of 1, 8 and 32 links of one server, beside redis-server where it is there (GET; SET with
-# `appendfsync always`), and beside what two syncs a commit allow. It is no part of the gate:
+# `appendfsync always`), and beside what two syncs a commit allow, alone and with a client that is asked between them, as a
+# vote and its finish are. It is no part of the gate:
 #
 #     bench/links.sh [PROGRAM]
 #
@@ -41,6 +42,9 @@ for work in load commit; do
         rm -f data.fs*
     done
 done
-begun=$(date +%s.%N)
-./pairs pairs.data 500
-awk -v a="$begun" -v b="$(date +%s.%N)" 'BEGIN { printf "pairs of syncs a second: %.0f\n", 500 / (b - a) }'
+for how in "" asked; do
+    begun=$(date +%s.%N)
+    ./pairs pairs.data 2000 $how
+    awk -v a="$begun" -v b="$(date +%s.%N)" -v how="${how:+, each with a round trip between}" \
+        'BEGIN { printf "pairs of syncs a second%s: %.0f\n", how, 2000 / (b - a) }'
+done

@@ -1,5 +1,5 @@
 -- What passes, ears and the seat under the lock know, and what holds under the lock. Own.
-use Rattle.std.specs.Prelude.{◌≡◌, ℕ, ◌≤◌, ◌⊎◌, Bool, true, false, Some, None, List, [], ◌∷◌, ◌++◌, length, drop, not, ◌&&◌}
+use Rattle.std.specs.Prelude.{◌≡◌, ℕ, ◌-◌, ◌^◌, ◌≤◌, ◌⊎◌, Bool, true, false, Some, None, List, [], ◌∷◌, ◌++◌, length, drop, not, ◌&&◌}
 use Rattle.std.specs.List.{list_any}
 use mathlib.Core.List.{IsPrefix}
 use Rattle.zb_base.specs.Counts.{Rose}
@@ -45,6 +45,14 @@ OnlyLooks v = (v.has_pen ≡ false) × (v.session ≡ None)
 -- the seat under the lock
 abbrev pub keeper : List Entry → SeatView Entry
 keeper entries = record { has_pen = true; session = None; last = 0; seen = entries; told = [] }
+
+-- a vote is held: no session has the greatest number, so that it is another's for that
+abbrev pub is_voting : {R F : Type 0} → HubState R F → Bool
+is_voting hub = is_held_by_another (2 ^ 32 - 1) hub.vote
+
+-- the session is open, and the store has not failed
+abbrev pub is_live : {R F : Type 0} → HubState R F → ℕ → Bool
+is_live hub s = is_open_in (sessions_with hub.store.broken hub.sessions) s
 
 -- a session that needs the vote has to wait: it is open, and another session holds the vote
 abbrev pub waits_for : {R F : Type 0} → HubState R F → ℕ → Bool

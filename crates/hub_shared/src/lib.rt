@@ -5,6 +5,7 @@ mod entry;
 mod heard;
 mod locked;
 mod names;
+mod rings;
 mod shared;
 mod tokens;
 

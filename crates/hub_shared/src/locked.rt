@@ -1,6 +1,6 @@
 //! What lies under the lock.
 
-ghost use Rattle.std.specs.Prelude.{◌≡◌, ◌≢◌, ℕ, ◌+◌, ◌++◌, List, [], ◌∷◌, Some, None, true, false, length, IfOk, IfErr, ◌&&◌, not};
+ghost use Rattle.std.specs.Prelude.{◌≡◌, ◌≢◌, ℕ, ◌+◌, ◌++◌, List, [], ◌∷◌, Some, None, true, false, length, IfOk, IfErr, ◌&&◌, ◌||◌, ◌==◌, not};
 ghost use mathlib.Core.List.{IsPrefix};
 ghost use Rattle.hub_clock.specs.Rules.{IsLast, MayPublish, entries_of, looker, opening_view};
 ghost use Rattle.zodb_core.specs.Entries.{session_of};
@@ -9,11 +9,12 @@ ghost use Rattle.zodb_core.specs.HubState.{IsFitting, StandsForMachine, counts_o
 ghost use Rattle.zodb_core.specs.Machine.{Machine, machine_over};
 ghost use Rattle.zodb_core.specs.Waiting.{is_held_by_another, needs_vote};
 ghost use Rattle.hub_shared.specs.Calls.{HasCalled, HasEntered, IsHeard, IsNotBusy, IsRefusedBehind};
-ghost use Rattle.hub_shared.specs.Seats.{HasLasted, HasPosted, HoldsSession, IsPosted, Listening, OnlyLooks, is_quiet_for, keeper_for, known, machine_of, waits_for};
+ghost use Rattle.hub_shared.specs.Seats.{HasLasted, HasPosted, HoldsSession, IsPosted, Listening, OnlyLooks, is_live, is_quiet_for, is_voting, keeper_for, known, machine_of, waits_for};
 
 use crate::entry::HistoryEntry;
 use crate::heard::Heard;
 use crate::names::{Asked, Origin};
+use crate::rings::{NOBODY, Outlook, Rings};
 use hub_clock::{ClockName, ClockSeat, HubClock, NextEntry};
 use std::alloc::Global;
 use std::marker::{Brand, Model};
@@ -146,6 +147,31 @@ impl<St: Store, R: Resolver, F: Refs, C: Clock, J: Origin> LockedHub<St, R, F, C
         ensures { result ≡ is_quiet_for self.now.hub session told }
     {
         self.hub.is_open(session) && !self.hub.has_news(session, told)
+    }
+
+    /// What is so before a step, by which `rings` tells whom the step may concern.
+    pub(crate) fn outlook(&self, request: &Request) -> Outlook
+        ensures entries { result.entries ≡ length self.now.hub.journal }
+        ensures may_free { result.may_free ≡ (is_voting self.now.hub || needs_vote request.now) }
+    {
+        Outlook {
+            entries: self.hub.entries(),
+            may_free: self.hub.is_held(NOBODY) || needs_vote(request),
+        }
+    }
+
+    /// Whom a session's step may concern: the ears, where the journal grew or the session isn't open any
+    /// more, as behind a close and a store fault; one that waits for the vote, where it was held or asked
+    /// for and isn't held now.
+    pub(crate) fn rings(&self, session: u32, before: Outlook) -> Rings
+        ensures ears { result.ears ≡ (not (before.entries == length self.now.hub.journal) || not (is_live self.now.hub session)) }
+        ensures voter { result.voter ≡ (before.may_free && not (is_voting self.now.hub && is_live self.now.hub session)) }
+    {
+        let open = self.hub.is_open(session);
+        Rings {
+            ears: before.entries != self.hub.entries() || !open,
+            voter: before.may_free && !(self.hub.is_held(NOBODY) && open),
+        }
     }
 
     /// How many entries the journal has.

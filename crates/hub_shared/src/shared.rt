@@ -13,6 +13,7 @@ use crate::entry::HistoryEntry;
 use crate::heard::Heard;
 use crate::locked::{LockedHub, needs_vote};
 use crate::names::Origin;
+use crate::rings::Rings;
 use crate::tokens::{Ear, Pass, Seen};
 use hub_clock::{ClockSeat, HubClock};
 use std::alloc::Global;
@@ -30,8 +31,10 @@ pub struct Shared<St: Store, R: Resolver, F: Refs, C: Clock, J: Origin> {
     word: HubClock<HistoryEntry, J>,
     /// The hub.
     locked: Mutex<LockedHub<St, R, F, C, J>>,
-    /// Rung after each step.
-    moved: Condvar,
+    /// Rung behind each step of which an ear may hear.
+    told: Condvar,
+    /// Rung for one that waits, behind each step that may have left the vote free.
+    freed: Condvar,
 }
 
 impl<St: Store + Drop, R: Resolver + Drop, F: Refs + Drop, C: Clock + Drop, J: Origin> Shared<
@@ -61,7 +64,8 @@ impl<St: Store + Drop, R: Resolver + Drop, F: Refs + Drop, C: Clock + Drop, J: O
         let shared = Shared {
             word,
             locked: Mutex::new(locked),
-            moved: Condvar::new(),
+            told: Condvar::new(),
+            freed: Condvar::new(),
         };
         (shared, Seen { seat })
     }
@@ -109,11 +113,12 @@ impl<St: Store + Drop, R: Resolver + Drop, F: Refs + Drop, C: Clock + Drop, J: O
         ensures { HasCalled St.told J.rules J.list J.counts request result.1 pass result.0 }
     {
         let Pass { session, seat } = pass;
-        let (seat, reply) = self
-            .locked
-            .lock(rt)
-            .call::<Brand>(&self.word, alloc, seat, session, request);
-        self.moved.notify_all();
+        let mut locked = self.locked.lock(rt);
+        let before = locked.outlook(&request);
+        let (seat, reply) = locked.call::<Brand>(&self.word, alloc, seat, session, request);
+        let rings = locked.rings(session, before);
+        drop(locked);
+        self.ring(rings);
         (Pass { session, seat }, reply)
     }
 
@@ -134,12 +139,25 @@ impl<St: Store + Drop, R: Resolver + Drop, F: Refs + Drop, C: Clock + Drop, J: O
         }
         let Pass { session, seat } = pass;
         let mut locked = self
-            .moved
+            .freed
             .wait_while(rt, self.locked.lock(rt), |locked| locked.is_held(session));
+        let before = locked.outlook(&request);
         let (seat, reply) = locked.call::<Brand>(&self.word, alloc, seat, session, request);
+        let rings = locked.rings(session, before);
         drop(locked);
-        self.moved.notify_all();
+        self.ring(rings);
         (Pass { session, seat }, reply)
+    }
+
+    /// Wakes those whom a step may concern: each ear, and one that waits for the vote, which rings for the
+    /// next where it leaves the vote free.
+    fn ring(&self, rings: Rings) {
+        if rings.ears {
+            self.told.notify_all();
+        }
+        if rings.voter {
+            self.freed.notify_one();
+        }
     }
 
     /// The number of entries of the history. It takes no lock and never waits.
@@ -236,7 +254,7 @@ impl<St: Store + Drop, R: Resolver + Drop, F: Refs + Drop, C: Clock + Drop, J: O
             told,
             seat,
         } = ear;
-        let mut locked = self.moved.wait_while(
+        let mut locked = self.told.wait_while(
             rt,
             self.locked.lock(rt),
             |locked| locked.is_quiet(session, told),
@@ -266,7 +284,8 @@ impl<St: Store + Drop, R: Resolver + Drop, F: Refs + Drop, C: Clock + Drop, J: O
         let Shared {
             word,
             locked,
-            moved: _,
+            told: _,
+            freed: _,
         } = self;
         let mut locked = locked.into_inner();
         let _seat = locked.refresh(&word, seat);
