@@ -5,8 +5,9 @@ use Rattle.std.specs.List.{AllByRecursion}
 use Rattle.gen_script.specs.declared.line.GenLine.{GenLine}
 use Rattle.gen_script.specs.declared.turns.GenTurns.{GenTurns}
 use Rattle.gen_script.specs.Counting.{AreCounts}
-use Rattle.gen_script.specs.Left.{IsReady, lines_left}
+use Rattle.gen_script.specs.Left.{IsReady, SaysLine, lines_left}
 use Rattle.gen_script.proofs.Counts.{counts_left, first_count}
+use Rattle.gen_script.proofs.Texts.{AllSay}
 use Rattle.gen_script.specs.Script.{count_of, drawn, gen_lines, is_hundredth, next, pack_behind, round, rounds, setup, turns_of}
 
 same_line : (a b : GenLine) → Some a ≡ Some b → a ≡ b
@@ -72,11 +73,14 @@ pub record IsFirst (g : GenTurns) (l : GenLine) : Type 0 where
   pub left : slice_index g.counts l.client - 1 ≡ count_of l.client (behind_line g)
   pub counts : AreCounts (slice_set g.counts l.client (slice_index g.counts l.client - 1)) (behind_line g)
   pub four : AreFour (behind_line g)
+  pub says : SaysLine l.text
+  pub texts : AllSay (behind_line g)
 
 pub is_first : (g : GenTurns) (block : List GenLine) (l : GenLine) → IsReady g → block ≡ g.block → slice_get block g.at ≡ Some l → IsFirst g l
 is_first g block l ready same there =
     let lines : lines_left g ≡ l ∷ behind_line g = taken_next g.block g.at l (rounds g.rounds_left g.round g.x) (sym (ap (λ (xs : List GenLine). slice_get xs g.at) same) ∙ there) in
     let four : AreFour (l ∷ behind_line g) = subst AreFour lines ready.clients in
+    let texts : AllSay (l ∷ behind_line g) = subst AllSay lines ready.texts in
     let counts : AreCounts g.counts (l ∷ behind_line g) = subst (AreCounts g.counts) lines ready.counts in
     let first : slice_index g.counts l.client ≡ 1 + count_of l.client (behind_line g) = first_count g.counts l (behind_line g) counts four.0 in
     record {
@@ -86,6 +90,8 @@ is_first g block l ready same there =
       left = omega (arith, first);
       counts = counts_left g.counts l (behind_line g) counts four.0;
       four = four.1;
+      says = texts.0;
+      texts = texts.1;
     }
 
 pub filled : (g : GenTurns) (block : List GenLine) (x : ℕ) → length g.block ≤ g.at → 0 < g.rounds_left → block ≡ round g.round g.x → x ≡ next (next g.x) → block ++ rounds (g.rounds_left - 1) (g.round + 1) x ≡ lines_left g

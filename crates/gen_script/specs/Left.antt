@@ -1,6 +1,8 @@
 -- What is left of the script. Own.
-use Rattle.std.specs.Prelude.{◌≡◌, ◌≤◌, ◌<◌, ◌+◌, ◌^◌, List, [], ◌∷◌, ◌++◌, Option, Some, None, drop, length}
+use Rattle.std.specs.Prelude.{◌≡◌, ℕ, ◌≤◌, ◌<◌, ◌+◌, ◌^◌, List, [], ◌∷◌, ◌++◌, Option, Some, None, drop, length}
 use Rattle.std.specs.List.{AllByRecursion}
+use Rattle.zb_script.specs.declared.line.Line.{Line}
+use Rattle.zb_script.specs.Spelling.{IsLineText}
 use Rattle.gen_script.specs.declared.line.GenLine.{GenLine}
 use Rattle.gen_script.specs.declared.turns.GenTurn.{GenTurn}
 use Rattle.gen_script.specs.declared.turns.GenTurns.{GenTurns}
@@ -11,11 +13,17 @@ use Rattle.gen_script.specs.Script.{IsTurnOf, is_last_before, rounds}
 abbrev pub lines_left : GenTurns → List GenLine
 lines_left g = drop g.at g.block ++ rounds g.rounds_left g.round g.x
 
--- the counts are those of the lines that are left, each of one of four clients, and the numbers have room
+-- the text is that of a line which a script can have
+pub record SaysLine (text : List ℕ) : Type 0 where
+  pub line : Line
+  pub is : IsLineText text line
+
+-- the counts are those of the lines that are left, each of one of four clients and the text of a line, and the numbers have room
 pub record IsReady (g : GenTurns) : Type 0 where
   pub counts : AreCounts g.counts (lines_left g)
   pub within : g.at ≤ length g.block
   pub clients : AllByRecursion (λ l. l.client < 4) (lines_left g)
+  pub texts : AllByRecursion (λ l. SaysLine l.text) (lines_left g)
   pub number : g.x < 2 ^ 31
   pub room : g.round + g.rounds_left ≤ 8001
 

@@ -2,8 +2,8 @@
 
 ghost use Rattle.std.specs.Prelude.{◌≡◌, ◌<◌, ◌≤◌, IfOk, OnOk, IfSome, Some, length, slice_get};
 ghost use Rattle.zb_script.specs.Names.{IsName};
-ghost use Rattle.zb_script.specs.Spelling.{IsLine};
-ghost use Rattle.gen_script.specs.Left.{GivesNext, IsReady, lines_left};
+ghost use Rattle.zb_script.specs.Spelling.{IsLine, IsLineText};
+ghost use Rattle.gen_script.specs.Left.{GivesNext, IsReady, SaysLine, lines_left};
 ghost use Rattle.gen_script.specs.Script.{client_name, gen_lines};
 
 use crate::blocks::{round, setup};
@@ -11,7 +11,7 @@ use crate::counting::{count_down, counts_of};
 use crate::line::GenLine;
 use std::alloc::{AllocError, Global};
 use zb_ids::ListOf;
-use zb_script::{Name, ScriptError, Turn, read_line};
+use zb_script::{Line, Name, ScriptError, Turn, read_line};
 
 /// How many rounds the script has at most.
 pub const MOST_ROUNDS: u64 = 8_000;
@@ -70,6 +70,19 @@ fn line_at(block: &[GenLine], at: usize) -> &GenLine
     &block[at]
 }
 
+/// The line that a text says.
+fn line_of(alloc: Global, text: &[u8]) -> Result<Line, AllocError>
+    requires { SaysLine text.now }
+    ensures found { IfOk result (λ line. IsLineText text.now line) }
+    ensures fields { IfOk result IsLine }
+{
+    match read_line(alloc, text) {
+        Ok(line) => Ok(line),
+        Err(ScriptError::Memory) => Err(AllocError),
+        Err(ScriptError::Limit(_)) | Err(ScriptError::BadLine { .. }) => unreachable!(),
+    }
+}
+
 impl GenTurns {
     /// The script of so many rounds, none of which was taken.
     pub fn new(alloc: Global, rounds: u64) -> Result<GenTurns, AllocError>
@@ -108,7 +121,7 @@ impl GenTurns {
     }
 
     /// Takes the first line of the round that was made last.
-    fn take(&mut self) -> Result<GenTurn, ScriptError>
+    fn take(&mut self) -> Result<GenTurn, AllocError>
         requires ready { IsReady self.old }
         requires some { self.old.at < length self.old.block }
         ensures taken { IfOk result (λ turn. GivesNext (lines_left self.old) (Some turn) (lines_left self.new)) }
@@ -117,7 +130,7 @@ impl GenTurns {
     {
         let first = line_at(self.block.as_slice(), self.at);
         let client = first.client;
-        let line = read_line(self.alloc, first.text.as_slice())?;
+        let line = line_of(self.alloc, first.text.as_slice())?;
         self.at += 1;
         let is_last = count_down(&mut self.counts, client);
         Ok(GenTurn {
@@ -129,10 +142,8 @@ impl GenTurns {
         })
     }
 
-    /// Takes the next turn, or `None` where none is left.
-    ///
-    /// Memory may run out. Each line is one of a script, so that `BadLine` never comes; that is only tested.
-    pub fn next(&mut self) -> Result<Option<GenTurn>, ScriptError>
+    /// Takes the next turn, or `None` where none is left. The one error is want of memory.
+    pub fn next(&mut self) -> Result<Option<GenTurn>, AllocError>
         requires ready { IsReady self.old }
         ensures given { IfOk result (λ given. GivesNext (lines_left self.old) given (lines_left self.new)) }
         ensures ready { OnOk result (IsReady self.new) }

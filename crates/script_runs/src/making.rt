@@ -61,7 +61,7 @@ fn take_made<St: Store, C: Clock>(
         let turn = match turns.next() {
             Ok(Some(turn)) => turn,
             Ok(None) => return Ok(tally),
-            Err(_) => return Err(TurnError::Memory),
+            Err(AllocError) => return Err(TurnError::Memory),
         };
         let answer = clients.take_turn(alloc, &turn.turn, turn.is_last, clock);
         let_go(turn);

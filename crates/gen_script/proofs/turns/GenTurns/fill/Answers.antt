@@ -3,6 +3,7 @@ use Rattle.gen_script.specs.Counting.{AreCounts}
 use Rattle.gen_script.specs.Left.{lines_left}
 use Rattle.gen_script.specs.Script.{rounds}
 use Rattle.gen_script.proofs.Lefts.{AreFour, filled}
+use Rattle.gen_script.proofs.Texts.{AllSay}
 use Rattle.gen_script.proofs.turns.GenTurns.fill.Goals as goal
 
 pub returns-clause-lines : goal.returns-clause-lines
@@ -16,6 +17,7 @@ returns-clause-ready c =
       counts = subst (AreCounts c.args.self.now.counts) (sym same) c.requires.ready.counts;
       within = omega arith;
       clients = subst AreFour (sym same) c.requires.ready.clients;
+      texts = subst AllSay (sym same) c.requires.ready.texts;
       number = c.in_ok-block.ensures.small;
       room = omega (arith, c.requires.ready.room, c.requires.more);
     }
