@@ -149,14 +149,14 @@ impl<St: Store + Drop, R: Resolver + Drop, F: Refs + Drop, C: Clock + Drop, J: O
         (Pass { session, seat }, reply)
     }
 
-    /// Wakes those whom a step may concern: each ear, and one that waits for the vote, which rings for the
-    /// next where it leaves the vote free.
+    /// Wakes those whom a step may concern: first one that waits for the vote, which rings for the next
+    /// where it leaves the vote free, and then each ear.
     fn ring(&self, rings: Rings) {
-        if rings.ears {
-            self.told.notify_all();
-        }
         if rings.voter {
             self.freed.notify_one();
+        }
+        if rings.ears {
+            self.told.notify_all();
         }
     }
 
