@@ -9,10 +9,12 @@ which stands at crates/zodb/out/zodb after `rt run`, and bench/make_tree, compil
 For each number of records (10000, 100000 and 1000000 where none is given) every object can be reached, and one line
 says how many turns the pack took, the longest turn of each kind, all of them, and the pack in one step, in seconds, and the
 greatest memory of both runs. A turn is timed from one answer to the next, which the program writes before it takes the
-next line.
+next line. Where valgrind is there, a second line says for up to 100,000 records how many instructions a change the turns
+take that mark, and those that copy with the switch, and how many a change the middle and the last turn that marks.
 """
 import os
 import resource
+import shutil
 import struct
 import subprocess
 import sys
@@ -55,6 +57,25 @@ def step_of(program, path):
     return time.monotonic() - start, used.ru_maxrss
 
 
+def instructions_of(program, path, count):
+    """The instructions of a run that begins a pack and makes so many turns of it; the file stays as it is up to the switch."""
+    lines = "\n".join(["a open local", f"a packbegin {TID}", *["a packturn"] * count]) + "\n"
+    run = subprocess.run(["valgrind", "--tool=cachegrind", "--cache-sim=no", "--cachegrind-out-file=/dev/null", program, path, "run"],
+                         input=lines.encode(), stdout=subprocess.DEVNULL, stderr=subprocess.PIPE)
+    return int(next(line for line in run.stderr.decode().splitlines() if "I   refs" in line or "I refs" in line).split(":")[1].replace(",", ""))
+
+
+def count_packs(program, make_tree, records, marking, turns, folder):
+    """Says how many instructions a change the turns of a pack take: so many that mark, of so many in all."""
+    path = os.path.join(folder, "counted.fs")
+    subprocess.run([make_tree, path, str(records)], check=True)
+    begun, half, before_half, marked, before_last = (
+        instructions_of(program, path, count) for count in (0, marking // 2, marking // 2 - 1, marking, marking - 1))
+    whole = instructions_of(program, path, turns)
+    print(f"{records:8} records, instructions a change: marking {(marked - begun) // records}, copying and the switch "
+          f"{(whole - marked) // records}; the middle turn that marks {(half - before_half) // 64}, the last {(marked - before_last) // 64}")
+
+
 def time_packs(program, make_tree, records, folder):
     path = os.path.join(folder, "packed.fs")
     subprocess.run([make_tree, path, str(records)], check=True)
@@ -67,6 +88,8 @@ def time_packs(program, make_tree, records, folder):
     print(f"{records:8} records: {count} turns, the longest that marks {longest['marking']:.4f}, that copies "
           f"{longest['copying']:.4f}, the switch {took['packed'][0]:.4f}, all {whole:.2f}; in one step, with opening, {step:.2f}; "
           f"{memory} and {step_memory} KiB")
+    if shutil.which("valgrind") and records <= 100_000:
+        count_packs(program, make_tree, records, len(took.get("marking", [])) + 1, count, folder)
 
 
 def transaction(tid, records):
