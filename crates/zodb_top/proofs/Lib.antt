@@ -2,6 +2,7 @@ pub mod Said
 pub mod Serves
 pub mod Sides
 pub mod Nexts
+pub mod Stores
 pub mod Files
 pub mod Volumes
 pub mod Sources

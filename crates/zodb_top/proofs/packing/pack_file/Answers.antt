@@ -1,14 +1,10 @@
 use Rattle.std.proofs.Common.{◌∙◌}
-use Rattle.std.specs.Option.{option_map}
-use Rattle.fs_records.specs.Listed.{listed}
-use Rattle.pack_copy.specs.Copying.{copied_in}
-use Rattle.file_store.specs.Kept.{voted_in}
 use Rattle.zb_model.specs.Stores.{StoreState}
-use Rattle.zb_volume.specs.declared.areas.Area.TheVariants.{Main, Side}
-use Rattle.zb_volume.specs.Disk.{seen}
+use Rattle.zb_volume.specs.declared.areas.Area.TheVariants.{Main}
 use Rattle.zodb_top.specs.Outside.{Outside, outside}
 use Rattle.zodb_top.proofs.Files.{opened_none, opens_as, unopened_done}
 use Rattle.zodb_top.proofs.Nexts.{unopened_other}
+use Rattle.zodb_top.proofs.Stores.{state_by}
 use Rattle.zodb_top.proofs.Packs.{packs_file, unopened}
 use Rattle.zodb_top.proofs.Volumes.{bytes_unless}
 use Rattle.zb_volume.specs.Runs.{along_now}
@@ -24,26 +20,8 @@ returns-in-Ok-clause-outcome g c =
     let after : Outside = outside (K.taken c.pack_over-status.new.sink) (K.faults c.pack_over-status.new.sink) (C.stamps c.pack_over-status.new.clock) (V.state c.into_volume.result) in
     let s = c.in-Ok.store in
     let t = c.pack_over-status.result.1 in
-    let state : StoreState = record {
-      list = listed (seen (V.state s.volume).log Main);
-      voted = option_map (λ x. voted_in x.tid s.index.end (seen (V.state s.volume).log Main)) s.index.staged;
-      begun = option_map (λ x. copied_in x.tid (seen (V.state s.volume).log Side)) s.copy;
-      newest = s.index.newest;
-      broken = s.broken;
-      log = (V.state s.volume).log;
-      faults = (V.state s.volume).write_faults;
-      read_faults = (V.state s.volume).read_faults;
-    } in
-    let state' : StoreState = record {
-      list = listed (seen (V.state t.volume).log Main);
-      voted = option_map (λ x. voted_in x.tid t.index.end (seen (V.state t.volume).log Main)) t.index.staged;
-      begun = option_map (λ x. copied_in x.tid (seen (V.state t.volume).log Side)) t.copy;
-      newest = t.index.newest;
-      broken = t.broken;
-      log = (V.state t.volume).log;
-      faults = (V.state t.volume).write_faults;
-      read_faults = (V.state t.volume).read_faults;
-    } in
+    let state : StoreState = state_by (V.state s.volume) s.index s.copy s.broken in
+    let state' : StoreState = state_by (V.state t.volume) t.index t.copy t.broken in
     packs_file c.args.pack before state (C.stamps c.create_or_open.new.clock) c.in-Ok.cut after state' V.told c.in-Ok.ensures.store.faults c.in-Ok.ensures.store.read_faults c.into_volume.ensures.log c.into_volume.ensures.read_faults c.into_volume.ensures.faults c.pack_over-status.result.0
     (λ told. record {
       opens = opens_as _ _ _ _ _ (λ some. ((c.in-Ok.ensures.store.main told).reopened some).opened) (λ empty. ((c.in-Ok.ensures.store.main told).anew empty).made) (c.in-Ok.ensures.clock.kept told) (c.in-Ok.ensures.clock.left told);
