@@ -147,7 +147,9 @@ impl<const LEAF: usize, const INNER: usize> Tree<LEAF, INNER> {
     }
 
     /// Sets what stands under a key as [`set`](Self::set) does, where the space can give so many numbers for new objects. Where
-    /// more are needed, it says so once all was read and each record tried, and nothing is drawn or put.
+    /// more are needed, it says so once all was read and each record tried, and nothing is drawn or put. `numbers` are those that
+    /// the space gives next, as far as they are known: they spare a second trial, and change no answer. Where it gives others, the
+    /// set ends as for want of memory.
     pub fn set_within<S: Space>(
         &self,
         alloc: Global,
@@ -155,6 +157,7 @@ impl<const LEAF: usize, const INNER: usize> Tree<LEAF, INNER> {
         key: Key,
         value: Option<Text8>,
         supply: usize,
+        numbers: &[Oid],
     ) -> Result<SetEnd, TreeError>
         ensures ways { SetsWithin S.told (S.contents space.old) (S.contents space.new) (S.log space.old)
             (S.log space.new) self.now.root (record { leaf = LEAF; inner = INNER }) key value supply result }
@@ -164,7 +167,7 @@ impl<const LEAF: usize, const INNER: usize> Tree<LEAF, INNER> {
             leaf: LEAF,
             inner: INNER,
         };
-        set_within(alloc, space, self.root, sizes, key, value, supply)
+        set_within(alloc, space, self.root, sizes, key, value, supply, numbers)
     }
 
     /// Removes a key, and answers whether it was there. Where it is absent, nothing is put.

@@ -25,7 +25,7 @@ nodes_same (x ∷ xs) = (inl refl, nodes_same xs)
 pub graph_same : (g other : Graph) → g ≡ other → GraphsAlike g other
 graph_same g other e = subst (GraphsAlike g) e (record { nodes = nodes_same g.nodes; root = refl })
 
-as_many : (ns ms : List ValueNode) → NodesAlike ns ms → length ns ≡ length ms
+pub as_many : (ns ms : List ValueNode) → NodesAlike ns ms → length ns ≡ length ms
 as_many [] [] h = refl
 as_many (x ∷ xs) (y ∷ ys) h = ap suc (as_many xs ys h.1)
 as_many [] (y ∷ ys) h = absurd h

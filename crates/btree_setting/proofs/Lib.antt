@@ -14,3 +14,5 @@ pub mod Renumbered
 pub mod Graphed
 pub mod Rekept
 pub mod Alike
+pub mod Alikes
+pub mod Ahead

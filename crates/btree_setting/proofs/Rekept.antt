@@ -46,11 +46,11 @@ use Rattle.btree_setting.proofs.Graphed.{graph_same, bucket_alike, inner_alike, 
 use Rattle.btree_setting.proofs.Numbered.{OidAlike, LinkAlike, BranchAlike, BranchesAlike, NodeAlike, PutAlike, PutsAlike, same_separators}
 use Rattle.btree_setting.proofs.Renumbered.{changes_alike}
 
-both : (a b : Bool) → (a && b) ≡ true → (a ≡ true) × (b ≡ true)
+pub both : (a b : Bool) → (a && b) ≡ true → (a ≡ true) × (b ≡ true)
 both true b e = (refl, e)
 both false b e = cc
 
-when : (a b : Bool) → (if a then b else false) ≡ true → (a ≡ true) × (b ≡ true)
+pub when : (a b : Bool) → (if a then b else false) ≡ true → (a ≡ true) × (b ≡ true)
 when true b e = (refl, e)
 when false b e = cc
 
@@ -307,7 +307,7 @@ module _ (apart : LinkStandsApart) (written : WrittenInnerReadsBack) where
         let there : keeps class leaf (record { oid = q.oid; class = p.class; leaves = p.leaves; node = q.node }) ≡ true = put_kept class leaf p.class p.leaves p.node q.node p.oid q.oid h.node sound k in
         (λ i. keeps class leaf (record { oid = q.oid; class = sym h.class i; leaves = sym h.leaves i; node = q.node })) ∙ there
 
-    all_kept : (class leaf : Class) (ps qs : List Put) → PutsAlike ps qs → AreSound class leaf ps → all_keep class leaf ps ≡ true → all_keep class leaf qs ≡ true
+    pub all_kept : (class leaf : Class) (ps qs : List Put) → PutsAlike ps qs → AreSound class leaf ps → all_keep class leaf ps ≡ true → all_keep class leaf qs ≡ true
     all_kept class leaf [] [] h s k = refl
     all_kept class leaf (p ∷ ps) (q ∷ qs) h s k =
         let w = when (keeps class leaf p) (all_keep class leaf ps) k in

@@ -63,7 +63,7 @@ length_append : (xs ys : List ℕ) → length (xs ++ ys) ≡ length xs + length 
 length_append [] ys = omega arith
 length_append (x ∷ xs) ys = let r = length_append xs ys in omega (arith, r)
 
-length_oids : (news : List Put) → length (map put_oid news) ≡ length news
+pub length_oids : (news : List Put) → length (map put_oid news) ≡ length news
 length_oids [] = refl
 length_oids (x ∷ xs) = ap suc (length_oids xs)
 

@@ -16,11 +16,12 @@ use Rattle.btree_setting.specs.declared.preparing.Task.{Task}
 use Rattle.btree_setting.specs.declared.setting.SetEnd.{SetEnd}
 use Rattle.btree_setting.specs.declared.setting.SetEnd.TheVariants.{Done, Lacks}
 use Rattle.btree_setting.specs.declared.setting.Trial.{Trial}
+use Rattle.btree_setting.specs.declared.setting.Ahead.{Ahead}
 use Rattle.btree_putting.specs.Writing.{plain_class}
 use Rattle.btree_putting.specs.Kept.{AreTried}
 use Rattle.btree_putting.specs.Puts.{put_oid, sort_puts, all_keep, AreSound}
 use Rattle.btree_putting.specs.Storing.{IsStored, IsStoredFront}
-use Rattle.btree_setting.specs.Changes.{IsRootSet}
+use Rattle.btree_setting.specs.Changes.{AreDrawn, IsRootSet}
 
 -- ---- drawing
 
@@ -112,6 +113,23 @@ pub record IsPlan (told : Type 0) (terms : Terms) (task : Task) (puts : List Put
   pub few : length change.news < 2 ^ 64
   pub numbers : AllBelow (2 ^ 64) (map put_oid change.news)
   pub drawn : told → calls' ≡ calls ++ drew_news change
+
+-- ---- numbers that are there already
+
+-- All that a change puts whose new objects have the first of these numbers can be written and read back, and so can what the set
+-- would put where each number were 0.
+pub record IsAhead (class leaf : Class) (terms : Terms) (task : Task) (numbers : List ℕ) (ahead : Ahead) : Type 0 where
+  pub passes : Passes class leaf terms task ahead.count
+  pub change : Change
+  pub set : IsRootSet terms task.bottom task.rungs change
+  pub drawn : AreDrawn numbers change.news
+  pub tried : AreTried class leaf (puts_of change) ahead.kept
+
+-- the same, with the terms of the set
+pub record HasAhead (class leaf : Class) (sizes : Sizes) (key : Key) (task : Task) (numbers : List ℕ) (ahead : Ahead) : Type 0 where
+  pub terms : Terms
+  pub terms_are : terms_of class leaf sizes key ≡ Some terms
+  pub is_ahead : IsAhead class leaf terms task numbers ahead
 
 -- ---- the whole
 

@@ -1,12 +1,12 @@
 //! Setting what stands under a key.
 
-ghost use Rattle.std.specs.Prelude.{◌≡◌, ◌++◌, true, length, IfOk, IfErr, IfSome, OnErr};
+ghost use Rattle.std.specs.Prelude.{◌≡◌, ◌++◌, true, length, take, IfOk, IfErr, IfSome, OnErr};
 ghost use Rattle.btree_family.specs.Classes.{class_seen};
 ghost use Rattle.btree_shapes.specs.Spaces.{handed_on};
 ghost use Rattle.btree_putting.specs.Kept.{AreTried};
 ghost use Rattle.btree_putting.specs.Puts.{all_keep};
 ghost use Rattle.btree_putting.specs.Storing.{IsFree};
-ghost use Rattle.btree_setting.specs.Sets.{DrewOf, terms_of, CountsNews, Tried, IsPlan, WritesWithin};
+ghost use Rattle.btree_setting.specs.Sets.{DrewOf, HasAhead, IsAhead, terms_of, CountsNews, Tried, IsPlan, Writes, WritesWithin};
 ghost use Rattle.btree_shapes.specs.Met.{ReadsFirst};
 ghost use Rattle.btree_shapes.specs.Ways.{IsRefusal};
 ghost use Rattle.btree_setting.specs.Tasks.{met_under, task_under, reads_under};
@@ -133,6 +133,104 @@ fn keep_plan(alloc: Global, family: &Family, puts: Puts) -> Result<KeptPuts, All
     }
 }
 
+/// What trying a change gives whose numbers are there already: how many new objects there are, and all that it puts, in order.
+#[derive(Drop)]
+struct Ahead {
+    count: usize,
+    kept: KeptPuts,
+}
+
+/// Tries all records that a set puts with these numbers, where they suffice. There is nothing also where one can't be written
+/// or doesn't read back.
+#[tactic(auto, using(crate::proofs::Ahead::is_ahead))]
+fn try_ahead(
+    alloc: Global,
+    family: &Family,
+    terms: &Terms,
+    task: &Task,
+    numbers: &[Oid],
+) -> Result<Option<Ahead>, AllocError>
+    requires { AreGlobal family.now }
+    ensures { IfOk result (λ found. IfSome found (IsAhead (class_seen family.now.row.now)
+        (class_seen family.now.leaf.now) terms.now task.now numbers.now)) }
+{
+    let zeros = stand_ins(alloc, task.rungs.len())?;
+    // The change that contracts speak of, which has 0 for each number: it can be written where the other can.
+    let _zero = plan(alloc, terms, &task.bottom, &task.rungs, zeros.as_slice())?;
+    let Ok(change) = plan(alloc, terms, &task.bottom, &task.rungs, numbers) else {
+        return Ok(None);
+    };
+    let count = change.news.len();
+    let puts = in_order(alloc, change.news, change.olds)?;
+    alike_records_are_kept();
+    same_graphs_hold_the_same();
+    links_stand_apart();
+    written_objects_read_back();
+    let Some(kept) = keep_all(alloc, family, puts)? else {
+        return Ok(None);
+    };
+    Ok(Some(Ahead { count, kept }))
+}
+
+/// The same where there are numbers.
+fn find_ahead(
+    alloc: Global,
+    family: &Family,
+    sizes: Sizes,
+    key: &Key,
+    task: &Task,
+    numbers: &[Oid],
+) -> Result<Option<Ahead>, AllocError>
+    requires { AreGlobal family.now }
+    ensures { IfOk result (λ found. IfSome found (HasAhead (class_seen family.now.row.now)
+        (class_seen family.now.leaf.now) sizes key.now task.now numbers.now)) }
+{
+    if numbers.is_empty() {
+        return Ok(None);
+    }
+    let Some(terms) = terms_of(alloc, family, sizes, key.clone()?)? else {
+        return Ok(None);
+    };
+    try_ahead(alloc, family, &terms, task, numbers)
+}
+
+/// Whether numbers begin with others.
+fn begins_with(numbers: &[Oid], oids: &[Oid]) -> bool
+    ensures { result ≡ true → take (length oids.now) numbers.now ≡ oids.now }
+{
+    if numbers.len() < oids.len() {
+        return false;
+    }
+    let (front, _) = numbers.split_at(oids.len());
+    front == oids
+}
+
+/// Draws the numbers that were tried, and puts what was tried. Where the space gives others, it ends as for want of memory.
+#[tactic(auto, using(crate::proofs::Ahead::ahead_undrawn, crate::proofs::Ahead::ahead_other))]
+fn put_ahead<S: Space>(
+    alloc: Global,
+    space: &mut S,
+    family: &Family,
+    _sizes: Sizes,
+    _key: &Key,
+    _task: &Task,
+    numbers: &[Oid],
+    ahead: Ahead,
+) -> Result<(), TreeError>
+    requires { HasAhead (class_seen family.now.row.now) (class_seen family.now.leaf.now) _sizes _key.now _task.now
+        numbers.now ahead }
+    ensures writes { Writes S.told (class_seen family.now.row.now) (class_seen family.now.leaf.now) _sizes _key.now
+        _task.now (S.contents space.old) (S.contents space.new) (S.log space.old) (S.log space.new) result }
+    ensures refusals { S.told → S.refusals space.new ≡ S.refusals space.old ++ handed_on result }
+{
+    let Ahead { count, kept } = ahead;
+    let drawn = draw_all(alloc, space, count)?;
+    if !begins_with(numbers, drawn.as_slice()) {
+        return Err(TreeError::Memory);
+    }
+    store_all(space, family, kept)
+}
+
 /// How a set ends that isn't refused.
 #[derive(Clone, Copy, Debug, PartialEq, Eq)]
 pub enum SetEnd {
@@ -142,9 +240,10 @@ pub enum SetEnd {
     Lacks,
 }
 
-/// Tries the records that a set puts, draws the numbers of new objects, of which there are so many, and puts all.
+/// Tries the records that a set puts with 0 for each number, draws the numbers of new objects, of which there are so many, and
+/// puts all.
 #[tactic(auto, using(crate::proofs::Counting::counts_news, crate::proofs::Rekept::plan_kept, crate::proofs::Answering::starved, crate::proofs::Answering::undrawn, crate::proofs::Answering::is_short, crate::proofs::Answering::written_whole, crate::proofs::Answering::broken_whole, crate::proofs::Answering::written_kept, crate::proofs::Answering::broken_kept, crate::proofs::Answering::none_put))]
-fn write<S: Space>(
+fn write_anew<S: Space>(
     alloc: Global,
     space: &mut S,
     family: &Family,
@@ -183,6 +282,34 @@ fn write<S: Space>(
     };
     store_all(space, family, kept)?;
     Ok(SetEnd::Done)
+}
+
+/// Tries the records that a set puts, draws the numbers of new objects, of which there are so many, and puts all. Where the
+/// numbers that come next are known, it tries the records with these.
+fn write<S: Space>(
+    alloc: Global,
+    space: &mut S,
+    family: &Family,
+    sizes: Sizes,
+    key: Key,
+    task: &Task,
+    supply: usize,
+    numbers: &[Oid],
+) -> Result<SetEnd, TreeError>
+    requires { AreGlobal family.now }
+    ensures writes { WritesWithin S.told (class_seen family.now.row.now) (class_seen family.now.leaf.now) sizes key
+        task.now supply (S.contents space.old) (S.contents space.new) (S.log space.old) (S.log space.new) result }
+    ensures refusals { S.told → S.refusals space.new ≡ S.refusals space.old ++ handed_on result }
+{
+    match find_ahead(alloc, family, sizes, &key, task, numbers)? {
+        None => write_anew(alloc, space, family, sizes, key, task, supply),
+        Some(ahead) => {
+            match put_ahead(alloc, space, family, sizes, &key, task, numbers, ahead) {
+                Ok(()) => Ok(SetEnd::Done),
+                Err(error) => Err(error),
+            }
+        }
+    }
 }
 
 /// What a set is to change, and the classes of the tree.
@@ -234,7 +361,9 @@ fn find_task<S: Space>(
 }
 
 /// Sets what stands under a key in the tree with this root, where the space can give so many numbers for new objects. Where more
-/// are needed, it says so once all was read and each record tried, and nothing is drawn or put.
+/// are needed, it says so once all was read and each record tried, and nothing is drawn or put. `numbers` are those that the
+/// space gives next, as far as they are known: they spare a second trial, and change no answer. Where it gives others, the set
+/// ends as for want of memory.
 #[tactic(auto, using(crate::proofs::Answering::refused_before, crate::proofs::Answering::has_none, crate::proofs::Answering::has_task))]
 pub fn set_within<S: Space>(
     alloc: Global,
@@ -244,6 +373,7 @@ pub fn set_within<S: Space>(
     key: Key,
     value: Option<Text8>,
     supply: usize,
+    numbers: &[Oid],
 ) -> Result<SetEnd, TreeError>
     ensures ways { SetsWithin S.told (S.contents space.old) (S.contents space.new) (S.log space.old)
         (S.log space.new) root sizes key value supply result }
@@ -260,6 +390,7 @@ pub fn set_within<S: Space>(
             key,
             &finding.task,
             supply,
+            numbers,
         ),
     }
 }
@@ -277,7 +408,7 @@ pub fn set<S: Space>(
         root sizes key value result }
     ensures refusals { S.told → S.refusals space.new ≡ S.refusals space.old ++ handed_on result }
 {
-    match set_within(alloc, space, root, sizes, key, value, usize::MAX) {
+    match set_within(alloc, space, root, sizes, key, value, usize::MAX, &[]) {
         Ok(SetEnd::Done) => Ok(()),
         Ok(SetEnd::Lacks) => Err(TreeError::Memory),
         Err(error) => Err(error),

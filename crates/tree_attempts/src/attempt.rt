@@ -143,8 +143,9 @@ fn set_value<B: Sight>(
     ensures own { handed_on result ≡ [] }
 {
     let alloc = space.alloc;
-    let supply = space.numbers.len();
-    let ended = match tree_at(root).set_within(alloc, space, key, value, supply) {
+    let numbers = space.numbers;
+    let supply = numbers.len();
+    let ended = match tree_at(root).set_within(alloc, space, key, value, supply, numbers) {
         Ok(ended) => ended,
         Err(error) => return Err(error),
     };

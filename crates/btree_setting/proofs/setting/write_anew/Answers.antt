@@ -3,7 +3,7 @@ use Rattle.btree_setting.proofs.Answering.{none_put}
 use Rattle.btree_setting.proofs.Counting.{counts_news}
 use Rattle.btree_setting.proofs.Rekept.{plan_kept}
 use Rattle.btree_setting.proofs.Trying.{tried_some}
-use Rattle.btree_setting.proofs.setting.write.Goals as goal
+use Rattle.btree_setting.proofs.setting.write_anew.Goals as goal
 
 pub draw_and_plan-requires : goal.draw_and_plan-requires
 draw_and_plan-requires g c = record { counted = counts_news _ _ _ _ _ (tried_some _ _ _ _ _ _ c.in-Some-2.is c.in_ok-trial.ensures).passes }
