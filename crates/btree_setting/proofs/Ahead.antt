@@ -1,5 +1,5 @@
 -- What was tried with numbers that are there already.
-use Rattle.std.proofs.Common.{◌≡◌, ℕ, ◌<◌, ◌≤◌, ◌^◌, Bool, true, false, List, [], ◌∷◌, ◌++◌, Option, Some, Result, Ok, Err, refl, arith, sym, ◌∙◌, ap, subst, length, suc}
+use Rattle.std.proofs.Common.{◌≡◌, ℕ, ◌<◌, ◌^◌, Bool, true, false, List, [], ◌∷◌, ◌++◌, Option, Result, Ok, Err, refl, arith, sym, ◌∙◌, ap, subst, length}
 use Rattle.std.proofs.lemmas.Bool.{eqb-true}
 use Rattle.std.specs.Cmp.Lexicographic.{pointwise}
 use Rattle.std.specs.Prelude.{◌&&◌, eqb, if◌then◌else◌, map, nat_lt, take, IfErr, OnErr, OnOk}
@@ -15,7 +15,7 @@ use Rattle.btree_shapes.specs.declared.space.Call.TheVariants.{Drew}
 use Rattle.btree_putting.specs.declared.kept.Kept.{Kept}
 use Rattle.btree_putting.specs.declared.puts.Put.{Put}
 use Rattle.btree_putting.specs.Kept.{AreTried, kept_put}
-use Rattle.btree_putting.specs.Puts.{put_oid, add_put, add_all, sort_puts, keeps, all_keep, IsSoundPut, AreSound}
+use Rattle.btree_putting.specs.Puts.{put_oid, add_put, add_all, keeps, all_keep, IsSoundPut, AreSound}
 use Rattle.btree_putting.specs.Storing.{IsFree, IsStored, IsStoredFront}
 use Rattle.btree_setting.specs.declared.change.Change.{Change}
 use Rattle.btree_setting.specs.declared.growing.Terms.{Terms}
@@ -27,7 +27,6 @@ use Rattle.btree_setting.specs.Sets.{AreZero, DrewOf, HasAhead, IsAhead, IsPlan,
 use Rattle.btree_setting.proofs.Alikes.{puts_sound}
 use Rattle.btree_setting.proofs.Answering.{undrawn, written_kept, broken_kept}
 use Rattle.btree_setting.proofs.Counting.{counts_news, same_count}
-use Rattle.btree_setting.proofs.Numbered.{PutsAlike}
 use Rattle.btree_setting.proofs.Rekept.{all_kept, both, when}
 use Rattle.btree_setting.proofs.Renumbered.{changes_alike}
 use Rattle.btree_setting.proofs.Trying.{drew_most, is_trial, length_oids}

@@ -4,7 +4,6 @@ use Rattle.std.specs.Prelude.{slice_get}
 use Rattle.pickle_graph.specs.declared.node.Node.{Node as ValueNode}
 use Rattle.pickle_graph.specs.declared.node.Node.TheVariants as kinds
 use Rattle.pickle_graph.specs.Graph.{Graph, IsGraph, IsNode, AreNodes, AllBelow, PairsBelow, ActsBelow, is_tuple}
-use Rattle.btree_family.specs.declared.bucket.Item.{Item}
 use Rattle.btree_family.specs.Buckets.{BucketContents, AreValues}
 use Rattle.btree_family.specs.Classes.{Class}
 use Rattle.bucket_state.specs.Written.{embedded_graph}
