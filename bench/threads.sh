@@ -32,7 +32,7 @@ cd "$folder" || exit 1
 git init -q .
 echo 'thread_costs may_wait=6: zb_ids zb_outside zb_model mapping_store commit_phases zodb_core hub_clock hub_shared' >>crates.txt
 mkdir -p crates/thread_costs/src crates/thread_costs/proofs/sharing/share
-cp crates/thread_tests/src/made.rt crates/thread_costs/src/made.rt
+cp crates/host_tests/src/made.rt crates/thread_costs/src/made.rt
 : >crates/thread_costs/proofs/Lib.antt
 cat >crates/thread_costs/src/main.rt <<'RATTLE'
 //! Loads or commits over a list in memory: by one thread over a hub of its own, or by threads over a shared one.
@@ -302,8 +302,8 @@ pub(crate) fn share<
     share_from::<St, R, F, C, Brand, W>(rt, alloc, opened, hub, clock, work, threads, count)
 }
 RATTLE
-sed 's/pushes\.push_all/sharing.share/; s/push_from/share_from/g; s/thread_tests/thread_costs/' \
-    crates/thread_tests/proofs/pushes/push_all/Invariants.antt >crates/thread_costs/proofs/sharing/share/Invariants.antt
+sed 's/pushes\.push_all/sharing.share/; s/push_from/share_from/g; s/host_tests/thread_costs/' \
+    crates/host_tests/proofs/pushes/push_all/Invariants.antt >crates/thread_costs/proofs/sharing/share/Invariants.antt
 (cd crates/thread_costs && rt run -- alone loads 0) >told.txt 2>&1
 program=crates/thread_costs/out/thread_costs
 [ -x "$program" ] || { tail -n 20 told.txt; echo "thread_costs isn't built"; exit 1; }

@@ -136,7 +136,7 @@ pub fn answer(alloc: Global, row: &Row) -> Result<Option<String>, RowError> {
     let text = match row.call.as_str() {
         "feed" => feed(alloc, row)?,
         "frame" => framed(alloc, row)?,
-        "fronts" => fronts(alloc, row)?,
+        "frame_fronts" => fronts(alloc, row)?,
         "stream" => stream(alloc, row)?,
         _ => return Ok(None),
     };
