@@ -277,8 +277,11 @@ pub keeps_none : JournalKeeps [] 0 []
 keeps_none = record { few = omega arith; each = λ n s there is_open. let none : None ≡ Some s = there in absurd cc; last = refl }
 
 -- a session that is told nothing yet
-keeps_new : (n : ℕ) (entries : List JournalEntry) (s : HubSession) → s.told ≡ length entries → s.untold ≡ queued news_limit [] → KeepsUntold n entries s
-keeps_new n entries s told untold = record {
+keeps_new : (n : ℕ) (entries : List JournalEntry) (s : HubSession) → s.told ≡ length entries → s.untold ≡ queued news_limit [] → s.newest ≤ length entries
+    → list_any (is_news_for n) (drop s.newest entries) ≡ false → KeepsUntold n entries s
+keeps_new n entries s told untold newest quiet = record {
+  newest = newest;
+  quiet = quiet;
   within = omega (arith, told);
   queue = untold ∙ ap (queued news_limit) (sym (none_untold n entries) ∙ ap (λ (k : ℕ). untold_places n k entries) (sym told));
 }
@@ -289,13 +292,17 @@ get_more [] x y (suc k) there = let none : None ≡ Some y = there in absurd cc
 get_more (z ∷ xs) x y zero there = inl there
 get_more (z ∷ xs) x y (suc k) there = ⊎_elim (λ (f : slice_get xs k ≡ Some y). inl f) (λ (f : (k ≡ length xs) × (x ≡ y)). inr (ap suc f.0, f.1)) (get_more xs x y k there)
 
+-- behind all entries there is no news
+none_behind : (n : ℕ) (entries : List JournalEntry) (newest : ℕ) → newest ≡ length entries → list_any (is_news_for n) (drop newest entries) ≡ false
+none_behind n entries newest at = ap (λ (k : ℕ). list_any (is_news_for n) (drop k entries)) at ∙ ap (list_any (is_news_for n)) (none_left entries)
+
 pub keeps_opened : (entries : List JournalEntry) (switched : ℕ) (kept : List HubSession) (s : HubSession) → JournalKeeps entries switched kept → length kept < session_limit
-    → s.told ≡ length entries → s.untold ≡ queued news_limit [] → JournalKeeps entries switched (kept ++ s ∷ [])
-keeps_opened entries switched kept s keeps few told untold = record {
+    → s.told ≡ length entries → s.untold ≡ queued news_limit [] → s.newest ≡ length entries → JournalKeeps entries switched (kept ++ s ∷ [])
+keeps_opened entries switched kept s keeps few told untold newest = record {
   few = omega (arith, few, length-append kept (s ∷ []));
   each = λ n y there is_open.
       ⊎_elim (λ (f : slice_get kept n ≡ Some y). keeps.each n y f is_open)
-      (λ (f : (n ≡ length kept) × (s ≡ y)). subst (KeepsUntold n entries) f.1 (keeps_new n entries s told untold)) (get_more kept s y n there);
+      (λ (f : (n ≡ length kept) × (s ≡ y)). subst (KeepsUntold n entries) f.1 (keeps_new n entries s told untold (omega (arith, newest)) (none_behind n entries s.newest newest))) (get_more kept s y n there);
   last = keeps.last;
 }
 
@@ -319,9 +326,39 @@ keeps_changed entries switched kept at s keeps new = record {
   last = keeps.last;
 }
 
-pub keeps_told : (entries : List JournalEntry) (switched : ℕ) (kept : List HubSession) (at : ℕ) (s : HubSession) → JournalKeeps entries switched kept
+pub keeps_told : (entries : List JournalEntry) (switched : ℕ) (kept : List HubSession) (at : ℕ) (old s : HubSession) → JournalKeeps entries switched kept
+    → slice_get kept at ≡ Some old → old.is_open ≡ true → s.newest ≡ old.newest
     → s.told ≡ length entries → s.untold ≡ queued news_limit [] → JournalKeeps entries switched (set kept at s)
-keeps_told entries switched kept at s keeps told untold = keeps_changed entries switched kept at s keeps (λ is_open. keeps_new at entries s told untold)
+keeps_told entries switched kept at old s keeps there was_open newest told untold = keeps_changed entries switched kept at s keeps (λ is_open.
+    let was = keeps.each at old there was_open in
+    keeps_new at entries s told untold (omega (arith, newest, was.newest)) (ap (λ (k : ℕ). list_any (is_news_for at) (drop k entries)) newest ∙ was.quiet))
+
+-- from how many entries on there is no news, there is none further on
+pub quiet_behind : (n newest told : ℕ) (entries : List JournalEntry) → newest ≤ told → list_any (is_news_for n) (drop newest entries) ≡ false → list_any (is_news_for n) (drop told entries) ≡ false
+quiet_behind n zero zero entries within quiet = quiet
+quiet_behind n zero (suc told) [] within quiet = refl
+quiet_behind n zero (suc told) (e ∷ entries) within quiet = quiet_behind n zero told entries (omega arith) (none_of (is_news_for n e) (list_any (is_news_for n) entries) quiet)
+  where
+    none_of : (a b : Bool) → (a || b) ≡ false → b ≡ false
+    none_of true b e = let no : true ≡ false = e in absurd cc
+    none_of false b e = e
+quiet_behind n (suc newest) zero entries within quiet = absurd (omega (arith, within))
+quiet_behind n (suc newest) (suc told) [] within quiet = refl
+quiet_behind n (suc newest) (suc told) (e ∷ entries) within quiet = quiet_behind n newest told entries (omega (arith, within)) quiet
+
+-- an entry more that is no news
+quiet_more : (n newest : ℕ) (entries : List JournalEntry) (e : JournalEntry) → newest ≤ length entries → is_news_for n e ≡ false → list_any (is_news_for n) (drop newest entries) ≡ false
+    → list_any (is_news_for n) (drop newest (entries ++ e ∷ [])) ≡ false
+quiet_more n newest entries e within none quiet =
+    ap (list_any (is_news_for n)) (drop_more newest entries e within) ∙ any_more (drop newest entries) quiet
+  where
+    any_more : (es : List JournalEntry) → list_any (is_news_for n) es ≡ false → list_any (is_news_for n) (es ++ e ∷ []) ≡ false
+    any_more [] quiet = rw none refl
+    any_more (x ∷ es) quiet = by_first (is_news_for n x) (any_more es) quiet
+      where
+        by_first : (b : Bool) → (list_any (is_news_for n) es ≡ false → list_any (is_news_for n) (es ++ e ∷ []) ≡ false) → (b || list_any (is_news_for n) es) ≡ false → (b || list_any (is_news_for n) (es ++ e ∷ [])) ≡ false
+        by_first true rest q = let no : true ≡ false = q in absurd cc
+        by_first false rest q = rest q
 
 pub keeps_closed : (entries : List JournalEntry) (switched : ℕ) (kept : List HubSession) (at : ℕ) (s : HubSession) → JournalKeeps entries switched kept
     → s.is_open ≡ false → JournalKeeps entries switched (set kept at s)
@@ -367,17 +404,19 @@ keeps_noted n entries e s is_open keeps = by_news (is_news_for n e) refl
 
     by_news : (b : Bool) → is_news_for n e ≡ b → KeepsUntold n (entries ++ e ∷ []) (noted n (length entries) e s)
     by_news true is =
-        let pushes : noted n (length entries) e s ≡ record s { untold = pushed s.untold (length entries) } = rw is_open (rw is refl) in
+        let pushes : noted n (length entries) e s ≡ record s { untold = pushed s.untold (length entries); newest = length entries + 1 } = rw is_open (rw is refl) in
         let all : untold_places n s.told (entries ++ e ∷ []) ≡ untold_places n s.told entries ++ length entries ∷ [] = untold ∙ rw is refl in
         subst (KeepsUntold n (entries ++ e ∷ [])) (sym pushes)
         (record {
+          newest = omega (arith, more);
+          quiet = none_behind n (entries ++ e ∷ []) (length entries + 1) (sym more);
           within = omega (arith, keeps.within, more);
           queue = ap (λ (q : Queued). pushed q (length entries)) keeps.queue ∙ (pushed_queued news_limit (untold_places n s.told entries) (length entries) ∙ ap (queued news_limit) (sym all));
         })
     by_news false is =
         let stays : noted n (length entries) e s ≡ s = rw is_open (rw is refl) in
         let all : untold_places n s.told (entries ++ e ∷ []) ≡ untold_places n s.told entries = untold ∙ (rw is (append-nil (untold_places n s.told entries))) in
-        subst (KeepsUntold n (entries ++ e ∷ [])) (sym stays) (record { within = omega (arith, keeps.within, more); queue = keeps.queue ∙ ap (queued news_limit) (sym all) })
+        subst (KeepsUntold n (entries ++ e ∷ [])) (sym stays) (record { within = omega (arith, keeps.within, more); queue = keeps.queue ∙ ap (queued news_limit) (sym all); newest = omega (arith, keeps.newest, more); quiet = quiet_more n s.newest entries e keeps.newest is keeps.quiet })
 
 noted_open : (n place : ℕ) (e : JournalEntry) (s : HubSession) → (noted n place e s).is_open ≡ s.is_open
 noted_open n place e s = ap (λ (x : MachineSession). x.is_open) (noted_seen n place e s)

@@ -1,5 +1,5 @@
 -- What sessions are still to be told of the journal, as the hub keeps it. Source: the invalidation queue of a ZEO server; its bound is own.
-use Rattle.std.specs.Prelude.{◌≡◌, ℕ, suc, ◌≤◌, List, [], ◌∷◌, Option, Some, None, Bool, true, if◌then◌else◌, drop, length, slice_get, ◌&&◌}
+use Rattle.std.specs.Prelude.{◌≡◌, ℕ, suc, ◌+◌, ◌≤◌, List, [], ◌∷◌, Option, Some, None, Bool, true, false, if◌then◌else◌, drop, length, slice_get, ◌&&◌}
 use Rattle.std.specs.List.{list_any}
 use Rattle.invalidation_queue.specs.Queued.{Queued, pushed, queued}
 use Rattle.zb_model.specs.declared.news.NewsCommit.{NewsCommit}
@@ -26,10 +26,13 @@ places_from n place (e ∷ entries) = if is_news_for n e then place ∷ places_f
 abbrev pub untold_places : ℕ → ℕ → List JournalEntry → List ℕ
 untold_places n told entries = places_from n told (drop told entries)
 
--- What is kept of an open session: its queue has the places of all entries of which it is to be told, or, where they are more than 1,000, just that.
+-- What is kept of an open session: its queue has the places of all entries of which it is to be told, or, where they are more than 1,000, just that; and
+-- from how many entries on there is none of which it is to be told.
 pub record KeepsUntold (n : ℕ) (entries : List JournalEntry) (s : HubSession) : Type 0 where
   pub within : s.told ≤ length entries
   pub queue : s.untold ≡ queued news_limit (untold_places n s.told entries)
+  pub newest : s.newest ≤ length entries
+  pub quiet : list_any (is_news_for n) (drop s.newest entries) ≡ false
 
 -- and so of all sessions; one that is closed is told nothing
 abbrev pub EachKeepsUntold : List JournalEntry → List HubSession → Type 0
@@ -46,9 +49,9 @@ pub record JournalKeeps (entries : List JournalEntry) (switched : ℕ) (sessions
   pub each : EachKeepsUntold entries sessions
   pub last : switched ≡ switched_up_to entries
 
--- a session that is kept, once an entry was made at a place: where it is open and the entry is news for it, its queue has the place, too
+-- a session that is kept, once an entry was made at a place: where it is open and the entry is news for it, its queue has the place, too, and its last news is there
 abbrev pub noted : ℕ → ℕ → JournalEntry → HubSession → HubSession
-noted n place e s = if s.is_open && is_news_for n e then record s { untold = pushed s.untold place } else s
+noted n place e s = if s.is_open && is_news_for n e then record s { untold = pushed s.untold place; newest = place + 1 } else s
 
 -- what a session is told of the entry at a place
 abbrev pub commit_of_entry : Option JournalEntry → Option NewsCommit

@@ -15,6 +15,9 @@ pub(crate) struct HubSession {
     pub(crate) told: u64,
     /// While it is open, the places of the entries since then of which it is to be told, or that they are too many.
     pub(crate) untold: Queue,
+    /// While it is open, how many entries there were up to the last one of which it is to be told; at first, how many
+    /// there were when it was opened.
+    pub(crate) newest: u64,
 }
 
 /// Whether a session is open.

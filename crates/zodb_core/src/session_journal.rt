@@ -1,13 +1,13 @@
 //! The journal, and what each session is still to be told of it.
 
 ghost use Rattle.std.specs.Prelude.{◌≡◌, ◌<◌, ◌≤◌, ◌+◌, ◌-◌, ◌^◌, ◌++◌, ◌∷◌, [], ℕ, IfOk, OnErr, OnOk, drop, false, filter, if◌then◌else◌, length, not, option_to_list, slice_get, slice_set, true, vec_capacity};
-ghost use Rattle.std.specs.List.{filter_map};
+ghost use Rattle.std.specs.List.{filter_map, list_any};
 ghost use Rattle.std.specs.Option.{option_map};
 ghost use Rattle.zodb_core.specs.Machine.{is_news_for, is_open_in, is_switch, news_of, session_limit, told_of};
 ghost use Rattle.zodb_core.specs.Telling.{commit_at, noted};
 
 use crate::journal::JournalEntry;
-use crate::news::{NEWS_LIMIT, commit_in, is_news_for, is_switch};
+use crate::news::{NEWS_LIMIT, commit_in, entries_behind, has_news, is_news_for, is_switch};
 use crate::session::{HubSession, is_open};
 use invalidation_queue::Queue;
 use std::alloc::{AllocError, Global};
@@ -45,16 +45,19 @@ impl Model for SessionJournal {
 /// Puts the place of an entry behind those of which a session is to be told, where it is open and the entry is news
 /// for it.
 fn note(session: &mut HubSession, number: u32, place: u64, entry: &JournalEntry)
+    requires { place < 2 ^ 64 - 1 }
     ensures { session.new ≡ noted number place entry.now session.old }
 {
     if session.is_open && is_news_for(number, entry) {
         session.untold.push(place);
+        session.newest = place + 1;
     }
 }
 
 /// Puts the place of an entry behind those of which the sessions are to be told. It takes no memory.
 fn note_all(sessions: &mut [HubSession], place: u64, entry: &JournalEntry)
     requires few { length sessions.old ≤ session_limit }
+    requires within { place < 2 ^ 64 - 1 }
     ensures each { (k : ℕ) → slice_get sessions.new k ≡ option_map (noted k place entry.now) (slice_get sessions.old k) }
     ensures count { length sessions.new ≡ length sessions.old }
 {
@@ -234,8 +237,31 @@ impl SessionJournal {
             is_open,
             told,
             untold,
+            newest: told,
         })?;
         Ok(())
+    }
+
+    /// Whether a session that is open and was told so many entries was told of all of which it is to be told.
+    fn was_told(&self, number: u32, told: u64) -> bool
+        ensures { result ≡ true → list_any (is_news_for number) (drop told self.now.entries) ≡ false }
+    {
+        if number as usize >= self.kept.len() {
+            return false;
+        }
+        let session = &self.kept[number as usize];
+        session.is_open && session.newest <= told
+    }
+
+    /// Whether there is news for a session that was told so many entries. An open session's own entries behind the
+    /// last news aren't looked at.
+    pub(crate) fn has_news(&self, number: u32, told: u64) -> bool
+        ensures { result ≡ list_any (is_news_for number) (drop told self.now.entries) }
+    {
+        if self.was_told(number, told) {
+            return false;
+        }
+        has_news(entries_behind(self.entries(), told), number)
     }
 
     /// What an open session is to be told. It takes no more time than what is told. The one error is want of memory.

@@ -43,7 +43,7 @@ impl<St: Store, R: Resolver, F: Refs> Hub<St, R, F> {
     pub fn has_news(&self, session: u32, told: u64) -> bool
         ensures { result ≡ list_any (is_news_for session) (drop told self.now.journal) }
     {
-        has_news(entries_behind(self.journal.entries(), told), session)
+        self.journal.has_news(session, told)
     }
 
     /// The news for a session that was told so many entries. The one error is want of memory.
