@@ -14,7 +14,7 @@ use Rattle.btree_checking.specs.declared.links.Pointer.{Pointer}
 use Rattle.btree_checking.specs.declared.links.Pointer.TheVariants.{First}
 use Rattle.btree_checking.specs.Rules.{Tour, was_visited, suits_depth, depth_with, with_visit, places_from}
 use Rattle.btree_checking.specs.Walks.{Stop, and_then, in_turn, visit}
-use Rattle.btree_checking.proofs.Chains.{In, Distinct, avoids_in, distinct_front, distinct_parts}
+use Rattle.btree_shapes.specs.ChainLaws.{In, Distinct, avoids_in, distinct_front, distinct_parts}
 use Rattle.btree_checking.proofs.Tests.{Agrees, same_numbers, none_broken, items_of_kind, limbs_of_kind, suit_agreed, agreed_with, items_within, parted_within}
 use Rattle.btree_checking.proofs.Shaped.{visits_of, length-append, visited_parts, only_one, Among, among_more, among_back, among_shape, first_among}
 use Rattle.btree_checking.proofs.Steps.{visit_right}

@@ -1,5 +1,3 @@
-pub mod Orders
-pub mod Chains
 pub mod Tests
 pub mod Shaped
 pub mod Steps

@@ -9,7 +9,7 @@ use Rattle.btree_checking.specs.declared.links.Pointer.TheVariants.{First, Next}
 use Rattle.btree_checking.specs.Rules.{was_visited}
 use Rattle.btree_checking.specs.Verdicts.{leaf_or, leaf_in, is_same, names_first, names_next, first_wrong, or_else}
 use Rattle.btree_checking.specs.Laws.{sum_of, size_of}
-use Rattle.btree_checking.proofs.Chains.{In, in_front, in_back}
+use Rattle.btree_shapes.specs.ChainLaws.{In, in_front, in_back}
 
 -- the objects of a shape, in the order of a walk
 abbrev pub visits_of : (h : ℕ) → Shape h → List (ℕ × Pointer)

@@ -18,7 +18,7 @@ use Rattle.btree_checking.specs.Rules.{Tour, are_within, rule_broken, with_visit
 use Rattle.btree_checking.specs.Walks.{Stop, visit_held, visit, root_place, fresh_tour, walk_of}
 use Rattle.btree_checking.specs.Verdicts.{names_first, names_next, first_wrong, wrong_link, linked_verdict, verdict_after, verdict_of}
 use Rattle.btree_checking.specs.Laws.{size_of, IsTreeOf, CheckedIsSound, SoundIsChecked, MeansTree}
-use Rattle.btree_checking.proofs.Chains.{distinct_links}
+use Rattle.btree_shapes.specs.ChainLaws.{distinct_links}
 use Rattle.btree_checking.proofs.Tests.{Agrees, none_broken, kind_of_items, row_rises, kind_back}
 use Rattle.btree_checking.proofs.Shaped.{visits_of, count_visits, links_visited, linked_right, right_linked, names_right, right_names, no_wrong, none_wrong}
 use Rattle.btree_checking.proofs.Steps.{visit_suc, visit_right}

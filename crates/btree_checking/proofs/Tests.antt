@@ -4,19 +4,19 @@ use Rattle.std.specs.Prelude.{map, not, ◌&&◌, ◌==◌, if◌then◌else◌}
 use Rattle.std.proofs.lemmas.Grind.{common_steps}
 use Rattle.btree_family.specs.declared.key.Key.{Key}
 use Rattle.btree_family.specs.declared.bucket.Item.{Item}
-use Rattle.btree_family.specs.Keys.{rank_of}
+use Rattle.btree_family.specs.Keys.{rank_of, is_below}
 use Rattle.btree_family.specs.Buckets.{keys_of}
 use Rattle.btree_family.specs.Rising.{Rises}
 use Rattle.bucket_state.specs.declared.tree.Branch.{Branch}
 use Rattle.bucket_state.specs.States.{follows, stand_in_row}
 use Rattle.bucket_state.specs.Trees.{separators_of}
 use Rattle.btree_shapes.specs.declared.node.Node.{Node}
-use Rattle.btree_shapes.specs.Keys.{is_below}
 use Rattle.btree_shapes.specs.Shapes.{Shape, Limb, branch_of, EachChild, EachLimb, IsFrom, IsUpTo, AreWithin, Parted, AreOfKind}
 use Rattle.btree_checking.specs.declared.place.Place.{Place}
 use Rattle.btree_checking.specs.declared.verdict.Rule.TheVariants.{NotATree, Keys, Bounds, Depth}
 use Rattle.btree_checking.specs.Rules.{Tour, keys_in, may_stand, are_of_kind, suit_kind, is_from, is_up_to, are_within, suits_depth, rule_broken, kind_with}
-use Rattle.btree_checking.proofs.Orders.{below_not, from_wider}
+use Rattle.btree_family.specs.OrderLaws.{below_not}
+use Rattle.btree_shapes.specs.BoundLaws.{from_wider}
 
 pub both_hold : (a b : Bool) → (a && b) ≡ true → (a ≡ true) × (b ≡ true)
 both_hold true true e = (refl, refl)

@@ -1,13 +1,12 @@
 -- The rules that a walk tests at each object of a tree. From: the BTrees package; the order of the tests is own.
 use Rattle.std.specs.Prelude.{ℕ, ◌+◌, Bool, true, false, List, [], ◌∷◌, ◌++◌, length, Option, Some, None, nat_eq, not, ◌==◌, ◌&&◌, ◌||◌, if◌then◌else◌}
 use Rattle.btree_family.specs.declared.key.Key.{Key}
-use Rattle.btree_family.specs.Keys.{rank_of}
+use Rattle.btree_family.specs.Keys.{rank_of, is_below}
 use Rattle.btree_family.specs.Buckets.{keys_of}
 use Rattle.bucket_state.specs.declared.tree.Branch.{Branch}
 use Rattle.bucket_state.specs.Trees.{separators_of}
 use Rattle.btree_shapes.specs.declared.node.Node.{Node}
 use Rattle.btree_shapes.specs.declared.node.Node.TheVariants.{Lone, Leaf, Inner}
-use Rattle.btree_shapes.specs.Keys.{is_below}
 use Rattle.btree_shapes.specs.Nodes.{items_in}
 use Rattle.btree_checking.specs.declared.place.Place.{Place}
 use Rattle.btree_checking.specs.declared.links.Pointer.{Pointer}

@@ -1,7 +1,7 @@
 -- Keys and their order. From: the BTrees package, whose keys are ordered as Python orders them; the order between kinds is own.
 use Rattle.std.specs.Prelude.{ℕ, ℤ, pos, Bool, List, []}
 use Rattle.std.specs.declared.cmp.Ordering.{Ordering}
-use Rattle.std.specs.Ordering.{nat_cmp, int_cmp, eq_by_cmp, on, then_cmp}
+use Rattle.std.specs.Ordering.{is_lt, nat_cmp, int_cmp, eq_by_cmp, on, then_cmp}
 use Rattle.std.specs.Cmp.Lexicographic.{slice_cmp}
 use Rattle.btree_family.specs.declared.key.Key.{Key}
 use Rattle.btree_family.specs.declared.key.Key.TheVariants.{Text, Bytes, Number}
@@ -31,3 +31,7 @@ key_cmp = then_cmp (then_cmp (on rank_of nat_cmp) (on key_number int_cmp)) (on k
 -- the order tells two keys not apart
 abbrev pub key_eq : Key → Key → Bool
 key_eq = eq_by_cmp key_cmp
+
+-- the first key is below the second
+abbrev pub is_below : Key → Key → Bool
+is_below a b = is_lt (key_cmp a b)

@@ -27,7 +27,7 @@ use Rattle.btree_putting.specs.Items.{same_value, same_item, same_items, same_br
 use Rattle.btree_putting.specs.Puts.{put_oid, same_link, same_node, is_copy, is_class_kept, reads_as, text_reads_as, state_reads_as, keeps, all_keep, state_bytes, put_bytes, put_all}
 use Rattle.btree_putting.specs.Writing.{node_state}
 use Rattle.btree_maps.specs.Drawn.{Differ}
-use Rattle.btree_maps.proofs.Orders.{eq_is}
+use Rattle.btree_family.specs.OrderLaws.{eq_is}
 use Rattle.btree_maps.proofs.SetItems.{bytes_same, value_same}
 use Rattle.btree_maps.proofs.Nodes.{lone_next}
 use Rattle.btree_maps.proofs.Putting.{as_read, AllPut, or_left, or_right, bool_cases, same_number}

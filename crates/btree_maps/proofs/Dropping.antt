@@ -4,7 +4,7 @@ use Rattle.std.specs.Prelude.{map, if◌then◌else◌, ◌==◌}
 use Rattle.std.proofs.lemmas.Grind.{common_steps}
 use Rattle.std.proofs.lemmas.Bool.{cases_eq}
 use Rattle.btree_shapes.specs.Shapes.{Link, Linked}
-use Rattle.btree_maps.proofs.Chains.{Avoids, In, Distinct, distinct_parts, distinct_back}
+use Rattle.btree_shapes.specs.ChainLaws.{Avoids, In, Distinct, distinct_parts, distinct_back}
 
 -- ---- without one link
 

@@ -17,7 +17,7 @@ use Rattle.btree_removing.specs.Losses.{put_rung, first_or, lose_child, move_fir
 use Rattle.btree_maps.proofs.Mappings.{within-mapping, within-joined}
 use Rattle.btree_maps.proofs.RemoveItems.{remove_front}
 use Rattle.btree_maps.proofs.Wider.{parted_from}
-use Rattle.btree_maps.proofs.Chains.{In, Distinct, in_front, avoids_in, distinct_front, distinct_parts}
+use Rattle.btree_shapes.specs.ChainLaws.{In, Distinct, in_front, avoids_in, distinct_front, distinct_parts}
 use Rattle.btree_maps.proofs.Dropping.{cut_front}
 use Rattle.btree_maps.proofs.Limbs.{ForKey, sprouts_of, Fine, fine_inner}
 use Rattle.btree_maps.proofs.Rungs.{inner_of}

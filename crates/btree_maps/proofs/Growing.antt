@@ -3,20 +3,20 @@ use Rattle.std.proofs.Common.{◌≡◌, ℕ, ◌<◌, true, List, [], ◌∷◌
 use Rattle.std.specs.Prelude.{map, length}
 use Rattle.btree_family.specs.declared.key.Key.{Key}
 use Rattle.btree_family.specs.declared.bucket.Item.{Item}
-use Rattle.btree_family.specs.Keys.{rank_of}
+use Rattle.btree_family.specs.Keys.{rank_of, is_below}
 use Rattle.btree_family.specs.Buckets.{keys_of}
 use Rattle.btree_family.specs.Rising.{is_key_above, Rises}
 use Rattle.btree_shapes.specs.declared.node.Node.{Node}
-use Rattle.btree_shapes.specs.Keys.{is_below}
 use Rattle.btree_shapes.specs.Shapes.{Shape, Limb, oid_of, branch_of, EachLimb, joined, IsFrom, IsUpTo, AreWithin, AreOfKind, Parted, Bounded, mapping_of, links_of, first_leaf}
 use Rattle.btree_setting.specs.Types.{Sprout}
 use Rattle.btree_setting.specs.Inserting.{set_item}
 use Rattle.btree_setting.specs.Changes.{branch_up}
 use Rattle.btree_putting.specs.Puts.{leaf_node, inner_node}
-use Rattle.btree_maps.proofs.Orders.{from_below}
+use Rattle.btree_family.specs.OrderLaws.{from_below}
 use Rattle.btree_maps.proofs.Mappings.{within-mapping, within-joined}
 use Rattle.btree_maps.proofs.SetItems.{within_set, rises_set, kind_set, set_front, set_back, rises_any, rises_left, rises_right, within_left, within_right, bound_at, kind_left, kind_right}
-use Rattle.btree_maps.proofs.Chains.{Avoids, In, Distinct, avoids_parts, distinct_front, distinct_back, distinct_parts, relink, relink_here, relink_front, relink_back}
+use Rattle.btree_shapes.specs.ChainLaws.{Avoids, In, Distinct, avoids_parts, distinct_front, distinct_back, distinct_parts}
+use Rattle.btree_maps.proofs.Chains.{relink, relink_here, relink_front, relink_back}
 use Rattle.btree_maps.proofs.Limbs.{ForKey, in_for_key, sprout_of, sprouts_of, keys_up, insert_up, branches_up, sprouts_append, insert_before, insert_behind, rises_up, rises_parted, rises_cut, limbs_append, limbs_parts, parted_append, parted_at, parted_left, joined_append, Fine, fine_inner}
 
 -- the new child is above a bound

@@ -14,7 +14,7 @@ use Rattle.btree_removing.specs.Types.{Loss, Rest, Same, First, Gone, Rung}
 use Rattle.btree_removing.specs.Items.{remove_item}
 use Rattle.btree_removing.specs.Rungs.{rung_oid}
 use Rattle.btree_removing.specs.Losses.{put_rung, lose_head, lose_child, lose_by, raise}
-use Rattle.btree_maps.proofs.Chains.{Avoids, In, Distinct, avoids_in}
+use Rattle.btree_shapes.specs.ChainLaws.{Avoids, In, Distinct, avoids_in}
 use Rattle.btree_maps.proofs.Dropping.{cut_links}
 use Rattle.btree_maps.proofs.Limbs.{chosen, Fine, fine_inner}
 use Rattle.btree_maps.proofs.Onways.{same_links}

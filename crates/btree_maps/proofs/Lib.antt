@@ -3,7 +3,6 @@ pub mod Walks
 pub mod Spans
 pub mod Reversed
 pub mod Calls
-pub mod Orders
 pub mod Mappings
 pub mod Reaching
 pub mod Looking

@@ -2,19 +2,19 @@
 use Rattle.std.proofs.Common.{◌≡◌, ℕ, Bool, true, false, List, [], ◌∷◌, ◌++◌, Option, Some, None, refl, sym, ◌∙◌, ap, suc, inl, inr, ◌⊎◌, append_assoc}
 use Rattle.std.specs.Prelude.{map, if◌then◌else◌, length}
 use Rattle.btree_family.specs.declared.key.Key.{Key}
-use Rattle.btree_family.specs.Keys.{rank_of}
+use Rattle.btree_family.specs.Keys.{rank_of, is_below}
 use Rattle.btree_family.specs.Rising.{is_key_above, Rises}
 use Rattle.bucket_state.specs.Trees.{separators_of}
 use Rattle.btree_shapes.specs.declared.node.Node.{Node}
 use Rattle.btree_shapes.specs.declared.node.Node.TheVariants as node
-use Rattle.btree_shapes.specs.Keys.{is_below}
 use Rattle.btree_shapes.specs.Shapes.{Shape, Limb, oid_of, branch_of, EachChild, EachLimb, joined, IsFrom, IsUpTo, Parted, Bounded, OfKind, Stands, Link, first_leaf, NamesFirst}
 use Rattle.btree_setting.specs.Types.{Sprout}
 use Rattle.btree_setting.specs.Inserting.{insert_branch}
 use Rattle.btree_setting.specs.Changes.{branch_up}
 use Rattle.btree_maps.specs.Drawn.{HasNone}
-use Rattle.btree_maps.proofs.Orders.{below_not, below_below, from_wider, upto_wider}
-use Rattle.btree_maps.proofs.Chains.{In, in_front, in_back}
+use Rattle.btree_family.specs.OrderLaws.{below_not, below_below}
+use Rattle.btree_shapes.specs.BoundLaws.{from_wider, upto_wider}
+use Rattle.btree_shapes.specs.ChainLaws.{In, in_front, in_back}
 
 -- ---- the child for a key
 

@@ -5,7 +5,7 @@ use Rattle.btree_family.specs.declared.key.Key.{Key}
 use Rattle.bucket_state.specs.declared.tree.Branch.{Branch}
 use Rattle.btree_shapes.specs.declared.node.Node.{Node}
 use Rattle.btree_shapes.specs.declared.node.Node.TheVariants as node
-use Rattle.btree_shapes.specs.Keys.{is_below}
+use Rattle.btree_family.specs.Keys.{is_below}
 use Rattle.btree_shapes.specs.Nodes.{Held, Holds, place_for}
 use Rattle.btree_shapes.specs.Ways.{stands_in}
 use Rattle.btree_shapes.specs.Shapes.{LeafShape, Shape, Limb, oid_of, EachChild, EachLimb, OfKind, Stands, links_of, NamesFirst}
@@ -18,7 +18,7 @@ use Rattle.btree_removing.specs.Rungs.{rung_oid}
 use Rattle.btree_removing.specs.Losses.{put_rung, first_or, lose_head, lose_child, move_first, lose_by, lose, raise}
 use Rattle.btree_maps.specs.Drawn.{Differ}
 use Rattle.btree_maps.proofs.Reaching.{one_height}
-use Rattle.btree_maps.proofs.Chains.{In}
+use Rattle.btree_shapes.specs.ChainLaws.{In}
 use Rattle.btree_maps.proofs.Limbs.{ForKey, in_for_key, chosen, sprouts_of, Fine}
 use Rattle.btree_maps.proofs.Rungs.{inner_of}
 use Rattle.btree_maps.proofs.Putting.{or_left, or_right, both, or_end, same_number, other_number, stands_append, oids_append, differ_append}

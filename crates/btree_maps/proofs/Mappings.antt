@@ -3,11 +3,11 @@ use Rattle.std.proofs.Common.{◌≡◌, ℕ, zero, suc, true, false, List, [], 
 use Rattle.std.specs.Prelude.{if◌then◌else◌}
 use Rattle.btree_family.specs.declared.key.Key.{Key}
 use Rattle.btree_family.specs.declared.bucket.Item.{Item}
-use Rattle.btree_family.specs.Keys.{key_eq}
-use Rattle.btree_shapes.specs.Keys.{is_below}
+use Rattle.btree_family.specs.Keys.{key_eq, is_below}
 use Rattle.btree_shapes.specs.Nodes.{value_in, shown}
 use Rattle.btree_shapes.specs.Shapes.{Shape, Limb, joined, IsFrom, IsUpTo, AreWithin, Parted, Bounded, mapping_of}
-use Rattle.btree_maps.proofs.Orders.{below_eq, above_eq, below_from, from_wider, upto_wider}
+use Rattle.btree_family.specs.OrderLaws.{below_eq, above_eq, below_from}
+use Rattle.btree_shapes.specs.BoundLaws.{from_wider, upto_wider}
 
 pub within_from : (low : Option Key) (mid : Key) (high : Option Key) (xs : List Item) → IsFrom low mid → AreWithin (Some mid) high xs → AreWithin low high xs
 within_from low mid high [] l w = tt

@@ -17,7 +17,7 @@ use Rattle.btree_putting.specs.Puts.{put_oid, inner_node}
 use Rattle.btree_setting.specs.Changes.{IsSet, IsRootSet, IsLeafSet, Rise, RootRise, grown}
 use Rattle.btree_maps.specs.Drawn.{Differ}
 use Rattle.btree_maps.proofs.Reaching.{one_height}
-use Rattle.btree_maps.proofs.Chains.{In, Avoids, avoids_in, avoids_parts}
+use Rattle.btree_shapes.specs.ChainLaws.{In, Avoids, avoids_in, avoids_parts}
 use Rattle.btree_maps.proofs.Limbs.{chosen, Fine, OldShape, old_head, old_tail, fine_inner}
 use Rattle.btree_maps.proofs.Rungs.{RungsIn, rungs_there, inner_of}
 use Rattle.btree_maps.proofs.Putting.{or_cases, or_end, bool_cases, same_number, stands_append, oids_append, differ_append}

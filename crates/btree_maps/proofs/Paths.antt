@@ -15,7 +15,7 @@ use Rattle.btree_shapes.specs.Nodes.{Held, Holds, node_suits, child_for}
 use Rattle.btree_shapes.specs.Ways.{stands_in, below_step, down_node, down_held, way_from}
 use Rattle.btree_shapes.specs.Shapes.{Shape, Limb, oid_of, branch_of, EachChild, EachLimb, OfKind, nodes_in, Stands}
 use Rattle.btree_shapes.specs.Steps.{way_suc}
-use Rattle.btree_maps.proofs.Orders.{below_or}
+use Rattle.btree_family.specs.OrderLaws.{below_or}
 use Rattle.btree_maps.proofs.Reaching.{Higher, higher_less, higher_last, not_twice, held_as, items_kind, limbs_kind, node_way}
 use Rattle.btree_maps.proofs.Limbs.{ForKey}
 use Rattle.btree_maps.proofs.Rungs.{PathIn, inner_of}

@@ -19,7 +19,7 @@ use Rattle.btree_setting.specs.Types as place
 use Rattle.btree_setting.specs.Inserting.{set_item, insert_branch}
 use Rattle.btree_putting.specs.Puts.{put_oid, leaf_node, inner_node}
 use Rattle.btree_setting.specs.Changes.{leaf_grows, IsSet, IsLeafSet, Rise, grown, branch_up, seam_first, BranchesCut}
-use Rattle.btree_maps.proofs.Chains.{Avoids, Distinct}
+use Rattle.btree_shapes.specs.ChainLaws.{Avoids, Distinct}
 use Rattle.btree_maps.proofs.Limbs.{sprout_of, sprouts_of, keys_up, insert_sprout, insert_up, branches_up, separators_up, insert_branches, sprouts_append, sprouts_length, branches_length, Fine, OldShape, old_head, old_tail}
 use Rattle.btree_maps.proofs.Seams.{SeamRight}
 use Rattle.btree_maps.proofs.Rungs.{inner_of, RungsIn, rungs_there, grown_length}

@@ -19,7 +19,7 @@ use Rattle.btree_shapes.specs.Keys.{is_kind_of}
 use Rattle.btree_shapes.specs.Nodes.{Held, Nothing, Foreign, Holds, node_suits, child_for, items_in, value_in}
 use Rattle.btree_shapes.specs.Ways.{stands_in, below_step, down_node, down_held, way_from}
 use Rattle.btree_shapes.specs.Shapes.{Shape, Limb, oid_of, branch_of, EachChild, EachLimb, joined, IsFrom, IsUpTo, AreOfKind, Parted, Bounded, OfKind, mapping_of, node_held, nodes_in, Stands}
-use Rattle.btree_maps.proofs.Orders.{below_or}
+use Rattle.btree_family.specs.OrderLaws.{below_or}
 use Rattle.btree_maps.proofs.Mappings.{within-mapping, within-joined, value_front, value_back}
 use Rattle.btree_shapes.specs.Steps.{way_suc}
 

@@ -3,15 +3,14 @@ use Rattle.std.proofs.Common.{◌≡◌, ℕ, Bool, true, false, List, [], ◌�
 use Rattle.std.specs.Prelude.{if◌then◌else◌}
 use Rattle.btree_family.specs.declared.key.Key.{Key}
 use Rattle.btree_family.specs.declared.bucket.Item.{Item}
-use Rattle.btree_family.specs.Keys.{key_eq}
+use Rattle.btree_family.specs.Keys.{key_eq, is_below}
 use Rattle.btree_family.specs.Buckets.{keys_of}
 use Rattle.btree_family.specs.Rising.{is_key_above, Rises}
-use Rattle.btree_shapes.specs.Keys.{is_below}
 use Rattle.btree_shapes.specs.Nodes.{value_in, shown}
 use Rattle.btree_shapes.specs.Shapes.{AreWithin, AreOfKind}
 use Rattle.btree_putting.specs.Items.{has_key}
 use Rattle.btree_removing.specs.Items.{remove_item}
-use Rattle.btree_maps.proofs.Orders.{eq_is, below_eq, above_eq, below_below, below_from}
+use Rattle.btree_family.specs.OrderLaws.{eq_is, below_eq, above_eq, below_below, below_from}
 use Rattle.btree_maps.proofs.Putting.{bool_cases}
 
 -- ---- the two cases of a remove

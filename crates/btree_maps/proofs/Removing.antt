@@ -28,7 +28,7 @@ use Rattle.btree_removing.specs.Losses.{raise, leaves_tree}
 use Rattle.btree_removing.specs.Plans.{first_head, all_puts}
 use Rattle.btree_maps.specs.Drawn.{Differ}
 use Rattle.btree_maps.proofs.RemoveItems.{within_remove, rises_remove, kind_remove}
-use Rattle.btree_maps.proofs.Chains.{Avoids, Distinct, distinct_links, distinct_parts}
+use Rattle.btree_shapes.specs.ChainLaws.{Avoids, Distinct, distinct_links, distinct_parts}
 use Rattle.btree_maps.proofs.Dropping.{drop_link, drop_same, relink_one, distinct_map, link, chain_after, chain_first}
 use Rattle.btree_maps.proofs.Limbs.{ForKey, Fine}
 use Rattle.btree_maps.proofs.Rungs.{PathIn, inner_of}

@@ -21,7 +21,8 @@ use Rattle.btree_setting.specs.Inserting.{set_item}
 use Rattle.btree_putting.specs.Puts.{put_oid, leaf_node, lone_node, inner_node}
 use Rattle.btree_setting.specs.Changes.{IsSet, IsRootSet, IsLeafSet, RootSplits, seam_first}
 use Rattle.btree_maps.proofs.SetItems.{within_set, rises_set, kind_set, rises_left, rises_right, within_left, within_right, kind_left, kind_right}
-use Rattle.btree_maps.proofs.Chains.{Avoids, Distinct, relink, linked_relink}
+use Rattle.btree_shapes.specs.ChainLaws.{Avoids, Distinct}
+use Rattle.btree_maps.proofs.Chains.{relink, linked_relink}
 use Rattle.btree_maps.proofs.Limbs.{ForKey, sprouts_of, keys_up, limbs_parts, parted_at, parted_left, joined_append, Fine, OldShape, fine_inner}
 use Rattle.btree_maps.proofs.Rungs.{RungsIn}
 use Rattle.btree_maps.proofs.Growing.{Grown}

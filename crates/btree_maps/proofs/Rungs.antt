@@ -11,7 +11,7 @@ use Rattle.btree_shapes.specs.declared.error.TreeError.TheVariants.{NotATree, Ba
 use Rattle.btree_shapes.specs.declared.node.Node.{Node}
 use Rattle.btree_shapes.specs.declared.node.Node.TheVariants as node
 use Rattle.btree_shapes.specs.declared.path.Step.{Step}
-use Rattle.btree_shapes.specs.Keys.{is_below}
+use Rattle.btree_family.specs.Keys.{is_below}
 use Rattle.btree_shapes.specs.Nodes.{Held, Nothing, Foreign, Holds, node_suits}
 use Rattle.btree_shapes.specs.Ways.{stands_in}
 use Rattle.btree_shapes.specs.Shapes.{Shape, Limb, oid_of, branch_of, EachLimb, first_leaf, nodes_in, links_of}
@@ -22,7 +22,7 @@ use Rattle.btree_setting.specs.Changes.{IsSet, IsLeafSet, grown, branch_up, leaf
 use Rattle.btree_setting.specs.Rungs.{is_full, grows, first_below, put_first, with_first, seam_for, seam_if, rung_of, rungs_of, settled_by, settled, then_rungs, settle}
 use Rattle.btree_putting.specs.Firsts.{is_none, first_of, first_held}
 use Rattle.btree_setting.specs.Tasks.{splits}
-use Rattle.btree_maps.proofs.Chains.{In}
+use Rattle.btree_shapes.specs.ChainLaws.{In}
 use Rattle.btree_maps.proofs.Limbs.{ForKey, in_for_key, chosen, for_key_both, for_key_map, sprouts_of, Fine, OldShape, old_head, old_tail}
 use Rattle.btree_maps.proofs.Seams.{SeamRight, SeamSettled, LeavesAt, seam_is_right}
 

@@ -7,14 +7,14 @@ use Rattle.pickle_graph.specs.Graph.{Graph}
 use Rattle.btree_family.specs.declared.key.Key.{Key}
 use Rattle.btree_shapes.specs.declared.node.Node.{Node}
 use Rattle.btree_shapes.specs.declared.node.Node.TheVariants as node
-use Rattle.btree_shapes.specs.Keys.{is_below}
+use Rattle.btree_family.specs.Keys.{is_below}
 use Rattle.btree_shapes.specs.Nodes.{Held, Holds, place_for}
 use Rattle.btree_shapes.specs.Shapes.{Shape, Limb, oid_of, branch_of, EachLimb, first_leaf, node_held, nodes_in}
 use Rattle.btree_setting.specs.Types.{Sprout, Seam, New, Old, Beside}
 use Rattle.btree_setting.specs.Changes.{branch_up, seam_first}
 use Rattle.btree_setting.specs.Rungs.{child_in, seam_of, seam_for}
 use Rattle.btree_putting.specs.Firsts.{first_of}
-use Rattle.btree_maps.proofs.Orders.{below_or}
+use Rattle.btree_family.specs.OrderLaws.{below_or}
 use Rattle.btree_maps.proofs.Limbs.{ForKey, sprout_of, sprouts_of, insert_sprout, branches_up, Fine}
 
 -- ---- places of a new child

@@ -5,15 +5,14 @@ use Rattle.std.proofs.lemmas.Bool.{eqb-true}
 use Rattle.std.specs.Cmp.Lexicographic.{pointwise}
 use Rattle.btree_family.specs.declared.key.Key.{Key}
 use Rattle.btree_family.specs.declared.bucket.Item.{Item}
-use Rattle.btree_family.specs.Keys.{key_eq, rank_of}
+use Rattle.btree_family.specs.Keys.{key_eq, rank_of, is_below}
 use Rattle.btree_family.specs.Buckets.{keys_of}
 use Rattle.btree_family.specs.Rising.{is_key_above, Rises}
-use Rattle.btree_shapes.specs.Keys.{is_below}
 use Rattle.btree_shapes.specs.Nodes.{value_in, shown}
 use Rattle.btree_shapes.specs.Shapes.{IsFrom, IsUpTo, AreWithin, AreOfKind}
 use Rattle.btree_putting.specs.Items.{same_value, has_value}
 use Rattle.btree_setting.specs.Inserting.{behind, set_item}
-use Rattle.btree_maps.proofs.Orders.{order, below_itself, eq_itself, below_eq, below_not, above_eq, below_below, below_from}
+use Rattle.btree_family.specs.OrderLaws.{order, below_itself, eq_itself, below_eq, below_not, above_eq, below_below, below_from}
 
 -- ---- the three cases of a set
 

@@ -34,7 +34,7 @@ use Rattle.btree_setting.specs.Sets.{puts_of}
 use Rattle.btree_setting.specs.Tasks.{end_of, rungs_above, splits}
 use Rattle.btree_maps.specs.Drawn.{Differ, AreNew}
 use Rattle.btree_shapes.specs.RiseLaws.{separators_rise}
-use Rattle.btree_maps.proofs.Chains.{distinct_links}
+use Rattle.btree_shapes.specs.ChainLaws.{distinct_links}
 use Rattle.btree_maps.proofs.Limbs.{ForKey, OldShape}
 use Rattle.btree_maps.proofs.Rungs.{PathIn, RungsIn, rungs_in}
 use Rattle.btree_maps.proofs.Putting.{AllPut, all_parts, sort_parts, sort_differ, sort_stands, stands_append, oids_append, differ_append, or_end, both, same_number, own_number, or_left, or_right}

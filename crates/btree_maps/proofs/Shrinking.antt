@@ -4,15 +4,16 @@ use Rattle.std.specs.Prelude.{map, if◌then◌else◌}
 use Rattle.btree_family.specs.declared.key.Key.{Key}
 use Rattle.bucket_state.specs.declared.tree.Branch.{Branch}
 use Rattle.btree_shapes.specs.declared.node.Node.{Node}
-use Rattle.btree_shapes.specs.Keys.{is_below}
+use Rattle.btree_family.specs.Keys.{is_below}
 use Rattle.btree_shapes.specs.Nodes.{place_for}
 use Rattle.btree_shapes.specs.Shapes.{Shape, Limb, oid_of, branch_of, EachLimb, joined, IsFrom, IsUpTo, Parted, Bounded, mapping_of, links_of, first_leaf}
 use Rattle.btree_removing.specs.Items.{remove_item, cut_branch}
-use Rattle.btree_maps.proofs.Orders.{below_from, from_wider, upto_wider}
+use Rattle.btree_family.specs.OrderLaws.{below_from}
+use Rattle.btree_shapes.specs.BoundLaws.{from_wider, upto_wider}
 use Rattle.btree_maps.proofs.Mappings.{within-mapping, within-joined}
 use Rattle.btree_maps.proofs.RemoveItems.{remove_front, remove_back}
 use Rattle.btree_maps.proofs.Wider.{bounded_to}
-use Rattle.btree_maps.proofs.Chains.{Avoids, In, Distinct, in_front, in_back, avoids_parts, distinct_front, distinct_back, distinct_parts}
+use Rattle.btree_shapes.specs.ChainLaws.{Avoids, In, Distinct, in_front, in_back, avoids_parts, distinct_front, distinct_back, distinct_parts}
 use Rattle.btree_maps.proofs.Dropping.{cut_links, cut_front, cut_back}
 use Rattle.btree_maps.proofs.Limbs.{ForKey, in_for_key, Fine}
 

@@ -4,7 +4,7 @@ use Rattle.std.specs.Prelude.{map, if◌then◌else◌, not, ◌&&◌}
 use Rattle.pickle_graph.specs.Graph.{Graph}
 use Rattle.btree_family.specs.declared.key.Key.{Key}
 use Rattle.btree_family.specs.declared.bucket.Item.{Item}
-use Rattle.btree_family.specs.Keys.{rank_of}
+use Rattle.btree_family.specs.Keys.{rank_of, is_below}
 use Rattle.bucket_state.specs.declared.tree.Inner.{Inner}
 use Rattle.btree_shapes.specs.declared.error.TreeError.{TreeError}
 use Rattle.btree_shapes.specs.declared.error.TreeError.TheVariants.{NotATree, BadKey}
@@ -12,13 +12,12 @@ use Rattle.btree_shapes.specs.declared.node.Node.{Node}
 use Rattle.btree_shapes.specs.declared.node.Node.TheVariants as node
 use Rattle.btree_maps.specs.declared.span.Span.{Span}
 use Rattle.btree_maps.specs.declared.span.Span.TheVariants.{All, Within}
-use Rattle.btree_shapes.specs.Keys.{is_below}
 use Rattle.btree_shapes.specs.Nodes.{Held, Holds, class_held, objects_of}
 use Rattle.btree_shapes.specs.Ways.{stands_in, Answers, family_key}
 use Rattle.btree_maps.specs.Visits.{ends_suit, takes, items_within, child_of, and_then, in_turn, visit_node, visit_held, visit, visited, items_under, range_under}
 use Rattle.btree_shapes.specs.Nodes.{place_for}
 use Rattle.btree_shapes.specs.Shapes.{Shape, Limb, oid_of, branch_of, EachChild, EachLimb, joined, AreWithin, Parted, Bounded, OfKind, mapping_of, nodes_in, Stands, IsTree}
-use Rattle.btree_maps.proofs.Orders.{below_or, below_from}
+use Rattle.btree_family.specs.OrderLaws.{below_or, below_from}
 use Rattle.btree_maps.proofs.Mappings.{within-mapping, within-joined}
 use Rattle.btree_maps.proofs.Walks.{visit_suc}
 use Rattle.btree_maps.proofs.Reaching.{Higher, higher_less, not_twice, held_as, items_kind, limbs_kind}

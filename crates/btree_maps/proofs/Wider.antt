@@ -6,7 +6,8 @@ use Rattle.btree_family.specs.Buckets.{keys_of}
 use Rattle.btree_family.specs.Rising.{is_key_above, Rises}
 use Rattle.std.proofs.Common.{ℕ}
 use Rattle.btree_shapes.specs.Shapes.{Shape, Limb, joined, IsFrom, IsUpTo, AreWithin, Parted, Bounded, mapping_of}
-use Rattle.btree_maps.proofs.Orders.{below_from, from_wider}
+use Rattle.btree_family.specs.OrderLaws.{below_from}
+use Rattle.btree_shapes.specs.BoundLaws.{from_wider}
 use Rattle.btree_maps.proofs.Mappings.{within-mapping, within-joined}
 
 -- ---- wider bounds

@@ -10,7 +10,7 @@ use Rattle.btree_shapes.specs.declared.node.Node.TheVariants as node
 use Rattle.btree_maps.specs.declared.span.Span.{Span}
 use Rattle.btree_maps.specs.declared.span.Span.TheVariants.{All, Within}
 use Rattle.btree_maps.specs.declared.walk.Walk.{Walk}
-use Rattle.btree_shapes.specs.Keys.{is_below}
+use Rattle.btree_family.specs.Keys.{is_below}
 use Rattle.btree_shapes.specs.Nodes.{Held, Nothing, Foreign, Holds, node_suits, place_for, class_held, objects_of}
 use Rattle.btree_shapes.specs.Ways.{stands_in, family_key}
 

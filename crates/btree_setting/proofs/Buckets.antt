@@ -3,14 +3,13 @@ use Rattle.std.proofs.Common.{◌≡◌, ℕ, ◌/◌, ◌<◌, ◌≤◌, Bool,
 use Rattle.std.specs.Prelude.{if◌then◌else◌, nat_lt, ◌&&◌}
 use Rattle.btree_family.specs.declared.key.Key.{Key}
 use Rattle.btree_family.specs.declared.bucket.Item.{Item}
-use Rattle.btree_family.specs.Keys.{key_eq}
+use Rattle.btree_family.specs.Keys.{key_eq, is_below}
 use Rattle.btree_family.specs.Buckets.{BucketContents, keys_of, IsValue, AreValues, IsBucket}
 use Rattle.btree_family.specs.Rising.{is_key_above, Rises}
-use Rattle.btree_shapes.specs.Keys.{is_below}
 use Rattle.btree_setting.specs.declared.bottom.Bottom.{Bottom}
 use Rattle.btree_setting.specs.Changes.{leaf_grows}
 use Rattle.btree_setting.specs.Inserting.{behind, set_item, ItemsCut}
-use Rattle.btree_setting.proofs.Orders.{eq_is, below_below, order, eq_itself}
+use Rattle.btree_family.specs.OrderLaws.{eq_is, below_below, order, eq_itself}
 use Rattle.btree_setting.proofs.Placing.{by_test}
 
 -- ---- parts

@@ -1,5 +1,4 @@
 pub mod Spellings
-pub mod Orders
 pub mod Placing
 pub mod Buckets
 pub mod Numbers

@@ -8,7 +8,7 @@ use Rattle.bucket_state.specs.declared.tree.Branch.{Branch}
 use Rattle.bucket_state.specs.Trees.{separators_of}
 use Rattle.btree_shapes.specs.declared.node.Node.{Node}
 use Rattle.btree_shapes.specs.declared.node.Node.TheVariants as node
-use Rattle.btree_shapes.specs.Keys.{is_below}
+use Rattle.btree_family.specs.Keys.{is_below}
 use Rattle.btree_putting.specs.declared.puts.Put.{Put}
 use Rattle.btree_setting.specs.declared.change.Sprout.{Sprout}
 use Rattle.btree_setting.specs.declared.change.Change.{Change}

@@ -2,9 +2,8 @@
 use Rattle.std.specs.Prelude.{◌≡◌, ℕ, suc, List, [], ◌∷◌, ◌++◌, length, Option, ◌==◌, if◌then◌else◌}
 use Rattle.btree_family.specs.declared.key.Key.{Key}
 use Rattle.btree_family.specs.declared.bucket.Item.{Item}
-use Rattle.btree_family.specs.Keys.{key_eq}
+use Rattle.btree_family.specs.Keys.{key_eq, is_below}
 use Rattle.bucket_state.specs.declared.tree.Branch.{Branch}
-use Rattle.btree_shapes.specs.Keys.{is_below}
 
 -- how many keys at the front are below this one
 abbrev pub place_in : List Item → Key → ℕ

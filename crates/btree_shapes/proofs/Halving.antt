@@ -5,12 +5,11 @@ use Rattle.std.specs.declared.cmp.Ordering.{Ordering}
 use Rattle.std.specs.declared.cmp.Ordering.TheVariants.{Less, Equal, Greater}
 use Rattle.std.specs.Ordering.{is_lt}
 use Rattle.btree_family.specs.declared.key.Key.{Key}
-use Rattle.btree_family.specs.Keys.{key_cmp}
+use Rattle.btree_family.specs.Keys.{key_cmp, is_below}
 use Rattle.btree_family.specs.KeyLaws.{key_cmp-total}
 use Rattle.btree_family.specs.Rising.{Rises}
 use Rattle.bucket_state.specs.declared.tree.Branch.{Branch}
 use Rattle.bucket_state.specs.Trees.{separators_of}
-use Rattle.btree_shapes.specs.Keys.{is_below}
 use Rattle.btree_shapes.specs.Nodes.{child_for, place_for}
 
 is_less : (o : Ordering) → is_lt o ≡ true → o ≡ Less

@@ -9,4 +9,6 @@ pub mod Steps
 pub mod Met
 pub mod MetLaws
 pub mod Shapes
+pub mod BoundLaws
+pub mod ChainLaws
 pub mod RiseLaws

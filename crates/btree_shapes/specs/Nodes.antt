@@ -6,7 +6,7 @@ use Rattle.btree_family.specs.declared.key.Key.{Key}
 use Rattle.btree_family.specs.declared.table.Kind.{Kind}
 use Rattle.btree_family.specs.declared.table.Kind.TheVariants as kinds
 use Rattle.btree_family.specs.declared.bucket.Item.{Item}
-use Rattle.btree_family.specs.Keys.{key_eq}
+use Rattle.btree_family.specs.Keys.{key_eq, is_below}
 use Rattle.btree_family.specs.Classes.{Class, classes, leaf_in}
 use Rattle.btree_family.specs.Buckets.{keys_of}
 use Rattle.bucket_state.specs.declared.tree.Branch.{Branch}
@@ -19,7 +19,7 @@ use Rattle.zb_record.specs.Records.{record_of}
 use Rattle.btree_shapes.specs.declared.node.Node.{Node}
 use Rattle.btree_shapes.specs.declared.node.Node.TheVariants.{Lone, Leaf, Inner}
 use Rattle.btree_shapes.specs.Classes.{class_named, is_class_of}
-use Rattle.btree_shapes.specs.Keys.{is_below, is_kind_of}
+use Rattle.btree_shapes.specs.Keys.{is_kind_of}
 
 -- ---- what a record holds
 

@@ -1,11 +1,11 @@
 -- Keys that rise, and the keys of two lists in one.
 use Rattle.std.proofs.Common.{◌≡◌, Bool, true, cond, List, [], ◌∷◌, ◌++◌, filter, Option, Some, None, inl, inr, refl, sym, ◌∙◌, ap, subst}
 use Rattle.btree_family.specs.declared.key.Key.{Key}
-use Rattle.btree_family.specs.Keys.{key_eq}
+use Rattle.btree_family.specs.Keys.{key_eq, is_below}
 use Rattle.btree_family.specs.Rising.{is_key_above, Rises}
-use Rattle.bucket_merge.specs.Maps.{key_lt, joined}
+use Rattle.bucket_merge.specs.Maps.{joined}
 use Rattle.bucket_merge.specs.Walk.{lesser_key}
-use Rattle.bucket_merge.proofs.Keys.{order, lt_same, eq_same, lt_gt, gt_eq, lt_trans}
+use Rattle.btree_family.specs.OrderLaws.{order, below_itself, eq_itself, below_not, above_eq, below_below}
 
 -- the first bound is not above the second
 abbrev pub IsLower : Option Key → Option Key → Type 0
@@ -19,23 +19,23 @@ same_lower bound key h = h
 
 pub above_lower : (low : Option Key) (k : Key) → is_key_above low k ≡ true → IsLower low (Some k)
 above_lower None k h key g = refl
-above_lower (Some l) k h key g = lt_trans l k key h g
+above_lower (Some l) k h key g = below_below l k key h g
 
 pub rises_from : (low bound : Option Key) (ks : List Key) → IsLower low bound → Rises bound ks → Rises low ks
 rises_from low bound [] l h = tt
 rises_from low bound (k ∷ ks) l h = (l k h.0, h.1)
 
 -- no key of a rising list is below its bound
-none_below : (k : Key) (ks : List Key) → Rises (Some k) ks → filter (λ other. key_lt other k) ks ≡ []
+none_below : (k : Key) (ks : List Key) → Rises (Some k) ks → filter (λ other. is_below other k) ks ≡ []
 none_below k [] h = refl
 none_below k (x ∷ ks) h =
-    ap (λ (t : Bool). cond t (x ∷ filter (λ other. key_lt other k) ks) (filter (λ other. key_lt other k) ks)) (lt_gt k x h.0)
+    ap (λ (t : Bool). cond t (x ∷ filter (λ other. is_below other k) ks) (filter (λ other. is_below other k) ks)) (below_not k x h.0)
     ∙ none_below k ks (rises_from (Some k) (Some x) ks (above_lower (Some k) x h.0) h.1)
 
-all_above : (k : Key) (ks : List Key) → Rises (Some k) ks → filter (λ other. key_lt k other) ks ≡ ks
+all_above : (k : Key) (ks : List Key) → Rises (Some k) ks → filter (λ other. is_below k other) ks ≡ ks
 all_above k [] h = refl
 all_above k (x ∷ ks) h =
-    ap (λ (t : Bool). cond t (x ∷ filter (λ other. key_lt k other) ks) (filter (λ other. key_lt k other) ks)) h.0
+    ap (λ (t : Bool). cond t (x ∷ filter (λ other. is_below k other) ks) (filter (λ other. is_below k other) ks)) h.0
     ∙ ap (λ (xs : List Key). x ∷ xs) (all_above k ks (rises_from (Some k) (Some x) ks (above_lower (Some k) x h.0) h.1))
 
 -- ---- the first key of two lists
@@ -46,19 +46,19 @@ joined_none (x ∷ xs) = ap (λ (ys : List Key). x ∷ ys) (joined_none xs)
 
 pub joined_lt : (x : Key) (xs ys : List Key) → Rises (Some x) ys → joined (x ∷ xs) ys ≡ x ∷ joined xs ys
 joined_lt x xs ys h =
-    ap (λ (zs : List Key). zs ++ x ∷ joined xs (filter (λ other. key_lt x other) ys)) (none_below x ys h)
+    ap (λ (zs : List Key). zs ++ x ∷ joined xs (filter (λ other. is_below x other) ys)) (none_below x ys h)
     ∙ ap (λ (zs : List Key). x ∷ joined xs zs) (all_above x ys h)
 
 pub joined_eq : (x : Key) (xs ys : List Key) → Rises (Some x) ys → joined (x ∷ xs) (x ∷ ys) ≡ x ∷ joined xs ys
 joined_eq x xs ys h =
-    ap (λ (t : Bool). cond t (x ∷ filter (λ other. key_lt other x) ys) (filter (λ other. key_lt other x) ys) ++ x ∷ joined xs (filter (λ other. key_lt x other) (x ∷ ys))) (lt_same x)
-    ∙ ap (λ (t : Bool). filter (λ other. key_lt other x) ys ++ x ∷ joined xs (cond t (x ∷ filter (λ other. key_lt x other) ys) (filter (λ other. key_lt x other) ys))) (lt_same x)
+    ap (λ (t : Bool). cond t (x ∷ filter (λ other. is_below other x) ys) (filter (λ other. is_below other x) ys) ++ x ∷ joined xs (filter (λ other. is_below x other) (x ∷ ys))) (below_itself x)
+    ∙ ap (λ (t : Bool). filter (λ other. is_below other x) ys ++ x ∷ joined xs (cond t (x ∷ filter (λ other. is_below x other) ys) (filter (λ other. is_below x other) ys))) (below_itself x)
     ∙ joined_lt x xs ys h
 
-pub joined_gt : (x y : Key) (xs ys : List Key) → key_lt y x ≡ true → joined (x ∷ xs) (y ∷ ys) ≡ y ∷ joined (x ∷ xs) ys
+pub joined_gt : (x y : Key) (xs ys : List Key) → is_below y x ≡ true → joined (x ∷ xs) (y ∷ ys) ≡ y ∷ joined (x ∷ xs) ys
 joined_gt x y xs ys h =
-    ap (λ (t : Bool). cond t (y ∷ filter (λ other. key_lt other x) ys) (filter (λ other. key_lt other x) ys) ++ x ∷ joined xs (filter (λ other. key_lt x other) (y ∷ ys))) h
-    ∙ ap (λ (t : Bool). y ∷ (filter (λ other. key_lt other x) ys ++ x ∷ joined xs (cond t (y ∷ filter (λ other. key_lt x other) ys) (filter (λ other. key_lt x other) ys)))) (lt_gt y x h)
+    ap (λ (t : Bool). cond t (y ∷ filter (λ other. is_below other x) ys) (filter (λ other. is_below other x) ys) ++ x ∷ joined xs (filter (λ other. is_below x other) (y ∷ ys))) h
+    ∙ ap (λ (t : Bool). y ∷ (filter (λ other. is_below other x) ys ++ x ∷ joined xs (cond t (y ∷ filter (λ other. is_below x other) ys) (filter (λ other. is_below x other) ys)))) (below_not y x h)
 
 -- ---- both rise, so does their join
 
@@ -97,11 +97,11 @@ keys_behind [] key = []
 keys_behind (first ∷ keys) key = cond (key_eq first key) keys (first ∷ keys)
 
 pub behind_first : (k : Key) (ks : List Key) → keys_behind (k ∷ ks) k ≡ ks
-behind_first k ks = ap (λ (t : Bool). cond t ks (k ∷ ks)) (eq_same k)
+behind_first k ks = ap (λ (t : Bool). cond t ks (k ∷ ks)) (eq_itself k)
 
 pub behind_above : (k : Key) (ks : List Key) → Rises (Some k) ks → keys_behind ks k ≡ ks
 behind_above k [] h = refl
-behind_above k (x ∷ ks) h = ap (λ (t : Bool). cond t ks (x ∷ ks)) (gt_eq x k h.0)
+behind_above k (x ∷ ks) h = ap (λ (t : Bool). cond t ks (x ∷ ks)) (above_eq x k h.0)
 
 -- the lesser of the first keys is the first of the join, and behind it stands the join of what is left
 pub record Stepped (low : Option Key) (xs ys : List Key) (k : Key) : Type 0 where
@@ -126,7 +126,7 @@ step_eq low x xs ys p q = record {
   second = subst (Rises (Some x)) (sym (behind_first x ys)) q.1;
 }
 
-step_gt : (low : Option Key) (x y : Key) (xs ys : List Key) → Rises low (x ∷ xs) → Rises low (y ∷ ys) → key_lt y x ≡ true → Stepped low (x ∷ xs) (y ∷ ys) y
+step_gt : (low : Option Key) (x y : Key) (xs ys : List Key) → Rises low (x ∷ xs) → Rises low (y ∷ ys) → is_below y x ≡ true → Stepped low (x ∷ xs) (y ∷ ys) y
 step_gt low x y xs ys p q g = record {
   is = joined_gt x y xs ys g ∙ ap (λ (zs : List Key). y ∷ joined zs ys) (sym (behind_above y (x ∷ xs) (g, p.1))) ∙ ap (λ (zs : List Key). y ∷ joined (keys_behind (x ∷ xs) y) zs) (sym (behind_first y ys));
   above = q.0;
@@ -151,10 +151,10 @@ stepped low [] (y ∷ ys) k p q e =
 stepped low (x ∷ xs) (y ∷ ys) k p q e = elim (order x y) [
   | inl s ↦
       let q' : Rises low (x ∷ ys) = subst (λ (z : Key). Rises low (z ∷ ys)) (sym s) q in
-      let is_x : x ≡ k = some_is x k (ap (λ (t : Bool). Some (cond t x x)) (sym (lt_same x)) ∙ ap (λ (z : Key). Some (cond (key_lt z x) z x)) s ∙ e) in
+      let is_x : x ≡ k = some_is x k (ap (λ (t : Bool). Some (cond t x x)) (sym (below_itself x)) ∙ ap (λ (z : Key). Some (cond (is_below z x) z x)) s ∙ e) in
       subst (λ (z : Key). Stepped low (x ∷ xs) (z ∷ ys) k) s (subst (Stepped low (x ∷ xs) (x ∷ ys)) is_x (step_eq low x xs ys p q'))
   | inr (inl l) ↦
-      let is_x : x ≡ k = some_is x k (ap (λ (t : Bool). Some (cond t y x)) (sym (lt_gt x y l)) ∙ e) in
+      let is_x : x ≡ k = some_is x k (ap (λ (t : Bool). Some (cond t y x)) (sym (below_not x y l)) ∙ e) in
       subst (Stepped low (x ∷ xs) (y ∷ ys)) is_x (step_lt low x xs (y ∷ ys) p (l, q.1))
   | inr (inr g) ↦
       let is_y : y ≡ k = some_is y k (ap (λ (t : Bool). Some (cond t y x)) (sym g) ∙ e) in

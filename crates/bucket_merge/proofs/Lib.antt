@@ -1,4 +1,3 @@
-mod Keys
 mod Joined
 mod Walks
 mod Values

@@ -7,16 +7,16 @@ use Rattle.std.proofs.Common.{arith}
 use Rattle.std.proofs.lemmas.Grind.{common_steps}
 use Rattle.btree_family.specs.declared.key.Key.{Key}
 use Rattle.btree_family.specs.declared.bucket.Item.{Item}
-use Rattle.btree_family.specs.Keys.{key_eq}
+use Rattle.btree_family.specs.Keys.{key_eq, is_below}
 use Rattle.btree_family.specs.Buckets.{BucketContents, keys_of}
 use Rattle.btree_family.specs.Rising.{Rises}
 use Rattle.bucket_merge.specs.declared.refusal.MergeRefusal.{MergeRefusal}
 use Rattle.bucket_merge.specs.declared.refusal.MergeRefusal.TheVariants.{Link, EmptySide, FirstKey}
-use Rattle.bucket_merge.specs.Maps.{key_lt, value_at, differ, least_key}
-use Rattle.bucket_merge.specs.Merge.{both_changed, kept_value, all_keys, merged_items, same_links, no_items, is_below, first_key_left, unless_changed, merge_of}
+use Rattle.bucket_merge.specs.Maps.{value_at, differ, least_key}
+use Rattle.bucket_merge.specs.Merge.{both_changed, kept_value, all_keys, merged_items, same_links, no_items, stands_below, first_key_left, unless_changed, merge_of}
 use Rattle.bucket_merge.specs.Laws.{NoneChangedByBoth, MergedIsMap, LeastIsNamed, unless_refused, CommittedAloneIsKept, StoredAloneIsKept, ExchangedMergeAlike}
 use Rattle.bucket_merge.specs.Kept.{inv_ok, inv_key}
-use Rattle.bucket_merge.proofs.Keys.{order, eq_same, lt_eq}
+use Rattle.btree_family.specs.OrderLaws.{order, eq_itself, below_eq}
 use Rattle.bucket_merge.proofs.Joined.{above_lower, rises_from}
 use Rattle.bucket_merge.proofs.Walks.{absent_below}
 use Rattle.bucket_merge.proofs.Values.{merged_rises, merged_values, none_changed, apart_none, least_changed_is}
@@ -24,13 +24,13 @@ use Rattle.bucket_merge.proofs.Values.{merged_rises, merged_values, none_changed
 -- ---- a map decides its list
 
 value_first : (x : Item) (xs : List Item) → value_at (x ∷ xs) x.key ≡ Some x.value
-value_first x xs = ap (λ (t : Bool). cond t (Some x.value) (value_at xs x.key)) (eq_same x.key)
+value_first x xs = ap (λ (t : Bool). cond t (Some x.value) (value_at xs x.key)) (eq_itself x.key)
 
 value_other : (x : Item) (xs : List Item) (k : Key) → key_eq x.key k ≡ false → value_at (x ∷ xs) k ≡ value_at xs k
 value_other x xs k e = ap (λ (t : Bool). cond t (Some x.value) (value_at xs k)) e
 
 -- nothing stands below the first key
-nothing_below : (x : Item) (xs : List Item) (k : Key) → Rises (Some x.key) (keys_of xs) → key_lt k x.key ≡ true → value_at (x ∷ xs) k ≡ None
+nothing_below : (x : Item) (xs : List Item) (k : Key) → Rises (Some x.key) (keys_of xs) → is_below k x.key ≡ true → value_at (x ∷ xs) k ≡ None
 nothing_below x xs k h l = absent_below k (x ∷ xs) (l, h)
 
 abbrev SameValues : List Item → List Item → Type 0
@@ -40,7 +40,7 @@ tails_agree : (k0 : Key) (v w : Option (List ℕ)) (xs ys : List Item) → Rises
 tails_agree k0 v w xs ys p q h k = elim (order k0 k) [
   | inl e ↦ subst (λ (z : Key). value_at xs z ≡ value_at ys z) e (absent_below k0 xs p ∙ sym (absent_below k0 ys q))
   | inr (inl l) ↦
-      sym (value_other (record { key = k0; value = v }) xs k (lt_eq k0 k l)) ∙ h k ∙ value_other (record { key = k0; value = w }) ys k (lt_eq k0 k l)
+      sym (value_other (record { key = k0; value = v }) xs k (below_eq k0 k l)) ∙ h k ∙ value_other (record { key = k0; value = w }) ys k (below_eq k0 k l)
   | inr (inr g) ↦
       absent_below k xs (rises_from (Some k) (Some k0) (keys_of xs) (above_lower (Some k) k0 g) p)
       ∙ sym (absent_below k ys (rises_from (Some k) (Some k0) (keys_of ys) (above_lower (Some k) k0 g) q))
@@ -212,7 +212,7 @@ exchanged a b c s h =
     ∙ sym (merged_values a.items c.items b.items k s.first s.third s.second)) in
     let links = and_swap (option_eq nat_eq b.next a.next) (option_eq nat_eq c.next a.next) in
     let sides = or_swap (no_items b.items) (no_items c.items) in
-    let firsts = or_swap (is_below (least_key a.items) (least_key b.items)) (is_below (least_key a.items) (least_key c.items)) in
+    let firsts = or_swap (stands_below (least_key a.items) (least_key b.items)) (stands_below (least_key a.items) (least_key c.items)) in
     apart_rules a b c (record { items = merged_items a.items b.items c.items; next = b.next }) h refl
     ∙ exchanged_link a b c (merged_items a.items b.items c.items) (same_links a b c) refl
     ∙ (λ i. cond {A = Result BucketContents MergeRefusal} (links i) (cond {A = Result BucketContents MergeRefusal} (sides i) (Err EmptySide) (cond {A = Result BucketContents MergeRefusal} (firsts i) (Err FirstKey) (Ok (record { items = items i; next = c.next })))) (Err Link))

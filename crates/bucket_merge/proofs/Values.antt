@@ -2,14 +2,14 @@
 use Rattle.std.proofs.Common.{◌≡◌, ℕ, Bool, true, false, cond, List, [], ◌∷◌, ◌++◌, filter, Option, Some, None, ◌⊎◌, inl, inr, refl, sym, ◌∙◌, ap, subst}
 use Rattle.btree_family.specs.declared.key.Key.{Key}
 use Rattle.btree_family.specs.declared.bucket.Item.{Item}
-use Rattle.btree_family.specs.Keys.{key_eq}
+use Rattle.btree_family.specs.Keys.{key_eq, is_below}
 use Rattle.btree_family.specs.Buckets.{keys_of, IsValue, AreValues, IsBucket}
 use Rattle.btree_family.specs.Rising.{is_key_above, Rises}
-use Rattle.bucket_merge.specs.Maps.{key_lt, value_at, differ, joined}
+use Rattle.bucket_merge.specs.Maps.{value_at, differ, joined}
 use Rattle.std.proofs.Common.{Ok}
 use Rattle.bucket_merge.specs.Walk.{or_changed, walked}
 use Rattle.bucket_merge.specs.Merge.{both_changed, kept_value, both_changed_at, kept_at, all_keys, changed_among, least_changed, item_at, kept_among, merged_items}
-use Rattle.bucket_merge.proofs.Keys.{order, eq_is, eq_same, lt_eq, lt_gt, gt_eq, lt_trans}
+use Rattle.btree_family.specs.OrderLaws.{order, eq_is, eq_itself, below_eq, below_not, above_eq, below_below}
 use Rattle.bucket_merge.proofs.Joined.{above_lower, rises_from, joined_rises}
 
 -- ---- the merge is a bucket
@@ -114,23 +114,23 @@ parted false false false front back (inl e) = cc
 parted false false false front back (inr (inl e)) = (let f = e.0 in cc)
 parted false false false front back (inr (inr e)) = (let f = e.0 in cc)
 
-where_it_stands : (x k : Key) → (key_eq x k ≡ true) ⊎ (((key_lt k x ≡ true) × (key_lt x k ≡ false) × (key_eq x k ≡ false)) ⊎ ((key_lt x k ≡ true) × (key_lt k x ≡ false) × (key_eq x k ≡ false)))
+where_it_stands : (x k : Key) → (key_eq x k ≡ true) ⊎ (((is_below k x ≡ true) × (is_below x k ≡ false) × (key_eq x k ≡ false)) ⊎ ((is_below x k ≡ true) × (is_below k x ≡ false) × (key_eq x k ≡ false)))
 where_it_stands x k = elim (order x k) [
-  | inl e ↦ inl (subst (λ (z : Key). key_eq x z ≡ true) e (eq_same x))
-  | inr (inl l) ↦ inr (inr (l, lt_gt x k l, lt_eq x k l))
-  | inr (inr g) ↦ inr (inl (g, lt_gt k x g, gt_eq x k g))
+  | inl e ↦ inl (subst (λ (z : Key). key_eq x z ≡ true) e (eq_itself x))
+  | inr (inl l) ↦ inr (inr (l, below_not x k l, below_eq x k l))
+  | inr (inr g) ↦ inr (inl (g, below_not k x g, above_eq x k g))
 ]
 
 pub has_joined : (xs ys : List Key) (k : Key) → has_key (joined xs ys) k ≡ cond (has_key xs k) true (has_key ys k)
 has_joined [] ys k = refl
 has_joined (x ∷ xs) ys k =
-    let above : List Key = filter (λ other. key_lt x other) ys in
-    let below : List Key = filter (λ other. key_lt other x) ys in
+    let above : List Key = filter (λ other. is_below x other) ys in
+    let below : List Key = filter (λ other. is_below other x) ys in
     has_append below (x ∷ joined xs above) k
     ∙ ap (λ (t : Bool). cond (has_key below k) true (cond (key_eq x k) true t)) (has_joined xs above k)
-    ∙ ap (λ (t : Bool). cond t true (cond (key_eq x k) true (cond (has_key xs k) true (has_key above k)))) (has_filter (λ other. key_lt other x) ys k)
-    ∙ ap (λ (t : Bool). cond (cond (key_lt k x) (has_key ys k) false) true (cond (key_eq x k) true (cond (has_key xs k) true t))) (has_filter (λ other. key_lt x other) ys k)
-    ∙ parted (key_lt k x) (key_eq x k) (key_lt x k) (has_key xs k) (has_key ys k) (where_it_stands x k)
+    ∙ ap (λ (t : Bool). cond t true (cond (key_eq x k) true (cond (has_key xs k) true (has_key above k)))) (has_filter (λ other. is_below other x) ys k)
+    ∙ ap (λ (t : Bool). cond (cond (is_below k x) (has_key ys k) false) true (cond (key_eq x k) true (cond (has_key xs k) true t))) (has_filter (λ other. is_below x other) ys k)
+    ∙ parted (is_below k x) (key_eq x k) (is_below x k) (has_key xs k) (has_key ys k) (where_it_stands x k)
 
 -- ---- values
 
@@ -172,12 +172,12 @@ item_value k j (Some v) rest e = ap (λ (t : Bool). cond t (Some v) (value_at re
 
 item_here : (k : Key) (o : Option (Option (List ℕ))) (rest : List Item) → (value_at rest k ≡ None) → value_at (item_at k o ++ rest) k ≡ o
 item_here k None rest h = h
-item_here k (Some v) rest h = ap (λ (t : Bool). cond t (Some v) (value_at rest k)) (eq_same k)
+item_here k (Some v) rest h = ap (λ (t : Bool). cond t (Some v) (value_at rest k)) (eq_itself k)
 
 -- no key of a rising list is its bound
 not_bound : (k : Key) (ks : List Key) → Rises (Some k) ks → has_key ks k ≡ false
 not_bound k [] h = refl
-not_bound k (x ∷ ks) h = ap (λ (t : Bool). cond t true (has_key ks k)) (gt_eq x k h.0) ∙ not_bound k ks (rises_from (Some k) (Some x) ks (above_lower (Some k) x h.0) h.1)
+not_bound k (x ∷ ks) h = ap (λ (t : Bool). cond t true (has_key ks k)) (above_eq x k h.0) ∙ not_bound k ks (rises_from (Some k) (Some x) ks (above_lower (Some k) x h.0) h.1)
 
 kept_absent_by : (a b c : List Item) (x : Key) (ks : List Key) (k : Key) (t : Bool) → key_eq x k ≡ t → cond t true (has_key ks k) ≡ false → (has_key ks k ≡ false → value_at (kept_among a b c ks) k ≡ None) → value_at (item_at x (kept_at a b c x) ++ kept_among a b c ks) k ≡ None
 kept_absent_by a b c x ks k true e g rest = cc
@@ -236,18 +236,18 @@ apart_none a b c (x ∷ ks) h = ap (λ (t : Bool). cond t (Some x) (changed_amon
 pub record LeastAmong (a b c : List Item) (ks : List Key) (k : Key) : Type 0 where
   pub both : both_changed_at a b c k ≡ true
   pub stands : has_key ks k ≡ true
-  pub least : (j : Key) → key_lt j k ≡ true → has_key ks j ≡ true → both_changed_at a b c j ≡ false
+  pub least : (j : Key) → is_below j k ≡ true → has_key ks j ≡ true → both_changed_at a b c j ≡ false
 
 least_here : (a b c : List Item) (x : Key) (ks : List Key) → Rises (Some x) ks → both_changed_at a b c x ≡ true → LeastAmong a b c (x ∷ ks) x
 least_here a b c x ks h e = record {
   both = e;
-  stands = ap (λ (t : Bool). cond t true (has_key ks x)) (eq_same x);
+  stands = ap (λ (t : Bool). cond t true (has_key ks x)) (eq_itself x);
   least = λ j l g. absurd (none_lower_than x ks j h l g);
 } where
-  none_lower_than : (low : Key) (xs : List Key) (j : Key) → Rises (Some low) xs → key_lt j low ≡ true → has_key (low ∷ xs) j ≡ true → ⊥
-  none_lower_than low [] j h l g = (let e : true ≡ false = sym g ∙ ap (λ (t : Bool). cond t true false) (gt_eq low j l) in cc)
+  none_lower_than : (low : Key) (xs : List Key) (j : Key) → Rises (Some low) xs → is_below j low ≡ true → has_key (low ∷ xs) j ≡ true → ⊥
+  none_lower_than low [] j h l g = (let e : true ≡ false = sym g ∙ ap (λ (t : Bool). cond t true false) (above_eq low j l) in cc)
   none_lower_than low (y ∷ ys) j h l g =
-      none_lower_than y ys j h.1 (lt_trans j low y l h.0) (sym (ap (λ (t : Bool). cond t true (has_key (y ∷ ys) j)) (gt_eq low j l)) ∙ g)
+      none_lower_than y ys j h.1 (below_below j low y l h.0) (sym (ap (λ (t : Bool). cond t true (has_key (y ∷ ys) j)) (above_eq low j l)) ∙ g)
 
 least_later : (a b c : List Item) (x : Key) (ks : List Key) (k : Key) → both_changed_at a b c x ≡ false → LeastAmong a b c ks k → LeastAmong a b c (x ∷ ks) k
 least_later a b c x ks k e m = record {
@@ -259,7 +259,7 @@ least_later a b c x ks k e m = record {
   either true = refl
   either false = refl
 
-  later : (j : Key) → key_lt j k ≡ true → (t : Bool) → key_eq x j ≡ t → cond t true (has_key ks j) ≡ true → both_changed_at a b c j ≡ false
+  later : (j : Key) → is_below j k ≡ true → (t : Bool) → key_eq x j ≡ t → cond t true (has_key ks j) ≡ true → both_changed_at a b c j ≡ false
   later j l true f g = subst (λ (z : Key). both_changed_at a b c z ≡ false) (eq_is x j f) e
   later j l false f g = m.least j l g
 
@@ -274,11 +274,11 @@ least_among : (a b c : List Item) (low : Option Key) (ks : List Key) (k : Key) �
 least_among a b c low [] k h e = cc
 least_among a b c low (x ∷ ks) k h e = least_first a b c x ks k (both_changed_at a b c x) refl h.1 e (least_among a b c (Some x) ks k h.1)
 
-least_by : (a b c : List Item) (k j : Key) (t : Bool) → LeastAmong a b c (all_keys a b c) k → key_lt j k ≡ true → has_key (all_keys a b c) j ≡ t → both_changed_at a b c j ≡ false
+least_by : (a b c : List Item) (k j : Key) (t : Bool) → LeastAmong a b c (all_keys a b c) k → is_below j k ≡ true → has_key (all_keys a b c) j ≡ t → both_changed_at a b c j ≡ false
 least_by a b c k j true m l h = m.least j l h
 least_by a b c k j false m l h = nowhere_apart a b c j (nowhere a b c j h)
 
-pub least_changed_is : (a b c : List Item) (k : Key) → Rises None (keys_of a) → Rises None (keys_of b) → Rises None (keys_of c) → changed_among a b c (all_keys a b c) ≡ Some k → (both_changed_at a b c k ≡ true) × ((j : Key) → key_lt j k ≡ true → both_changed_at a b c j ≡ false)
+pub least_changed_is : (a b c : List Item) (k : Key) → Rises None (keys_of a) → Rises None (keys_of b) → Rises None (keys_of c) → changed_among a b c (all_keys a b c) ≡ Some k → (both_changed_at a b c k ≡ true) × ((j : Key) → is_below j k ≡ true → both_changed_at a b c j ≡ false)
 least_changed_is a b c k p q r e =
     let m = least_among a b c None (all_keys a b c) k (keys_rise a b c p q r) e in
     (m.both, λ j l. least_by a b c k j (has_key (all_keys a b c) j) m l refl)

@@ -2,15 +2,15 @@
 use Rattle.std.proofs.Common.{◌≡◌, ◌+◌, ◌≤◌, ◌<◌, Bool, true, false, cond, List, [], ◌∷◌, ◌++◌, length, Option, Some, None, Result, Ok, Err, ◌⊎◌, inl, inr, refl, sym, ◌∙◌, ap, subst, arith, append_assoc, append-nil}
 use Rattle.btree_family.specs.declared.key.Key.{Key}
 use Rattle.btree_family.specs.declared.bucket.Item.{Item}
-use Rattle.btree_family.specs.Keys.{key_eq}
+use Rattle.btree_family.specs.Keys.{key_eq, is_below}
 use Rattle.btree_family.specs.Buckets.{keys_of}
 use Rattle.btree_family.specs.Rising.{is_key_above, Rises}
 use Rattle.bucket_merge.specs.declared.refusal.MergeRefusal.{MergeRefusal}
 use Rattle.bucket_merge.specs.declared.refusal.MergeRefusal.TheVariants.{Key as BothChanged}
-use Rattle.bucket_merge.specs.Maps.{key_lt, value_at, differ, least_key, joined}
+use Rattle.bucket_merge.specs.Maps.{value_at, differ, least_key, joined}
 use Rattle.bucket_merge.specs.Merge.{both_changed, kept_value, both_changed_at, kept_at, all_keys, changed_among, item_at, kept_among}
 use Rattle.bucket_merge.specs.Walk.{lesser_key, least_of_all, first_at, behind, value_in, kept_item, as_list, or_changed, walked}
-use Rattle.bucket_merge.proofs.Keys.{order, eq_is, eq_same, lt_eq, gt_eq, lt_trans}
+use Rattle.btree_family.specs.OrderLaws.{order, eq_is, eq_itself, below_eq, above_eq, below_below}
 use Rattle.bucket_merge.proofs.Joined.{IsLower, above_lower, rises_from, joined_lt, joined_eq, joined_gt, joined_rises, first_of, keys_behind, behind_first, behind_above, stepped}
 
 -- ---- where a key stands in a list that begins with it or above it
@@ -18,18 +18,18 @@ use Rattle.bucket_merge.proofs.Joined.{IsLower, above_lower, rises_from, joined_
 -- the key is not above another, if there is one
 abbrev pub AtLeast : Key → Option Key → Type 0
 AtLeast k None = Unit {0}
-AtLeast k (Some other) = (k ≡ other) ⊎ (key_lt k other ≡ true)
+AtLeast k (Some other) = (k ≡ other) ⊎ (is_below k other ≡ true)
 
-lesser_case : (k x y : Key) (t : Bool) → key_lt y x ≡ t → AtLeast k (Some (cond t y x)) → AtLeast k (Some x) × AtLeast k (Some y)
-lesser_case k x y true e (inl s) = (inr (subst (λ (z : Key). key_lt z x ≡ true) (sym s) e), inl s)
-lesser_case k x y true e (inr l) = (inr (lt_trans k y x l e), inr l)
+lesser_case : (k x y : Key) (t : Bool) → is_below y x ≡ t → AtLeast k (Some (cond t y x)) → AtLeast k (Some x) × AtLeast k (Some y)
+lesser_case k x y true e (inl s) = (inr (subst (λ (z : Key). is_below z x ≡ true) (sym s) e), inl s)
+lesser_case k x y true e (inr l) = (inr (below_below k y x l e), inr l)
 lesser_case k x y false e h = (
   h,
   elim (order x y) [
     | inl s ↦ subst (λ (z : Key). AtLeast k (Some z)) s h
     | inr (inl l) ↦ elim h [
-      | inl s ↦ inr (subst (λ (z : Key). key_lt z y ≡ true) (sym s) l)
-      | inr g ↦ inr (lt_trans k x y g l)
+      | inl s ↦ inr (subst (λ (z : Key). is_below z y ≡ true) (sym s) l)
+      | inr g ↦ inr (below_below k x y g l)
     ]
     | inr (inr g) ↦ (let b : true ≡ false = sym g ∙ e in cc)
   ],
@@ -38,7 +38,7 @@ lesser_case k x y false e h = (
 at_least_both : (k : Key) (p q : Option Key) → AtLeast k (lesser_key p q) → AtLeast k p × AtLeast k q
 at_least_both k None q h = (tt, h)
 at_least_both k (Some x) None h = (h, tt)
-at_least_both k (Some x) (Some y) h = lesser_case k x y (key_lt y x) refl h
+at_least_both k (Some x) (Some y) h = lesser_case k x y (is_below y x) refl h
 
 at_least : (k : Key) (o : Option Key) → o ≡ Some k → AtLeast k o
 at_least k o e = subst (AtLeast k) (sym e) (inl refl)
@@ -55,7 +55,7 @@ above_case low x y false p q = p
 lesser_above : (low : Option Key) (p q : Option Key) → IsAbove low p → IsAbove low q → IsAbove low (lesser_key p q)
 lesser_above low None q h g = g
 lesser_above low (Some x) None h g = h
-lesser_above low (Some x) (Some y) h g = above_case low x y (key_lt y x) h g
+lesser_above low (Some x) (Some y) h g = above_case low x y (is_below y x) h g
 
 first_above : (low : Option Key) (ks : List Key) → Rises low ks → IsAbove low (first_of ks)
 first_above low [] h = tt
@@ -153,26 +153,26 @@ keys_of_behind (item ∷ items) k = keys_cond (key_eq item.key k) item items
 pub absent_below : (k : Key) (items : List Item) → Rises (Some k) (keys_of items) → value_at items k ≡ None
 absent_below k [] h = refl
 absent_below k (item ∷ items) h =
-    ap (λ (t : Bool). cond t (Some item.value) (value_at items k)) (gt_eq item.key k h.0)
+    ap (λ (t : Bool). cond t (Some item.value) (value_at items k)) (above_eq item.key k h.0)
     ∙ absent_below k items (rises_from (Some k) (Some item.key) (keys_of items) (above_lower (Some k) item.key h.0) h.1)
 
 first_cond : (t : Bool) (item : Item) (items : List Item) (k : Key) → key_eq item.key k ≡ t → From k (item.key ∷ keys_of items) → value_in (cond t (Some item) None) ≡ cond t (Some item.value) (value_at items k)
 first_cond true item items k e f = refl
 first_cond false item items k e (Past h) = sym (absent_below k items (rises_from (Some k) (Some item.key) (keys_of items) (above_lower (Some k) item.key h.0) h.1))
-first_cond false item items k e (Here rest is h) = (let same : item.key ≡ k = cc in let b : true ≡ false = sym (eq_same k) ∙ ap (λ (z : Key). key_eq z k) (sym same) ∙ e in cc)
+first_cond false item items k e (Here rest is h) = (let same : item.key ≡ k = cc in let b : true ≡ false = sym (eq_itself k) ∙ ap (λ (z : Key). key_eq z k) (sym same) ∙ e in cc)
 
 pub first_value : (items : List Item) (k : Key) → From k (keys_of items) → value_in (first_at items k) ≡ value_at items k
 first_value [] k f = refl
 first_value (item ∷ items) k f = first_cond (key_eq item.key k) item items k refl f
 
 -- what stands above the key is the same behind it
-behind_cond : (t : Bool) (item : Item) (items : List Item) (k j : Key) → key_eq item.key k ≡ t → key_lt k j ≡ true → value_at (cond t items (item ∷ items)) j ≡ value_at (item ∷ items) j
+behind_cond : (t : Bool) (item : Item) (items : List Item) (k j : Key) → key_eq item.key k ≡ t → is_below k j ≡ true → value_at (cond t items (item ∷ items)) j ≡ value_at (item ∷ items) j
 behind_cond true item items k j e l =
-    let other : key_eq item.key j ≡ false = ap (λ (z : Key). key_eq z j) (eq_is item.key k e) ∙ lt_eq k j l in
+    let other : key_eq item.key j ≡ false = ap (λ (z : Key). key_eq z j) (eq_is item.key k e) ∙ below_eq k j l in
     ap (λ (t : Bool). cond t (Some item.value) (value_at items j)) (sym other)
 behind_cond false item items k j e l = refl
 
-pub behind_value : (items : List Item) (k j : Key) → key_lt k j ≡ true → value_at (behind items k) j ≡ value_at items j
+pub behind_value : (items : List Item) (k j : Key) → is_below k j ≡ true → value_at (behind items k) j ≡ value_at items j
 behind_value [] k j l = refl
 behind_value (item ∷ items) k j l = behind_cond (key_eq item.key k) item items k j refl l
 
@@ -194,7 +194,7 @@ kept_cond false k p q e f = f
 changed_behind : (a b c : List Item) (k : Key) (low : Option Key) (ks : List Key) → IsLower (Some k) low → Rises low ks → changed_among (behind a k) (behind b k) (behind c k) ks ≡ changed_among a b c ks
 changed_behind a b c k low [] l h = refl
 changed_behind a b c k low (j ∷ ks) l h =
-    let above : key_lt k j ≡ true = l j h.0 in
+    let above : is_below k j ≡ true = l j h.0 in
     let ea = behind_value a k j above in
     let eb = behind_value b k j above in
     let ec = behind_value c k j above in
@@ -204,7 +204,7 @@ changed_behind a b c k low (j ∷ ks) l h =
 kept_behind : (a b c : List Item) (k : Key) (low : Option Key) (ks : List Key) → IsLower (Some k) low → Rises low ks → kept_among (behind a k) (behind b k) (behind c k) ks ≡ kept_among a b c ks
 kept_behind a b c k low [] l h = refl
 kept_behind a b c k low (j ∷ ks) l h =
-    let above : key_lt k j ≡ true = l j h.0 in
+    let above : is_below k j ≡ true = l j h.0 in
     let ea = behind_value a k j above in
     let eb = behind_value b k j above in
     let ec = behind_value c k j above in
@@ -332,7 +332,7 @@ lesser_one k x y false e = inl cc
 lesser_is : (k : Key) (p q : Option Key) → lesser_key p q ≡ Some k → (p ≡ Some k) ⊎ (q ≡ Some k)
 lesser_is k None q e = inr e
 lesser_is k (Some x) None e = inl e
-lesser_is k (Some x) (Some y) e = elim (lesser_one k x y (key_lt y x) e) [
+lesser_is k (Some x) (Some y) e = elim (lesser_one k x y (is_below y x) e) [
   | inl s ↦ inl (ap Some s)
   | inr s ↦ inr (ap Some s)
 ]
@@ -349,7 +349,7 @@ behind_shorter : (items : List Item) (k : Key) → least_key items ≡ Some k �
 behind_shorter [] k e = cc
 behind_shorter (item ∷ items) k e =
     let same : item.key ≡ k = cc in
-    let there : key_eq item.key k ≡ true = ap (λ (z : Key). key_eq z k) same ∙ eq_same k in
+    let there : key_eq item.key k ≡ true = ap (λ (z : Key). key_eq z k) same ∙ eq_itself k in
     let is : length (behind (item ∷ items) k) ≡ length items = ap (λ (t : Bool). length (cond t items (item ∷ items))) there in
     omega (arith, is)
 

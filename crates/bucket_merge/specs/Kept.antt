@@ -2,9 +2,9 @@
 use Rattle.std.proofs.Common.{◌≡◌, ℕ, Bool, true, false, cond, List, [], ◌∷◌, ◌++◌, filter, Option, Some, None, refl, sym, subst}
 use Rattle.btree_family.specs.declared.key.Key.{Key}
 use Rattle.btree_family.specs.declared.bucket.Item.{Item}
-use Rattle.btree_family.specs.Keys.{key_eq}
+use Rattle.btree_family.specs.Keys.{key_eq, is_below}
 use Rattle.btree_family.specs.Buckets.{keys_of}
-use Rattle.bucket_merge.specs.Maps.{key_lt, value_at, differ, joined}
+use Rattle.bucket_merge.specs.Maps.{value_at, differ, joined}
 use Rattle.std.proofs.Common.{Ok, Err}
 use Rattle.std.specs.Prelude.{◌||◌}
 use Rattle.btree_family.specs.Buckets.{BucketContents}
@@ -31,9 +31,9 @@ each_append P (x ∷ xs) ys h g = (h.0, each_append P xs ys h.1 g)
 each_joined : (P : Key → Type 0) (xs ys : List Key) → Each P xs → Each P ys → Each P (joined xs ys)
 each_joined P [] ys h g = g
 each_joined P (x ∷ xs) ys h g =
-    each_append P (filter (λ other. key_lt other x) ys) (x ∷ joined xs (filter (λ other. key_lt x other) ys))
-    (each_filter P (λ other. key_lt other x) ys g)
-    (h.0, each_joined P xs (filter (λ other. key_lt x other) ys) h.1 (each_filter P (λ other. key_lt x other) ys g))
+    each_append P (filter (λ other. is_below other x) ys) (x ∷ joined xs (filter (λ other. is_below x other) ys))
+    (each_filter P (λ other. is_below other x) ys g)
+    (h.0, each_joined P xs (filter (λ other. is_below x other) ys) h.1 (each_filter P (λ other. is_below x other) ys g))
 
 each_item : (P : Key → Type 0) (k : Key) (o : Option (Option (List ℕ))) (rest : List Item) → P k → Each P (keys_of rest) → Each P (keys_of (item_at k o ++ rest))
 each_item P k None rest p h = h

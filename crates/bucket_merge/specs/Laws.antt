@@ -5,7 +5,8 @@ use Rattle.btree_family.specs.Buckets.{BucketContents, keys_of}
 use Rattle.btree_family.specs.Rising.{Rises}
 use Rattle.bucket_merge.specs.declared.refusal.MergeRefusal.{MergeRefusal}
 use Rattle.bucket_merge.specs.declared.refusal.MergeRefusal.TheVariants.{Link, EmptySide, Key as BothChanged, FirstKey}
-use Rattle.bucket_merge.specs.Maps.{key_lt, value_at}
+use Rattle.btree_family.specs.Keys.{is_below}
+use Rattle.bucket_merge.specs.Maps.{value_at}
 use Rattle.bucket_merge.specs.Merge.{both_changed_at, kept_at, same_links, no_items, first_key_left, merge_of}
 
 -- the keys of each rise
@@ -33,7 +34,7 @@ MergedIsMap =
 -- both sides changed the key, and none below it
 pub record IsLeastChanged (old committed stored : BucketContents) (key : Key) : Type 0 where
   pub both : both_changed_at old.items committed.items stored.items key ≡ true
-  pub least : (other : Key) → key_lt other key ≡ true → both_changed_at old.items committed.items stored.items other ≡ false
+  pub least : (other : Key) → is_below other key ≡ true → both_changed_at old.items committed.items stored.items other ≡ false
 
 abbrev pub LeastIsNamed : Type 0
 LeastIsNamed =

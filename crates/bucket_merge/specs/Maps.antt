@@ -1,16 +1,11 @@
 -- Items in the order of their keys, as a finite map. Own.
 use Rattle.std.specs.Prelude.{Bool, ℕ, List, [], ◌∷◌, ◌++◌, filter, Option, Some, None, if◌then◌else◌, not}
 use Rattle.std.specs.Option.{option_eq}
-use Rattle.std.specs.Ordering.{is_lt}
 use Rattle.std.specs.Prelude.{eqb}
 use Rattle.std.specs.Cmp.Lexicographic.{pointwise}
 use Rattle.btree_family.specs.declared.key.Key.{Key}
 use Rattle.btree_family.specs.declared.bucket.Item.{Item}
-use Rattle.btree_family.specs.Keys.{key_cmp, key_eq}
-
--- the first key is below the second
-abbrev pub key_lt : Key → Key → Bool
-key_lt a b = is_lt (key_cmp a b)
+use Rattle.btree_family.specs.Keys.{key_eq, is_below}
 
 -- What stands at a key, absence being a value of its own: of a bucket a spelling, of a set the one value that its members have.
 abbrev pub value_at : List Item → Key → Option (Option (List ℕ))
@@ -30,4 +25,4 @@ least_key (item ∷ items) = Some item.key
 abbrev pub joined : List Key → List Key → List Key
 joined [] others = others
 joined (key ∷ keys) others =
-    filter (λ other. key_lt other key) others ++ key ∷ joined keys (filter (λ other. key_lt key other) others)
+    filter (λ other. is_below other key) others ++ key ∷ joined keys (filter (λ other. is_below key other) others)

@@ -6,7 +6,8 @@ use Rattle.btree_family.specs.declared.bucket.Item.{Item}
 use Rattle.btree_family.specs.Buckets.{BucketContents, keys_of}
 use Rattle.bucket_merge.specs.declared.refusal.MergeRefusal.{MergeRefusal}
 use Rattle.bucket_merge.specs.declared.refusal.MergeRefusal.TheVariants.{Link, EmptySide, Key as BothChanged, FirstKey}
-use Rattle.bucket_merge.specs.Maps.{key_lt, value_at, differ, least_key, joined}
+use Rattle.btree_family.specs.Keys.{is_below}
+use Rattle.bucket_merge.specs.Maps.{value_at, differ, least_key, joined}
 
 -- ---- one key
 
@@ -65,14 +66,14 @@ no_items [] = true
 no_items (item ∷ items) = false
 
 -- both stand, and the first is below the second
-abbrev pub is_below : Option Key → Option Key → Bool
-is_below None other = false
-is_below (Some key) None = false
-is_below (Some key) (Some other) = key_lt key other
+abbrev pub stands_below : Option Key → Option Key → Bool
+stands_below None other = false
+stands_below (Some key) None = false
+stands_below (Some key) (Some other) = is_below key other
 
 -- old begins with a key that is below all of committed, or below all of stored
 abbrev pub first_key_left : List Item → List Item → List Item → Bool
-first_key_left old committed stored = is_below (least_key old) (least_key committed) || is_below (least_key old) (least_key stored)
+first_key_left old committed stored = stands_below (least_key old) (least_key committed) || stands_below (least_key old) (least_key stored)
 
 -- the rules that look at no single key: the second one stands before, the third one behind the test of keys
 abbrev pub unless_changed : Option Key → Result BucketContents MergeRefusal → Result BucketContents MergeRefusal

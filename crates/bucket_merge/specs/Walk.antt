@@ -2,17 +2,17 @@
 use Rattle.std.specs.Prelude.{ℕ, List, [], ◌∷◌, Option, Some, None, Result, Ok, Err, if◌then◌else◌}
 use Rattle.btree_family.specs.declared.key.Key.{Key}
 use Rattle.btree_family.specs.declared.bucket.Item.{Item}
-use Rattle.btree_family.specs.Keys.{key_eq}
+use Rattle.btree_family.specs.Keys.{key_eq, is_below}
 use Rattle.bucket_merge.specs.declared.refusal.MergeRefusal.{MergeRefusal}
 use Rattle.bucket_merge.specs.declared.refusal.MergeRefusal.TheVariants.{Key as BothChanged}
-use Rattle.bucket_merge.specs.Maps.{key_lt, differ, least_key}
+use Rattle.bucket_merge.specs.Maps.{differ, least_key}
 use Rattle.bucket_merge.specs.Merge.{least_changed, merged_items}
 
 -- the lesser of two keys
 abbrev pub lesser_key : Option Key → Option Key → Option Key
 lesser_key None other = other
 lesser_key (Some key) None = Some key
-lesser_key (Some key) (Some other) = Some (if key_lt other key then other else key)
+lesser_key (Some key) (Some other) = Some (if is_below other key then other else key)
 
 abbrev pub least_of_all : List Item → List Item → List Item → Option Key
 least_of_all old committed stored = lesser_key (least_key old) (lesser_key (least_key committed) (least_key stored))

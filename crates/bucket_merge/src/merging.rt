@@ -9,7 +9,7 @@ ghost use Rattle.bucket_merge.specs.Answers.{AnswersFor};
 ghost use Rattle.bucket_merge.specs.Walk.{as_list, walked};
 
 use crate::refusal::MergeRefusal;
-use crate::walk::{is_below, is_changed_by_both, kept, least, least_of_all, split_at};
+use crate::walk::{stands_below, is_changed_by_both, kept, least, least_of_all, split_at};
 use btree_family::{Bucket, Item, Key};
 use std::alloc::{AllocError, Global};
 use zb_ids::{ListOf, Oid};
@@ -64,7 +64,7 @@ fn is_first_key_left(old: &[Item], committed: &[Item], stored: &[Item]) -> bool
     ensures { result ≡ first_key_left old.now committed.now stored.now }
 {
     let first = least(old);
-    is_below(first, least(committed)) || is_below(first, least(stored))
+    stands_below(first, least(committed)) || stands_below(first, least(stored))
 }
 
 /// Whether the three are followed by the same bucket, or all by none.

@@ -3,7 +3,7 @@
 ghost use Rattle.std.specs.Prelude.{◌≡◌};
 ghost use Rattle.std.specs.Option.{option_copied};
 ghost use Rattle.bucket_merge.specs.Maps.{differ, least_key};
-ghost use Rattle.bucket_merge.specs.Merge.{both_changed, is_below};
+ghost use Rattle.bucket_merge.specs.Merge.{both_changed, stands_below};
 ghost use Rattle.bucket_merge.specs.Walk.{lesser_key, first_at, behind, value_in, kept_item};
 ghost use Rattle.bucket_merge.specs.Merge;
 ghost use Rattle.bucket_merge.specs.Walk;
@@ -47,8 +47,8 @@ pub(crate) fn least_of_all<'a>(
 }
 
 /// Whether both keys stand, and the first one is below the second.
-pub(crate) fn is_below(one: Option<&Key>, other: Option<&Key>) -> bool
-    ensures { result ≡ Merge.is_below (option_copied one.entry) (option_copied other.entry) }
+pub(crate) fn stands_below(one: Option<&Key>, other: Option<&Key>) -> bool
+    ensures { result ≡ Merge.stands_below (option_copied one.entry) (option_copied other.entry) }
 {
     match (one, other) {
         (Some(m), Some(n)) => match key_order(m, n) {

@@ -1,2 +1,3 @@
 pub mod Cached
 pub mod CachedLaws
+pub mod EntryLaws

@@ -1,6 +1,6 @@
 use Rattle.std.proofs.Common.{◌≡◌, ◌+◌, ◌-◌, ◌/◌, true, false, length, refl, arith}
 use Rattle.std.proofs.lemmas.Option.{slice_get_read}
-use Rattle.btree_shapes.specs.Keys.{is_below}
+use Rattle.btree_family.specs.Keys.{is_below}
 use Rattle.btree_shapes.proofs.Halving.{left_half, middle_within, right_half}
 use Rattle.btree_shapes.proofs.key.place_by_halves.Goals as goal
 

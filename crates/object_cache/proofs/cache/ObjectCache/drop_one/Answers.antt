@@ -1,4 +1,4 @@
-use Rattle.object_cache.proofs.Entries.{removed_gone, removed_other}
+use Rattle.object_cache.specs.EntryLaws.{removed_gone, removed_other}
 use Rattle.object_cache.proofs.cache.ObjectCache.drop_one.Goals as goal
 
 pub returns-clause-gone : goal.returns-clause-gone

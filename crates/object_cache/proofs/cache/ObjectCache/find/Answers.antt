@@ -1,4 +1,4 @@
-use Rattle.object_cache.proofs.Entries.{promoted_same}
+use Rattle.object_cache.specs.EntryLaws.{promoted_same}
 use Rattle.object_cache.proofs.cache.ObjectCache.find.Goals as goal
 
 pub returns-clause-same : goal.returns-clause-same

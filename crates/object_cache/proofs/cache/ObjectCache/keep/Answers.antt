@@ -2,7 +2,7 @@ use Rattle.std.proofs.Common.{nat_eq}
 use Rattle.std.specs.Cmp.{nat_eq_equiv}
 use Rattle.lru.proofs.CallerLemmas.{lookup-put_entries}
 use Rattle.object_cache.specs.declared.cache.CachedRevision.{CachedRevision}
-use Rattle.object_cache.proofs.Entries.{put_other}
+use Rattle.object_cache.specs.EntryLaws.{put_other}
 use Rattle.object_cache.proofs.cache.ObjectCache.keep.Goals as goal
 
 pub returns-in-Ok-clause-ok : goal.returns-in-Ok-clause-ok

@@ -1,4 +1,4 @@
-use Rattle.zeo_cache.proofs.Entries.{removed_gone, removed_other}
+use Rattle.object_cache.specs.EntryLaws.{removed_gone, removed_other}
 use Rattle.zeo_cache.proofs.cache.ZeoCache.drop_one.Goals as goal
 
 pub returns-clause-gone : goal.returns-clause-gone

@@ -1,4 +1,4 @@
-use Rattle.zeo_cache.proofs.Entries.{promoted_same}
+use Rattle.object_cache.specs.EntryLaws.{promoted_same}
 use Rattle.zeo_cache.proofs.cache.ZeoCache.find.Goals as goal
 
 pub returns-clause-same : goal.returns-clause-same

@@ -3,7 +3,7 @@ use Rattle.std.specs.Cmp.{nat_eq_equiv}
 use Rattle.lru.proofs.CallerLemmas.{lookup-put_entries}
 use Rattle.zeo_cache.specs.Intervals.{kept_end}
 use Rattle.zeo_cache.specs.declared.interval.Interval.{Interval}
-use Rattle.zeo_cache.proofs.Entries.{put_other}
+use Rattle.object_cache.specs.EntryLaws.{put_other}
 use Rattle.zeo_cache.proofs.cache.ZeoCache.keep.Goals as goal
 
 pub returns-in-Ok-clause-ok : goal.returns-in-Ok-clause-ok

@@ -1,14 +1,12 @@
 -- The order of keys, by tests.
-use Rattle.std.proofs.Common.{◌≡◌, Bool, true, false, Option, Some, None, ◌⊎◌, inl, inr, refl, sym, ◌∙◌, ap, subst}
+use Rattle.std.proofs.Common.{◌≡◌, Bool, true, false, ◌⊎◌, inl, inr, refl, sym, ◌∙◌, ap, subst}
 use Rattle.std.specs.declared.cmp.Ordering.{Ordering}
 use Rattle.std.specs.declared.cmp.Ordering.TheVariants.{Less, Equal, Greater}
 use Rattle.std.specs.Ordering.{is_lt, is_eq, ordering_reverse}
 use Rattle.std.proofs.lemmas.Cmp.{tied_itself}
 use Rattle.btree_family.specs.declared.key.Key.{Key}
-use Rattle.btree_family.specs.Keys.{key_cmp, key_eq}
+use Rattle.btree_family.specs.Keys.{key_cmp, key_eq, is_below}
 use Rattle.btree_family.specs.KeyLaws.{key_cmp-total, key_cmp-same}
-use Rattle.btree_shapes.specs.Keys.{is_below}
-use Rattle.btree_shapes.specs.Shapes.{IsFrom, IsUpTo}
 
 is_less : (o : Ordering) → is_lt o ≡ true → o ≡ Less
 is_less Less e = refl
@@ -93,12 +91,3 @@ from_from a b c g h = elim (below_or c a) [
   | inl l ↦ true_false (is_below b a) (from_below b c a h l) g
   | inr n ↦ n
 ]
-
--- bounds may be widened
-pub from_wider : (low : Option Key) (mid key : Key) → IsFrom low mid → IsFrom (Some mid) key → IsFrom low key
-from_wider None mid key l h = tt
-from_wider (Some low) mid key l h = from_from low mid key l h
-
-pub upto_wider : (high : Option Key) (mid key : Key) → IsUpTo high mid → IsUpTo (Some mid) key → IsUpTo high key
-upto_wider None mid key l h = tt
-upto_wider (Some high) mid key l h = below_below key mid high h l

@@ -18,14 +18,14 @@ abbrev pub Distinct : List Link → Type 0
 Distinct [] = Unit {0}
 Distinct (x ∷ xs) = Avoids x.oid xs × Distinct xs
 
-abbrev next_in : Option Node → Option ℕ
+abbrev pub next_in : Option Node → Option ℕ
 next_in (Some (node.Leaf l)) = l.next
 next_in (Some (node.Inner i)) = None
 next_in (Some (node.Lone l)) = None
 next_in None = None
 
 -- the links are what the objects say
-abbrev HasNexts : (ℕ → Option Node) → List Link → Type 0
+abbrev pub HasNexts : (ℕ → Option Node) → List Link → Type 0
 HasNexts f [] = Unit {0}
 HasNexts f (x ∷ xs) = (next_in (f x.oid) ≡ x.next) × HasNexts f xs
 
@@ -84,7 +84,7 @@ pub in_back : (o : ℕ) (xs ys : List Link) → In o ys → In o (xs ++ ys)
 in_back o [] ys i = i
 in_back o (x ∷ xs) ys i = inr (in_back o xs ys i)
 
-avoids_parts : (o : ℕ) (xs ys : List Link) → Avoids o (xs ++ ys) → Avoids o xs × Avoids o ys
+pub avoids_parts : (o : ℕ) (xs ys : List Link) → Avoids o (xs ++ ys) → Avoids o xs × Avoids o ys
 avoids_parts o [] ys a = (tt, a)
 avoids_parts o (x ∷ xs) ys a = let r = avoids_parts o xs ys a.1 in ((a.0, r.0), r.1)
 
@@ -98,6 +98,10 @@ pub distinct_front : (o : ℕ) (xs ys : List Link) → Distinct (xs ++ ys) → I
 distinct_front o [] ys d i = elim i [ ]
 distinct_front o (x ∷ xs) ys d (inl e) = rw (← e) (avoids_parts x.oid xs ys d.0).1
 distinct_front o (x ∷ xs) ys d (inr i) = distinct_front o xs ys d.1 i
+
+pub distinct_back : (o : ℕ) (xs ys : List Link) → Distinct (xs ++ ys) → In o ys → Avoids o xs
+distinct_back o [] ys d i = tt
+distinct_back o (x ∷ xs) ys d i = (λ e. avoids_in x.oid ys (avoids_parts x.oid xs ys d.0).1 (rw e i), distinct_back o xs ys d.1 i)
 
 pub distinct_parts : (xs ys : List Link) → Distinct (xs ++ ys) → Distinct xs × Distinct ys
 distinct_parts [] ys d = (tt, d)
