@@ -12,10 +12,14 @@ use Rattle.byteorder.specs.Numbers.{little_number-reads_back, length-bytes_low_f
 use Rattle.pickle_ops.specs.declared.table.Op.{Op}
 use Rattle.pickle_ops.specs.declared.table.Op.TheVariants as ops
 use Rattle.pickle_ops.specs.declared.table.Kind.TheVariants as args
-use Rattle.pickle_ops.specs.Grammar.{IsGlobalLine}
+use Rattle.pickle_ops.specs.declared.table.Row.{Row}
+use Rattle.pickle_ops.specs.declared.table.TheConstants.{TABLE}
+use Rattle.pickle_ops.specs.Rows.{row_in}
+use Rattle.pickle_ops.specs.Grammar.{IsGlobalLine, IsArgument, SpellsCounted, unsigned_value, signed_value}
 use Rattle.pickle_graph.specs.declared.node.Node.{Node}
 use Rattle.pickle_graph.specs.declared.node.Node.TheVariants as kinds
 use Rattle.pickle_graph.specs.Graph.{IsNode, IsSigned128}
+use Rattle.pickle_reading.specs.Reading.{is_stop}
 use Rattle.pickle_reading.specs.Leaves.{long_number, long_of, leaf_of, first_line, behind_line}
 use Rattle.pickle_graph.specs.Parts.{is_held}
 use Rattle.pickle_writing.specs.Spelling.{fewest, magnitude_of, long_size, long_text, number_text, counted_text, leaf_text}
@@ -34,6 +38,21 @@ pub record MakesLeaf (node : Node) (text : List ℕ) : Type 0 where
 leaf_to : (node : Node) (t u : List ℕ) → t ≡ u → MakesLeaf node t → MakesLeaf node u
 leaf_to node t u e m = subst (λ (x : List ℕ). MakesLeaf node x) e m
 
+-- the leaf that one token of a row makes: what stands behind its byte and before the bytes that it has, its number, and these bytes
+by_row : {node : Node} (row : Row) (head : List ℕ) (number : ℤ) (held : List ℕ) → row_in TABLE.rows row.byte ≡ Some row → IsArgument row.kind (head ++ held) number held
+    → is_stop row.op ≡ false → leaf_of row.op number held ≡ Some node → MakesLeaf node (row.byte ∷ (head ++ held))
+by_row row head number held listed says on makes = record {
+  op = row.op;
+  number = number;
+  held = held;
+  spells = record { token = record { row = row; argument = head ++ held; listed = listed; named = refl; spelled = refl; says = says }; front = row.byte ∷ head; split = refl; on = on };
+  makes = makes;
+}
+
+-- a row without an argument
+bare : {node : Node} (row : Row) → row.kind ≡ args.Nothing → row_in TABLE.rows row.byte ≡ Some row → is_stop row.op ≡ false → leaf_of row.op (pos 0) [] ≡ Some node → MakesLeaf node (row.byte ∷ [])
+bare row none listed on makes = by_row row [] (pos 0) [] listed (rw none (record { long = refl; says = refl; whole = refl })) on makes
+
 -- ---- numbers
 
 pub byte_value : (n : ℕ) → little_number 1 (n ∷ []) ≡ n
@@ -43,67 +62,17 @@ pub read_back : (size n : ℕ) → n < 256 ^ size → little_number size (little
 read_back size n h = ap (little_number size) (sym (append-nil (little_bytes size n))) ∙ little_number-reads_back size n [] h
 
 byte_leaf : (n : ℕ) → MakesLeaf (kinds.Number (pos n)) (0x4b ∷ n ∷ [])
-byte_leaf n = record {
-  op = ops.BinInt1;
-  number = pos n;
-  held = n ∷ [];
-  spells = record {
-    token = record {
-      row = record { byte = 0x4b; op = ops.BinInt1; kind = args.Unsigned1 };
-      argument = n ∷ [];
-      listed = refl;
-      named = refl;
-      spelled = refl;
-      says = record { long = refl; says = ap pos (sym (byte_value n)); whole = refl };
-    };
-    front = 0x4b ∷ [];
-    split = refl;
-    on = refl;
-  };
-  makes = refl;
-}
+byte_leaf n = by_row (record { byte = 0x4b; op = ops.BinInt1; kind = args.Unsigned1 }) [] (pos n) (n ∷ []) refl (record { long = refl; says = ap pos (sym (byte_value n)); whole = refl }) refl refl
 
 short_leaf : (n : ℕ) → n < 2 ^ 16 → MakesLeaf (kinds.Number (pos n)) (0x4d ∷ little_bytes 2 n)
-short_leaf n small = record {
-  op = ops.BinInt2;
-  number = pos n;
-  held = little_bytes 2 n;
-  spells = record {
-    token = record {
-      row = record { byte = 0x4d; op = ops.BinInt2; kind = args.Unsigned2 };
-      argument = little_bytes 2 n;
-      listed = refl;
-      named = refl;
-      spelled = refl;
-      says = record { long = length-bytes_low_first 0 2 n; says = ap pos (sym (read_back 2 n small)); whole = refl };
-    };
-    front = 0x4d ∷ [];
-    split = refl;
-    on = refl;
-  };
-  makes = refl;
-}
+short_leaf n small =
+    by_row (record { byte = 0x4d; op = ops.BinInt2; kind = args.Unsigned2 }) [] (pos n) (little_bytes 2 n) refl
+    (record { long = length-bytes_low_first 0 2 n; says = ap pos (sym (read_back 2 n small)); whole = refl }) refl refl
 
 word_leaf : (n : ℕ) (z : ℤ) → n < 2 ^ 32 → twos_complement 4 n ≡ z → MakesLeaf (kinds.Number z) (0x4a ∷ little_bytes 4 n)
-word_leaf n z small is = record {
-  op = ops.BinInt;
-  number = z;
-  held = little_bytes 4 n;
-  spells = record {
-    token = record {
-      row = record { byte = 0x4a; op = ops.BinInt; kind = args.Signed4 };
-      argument = little_bytes 4 n;
-      listed = refl;
-      named = refl;
-      spelled = refl;
-      says = record { long = length-bytes_low_first 0 4 n; says = sym (ap (twos_complement 4) (read_back 4 n small) ∙ is); whole = refl };
-    };
-    front = 0x4a ∷ [];
-    split = refl;
-    on = refl;
-  };
-  makes = refl;
-}
+word_leaf n z small is =
+    by_row (record { byte = 0x4a; op = ops.BinInt; kind = args.Signed4 }) [] z (little_bytes 4 n) refl
+    (record { long = length-bytes_low_first 0 4 n; says = sym (ap (twos_complement 4) (read_back 4 n small) ∙ is); whole = refl }) refl refl
 
 -- ---- long numbers
 
@@ -183,25 +152,9 @@ long_sized size z f =
     long-cons bytes (omega (arith, len, f.low)) ∙ ap (λ k. twos_complement k (little_number k bytes)) len
     ∙ ap (twos_complement size) (read_back size (low_bytes w128 size z) (low_small size z f)) ∙ twos_back size z f in
     let narrow : ltb 16 (length bytes) ≡ false = le-ltb 16 (length bytes) (omega (arith, len, f.high)) in
-    record {
-      op = ops.Long1;
-      number = pos 0;
-      held = bytes;
-      spells = record {
-        token = record {
-          row = record { byte = 0x8a; op = ops.Long1; kind = args.Counted1 };
-          argument = size ∷ bytes;
-          listed = refl;
-          named = refl;
-          spelled = refl;
-          says = record { head = size ∷ []; spelled = refl; long = refl; count = ap pos (byte_value size ∙ sym len); none = refl };
-        };
-        front = 0x8a ∷ size ∷ [];
-        split = refl;
-        on = refl;
-      };
-      makes = ap (λ (b : Bool). Some (cond b (kinds.Wide bytes) (kinds.Number (long_number bytes)))) narrow ∙ ap (λ (x : ℤ). Some (kinds.Number x)) value;
-    }
+    by_row (record { byte = 0x8a; op = ops.Long1; kind = args.Counted1 }) (size ∷ []) (pos 0) bytes refl
+    (record { head = size ∷ []; spelled = refl; long = refl; count = ap pos (byte_value size ∙ sym len); none = refl }) refl
+    (ap (λ (b : Bool). Some (cond b (kinds.Wide bytes) (kinds.Number (long_number bytes)))) narrow ∙ ap (λ (x : ℤ). Some (kinds.Number x)) value)
 
 long_leaf : (z : ℤ) → magnitude_of z < 2 ^ 127 → MakesLeaf (kinds.Number z) (long_text z)
 long_leaf z h = long_sized (long_size z) z (fewest-fits 11 5 (magnitude_of z) (omega arith) (omega arith) h)
@@ -232,55 +185,29 @@ number_leaf (negsuc n) h = elim (cases_bool (ltb n (2 ^ 31))) [
 
 -- ---- counted bytes
 
+-- a count in one byte, in four, and in four with a sign
+by_one : (bytes : List ℕ) → SpellsCounted 1 (unsigned_value 1) (length bytes ∷ bytes) (pos 0) bytes
+by_one bytes = record { head = length bytes ∷ []; spelled = refl; long = refl; count = ap pos (byte_value (length bytes)); none = refl }
+
+by_four : (bytes : List ℕ) → length bytes < 2 ^ 32 → SpellsCounted 4 (unsigned_value 4) (little_bytes 4 (length bytes) ++ bytes) (pos 0) bytes
+by_four bytes small = record { head = little_bytes 4 (length bytes); spelled = refl; long = length-bytes_low_first 0 4 (length bytes); count = ap pos (read_back 4 (length bytes) small); none = refl }
+
+by_signed : (bytes : List ℕ) → length bytes < 2 ^ 31 → SpellsCounted 4 (signed_value 4) (little_bytes 4 (length bytes) ++ bytes) (pos 0) bytes
+by_signed bytes small = record {
+  head = little_bytes 4 (length bytes);
+  spelled = refl;
+  long = length-bytes_low_first 0 4 (length bytes);
+  count = ap (twos_complement 4) (read_back 4 (length bytes) (omega (arith, small))) ∙ twos_word (length bytes) small;
+  none = refl;
+}
+
 wide_leaf : (bytes : List ℕ) → 16 < length bytes → length bytes < 2 ^ 31 → MakesLeaf (kinds.Wide bytes) (counted_text 0x8a 0x8b bytes)
 wide_leaf bytes wide small =
     let long : ltb 16 (length bytes) ≡ true = lt-ltb 16 (length bytes) wide in
     let made : some_node (long_of bytes) ≡ Some (kinds.Wide bytes) = ap (λ (b : Bool). Some (cond b (kinds.Wide bytes) (kinds.Number (long_number bytes)))) long in
     elim (cases_bool (ltb (length bytes) (2 ^ 8))) [
-      | inl a ↦ rw a (record {
-        op = ops.Long1;
-        number = pos 0;
-        held = bytes;
-        spells = record {
-          token = record {
-            row = record { byte = 0x8a; op = ops.Long1; kind = args.Counted1 };
-            argument = length bytes ∷ bytes;
-            listed = refl;
-            named = refl;
-            spelled = refl;
-            says = record { head = length bytes ∷ []; spelled = refl; long = refl; count = ap pos (byte_value (length bytes)); none = refl };
-          };
-          front = 0x8a ∷ length bytes ∷ [];
-          split = refl;
-          on = refl;
-        };
-        makes = made;
-      })
-      | inr a ↦ rw a (record {
-        op = ops.Long4;
-        number = pos 0;
-        held = bytes;
-        spells = record {
-          token = record {
-            row = record { byte = 0x8b; op = ops.Long4; kind = args.SignedCounted4 };
-            argument = little_bytes 4 (length bytes) ++ bytes;
-            listed = refl;
-            named = refl;
-            spelled = refl;
-            says = record {
-              head = little_bytes 4 (length bytes);
-              spelled = refl;
-              long = length-bytes_low_first 0 4 (length bytes);
-              count = ap (twos_complement 4) (read_back 4 (length bytes) (omega (arith, small))) ∙ twos_word (length bytes) small;
-              none = refl;
-            };
-          };
-          front = 0x8b ∷ little_bytes 4 (length bytes);
-          split = refl;
-          on = refl;
-        };
-        makes = made;
-      })
+      | inl a ↦ rw a (by_row (record { byte = 0x8a; op = ops.Long1; kind = args.Counted1 }) (length bytes ∷ []) (pos 0) bytes refl (by_one bytes) refl made)
+      | inr a ↦ rw a (by_row (record { byte = 0x8b; op = ops.Long4; kind = args.SignedCounted4 }) (little_bytes 4 (length bytes)) (pos 0) bytes refl (by_signed bytes small) refl made)
     ]
   where
     some_node : Node → Option Node
@@ -288,128 +215,21 @@ wide_leaf bytes wide small =
 
 bytes_leaf : (bytes : List ℕ) → length bytes < 2 ^ 32 → MakesLeaf (kinds.Bytes bytes) (counted_text 0x43 0x42 bytes)
 bytes_leaf bytes small = elim (cases_bool (ltb (length bytes) (2 ^ 8))) [
-  | inl a ↦ rw a (record {
-    op = ops.ShortBinBytes;
-    number = pos 0;
-    held = bytes;
-    spells = record {
-      token = record {
-        row = record { byte = 0x43; op = ops.ShortBinBytes; kind = args.Counted1 };
-        argument = length bytes ∷ bytes;
-        listed = refl;
-        named = refl;
-        spelled = refl;
-        says = record { head = length bytes ∷ []; spelled = refl; long = refl; count = ap pos (byte_value (length bytes)); none = refl };
-      };
-      front = 0x43 ∷ length bytes ∷ [];
-      split = refl;
-      on = refl;
-    };
-    makes = refl;
-  })
-  | inr a ↦ rw a (record {
-    op = ops.BinBytes;
-    number = pos 0;
-    held = bytes;
-    spells = record {
-      token = record {
-        row = record { byte = 0x42; op = ops.BinBytes; kind = args.Counted4 };
-        argument = little_bytes 4 (length bytes) ++ bytes;
-        listed = refl;
-        named = refl;
-        spelled = refl;
-        says = record { head = little_bytes 4 (length bytes); spelled = refl; long = length-bytes_low_first 0 4 (length bytes); count = ap pos (read_back 4 (length bytes) small); none = refl };
-      };
-      front = 0x42 ∷ little_bytes 4 (length bytes);
-      split = refl;
-      on = refl;
-    };
-    makes = refl;
-  })
+  | inl a ↦ rw a (by_row (record { byte = 0x43; op = ops.ShortBinBytes; kind = args.Counted1 }) (length bytes ∷ []) (pos 0) bytes refl (by_one bytes) refl refl)
+  | inr a ↦ rw a (by_row (record { byte = 0x42; op = ops.BinBytes; kind = args.Counted4 }) (little_bytes 4 (length bytes)) (pos 0) bytes refl (by_four bytes small) refl refl)
 ]
 
 old_leaf : (bytes : List ℕ) → length bytes < 2 ^ 31 → MakesLeaf (kinds.OldText bytes) (counted_text 0x55 0x54 bytes)
 old_leaf bytes small = elim (cases_bool (ltb (length bytes) (2 ^ 8))) [
-  | inl a ↦ rw a (record {
-    op = ops.ShortBinString;
-    number = pos 0;
-    held = bytes;
-    spells = record {
-      token = record {
-        row = record { byte = 0x55; op = ops.ShortBinString; kind = args.Counted1 };
-        argument = length bytes ∷ bytes;
-        listed = refl;
-        named = refl;
-        spelled = refl;
-        says = record { head = length bytes ∷ []; spelled = refl; long = refl; count = ap pos (byte_value (length bytes)); none = refl };
-      };
-      front = 0x55 ∷ length bytes ∷ [];
-      split = refl;
-      on = refl;
-    };
-    makes = refl;
-  })
-  | inr a ↦ rw a (record {
-    op = ops.BinString;
-    number = pos 0;
-    held = bytes;
-    spells = record {
-      token = record {
-        row = record { byte = 0x54; op = ops.BinString; kind = args.SignedCounted4 };
-        argument = little_bytes 4 (length bytes) ++ bytes;
-        listed = refl;
-        named = refl;
-        spelled = refl;
-        says = record {
-          head = little_bytes 4 (length bytes);
-          spelled = refl;
-          long = length-bytes_low_first 0 4 (length bytes);
-          count = ap (twos_complement 4) (read_back 4 (length bytes) (omega (arith, small))) ∙ twos_word (length bytes) small;
-          none = refl;
-        };
-      };
-      front = 0x54 ∷ little_bytes 4 (length bytes);
-      split = refl;
-      on = refl;
-    };
-    makes = refl;
-  })
+  | inl a ↦ rw a (by_row (record { byte = 0x55; op = ops.ShortBinString; kind = args.Counted1 }) (length bytes ∷ []) (pos 0) bytes refl (by_one bytes) refl refl)
+  | inr a ↦ rw a (by_row (record { byte = 0x54; op = ops.BinString; kind = args.SignedCounted4 }) (little_bytes 4 (length bytes)) (pos 0) bytes refl (by_signed bytes small) refl refl)
 ]
 
 text_leaf : (bytes : List ℕ) → is_utf8 bytes ≡ true → length bytes < 2 ^ 32 → MakesLeaf (kinds.Text bytes) (0x58 ∷ (little_bytes 4 (length bytes) ++ bytes))
-text_leaf bytes utf8 small = record {
-  op = ops.BinUnicode;
-  number = pos 0;
-  held = bytes;
-  spells = record {
-    token = record {
-      row = record { byte = 0x58; op = ops.BinUnicode; kind = args.Text4 };
-      argument = little_bytes 4 (length bytes) ++ bytes;
-      listed = refl;
-      named = refl;
-      spelled = refl;
-      says = (record { head = little_bytes 4 (length bytes); spelled = refl; long = length-bytes_low_first 0 4 (length bytes); count = ap pos (read_back 4 (length bytes) small); none = refl }, utf8);
-    };
-    front = 0x58 ∷ little_bytes 4 (length bytes);
-    split = refl;
-    on = refl;
-  };
-  makes = refl;
-}
+text_leaf bytes utf8 small = by_row (record { byte = 0x58; op = ops.BinUnicode; kind = args.Text4 }) (little_bytes 4 (length bytes)) (pos 0) bytes refl (by_four bytes small, utf8) refl refl
 
 float_leaf : (bytes : List ℕ) → length bytes ≡ 8 → MakesLeaf (kinds.Float bytes) (0x47 ∷ bytes)
-float_leaf bytes eight = record {
-  op = ops.BinFloat;
-  number = pos 0;
-  held = bytes;
-  spells = record {
-    token = record { row = record { byte = 0x47; op = ops.BinFloat; kind = args.Float8 }; argument = bytes; listed = refl; named = refl; spelled = refl; says = record { long = eight; says = refl; whole = refl } };
-    front = 0x47 ∷ [];
-    split = refl;
-    on = refl;
-  };
-  makes = refl;
-}
+float_leaf bytes eight = by_row (record { byte = 0x47; op = ops.BinFloat; kind = args.Float8 }) [] (pos 0) bytes refl (record { long = eight; says = refl; whole = refl }) refl refl
 
 -- ---- lines
 
@@ -419,64 +239,24 @@ global_leaf first second f g =
     let a : first_line all ≡ first = first-line first (second ++ 10 ∷ []) f.one in
     let b : behind_line all ≡ second ++ 10 ∷ [] = behind-line first (second ++ 10 ∷ []) f.one in
     let d : first_line (behind_line all) ≡ second = ap first_line b ∙ first-line second [] g.one in
-    record {
-      op = ops.Global;
-      number = pos 0;
-      held = all;
-      spells = record {
-        token = record {
-          row = record { byte = 0x63; op = ops.Global; kind = args.TwoLines };
-          argument = all;
-          listed = refl;
-          named = refl;
-          spelled = refl;
-          says = record { first = first; second = second; module_line = f; name_line = g; spelled = refl; none = refl; whole = refl };
-        };
-        front = 0x63 ∷ [];
-        split = refl;
-        on = refl;
-      };
-      makes = ap (λ (l : List ℕ). Some (kinds.Global l (first_line (behind_line all)))) a ∙ ap (λ (l : List ℕ). Some (kinds.Global first l)) d;
-    }
+    by_row (record { byte = 0x63; op = ops.Global; kind = args.TwoLines }) [] (pos 0) all refl
+    (record { first = first; second = second; module_line = f; name_line = g; spelled = refl; none = refl; whole = refl }) refl
+    (ap (λ (l : List ℕ). Some (kinds.Global l (first_line (behind_line all)))) a ∙ ap (λ (l : List ℕ). Some (kinds.Global first l)) d)
 
 -- ---- each leaf
 
 -- The text of a leaf makes it.
 pub leaf_back : (ns : List Node) (node : Node) → IsNode ns node → is_held node ≡ false → MakesLeaf node (leaf_text node)
-leaf_back ns kinds.None h l = record {
-  op = ops.None;
-  number = pos 0;
-  held = [];
-  makes = refl;
-  spells = record { front = 0x4e ∷ []; split = refl; on = refl; token = record { row = record { byte = 0x4e; op = ops.None; kind = args.Nothing }; argument = []; listed = refl; named = refl; spelled = refl; says = record { long = refl; says = refl; whole = refl } } };
-}
-leaf_back ns (kinds.Bool true) h l = record {
-  op = ops.NewTrue;
-  number = pos 0;
-  held = [];
-  makes = refl;
-  spells = record { front = 0x88 ∷ []; split = refl; on = refl; token = record { row = record { byte = 0x88; op = ops.NewTrue; kind = args.Nothing }; argument = []; listed = refl; named = refl; spelled = refl; says = record { long = refl; says = refl; whole = refl } } };
-}
-leaf_back ns (kinds.Bool false) h l = record {
-  op = ops.NewFalse;
-  number = pos 0;
-  held = [];
-  makes = refl;
-  spells = record { front = 0x89 ∷ []; split = refl; on = refl; token = record { row = record { byte = 0x89; op = ops.NewFalse; kind = args.Nothing }; argument = []; listed = refl; named = refl; spelled = refl; says = record { long = refl; says = refl; whole = refl } } };
-}
+leaf_back ns kinds.None h l = bare (record { byte = 0x4e; op = ops.None; kind = args.Nothing }) refl refl refl refl
+leaf_back ns (kinds.Bool true) h l = bare (record { byte = 0x88; op = ops.NewTrue; kind = args.Nothing }) refl refl refl refl
+leaf_back ns (kinds.Bool false) h l = bare (record { byte = 0x89; op = ops.NewFalse; kind = args.Nothing }) refl refl refl refl
 leaf_back ns (kinds.Number z) h l = number_leaf z h
 leaf_back ns (kinds.Wide bytes) h l = wide_leaf bytes h.long h.short
 leaf_back ns (kinds.Float bytes) h l = float_leaf bytes h
 leaf_back ns (kinds.Bytes bytes) h l = bytes_leaf bytes h
 leaf_back ns (kinds.OldText bytes) h l = old_leaf bytes h
 leaf_back ns (kinds.Text bytes) h l = text_leaf bytes h.utf8 h.short
-leaf_back ns (kinds.Tuple []) h l = record {
-  op = ops.EmptyTuple;
-  number = pos 0;
-  held = [];
-  makes = refl;
-  spells = record { front = 0x29 ∷ []; split = refl; on = refl; token = record { row = record { byte = 0x29; op = ops.EmptyTuple; kind = args.Nothing }; argument = []; listed = refl; named = refl; spelled = refl; says = record { long = refl; says = refl; whole = refl } } };
-}
+leaf_back ns (kinds.Tuple []) h l = bare (record { byte = 0x29; op = ops.EmptyTuple; kind = args.Nothing }) refl refl refl refl
 leaf_back ns (kinds.Tuple (item ∷ items)) h l = absurd cc
 leaf_back ns (kinds.List items) h l = absurd cc
 leaf_back ns (kinds.Dict pairs) h l = absurd cc
