@@ -352,7 +352,8 @@ unless_served : (early : Option Refusal) (m : Machine) (made : Stepped) → Serv
 unless_served None m made early answer = answer
 unless_served (Some r) m made early answer = early
 
-step_served : (rules : Rules) (m : Machine) (n : ℕ) (q : Request) (stamp : ℕ) → IsServerReply (step_of rules m n q stamp).reply
+-- the refusal of a step is none of those that a connection has
+pub step_served : (rules : Rules) (m : Machine) (n : ℕ) (q : Request) (stamp : ℕ) → IsServerReply (step_of rules m n q stamp).reply
 step_served rules m n q stamp = unless_served (early_refusal m n q) m (request_step rules m n q stamp) (early_served m n q) (answer_served rules m n q stamp)
 
 -- ---- what is told of it
