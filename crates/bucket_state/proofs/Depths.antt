@@ -120,11 +120,11 @@ flat_all : (n : ℕ) (laid : Laid) (gs : List Graph) → AreFlat n laid → Each
 flat_all n laid [] h f = h
 flat_all n laid (g ∷ gs) h f = flat_all n (laid_on laid g) gs (flat_more n laid g h f.0) f.1
 
-items_many : (items : List ℕ) (byte : ℕ) → items_in (item_parts items ++ Byte byte ∷ []) ≡ items
+pub items_many : (items : List ℕ) (byte : ℕ) → items_in (item_parts items ++ Byte byte ∷ []) ≡ items
 items_many [] byte = refl
 items_many (x ∷ items) byte = ap (λ (xs : List ℕ). x ∷ xs) (items_many items byte)
 
-tuple_items : (items : List ℕ) → items_in (tuple_parts items) ≡ items
+pub tuple_items : (items : List ℕ) → items_in (tuple_parts items) ≡ items
 tuple_items [] = refl
 tuple_items (a ∷ []) = refl
 tuple_items (a ∷ b ∷ []) = refl

@@ -15,3 +15,8 @@ pub mod Shallow
 pub mod Members
 pub mod Holding
 pub mod Apart
+pub mod FlatGraphs
+pub mod FlatValues
+pub mod FlatPieces
+pub mod FlatOnce
+pub mod FlatSpelled

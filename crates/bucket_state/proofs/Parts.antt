@@ -151,7 +151,7 @@ leaf_items (nodes.Reference n) h = cc
 leaf_items (nodes.Object a b c d) h = cc
 leaf_items _ h = refl
 
-none_copied : (origin : List ℕ) (node : Node) → IsCopy origin node None → ⊥
+pub none_copied : (origin : List ℕ) (node : Node) → IsCopy origin node None → ⊥
 none_copied origin nodes.None h = h
 none_copied origin _ h = h
 

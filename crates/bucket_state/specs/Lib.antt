@@ -5,3 +5,5 @@ pub mod Written
 pub mod Writable
 pub mod Laws
 pub mod Depths
+pub mod Flat
+pub mod FlatGraphs

@@ -143,7 +143,7 @@ fn stand(items: &[Item]) -> bool
 }
 
 /// Whether the objects of such a class, or their leaves, have values.
-fn has_values(kind: Kind) -> bool
+pub(crate) fn has_values(kind: Kind) -> bool
     ensures { result ≡ States.has_values kind }
 {
     match kind {

@@ -1,6 +1,7 @@
 //! Laws. A law is the contract of a function that does nothing.
 
 ghost use Rattle.bucket_state.specs.Depths.{ReadIsShallow, ReadLeafIsShallow, WrittenIsShallow, WrittenLeafIsShallow};
+ghost use Rattle.bucket_state.specs.Flat.{FlatStand, FlatAreShallow, FlatIsSpelled, FlatMakesFew};
 ghost use Rattle.bucket_state.specs.Laws.{SameIsSpelledAlike, WrittenBucketReadsBack, WrittenLeafReadsBack, SameHoldsTheSame, LinkStandsApart, WrittenInnerReadsBack};
 
 use pickle_round_trip::written_pickles_read_back;
@@ -55,3 +56,14 @@ pub fn links_stand_apart()
 pub fn written_objects_read_back()
     ensures { WrittenInnerReadsBack }
 {}
+
+/// Flat values are values of the family, and no walk of an edge starts at one. The text of a bucket of flat values is the
+/// spelling of the graph of its state, and makes two nodes for each item at most, and six more.
+pub fn flat_states_are_spelled()
+    ensures stand { FlatStand }
+    ensures shallow { FlatAreShallow }
+    ensures spelled { FlatIsSpelled }
+    ensures few { FlatMakesFew }
+{
+    written_pickles_read_back();
+}

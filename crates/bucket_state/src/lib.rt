@@ -3,6 +3,8 @@
 
 mod entries;
 mod error;
+mod flat;
+mod flat_laws;
 mod items;
 mod laws;
 mod laying;
@@ -12,10 +14,12 @@ mod tree;
 mod writing;
 
 pub use error::StateError;
+pub use flat::flat_state;
+pub use flat_laws::flat_states_are_graphs;
 pub use laws::{
-    links_stand_apart, same_graphs_are_spelled_alike, same_graphs_hold_the_same,
-    states_keep_their_depth, written_buckets_read_back, written_leaves_read_back,
-    written_objects_read_back,
+    flat_states_are_spelled, links_stand_apart, same_graphs_are_spelled_alike,
+    same_graphs_hold_the_same, states_keep_their_depth, written_buckets_read_back,
+    written_leaves_read_back, written_objects_read_back,
 };
 pub use reading::read_bucket;
 pub use tree::{Branch, Inner, TreeState, read_tree};

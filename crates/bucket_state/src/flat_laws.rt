@@ -1,0 +1,15 @@
+//! Laws of graphs of leaves. A law is the contract of a function that does nothing.
+
+ghost use Rattle.bucket_state.specs.FlatGraphs.{FlatIsNamed, FlatIsSound};
+
+use pickle_round_trip::written_pickles_read_back;
+
+/// The graph of a bucket whose values are leaves holds what its kinds say, where its keys and its class's
+/// names can be written, and the references in it all name something.
+#[tactic(auto, using(crate::proofs::FlatGraphs::flat_sound, crate::proofs::FlatGraphs::flat_named))]
+pub fn flat_states_are_graphs()
+    ensures sound { FlatIsSound }
+    ensures named { FlatIsNamed }
+{
+    written_pickles_read_back();
+}
