@@ -101,6 +101,7 @@ value_standing low (x ∷ xs) key value r = by_place (is_below x.key key) refl (
     by_key : (t : Bool) → key_eq x.key key ≡ t → is_below x.key key ≡ false → (if t then same_value x.value value else false) ≡ (if t then same_value x.value value else has_value xs key value)
     by_key true e n = refl
     by_key false e n = sym (value_above x.key xs key value (is_over x.key key n e) r.1)
+
     by_place : (b : Bool) → is_below x.key key ≡ b → has_value (standing xs key) key value ≡ has_value xs key value → has_value (take 1 (drop (if b then suc (place_in xs key) else 0) (x ∷ xs))) key value ≡ has_value (x ∷ xs) key value
     by_place true e rest = rest ∙ ap (λ t. if t then same_value x.value value else has_value xs key value) (sym (below_eq x.key key e))
     by_place false e rest = by_key (key_eq x.key key) refl e
@@ -112,6 +113,7 @@ key_standing low (x ∷ xs) key r = by_place (is_below x.key key) refl (key_stan
     by_key : (t : Bool) → key_eq x.key key ≡ t → is_below x.key key ≡ false → (if t then true else false) ≡ (if t then true else has_key xs key)
     by_key true e n = refl
     by_key false e n = sym (key_above x.key xs key (is_over x.key key n e) r.1)
+
     by_place : (b : Bool) → is_below x.key key ≡ b → has_key (standing xs key) key ≡ has_key xs key → has_key (take 1 (drop (if b then suc (place_in xs key) else 0) (x ∷ xs))) key ≡ has_key (x ∷ xs) key
     by_place true e rest = rest ∙ ap (λ t. if t then true else has_key xs key) (sym (below_eq x.key key e))
     by_place false e rest = by_key (key_eq x.key key) refl e

@@ -1,4 +1,5 @@
 pub mod Spellings
+pub mod Halves
 pub mod Placing
 pub mod Buckets
 pub mod Numbers

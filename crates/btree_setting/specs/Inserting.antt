@@ -1,5 +1,5 @@
 -- Items with one more key, and branches with one more child. Own.
-use Rattle.std.specs.Prelude.{◌≡◌, ℕ, suc, List, [], ◌∷◌, ◌++◌, length, Option, ◌==◌, if◌then◌else◌}
+use Rattle.std.specs.Prelude.{◌≡◌, ℕ, suc, List, [], ◌∷◌, ◌++◌, drop, length, take, Option, ◌==◌, if◌then◌else◌}
 use Rattle.btree_family.specs.declared.key.Key.{Key}
 use Rattle.btree_family.specs.declared.bucket.Item.{Item}
 use Rattle.btree_family.specs.Keys.{key_eq, is_below}
@@ -9,6 +9,10 @@ use Rattle.bucket_state.specs.declared.tree.Branch.{Branch}
 abbrev pub place_in : List Item → Key → ℕ
 place_in [] key = 0
 place_in (item ∷ items) key = if is_below item.key key then suc (place_in items key) else 0
+
+-- the item at the place of a key, if there is one
+abbrev pub standing : List Item → Key → List Item
+standing items key = take 1 (drop (place_in items key) items)
 
 -- the items without the first, where that has this key
 abbrev pub behind : List Item → Key → List Item

@@ -6,9 +6,8 @@ ghost use Rattle.btree_putting.specs.Items.{has_key, has_value};
 ghost use Rattle.btree_setting.specs.Inserting.{set_item};
 ghost use Rattle.btree_setting.specs.Bottoms.{leaf_at, bottom_of};
 
-use crate::inserting::set_item;
+use crate::inserting::{item_has, item_stands, set_item};
 use btree_family::{Bucket, Key};
-use btree_putting::{has_key, has_value};
 use btree_shapes::{Node, Shared};
 use pickle_graph::Pickle;
 use std::alloc::{AllocError, Global};
@@ -65,14 +64,14 @@ fn set_leaf(
 fn leaf_has(leaf: &Bucket, key: &Key, value: &Option<Text8>) -> bool
     ensures { result ≡ has_value leaf.now.items key.now value.now }
 {
-    has_value(leaf.items().as_slice(), key, value)
+    item_has(leaf.items().as_slice(), key, value)
 }
 
 /// Whether a key stands in a leaf.
 fn leaf_has_key(leaf: &Bucket, key: &Key) -> bool
     ensures { result ≡ has_key leaf.now.items key.now }
 {
-    has_key(leaf.items().as_slice(), key)
+    item_stands(leaf.items().as_slice(), key)
 }
 
 /// The leaf at the end of a way, and where it stands. There is none where others stand below the object.

@@ -1,10 +1,11 @@
 //! Keys, and whether they are of a node's kind.
 
 ghost use Rattle.std.specs.Prelude.{◌≡◌, ◌≤◌, None, length};
-ghost use Rattle.btree_family.specs.Rising.{Rises};
 ghost use Rattle.btree_family.specs.Buckets.{keys_of};
+ghost use Rattle.btree_family.specs.Keys;
+ghost use Rattle.btree_family.specs.Rising.{Rises};
 ghost use Rattle.bucket_state.specs.Trees.{separators_of};
-ghost use Rattle.btree_shapes.specs.Keys;
+ghost use Rattle.btree_shapes.specs.Keys.{is_kind_of};
 ghost use Rattle.btree_shapes.specs.Nodes.{place_for};
 
 use btree_family::{Item, Key, is_same_kind, key_order};
@@ -23,7 +24,7 @@ pub fn is_below(a: &Key, b: &Key) -> bool
 
 /// Whether a key is of the kind of these items' keys, which are all of one kind.
 pub fn suits_items(key: &Key, items: &[Item]) -> bool
-    ensures { result ≡ Keys.is_kind_of (keys_of items.now) key.now }
+    ensures { result ≡ is_kind_of (keys_of items.now) key.now }
 {
     match items {
         [] => true,
@@ -33,7 +34,7 @@ pub fn suits_items(key: &Key, items: &[Item]) -> bool
 
 /// Whether a key is of the kind of these separators, which are all of one kind.
 pub fn suits_branches(key: &Key, branches: &[Branch]) -> bool
-    ensures { result ≡ Keys.is_kind_of (separators_of branches.now) key.now }
+    ensures { result ≡ is_kind_of (separators_of branches.now) key.now }
 {
     match branches {
         [] => true,

@@ -27,6 +27,7 @@ use Rattle.zodb_core.specs.SoundLaws.{left_within}
 use Rattle.zodb_core.specs.StepCases.{StepCases, by_step, by_unanswered}
 use Rattle.zodb_core.specs.Steps.{Stepped, changes_in_journal, early_refusal, journal_limit, replied_refusal, request_step, step_of, transaction_with, unless_early, vote_at, vote_step, with_vote}
 use Rattle.zodb_core.specs.SwitchLaws.{packed_as_asked, turn_keeps_list}
+use Rattle.zeo_serving.specs.MayLaws.{step_failed}
 use Rattle.client_turns.specs.Clients.{Changes, Client, Linked, Local, Moment, OpenTransaction, Standing, changes_of, first_moment, place_of_client}
 use Rattle.client_turns.specs.declared.errors.TurnError.TheVariants as error
 use Rattle.client_turns.specs.Lines.{answer_of, answer_to, answering_excess, asking_excess, end_in, end_of, is_committed, is_delivery, pending_in, request_of, step_answer, unless_long}
@@ -156,35 +157,8 @@ step_at_left rules m n q r now step = subst (λ (x : Machine). IsListLeft rules 
 
 -- ---- a machine that has not failed
 
-whole_cases : (m : Machine) (n : ℕ) (q : Request) → StepCases (λ s. s.machine.failed ≡ m.failed) m n q
-whole_cases m n q = record {
-  refused = λ r is. refl;
-  full = λ count. refl;
-  spent = refl;
-  told = refl;
-  found = λ oid f. refl;
-  numbers = λ count. refl;
-  nothing = refl;
-  written = λ texts changes tid each later bounded. refl;
-  emptied = refl;
-  committed = λ v t is writes. refl;
-  dropped = refl;
-  listed = λ revisions. refl;
-  logged = λ lines. refl;
-  begun = λ is t collects none below. refl;
-  marking = λ is p count there. refl;
-  marked = λ is p keep there. refl;
-  copying = λ is p k copied count there copying. refl;
-  copied = λ is p k copied count there copying. refl;
-  lost = λ is r answers. refl;
-  packed = λ is t keep free below. refl;
-  last = refl;
-  since = λ tid changes. refl;
-  closed = refl;
-}
-
 left_whole : (rules : Rules) (m : Machine) (n : ℕ) (q : Request) (stamp : ℕ) (o : StepOutcome) → (o ≡ StoreFailed → ⊥) → (machine_left rules m n q stamp o).failed ≡ m.failed
-left_whole rules m n q stamp Answered fine = by_step (λ s. s.machine.failed ≡ m.failed) rules m n q stamp (whole_cases m n q)
+left_whole rules m n q stamp Answered fine = step_failed rules m n q stamp
 left_whole rules m n q stamp ReadingFailed fine = by_unanswered (λ x. x.failed ≡ m.failed) q m refl refl
 left_whole rules m n q stamp NoMemory fine = by_unanswered (λ x. x.failed ≡ m.failed) q m refl refl
 left_whole rules m n q stamp StoreFailed fine = absurd (fine refl)

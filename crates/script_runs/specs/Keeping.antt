@@ -17,6 +17,7 @@ use Rattle.zodb_core.specs.Outcomes.{Answered, EndsFor, FaultCounts, IsStepMade,
 use Rattle.zodb_core.specs.Sound.{IsPackedAsMarked}
 use Rattle.zodb_core.specs.StepCases.{PackCases, StepCases, by_pack_step, by_step, by_unanswered}
 use Rattle.zodb_core.specs.Steps.{Stepped, loaded, step_of}
+use Rattle.zeo_serving.specs.MayLaws.{step_failed}
 use Rattle.client_turns.specs.declared.errors.TurnError.TheVariants as turn_error
 use Rattle.client_turns.specs.Lines.{answer_of, end_in, end_of}
 use Rattle.client_turns.specs.Standing.{IsAhead}
@@ -92,33 +93,6 @@ step_leaves rules m n q stamp ahead =
 abbrev KeepsStore : Machine → Stepped → Type 0
 KeepsStore m s = s.machine.failed ≡ m.failed
 
-store_cases : (m : Machine) (n : ℕ) (q : Request) → StepCases (KeepsStore m) m n q
-store_cases m n q = record {
-  refused = λ r is. refl;
-  full = λ count. refl;
-  spent = refl;
-  told = refl;
-  found = λ oid f. refl;
-  numbers = λ count. refl;
-  nothing = refl;
-  written = λ texts changes tid once later bound. refl;
-  emptied = refl;
-  committed = λ v t is writes. refl;
-  dropped = refl;
-  listed = λ revisions. refl;
-  logged = λ lines. refl;
-  begun = λ is t collects free below. refl;
-  marking = λ is p count there. refl;
-  marked = λ is p keep there. refl;
-  copying = λ is p k copied count there copying. refl;
-  copied = λ is p k copied count there copying. refl;
-  lost = λ is r answers. refl;
-  packed = λ is t keep free below. refl;
-  last = refl;
-  since = λ tid changes. refl;
-  closed = refl;
-}
-
 -- ---- a step that was made
 
 pub record MadeKeeps (rules : Rules) (m : Machine) (r : Reply) (left : Machine) : Type 0 where
@@ -143,7 +117,7 @@ ends_keeps : (rules : Rules) (m : Machine) (n : ℕ) (q : Request) (stamp : ℕ)
     → EndsFor rules m n q stamp (record { reply = r; machine = left; ticks = ticks }) before now o → left ≡ machine_left rules m n q stamp o → MadeKeeps rules m r left
 ends_keeps rules m n q stamp r left ticks before now Answered is cause same = record {
   leaves = λ ahead. subst (StepLeaves rules m) (sym cause) (step_leaves rules m n q stamp ahead);
-  failed = λ other. subst (KeepsStore m) (sym cause) (by_step (KeepsStore m) rules m n q stamp (store_cases m n q));
+  failed = λ other. subst (KeepsStore m) (sym cause) (step_failed rules m n q stamp);
   memory = λ none. absurd cc;
 }
 ends_keeps rules m n q stamp r left ticks before now ReadingFailed is cause same =
