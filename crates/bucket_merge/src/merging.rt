@@ -9,7 +9,7 @@ ghost use Rattle.bucket_merge.specs.Answers.{AnswersFor};
 ghost use Rattle.bucket_merge.specs.Walk.{as_list, walked};
 
 use crate::refusal::MergeRefusal;
-use crate::walk::{stands_below, is_changed_by_both, kept, least, least_of_all, split_at};
+use crate::walk::{is_changed_by_both, kept, least, least_of_all, split_at, stands_below};
 use btree_family::{Bucket, Item, Key};
 use std::alloc::{AllocError, Global};
 use zb_ids::{ListOf, Oid};
