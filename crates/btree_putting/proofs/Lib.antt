@@ -2,5 +2,6 @@ pub mod Firsts
 pub mod Keeping
 pub mod Rows
 pub mod Sorting
+pub mod StraightTexts
 pub mod Tried
 pub mod Writables

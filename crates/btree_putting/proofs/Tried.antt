@@ -1,6 +1,6 @@
 -- Puts that are tried.
 use Rattle.std.proofs.Common.{◌≡◌, ℕ, Bool, true, false, List, [], ◌∷◌, ◌++◌, Option, Some, None, Result, Ok, Err, refl, sym, ◌∙◌, ap, subst, append_assoc, append-nil}
-use Rattle.std.specs.Prelude.{◌&&◌, if◌then◌else◌, map, MatchOption}
+use Rattle.std.specs.Prelude.{◌&&◌, if◌then◌else◌, map, MatchOption, IfSome}
 use Rattle.pickle_graph.specs.Graph.{Graph}
 use Rattle.pickle_writing.specs.Spelling.{Spelled}
 use Rattle.pickle_writing.specs.declared.error.WriteError.{WriteError}
@@ -61,6 +61,9 @@ some_case A P o x e m = subst (λ p. MatchOption p A P) e m
 
 pub none_case : {X : Type 0} (A : Type 0) (P : X → Type 0) (o : Option X) → o ≡ None → MatchOption o A P → A
 none_case A P o e m = subst (λ p. MatchOption p A P) e m
+
+pub if_some : {X : Type 0} (P : X → Type 0) (o : Option X) (x : X) → o ≡ Some x → IfSome o P → P x
+if_some P o x e m = subst (λ p. IfSome p P) e m
 
 -- ---- a put that is tried
 

@@ -3,4 +3,5 @@ pub mod Items
 pub mod Kept
 pub mod Puts
 pub mod Storing
+pub mod Straight
 pub mod Writing

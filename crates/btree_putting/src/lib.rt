@@ -8,6 +8,7 @@ mod items;
 mod kept;
 mod puts;
 mod storing;
+mod straight;
 mod trying;
 mod writing;
 

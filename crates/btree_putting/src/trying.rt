@@ -15,6 +15,7 @@ use crate::copying::copy_pickle;
 use crate::items::{same_branches, same_items};
 use crate::kept::{Kept, KeptPuts};
 use crate::puts::{Put, Puts};
+use crate::straight::keep_straight;
 use crate::writing::{Family, node_writable, write_node};
 use btree_shapes::{Entry, Node, Shared, class_of, is_class_of, read_node};
 use bucket_state::StateError;
@@ -72,7 +73,7 @@ fn same_node(a: &Node, b: &Node) -> bool
 }
 
 /// Whether a class is read as the same class of BTrees.
-fn is_class_kept(class: &Pickle, copy: &Pickle) -> bool
+pub(crate) fn is_class_kept(class: &Pickle, copy: &Pickle) -> bool
     ensures { result ≡ is_class_kept class.now (class_named copy.now) }
 {
     match class_of(copy) {
@@ -190,6 +191,10 @@ fn keep(alloc: Global, family: &Family, put: Put) -> Result<Option<Kept>, AllocE
         (keeps (class_seen family.now.row.now) (class_seen family.now.leaf.now) put ≡ false)
         (IsTried (class_seen family.now.row.now) (class_seen family.now.leaf.now) put)) }
 {
+    if let Some(written) = keep_straight(alloc, family, &put)? {
+        let Written { bytes, entry } = written;
+        return Ok(Some(Kept { put, bytes, entry }));
+    }
     let Some(object) = record_for(alloc, family, &put)? else {
         return Ok(None);
     };

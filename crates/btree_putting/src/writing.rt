@@ -72,7 +72,7 @@ fn branches_writable(branches: &[Branch]) -> bool
 }
 
 /// The graph that a text is read as, where it is one.
-fn graph_of(alloc: Global, text: &Text8) -> Result<Option<Pickle>, AllocError>
+pub(crate) fn graph_of(alloc: Global, text: &Text8) -> Result<Option<Pickle>, AllocError>
     ensures { IfOk result (λ graph. graph ≡ graph_read (graph_at NODE_LIMIT 0 text.now)) }
 {
     match read_pickle(alloc, text.as_slice(), 0) {
