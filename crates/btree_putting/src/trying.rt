@@ -183,23 +183,34 @@ fn record_for(alloc: Global, family: &Family, put: &Put) -> Result<Option<Object
     Ok(Some(make_record(alloc, family, put)?))
 }
 
-/// The put with the bytes of its record and what they hold, where the record can be written and reads back.
+/// The put with the bytes of its record and what they hold, where the record can be written and reads back, which is tried.
 #[tactic(auto, using(crate::proofs::Tried::not_kept, crate::proofs::Tried::is_kept))]
+fn keep_tried(alloc: Global, family: &Family, put: Put) -> Result<Option<Kept>, AllocError>
+    requires global { AreGlobal family.now }
+    ensures { IfOk result (λ found. MatchOption found
+        (keeps (class_seen family.now.row.now) (class_seen family.now.leaf.now) put ≡ false)
+        (IsTried (class_seen family.now.row.now) (class_seen family.now.leaf.now) put)) }
+{
+    let Some(object) = record_for(alloc, family, &put)? else {
+        return Ok(None);
+    };
+    let Some(written) = text_back(alloc, family, &put, &object)? else {
+        return Ok(None);
+    };
+    let Written { bytes, entry } = written;
+    Ok(Some(Kept { put, bytes, entry }))
+}
+
+/// The put with the bytes of its record and what they hold, where the record can be written and reads back. It is tried
+/// only where it isn't known that it does.
 fn keep(alloc: Global, family: &Family, put: Put) -> Result<Option<Kept>, AllocError>
     requires global { AreGlobal family.now }
     ensures { IfOk result (λ found. MatchOption found
         (keeps (class_seen family.now.row.now) (class_seen family.now.leaf.now) put ≡ false)
         (IsTried (class_seen family.now.row.now) (class_seen family.now.leaf.now) put)) }
 {
-    if let Some(written) = keep_straight(alloc, family, &put)? {
-        let Written { bytes, entry } = written;
-        return Ok(Some(Kept { put, bytes, entry }));
-    }
-    let Some(object) = record_for(alloc, family, &put)? else {
-        return Ok(None);
-    };
-    let Some(written) = text_back(alloc, family, &put, &object)? else {
-        return Ok(None);
+    let Some(written) = keep_straight(alloc, family, &put)? else {
+        return keep_tried(alloc, family, put);
     };
     let Written { bytes, entry } = written;
     Ok(Some(Kept { put, bytes, entry }))

@@ -1,5 +1,5 @@
 use Rattle.btree_putting.proofs.Tried.{is_kept, some_case}
-use Rattle.btree_putting.proofs.trying.keep.Goals as goal
+use Rattle.btree_putting.proofs.trying.keep_tried.Goals as goal
 
 pub returns : goal.returns
 returns c =
