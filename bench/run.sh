@@ -6,7 +6,7 @@
 #     bench/run.sh crates/zodb/out/zodb /tmp
 #
 # It needs bash, awk, head and cc; sqlite3, strace and Python's BTrees package where they are there. What isn't there is skipped, and it says so. Sizes
-# can be set: TRANSACTIONS (1300000), COMMITS (300), LOADS (20000), LINES (100000), RECORDS (1000000), KEYS (1000000), TIMES (3, of which the least is taken).
+# can be set: TRANSACTIONS (1300000), COMMITS (300), LOADS (20000), LINES (100000), RECORDS (1000000), KEYS (1000000), SETS (20000), TIMES (3, of which the least is taken).
 #
 # A row has the seconds that each of the two took, the seconds that each had a processor, and both ratios. Where the machine
 # has other work, the second ratio is the one to read, but for commits, which wait for the disk.
@@ -15,7 +15,7 @@ program=$(realpath "${1:?the built program}")
 folder=$(mktemp -d "${2:-/tmp}/zodb-bench.XXXXXX")
 trap 'rm -rf "$folder"' EXIT
 here=$(dirname "$(realpath "$0")")
-transactions=${TRANSACTIONS:-1300000} commits=${COMMITS:-300} loads=${LOADS:-20000} lines=${LINES:-100000} records=${RECORDS:-1000000} keys=${KEYS:-1000000} times=${TIMES:-3}
+transactions=${TRANSACTIONS:-1300000} commits=${COMMITS:-300} loads=${LOADS:-20000} lines=${LINES:-100000} records=${RECORDS:-1000000} keys=${KEYS:-1000000} sets=${SETS:-20000} times=${TIMES:-3}
 for name in measure make_file make_tree make_keys walk pairs loads; do
     cc -O2 -o "$folder/$name" "$here/$name.c" || { echo "cc doesn't compile $name.c"; exit 1; }
 done
@@ -24,6 +24,11 @@ cd "$folder" || exit 1
 
 # seconds, KiB and processor seconds of a command with a file as its standard input
 cost() { ./measure "$times" "$@"; }
+# a Python that has the BTrees package, if there is one
+python=
+for each in python3 /usr/bin/python3; do
+    if [ -z "$python" ] && "$each" -c 'import BTrees' 2>/dev/null; then python=$each; fi
+done
 # the same of a run of a script over a file that isn't there yet
 cost_anew() { # FILE SCRIPT
     local made
@@ -103,6 +108,28 @@ set_script 1000 >few.txt; set_script 10000 >more.txt
 row "10000 keys set, a tenth of it" "$(cost_anew more.fs more.txt | awk '{ print $1 / 10, $2, $3 / 10 }')" \
     "ours, 1000 keys set" "$(cost_anew few.fs few.txt)"
 
+# keys set in mixed order in one transaction, and then looked for, in a tree with whole numbers and in one with texts; BTrees of
+# Python does the same in a loop, whose time alone is taken
+tree_script() { # KIND CALL: the script of $sets calls
+    awk -v sets="$sets" -v kind="$1" -v call="$2" 'BEGIN { print "a open local"; print "a begin"
+        if (call == "set") { print "a new"; print "a put 0000000000000001 <BTrees.OOBTree:OOBTree> None" }
+        for (i = 0; i < sets; i++) { key = (i * 7919) % sets
+            key = kind == "texts" ? sprintf("\"key%06d\"", key) : key
+            if (call == "set") printf "a set 0000000000000001 %s %d\n", key, i; else printf "a find 0000000000000001 %s\n", key }
+        if (call == "set") { print "a vote \"\" \"\""; print "a finish" } }'
+}
+for kind in numbers texts; do
+    tree_script $kind set >sets.txt; tree_script $kind find >finds.txt
+    ours=$(cost_anew sets.fs sets.txt)
+    if [ -n "$python" ]; then
+        row "$sets $kind set in a tree" "$ours" "BTrees of Python, in a loop" "$("$python" "$here/trees.py" $kind set "$sets" "$times")"
+        row "$sets $kind looked for in it" "$(cost finds.txt "$program" sets.fs run)" "BTrees of Python, in a loop" "$("$python" "$here/trees.py" $kind find "$sets" "$times")"
+    else
+        row "$sets $kind set in a tree" "$ours" "cat of the script" "$(cost sets.txt cat)"
+    fi
+done
+rm -f sets.fs sets.txt finds.txt
+
 # all items of that tree: the time grows with their number
 printf 'a open local\na begin\na items 0000000000000001\n' >items.txt
 row "items of 10000 keys, a tenth of it" "$(cost items.txt "$program" more.fs run | awk '{ print $1 / 10, $2, $3 / 10 }')" \
@@ -119,10 +146,6 @@ rm -f keys.fs
 
 # two writers of one bucket, who both commit: merges of three buckets of so many items, with the script read and the
 # commits. The script of the row below has the same puts and commits, one behind the other, so that nothing is merged.
-python=
-for each in python3 /usr/bin/python3; do
-    if [ -z "$python" ] && "$each" -c 'import BTrees' 2>/dev/null; then python=$each; fi
-done
 merge_script() { # MERGES ITEMS APART
     awk -v merges="$1" -v items="$2" -v apart="$3" 'function put(c, k,  n) { printf "%s put 0000000000000001 <BTrees.IIBTree:IIBucket> ((", c
             for (n = 0; n < items; n++) printf "%s%d,%d", (n ? "," : ""), 10 * n, (n == k ? round : value[n])
