@@ -5,8 +5,8 @@
 #
 #     bench/run.sh crates/zodb/out/zodb /tmp
 #
-# It needs bash, awk, head and cc; sqlite3, strace and Python's BTrees package where they are there. What isn't there is skipped, and it says so. Sizes
-# can be set: TRANSACTIONS (1300000), COMMITS (300), LOADS (20000), LINES (100000), RECORDS (1000000), KEYS (1000000), SETS (20000), TIMES (3, of which the least is taken).
+# It needs bash, awk, head and cc; sqlite3, LMDB's library, strace, Python and its BTrees package where they are there. What isn't there is skipped, and it says so. Sizes
+# can be set: TRANSACTIONS (1300000), COMMITS (300), LOADS (20000), LINES (100000), RECORDS (1000000), KEYS (1000000), SETS (20000), UNDOS (2000), TIMES (3, of which the least is taken).
 #
 # A row has the seconds that each of the two took, the seconds that each had a processor, and both ratios. Where the machine
 # has other work, the second ratio is the one to read, but for commits, which wait for the disk.
@@ -15,7 +15,7 @@ program=$(realpath "${1:?the built program}")
 folder=$(mktemp -d "${2:-/tmp}/zodb-bench.XXXXXX")
 trap 'rm -rf "$folder"' EXIT
 here=$(dirname "$(realpath "$0")")
-transactions=${TRANSACTIONS:-1300000} commits=${COMMITS:-300} loads=${LOADS:-20000} lines=${LINES:-100000} records=${RECORDS:-1000000} keys=${KEYS:-1000000} sets=${SETS:-20000} times=${TIMES:-3}
+transactions=${TRANSACTIONS:-1300000} commits=${COMMITS:-300} loads=${LOADS:-20000} lines=${LINES:-100000} records=${RECORDS:-1000000} keys=${KEYS:-1000000} sets=${SETS:-20000} undos=${UNDOS:-2000} times=${TIMES:-3}
 for name in measure make_file make_tree make_keys walk pairs loads; do
     cc -O2 -o "$folder/$name" "$here/$name.c" || { echo "cc doesn't compile $name.c"; exit 1; }
 done
@@ -57,6 +57,9 @@ row "opening, an empty script" "$opening" "C, each header by a read" "$(cost emp
 row "opening, an empty script" "$opening" "cat" "$(cost empty cat many.fs)"
 row "opening, the history of one object" "$(cost empty "$program" many.fs history 0000000000000001)" \
     "C, headers in pieces of 64 KiB" "$(cost empty ./walk many.fs pieces)"
+./make_file mixed.fs "$transactions" 1 3 shuffled
+row "opening, objects in mixed order" "$(cost empty "$program" mixed.fs run)" "C, headers in pieces of 64 KiB" "$(cost empty ./walk mixed.fs pieces)"
+rm -f mixed.fs mixed.fs.side
 row "opening, the undo list" "$(cost empty "$program" many.fs undolog)" "C, each header by a read" "$(cost empty ./walk many.fs places)"
 
 # loads of objects that lie apart
@@ -64,7 +67,17 @@ awk -v loads="$loads" -v objects="$transactions" 'BEGIN {
     print "a open local"; print "a begin"; at = 12345
     for (i = 0; i < loads; i++) { at = (at * 1103515245 + 12345) % 2147483648; printf "a load %016x\n", at % objects } }' >loads.txt
 row "$loads loads, with opening" "$(cost loads.txt "$program" many.fs run)" "C, reads at places" "$(cost empty ./loads many.fs "$loads")"
-skipped "loads against LMDB" "no client of it is written here"
+if cc -O2 -o lmdb "$here/lmdb.c" -llmdb 2>/dev/null; then
+    ./make_file apart.fs 1000000 1 200; mkdir objects.mdb; ./lmdb objects.mdb make 1000000 200
+    awk -v loads="$loads" 'BEGIN { print "a open local"; print "a begin"; at = 12345
+        for (i = 0; i < loads; i++) { at = (at * 1103515245 + 12345) % 2147483648; printf "a load %016x\n", at % 1000000 } }' >apart.txt
+    fetched=$(cost apart.txt "$program" apart.fs run); opened=$(cost empty "$program" apart.fs run)
+    row "$loads loads of 200 bytes, no opening" "$(echo "$fetched $opened" | awk '{ print $1 - $4, $2, $3 - $6 }')" \
+        "LMDB, a write a line" "$(cost apart.txt ./lmdb objects.mdb load each)"
+    rm -rf apart.fs apart.fs.side objects.mdb
+else
+    skipped "loads against LMDB" "its library isn't there"
+fi
 
 # commits of one object of 1 KiB
 content=$(head -c 1024 /dev/zero | tr '\0' a | od -An -tx1 -v | tr -d ' \n')
@@ -74,13 +87,13 @@ awk -v commits="$commits" -v content="$content" 'BEGIN {
 best=$(cost_anew commits.fs commits.txt)
 row "$commits commits of 1 KiB" "$best" "C, pwrite and fsync twice each" "$(cost empty ./pairs pairs.bin "$commits")"
 if command -v sqlite3 >/dev/null; then
-    { echo "PRAGMA synchronous=FULL; CREATE TABLE o (k INTEGER PRIMARY KEY, v BLOB);"
+    { echo "PRAGMA journal_mode=WAL; PRAGMA synchronous=FULL; CREATE TABLE o (k INTEGER PRIMARY KEY, v BLOB);"
       for i in $(seq "$commits"); do echo "INSERT INTO o VALUES ($i, x'$content');"; done; } >commits.sql
     best_sql=$(for _ in $(seq "$times"); do
-        rm -f commits.db
+        rm -f commits.db commits.db-wal commits.db-shm
         ./measure 1 commits.sql sqlite3 commits.db
     done | least)
-    row "$commits commits of 1 KiB" "$best" "sqlite3, synchronous=FULL" "$best_sql"
+    row "$commits commits of 1 KiB" "$best" "sqlite3, WAL, synchronous=FULL" "$best_sql"
 else
     skipped "commits against sqlite3" "it isn't there"
 fi
@@ -191,6 +204,22 @@ else
 fi
 rm -f tree.fs packed.fs copy.fs small.fs small.fs.side
 
+# one large object, and one object that is undone in turn: twice the undos against twice the time
+if command -v python3 >/dev/null; then
+    python3 "$here/make_object.py" references references.fs 1000000
+    row "1000000 references in one record shown" "$(cost empty "$program" references.fs show 0000000000000001)" "cat of the file" "$(cost empty cat references.fs)"
+    python3 "$here/make_object.py" bytes large.fs 50000000
+    printf 'a open local\na begin\na get 0000000000000001\n' >get.txt
+    fetched=$(cost get.txt "$program" large.fs run)
+    row "get of an object of 50 MB" "$fetched" "cat of the file" "$(cost empty cat large.fs)"
+    echo "$fetched" | awk '{ printf "%-38s %9.1f MB\n", "get of an object of 50 MB, memory", $2 / 1000 }'
+    undone() { python3 "$here/make_object.py" undos undone.fs "$1" undone.txt; rm -f undone.fs.side; ./measure 1 undone.txt "$program" undone.fs run; }
+    row "$undos undos of one object in turn, half" "$(undone "$undos" | awk '{ print $1 / 2, $2, $3 / 2 }')" "ours, half as many" "$(undone $((undos / 2)))"
+    rm -f references.fs* large.fs* undone.fs*
+else
+    skipped "large objects and undos" "Python isn't there"
+fi
+
 # the resident set
 grown() { # KIND SMALL LARGE: bytes for each of 900,000 more
     awk -v kind="$1" -v small="$2" -v large="$3" 'BEGIN { split(small, a, " "); split(large, b, " ");
@@ -211,6 +240,9 @@ if command -v strace >/dev/null; then
     calls "calls for one commit" commits.fs commits.txt "$commits"
     calls "calls for one load, with opening" many.fs loads.txt "$loads"
     calls "calls for opening" many.fs empty 1
+    ./make_file log.fs 100000 0 0
+    strace -f -c -o calls.txt "$program" log.fs undolog <empty >/dev/null
+    awk '$4 ~ /^[0-9]+$/ && $NF ~ /^(p?read(64)?|p?write(64)?)$/ { printf "%s %s %d", (n++ ? "," : "calls for an undo list of 100000:"), $NF, $4 } END { print "" }' calls.txt
 else
     skipped "calls of the host" "strace isn't there"
 fi
