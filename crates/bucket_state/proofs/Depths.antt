@@ -153,7 +153,7 @@ flat_tuple n gs f = flat_closed n (laid_all no_graphs gs) (flat_all n no_graphs 
 
 -- ---- keys, links and values
 
-key_flat : (n : ℕ) (key : Key) → IsFlat (suc n) (key_graph key)
+pub key_flat : (n : ℕ) (key : Key) → IsFlat (suc n) (key_graph key)
 unfolding has_walk
 key_flat n (keys.Text text) = record { below = (tt, tt); rooted = omega arith; short = refl }
 key_flat n (keys.Bytes bytes) = record { below = (tt, tt); rooted = omega arith; short = refl }
@@ -163,7 +163,7 @@ none_flat : (n : ℕ) → IsFlat (suc n) (leaf_graph nodes.None)
 unfolding has_walk
 none_flat n = record { below = (tt, tt); rooted = omega arith; short = refl }
 
-link_flat : (n oid : ℕ) (m k : List ℕ) → IsFlat (suc (suc (suc n))) (link_graph oid m k)
+pub link_flat : (n oid : ℕ) (m k : List ℕ) → IsFlat (suc (suc (suc n))) (link_graph oid m k)
 unfolding link_graph has_walk
 link_flat n oid m k = record { below = (tt, (tt, ((omega arith, (omega arith, tt)), (omega arith, tt)))); rooted = omega arith; short = refl }
 

@@ -22,11 +22,14 @@ use Rattle.btree_family.specs.declared.table.ValueKind.{ValueKind}
 use Rattle.btree_family.specs.declared.bucket.Item.{Item}
 use Rattle.btree_family.specs.Classes.{Class}
 use Rattle.btree_family.specs.Buckets.{BucketContents, keys_of}
+use Rattle.bucket_state.specs.declared.tree.Branch.{Branch}
+use Rattle.bucket_state.specs.declared.tree.Inner.{Inner}
 use Rattle.bucket_state.specs.States.{has_values}
+use Rattle.bucket_state.specs.Trees.{separators_of}
 use Rattle.bucket_state.specs.Writable.{IsWritable, AreWritable}
-use Rattle.bucket_state.specs.Written.{shifted, IsLaid, Laid, no_graphs, laid_on, laid_all, closed, tuple_graph, leaf_graph, key_graph, graph_found, value_pickle, value_graph, link_graph, with_value, item_graphs, next_graphs, bucket_graph}
+use Rattle.bucket_state.specs.Written.{shifted, IsLaid, Laid, no_graphs, laid_on, laid_all, closed, tuple_graph, leaf_graph, key_graph, graph_found, value_pickle, value_graph, link_graph, with_value, item_graphs, next_graphs, bucket_graph, child_graphs, inner_graph}
 use Rattle.bucket_state.specs.Flat.{IsFlatValue, FlatStands, AreFlat, FlatItems}
-use Rattle.bucket_state.specs.FlatGraphs.{IsSignedKey, AreSignedKeys, FlatIsSound, FlatIsNamed}
+use Rattle.bucket_state.specs.FlatGraphs.{IsSignedKey, AreSignedKeys, FlatIsSound, FlatIsNamed, InnerIsSound, InnerIsNamed}
 use Rattle.bucket_state.proofs.Back.{Extends, laid_extends, laid_within, closed_extends}
 use Rattle.bucket_state.proofs.Graphs.{laid_sound, closed_sound}
 use Rattle.bucket_state.proofs.Parts.{copied}
@@ -292,6 +295,19 @@ bucket_good law class bucket g w s f =
     good_tuple (tuple_graph (item_graphs bucket.items) ∷ next_graphs class bucket.next)
     (good_tuple (item_graphs bucket.items) (items_good law (has_values class.kind) class.key class.value bucket.items f w s), next_good class bucket.next g)
 
+children_good : (child : Class) (branches : List Branch) → IsGlobal child.module_name child.class_name → AreWritable (separators_of branches) → AreSignedKeys (separators_of branches) → EachGood (child_graphs child branches)
+children_good child [] g w s = tt
+children_good child (branch ∷ branches) g w s =
+    (key_good branch.key w.0 s.0, (link_good branch.child child.module_name child.class_name g, children_good child branches g w.1 s.1))
+
+inner_good : (child leaf : Class) (inner : Inner) → IsGlobal child.module_name child.class_name → IsGlobal leaf.module_name leaf.class_name → AreWritable (separators_of inner.tail) → AreSignedKeys (separators_of inner.tail) → IsGood (inner_graph child leaf inner)
+inner_good child leaf inner g h w s =
+    let head : IsGood (link_graph inner.head child.module_name child.class_name) = link_good inner.head child.module_name child.class_name g in
+    let first : IsGood (link_graph inner.first leaf.module_name leaf.class_name) = link_good inner.first leaf.module_name leaf.class_name h in
+    let children : List Graph = link_graph inner.head child.module_name child.class_name ∷ child_graphs child inner.tail in
+    good_tuple (tuple_graph children ∷ link_graph inner.first leaf.module_name leaf.class_name ∷ [])
+    (good_tuple children (head, children_good child inner.tail g w s), (first, tt))
+
 -- ---- the laws
 
 oid_named : (oid : ℕ) (o : Option (List ℕ)) → IsSome o → IsSome (with_name (oid_of (Some (nodes.Bytes (big_bytes 8 oid)))) o)
@@ -311,3 +327,9 @@ flat_sound law class bucket g w s f = (bucket_good law class bucket g w s f).sou
 
 pub flat_named : WrittenReadsBack → FlatIsNamed
 flat_named law class bucket g w s f = some_named (bucket_graph class bucket).nodes (bucket_graph class bucket).nodes (bucket_good law class bucket g w s f).well
+
+pub inner_sound : InnerIsSound
+inner_sound child leaf inner g h w s = (inner_good child leaf inner g h w s).sound
+
+pub inner_named : InnerIsNamed
+inner_named child leaf inner g h w s = some_named (inner_graph child leaf inner).nodes (inner_graph child leaf inner).nodes (inner_good child leaf inner g h w s).well

@@ -1,6 +1,5 @@
 -- Graphs laid side by side in which no edge leads to a node to which another leads.
-use Rattle.std.proofs.Common.{◌≡◌, ℕ, zero, suc, ◌+◌, ◌-◌, ◌<◌, ◌≤◌, Bool, true, false, cond, List, [], ◌∷◌, ◌++◌, map, length, Option, Some, None, inl, inr, refl, sym, ◌∙◌, ap, subst, arith, eqb, eq-eqb, append_assoc, append-nil, length-append}
-use Rattle.std.specs.Prelude.{slice_get}
+use Rattle.std.proofs.Common.{◌≡◌, ℕ, zero, suc, ◌+◌, ◌-◌, ◌<◌, ◌≤◌, Bool, true, false, cond, List, [], ◌∷◌, ◌++◌, map, length, Some, inl, inr, refl, sym, ◌∙◌, ap, subst, arith, eqb, eq-eqb, append_assoc, append-nil, length-append}
 use Rattle.std.specs.Cmp.{both_ways}
 use Rattle.std.proofs.lemmas.Bool.{cases_lt, le-ltb, eqb-true, ne_eqb}
 use Rattle.pickle_graph.specs.declared.node.Node.{Node}
@@ -10,7 +9,7 @@ use Rattle.pickle_graph.specs.declared.node.Act.TheVariants.{Append, Set, Build}
 use Rattle.pickle_graph.specs.declared.parts.Part.TheVariants.{Byte}
 use Rattle.pickle_writing.specs.declared.depth.TheConstants.{WALK_LIMIT}
 use Rattle.pickle_graph.specs.Graph.{Graph, AllBelow}
-use Rattle.pickle_graph.specs.Parts.{items_in, items_of, item_parts, pair_parts, act_parts, tuple_parts, list_parts, dict_parts}
+use Rattle.pickle_graph.specs.Parts.{items_in, items_of, pair_parts, act_parts, list_parts, dict_parts}
 use Rattle.pickle_graph.specs.Walks.{leads}
 use Rattle.pickle_writing.specs.Shared.{times, ends_from, is_shared}
 use Rattle.pickle_writing.specs.SharedLaws.{times-append}

@@ -1,5 +1,5 @@
 -- Texts that go behind one another.
-use Rattle.std.proofs.Common.{◌≡◌, ℕ, zero, suc, ◌+◌, ◌*◌, Bool, true, false, List, [], ◌∷◌, ◌++◌, length, Option, Some, None, refl, sym, ◌∙◌, ap, arith, append_assoc, append-nil}
+use Rattle.std.proofs.Common.{◌≡◌, ℕ, suc, ◌*◌, Bool, true, false, List, [], ◌∷◌, ◌++◌, length, Option, Some, None, refl, sym, ◌∙◌, ap, arith, append_assoc, append-nil}
 use Rattle.btree_family.specs.declared.table.KeyKind.{KeyKind}
 use Rattle.btree_family.specs.declared.table.ValueKind.{ValueKind}
 use Rattle.btree_family.specs.Classes.{Class}
@@ -7,7 +7,7 @@ use Rattle.btree_family.specs.declared.bucket.Item.{Item}
 use Rattle.btree_family.specs.Buckets.{BucketContents}
 use Rattle.bucket_state.specs.States.{has_values}
 use Rattle.bucket_state.specs.Written.{key_text}
-use Rattle.bucket_state.specs.Flat.{FlatStands, AreFlat, FlatItems, IsWithItems, IsFlatState, tuple_start, tuple_end, tuple_text, texts_of, value_text, item_texts, members_of, next_text, next_texts, flat_text}
+use Rattle.bucket_state.specs.Flat.{FlatStands, AreFlat, IsWithItems, IsFlatState, tuple_start, tuple_end, tuple_text, texts_of, value_text, item_texts, members_of, next_text, next_texts, flat_text}
 
 -- ---- links
 

@@ -1,23 +1,21 @@
 -- The text of a state of flat values is the spelling of its graph.
-use Rattle.std.proofs.Common.{◌≡◌, ℕ, zero, suc, ◌+◌, ◌*◌, ◌<◌, ◌≤◌, Bool, true, false, cond, List, [], ◌∷◌, ◌++◌, map, length, Option, Some, None, Ok, Err, Result, inl, inr, refl, sym, ◌∙◌, ap, subst, arith, append_assoc, append-nil}
+use Rattle.std.proofs.Common.{◌≡◌, ℕ, zero, suc, ◌+◌, ◌*◌, ◌≤◌, Bool, true, false, cond, List, [], ◌∷◌, ◌++◌, length, Option, Some, None, Ok, Err, refl, sym, ◌∙◌, ap, subst, arith, append_assoc, append-nil}
 use Rattle.std.specs.Prelude.{slice_get, nat_lt}
 use Rattle.std.proofs.lemmas.Bool.{lt-ltb}
 use Rattle.byteorder.specs.Endian.{big_bytes}
 use Rattle.pickle_graph.specs.declared.node.Node.{Node}
 use Rattle.pickle_graph.specs.declared.node.Node.TheVariants as nodes
-use Rattle.pickle_graph.specs.declared.parts.Part.{Part}
-use Rattle.pickle_graph.specs.declared.parts.Part.TheVariants.{Byte, Item}
+use Rattle.pickle_graph.specs.declared.parts.Part.TheVariants.{Byte}
 use Rattle.pickle_reading.specs.declared.reading.TheConstants.{NODE_LIMIT}
 use Rattle.pickle_writing.specs.declared.depth.TheConstants.{WALK_LIMIT}
-use Rattle.pickle_writing.specs.declared.error.WriteError.{WriteError}
 use Rattle.pickle_writing.specs.declared.error.WriteError.TheVariants as errors
 use Rattle.pickle_graph.specs.Graph.{Graph, IsNode, IsGraph}
-use Rattle.pickle_graph.specs.Parts.{parts_of, is_held, items_in, items_of, item_parts, tuple_parts}
+use Rattle.pickle_graph.specs.Parts.{parts_of, is_held, items_of, item_parts, tuple_parts}
 use Rattle.pickle_graph.specs.Same.{IsCopy, AllCopies, IsSame}
 use Rattle.pickle_graph.specs.Walks.{some_item, has_walk}
 use Rattle.pickle_round_trip.specs.Laws.{WrittenReadsBack}
 use Rattle.pickle_writing.specs.Shared.{is_shared}
-use Rattle.pickle_writing.specs.Spelling.{Piece, leaf_text, parts_piece, put_number, put_behind, held_piece, node_piece, followed, no_piece, piece_of, root_piece, spelling_of, pickled}
+use Rattle.pickle_writing.specs.Spelling.{Piece, leaf_text, parts_piece, put_number, held_piece, node_piece, followed, piece_of, root_piece, spelling_of, pickled}
 use Rattle.btree_family.specs.declared.key.Key.{Key}
 use Rattle.btree_family.specs.declared.key.Key.TheVariants as keys
 use Rattle.btree_family.specs.declared.table.KeyKind.{KeyKind}
@@ -26,10 +24,10 @@ use Rattle.btree_family.specs.declared.bucket.Item as items
 use Rattle.btree_family.specs.Classes.{Class}
 use Rattle.btree_family.specs.Buckets.{BucketContents, IsSpelling, AreValues}
 use Rattle.bucket_state.specs.States.{has_values}
-use Rattle.bucket_state.specs.Written.{shifted, leaf_graph, key_node, key_graph, key_text, link_graph, value_pickle, value_graph, graph_found, Laid, no_graphs, laid_on, laid_all, closed, tuple_graph, with_value, item_graphs, next_graphs, bucket_graph}
-use Rattle.bucket_state.specs.Laws.{IsFamilyValue, ValueStands, ItemsStand}
-use Rattle.bucket_state.specs.Depths.{IsShallow, AreShallow, WrittenIsShallow}
-use Rattle.bucket_state.specs.Flat.{IsFlatValue, FlatStands, AreFlat, FlatItems, texts_of, tuple_text, value_text, item_texts, link_text, next_texts, flat_text, FlatStand, FlatAreShallow, FlatIsSpelled, FlatMakesFew}
+use Rattle.bucket_state.specs.Written.{shifted, leaf_graph, key_graph, key_text, link_graph, value_pickle, value_graph, graph_found, Laid, no_graphs, laid_on, laid_all, closed, tuple_graph, with_value, item_graphs, next_graphs, bucket_graph}
+use Rattle.bucket_state.specs.Laws.{IsFamilyValue, ItemsStand}
+use Rattle.bucket_state.specs.Depths.{IsShallow}
+use Rattle.bucket_state.specs.Flat.{IsFlatValue, FlatStands, AreFlat, FlatItems, texts_of, tuple_text, value_text, item_texts, link_text, flat_text, FlatStand, FlatAreShallow, FlatIsSpelled, FlatMakesFew}
 use Rattle.bucket_state.proofs.Parts.{copied, nodes_alike, leaf_items, none_copied}
 use Rattle.bucket_state.proofs.Sound.{in_range}
 use Rattle.bucket_state.proofs.Back.{Extends, laid_extends, laid_within, first_extends, closed_extends, closed_root, tuple_last}
@@ -53,7 +51,7 @@ leaf_walk n ns m text h = ap (λ (o : Option Node). some_item (has_walk n ns) (i
 abbrev pub plain : List ℕ → ℕ → Piece
 plain text made = record { text = text; puts = []; made = made }
 
-leaf_piece : (levels : ℕ) (ns : List Node) (shared : ℕ → Bool) (m : ℕ) (text : List ℕ) → IsLeafAt ns m text → piece_of (suc levels) ns shared m [] ≡ plain text 1
+pub leaf_piece : (levels : ℕ) (ns : List Node) (shared : ℕ → Bool) (m : ℕ) (text : List ℕ) → IsLeafAt ns m text → piece_of (suc levels) ns shared m [] ≡ plain text 1
 unfolding piece_of
 leaf_piece levels ns shared m text h =
     let f : ℕ → List ℕ → Piece = piece_of levels ns shared in
@@ -108,7 +106,7 @@ held_alone levels ns shared m node text made there held apart parts =
     ∙ (λ k. held_piece (apart k) None m [] (parts k))
 
 -- a tuple that is not shared
-tuple_alone : (levels : ℕ) (ns : List Node) (shared : ℕ → Bool) (m : ℕ) (ms : List ℕ) (texts : List (List ℕ)) (made : ℕ) → slice_get ns m ≡ Some (nodes.Tuple ms) → shared m ≡ false → AllGive (piece_of levels ns shared) ms texts made → piece_of (suc levels) ns shared m [] ≡ plain (tuple_text texts) (made + 1)
+pub tuple_alone : (levels : ℕ) (ns : List Node) (shared : ℕ → Bool) (m : ℕ) (ms : List ℕ) (texts : List (List ℕ)) (made : ℕ) → slice_get ns m ≡ Some (nodes.Tuple ms) → shared m ≡ false → AllGive (piece_of levels ns shared) ms texts made → piece_of (suc levels) ns shared m [] ≡ plain (tuple_text texts) (made + 1)
 tuple_alone levels ns shared m [] [] made there apart h =
     let one : 1 ≡ made + 1 = omega (arith, h) in
     leaf_piece levels ns shared m (0x29 ∷ []) (record { leaf = nodes.Tuple []; there = there; lone = refl; spelled = refl }) ∙ ap (plain (0x29 ∷ [])) one
@@ -119,11 +117,11 @@ tuple_alone levels ns shared m [] (text ∷ texts) made there apart h = absurd h
 -- ---- graphs whose root is a leaf
 
 -- the root is a leaf with such a text, and no edges start anywhere
-record IsLeafy (g : Graph) (text : List ℕ) : Type 0 where
-  at : IsLeafAt g.nodes g.root text
-  edgeless : ends g.nodes ≡ []
+pub record IsLeafy (g : Graph) (text : List ℕ) : Type 0 where
+  pub at : IsLeafAt g.nodes g.root text
+  pub edgeless : ends g.nodes ≡ []
 
-key_leafy : (key : Key) → IsLeafy (key_graph key) (key_text key)
+pub key_leafy : (key : Key) → IsLeafy (key_graph key) (key_text key)
 key_leafy (keys.Text text) = record { at = record { leaf = nodes.Text text; there = refl; lone = refl; spelled = refl }; edgeless = refl }
 key_leafy (keys.Bytes bytes) = record { at = record { leaf = nodes.Bytes bytes; there = refl; lone = refl; spelled = refl }; edgeless = refl }
 key_leafy (keys.Number n) = record { at = record { leaf = nodes.Number n; there = refl; lone = refl; spelled = refl }; edgeless = refl }
@@ -191,7 +189,7 @@ shifted_leaf by (nodes.Dict ns) h = cc
 shifted_leaf by (nodes.Reference n) h = cc
 shifted_leaf by (nodes.Object a b c d) h = cc
 
-leaf_within : (laid : Laid) (g : Graph) (text : List ℕ) (big : List Node) → IsLeafAt g.nodes g.root text → Extends (laid_on laid g).nodes big → IsLeafAt big (length laid.nodes + g.root) text
+pub leaf_within : (laid : Laid) (g : Graph) (text : List ℕ) (big : List Node) → IsLeafAt g.nodes g.root text → Extends (laid_on laid g).nodes big → IsLeafAt big (length laid.nodes + g.root) text
 leaf_within laid g text big h ext = record {
   leaf = h.leaf;
   there = laid_within laid g big ext g.root h.leaf h.there ∙ ap Some (shifted_leaf (length laid.nodes) h.leaf h.lone);
@@ -276,7 +274,7 @@ link_shape b g =
     ∙ append_assoc b g (0x86 ∷ 0x51 ∷ [])
 
 -- a link, wherever it lies
-link_piece : (levels oid : ℕ) (m n : List ℕ) (laid : Laid) (big : List Node) (shared : ℕ → Bool) → Extends (laid_on laid (link_graph oid m n)).nodes big → ((i : ℕ) → shared i ≡ false) → piece_of (suc (suc (suc levels))) big shared (length laid.nodes + (link_graph oid m n).root) [] ≡ plain (link_text oid m n) 4
+pub link_piece : (levels oid : ℕ) (m n : List ℕ) (laid : Laid) (big : List Node) (shared : ℕ → Bool) → Extends (laid_on laid (link_graph oid m n)).nodes big → ((i : ℕ) → shared i ≡ false) → piece_of (suc (suc (suc levels))) big shared (length laid.nodes + (link_graph oid m n).root) [] ≡ plain (link_text oid m n) 4
 unfolding link_graph
 link_piece levels oid m n laid big shared ext apart =
     let by : ℕ = length laid.nodes in

@@ -1,16 +1,13 @@
 -- Leaves and their texts.
 use Rattle.std.proofs.Common.{◌≡◌, ℕ, zero, suc, ◌+◌, ◌*◌, ◌<◌, ◌≤◌, ◌^◌, ◌-◌, Bool, true, false, cond, List, [], ◌∷◌, ◌++◌, length, take, drop, get_or, inl, inr, refl, sym, ◌∙◌, ap, subst, arith, IsTrue, nat_lt, nat_eq}
-use Rattle.std.specs.Prelude.{ℤ, pos, negsuc, ◌≤ℤ◌, ◌<ℤ◌, slice_index_or}
-use Rattle.std.specs.Int.{w16, w32, cast_unsigned, from_le_bytes, to_le_bytes}
+use Rattle.std.specs.Prelude.{pos, negsuc, slice_index_or}
+use Rattle.std.specs.Int.{w16, w32, cast_unsigned, to_le_bytes}
 use Rattle.std.specs.Str.{is_utf8}
 use Rattle.std.proofs.lemmas.Bool.{cases_lt, lt-ltb, le-ltb, le-leb, ltb-true, eqb-true, and_from}
 use Rattle.std.proofs.lemmas.Nat.{le_bytes_2, le_bytes_4}
 use Rattle.byteorder.specs.Endian.{little_bytes}
-use Rattle.pickle_ops.specs.Fits.{IsShortText}
 use Rattle.pickle_graph.specs.Graph.{IsSigned128}
-use Rattle.pickle_graph.specs.declared.node.Node.{Node}
 use Rattle.pickle_graph.specs.declared.node.Node.TheVariants as nodes
-use Rattle.pickle_writing.specs.Spelling.{leaf_text, number_text}
 use Rattle.btree_family.specs.declared.table.ValueKind.{ValueKind}
 use Rattle.btree_family.specs.declared.table.ValueKind.TheVariants as values
 use Rattle.bucket_state.specs.States.{value_fits}

@@ -20,3 +20,5 @@ pub mod FlatValues
 pub mod FlatPieces
 pub mod FlatOnce
 pub mod FlatSpelled
+pub mod InnerSpelled
+pub mod InnerPieces

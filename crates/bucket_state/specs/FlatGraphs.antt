@@ -8,7 +8,9 @@ use Rattle.btree_family.specs.declared.key.Key.TheVariants.{Text, Bytes, Number}
 use Rattle.btree_family.specs.Classes.{Class}
 use Rattle.btree_family.specs.Buckets.{BucketContents, keys_of}
 use Rattle.bucket_state.specs.Writable.{AreWritable}
-use Rattle.bucket_state.specs.Written.{bucket_graph}
+use Rattle.bucket_state.specs.declared.tree.Inner.{Inner}
+use Rattle.bucket_state.specs.Trees.{separators_of}
+use Rattle.bucket_state.specs.Written.{bucket_graph, inner_graph}
 use Rattle.bucket_state.specs.Flat.{FlatItems}
 
 -- a number has 128 bits with a sign
@@ -32,3 +34,17 @@ abbrev pub FlatIsNamed : Type 0
 FlatIsNamed =
     (class : Class) (bucket : BucketContents) → IsGlobal class.module_name class.class_name → AreWritable (keys_of bucket.items) →
     AreSignedKeys (keys_of bucket.items) → FlatItems class bucket.items → IsSome (oids_of (bucket_graph class bucket))
+
+-- ---- objects with others below them
+
+-- so is the graph of such an object, where its separators and both classes' names can be written
+abbrev pub InnerIsSound : Type 0
+InnerIsSound =
+    (child leaf : Class) (inner : Inner) → IsGlobal child.module_name child.class_name → IsGlobal leaf.module_name leaf.class_name →
+    AreWritable (separators_of inner.tail) → AreSignedKeys (separators_of inner.tail) →
+    IsGraph (inner_graph child leaf inner).nodes (inner_graph child leaf inner).root
+
+abbrev pub InnerIsNamed : Type 0
+InnerIsNamed =
+    (child leaf : Class) (inner : Inner) → IsGlobal child.module_name child.class_name → IsGlobal leaf.module_name leaf.class_name →
+    AreWritable (separators_of inner.tail) → AreSignedKeys (separators_of inner.tail) → IsSome (oids_of (inner_graph child leaf inner))

@@ -6,4 +6,5 @@ pub mod Writable
 pub mod Laws
 pub mod Depths
 pub mod Flat
+pub mod InnerText
 pub mod FlatGraphs

@@ -1,6 +1,6 @@
 //! The texts of states whose values are leaves, made with no graph.
 
-ghost use Rattle.std.specs.Prelude.{◌≡◌, ◌++◌, ◌∷◌, [], true, length, IfSome, IfOk, IsTrue, OnOk};
+ghost use Rattle.std.specs.Prelude.{◌≡◌, ◌++◌, ◌∷◌, [], true, IfSome, IfOk, IsTrue};
 ghost use Rattle.std.specs.Str.{is_utf8};
 ghost use Rattle.byteorder.specs.Endian.{little_bytes};
 ghost use Rattle.pickle_writing.specs.Spelling.{leaf_text, number_text};
@@ -79,7 +79,7 @@ fn with_number(alloc: Global, mut text: Text8, number: i128) -> Result<Text8, Al
 }
 
 /// The text, and a key behind it.
-fn with_key(alloc: Global, text: Text8, key: &Key) -> Result<Text8, AllocError>
+pub(crate) fn with_key(alloc: Global, text: Text8, key: &Key) -> Result<Text8, AllocError>
     ensures { IfOk result (λ all. all ≡ text ++ key_text key.now) }
 {
     match key {
@@ -183,7 +183,8 @@ fn is_flat_leaf(text: &[u8]) -> bool
     false
 }
 
-/// Whether the text is that of a leaf that is a value of the family. Long numbers and classes are not seen.
+/// Whether the text is that of a leaf that is a value of the family. Long numbers and classes are
+/// not seen.
 fn is_flat(kind: ValueKind, text: &[u8]) -> bool
     ensures { IsTrue result → IsFlatValue kind text.now }
 {
@@ -203,7 +204,8 @@ fn with_item(
     row: &ClassRow,
     item: &Item,
 ) -> Result<Option<Text8>, AllocError>
-    ensures { IfOk result (λ found. IfSome found (IsWithItems (class_seen row.now) text (item.now ∷ []))) }
+    ensures { IfOk result (λ found. IfSome found
+        (IsWithItems (class_seen row.now) text (item.now ∷ []))) }
 {
     if !key_fits(row.key, &item.key) {
         return Ok(None);
@@ -235,7 +237,8 @@ fn with_items(
     row: &ClassRow,
     items: &[Item],
 ) -> Result<Option<Text8>, AllocError>
-    ensures { IfOk result (λ found. IfSome found (IsWithItems (class_seen row.now) text items.now)) }
+    ensures { IfOk result (λ found. IfSome found
+        (IsWithItems (class_seen row.now) text items.now)) }
 {
     let mut all = text;
     for item in items {
@@ -249,7 +252,7 @@ fn with_items(
 
 /// The text, and a link to an object of a class behind it.
 #[tactic(auto, using(crate::proofs::FlatPieces::link_appended))]
-fn with_link(text: Text8, row: &ClassRow, oid: Oid) -> Result<Text8, AllocError>
+pub(crate) fn with_link(text: Text8, row: &ClassRow, oid: Oid) -> Result<Text8, AllocError>
     ensures { IfOk result (λ all. all ≡ text ++ link_text oid row.now.module.now row.now.name.now) }
 {
     let mut bytes = [0; 8];
@@ -263,10 +266,14 @@ fn with_link(text: Text8, row: &ClassRow, oid: Oid) -> Result<Text8, AllocError>
     Ok(text)
 }
 
-/// The text, and behind it the link to the next bucket of a class, if there is one, and the end of a tuple of
-/// it and one member more.
+/// The text, and behind it the link to the next bucket of a class, if there is one, and the end of
+/// a tuple of it and one member more.
 #[tactic(auto, using(crate::proofs::FlatPieces::next_appended))]
-fn with_next(mut text: Text8, row: &ClassRow, next: Option<Oid>) -> Result<Text8, AllocError>
+pub(crate) fn with_next(
+    mut text: Text8,
+    row: &ClassRow,
+    next: Option<Oid>,
+) -> Result<Text8, AllocError>
     ensures { IfOk result (λ all. all ≡ text ++ next_text (class_seen row.now) next) }
 {
     match next {
@@ -283,7 +290,7 @@ fn with_next(mut text: Text8, row: &ClassRow, next: Option<Oid>) -> Result<Text8
 }
 
 /// How many members the tuple of so many items has.
-fn members(values: bool, items: usize) -> Result<usize, AllocError>
+pub(crate) fn members(values: bool, items: usize) -> Result<usize, AllocError>
     ensures { IfOk result (λ count. count ≡ members_of values items) }
 {
     if !values {
@@ -296,7 +303,7 @@ fn members(values: bool, items: usize) -> Result<usize, AllocError>
 }
 
 /// What stands before the members of a tuple of so many.
-fn opened(alloc: Global, count: usize) -> Result<Text8, AllocError>
+pub(crate) fn opened(alloc: Global, count: usize) -> Result<Text8, AllocError>
     ensures { IfOk result (λ text. text ≡ tuple_start count) }
 {
     let mut text = Text8::new(alloc);
@@ -307,7 +314,7 @@ fn opened(alloc: Global, count: usize) -> Result<Text8, AllocError>
 }
 
 /// The text, and what stands behind the members of a tuple of so many.
-fn closed(mut text: Text8, count: usize) -> Result<Text8, AllocError>
+pub(crate) fn closed(mut text: Text8, count: usize) -> Result<Text8, AllocError>
     ensures { IfOk result (λ all. all ≡ text ++ tuple_end count) }
 {
     let byte = match count {
@@ -321,12 +328,13 @@ fn closed(mut text: Text8, count: usize) -> Result<Text8, AllocError>
     Ok(text)
 }
 
-/// The text of the state of a bucket or a set, of the class that the row is, where its keys and values are of
-/// the class and each value is the text of a leaf: what
-/// [`spelling`](pickle_writing::spelling) gives of the graph that [`write_bucket`](crate::write_bucket) makes.
+/// The text of the state of a bucket or a set, of the class that the row is, where its keys and
+/// values are of the class and each value is the text of a leaf: what
+/// [`spelling`](pickle_writing::spelling) gives of the graph that
+/// [`write_bucket`](crate::write_bucket) makes.
 ///
-/// It is `None` for every other bucket, and for some whose values are long numbers or classes. Want of memory is
-/// the one error.
+/// It is `None` for every other bucket, and for some whose values are long numbers or classes. Want
+/// of memory is the one error.
 #[tactic(auto, using(crate::proofs::FlatPieces::state_text))]
 pub fn flat_state(
     alloc: Global,

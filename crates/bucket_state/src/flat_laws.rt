@@ -1,6 +1,7 @@
 //! Laws of graphs of leaves. A law is the contract of a function that does nothing.
 
-ghost use Rattle.bucket_state.specs.FlatGraphs.{FlatIsNamed, FlatIsSound};
+ghost use Rattle.bucket_state.specs.FlatGraphs.{FlatIsNamed, FlatIsSound, InnerIsNamed, InnerIsSound};
+ghost use Rattle.bucket_state.specs.InnerText.{InnerIsSpelled, InnerMakesFew};
 
 use pickle_round_trip::written_pickles_read_back;
 
@@ -13,3 +14,18 @@ pub fn flat_states_are_graphs()
 {
     written_pickles_read_back();
 }
+
+/// The text of an object with others below it is the spelling of the graph of its state, and makes
+/// five nodes for each separator, and ten more at most.
+pub fn inner_states_are_spelled()
+    ensures spelled { InnerIsSpelled }
+    ensures few { InnerMakesFew }
+{}
+
+/// The graph of an object with others below it holds what its kinds say, where its separators and
+/// its classes' names can be written, and the references in it all name something.
+#[tactic(auto, using(crate::proofs::FlatGraphs::inner_sound, crate::proofs::FlatGraphs::inner_named))]
+pub fn inner_states_are_graphs()
+    ensures sound { InnerIsSound }
+    ensures named { InnerIsNamed }
+{}

@@ -57,8 +57,9 @@ pub fn written_objects_read_back()
     ensures { WrittenInnerReadsBack }
 {}
 
-/// Flat values are values of the family, and no walk of an edge starts at one. The text of a bucket of flat values is the
-/// spelling of the graph of its state, and makes two nodes for each item at most, and six more.
+/// Flat values are values of the family, and no walk of an edge starts at one. The text of a bucket of
+/// flat values is the spelling of the graph of its state, and makes two nodes for each item at most,
+/// and six more.
 pub fn flat_states_are_spelled()
     ensures stand { FlatStand }
     ensures shallow { FlatAreShallow }

@@ -5,6 +5,7 @@ mod entries;
 mod error;
 mod flat;
 mod flat_laws;
+mod inner_text;
 mod items;
 mod laws;
 mod laying;
@@ -15,7 +16,8 @@ mod writing;
 
 pub use error::StateError;
 pub use flat::flat_state;
-pub use flat_laws::flat_states_are_graphs;
+pub use flat_laws::{flat_states_are_graphs, inner_states_are_graphs, inner_states_are_spelled};
+pub use inner_text::inner_state;
 pub use laws::{
     flat_states_are_spelled, links_stand_apart, same_graphs_are_spelled_alike,
     same_graphs_hold_the_same, states_keep_their_depth, written_buckets_read_back,

@@ -1,9 +1,8 @@
 -- The parts of the text, one behind the other.
-use Rattle.std.proofs.Common.{◌≡◌, ◌++◌, Some, subst, ap, ◌∙◌}
+use Rattle.std.proofs.Common.{◌++◌, subst, ap, ◌∙◌}
 use Rattle.std.specs.Prelude.{length}
 use Rattle.std.specs.Option.{IfSome}
 use Rattle.btree_family.specs.Classes.{class_seen}
-use Rattle.bucket_state.specs.States.{has_values}
 use Rattle.bucket_state.specs.Flat.{IsWithItems, tuple_start, members_of, next_text}
 use Rattle.bucket_state.proofs.FlatPieces.{state_text}
 use Rattle.bucket_state.proofs.flat.flat_state.Goals as goal

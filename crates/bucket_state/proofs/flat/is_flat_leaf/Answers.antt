@@ -1,5 +1,5 @@
 -- By the first bytes of the text.
-use Rattle.std.proofs.Common.{◌≡◌, ◌+◌, ◌<◌, ◌∙◌, refl, sym, ap, arith}
+use Rattle.std.proofs.Common.{arith}
 use Rattle.std.specs.Prelude.{slice_index_or, length, ◌-◌}
 use Rattle.std.proofs.lemmas.Bool.{eqb-true}
 use Rattle.bucket_state.proofs.FlatValues.{head_text, head_bytes, lone_text, none_flat, true_flat, false_flat, float_text, bytes_text, both_parts}

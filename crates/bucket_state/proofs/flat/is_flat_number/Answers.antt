@@ -1,5 +1,5 @@
 -- By how long the text is.
-use Rattle.std.proofs.Common.{◌≡◌, ◌+◌, ◌<◌, arith}
+use Rattle.std.proofs.Common.{arith}
 use Rattle.bucket_state.proofs.FlatValues.{two_text, three_text, five_text}
 use Rattle.bucket_state.proofs.flat.is_flat_number.Goals as goal
 

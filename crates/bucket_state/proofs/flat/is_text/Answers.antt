@@ -1,5 +1,4 @@
 -- What reads as a text is UTF-8.
-use Rattle.std.proofs.Common.{◌≡◌, true, refl}
 use Rattle.std.proofs.lemmas.Str.{is_utf8-from_IsUtf8}
 use Rattle.bucket_state.proofs.flat.is_text.Goals as goal
 

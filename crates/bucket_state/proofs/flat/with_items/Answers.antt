@@ -1,5 +1,5 @@
 -- One item more.
-use Rattle.std.proofs.Common.{◌≡◌, ◌∷◌, [], List, drop, ◌+◌, Some, subst, sym, ap, ◌∙◌}
+use Rattle.std.proofs.Common.{◌∷◌, [], drop, ◌+◌, subst, sym, ap, ◌∙◌}
 use Rattle.std.specs.Option.{IfSome}
 use Rattle.std.proofs.lemmas.List.{drop_more}
 use Rattle.btree_family.specs.Classes.{class_seen}

@@ -1,5 +1,5 @@
 -- What was written, part by part.
-use Rattle.std.proofs.Common.{◌≡◌, ◌++◌, ◌∙◌, List, ℕ, ap, refl}
+use Rattle.std.proofs.Common.{◌++◌, ◌∙◌, List, ℕ, ap}
 use Rattle.byteorder.specs.Endian.{big_bytes}
 use Rattle.pickle_graph.specs.declared.node.Node.TheVariants as nodes
 use Rattle.pickle_writing.specs.Spelling.{leaf_text}

@@ -1,5 +1,5 @@
 -- A link, and the end of the tuple.
-use Rattle.std.proofs.Common.{◌≡◌, ◌++◌, ◌∙◌, List, ℕ, Some, ap, sym}
+use Rattle.std.proofs.Common.{◌++◌, ◌∙◌, ap, sym}
 use Rattle.btree_family.specs.Classes.{class_seen}
 use Rattle.bucket_state.specs.Flat.{link_text, next_text}
 use Rattle.bucket_state.proofs.FlatPieces.{next_appended}
