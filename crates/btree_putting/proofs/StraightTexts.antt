@@ -95,14 +95,14 @@ leaf_below class other leaf own no_root found is same state =
 
 -- ---- the text of a class
 
-abbrev lone : List ℕ → List ℕ → Graph
+abbrev pub lone : List ℕ → List ℕ → Graph
 lone m n = record { nodes = kinds.Global m n ∷ []; root = 0 }
 
 lone_spelled : (m n : List ℕ) → pickle_text (lone m n) ≡ Ok (0x80 ∷ 3 ∷ ((0x63 ∷ (m ++ 10 ∷ (n ++ 10 ∷ []))) ++ 0x2e ∷ []))
 unfolding piece_of has_walk
 lone_spelled m n = refl
 
-lone_made : (m n : List ℕ) → (root_piece (lone m n).nodes (lone m n).root).made ≤ NODE_LIMIT
+pub lone_made : (m n : List ℕ) → (root_piece (lone m n).nodes (lone m n).root).made ≤ NODE_LIMIT
 unfolding piece_of has_walk
 lone_made m n = omega arith
 
@@ -113,26 +113,26 @@ lines m n =
     ∙ ap (λ (xs : List ℕ). m ++ 10 ∷ xs) (sym (append_assoc n (10 ∷ []) (0x2e ∷ [])))
     ∙ sym (append_assoc m (10 ∷ (n ++ 10 ∷ [])) (0x2e ∷ []))
 
-lone_is : (class : Graph) (text : List ℕ) (c : IsLoneClass class text) → class ≡ lone c.module_name c.class_name
+pub lone_is : (class : Graph) (text : List ℕ) (c : IsLoneClass class text) → class ≡ lone c.module_name c.class_name
 lone_is class text c = λ i. record { nodes = c.nodes_are i; root = c.root_is i }
 
 -- the spelled text is that of the bytes that are pushed
-abbrev ok : List ℕ → Spelled
+abbrev pub ok : List ℕ → Spelled
 ok text = Ok text
 
-class_spelled : (class : Graph) (text : List ℕ) → IsLoneClass class text → pickle_text class ≡ Ok text
+pub class_spelled : (class : Graph) (text : List ℕ) → IsLoneClass class text → pickle_text class ≡ Ok text
 class_spelled class text c =
     ap pickle_text (lone_is class text c)
     ∙ lone_spelled c.module_name c.class_name
     ∙ ap (λ (xs : List ℕ). ok (0x80 ∷ 3 ∷ 0x63 ∷ xs)) (sym (lines c.module_name c.class_name))
     ∙ ap ok (sym c.text_is)
 
-class_is : (class : Graph) (text : List ℕ) → IsLoneClass class text → is_class class ≡ true
+pub class_is : (class : Graph) (text : List ℕ) → IsLoneClass class text → is_class class ≡ true
 class_is class text c = ap is_class (lone_is class text c)
 
 -- ---- a node is the same as itself
 
-number_self : (n : ℕ) → (n == n) ≡ true
+pub number_self : (n : ℕ) → (n == n) ≡ true
 number_self n = nat_eq_equiv.refl n
 
 bytes_self : (xs : List ℕ) → pointwise eqb xs xs ≡ true
@@ -162,19 +162,19 @@ leaf_self node bucket is =
 
 -- ---- the whole
 
-graph_is : (r : Option Graph) (a b : Graph) → r ≡ Some a → r ≡ Some b → a ≡ b
+pub graph_is : (r : Option Graph) (a b : Graph) → r ≡ Some a → r ≡ Some b → a ≡ b
 graph_is r a b e f = cc
 
 -- behind nothing a pickle is read as the first one
-first_is : (at : ℕ) (bytes : List ℕ) → graph_behind [] [] at bytes ≡ graph_at NODE_LIMIT at bytes
+pub first_is : (at : ℕ) (bytes : List ℕ) → graph_behind [] [] at bytes ≡ graph_at NODE_LIMIT at bytes
 first_is at bytes = let e : NODE_LIMIT + 0 ≡ NODE_LIMIT = omega arith in ap (λ (n : ℕ). graph_at n at bytes) e
 
-state_bytes : (class state : List ℕ) → ((class ++ 0x80 ∷ 3 ∷ []) ++ state) ++ 0x2e ∷ [] ≡ class ++ 0x80 ∷ 3 ∷ (state ++ 0x2e ∷ [])
+pub state_bytes : (class state : List ℕ) → ((class ++ 0x80 ∷ 3 ∷ []) ++ state) ++ 0x2e ∷ [] ≡ class ++ 0x80 ∷ 3 ∷ (state ++ 0x2e ∷ [])
 state_bytes class state =
     ap (λ (xs : List ℕ). xs ++ 0x2e ∷ []) (append_assoc class (0x80 ∷ 3 ∷ []) state)
     ∙ append_assoc class (0x80 ∷ 3 ∷ state) (0x2e ∷ [])
 
-both_spelled : (class state : Graph) (one two : List ℕ) → pickle_text class ≡ Ok one → pickle_text state ≡ Ok two → object_text class state ≡ Ok (one ++ two)
+pub both_spelled : (class state : Graph) (one two : List ℕ) → pickle_text class ≡ Ok one → pickle_text state ≡ Ok two → object_text class state ≡ Ok (one ++ two)
 both_spelled class state one two c s = ap (λ (x : Spelled). one_behind x (pickle_text state)) c ∙ ap (one_behind (Ok one)) s
 
 same_held : SameHoldsTheSame → (class : Class) (g copy : Graph) → AreSame g copy → bucket_of class copy ≡ bucket_of class g

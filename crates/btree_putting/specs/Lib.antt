@@ -4,4 +4,5 @@ pub mod Kept
 pub mod Puts
 pub mod Storing
 pub mod Straight
+pub mod StraightInner
 pub mod Writing

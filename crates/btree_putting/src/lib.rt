@@ -9,6 +9,7 @@ mod kept;
 mod puts;
 mod storing;
 mod straight;
+mod straight_inner;
 mod trying;
 mod writing;
 

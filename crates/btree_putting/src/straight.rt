@@ -50,7 +50,7 @@ fn see_number(number: i128)
 {}
 
 /// A key that is a number has 128 bits with a sign.
-fn see_signed(key: &Key)
+pub(crate) fn see_signed(key: &Key)
     ensures { IsSignedKey key.now }
 {
     match key {
@@ -109,7 +109,7 @@ fn global_pickle(alloc: Global, first: &Text8, second: &Text8) -> Result<Text8, 
 }
 
 /// The text of a class that is one node.
-fn class_text(alloc: Global, class: &Pickle) -> Result<Option<Text8>, AllocError>
+pub(crate) fn class_text(alloc: Global, class: &Pickle) -> Result<Option<Text8>, AllocError>
     ensures { IfOk result (λ found. IfSome found (IsLoneClass class.now)) }
 {
     let root = class.root();

@@ -1,6 +1,6 @@
 //! Trying the records of puts.
 
-ghost use Rattle.std.specs.Prelude.{◌≡◌, true, false, Ok, IfOk, MatchOption};
+ghost use Rattle.std.specs.Prelude.{◌≡◌, true, false, Ok, IfOk, IfSome, MatchOption};
 ghost use Rattle.pickle_graph.specs.Graph.{IsGraph};
 ghost use Rattle.btree_family.specs.Classes.{class_seen};
 ghost use Rattle.pickle_graph.specs.Class.{is_class};
@@ -8,6 +8,7 @@ ghost use Rattle.zb_record.specs.Records.{record_of, object_text};
 ghost use Rattle.btree_shapes.specs.Classes.{class_named};
 ghost use Rattle.btree_putting.specs.Puts.{keeps, all_keep, reads_as, text_reads_as, same_node, same_link, is_class_kept};
 ghost use Rattle.btree_putting.specs.Kept.{AreTried, HasRecordBack, HasTextBack, IsTried};
+ghost use Rattle.btree_putting.specs.Straight.{IsTriedSo};
 ghost use Rattle.btree_putting.specs.Storing.{IsRecordFor, IsSoundRecord};
 ghost use Rattle.btree_putting.specs.Writing.{node_writable, AreGlobal};
 
@@ -16,6 +17,7 @@ use crate::items::{same_branches, same_items};
 use crate::kept::{Kept, KeptPuts};
 use crate::puts::{Put, Puts};
 use crate::straight::keep_straight;
+use crate::straight_inner::keep_inner;
 use crate::writing::{Family, node_writable, write_node};
 use btree_shapes::{Entry, Node, Shared, class_of, is_class_of, read_node};
 use bucket_state::StateError;
@@ -201,6 +203,19 @@ fn keep_tried(alloc: Global, family: &Family, put: Put) -> Result<Option<Kept>, 
     Ok(Some(Kept { put, bytes, entry }))
 }
 
+/// The bytes of the record of a put, and what they hold, where it is known without trying that it is kept.
+fn keep_known(alloc: Global, family: &Family, put: &Put) -> Result<Option<Written>, AllocError>
+    requires global { AreGlobal family.now }
+    ensures { IfOk result (λ found. IfSome found
+        (IsTriedSo (class_seen family.now.row.now) (class_seen family.now.leaf.now) put.now)) }
+{
+    match &put.node {
+        Node::Leaf(_) => keep_straight(alloc, family, put),
+        Node::Inner(_) => keep_inner(alloc, family, put),
+        Node::Lone(_) => Ok(None),
+    }
+}
+
 /// The put with the bytes of its record and what they hold, where the record can be written and reads back. It is tried
 /// only where it isn't known that it does.
 fn keep(alloc: Global, family: &Family, put: Put) -> Result<Option<Kept>, AllocError>
@@ -209,7 +224,7 @@ fn keep(alloc: Global, family: &Family, put: Put) -> Result<Option<Kept>, AllocE
         (keeps (class_seen family.now.row.now) (class_seen family.now.leaf.now) put ≡ false)
         (IsTried (class_seen family.now.row.now) (class_seen family.now.leaf.now) put)) }
 {
-    let Some(written) = keep_straight(alloc, family, &put)? else {
+    let Some(written) = keep_known(alloc, family, &put)? else {
         return keep_tried(alloc, family, put);
     };
     let Written { bytes, entry } = written;
