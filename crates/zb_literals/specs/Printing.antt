@@ -32,6 +32,11 @@ leaf_print (kinds.Text bytes) = Some (text_literal bytes)
 leaf_print (kinds.Global module_line name_line) = Some (global_text module_line name_line)
 leaf_print _ = None
 
+-- what is put goes behind a text, if anything is
+abbrev pub text_behind : List ℕ → Option (List ℕ) → List ℕ
+text_behind text None = text
+text_behind text (Some more) = text ++ more
+
 -- ---- parts
 
 abbrev pub bytes_parts : List ℕ → List Part
@@ -97,6 +102,11 @@ id_short ns put (Some (kinds.Bytes bytes)) = digits_of (leaf_oid (kinds.Bytes by
 id_short ns put (Some (kinds.Tuple items)) = pair_short ns put items
 id_short ns put _ = None
 
+-- a short form behind its mark
+abbrev pub short_print : Option (List ℕ) → Option (List ℕ)
+short_print None = None
+short_print (Some short) = Some (64 ∷ short)
+
 abbrev pub reference_parts : Option (List ℕ) → ℕ → List Part
 reference_parts (Some short) id = Byte 64 ∷ bytes_parts short
 reference_parts None id = bytes_parts (codes "ref(") ++ (Item id ∷ Byte 41 ∷ [])
@@ -159,6 +169,11 @@ printed ns m (Err e) = Err e
 -- the literal of a node; or none where a walk of more edges than the limit starts there
 abbrev pub literal_of : List Node → ℕ → Spelled
 literal_of ns m = printed ns m (puts_of ns m)
+
+-- and so behind a text
+abbrev pub behind_text : List ℕ → Spelled → Spelled
+behind_text before (Ok text) = Ok (before ++ text)
+behind_text before (Err e) = Err e
 
 -- what is printed goes behind what is
 abbrev pub behind_print : Printing → Printed → Printing

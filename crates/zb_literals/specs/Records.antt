@@ -1,7 +1,6 @@
 -- The literals of records. Own.
-use Rattle.std.specs.Prelude.{ℕ, List, ◌∷◌, ◌++◌, Result, Ok, Err, codes}
+use Rattle.std.specs.Prelude.{ℕ, List, ◌∷◌, ◌++◌, Ok, Err, codes}
 use Rattle.zb_ids.specs.Hex.{hex_text}
-use Rattle.pickle_writing.specs.declared.error.WriteError.{WriteError}
 use Rattle.pickle_graph.specs.Graph.{Graph}
 use Rattle.pickle_writing.specs.Spelling.{Spelled}
 use Rattle.zb_literals.specs.Printing.{literal_of}

@@ -1,14 +1,14 @@
 //! What the literal of a node with items is made of.
 
-ghost use Rattle.std.specs.Prelude.{◌≡◌, [], ◌∷◌, ◌++◌, IfOk, slice_get};
+ghost use Rattle.std.specs.Prelude.{◌≡◌, [], ◌∷◌, ◌++◌, IfOk, OnOk, None, Some, is_some, slice_get};
+ghost use Rattle.zb_ids.specs.Hex.{hex_text};
 ghost use Rattle.zb_literals.specs.Values.{leaf_oid, leaf_global, digits_of};
-ghost use Rattle.zb_literals.specs.Printing.{bytes_parts, more_parts, more_pair_parts, tuple_marks, list_marks, dict_marks, act_marks, object_marks, made_text, oid_at, class_at, both_texts, pair_short, id_short, reference_parts, literal_parts};
+ghost use Rattle.zb_literals.specs.Printing.{bytes_parts, more_parts, more_pair_parts, tuple_marks, list_marks, dict_marks, act_marks, object_marks, made_text, oid_at, class_at, both_texts, pair_short, id_short, reference_parts, text_behind, short_print};
 
 use crate::texts::{push_digits, push_global};
 use pickle_graph::{Act, Node};
-use pickle_writing::PutNumbers;
 use std::alloc::{AllocError, Global};
-use zb_ids::{ListOf, Text8};
+use zb_ids::ListOf;
 
 /// A part of the literal of a node with items.
 #[derive(Clone, Copy, Debug, PartialEq, Eq)]
@@ -93,7 +93,7 @@ fn with_acts(mut parts: Vec<Part>, acts: &[Act]) -> Result<Vec<Part>, AllocError
 }
 
 /// The parts of a tuple.
-fn tuple(alloc: Global, items: &[u32]) -> Result<Vec<Part>, AllocError>
+pub(crate) fn tuple(alloc: Global, items: &[u32]) -> Result<Vec<Part>, AllocError>
     ensures { IfOk result (λ parts. parts.items ≡ tuple_marks items.now) }
 {
     match items {
@@ -117,7 +117,7 @@ fn tuple(alloc: Global, items: &[u32]) -> Result<Vec<Part>, AllocError>
 }
 
 /// The parts of a list.
-fn list(alloc: Global, items: &[u32]) -> Result<Vec<Part>, AllocError>
+pub(crate) fn list(alloc: Global, items: &[u32]) -> Result<Vec<Part>, AllocError>
     ensures { IfOk result (λ parts. parts.items ≡ list_marks items.now) }
 {
     match items {
@@ -132,7 +132,7 @@ fn list(alloc: Global, items: &[u32]) -> Result<Vec<Part>, AllocError>
 }
 
 /// The parts of a dictionary.
-fn dict(alloc: Global, pairs: &[(u32, u32)]) -> Result<Vec<Part>, AllocError>
+pub(crate) fn dict(alloc: Global, pairs: &[(u32, u32)]) -> Result<Vec<Part>, AllocError>
     ensures { IfOk result (λ parts. parts.items ≡ dict_marks pairs.now) }
 {
     match pairs {
@@ -165,7 +165,7 @@ fn made(alloc: Global, by_new: bool) -> Result<Vec<Part>, AllocError>
 }
 
 /// The parts of an object.
-fn object(
+pub(crate) fn object(
     alloc: Global,
     callee: u32,
     arguments: u32,
@@ -185,157 +185,140 @@ fn object(
     Ok(parts)
 }
 
-/// The digits of the number of an object, if the node is one.
-fn node_digits(alloc: Global, node: &Node) -> Result<Option<Text8>, AllocError>
-    ensures { IfOk result (λ digits. digits ≡ digits_of (leaf_oid node.now)) }
+/// Puts `@` and the digits of an oid at the end and answers `true`, or puts nothing and answers
+/// `false` for another node.
+fn push_oid(out: &mut Vec<u8>, node: &Node) -> Result<bool, AllocError>
+    ensures short { IfOk result (λ short. short ≡ is_some (digits_of (leaf_oid node.now))) }
+    ensures text { OnOk result (out.new.items ≡ text_behind out.old.items (short_print (digits_of (leaf_oid node.now)))) }
 {
     match node {
         Node::Bytes(bytes) => {
             if bytes.len() != 8 {
-                return Ok(None);
+                return Ok(false);
             }
-            let mut digits = Vec::new(alloc);
-            push_digits(&mut digits, bytes.as_slice())?;
-            Ok(Some(Text8::from_vec(digits)))
+            out.push(b'@')?;
+            push_digits(out, bytes.as_slice())?;
+            Ok(true)
         }
-        _ => Ok(None),
+        _ => Ok(false),
     }
 }
 
-/// The same of the node of a number.
-fn digits_at(alloc: Global, nodes: &ListOf<Node>, node: u32) -> Result<Option<Text8>, AllocError>
-    ensures { IfOk result (λ digits. digits ≡ digits_of (oid_at (slice_get nodes.now node))) }
+/// Puts `@`, the digits of an oid and a global at the end, if the node is one.
+fn push_classed(out: &mut Vec<u8>, oid: &[u8], class: &Node) -> Result<bool, AllocError>
+    ensures short { IfOk result (λ short. short ≡ is_some (both_texts (Some (hex_text oid.now)) (leaf_global class.now))) }
+    ensures text { OnOk result (out.new.items ≡ text_behind out.old.items (short_print (both_texts (Some (hex_text oid.now)) (leaf_global class.now)))) }
 {
-    match nodes.get(node as usize) {
-        Some(found) => node_digits(alloc, found),
-        None => Ok(None),
-    }
-}
-
-/// The literal of a global, if the node is one.
-fn node_class(alloc: Global, node: &Node) -> Result<Option<Text8>, AllocError>
-    ensures { IfOk result (λ text. text ≡ leaf_global node.now) }
-{
-    match node {
+    match class {
         Node::Global { module, name } => {
-            let mut text = Vec::new(alloc);
-            push_global(&mut text, module.as_slice(), name.as_slice())?;
-            Ok(Some(Text8::from_vec(text)))
+            out.push(b'@')?;
+            push_digits(out, oid)?;
+            push_global(out, module.as_slice(), name.as_slice())?;
+            Ok(true)
         }
-        _ => Ok(None),
+        _ => Ok(false),
     }
 }
 
-/// The same of the node of a number.
-fn text_of_class(
-    alloc: Global,
+/// The same for the global of a number.
+fn push_classed_at(
+    out: &mut Vec<u8>,
     nodes: &ListOf<Node>,
-    node: u32,
-) -> Result<Option<Text8>, AllocError>
-    ensures { IfOk result (λ text. text ≡ class_at (slice_get nodes.now node)) }
+    oid: &[u8],
+    class: u32,
+) -> Result<bool, AllocError>
+    ensures short { IfOk result (λ short. short ≡ is_some (both_texts (Some (hex_text oid.now)) (class_at (slice_get nodes.now class)))) }
+    ensures text { OnOk result (out.new.items ≡ text_behind out.old.items (short_print (both_texts (Some (hex_text oid.now)) (class_at (slice_get nodes.now class))))) }
 {
-    match nodes.get(node as usize) {
-        Some(found) => node_class(alloc, found),
-        None => Ok(None),
+    match nodes.get(class as usize) {
+        Some(found) => push_classed(out, oid, found),
+        None => Ok(false),
     }
 }
 
-/// One text behind the other, if there are both.
-fn join(one: Option<Text8>, other: Option<Text8>) -> Result<Option<Text8>, AllocError>
-    ensures { IfOk result (λ both. both ≡ both_texts one other) }
+/// The same, if the other node is an oid.
+fn push_pair(
+    out: &mut Vec<u8>,
+    nodes: &ListOf<Node>,
+    oid: &Node,
+    class: u32,
+) -> Result<bool, AllocError>
+    ensures short { IfOk result (λ short. short ≡ is_some (both_texts (digits_of (leaf_oid oid.now)) (class_at (slice_get nodes.now class)))) }
+    ensures text { OnOk result (out.new.items ≡ text_behind out.old.items (short_print (both_texts (digits_of (leaf_oid oid.now)) (class_at (slice_get nodes.now class))))) }
 {
-    let Some(mut text) = one else {
-        return Ok(None);
-    };
-    let Some(more) = other else {
-        return Ok(None);
-    };
-    text.extend_from_slice(more.as_slice())?;
-    Ok(Some(text))
+    match oid {
+        Node::Bytes(bytes) => {
+            if bytes.len() != 8 {
+                return Ok(false);
+            }
+            push_classed_at(out, nodes, bytes.as_slice(), class)
+        }
+        _ => Ok(false),
+    }
 }
 
-/// What stands behind `@` for a tuple of these items.
-fn short_of_items(
-    alloc: Global,
+/// The same for the nodes of two numbers.
+fn push_pair_at(
+    out: &mut Vec<u8>,
+    nodes: &ListOf<Node>,
+    oid: u32,
+    class: u32,
+) -> Result<bool, AllocError>
+    ensures short { IfOk result (λ short. short ≡ is_some (both_texts (digits_of (oid_at (slice_get nodes.now oid))) (class_at (slice_get nodes.now class)))) }
+    ensures text { OnOk result (out.new.items ≡ text_behind out.old.items (short_print (both_texts (digits_of (oid_at (slice_get nodes.now oid))) (class_at (slice_get nodes.now class))))) }
+{
+    match nodes.get(oid as usize) {
+        Some(found) => push_pair(out, nodes, found, class),
+        None => Ok(false),
+    }
+}
+
+/// Puts the short form of a reference to a tuple of these items at the end, if there is one.
+fn push_short_of_items(
+    out: &mut Vec<u8>,
     nodes: &ListOf<Node>,
     put: Option<u64>,
     items: &[u32],
-) -> Result<Option<Text8>, AllocError>
-    ensures { IfOk result (λ short. short ≡ pair_short nodes.now put items.now) }
+) -> Result<bool, AllocError>
+    ensures short { IfOk result (λ short. short ≡ is_some (pair_short nodes.now put items.now)) }
+    ensures text { OnOk result (out.new.items ≡ text_behind out.old.items (short_print (pair_short nodes.now put items.now))) }
 {
     if let Some(_) = put {
-        return Ok(None);
+        return Ok(false);
     }
     match items {
-        [a, b] => {
-            let digits = digits_at(alloc, nodes, *a)?;
-            let class = text_of_class(alloc, nodes, *b)?;
-            join(digits, class)
-        }
-        _ => Ok(None),
+        [a, b] => push_pair_at(out, nodes, *a, *b),
+        _ => Ok(false),
     }
 }
 
-/// What stands behind `@` for an id, if it has such a form.
-fn short_of(
-    alloc: Global,
+/// Puts the short form of a reference to an id at the end, `@` and what stands behind it, and
+/// answers `true`; or puts nothing and answers `false` for an id that has no such form.
+pub(crate) fn push_short(
+    out: &mut Vec<u8>,
     nodes: &ListOf<Node>,
     put: Option<u64>,
     id: u32,
-) -> Result<Option<Text8>, AllocError>
-    ensures { IfOk result (λ short. short ≡ id_short nodes.now put (slice_get nodes.now id)) }
+) -> Result<bool, AllocError>
+    ensures short { IfOk result (λ short. short ≡ is_some (id_short nodes.now put (slice_get nodes.now id))) }
+    ensures text { OnOk result (out.new.items ≡ text_behind out.old.items (short_print (id_short nodes.now put (slice_get nodes.now id)))) }
 {
     match nodes.get(id as usize) {
-        None => Ok(None),
+        None => Ok(false),
         Some(found) => match found {
-            Node::Bytes(_) => node_digits(alloc, found),
-            Node::Tuple(items) => short_of_items(alloc, nodes, put, items.as_slice()),
-            _ => Ok(None),
+            Node::Bytes(_) => push_oid(out, found),
+            Node::Tuple(items) => push_short_of_items(out, nodes, put, items.as_slice()),
+            _ => Ok(false),
         },
     }
 }
 
-/// The parts of a reference.
-fn reference(alloc: Global, short: Option<Text8>, id: u32) -> Result<Vec<Part>, AllocError>
-    ensures { IfOk result (λ parts. parts.items ≡ reference_parts short id) }
+/// The parts of a reference to an id that has no short form.
+pub(crate) fn reference(alloc: Global, id: u32) -> Result<Vec<Part>, AllocError>
+    ensures { IfOk result (λ parts. parts.items ≡ reference_parts None id) }
 {
-    match short {
-        Some(text) => {
-            let parts = Vec::from_slice(alloc, &[Part::Byte(b'@')])?;
-            with_bytes(parts, text.as_slice())
-        }
-        None => {
-            let mut parts = with_bytes(Vec::new(alloc), b"ref(")?;
-            parts.push(Part::Item(id))?;
-            parts.push(Part::Byte(b')'))?;
-            Ok(parts)
-        }
-    }
-}
-
-/// The parts of the literal of a node with items.
-pub(crate) fn parts_of(
-    alloc: Global,
-    nodes: &ListOf<Node>,
-    puts: &PutNumbers,
-    node: &Node,
-) -> Result<Vec<Part>, AllocError>
-    ensures { IfOk result (λ parts. parts.items ≡ literal_parts nodes.now puts.now node.now) }
-{
-    match node {
-        Node::Tuple(items) => tuple(alloc, items.as_slice()),
-        Node::List(items) => list(alloc, items.as_slice()),
-        Node::Dict(pairs) => dict(alloc, pairs.as_slice()),
-        Node::Reference(id) => {
-            let short = short_of(alloc, nodes, puts.number(*id), *id)?;
-            reference(alloc, short, *id)
-        }
-        Node::Object {
-            callee,
-            arguments,
-            by_new,
-            acts,
-        } => object(alloc, *callee, *arguments, *by_new, acts.as_slice()),
-        _ => Ok(Vec::new(alloc)),
-    }
+    let mut parts = with_bytes(Vec::new(alloc), b"ref(")?;
+    parts.push(Part::Item(id))?;
+    parts.push(Part::Byte(b')'))?;
+    Ok(parts)
 }

@@ -1,14 +1,14 @@
 //! Literals of graphs.
 
-ghost use Rattle.std.specs.Prelude.{◌≡◌, ◌<◌, [], ◌∷◌, ◌++◌, length, slice_get, codes, decimal, IfOk, OnOk, None};
+ghost use Rattle.std.specs.Prelude.{◌≡◌, ◌<◌, [], ◌∷◌, ◌++◌, length, slice_get, codes, decimal, is_some, IfOk, OnOk, None};
 ghost use Rattle.std.specs.Fmt.{signed_decimal};
 ghost use Rattle.zb_ids.specs.Hex.{hex_text};
 ghost use Rattle.pickle_writing.specs.Numbers.{number_of};
 ghost use Rattle.pickle_writing.specs.Spelling.{put_number, Writes};
-ghost use Rattle.zb_literals.specs.Printing.{leaf_print, parts_print, literal_parts, first_print, marked_print, print_of, printed, literal_of, behind_print};
+ghost use Rattle.zb_literals.specs.Printing.{behind_print, behind_text, first_print, id_short, leaf_print, literal_of, literal_parts, marked_print, parts_print, print_of, printed, reference_parts, text_behind};
 
 use crate::node_map::NodeMap;
-use crate::parts::{Part, parts_of};
+use crate::parts::{Part, dict, list, object, push_short, reference, tuple};
 use crate::texts::{push_bytes, push_digits, push_global, push_text};
 use itoa::Buffer;
 use pickle_graph::{Node, Pickle};
@@ -47,27 +47,28 @@ fn push_kind(out: &mut Vec<u8>, kind: &[u8], bytes: &[u8]) -> Result<(), AllocEr
     push_digits(out, bytes)
 }
 
-/// The literal of a node without items, or `None` for one that may have some.
-fn leaf_literal(alloc: Global, node: &Node) -> Result<Option<Text8>, AllocError>
-    ensures { IfOk result (λ text. text ≡ leaf_print node.now) }
+/// Puts the literal of a node without items at the end and answers `true`, or puts nothing and
+/// answers `false` for a node that may have some.
+fn push_leaf(out: &mut Vec<u8>, node: &Node) -> Result<bool, AllocError>
+    ensures leaf { IfOk result (λ leaf. leaf ≡ is_some (leaf_print node.now)) }
+    ensures text { OnOk result (out.new.items ≡ text_behind out.old.items (leaf_print node.now)) }
 {
-    let mut out = Vec::new(alloc);
     match node {
         Node::None => out.extend_from_slice(b"None")?,
         Node::Bool(true) => out.extend_from_slice(b"True")?,
         Node::Bool(false) => out.extend_from_slice(b"False")?,
-        Node::Number(number) => push_number(&mut out, *number)?,
-        Node::Wide(bytes) => push_kind(&mut out, b"n:", bytes.as_slice())?,
-        Node::Float(bytes) => push_kind(&mut out, b"f:", bytes.as_slice())?,
-        Node::Bytes(bytes) => push_bytes(&mut out, bytes.as_slice())?,
-        Node::OldText(bytes) => push_kind(&mut out, b"s:", bytes.as_slice())?,
-        Node::Text(text) => push_text(&mut out, text.as_slice())?,
+        Node::Number(number) => push_number(out, *number)?,
+        Node::Wide(bytes) => push_kind(out, b"n:", bytes.as_slice())?,
+        Node::Float(bytes) => push_kind(out, b"f:", bytes.as_slice())?,
+        Node::Bytes(bytes) => push_bytes(out, bytes.as_slice())?,
+        Node::OldText(bytes) => push_kind(out, b"s:", bytes.as_slice())?,
+        Node::Text(text) => push_text(out, text.as_slice())?,
         Node::Global { module, name } => {
-            push_global(&mut out, module.as_slice(), name.as_slice())?;
+            push_global(out, module.as_slice(), name.as_slice())?;
         }
-        _ => return Ok(None),
+        _ => return Ok(false),
     }
-    Ok(Some(Text8::from_vec(out)))
+    Ok(true)
 }
 
 /// Prints parts, one behind the other.
@@ -93,6 +94,69 @@ fn print_parts(
     Ok(printing)
 }
 
+/// Prints a reference: the short form of its id, if it has one, else its parts.
+#[cycle(printing)]
+fn print_reference(
+    alloc: Global,
+    printing: Printing,
+    nodes: &ListOf<Node>,
+    puts: &PutNumbers,
+    id: u32,
+    levels: u32,
+) -> Result<Printing, AllocError>
+    ensures { IfOk result (λ all. all ≡ behind_print printing (parts_print (print_of levels nodes.now puts.now) (reference_parts (id_short nodes.now (put_number id puts.now) (slice_get nodes.now id)) id) printing.stood)) }
+{
+    let Printing { text, stood } = printing;
+    let mut out = text.into_vec();
+    let short = push_short(&mut out, nodes, puts.number(id), id)?;
+    let text = Text8::from_vec(out);
+    let behind = Printing { text, stood };
+    if short {
+        return Ok(behind);
+    }
+    let parts = reference(alloc, id)?;
+    print_parts(alloc, behind, nodes, puts, parts.as_slice(), levels)
+}
+
+/// Prints a node with items, whether it is put or not.
+#[cycle(printing)]
+fn print_whole(
+    alloc: Global,
+    printing: Printing,
+    nodes: &ListOf<Node>,
+    puts: &PutNumbers,
+    found: &Node,
+    levels: u32,
+) -> Result<Printing, AllocError>
+    ensures { IfOk result (λ all. all ≡ behind_print printing (parts_print (print_of levels nodes.now puts.now) (literal_parts nodes.now puts.now found.now) printing.stood)) }
+{
+    match found {
+        Node::Tuple(items) => {
+            let parts = tuple(alloc, items.as_slice())?;
+            print_parts(alloc, printing, nodes, puts, parts.as_slice(), levels)
+        }
+        Node::List(items) => {
+            let parts = list(alloc, items.as_slice())?;
+            print_parts(alloc, printing, nodes, puts, parts.as_slice(), levels)
+        }
+        Node::Dict(pairs) => {
+            let parts = dict(alloc, pairs.as_slice())?;
+            print_parts(alloc, printing, nodes, puts, parts.as_slice(), levels)
+        }
+        Node::Reference(id) => print_reference(alloc, printing, nodes, puts, *id, levels),
+        Node::Object {
+            callee,
+            arguments,
+            by_new,
+            acts,
+        } => {
+            let parts = object(alloc, *callee, *arguments, *by_new, acts.as_slice())?;
+            print_parts(alloc, printing, nodes, puts, parts.as_slice(), levels)
+        }
+        _ => Ok(printing),
+    }
+}
+
 /// Prints the parts of a node, with a mark before them if it is put.
 #[cycle(printing)]
 fn print_first(
@@ -106,9 +170,8 @@ fn print_first(
 ) -> Result<Printing, AllocError>
     ensures { IfOk result (λ all. all ≡ behind_print printing (first_print (put_number node puts.now) node printing.stood (parts_print (print_of levels nodes.now puts.now) (literal_parts nodes.now puts.now found.now)))) }
 {
-    let parts = parts_of(alloc, nodes, puts, found)?;
     match puts.number(node) {
-        None => print_parts(alloc, printing, nodes, puts, parts.as_slice(), levels),
+        None => print_whole(alloc, printing, nodes, puts, found, levels),
         Some(number) => {
             let Printing { mut text, stood } = printing;
             text.push(b'&')?;
@@ -116,7 +179,7 @@ fn print_first(
             text.push(b'=')?;
             let stood = stood.with(node, number)?;
             let marked = Printing { text, stood };
-            print_parts(alloc, marked, nodes, puts, parts.as_slice(), levels)
+            print_whole(alloc, marked, nodes, puts, found, levels)
         }
     }
 }
@@ -163,14 +226,17 @@ fn print_node(
     }
     match nodes.get(node as usize) {
         None => Ok(printing),
-        Some(found) => match leaf_literal(alloc, found)? {
-            Some(literal) => {
-                let Printing { mut text, stood } = printing;
-                text.extend_from_slice(literal.as_slice())?;
-                Ok(Printing { text, stood })
+        Some(found) => {
+            let Printing { text, stood } = printing;
+            let mut out = text.into_vec();
+            let leaf = push_leaf(&mut out, found)?;
+            let text = Text8::from_vec(out);
+            let behind = Printing { text, stood };
+            if leaf {
+                return Ok(behind);
             }
-            None => print_marked(alloc, printing, nodes, puts, node, found, levels - 1),
-        },
+            print_marked(alloc, behind, nodes, puts, node, found, levels - 1)
+        }
     }
 }
 
@@ -197,4 +263,22 @@ pub fn write_literal(alloc: Global, pickle: &Pickle) -> Result<Text8, WriteError
     ensures text { Writes result (literal_of pickle.now.nodes pickle.now.root) }
 {
     node_literal(alloc, pickle, pickle.root())
+}
+
+/// A text with the literal of a graph behind it: that of its root.
+pub(crate) fn literal_behind(
+    alloc: Global,
+    text: Text8,
+    pickle: &Pickle,
+) -> Result<Text8, WriteError>
+    ensures { Writes result (behind_text text (literal_of pickle.now.nodes pickle.now.root)) }
+{
+    let puts = put_numbers(alloc, pickle, pickle.root())?;
+    let before = Printing {
+        text,
+        stood: NodeMap::new(alloc),
+    };
+    let root = pickle.root();
+    let printing = print_node(alloc, before, pickle.nodes(), &puts, root, WALK_LIMIT + 1)?;
+    Ok(printing.text)
 }

@@ -4,7 +4,7 @@ ghost use Rattle.std.specs.Prelude.{◌≡◌, IfOk};
 ghost use Rattle.pickle_writing.specs.Spelling.{Writes};
 ghost use Rattle.zb_literals.specs.Records.{record_literal_of, raw_literal_of};
 
-use crate::printing::write_literal;
+use crate::printing::{literal_behind, write_literal};
 use crate::texts::push_digits;
 use pickle_graph::Pickle;
 use pickle_writing::WriteError;
@@ -17,10 +17,8 @@ pub fn record_literal(alloc: Global, class: &Pickle, state: &Pickle) -> Result<T
     ensures { Writes result (record_literal_of class.now state.now) }
 {
     let mut text = write_literal(alloc, class)?;
-    let behind = write_literal(alloc, state)?;
     text.push(b' ')?;
-    text.extend_from_slice(behind.as_slice())?;
-    Ok(text)
+    literal_behind(alloc, text, state)
 }
 
 /// `raw`, a blank and two digits for each byte: bytes that are no record, or a record that is too deep.

@@ -72,6 +72,7 @@ fn push_characters(out: &mut Vec<u8>, text: &str) -> Result<(), AllocError>
 fn push_quoted(out: &mut Vec<u8>, text: &str) -> Result<(), AllocError>
     ensures { OnOk result (out.new.items ≡ out.old.items ++ quoted_text text.now) }
 {
+    out.reserve(text.len().saturating_add(2))?;
     out.push(b'"')?;
     push_characters(out, text)?;
     out.push(b'"')?;
@@ -82,6 +83,7 @@ fn push_quoted(out: &mut Vec<u8>, text: &str) -> Result<(), AllocError>
 pub(crate) fn push_digits(out: &mut Vec<u8>, bytes: &[u8]) -> Result<(), AllocError>
     ensures { OnOk result (out.new.items ≡ out.old.items ++ hex_text bytes.now) }
 {
+    out.reserve(bytes.len().saturating_mul(2))?;
     for byte in bytes {
         out.extend_from_slice(&hex_pair(*byte))?;
     }

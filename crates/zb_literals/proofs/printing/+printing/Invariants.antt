@@ -3,16 +3,22 @@ use Rattle.zb_literals.specs.Printing.{parts_print, print_of, behind_print}
 use Rattle.zb_literals.proofs.printing.+printing.Given as goal
 
 abbrev pub decreases-print_node : goal.decreases-print_node
-decreases-print_node l = 4 * l.levels
+decreases-print_node l = 6 * l.levels
 
 abbrev pub decreases-print_parts : goal.decreases-print_parts
-decreases-print_parts l = 4 * l.levels + 1
+decreases-print_parts l = 6 * l.levels + 1
+
+abbrev pub decreases-print_reference : goal.decreases-print_reference
+decreases-print_reference l = 6 * l.levels + 2
+
+abbrev pub decreases-print_whole : goal.decreases-print_whole
+decreases-print_whole l = 6 * l.levels + 3
 
 abbrev pub decreases-print_first : goal.decreases-print_first
-decreases-print_first l = 4 * l.levels + 2
+decreases-print_first l = 6 * l.levels + 4
 
 abbrev pub decreases-print_marked : goal.decreases-print_marked
-decreases-print_marked l = 4 * l.levels + 3
+decreases-print_marked l = 6 * l.levels + 5
 
 -- the parts that are left, behind what is printed, are all of them behind what was
 abbrev pub invariant-print_parts-loop-part : goal.invariant-print_parts-loop-part
