@@ -11,6 +11,10 @@ use object_cache::ObjectCache;
 use zb_ids::{Oid, Text8, Tid};
 use zb_model::Refusal;
 
+/// The most bytes that an object has which is cached. A read copies what it finds in the cache, so a large object would
+/// be there twice, and costs as much to copy as to load.
+const MOST_CACHED: usize = 1 << 20;
+
 /// Where a read sees from: the front, and how often the list had been packed.
 #[derive(Drop)]
 pub(crate) struct Sight {
@@ -78,7 +82,7 @@ fn load<L: Loads>(
     }
 }
 
-/// Caches what was loaded of an object, and answers it.
+/// Caches what was loaded of an object, unless that is large, and answers it.
 #[tactic(auto, using(crate::proofs::Answered::also_cached))]
 pub(crate) fn keep(
     cache: &mut ObjectCache,
@@ -92,6 +96,9 @@ pub(crate) fn keep(
         → CachesView u cache.old.objects → CachesView u cache.new.objects }
     ensures capacity { cache.new.capacity ≡ cache.old.capacity }
 {
+    if bytes.len() > MOST_CACHED {
+        return Ok((serial, bytes));
+    }
     let Ok(copy) = bytes.clone() else {
         return Err(Refusal::Memory);
     };
