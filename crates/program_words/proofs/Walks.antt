@@ -91,245 +91,168 @@ none_refused : IsRefused []
 unfolding clap_on_literals
 none_refused = record { kind = _; kinds = _; fault = refl }
 
-run_taken : IsTaken (codes "run" ∷ []) (codes "run") None None
+-- ---- the names, by how many words may stand behind them
+
+data Alone : Text → Type 0 where
+  run : Alone (codes "run")
+  undolog : Alone (codes "undolog")
+  index : Alone (codes "index")
+  play : Alone (codes "play")
+
+data Placed : Text → Type 0 where
+  history : Placed (codes "history")
+  show : Placed (codes "show")
+  digest : Placed (codes "digest")
+  pack : Placed (codes "pack")
+  check : Placed (codes "check")
+  gen : Placed (codes "gen")
+
+-- behind a name and some words, no word more is a fault, and each is that name's
+no_more : (name : Text) (words more : List Text) → walk_fault top names (behind name words) more ≡ []
+no_more name words more = no_fault_on top names (behind name words) (name, words) more refl
+
+all_more : (name : Text) (words more : List Text) → fold (walked top.rules names) (behind name words) more ≡ behind name (words ++ more)
+all_more name words more = walk_on top.rules names (behind name words) (name, words) more refl
+
+alone_taken : (name : Text) → Alone name → IsTaken (name ∷ []) name None None
 unfolding clap_on_literals
-run_taken = record { fault = refl; entered = refl }
+alone_taken name run = record { fault = refl; entered = refl }
+alone_taken name undolog = record { fault = refl; entered = refl }
+alone_taken name index = record { fault = refl; entered = refl }
+alone_taken name play = record { fault = refl; entered = refl }
 
-run_longer : (word : Text) (more : List Text) → Plain word → IsRefused (codes "run" ∷ word ∷ more)
+alone_longer : (name : Text) → Alone name → (word : Text) (more : List Text) → Plain word → IsRefused (name ∷ word ∷ more)
 unfolding clap_on_literals
-run_longer word more h =
-    let d = no_dashes word h in let l = no_long word h in let s = no_short word h in
-    let w : Walk = behind (codes "run") (word ∷ []) in
-    let f = no_fault_on top names w (codes "run", word ∷ []) more refl in
-    let o = walk_on top.rules names w (codes "run", word ∷ []) more refl in
-    record { kind = kinds.UnknownArgument; kinds = []; fault = rw (f, o, d, l, s) refl }
+alone_longer name run word more h = record { kind = kinds.UnknownArgument; kinds = []; fault = rw (no_more name (word ∷ []) more, all_more name (word ∷ []) more, no_dashes word h, no_long word h, no_short word h) refl }
+alone_longer name undolog word more h = record { kind = kinds.UnknownArgument; kinds = []; fault = rw (no_more name (word ∷ []) more, all_more name (word ∷ []) more, no_dashes word h, no_long word h, no_short word h) refl }
+alone_longer name index word more h = record { kind = kinds.UnknownArgument; kinds = []; fault = rw (no_more name (word ∷ []) more, all_more name (word ∷ []) more, no_dashes word h, no_long word h, no_short word h) refl }
+alone_longer name play word more h = record { kind = kinds.UnknownArgument; kinds = []; fault = rw (no_more name (word ∷ []) more, all_more name (word ∷ []) more, no_dashes word h, no_long word h, no_short word h) refl }
 
-run_reads : (rest : List Text) → AllByRecursion Plain rest → Reads (codes "run" ∷ rest)
-run_reads [] h = taken (codes "run") None None run_taken refl
-run_reads (word ∷ []) h = refused (run_longer word [] h.0) refl
-run_reads (word ∷ other ∷ []) h = refused (run_longer word (other ∷ []) h.0) refl
-run_reads (word ∷ other ∷ third ∷ more) h = refused (run_longer word (other ∷ third ∷ more) h.0) refl
+alone_named : (name : Text) → Alone name → named_of (name ∷ []) ≡ Some (name, None, None)
+alone_named name run = refl
+alone_named name undolog = refl
+alone_named name index = refl
+alone_named name play = refl
 
-undolog_taken : IsTaken (codes "undolog" ∷ []) (codes "undolog") None None
+alone_unnamed : (name : Text) → Alone name → (word : Text) (more : List Text) → named_of (name ∷ word ∷ more) ≡ None
+alone_unnamed name run word [] = refl
+alone_unnamed name run word (other ∷ []) = refl
+alone_unnamed name run word (other ∷ third ∷ more) = refl
+alone_unnamed name undolog word [] = refl
+alone_unnamed name undolog word (other ∷ []) = refl
+alone_unnamed name undolog word (other ∷ third ∷ more) = refl
+alone_unnamed name index word [] = refl
+alone_unnamed name index word (other ∷ []) = refl
+alone_unnamed name index word (other ∷ third ∷ more) = refl
+alone_unnamed name play word [] = refl
+alone_unnamed name play word (other ∷ []) = refl
+alone_unnamed name play word (other ∷ third ∷ more) = refl
+
+alone_reads : (name : Text) → Alone name → (rest : List Text) → AllByRecursion Plain rest → Reads (name ∷ rest)
+alone_reads name is [] h = taken name None None (alone_taken name is) (alone_named name is)
+alone_reads name is (word ∷ more) h = refused (alone_longer name is word more h.0) (alone_unnamed name is word more)
+
+placed_short : (name : Text) → Placed name → IsRefused (name ∷ [])
 unfolding clap_on_literals
-undolog_taken = record { fault = refl; entered = refl }
+placed_short name history = record { kind = _; kinds = _; fault = refl }
+placed_short name show = record { kind = _; kinds = _; fault = refl }
+placed_short name digest = record { kind = _; kinds = _; fault = refl }
+placed_short name pack = record { kind = _; kinds = _; fault = refl }
+placed_short name check = record { kind = _; kinds = _; fault = refl }
+placed_short name gen = record { kind = _; kinds = _; fault = refl }
 
-undolog_longer : (word : Text) (more : List Text) → Plain word → IsRefused (codes "undolog" ∷ word ∷ more)
+placed_taken : (name : Text) → Placed name → (word : Text) → Plain word → IsTaken (name ∷ word ∷ []) name (Some word) None
 unfolding clap_on_literals
-undolog_longer word more h =
-    let d = no_dashes word h in let l = no_long word h in let s = no_short word h in
-    let w : Walk = behind (codes "undolog") (word ∷ []) in
-    let f = no_fault_on top names w (codes "undolog", word ∷ []) more refl in
-    let o = walk_on top.rules names w (codes "undolog", word ∷ []) more refl in
-    record { kind = kinds.UnknownArgument; kinds = []; fault = rw (f, o, d, l, s) refl }
+placed_taken name history word h = let d = no_dashes word h in let l = no_long word h in let s = no_short word h in record { fault = rw (d, l, s) refl; entered = rw (d, l, s) refl }
+placed_taken name show word h = let d = no_dashes word h in let l = no_long word h in let s = no_short word h in record { fault = rw (d, l, s) refl; entered = rw (d, l, s) refl }
+placed_taken name digest word h = let d = no_dashes word h in let l = no_long word h in let s = no_short word h in record { fault = rw (d, l, s) refl; entered = rw (d, l, s) refl }
+placed_taken name pack word h = let d = no_dashes word h in let l = no_long word h in let s = no_short word h in record { fault = rw (d, l, s) refl; entered = rw (d, l, s) refl }
+placed_taken name check word h = let d = no_dashes word h in let l = no_long word h in let s = no_short word h in record { fault = rw (d, l, s) refl; entered = rw (d, l, s) refl }
+placed_taken name gen word h = let d = no_dashes word h in let l = no_long word h in let s = no_short word h in record { fault = rw (d, l, s) refl; entered = rw (d, l, s) refl }
 
-undolog_reads : (rest : List Text) → AllByRecursion Plain rest → Reads (codes "undolog" ∷ rest)
-undolog_reads [] h = taken (codes "undolog") None None undolog_taken refl
-undolog_reads (word ∷ []) h = refused (undolog_longer word [] h.0) refl
-undolog_reads (word ∷ other ∷ []) h = refused (undolog_longer word (other ∷ []) h.0) refl
-undolog_reads (word ∷ other ∷ third ∷ more) h = refused (undolog_longer word (other ∷ third ∷ more) h.0) refl
+placed_unnamed : (name : Text) → Placed name → named_of (name ∷ []) ≡ None
+placed_unnamed name history = refl
+placed_unnamed name show = refl
+placed_unnamed name digest = refl
+placed_unnamed name pack = refl
+placed_unnamed name check = refl
+placed_unnamed name gen = refl
 
-index_taken : IsTaken (codes "index" ∷ []) (codes "index") None None
+placed_named : (name : Text) → Placed name → (word : Text) → named_of (name ∷ word ∷ []) ≡ Some (name, Some word, None)
+placed_named name history word = refl
+placed_named name show word = refl
+placed_named name digest word = refl
+placed_named name pack word = refl
+placed_named name check word = refl
+placed_named name gen word = refl
+
+-- with a second word: `pack` and `serve` take it
+longer : (name : Text) → Placed name → bytes_eq (codes "pack") name ≡ false → (word other : Text) (more : List Text) → Plain word → Plain other → IsRefused (name ∷ word ∷ other ∷ more)
 unfolding clap_on_literals
-index_taken = record { fault = refl; entered = refl }
+longer name history one word other more h k =
+    let d = no_dashes word h in let l = no_long word h in let s = no_short word h in let d' = no_dashes other k in let l' = no_long other k in let s' = no_short other k in
+    record { kind = kinds.UnknownArgument; kinds = []; fault = rw (no_more name (word ∷ other ∷ []) more, all_more name (word ∷ other ∷ []) more, d, l, s, d', l', s') refl }
+longer name show one word other more h k =
+    let d = no_dashes word h in let l = no_long word h in let s = no_short word h in let d' = no_dashes other k in let l' = no_long other k in let s' = no_short other k in
+    record { kind = kinds.UnknownArgument; kinds = []; fault = rw (no_more name (word ∷ other ∷ []) more, all_more name (word ∷ other ∷ []) more, d, l, s, d', l', s') refl }
+longer name digest one word other more h k =
+    let d = no_dashes word h in let l = no_long word h in let s = no_short word h in let d' = no_dashes other k in let l' = no_long other k in let s' = no_short other k in
+    record { kind = kinds.UnknownArgument; kinds = []; fault = rw (no_more name (word ∷ other ∷ []) more, all_more name (word ∷ other ∷ []) more, d, l, s, d', l', s') refl }
+longer name pack one word other more h k = absurd cc
+longer name check one word other more h k =
+    let d = no_dashes word h in let l = no_long word h in let s = no_short word h in let d' = no_dashes other k in let l' = no_long other k in let s' = no_short other k in
+    record { kind = kinds.UnknownArgument; kinds = []; fault = rw (no_more name (word ∷ other ∷ []) more, all_more name (word ∷ other ∷ []) more, d, l, s, d', l', s') refl }
+longer name gen one word other more h k =
+    let d = no_dashes word h in let l = no_long word h in let s = no_short word h in let d' = no_dashes other k in let l' = no_long other k in let s' = no_short other k in
+    record { kind = kinds.UnknownArgument; kinds = []; fault = rw (no_more name (word ∷ other ∷ []) more, all_more name (word ∷ other ∷ []) more, d, l, s, d', l', s') refl }
 
-index_longer : (word : Text) (more : List Text) → Plain word → IsRefused (codes "index" ∷ word ∷ more)
+longer_unnamed : (name : Text) → Placed name → bytes_eq (codes "pack") name ≡ false → (word other : Text) (more : List Text) → named_of (name ∷ word ∷ other ∷ more) ≡ None
+longer_unnamed name history one word other [] = refl
+longer_unnamed name history one word other (third ∷ more) = refl
+longer_unnamed name show one word other [] = refl
+longer_unnamed name show one word other (third ∷ more) = refl
+longer_unnamed name digest one word other [] = refl
+longer_unnamed name digest one word other (third ∷ more) = refl
+longer_unnamed name pack one word other more = absurd cc
+longer_unnamed name check one word other [] = refl
+longer_unnamed name check one word other (third ∷ more) = refl
+longer_unnamed name gen one word other [] = refl
+longer_unnamed name gen one word other (third ∷ more) = refl
+
+placed_reads : (name : Text) → Placed name → bytes_eq (codes "pack") name ≡ false → (rest : List Text) → AllByRecursion Plain rest → Reads (name ∷ rest)
+placed_reads name is one [] h = refused (placed_short name is) (placed_unnamed name is)
+placed_reads name is one (word ∷ []) h = taken name (Some word) None (placed_taken name is word h.0) (placed_named name is word)
+placed_reads name is one (word ∷ other ∷ more) h = refused (longer name is one word other more h.0 h.1.0) (longer_unnamed name is one word other more)
+
+data Paired : Text → Type 0 where
+  packs : Paired (codes "pack")
+  serves : Paired (codes "serve")
+
+paired_taken : (name : Text) → Paired name → (word other : Text) → Plain word → Plain other → IsTaken (name ∷ word ∷ other ∷ []) name (Some word) (Some other)
 unfolding clap_on_literals
-index_longer word more h =
-    let d = no_dashes word h in let l = no_long word h in let s = no_short word h in
-    let w : Walk = behind (codes "index") (word ∷ []) in
-    let f = no_fault_on top names w (codes "index", word ∷ []) more refl in
-    let o = walk_on top.rules names w (codes "index", word ∷ []) more refl in
-    record { kind = kinds.UnknownArgument; kinds = []; fault = rw (f, o, d, l, s) refl }
-
-index_reads : (rest : List Text) → AllByRecursion Plain rest → Reads (codes "index" ∷ rest)
-index_reads [] h = taken (codes "index") None None index_taken refl
-index_reads (word ∷ []) h = refused (index_longer word [] h.0) refl
-index_reads (word ∷ other ∷ []) h = refused (index_longer word (other ∷ []) h.0) refl
-index_reads (word ∷ other ∷ third ∷ more) h = refused (index_longer word (other ∷ third ∷ more) h.0) refl
-
-play_taken : IsTaken (codes "play" ∷ []) (codes "play") None None
-unfolding clap_on_literals
-play_taken = record { fault = refl; entered = refl }
-
-play_longer : (word : Text) (more : List Text) → Plain word → IsRefused (codes "play" ∷ word ∷ more)
-unfolding clap_on_literals
-play_longer word more h =
-    let d = no_dashes word h in let l = no_long word h in let s = no_short word h in
-    let w : Walk = behind (codes "play") (word ∷ []) in
-    let f = no_fault_on top names w (codes "play", word ∷ []) more refl in
-    let o = walk_on top.rules names w (codes "play", word ∷ []) more refl in
-    record { kind = kinds.UnknownArgument; kinds = []; fault = rw (f, o, d, l, s) refl }
-
-play_reads : (rest : List Text) → AllByRecursion Plain rest → Reads (codes "play" ∷ rest)
-play_reads [] h = taken (codes "play") None None play_taken refl
-play_reads (word ∷ []) h = refused (play_longer word [] h.0) refl
-play_reads (word ∷ other ∷ []) h = refused (play_longer word (other ∷ []) h.0) refl
-play_reads (word ∷ other ∷ third ∷ more) h = refused (play_longer word (other ∷ third ∷ more) h.0) refl
-
-history_short : IsRefused (codes "history" ∷ [])
-unfolding clap_on_literals
-history_short = record { kind = _; kinds = _; fault = refl }
-
-history_taken : (word : Text) → Plain word → IsTaken (codes "history" ∷ word ∷ []) (codes "history") (Some word) None
-unfolding clap_on_literals
-history_taken word h =
-    let d = no_dashes word h in let l = no_long word h in let s = no_short word h in
-    record { fault = rw (d, l, s) refl; entered = rw (d, l, s) refl }
-
-history_longer : (word other : Text) (more : List Text) → Plain word → Plain other → IsRefused (codes "history" ∷ word ∷ other ∷ more)
-unfolding clap_on_literals
-history_longer word other more h k =
-    let d = no_dashes word h in let l = no_long word h in let s = no_short word h in
-    let d' = no_dashes other k in let l' = no_long other k in let s' = no_short other k in
-    let w : Walk = behind (codes "history") (word ∷ other ∷ []) in
-    let f = no_fault_on top names w (codes "history", word ∷ other ∷ []) more refl in
-    let o = walk_on top.rules names w (codes "history", word ∷ other ∷ []) more refl in
-    record { kind = kinds.UnknownArgument; kinds = []; fault = rw (f, o, d, l, s, d', l', s') refl }
-
-history_reads : (rest : List Text) → AllByRecursion Plain rest → Reads (codes "history" ∷ rest)
-history_reads [] h = refused history_short refl
-history_reads (word ∷ []) h = taken (codes "history") (Some word) None (history_taken word h.0) refl
-history_reads (word ∷ other ∷ []) h = refused (history_longer word other [] h.0 h.1.0) refl
-history_reads (word ∷ other ∷ third ∷ more) h = refused (history_longer word other (third ∷ more) h.0 h.1.0) refl
-
-show_short : IsRefused (codes "show" ∷ [])
-unfolding clap_on_literals
-show_short = record { kind = _; kinds = _; fault = refl }
-
-show_taken : (word : Text) → Plain word → IsTaken (codes "show" ∷ word ∷ []) (codes "show") (Some word) None
-unfolding clap_on_literals
-show_taken word h =
-    let d = no_dashes word h in let l = no_long word h in let s = no_short word h in
-    record { fault = rw (d, l, s) refl; entered = rw (d, l, s) refl }
-
-show_longer : (word other : Text) (more : List Text) → Plain word → Plain other → IsRefused (codes "show" ∷ word ∷ other ∷ more)
-unfolding clap_on_literals
-show_longer word other more h k =
-    let d = no_dashes word h in let l = no_long word h in let s = no_short word h in
-    let d' = no_dashes other k in let l' = no_long other k in let s' = no_short other k in
-    let w : Walk = behind (codes "show") (word ∷ other ∷ []) in
-    let f = no_fault_on top names w (codes "show", word ∷ other ∷ []) more refl in
-    let o = walk_on top.rules names w (codes "show", word ∷ other ∷ []) more refl in
-    record { kind = kinds.UnknownArgument; kinds = []; fault = rw (f, o, d, l, s, d', l', s') refl }
-
-show_reads : (rest : List Text) → AllByRecursion Plain rest → Reads (codes "show" ∷ rest)
-show_reads [] h = refused show_short refl
-show_reads (word ∷ []) h = taken (codes "show") (Some word) None (show_taken word h.0) refl
-show_reads (word ∷ other ∷ []) h = refused (show_longer word other [] h.0 h.1.0) refl
-show_reads (word ∷ other ∷ third ∷ more) h = refused (show_longer word other (third ∷ more) h.0 h.1.0) refl
-
-digest_short : IsRefused (codes "digest" ∷ [])
-unfolding clap_on_literals
-digest_short = record { kind = _; kinds = _; fault = refl }
-
-digest_taken : (word : Text) → Plain word → IsTaken (codes "digest" ∷ word ∷ []) (codes "digest") (Some word) None
-unfolding clap_on_literals
-digest_taken word h =
-    let d = no_dashes word h in let l = no_long word h in let s = no_short word h in
-    record { fault = rw (d, l, s) refl; entered = rw (d, l, s) refl }
-
-digest_longer : (word other : Text) (more : List Text) → Plain word → Plain other → IsRefused (codes "digest" ∷ word ∷ other ∷ more)
-unfolding clap_on_literals
-digest_longer word other more h k =
-    let d = no_dashes word h in let l = no_long word h in let s = no_short word h in
-    let d' = no_dashes other k in let l' = no_long other k in let s' = no_short other k in
-    let w : Walk = behind (codes "digest") (word ∷ other ∷ []) in
-    let f = no_fault_on top names w (codes "digest", word ∷ other ∷ []) more refl in
-    let o = walk_on top.rules names w (codes "digest", word ∷ other ∷ []) more refl in
-    record { kind = kinds.UnknownArgument; kinds = []; fault = rw (f, o, d, l, s, d', l', s') refl }
-
-digest_reads : (rest : List Text) → AllByRecursion Plain rest → Reads (codes "digest" ∷ rest)
-digest_reads [] h = refused digest_short refl
-digest_reads (word ∷ []) h = taken (codes "digest") (Some word) None (digest_taken word h.0) refl
-digest_reads (word ∷ other ∷ []) h = refused (digest_longer word other [] h.0 h.1.0) refl
-digest_reads (word ∷ other ∷ third ∷ more) h = refused (digest_longer word other (third ∷ more) h.0 h.1.0) refl
-
-pack_short : IsRefused (codes "pack" ∷ [])
-unfolding clap_on_literals
-pack_short = record { kind = _; kinds = _; fault = refl }
-
-pack_taken : (word : Text) → Plain word → IsTaken (codes "pack" ∷ word ∷ []) (codes "pack") (Some word) None
-unfolding clap_on_literals
-pack_taken word h =
-    let d = no_dashes word h in let l = no_long word h in let s = no_short word h in
-    record { fault = rw (d, l, s) refl; entered = rw (d, l, s) refl }
-
-pack_twice : (word other : Text) → Plain word → Plain other → IsTaken (codes "pack" ∷ word ∷ other ∷ []) (codes "pack") (Some word) (Some other)
-unfolding clap_on_literals
-pack_twice word other h k =
-    let d = no_dashes word h in let l = no_long word h in let s = no_short word h in
-    let d' = no_dashes other k in let l' = no_long other k in let s' = no_short other k in
+paired_taken name packs word other h k =
+    let d = no_dashes word h in let l = no_long word h in let s = no_short word h in let d' = no_dashes other k in let l' = no_long other k in let s' = no_short other k in
+    record { fault = rw (d, l, s, d', l', s') refl; entered = rw (d, l, s, d', l', s') refl }
+paired_taken name serves word other h k =
+    let d = no_dashes word h in let l = no_long word h in let s = no_short word h in let d' = no_dashes other k in let l' = no_long other k in let s' = no_short other k in
     record { fault = rw (d, l, s, d', l', s') refl; entered = rw (d, l, s, d', l', s') refl }
 
-pack_longer : (word other third : Text) (more : List Text) → Plain word → Plain other → Plain third → IsRefused (codes "pack" ∷ word ∷ other ∷ third ∷ more)
+paired_longer : (name : Text) → Paired name → (word other third : Text) (more : List Text) → Plain word → Plain other → Plain third → IsRefused (name ∷ word ∷ other ∷ third ∷ more)
 unfolding clap_on_literals
-pack_longer word other third more h k j =
-    let d = no_dashes word h in let l = no_long word h in let s = no_short word h in
-    let d' = no_dashes other k in let l' = no_long other k in let s' = no_short other k in
+paired_longer name packs word other third more h k j =
+    let d = no_dashes word h in let l = no_long word h in let s = no_short word h in let d' = no_dashes other k in let l' = no_long other k in let s' = no_short other k in
     let d'' = no_dashes third j in let l'' = no_long third j in let s'' = no_short third j in
-    let w : Walk = behind (codes "pack") (word ∷ other ∷ third ∷ []) in
-    let f = no_fault_on top names w (codes "pack", word ∷ other ∷ third ∷ []) more refl in
-    let o = walk_on top.rules names w (codes "pack", word ∷ other ∷ third ∷ []) more refl in
-    record { kind = kinds.UnknownArgument; kinds = []; fault = rw (f, o, d, l, s, d', l', s', d'', l'', s'') refl }
+    record { kind = kinds.UnknownArgument; kinds = []; fault = rw (no_more name (word ∷ other ∷ third ∷ []) more, all_more name (word ∷ other ∷ third ∷ []) more, d, l, s, d', l', s', d'', l'', s'') refl }
+paired_longer name serves word other third more h k j =
+    let d = no_dashes word h in let l = no_long word h in let s = no_short word h in let d' = no_dashes other k in let l' = no_long other k in let s' = no_short other k in
+    let d'' = no_dashes third j in let l'' = no_long third j in let s'' = no_short third j in
+    record { kind = kinds.UnknownArgument; kinds = []; fault = rw (no_more name (word ∷ other ∷ third ∷ []) more, all_more name (word ∷ other ∷ third ∷ []) more, d, l, s, d', l', s', d'', l'', s'') refl }
 
 pack_reads : (rest : List Text) → AllByRecursion Plain rest → Reads (codes "pack" ∷ rest)
-pack_reads [] h = refused pack_short refl
-pack_reads (word ∷ []) h = taken (codes "pack") (Some word) None (pack_taken word h.0) refl
-pack_reads (word ∷ other ∷ []) h = taken (codes "pack") (Some word) (Some other) (pack_twice word other h.0 h.1.0) refl
-pack_reads (word ∷ other ∷ third ∷ more) h = refused (pack_longer word other third more h.0 h.1.0 h.1.1.0) refl
-
-check_short : IsRefused (codes "check" ∷ [])
-unfolding clap_on_literals
-check_short = record { kind = _; kinds = _; fault = refl }
-
-check_taken : (word : Text) → Plain word → IsTaken (codes "check" ∷ word ∷ []) (codes "check") (Some word) None
-unfolding clap_on_literals
-check_taken word h =
-    let d = no_dashes word h in let l = no_long word h in let s = no_short word h in
-    record { fault = rw (d, l, s) refl; entered = rw (d, l, s) refl }
-
-check_longer : (word other : Text) (more : List Text) → Plain word → Plain other → IsRefused (codes "check" ∷ word ∷ other ∷ more)
-unfolding clap_on_literals
-check_longer word other more h k =
-    let d = no_dashes word h in let l = no_long word h in let s = no_short word h in
-    let d' = no_dashes other k in let l' = no_long other k in let s' = no_short other k in
-    let w : Walk = behind (codes "check") (word ∷ other ∷ []) in
-    let f = no_fault_on top names w (codes "check", word ∷ other ∷ []) more refl in
-    let o = walk_on top.rules names w (codes "check", word ∷ other ∷ []) more refl in
-    record { kind = kinds.UnknownArgument; kinds = []; fault = rw (f, o, d, l, s, d', l', s') refl }
-
-check_reads : (rest : List Text) → AllByRecursion Plain rest → Reads (codes "check" ∷ rest)
-check_reads [] h = refused check_short refl
-check_reads (word ∷ []) h = taken (codes "check") (Some word) None (check_taken word h.0) refl
-check_reads (word ∷ other ∷ []) h = refused (check_longer word other [] h.0 h.1.0) refl
-check_reads (word ∷ other ∷ third ∷ more) h = refused (check_longer word other (third ∷ more) h.0 h.1.0) refl
-
-gen_short : IsRefused (codes "gen" ∷ [])
-unfolding clap_on_literals
-gen_short = record { kind = _; kinds = _; fault = refl }
-
-gen_taken : (word : Text) → Plain word → IsTaken (codes "gen" ∷ word ∷ []) (codes "gen") (Some word) None
-unfolding clap_on_literals
-gen_taken word h =
-    let d = no_dashes word h in let l = no_long word h in let s = no_short word h in
-    record { fault = rw (d, l, s) refl; entered = rw (d, l, s) refl }
-
-gen_longer : (word other : Text) (more : List Text) → Plain word → Plain other → IsRefused (codes "gen" ∷ word ∷ other ∷ more)
-unfolding clap_on_literals
-gen_longer word other more h k =
-    let d = no_dashes word h in let l = no_long word h in let s = no_short word h in
-    let d' = no_dashes other k in let l' = no_long other k in let s' = no_short other k in
-    let w : Walk = behind (codes "gen") (word ∷ other ∷ []) in
-    let f = no_fault_on top names w (codes "gen", word ∷ other ∷ []) more refl in
-    let o = walk_on top.rules names w (codes "gen", word ∷ other ∷ []) more refl in
-    record { kind = kinds.UnknownArgument; kinds = []; fault = rw (f, o, d, l, s, d', l', s') refl }
-
-gen_reads : (rest : List Text) → AllByRecursion Plain rest → Reads (codes "gen" ∷ rest)
-gen_reads [] h = refused gen_short refl
-gen_reads (word ∷ []) h = taken (codes "gen") (Some word) None (gen_taken word h.0) refl
-gen_reads (word ∷ other ∷ []) h = refused (gen_longer word other [] h.0 h.1.0) refl
-gen_reads (word ∷ other ∷ third ∷ more) h = refused (gen_longer word other (third ∷ more) h.0 h.1.0) refl
+pack_reads [] h = refused (placed_short _ pack) refl
+pack_reads (word ∷ []) h = taken (codes "pack") (Some word) None (placed_taken _ pack word h.0) refl
+pack_reads (word ∷ other ∷ []) h = taken (codes "pack") (Some word) (Some other) (paired_taken _ packs word other h.0 h.1.0) refl
+pack_reads (word ∷ other ∷ third ∷ more) h = refused (paired_longer _ packs word other third more h.0 h.1.0 h.1.1.0) refl
 
 serve_short : IsRefused (codes "serve" ∷ [])
 unfolding clap_on_literals
@@ -337,33 +260,13 @@ serve_short = record { kind = _; kinds = _; fault = refl }
 
 serve_once : (word : Text) → Plain word → IsRefused (codes "serve" ∷ word ∷ [])
 unfolding clap_on_literals
-serve_once word h =
-    let d = no_dashes word h in let l = no_long word h in let s = no_short word h in
-    record { kind = kinds.MissingRequiredArgument; kinds = []; fault = rw (d, l, s) refl }
-
-serve_taken : (word other : Text) → Plain word → Plain other → IsTaken (codes "serve" ∷ word ∷ other ∷ []) (codes "serve") (Some word) (Some other)
-unfolding clap_on_literals
-serve_taken word other h k =
-    let d = no_dashes word h in let l = no_long word h in let s = no_short word h in
-    let d' = no_dashes other k in let l' = no_long other k in let s' = no_short other k in
-    record { fault = rw (d, l, s, d', l', s') refl; entered = rw (d, l, s, d', l', s') refl }
-
-serve_longer : (word other third : Text) (more : List Text) → Plain word → Plain other → Plain third → IsRefused (codes "serve" ∷ word ∷ other ∷ third ∷ more)
-unfolding clap_on_literals
-serve_longer word other third more h k j =
-    let d = no_dashes word h in let l = no_long word h in let s = no_short word h in
-    let d' = no_dashes other k in let l' = no_long other k in let s' = no_short other k in
-    let d'' = no_dashes third j in let l'' = no_long third j in let s'' = no_short third j in
-    let w : Walk = behind (codes "serve") (word ∷ other ∷ third ∷ []) in
-    let f = no_fault_on top names w (codes "serve", word ∷ other ∷ third ∷ []) more refl in
-    let o = walk_on top.rules names w (codes "serve", word ∷ other ∷ third ∷ []) more refl in
-    record { kind = kinds.UnknownArgument; kinds = []; fault = rw (f, o, d, l, s, d', l', s', d'', l'', s'') refl }
+serve_once word h = let d = no_dashes word h in let l = no_long word h in let s = no_short word h in record { kind = kinds.MissingRequiredArgument; kinds = []; fault = rw (d, l, s) refl }
 
 serve_reads : (rest : List Text) → AllByRecursion Plain rest → Reads (codes "serve" ∷ rest)
 serve_reads [] h = refused serve_short refl
 serve_reads (word ∷ []) h = refused (serve_once word h.0) refl
-serve_reads (word ∷ other ∷ []) h = taken (codes "serve") (Some word) (Some other) (serve_taken word other h.0 h.1.0) refl
-serve_reads (word ∷ other ∷ third ∷ more) h = refused (serve_longer word other third more h.0 h.1.0 h.1.1.0) refl
+serve_reads (word ∷ other ∷ []) h = taken (codes "serve") (Some word) (Some other) (paired_taken _ serves word other h.0 h.1.0) refl
+serve_reads (word ∷ other ∷ third ∷ more) h = refused (paired_longer _ serves word other third more h.0 h.1.0 h.1.1.0) refl
 
 -- a word that is none of the names
 module _ (word : Text) (h : Plain word) (not_run : bytes_eq (codes "run") word ≡ false) (not_undolog : bytes_eq (codes "undolog") word ≡ false) (not_index : bytes_eq (codes "index") word ≡ false) (not_play : bytes_eq (codes "play") word ≡ false) (not_history : bytes_eq (codes "history") word ≡ false)
@@ -392,15 +295,15 @@ by_name name word rest is other = by_test (bytes_eq name word) refl
 pub reads : (words : List Text) → AllByRecursion Plain words → Reads words
 reads [] h = refused none_refused refl
 reads (word ∷ rest) h =
-    by_name (codes "run") word rest (run_reads rest h.1) (λ not_run.
-    by_name (codes "undolog") word rest (undolog_reads rest h.1) (λ not_undolog.
-    by_name (codes "index") word rest (index_reads rest h.1) (λ not_index.
-    by_name (codes "play") word rest (play_reads rest h.1) (λ not_play.
-    by_name (codes "history") word rest (history_reads rest h.1) (λ not_history.
-    by_name (codes "show") word rest (show_reads rest h.1) (λ not_show.
-    by_name (codes "digest") word rest (digest_reads rest h.1) (λ not_digest.
+    by_name (codes "run") word rest (alone_reads (codes "run") run rest h.1) (λ not_run.
+    by_name (codes "undolog") word rest (alone_reads (codes "undolog") undolog rest h.1) (λ not_undolog.
+    by_name (codes "index") word rest (alone_reads (codes "index") index rest h.1) (λ not_index.
+    by_name (codes "play") word rest (alone_reads (codes "play") play rest h.1) (λ not_play.
+    by_name (codes "history") word rest (placed_reads (codes "history") history refl rest h.1) (λ not_history.
+    by_name (codes "show") word rest (placed_reads (codes "show") show refl rest h.1) (λ not_show.
+    by_name (codes "digest") word rest (placed_reads (codes "digest") digest refl rest h.1) (λ not_digest.
     by_name (codes "pack") word rest (pack_reads rest h.1) (λ not_pack.
-    by_name (codes "check") word rest (check_reads rest h.1) (λ not_check.
+    by_name (codes "check") word rest (placed_reads (codes "check") check refl rest h.1) (λ not_check.
     by_name (codes "serve") word rest (serve_reads rest h.1) (λ not_serve.
-    by_name (codes "gen") word rest (gen_reads rest h.1) (λ not_gen.
+    by_name (codes "gen") word rest (placed_reads (codes "gen") gen refl rest h.1) (λ not_gen.
     unknown_reads word h.0 not_run not_undolog not_index not_play not_history not_show not_digest not_pack not_check not_serve not_gen rest)))))))))))
