@@ -1,4 +1,5 @@
 pub mod Reading
+pub mod Windows
 pub mod Heads
 pub mod Records
 pub mod Opens

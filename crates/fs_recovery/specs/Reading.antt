@@ -2,18 +2,12 @@
 use Rattle.std.specs.Prelude.{◌≡◌, ◌⊎◌, ℕ, ◌+◌, ◌≤◌, List, take, drop, Result, Ok, Err}
 use Rattle.zb_volume.specs.States.{VolumeState, FaultsStand}
 use Rattle.zb_base.specs.Counts.{Rose}
-use Rattle.fs_recovery.specs.declared.window.Ahead.{Ahead}
 use Rattle.fs_recovery.specs.declared.errors.OpenError.{OpenError}
 use Rattle.fs_recovery.specs.declared.errors.OpenError.TheVariants.{StoreFault, BadRecord, NotFileStorage, Memory}
 
 -- the first `count` bytes that are held are those of the text from a place on
 abbrev pub Holds : ℕ → ℕ → List ℕ → List ℕ → Type 0
 Holds at count held text = take count held ≡ take count (drop at text)
-
--- a window on a text: what it holds, and the short piece that was read ahead, are of the text
-pub record Shows (at count : ℕ) (held : List ℕ) (ahead : Ahead) (text : List ℕ) : Type 0 where
-  pub near : Holds at count held text
-  pub far : Holds ahead.at ahead.count ahead.held text
 
 -- the n bytes from a place on are among those that are held
 pub record Covers (at count from n : ℕ) : Type 0 where

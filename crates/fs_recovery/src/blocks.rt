@@ -3,14 +3,14 @@
 ghost use Rattle.std.specs.Prelude.{◌≡◌, ◌-◌, ◌≤◌, ℕ, List, length, drop, IfOk};
 ghost use Rattle.fs_records.specs.Headers.{header_of};
 ghost use Rattle.fs_records.specs.Rules.{verdict};
-ghost use Rattle.fs_recovery.specs.Reading.{Shows};
+ghost use Rattle.fs_recovery.specs.Windows.{Shows};
 ghost use Rattle.fs_recovery.specs.Heads.{Decides, IsFit, IsOpen, Judges, closed};
 ghost use Rattle.zb_volume.specs.Disk.{main_bytes};
 ghost use Rattle.zb_volume.specs.States.{OnlyReads};
 
 use crate::head::Head;
+use crate::held::Window;
 use crate::pieces::{header_at, number_behind};
-use crate::window::Window;
 use fs_records::{COMMITTED, Field, HEADER_LENGTH, Header, PACKED, VOTED};
 use zb_ids::Tid;
 use zb_volume::{StoreFault, Volume};
@@ -65,15 +65,11 @@ pub fn judge<V: Volume, const N: usize>(
     requires small { 42 ≤ N }
     requires order { p ≤ window.old.length }
     requires length { V.told → window.old.length ≡ length (main_bytes (V.state volume.old).log) }
-    requires shows { V.told →
-        Shows window.old.at window.old.count window.old.held window.old.ahead
-        (main_bytes (V.state volume.old).log) }
+    requires shows { V.told → Shows window.old (main_bytes (V.state volume.old).log) }
     ensures value { V.told → IfOk result (λ x.
         Judges x newest (drop p (main_bytes (V.state volume.old).log))) }
     ensures fit { IfOk result (λ x. IsFit x newest (window.old.length - p)) }
-    ensures shows { V.told →
-        Shows window.new.at window.new.count window.new.held window.new.ahead
-        (main_bytes (V.state volume.old).log) }
+    ensures shows { V.told → Shows window.new (main_bytes (V.state volume.old).log) }
     ensures length { window.new.length ≡ window.old.length }
     ensures read { OnlyReads (V.state volume.old) (V.state volume.new) result }
 {

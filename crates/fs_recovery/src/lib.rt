@@ -6,6 +6,7 @@ mod blocks;
 mod counted;
 mod errors;
 mod head;
+mod held;
 mod numbers;
 mod opening;
 mod pieces;

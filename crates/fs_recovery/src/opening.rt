@@ -8,7 +8,8 @@ ghost use Rattle.zb_volume.specs.Moments.{StaysAs};
 ghost use Rattle.zb_base.specs.Bytes.{AreBytes};
 ghost use Rattle.fs_records.specs.Blocks.{magic};
 ghost use Rattle.fs_records.specs.Rules.{texts_length};
-ghost use Rattle.fs_recovery.specs.Reading.{Shows, CountsFault, OnlyReadsToOpen, RefusesMain};
+ghost use Rattle.fs_recovery.specs.Reading.{CountsFault, OnlyReadsToOpen, RefusesMain};
+ghost use Rattle.fs_recovery.specs.Windows.{Shows};
 ghost use Rattle.fs_recovery.specs.Heads.{HeaderBegins};
 ghost use Rattle.fs_recovery.specs.Opens.{newest_kept, KeptBefore, BlockRead, IsBounded, IsKnownOf, IsUpTo, IsNoList, IsWhole, Opens, OpensMain, MomentsOfOpening, ImagesStand};
 ghost use Rattle.fs_recovery.specs.Counting.{Numbered};
@@ -17,10 +18,10 @@ ghost use Rattle.zb_volume.specs.States.{OnlyReads, OthersStay};
 use crate::blocks::judge;
 use crate::errors::OpenError;
 use crate::head::Head;
+use crate::held::Window;
 use crate::numbers::Numbers;
 use crate::records::read_records;
 use crate::tail::keep_front;
-use crate::window::Window;
 use fs_index::{Index, Place, last_of};
 use fs_records::{HEADER_LENGTH, Header, PACKED};
 use std::alloc::Global;
@@ -60,9 +61,7 @@ fn keep_block<V: Volume, const N: usize>(
     requires above { newest_kept index.old < header.now.tid }
     requires before { KeptBefore index.old p }
     requires length { V.told → window.old.length ≡ length (main_bytes (V.state volume.old).log) }
-    requires shows { V.told →
-        Shows window.old.at window.old.count window.old.held window.old.ahead
-        (main_bytes (V.state volume.old).log) }
+    requires shows { V.told → Shows window.old (main_bytes (V.state volume.old).log) }
     requires bytes { V.told → AreBytes (main_bytes (V.state volume.old).log) }
     ensures before { OnOk result (KeptBefore index.new (p + header.now.length + 8)) }
     ensures newest { OnOk result (newest_kept index.new ≡ header.now.tid) }
@@ -72,9 +71,7 @@ fn keep_block<V: Volume, const N: usize>(
         (newest_kept index.old) index.old numbers.old
         → BlockRead (main_bytes (V.state volume.old).log)
         (p + header.now.length + 8) header.now.tid index.new numbers.new result }
-    ensures shows { V.told →
-        Shows window.new.at window.new.count window.new.held window.new.ahead
-        (main_bytes (V.state volume.old).log) }
+    ensures shows { V.told → Shows window.new (main_bytes (V.state volume.old).log) }
     ensures length { window.new.length ≡ window.old.length }
     ensures read { OnlyReadsToOpen (V.state volume.old) (V.state volume.new) result }
 {
@@ -133,9 +130,7 @@ fn read_blocks<V: Volume, const N: usize>(
     requires bounded { IsBounded known }
     requires within { known.end ≤ window.old.length }
     requires length { V.told → window.old.length ≡ length (main_bytes (V.state volume.old).log) }
-    requires shows { V.told →
-        Shows window.old.at window.old.count window.old.held window.old.ahead
-        (main_bytes (V.state volume.old).log) }
+    requires shows { V.told → Shows window.old (main_bytes (V.state volume.old).log) }
     requires bytes { V.told → AreBytes (main_bytes (V.state volume.old).log) }
     ensures opens { V.told → IsUpTo (main_bytes (V.state volume.old).log) known
         → Opens (main_bytes (V.state volume.old).log) result }
@@ -194,14 +189,10 @@ fn has_magic<V: Volume, const N: usize>(
     requires small { 42 ≤ N }
     requires long { 4 ≤ window.old.length }
     requires length { V.told → window.old.length ≡ length (main_bytes (V.state volume.old).log) }
-    requires shows { V.told →
-        Shows window.old.at window.old.count window.old.held window.old.ahead
-        (main_bytes (V.state volume.old).log) }
+    requires shows { V.told → Shows window.old (main_bytes (V.state volume.old).log) }
     ensures value { V.told →
         IfOk result (λ b. b ≡ bytes_eq (take 4 (main_bytes (V.state volume.old).log)) magic) }
-    ensures shows { V.told →
-        Shows window.new.at window.new.count window.new.held window.new.ahead
-        (main_bytes (V.state volume.old).log) }
+    ensures shows { V.told → Shows window.new (main_bytes (V.state volume.old).log) }
     ensures length { window.new.length ≡ window.old.length }
     ensures read { OnlyReads (V.state volume.old) (V.state volume.new) result }
 {

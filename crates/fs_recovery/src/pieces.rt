@@ -3,11 +3,11 @@
 ghost use Rattle.std.specs.Prelude.{◌≡◌, ◌+◌, ◌<◌, ◌≤◌, length, drop, IfOk};
 ghost use Rattle.fs_records.specs.Headers.{header_of, data_header_of};
 ghost use Rattle.fs_records.specs.Numbers.{number_in};
-ghost use Rattle.fs_recovery.specs.Reading.{Shows};
+ghost use Rattle.fs_recovery.specs.Windows.{Shows};
 ghost use Rattle.zb_volume.specs.Disk.{main_bytes};
 ghost use Rattle.zb_volume.specs.States.{OnlyReads};
 
-use crate::window::Window;
+use crate::held::Window;
 use byteorder::{BigEndian, ByteOrder};
 use fs_records::{
     DATA_HEADER_LENGTH, DataHeader, HEADER_LENGTH, Header, read_data_header, read_header,
@@ -24,14 +24,10 @@ pub fn header_at<V: Volume, const N: usize>(
     requires small { 42 ≤ N }
     requires within { at + 23 ≤ window.old.length }
     requires length { V.told → window.old.length ≡ length (main_bytes (V.state volume.old).log) }
-    requires shows { V.told →
-        Shows window.old.at window.old.count window.old.held window.old.ahead
-        (main_bytes (V.state volume.old).log) }
+    requires shows { V.told → Shows window.old (main_bytes (V.state volume.old).log) }
     ensures value { V.told → IfOk result (λ h. h
         ≡ header_of (drop at (main_bytes (V.state volume.old).log))) }
-    ensures shows { V.told →
-        Shows window.new.at window.new.count window.new.held window.new.ahead
-        (main_bytes (V.state volume.old).log) }
+    ensures shows { V.told → Shows window.new (main_bytes (V.state volume.old).log) }
     ensures length { window.new.length ≡ window.old.length }
     ensures read { OnlyReads (V.state volume.old) (V.state volume.new) result }
 {
@@ -50,14 +46,10 @@ pub fn data_header_at<V: Volume, const N: usize>(
     requires small { 42 ≤ N }
     requires within { at + 42 ≤ window.old.length }
     requires length { V.told → window.old.length ≡ length (main_bytes (V.state volume.old).log) }
-    requires shows { V.told →
-        Shows window.old.at window.old.count window.old.held window.old.ahead
-        (main_bytes (V.state volume.old).log) }
+    requires shows { V.told → Shows window.old (main_bytes (V.state volume.old).log) }
     ensures value { V.told →
         IfOk result (λ h. h ≡ data_header_of (drop at (main_bytes (V.state volume.old).log))) }
-    ensures shows { V.told →
-        Shows window.new.at window.new.count window.new.held window.new.ahead
-        (main_bytes (V.state volume.old).log) }
+    ensures shows { V.told → Shows window.new (main_bytes (V.state volume.old).log) }
     ensures length { window.new.length ≡ window.old.length }
     ensures read { OnlyReads (V.state volume.old) (V.state volume.new) result }
 {
@@ -77,15 +69,11 @@ pub fn number_behind<V: Volume, const N: usize>(
 ) -> Result<u64, StoreFault>
     requires within { at + n + 8 ≤ window.old.length }
     requires length { V.told → window.old.length ≡ length (main_bytes (V.state volume.old).log) }
-    requires shows { V.told →
-        Shows window.old.at window.old.count window.old.held window.old.ahead
-        (main_bytes (V.state volume.old).log) }
+    requires shows { V.told → Shows window.old (main_bytes (V.state volume.old).log) }
     ensures value { V.told
         → IfOk result (λ x. x
         ≡ number_in 8 (drop n (drop at (main_bytes (V.state volume.old).log)))) }
-    ensures shows { V.told →
-        Shows window.new.at window.new.count window.new.held window.new.ahead
-        (main_bytes (V.state volume.old).log) }
+    ensures shows { V.told → Shows window.new (main_bytes (V.state volume.old).log) }
     ensures length { window.new.length ≡ window.old.length }
     ensures read { OnlyReads (V.state volume.old) (V.state volume.new) result }
 {

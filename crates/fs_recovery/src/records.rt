@@ -6,15 +6,16 @@ ghost use Rattle.fs_records.specs.Blocks.{Known};
 ghost use Rattle.fs_records.specs.Rules.{record_at, payload_size, is_astray};
 ghost use Rattle.fs_index.specs.Places.{knows, places_in, AreBefore};
 ghost use Rattle.fs_records.specs.Indexed.{ArePlacesOf};
-ghost use Rattle.fs_recovery.specs.Reading.{Shows, OnlyReadsToOpen};
+ghost use Rattle.fs_recovery.specs.Reading.{OnlyReadsToOpen};
+ghost use Rattle.fs_recovery.specs.Windows.{Shows};
 ghost use Rattle.fs_recovery.specs.Records.{RecordGives, RecordsRead};
 ghost use Rattle.zb_volume.specs.Disk.{main_bytes};
 ghost use Rattle.zb_volume.specs.States.{OnlyReads};
 
 use crate::counted::{Counted, with_record};
 use crate::errors::OpenError;
+use crate::held::Window;
 use crate::pieces::{data_header_at, number_behind};
-use crate::window::Window;
 use fs_index::{Index, Lookup, Place};
 use fs_records::{DATA_HEADER_LENGTH, DataHeader, Field};
 use zb_ids::{Oid, Tid};
@@ -38,15 +39,11 @@ fn is_astray<V: Volume, const N: usize>(
 ) -> Result<bool, StoreFault>
     requires within { q + 42 + payload_size header.now ≤ window.old.length }
     requires length { V.told → window.old.length ≡ length (main_bytes (V.state volume.old).log) }
-    requires shows { V.told →
-        Shows window.old.at window.old.count window.old.held window.old.ahead
-        (main_bytes (V.state volume.old).log) }
+    requires shows { V.told → Shows window.old (main_bytes (V.state volume.old).log) }
     ensures value { V.told →
         IfOk result (λ b. b ≡ is_astray (knows index.now.entries) header.now
         (drop q (main_bytes (V.state volume.old).log))) }
-    ensures shows { V.told →
-        Shows window.new.at window.new.count window.new.held window.new.ahead
-        (main_bytes (V.state volume.old).log) }
+    ensures shows { V.told → Shows window.new (main_bytes (V.state volume.old).log) }
     ensures length { window.new.length ≡ window.old.length }
     ensures read { OnlyReads (V.state volume.old) (V.state volume.new) result }
 {
@@ -83,16 +80,12 @@ fn read_record<V: Volume, const N: usize>(
     requires order { q ≤ end }
     requires within { end ≤ window.old.length }
     requires length { V.told → window.old.length ≡ length (main_bytes (V.state volume.old).log) }
-    requires shows { V.told →
-        Shows window.old.at window.old.count window.old.held window.old.ahead
-        (main_bytes (V.state volume.old).log) }
+    requires shows { V.told → Shows window.old (main_bytes (V.state volume.old).log) }
     ensures size { IfOk result (λ r. (0 < r.1) × (r.1 ≤ end - q)) }
     ensures value { V.told →
         RecordGives result q (record_at (knows index.now.entries) place tid (end - q)
         (drop q (main_bytes (V.state volume.old).log))) }
-    ensures shows { V.told →
-        Shows window.new.at window.new.count window.new.held window.new.ahead
-        (main_bytes (V.state volume.old).log) }
+    ensures shows { V.told → Shows window.new (main_bytes (V.state volume.old).log) }
     ensures length { window.new.length ≡ window.old.length }
     ensures read { OnlyReadsToOpen (V.state volume.old) (V.state volume.new) result }
 {
@@ -135,9 +128,7 @@ pub fn read_records<V: Volume, const N: usize>(
     requires order { from ≤ end }
     requires within { end ≤ window.old.length }
     requires length { V.told → window.old.length ≡ length (main_bytes (V.state volume.old).log) }
-    requires shows { V.told →
-        Shows window.old.at window.old.count window.old.held window.old.ahead
-        (main_bytes (V.state volume.old).log) }
+    requires shows { V.told → Shows window.old (main_bytes (V.state volume.old).log) }
     requires bytes { V.told → AreBytes (main_bytes (V.state volume.old).log) }
     requires before { AreBefore index.old.entries tid from }
     requires earlier { (oid : ℕ) → All (λ p. p.serial < tid) (places_in index.old.entries oid) }
@@ -146,9 +137,7 @@ pub fn read_records<V: Volume, const N: usize>(
         → RecordsRead (main_bytes
         (V.state volume.old).log) known place tid from end index.new.entries result }
     ensures transactions { index.new.transactions ≡ index.old.transactions }
-    ensures shows { V.told →
-        Shows window.new.at window.new.count window.new.held window.new.ahead
-        (main_bytes (V.state volume.old).log) }
+    ensures shows { V.told → Shows window.new (main_bytes (V.state volume.old).log) }
     ensures length { window.new.length ≡ window.old.length }
     ensures read { OnlyReadsToOpen (V.state volume.old) (V.state volume.new) result }
 {

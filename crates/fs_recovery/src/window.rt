@@ -1,121 +1,29 @@
-//! A piece of Main that was read.
+//! Main is read forward through a window.
 
-ghost use Rattle.std.specs.Prelude.{◌≡◌, ◌+◌, ◌-◌, ◌<◌, ◌≤◌, ◌^◌, length, min, take, drop, true, OnOk};
-ghost use Rattle.fs_recovery.specs.Reading.{Shows, Holds, Covers};
+ghost use Rattle.std.specs.Prelude.{◌≡◌, ◌+◌, ◌<◌, ◌≤◌, ◌^◌, length, take, drop, OnOk};
+ghost use Rattle.fs_recovery.specs.Reading.{Covers};
+ghost use Rattle.fs_recovery.specs.Windows.{Shows};
 ghost use Rattle.zb_volume.specs.Disk.{main_bytes};
 ghost use Rattle.zb_volume.specs.States.{OnlyReads};
 
-use zb_volume::{Area, StoreFault, Volume};
-
-/// How many bytes are read ahead: room for a closing length and the two headers that may stand behind
-/// it.
-const AHEAD: usize = 128;
+use crate::held::{AHEAD, Piece, Window, at_most};
+use zb_volume::{StoreFault, Volume};
 
 /// How many bytes are read at a place that lies further past what is held than that.
 const SHORT: usize = 512;
-
-/// A short piece of Main that was read ahead of the rest.
-#[derive(Drop)]
-pub struct Ahead {
-    /// From which place on bytes are held.
-    pub at: u64,
-    /// How many.
-    pub count: usize,
-    /// The bytes, and behind them anything.
-    pub held: [u8; AHEAD],
-}
-
-/// Up to N bytes of Main, from a place on, and a few that were read ahead of them. Reading forward
-/// through it takes one read for each N bytes at most, and a short one for each place that lies far
-/// past what it holds.
-#[derive(Drop)]
-pub struct Window<const N: usize> {
-    /// How many bytes Main has.
-    pub length: u64,
-    /// From which place on bytes are held.
-    pub at: u64,
-    /// How many.
-    pub count: usize,
-    /// The bytes, and behind them anything.
-    pub held: [u8; N],
-    /// A closing length that was looked at, and what stands behind it.
-    pub ahead: Ahead,
-    ghost within: { count ≤ N },
-    ghost limit: { length < 2 ^ 63 },
-}
-
-impl Ahead {
-    /// A piece that holds nothing yet.
-    fn new() -> Ahead
-        ensures { result.count ≡ 0 }
-    {
-        Ahead {
-            at: 0,
-            count: 0,
-            held: [0; AHEAD],
-        }
-    }
-
-    /// Whether the n bytes at a place are held.
-    #[inline(always)]
-    fn covers(&self, at: u64, n: usize) -> bool
-        ensures covers { result ≡ true → Covers self.now.at self.now.count at n }
-        ensures within { result ≡ true → self.now.count ≤ 128 }
-    {
-        self.count <= AHEAD
-            && at >= self.at
-            && at - self.at <= self.count as u64
-            && n <= self.count - (at - self.at) as usize
-    }
-
-    /// Holds the bytes at a place, of which there are `room`, as many as there is room for.
-    fn fill<V: Volume>(&mut self, volume: &mut V, at: u64, room: u64) -> Result<(), StoreFault>
-        requires within { V.told → at + room ≤ length (main_bytes (V.state volume.old).log) }
-        ensures holds { V.told →
-            Holds self.new.at self.new.count self.new.held (main_bytes (V.state volume.old).log) }
-        ensures at { OnOk result (self.new.at ≡ at) }
-        ensures count { OnOk result (self.new.count ≡ min room 128) }
-        ensures read { OnlyReads (V.state volume.old) (V.state volume.new) result }
-    {
-        let mut m = AHEAD;
-        if room < AHEAD as u64 {
-            m = room as usize;
-        }
-        self.count = 0;
-        self.at = at;
-        volume.read(Area::Main, at, &mut self.held[..m])?;
-        self.count = m;
-        Ok(())
-    }
-
-    /// The n bytes at a place, which are held.
-    #[inline(always)]
-    fn piece(&self, at: u64, n: usize) -> &[u8]
-        requires covers { Covers self.now.at self.now.count at n }
-        requires within { self.now.count ≤ 128 }
-        ensures bytes { result.now ≡ take n (drop (at - self.now.at) self.now.held) }
-        ensures long { length result.now ≡ n }
-    {
-        let from = (at - self.at) as usize;
-        let all = &self.held[..];
-        &all[from..from + n]
-    }
-}
 
 impl<const N: usize> Window<N> {
     /// A window on a Main of this length, which holds nothing yet.
     pub fn new(long: u64) -> Self
         requires { long < 2 ^ 63 }
-        ensures empty { result.count ≡ 0 }
+        ensures near { result.near.count ≡ 0 }
         ensures ahead { result.ahead.count ≡ 0 }
         ensures length { result.length ≡ long }
     {
         Window {
             length: long,
-            at: 0,
-            count: 0,
-            held: [0; N],
-            ahead: Ahead::new(),
+            near: Piece::new(),
+            ahead: Piece::new(),
         }
     }
 
@@ -126,20 +34,11 @@ impl<const N: usize> Window<N> {
         ensures least { 42 ≤ result }
         ensures most { result ≤ N }
     {
-        if at >= self.at && (at - self.at).saturating_sub(self.count as u64) <= SHORT as u64 {
+        let near = &self.near;
+        if at >= near.at && (at - near.at).saturating_sub(near.count as u64) <= SHORT as u64 {
             return N;
         }
         SHORT.min(N)
-    }
-
-    /// Whether the n bytes at a place are held.
-    #[inline(always)]
-    fn covers(&self, at: u64, n: usize) -> bool
-        ensures { result ≡ true → Covers self.now.at self.now.count at n }
-    {
-        at >= self.at
-            && at - self.at <= self.count as u64
-            && n <= self.count - (at - self.at) as usize
     }
 
     /// Holds the n bytes at a place, and more behind them, where it doesn't hold them already.
@@ -148,40 +47,18 @@ impl<const N: usize> Window<N> {
         requires room { 42 ≤ N }
         requires within { at + n ≤ self.old.length }
         requires length { V.told → self.old.length ≡ length (main_bytes (V.state volume.old).log) }
-        requires shows { V.told →
-            Shows self.old.at self.old.count self.old.held self.old.ahead
-            (main_bytes (V.state volume.old).log) }
-        ensures shows { V.told →
-            Shows self.new.at self.new.count self.new.held self.new.ahead
-            (main_bytes (V.state volume.old).log) }
-        ensures covers { OnOk result (Covers self.new.at self.new.count at n) }
+        requires shows { V.told → Shows self.old (main_bytes (V.state volume.old).log) }
+        ensures shows { V.told → Shows self.new (main_bytes (V.state volume.old).log) }
+        ensures covers { OnOk result (Covers self.new.near.at self.new.near.count at n) }
         ensures length { self.new.length ≡ self.old.length }
         ensures read { OnlyReads (V.state volume.old) (V.state volume.new) result }
     {
-        if self.covers(at, n) {
+        if self.near.covers(at, n) {
             return Ok(());
         }
-        let mut m = self.reach(at);
-        if self.length - at < m as u64 {
-            m = (self.length - at) as usize;
-        }
-        self.count = 0;
-        self.at = at;
-        volume.read(Area::Main, at, &mut self.held[..m])?;
-        self.count = m;
+        let m = at_most(self.length - at, self.reach(at));
+        self.near.fill(volume, at, m)?;
         Ok(())
-    }
-
-    /// The n bytes at a place, which are held.
-    #[inline(always)]
-    fn piece(&self, at: u64, n: usize) -> &[u8]
-        requires { Covers self.now.at self.now.count at n }
-        ensures bytes { result.now ≡ take n (drop (at - self.now.at) self.now.held) }
-        ensures long { length result.now ≡ n }
-    {
-        let from = (at - self.at) as usize;
-        let all = &self.held[..];
-        &all[from..from + n]
     }
 
     /// Fills `out` with the bytes at a place, which may have to be read first.
@@ -196,15 +73,11 @@ impl<const N: usize> Window<N> {
         requires room { 42 ≤ N }
         requires within { at + length out.old ≤ self.old.length }
         requires length { V.told → self.old.length ≡ length (main_bytes (V.state volume.old).log) }
-        requires shows { V.told →
-            Shows self.old.at self.old.count self.old.held self.old.ahead
-            (main_bytes (V.state volume.old).log) }
+        requires shows { V.told → Shows self.old (main_bytes (V.state volume.old).log) }
         ensures bytes { V.told →
             OnOk result (out.new ≡ take (length out.old)
             (drop at (main_bytes (V.state volume.old).log))) }
-        ensures shows { V.told →
-            Shows self.new.at self.new.count self.new.held self.new.ahead
-            (main_bytes (V.state volume.old).log) }
+        ensures shows { V.told → Shows self.new (main_bytes (V.state volume.old).log) }
         ensures length { self.new.length ≡ self.old.length }
         ensures read { OnlyReads (V.state volume.old) (V.state volume.new) result }
     {
@@ -214,7 +87,7 @@ impl<const N: usize> Window<N> {
             return Ok(());
         }
         self.fill(volume, at, n)?;
-        out.copy_from_slice(self.piece(at, n));
+        out.copy_from_slice(self.near.piece(at, n));
         Ok(())
     }
 
@@ -230,21 +103,17 @@ impl<const N: usize> Window<N> {
         requires room { 42 ≤ N }
         requires within { at + length out.old ≤ self.old.length }
         requires length { V.told → self.old.length ≡ length (main_bytes (V.state volume.old).log) }
-        requires shows { V.told →
-            Shows self.old.at self.old.count self.old.held self.old.ahead
-            (main_bytes (V.state volume.old).log) }
+        requires shows { V.told → Shows self.old (main_bytes (V.state volume.old).log) }
         ensures bytes { V.told →
             OnOk result (out.new ≡ take (length out.old)
             (drop at (main_bytes (V.state volume.old).log))) }
-        ensures shows { V.told →
-            Shows self.new.at self.new.count self.new.held self.new.ahead
-            (main_bytes (V.state volume.old).log) }
+        ensures shows { V.told → Shows self.new (main_bytes (V.state volume.old).log) }
         ensures length { self.new.length ≡ self.old.length }
         ensures read { OnlyReads (V.state volume.old) (V.state volume.new) result }
     {
         let n = out.len();
-        if self.covers(at, n) {
-            out.copy_from_slice(self.piece(at, n));
+        if self.near.covers(at, n) {
+            out.copy_from_slice(self.near.piece(at, n));
             return Ok(());
         }
         self.read_far(volume, at, out.as_mut_slice())
@@ -263,28 +132,21 @@ impl<const N: usize> Window<N> {
         requires small { length out.old ≤ 128 }
         requires within { at + length out.old ≤ self.old.length }
         requires length { V.told → self.old.length ≡ length (main_bytes (V.state volume.old).log) }
-        requires shows { V.told →
-            Shows self.old.at self.old.count self.old.held self.old.ahead
-            (main_bytes (V.state volume.old).log) }
+        requires shows { V.told → Shows self.old (main_bytes (V.state volume.old).log) }
         ensures bytes { V.told →
             OnOk result (out.new ≡ take (length out.old)
             (drop at (main_bytes (V.state volume.old).log))) }
-        ensures shows { V.told →
-            Shows self.new.at self.new.count self.new.held self.new.ahead
-            (main_bytes (V.state volume.old).log) }
+        ensures shows { V.told → Shows self.new (main_bytes (V.state volume.old).log) }
         ensures length { self.new.length ≡ self.old.length }
         ensures read { OnlyReads (V.state volume.old) (V.state volume.new) result }
     {
         let n = out.len();
-        if self.covers(at, n) {
-            out.copy_from_slice(self.piece(at, n));
-            return Ok(());
-        }
         if self.ahead.covers(at, n) {
             out.copy_from_slice(self.ahead.piece(at, n));
             return Ok(());
         }
-        self.ahead.fill(volume, at, self.length - at)?;
+        let m = at_most(self.length - at, AHEAD);
+        self.ahead.fill(volume, at, m)?;
         out.copy_from_slice(self.ahead.piece(at, n));
         Ok(())
     }
@@ -301,21 +163,17 @@ impl<const N: usize> Window<N> {
         requires small { length out.old ≤ 128 }
         requires within { at + length out.old ≤ self.old.length }
         requires length { V.told → self.old.length ≡ length (main_bytes (V.state volume.old).log) }
-        requires shows { V.told →
-            Shows self.old.at self.old.count self.old.held self.old.ahead
-            (main_bytes (V.state volume.old).log) }
+        requires shows { V.told → Shows self.old (main_bytes (V.state volume.old).log) }
         ensures bytes { V.told →
             OnOk result (out.new ≡ take (length out.old)
             (drop at (main_bytes (V.state volume.old).log))) }
-        ensures shows { V.told →
-            Shows self.new.at self.new.count self.new.held self.new.ahead
-            (main_bytes (V.state volume.old).log) }
+        ensures shows { V.told → Shows self.new (main_bytes (V.state volume.old).log) }
         ensures length { self.new.length ≡ self.old.length }
         ensures read { OnlyReads (V.state volume.old) (V.state volume.new) result }
     {
         let n = out.len();
-        if self.covers(at, n) {
-            out.copy_from_slice(self.piece(at, n));
+        if self.near.covers(at, n) {
+            out.copy_from_slice(self.near.piece(at, n));
             return Ok(());
         }
         self.peek_apart(volume, at, out.as_mut_slice())

@@ -1,7 +1,7 @@
 use Rattle.std.proofs.Common.{◌≡◌, ℕ, List, refl, sym, ap, subst, ◌∙◌, arith, drop}
 use Rattle.fs_records.specs.Rules.{verdict}
 use Rattle.zb_volume.specs.Disk.{main_bytes}
-use Rattle.fs_recovery.specs.Reading.{Shows}
+use Rattle.fs_recovery.specs.Windows.{Shows}
 use Rattle.fs_recovery.proofs.Steps.{block_done, fault_here, opened_at_end, opened_at_tail}
 use Rattle.fs_recovery.specs.Counting.{Numbered}
 use Rattle.fs_recovery.proofs.opening.read_blocks.Goals as goal
@@ -34,7 +34,7 @@ scan-preserved g c =
       below = fit.below;
       before = c.in_ok-keep_block-in-Begun.ensures.before;
       length = c.keep_block.ensures.length ∙ c.judge.ensures.length ∙ c.scan.invariant.length;
-      shows = λ told. subst (λ (b : List ℕ). Shows c.keep_block.new.window.at c.keep_block.new.window.count c.keep_block.new.window.held c.keep_block.new.window.ahead b) then (c.keep_block.ensures.shows told);
+      shows = λ told. subst (λ (b : List ℕ). Shows c.keep_block.new.window b) then (c.keep_block.ensures.shows told);
       same = c.keep_block.ensures.read.same ∙ c.judge.ensures.read.same ∙ c.scan.invariant.same;
       counts = c.in_ok-keep_block-in-Begun.ensures.read.counts ∙ c.in_ok-judge.ensures.read.uncounted ∙ c.scan.invariant.counts;
       write_faults = c.keep_block.ensures.read.write_faults ∙ c.judge.ensures.read.write_faults ∙ c.scan.invariant.write_faults;

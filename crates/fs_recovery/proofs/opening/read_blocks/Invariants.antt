@@ -1,6 +1,6 @@
 use Rattle.std.proofs.Common.{◌≡◌, ◌≤◌, ◌<◌, ◌^◌, ◌-◌}
 use Rattle.fs_recovery.specs.Counting.{Numbered}
-use Rattle.fs_recovery.specs.Reading.{Shows}
+use Rattle.fs_recovery.specs.Windows.{Shows}
 use Rattle.fs_recovery.specs.Opens.{newest_kept, IsUpTo, KeptBefore}
 use Rattle.fs_recovery.proofs.opening.read_blocks.Given as goal
 use Rattle.zb_volume.specs.Disk.{main_bytes}
@@ -13,7 +13,7 @@ invariant-scan g l = record {
   below : l.newest < 2 ^ 64 - 1;
   before : KeptBefore l.index l.p;
   length : l.window.length ≡ l.fn.window.length;
-  shows : g.V.Volume.told → Shows l.window.at l.window.count l.window.held l.window.ahead (main_bytes (g.V.Volume.state l.fn.volume).log);
+  shows : g.V.Volume.told → Shows l.window (main_bytes (g.V.Volume.state l.fn.volume).log);
   same : (g.V.Volume.state l.volume).log ≡ (g.V.Volume.state l.fn.volume).log;
   counts : (g.V.Volume.state l.volume).read_faults ≡ (g.V.Volume.state l.fn.volume).read_faults;
   write_faults : (g.V.Volume.state l.volume).write_faults ≡ (g.V.Volume.state l.fn.volume).write_faults;

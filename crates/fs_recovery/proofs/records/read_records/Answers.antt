@@ -4,7 +4,7 @@ use Rattle.zb_base.specs.Bytes.{AreBytes-drop}
 use Rattle.fs_records.specs.Rules.{record_at}
 use Rattle.fs_index.specs.Places.{knows}
 use Rattle.fs_records.specs.ScanLaws.{before_more}
-use Rattle.fs_recovery.specs.Reading.{Shows}
+use Rattle.fs_recovery.specs.Windows.{Shows}
 use Rattle.fs_recovery.specs.Records.{RecordGives}
 use Rattle.fs_recovery.proofs.Counting.{few_more, none_counted, one_counted_more}
 use Rattle.fs_recovery.specs.Counting.{is_stored, RecordsCounted}
@@ -34,7 +34,7 @@ loop-q-preserved g c =
       before = before_more c.loop-q.index.entries c.add.new.self.entries c.in_ok-oid.oid c.args.tid c.loop-q.q c.in_ok-oid.size w.0 c.loop-q.invariant.before c.in_ok-add.ensures.ok;
       transactions = c.add.ensures.transactions ∙ c.loop-q.invariant.transactions;
       length = c.read_record.ensures.length ∙ c.loop-q.invariant.length;
-      shows = λ told. subst (λ (b : List ℕ). Shows c.read_record.new.window.at c.read_record.new.window.count c.read_record.new.window.held c.read_record.new.window.ahead b) same (c.read_record.ensures.shows told);
+      shows = λ told. subst (λ (b : List ℕ). Shows c.read_record.new.window b) same (c.read_record.ensures.shows told);
       same = c.read_record.ensures.read.same ∙ c.loop-q.invariant.same;
       counts = c.in_ok-oid.ensures.read.counts ∙ c.loop-q.invariant.counts;
       write_faults = c.read_record.ensures.read.write_faults ∙ c.loop-q.invariant.write_faults;

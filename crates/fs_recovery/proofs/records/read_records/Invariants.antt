@@ -3,7 +3,7 @@ use Rattle.fs_records.specs.Blocks.{Known}
 use Rattle.fs_index.specs.Places.{AreBefore}
 use Rattle.fs_records.specs.Indexed.{ArePlacesOf}
 use Rattle.fs_recovery.specs.Counting.{RecordsCounted}
-use Rattle.fs_recovery.specs.Reading.{Shows}
+use Rattle.fs_recovery.specs.Windows.{Shows}
 use Rattle.fs_recovery.proofs.records.read_records.Given as goal
 use Rattle.zb_volume.specs.Disk.{main_bytes}
 
@@ -15,7 +15,7 @@ invariant-loop-q g l = record {
   before : AreBefore l.index.entries l.tid l.q;
   transactions : l.index.transactions ≡ l.fn.index.transactions;
   length : l.window.length ≡ l.fn.window.length;
-  shows : g.V.Volume.told → Shows l.window.at l.window.count l.window.held l.window.ahead (main_bytes (g.V.Volume.state l.fn.volume).log);
+  shows : g.V.Volume.told → Shows l.window (main_bytes (g.V.Volume.state l.fn.volume).log);
   same : (g.V.Volume.state l.volume).log ≡ (g.V.Volume.state l.fn.volume).log;
   counts : (g.V.Volume.state l.volume).read_faults ≡ (g.V.Volume.state l.fn.volume).read_faults;
   write_faults : (g.V.Volume.state l.volume).write_faults ≡ (g.V.Volume.state l.fn.volume).write_faults;
